@@ -1,0 +1,11 @@
+mod Tables
+mod Words
+mod Checks
+mod Passing
+mod Alike
+mod Apart
+mod Reordered
+mod Numbered
+mod Valid
+mod First
+mod Sound

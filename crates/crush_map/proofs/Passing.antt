@@ -1,0 +1,52 @@
+-- What is known of elements without a fault.
+use Rattle.std.proofs.Common.{rules, ◌≡◌, ◌∙◌, Bool, true, false, not, Option, Some, None, List, [], ◌∷◌, ℕ, zero, suc, ℤ, pos, negsuc, refl, sym, IsTrue, slice_get, nat_lt}
+use Rattle.crush_map.specs.declared.fault.FaultCode.{FaultCode}
+use Rattle.crush_map.specs.declared.fault.FaultCode.TheVariants.{M12}
+use Rattle.crush_map.specs.declared.draft.TypeName.{TypeName}
+use Rattle.crush_map.specs.declared.draft.Device.{Device}
+use Rattle.crush_map.specs.declared.draft.Bucket.{Bucket}
+use Rattle.crush_map.specs.declared.draft.Rule.{Rule}
+use Rattle.crush_map.specs.Faults.{Known, first_of, or_else, ◌when◌, type_fault, device_fault, bucket_fault, rule_fault, type_checks, device_checks, bucket_checks, rule_checks, is_bucket_id, is_id}
+
+-- ---- checks
+
+pub first_none : {X : Type 0} (x y : Option X) → or_else x y ≡ None → x ≡ None
+first_none None y h = refl
+first_none (Some x) y h = cc
+
+pub second_none : {X : Type 0} (x y : Option X) → or_else x y ≡ None → y ≡ None
+second_none None y h = h
+second_none (Some x) y h = cc
+
+-- each check of those that answer nothing answers nothing
+pub passes : (checks : List (Option FaultCode)) (i : ℕ) (check : Option FaultCode) → slice_get checks i ≡ Some check → first_of checks ≡ None → check ≡ None
+passes [] i check at h = cc
+passes (c ∷ checks) zero check at h = let e : c ≡ check = cc in sym e ∙ first_none c (first_of checks) h
+passes (c ∷ checks) (suc i) check at h = passes checks i check at (second_none c (first_of checks) h)
+
+-- a test that answers nothing fails
+pub fails : (code : FaultCode) (test : Bool) → (code when test) ≡ None → test ≡ false
+fails code true h = cc
+fails code false h = refl
+
+-- ---- numbers
+
+pub type_in_range : (known : Known) (t : TypeName) → type_fault known t ≡ None → nat_lt 65535 t.number ≡ false
+unfolding type_fault
+type_in_range known t h = fails M12 _ (passes (type_checks known t) 1 (M12 when nat_lt 65535 t.number) refl h)
+
+pub device_in_range : (known : Known) (d : Device) → device_fault known d ≡ None → nat_lt 65535 d.id ≡ false
+unfolding device_fault
+device_in_range known d h = fails M12 _ (passes (device_checks known d) 1 (M12 when nat_lt 65535 d.id) refl h)
+
+pub rule_in_range : (known : Known) (r : Rule) → rule_fault known r ≡ None → nat_lt 255 r.id ≡ false
+unfolding rule_fault
+rule_in_range known r h = fails M12 _ (passes (rule_checks known r) 1 (M12 when nat_lt 255 r.id) refl h)
+
+bucket_is : (id : ℤ) → not (is_bucket_id id) ≡ false → IsTrue (is_id id)
+bucket_is (pos n) h = cc
+bucket_is (negsuc n) h = search rules
+
+pub bucket_in_range : (known : Known) (b : Bucket) → bucket_fault known b ≡ None → IsTrue (is_id b.id.0)
+unfolding bucket_fault
+bucket_in_range known b h = bucket_is b.id.0 (fails M12 _ (passes (bucket_checks known b) 1 (M12 when not (is_bucket_id b.id.0)) refl h))

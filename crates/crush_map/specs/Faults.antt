@@ -1,0 +1,308 @@
+-- Which drafts of a map are refused, and for what.
+--
+-- The limits are those of Ceph's map where it has any, and otherwise this program's own.
+use Rattle.std.specs.Prelude.{ℕ, ℤ, pos, negsuc, int_le, ◌+◌, nat_lt, nat_le, ◌==◌, ◌&&◌, ◌||◌, not, Bool, true, false, List, [], ◌∷◌, ◌++◌, length, map, sum, fold, codes, bytes_eq, Option, Some, None, if◌then◌else◌}
+use Rattle.std.specs.List.{list_any, list_all}
+use Rattle.crush_map.specs.declared.fault.FaultCode.{FaultCode}
+use Rattle.crush_map.specs.declared.fault.FaultCode.TheVariants.{M1, M2, M3, M4, M5, M6, M7, M8, M9, M10, M11, M12, M13, M14, M15}
+use Rattle.crush_map.specs.declared.fault.Element.{Element}
+use Rattle.crush_map.specs.declared.fault.Element.TheVariants.{Types, Devices, Buckets, Rules, End}
+use Rattle.crush_map.specs.declared.fault.MapFault.{MapFault}
+use Rattle.crush_map.specs.declared.draft.TypeName.{TypeName}
+use Rattle.crush_map.specs.declared.draft.Device.{Device}
+use Rattle.crush_map.specs.declared.draft.Bucket.{Bucket}
+use Rattle.crush_map.specs.declared.draft.Step.{Step}
+use Rattle.crush_map.specs.declared.draft.Step.TheVariants.{Take, SetChooseTries, SetLeafTries, SetVaryR, SetStable, Choose, Emit}
+use Rattle.crush_map.specs.declared.draft.Rule.{Rule}
+use Rattle.crush_map.specs.declared.draft.Tunables.{Tunables}
+use Rattle.crush_map.specs.declared.draft.MapDraft.{MapDraft}
+use Rattle.crush_map.specs.declared.word.ItemId.{ItemId}
+use Rattle.crush_map.specs.declared.word.Weight.{Weight}
+use Rattle.crush_map.specs.declared.word.Kind.{Kind}
+use Rattle.crush_map.specs.declared.word.Kind.TheVariants.{Uniform, List as ListKind, Tree}
+
+-- ---- checks in order
+
+-- a fault where the test holds
+infix 5 ◌when◌
+abbrev pub ◌when◌ : FaultCode → Bool → Option FaultCode
+code when test = if test then Some code else None
+
+-- the first, or else the second
+abbrev pub or_else : {X : Type 0} → Option X → Option X → Option X
+or_else (Some x) other = Some x
+or_else None other = other
+
+-- the first fault of these
+abbrev pub first_of : List (Option FaultCode) → Option FaultCode
+first_of [] = None
+first_of (check ∷ checks) = or_else check (first_of checks)
+
+-- ---- what was declared before
+
+-- ids of devices, and of buckets, of which -1 - n stands as n
+pub record Ids : Type 0 where
+  pub devices : List ℕ
+  pub buckets : List ℕ
+
+-- no id
+abbrev pub no_ids : Ids
+no_ids = record { devices = []; buckets = [] }
+
+-- -65536 to 65535
+abbrev pub is_id : ℤ → Bool
+is_id (pos n) = nat_le n 65535
+is_id (negsuc n) = nat_le n 65535
+
+-- one more id
+abbrev pub with_id : Ids → ℤ → Ids
+with_id ids (pos n) = record ids { devices = ids.devices ++ n ∷ [] }
+with_id ids (negsuc n) = record ids { buckets = ids.buckets ++ n ∷ [] }
+
+-- a number is among these
+abbrev pub has_number : List ℕ → ℕ → Bool
+has_number numbers number = list_any (λ n. n == number) numbers
+
+-- an id is among these
+abbrev pub has_id : Ids → ℤ → Bool
+has_id ids (pos n) = has_number ids.devices n
+has_id ids (negsuc n) = has_number ids.buckets n
+
+-- numbers of types, ids of items, numbers of rules, and names; devices and buckets share theirs
+pub record Known : Type 0 where
+  pub types : List ℕ
+  pub type_names : List (List ℕ)
+  pub items : Ids
+  pub item_names : List (List ℕ)
+  pub rules : List ℕ
+  pub rule_names : List (List ℕ)
+
+-- before the first declaration
+abbrev pub nothing : Known
+nothing = record { types = []; type_names = []; items = no_ids; item_names = []; rules = []; rule_names = [] }
+
+-- a name is among these
+abbrev pub has_name : List (List ℕ) → List ℕ → Bool
+has_name names name = list_any (λ n. bytes_eq n name) names
+
+-- ---- names
+
+-- an ASCII letter or digit, or one of - _ .
+abbrev pub is_name_byte : ℕ → Bool
+is_name_byte b = (nat_le 97 b && nat_le b 122) || (nat_le 65 b && nat_le b 90) || (nat_le 48 b && nat_le b 57) || (b == 45) || (b == 95) || (b == 46)
+
+-- 1 to 64 of these
+abbrev pub is_name : List ℕ → Bool
+is_name name = nat_le 1 (length name) && nat_le (length name) 64 && list_all is_name_byte name
+
+-- the words that begin a declaration, and the one behind which a class stands
+abbrev pub is_reserved : List ℕ → Bool
+is_reserved name = list_any (λ word. bytes_eq word name) (codes "tunable" ∷ codes "device" ∷ codes "type" ∷ codes "rule" ∷ codes "choose_args" ∷ codes "class" ∷ [])
+
+-- ---- types
+
+-- of a type: there are 32; its number is out of range, or known; its name is not of the form, or known
+abbrev pub type_checks : Known → TypeName → List (Option FaultCode)
+type_checks known t =
+    (M1 when nat_le 32 (length known.types))
+    ∷ (M12 when nat_lt 65535 t.number)
+    ∷ (M2 when has_number known.types t.number)
+    ∷ (M15 when (not (is_name t.name) || is_reserved t.name))
+    ∷ (M3 when has_name known.type_names t.name)
+    ∷ []
+
+-- the fault of a type behind what is known
+unfoldable pub type_fault : Known → TypeName → Option FaultCode
+type_fault known t = first_of (type_checks known t)
+
+-- a type is known
+abbrev pub with_type : Known → TypeName → Known
+with_type known t = record known { types = known.types ++ t.number ∷ []; type_names = known.type_names ++ t.name ∷ [] }
+
+-- ---- devices
+
+-- of a device: there are 1,024; its id is out of range, or known; its name is not of the form, or known
+abbrev pub device_checks : Known → Device → List (Option FaultCode)
+device_checks known d =
+    (M1 when nat_le 1024 (length known.items.devices))
+    ∷ (M12 when nat_lt 65535 d.id)
+    ∷ (M2 when has_number known.items.devices d.id)
+    ∷ (M15 when not (is_name d.name))
+    ∷ (M3 when has_name known.item_names d.name)
+    ∷ []
+
+-- the fault of a device behind what is known
+unfoldable pub device_fault : Known → Device → Option FaultCode
+device_fault known d = first_of (device_checks known d)
+
+-- a device is known
+abbrev pub with_device : Known → Device → Known
+with_device known d = record known { items = with_id known.items (pos d.id); item_names = known.item_names ++ d.name ∷ [] }
+
+-- ---- buckets
+
+-- -1 to -65536
+abbrev pub is_bucket_id : ℤ → Bool
+is_bucket_id (pos id) = false
+is_bucket_id (negsuc n) = nat_le n 65535
+
+-- the first fault of a bucket's items, behind those of it that come before
+unfoldable pub items_fault : Known → Ids → List (ItemId × Weight) → Option FaultCode
+items_fault known before [] = None
+items_fault known before (item ∷ items) = first_of (
+    (M5 when not (has_id known.items item.0.0))
+    ∷ (M6 when has_id before item.0.0)
+    ∷ items_fault known (with_id before item.0.0) items
+    ∷ [])
+
+-- each weight is that of the first item
+abbrev pub are_even : List (ItemId × Weight) → Bool
+are_even [] = true
+are_even (item ∷ items) = list_all (λ other. other.1.0 == item.1.0) items
+
+-- the sum of the weights
+abbrev pub total : List (ItemId × Weight) → ℕ
+total items = sum (map (λ item. item.1.0) items)
+
+-- a bucket of this kind has one weight for all items
+abbrev pub is_uniform : Kind → Bool
+is_uniform Uniform = true
+is_uniform ListKind = false
+is_uniform Tree = false
+
+-- the first fault of what a bucket of this kind holds
+unfoldable pub contents_fault : Known → Kind → List (ItemId × Weight) → Option FaultCode
+contents_fault known alg items = first_of (
+    items_fault known no_ids items
+    ∷ (M8 when (is_uniform alg && not (are_even items)))
+    ∷ (M7 when nat_lt 4294967295 (total items))
+    ∷ [])
+
+-- of a bucket: there are 1,024; its id is out of range, or known; its name is not of the form, or known; its type is unknown, or that of devices; it has over 1,024 items; what it holds
+abbrev pub bucket_checks : Known → Bucket → List (Option FaultCode)
+bucket_checks known b =
+    (M1 when nat_le 1024 (length known.items.buckets))
+    ∷ (M12 when not (is_bucket_id b.id.0))
+    ∷ (M2 when has_id known.items b.id.0)
+    ∷ (M15 when not (is_name b.name))
+    ∷ (M3 when has_name known.item_names b.name)
+    ∷ (M4 when not (has_number known.types b.kind_of))
+    ∷ (M9 when (b.kind_of == 0))
+    ∷ (M1 when nat_lt 1024 (length b.items))
+    ∷ contents_fault known b.alg b.items
+    ∷ []
+
+-- the fault of a bucket behind what is known
+unfoldable pub bucket_fault : Known → Bucket → Option FaultCode
+bucket_fault known b = first_of (bucket_checks known b)
+
+-- a bucket is known
+abbrev pub with_bucket : Known → Bucket → Known
+with_bucket known b = record known { items = with_id known.items b.id.0; item_names = known.item_names ++ b.name ∷ [] }
+
+-- ---- rules
+
+-- -64 to 64
+abbrev pub is_count : ℤ → Bool
+is_count n = int_le (negsuc 63) n && int_le n (pos 64)
+
+-- of a choose step: its type is unknown; its count is out of range; it is chooseleaf indep of type 0
+unfoldable pub choose_fault : Known → Bool → Bool → ℤ → ℕ → Option FaultCode
+choose_fault known firstn leaf n wanted = first_of (
+    (M11 when not (has_number known.types wanted))
+    ∷ (M12 when not (is_count n))
+    ∷ (M14 when (leaf && not firstn && (wanted == 0)))
+    ∷ [])
+
+-- the fault of a step: an unknown item, or a number out of range
+unfoldable pub step_fault : Known → Step → Option FaultCode
+step_fault known (Take id) = M10 when not (has_id known.items id.0)
+step_fault known (SetChooseTries tries) = M12 when nat_lt 1000 tries
+step_fault known (SetLeafTries tries) = M12 when nat_lt 1000 tries
+step_fault known (SetVaryR value) = M12 when nat_lt 8 value
+step_fault known (SetStable value) = M12 when nat_lt 1 value
+step_fault known (Choose firstn leaf n wanted) = choose_fault known firstn leaf n wanted
+step_fault known Emit = None
+
+-- the first fault of steps
+abbrev pub steps_fault : Known → List Step → Option FaultCode
+steps_fault known steps = first_of (map (step_fault known) steps)
+
+-- of a rule: there are 64; its id is out of range, or known; its name is not of the form, or known; it has no step, or over 32; its steps
+abbrev pub rule_checks : Known → Rule → List (Option FaultCode)
+rule_checks known r =
+    (M1 when nat_le 64 (length known.rules))
+    ∷ (M12 when nat_lt 255 r.id)
+    ∷ (M2 when has_number known.rules r.id)
+    ∷ (M15 when not (is_name r.name))
+    ∷ (M3 when has_name known.rule_names r.name)
+    ∷ (M1 when ((length r.steps == 0) || nat_lt 32 (length r.steps)))
+    ∷ steps_fault known r.steps
+    ∷ []
+
+-- the fault of a rule behind what is known
+unfoldable pub rule_fault : Known → Rule → Option FaultCode
+rule_fault known r = first_of (rule_checks known r)
+
+-- a rule is known
+abbrev pub with_rule : Known → Rule → Known
+with_rule known r = record known { rules = known.rules ++ r.id ∷ []; rule_names = known.rule_names ++ r.name ∷ [] }
+
+-- ---- the end
+
+-- choose_total_tries to 999, chooseleaf_descend_once to 1, chooseleaf_vary_r to 8, chooseleaf_stable to 1
+abbrev pub are_in_range : Tunables → Bool
+are_in_range t = nat_le t.total_tries 999 && nat_le t.descend_once 1 && nat_le t.vary_r 8 && nat_le t.stable 1
+
+-- at the end: there is no type 0; a tunable is out of range; local tries or local fallback tries are not 0
+abbrev pub end_checks : Known → Tunables → ℕ → ℕ → List (Option FaultCode)
+end_checks known tunables local_tries local_fallback_tries =
+    (M4 when not (has_number known.types 0))
+    ∷ (M12 when not (are_in_range tunables))
+    ∷ (M13 when not ((local_tries == 0) && (local_fallback_tries == 0)))
+    ∷ []
+
+-- the fault at the end, of the tunables, the local tries and the local fallback tries
+unfoldable pub end_fault : Known → Tunables → ℕ → ℕ → Option FaultCode
+end_fault known tunables local_tries local_fallback_tries = first_of (end_checks known tunables local_tries local_fallback_tries)
+
+-- ---- a whole draft
+
+-- the fault at this place of a list
+abbrev pub at : Element → ℕ → FaultCode → MapFault
+at element place code = record { code = code; element = element; index = place }
+
+-- the fault at this place, if there is one
+abbrev pub at_place : Element → ℕ → Option FaultCode → Option MapFault
+at_place element place None = None
+at_place element place (Some code) = Some (at element place code)
+
+-- the first fault of elements from this place on, by a check of each behind those before it, which are known by then
+unfoldable pub first_in : {X : Type 0} → Element → (Known → X → Option FaultCode) → (Known → X → Known) → ℕ → Known → List X → Option MapFault
+first_in element check with place known [] = None
+first_in element check with place known (x ∷ xs) = or_else (at_place element place (check known x)) (first_in element check with (place + 1) (with known x) xs)
+
+-- what is known behind the types of a draft, behind its devices too, behind its buckets too, and behind its rules too
+abbrev pub known_types : MapDraft → Known
+known_types d = fold with_type nothing d.types
+
+abbrev pub known_devices : MapDraft → Known
+known_devices d = fold with_device (known_types d) d.devices
+
+abbrev pub known_buckets : MapDraft → Known
+known_buckets d = fold with_bucket (known_devices d) d.buckets
+
+abbrev pub known_rules : MapDraft → Known
+known_rules d = fold with_rule (known_buckets d) d.rules
+
+-- the first fault of the elements of a draft: of its types, then of its devices, its buckets and its rules
+unfoldable pub element_fault : MapDraft → Option MapFault
+element_fault d =
+    or_else (first_in Types type_fault with_type 0 nothing d.types)
+    (or_else (first_in Devices device_fault with_device 0 (known_types d) d.devices)
+    (or_else (first_in Buckets bucket_fault with_bucket 0 (known_devices d) d.buckets)
+    (first_in Rules rule_fault with_rule 0 (known_buckets d) d.rules)))
+
+-- the first fault of a draft: that of its elements, or else the one at its end
+unfoldable pub first_fault : MapDraft → Option MapFault
+first_fault d = or_else (element_fault d) (at_place End 0 (end_fault (known_rules d) d.tunables d.local_tries d.local_fallback_tries))

@@ -1,0 +1,5 @@
+pub mod Faults
+pub mod Map
+pub mod Tables
+pub mod Laws
+pub mod Sound

@@ -1,0 +1,83 @@
+-- What holds of each part of a map.
+use Rattle.std.specs.Prelude.{◌≡◌, ℕ, ℤ, pos, negsuc, ◌<◌, ◌≤◌, ◌^◌, ◌==◌, Bool, true, false, List, length, take, slice_get, IfSome, ⊤}
+use Rattle.std.specs.List.{list_any}
+use Rattle.crush_map.specs.declared.draft.TypeName.{TypeName}
+use Rattle.crush_map.specs.declared.draft.Device.{Device}
+use Rattle.crush_map.specs.declared.draft.Bucket.{Bucket}
+use Rattle.crush_map.specs.declared.draft.Rule.{Rule}
+use Rattle.crush_map.specs.declared.draft.Step.{Step}
+use Rattle.crush_map.specs.declared.draft.Step.TheVariants.{Take, SetChooseTries, SetLeafTries, SetVaryR, SetStable, Choose, Emit}
+use Rattle.crush_map.specs.declared.word.ItemId.{ItemId}
+use Rattle.crush_map.specs.declared.word.Weight.{Weight}
+use Rattle.crush_map.specs.Faults.{is_bucket_id, is_uniform, are_even, total, is_count}
+use Rattle.crush_map.specs.Map.{Map}
+
+abbrev pub same_id : ℤ → ℤ → Bool
+same_id (pos m) (pos n) = m == n
+same_id (pos m) (negsuc n) = false
+same_id (negsuc m) (pos n) = false
+same_id (negsuc m) (negsuc n) = m == n
+
+abbrev pub has_bucket : List Bucket → ℤ → Bool
+has_bucket buckets id = list_any (λ b. same_id b.id.0 id) buckets
+
+abbrev pub has_device : List Device → ℕ → Bool
+has_device devices id = list_any (λ d. d.id == id) devices
+
+abbrev pub has_type : List TypeName → ℕ → Bool
+has_type types number = list_any (λ t. t.number == number) types
+
+-- a device of these, or a bucket of these
+abbrev pub has_item : List Device → List Bucket → ℤ → Bool
+has_item devices buckets (pos n) = has_device devices n
+has_item devices buckets (negsuc n) = has_bucket buckets (negsuc n)
+
+-- the item at place j of the bucket at place i is a device, or a bucket before that one, and not among the items before it
+pub record IsItemAt (m : Map) (i j : ℕ) (items : List (ItemId × Weight)) (id : ℤ) : Type 0 where
+  pub declared : has_item m.devices (take i m.buckets) id ≡ true
+  pub once : list_any (λ item. same_id item.0.0 id) (take j items) ≡ false
+
+-- the bucket at place i
+pub record IsBucketAt (m : Map) (i : ℕ) (b : Bucket) : Type 0 where
+  pub place : i < 1024
+  pub id : is_bucket_id b.id.0 ≡ true
+  pub new : has_bucket (take i m.buckets) b.id.0 ≡ false
+  pub typed : has_type m.types b.kind_of ≡ true
+  pub no_device : (b.kind_of == 0) ≡ false
+  pub few : length b.items ≤ 1024
+  pub items : (j : ℕ) → IfSome (slice_get b.items j) (λ item. IsItemAt m i j b.items item.0.0)
+  pub even : is_uniform b.alg ≡ true → are_even b.items ≡ true
+  pub light : total b.items < 2 ^ 32
+
+-- a choose step
+pub record IsChoose (m : Map) (firstn leaf : Bool) (n : ℤ) (wanted : ℕ) : Type 0 where
+  pub typed : has_type m.types wanted ≡ true
+  pub count : is_count n ≡ true
+  pub bucket : leaf ≡ true → firstn ≡ false → (wanted == 0) ≡ false
+
+abbrev pub IsStep : Map → Step → Type 0
+IsStep m (Take id) = has_item m.devices m.buckets id.0 ≡ true
+IsStep m (SetChooseTries tries) = tries ≤ 1000
+IsStep m (SetLeafTries tries) = tries ≤ 1000
+IsStep m (SetVaryR value) = value ≤ 8
+IsStep m (SetStable value) = value ≤ 1
+IsStep m (Choose firstn leaf n wanted) = IsChoose m firstn leaf n wanted
+IsStep m Emit = ⊤
+
+-- the rule at place i
+pub record IsRuleAt (m : Map) (i : ℕ) (r : Rule) : Type 0 where
+  pub place : i < 64
+  pub id : r.id ≤ 255
+  pub some : 1 ≤ length r.steps
+  pub few : length r.steps ≤ 32
+  pub steps : (j : ℕ) → IfSome (slice_get r.steps j) (IsStep m)
+
+-- the type at place i
+pub record IsTypeAt (i : ℕ) (t : TypeName) : Type 0 where
+  pub place : i < 32
+  pub number : t.number ≤ 65535
+
+-- the device at place i
+pub record IsDeviceAt (i : ℕ) (d : Device) : Type 0 where
+  pub place : i < 1024
+  pub id : d.id ≤ 65535

@@ -1,0 +1,38 @@
+//! The form of names.
+
+ghost use Rattle.std.specs.Prelude.{◌≡◌};
+ghost use Rattle.std.specs.List.{list_all};
+ghost use Rattle.crush_map.specs.Faults as spec;
+
+fn is_name_byte(byte: u8) -> bool
+    ensures { result ≡ spec.is_name_byte byte }
+{
+    matches!(byte, b'a'..=b'z' | b'A'..=b'Z' | b'0'..=b'9' | b'-' | b'_' | b'.')
+}
+
+fn are_name_bytes(bytes: &[u8]) -> bool
+    ensures { result ≡ list_all spec.is_name_byte bytes.now }
+{
+    bytes.iter().all(|byte| is_name_byte(*byte))
+}
+
+/// Whether a text can name something: 1 to 64 ASCII letters, digits, `-`, `_` and `.`.
+pub fn is_name(name: &str) -> bool
+    ensures { result ≡ spec.is_name name.now }
+{
+    let bytes = name.as_bytes();
+    if bytes.len() < 1 || bytes.len() > 64 {
+        return false;
+    }
+    are_name_bytes(bytes)
+}
+
+/// Whether a text is one of the words that begin a declaration, or that behind which a class stands.
+pub fn is_reserved(name: &str) -> bool
+    ensures { result ≡ spec.is_reserved name.now }
+{
+    matches!(
+        name,
+        "tunable" | "device" | "type" | "rule" | "choose_args" | "class"
+    )
+}

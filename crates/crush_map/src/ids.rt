@@ -1,0 +1,98 @@
+//! Ids of devices and buckets that were seen.
+
+ghost use Rattle.std.specs.Prelude.{◌≡◌, ◌≤◌, pos, IfOk, IsTrue, length};
+ghost use Rattle.crush_map.specs.Faults as spec;
+
+use crate::numbers::Numbers;
+use crate::word::ItemId;
+use std::alloc::{AllocError, Global};
+use std::marker::Model;
+
+/// Ids of devices, and of buckets, of which `-1 - n` is kept as `n`, each in the order in which they came.
+#[derive(Drop)]
+pub struct Ids {
+    devices: Numbers,
+    buckets: Numbers,
+}
+
+impl Model for Ids {
+    ghost use Rattle.crush_map.specs.Faults as spec;
+
+    ghost Value = { spec.Ids };
+
+    ghost view = { λ a. record { devices = a.devices; buckets = a.buckets } };
+}
+
+impl Ids {
+    /// No id.
+    pub fn new(alloc: Global) -> Result<Self, AllocError>
+        ensures { IfOk result (λ ids. ids ≡ spec.no_ids) }
+    {
+        Ok(Ids {
+            devices: Numbers::new(alloc)?,
+            buckets: Numbers::new(alloc)?,
+        })
+    }
+
+    /// How many devices came.
+    pub fn devices(&self) -> usize
+        ensures { result ≡ length self.now.devices }
+    {
+        self.devices.len()
+    }
+
+    /// How many buckets came.
+    pub fn buckets(&self) -> usize
+        ensures { result ≡ length self.now.buckets }
+    {
+        self.buckets.len()
+    }
+
+    /// Whether a device came.
+    pub fn has_device(&self, id: u32) -> bool
+        ensures { result ≡ spec.has_number self.now.devices id }
+    {
+        self.devices.has(id)
+    }
+
+    /// With one more device.
+    pub fn with_device(self, id: u32) -> Result<Self, AllocError>
+        requires { id ≤ 65535 }
+        ensures { IfOk result (λ ids. ids ≡ spec.with_id self (pos id)) }
+    {
+        let Ids { devices, buckets } = self;
+        Ok(Ids {
+            devices: devices.with(id)?,
+            buckets,
+        })
+    }
+
+    /// Whether an id came.
+    pub fn has(&self, id: ItemId) -> bool
+        ensures value { result ≡ spec.has_id self.now id.0 }
+        ensures known { IsTrue result → IsTrue (spec.is_id id.0) }
+    {
+        if id.0 < 0 {
+            self.buckets.has(id.0.unsigned_abs() - 1)
+        } else {
+            self.devices.has(id.0.unsigned_abs())
+        }
+    }
+
+    /// With one more id.
+    pub fn with(self, id: ItemId) -> Result<Self, AllocError>
+        requires { IsTrue (spec.is_id id.0) }
+        ensures { IfOk result (λ ids. ids ≡ spec.with_id self id.0) }
+    {
+        let Ids {
+            mut devices,
+            mut buckets,
+        } = self;
+        if id.0 < 0 {
+            buckets = buckets.with(id.0.unsigned_abs() - 1)?;
+        } else {
+            devices = devices.with(id.0.unsigned_abs())?;
+        }
+        Ok(Ids { devices, buckets })
+    }
+}

@@ -1,0 +1,352 @@
+//! What was declared, and the faults of what is declared behind it.
+
+ghost use Rattle.std.specs.Prelude.{◌≡◌, ◌==◌, ◌≤◌, IfOk, if◌then◌else◌, length, None};
+ghost use Rattle.std.specs.List.{list_all};
+ghost use Rattle.crush_map.specs.Faults as spec;
+
+use crate::draft::{Bucket, Device, Rule, Step, Tunables, TypeName};
+use crate::fault::FaultCode;
+use crate::form::{is_name, is_reserved};
+use crate::ids::Ids;
+use crate::names::Names;
+use crate::numbers::Numbers;
+use crate::word::{ItemId, Kind, Weight};
+use std::alloc::{AllocError, Global};
+use std::marker::Model;
+
+/// What was declared so far. A contract sees its numbers, ids and names.
+#[derive(Drop)]
+pub struct Known {
+    types: Numbers,
+    type_names: Names,
+    items: Ids,
+    item_names: Names,
+    rules: Numbers,
+    rule_names: Names,
+}
+
+impl Model for Known {
+    ghost use Rattle.crush_map.specs.Faults as spec;
+
+    ghost Value = { spec.Known };
+
+    ghost view = { λ a. record { types = a.types; type_names = a.type_names; items = a.items; item_names = a.item_names; rules = a.rules; rule_names = a.rule_names } };
+}
+
+impl Known {
+    /// Nothing, as before the first declaration.
+    pub fn new(alloc: Global) -> Result<Self, AllocError>
+        ensures { IfOk result (λ known. known ≡ spec.nothing) }
+    {
+        Ok(Known {
+            types: Numbers::new(alloc)?,
+            type_names: Names::new(alloc),
+            items: Ids::new(alloc)?,
+            item_names: Names::new(alloc),
+            rules: Numbers::new(alloc)?,
+            rule_names: Names::new(alloc),
+        })
+    }
+
+    /// The fault of a type that is declared next.
+    #[tactic(auto, unfolding(crate::specs::Faults::type_fault))]
+    pub fn type_fault(&self, declared: &TypeName) -> Option<FaultCode>
+        ensures { result ≡ spec.type_fault self.now declared.now }
+    {
+        let name = declared.name.as_str();
+        if self.types.len() >= 32 {
+            Some(FaultCode::M1)
+        } else if declared.number > 65_535 {
+            Some(FaultCode::M12)
+        } else if self.types.has(declared.number) {
+            Some(FaultCode::M2)
+        } else if !is_name(name) || is_reserved(name) {
+            Some(FaultCode::M15)
+        } else if self.type_names.has(name) {
+            Some(FaultCode::M3)
+        } else {
+            None
+        }
+    }
+
+    /// With a type that has no fault.
+    pub fn with_type(mut self, alloc: Global, declared: &TypeName) -> Result<Self, AllocError>
+        requires { spec.type_fault self declared.now ≡ None }
+        ensures { IfOk result (λ known. known ≡ spec.with_type self declared.now) }
+    {
+        self.types = self.types.with(declared.number)?;
+        self.type_names = self.type_names.with(alloc, declared.name.as_str())?;
+        Ok(self)
+    }
+
+    /// The fault of a device that is declared next.
+    #[tactic(auto, unfolding(crate::specs::Faults::device_fault))]
+    pub fn device_fault(&self, declared: &Device) -> Option<FaultCode>
+        ensures { result ≡ spec.device_fault self.now declared.now }
+    {
+        let name = declared.name.as_str();
+        if self.items.devices() >= 1_024 {
+            Some(FaultCode::M1)
+        } else if declared.id > 65_535 {
+            Some(FaultCode::M12)
+        } else if self.items.has_device(declared.id) {
+            Some(FaultCode::M2)
+        } else if !is_name(name) {
+            Some(FaultCode::M15)
+        } else if self.item_names.has(name) {
+            Some(FaultCode::M3)
+        } else {
+            None
+        }
+    }
+
+    /// With a device that has no fault.
+    pub fn with_device(mut self, alloc: Global, declared: &Device) -> Result<Self, AllocError>
+        requires { spec.device_fault self declared.now ≡ None }
+        ensures { IfOk result (λ known. known ≡ spec.with_device self declared.now) }
+    {
+        self.items = self.items.with_device(declared.id)?;
+        self.item_names = self.item_names.with(alloc, declared.name.as_str())?;
+        Ok(self)
+    }
+
+    /// The fault of a bucket that is declared next.
+    #[tactic(auto, unfolding(crate::specs::Faults::bucket_fault))]
+    pub fn bucket_fault(
+        &self,
+        alloc: Global,
+        declared: &Bucket,
+    ) -> Result<Option<FaultCode>, AllocError>
+        ensures { IfOk result (λ fault. fault ≡ spec.bucket_fault self.now declared.now) }
+    {
+        let name = declared.name.as_str();
+        let fault = if self.items.buckets() >= 1_024 {
+            FaultCode::M1
+        } else if !is_bucket_id(declared.id) {
+            FaultCode::M12
+        } else if self.items.has(declared.id) {
+            FaultCode::M2
+        } else if !is_name(name) {
+            FaultCode::M15
+        } else if self.item_names.has(name) {
+            FaultCode::M3
+        } else if !self.types.has(declared.kind_of) {
+            FaultCode::M4
+        } else if declared.kind_of == 0 {
+            FaultCode::M9
+        } else if declared.items.as_slice().len() > 1_024 {
+            FaultCode::M1
+        } else {
+            return self.contents_fault(alloc, declared.alg, declared.items.as_slice());
+        };
+        Ok(Some(fault))
+    }
+
+    /// The fault of what a bucket holds.
+    #[tactic(auto, unfolding(crate::specs::Faults::contents_fault))]
+    fn contents_fault(
+        &self,
+        alloc: Global,
+        alg: Kind,
+        items: &[(ItemId, Weight)],
+    ) -> Result<Option<FaultCode>, AllocError>
+        requires { length items.now ≤ 1024 }
+        ensures { IfOk result (λ fault. fault ≡ spec.contents_fault self.now alg items.now) }
+    {
+        if let Some(fault) = self.items_fault(alloc, items)? {
+            return Ok(Some(fault));
+        }
+        if is_uniform(alg) && !are_even(items) {
+            return Ok(Some(FaultCode::M8));
+        }
+        if total(items) > 4_294_967_295 {
+            return Ok(Some(FaultCode::M7));
+        }
+        Ok(None)
+    }
+
+    /// The first fault of a bucket's items.
+    #[tactic(auto, unfolding(crate::specs::Faults::items_fault))]
+    fn items_fault(
+        &self,
+        alloc: Global,
+        items: &[(ItemId, Weight)],
+    ) -> Result<Option<FaultCode>, AllocError>
+        ensures { IfOk result (λ fault. fault ≡ spec.items_fault self.now spec.no_ids items.now) }
+    {
+        let mut before = Ids::new(alloc)?;
+        for item in items {
+            if !self.items.has(item.0) {
+                return Ok(Some(FaultCode::M5));
+            }
+            if before.has(item.0) {
+                return Ok(Some(FaultCode::M6));
+            }
+            before = before.with(item.0)?;
+        }
+        Ok(None)
+    }
+
+    /// With a bucket that has no fault.
+    pub fn with_bucket(mut self, alloc: Global, declared: &Bucket) -> Result<Self, AllocError>
+        requires { spec.bucket_fault self declared.now ≡ None }
+        ensures { IfOk result (λ known. known ≡ spec.with_bucket self declared.now) }
+    {
+        self.items = self.items.with(declared.id)?;
+        self.item_names = self.item_names.with(alloc, declared.name.as_str())?;
+        Ok(self)
+    }
+
+    /// The fault of a choose step.
+    #[tactic(auto, unfolding(crate::specs::Faults::choose_fault))]
+    fn choose_fault(&self, firstn: bool, leaf: bool, n: i32, wanted: u32) -> Option<FaultCode>
+        ensures { result ≡ spec.choose_fault self.now firstn leaf n wanted }
+    {
+        if !self.types.has(wanted) {
+            Some(FaultCode::M11)
+        } else if n < -64 || n > 64 {
+            Some(FaultCode::M12)
+        } else if leaf && !firstn && wanted == 0 {
+            Some(FaultCode::M14)
+        } else {
+            None
+        }
+    }
+
+    /// The fault of a step of a rule.
+    #[tactic(auto, unfolding(crate::specs::Faults::step_fault))]
+    fn step_fault(&self, step: Step) -> Option<FaultCode>
+        ensures { result ≡ spec.step_fault self.now step }
+    {
+        match step {
+            Step::Take(id) => fault_if(!self.items.has(id), FaultCode::M10),
+            Step::SetChooseTries(tries) => fault_if(tries > 1_000, FaultCode::M12),
+            Step::SetLeafTries(tries) => fault_if(tries > 1_000, FaultCode::M12),
+            Step::SetVaryR(value) => fault_if(value > 8, FaultCode::M12),
+            Step::SetStable(value) => fault_if(value > 1, FaultCode::M12),
+            Step::Choose {
+                firstn,
+                leaf,
+                n,
+                wanted,
+            } => self.choose_fault(firstn, leaf, n, wanted),
+            Step::Emit => None,
+        }
+    }
+
+    /// The first fault of steps.
+    fn steps_fault(&self, steps: &[Step]) -> Option<FaultCode>
+        ensures { result ≡ spec.steps_fault self.now steps.now }
+    {
+        for step in steps {
+            if let Some(fault) = self.step_fault(*step) {
+                return Some(fault);
+            }
+        }
+        None
+    }
+
+    /// The fault of a rule that is declared next.
+    #[tactic(auto, unfolding(crate::specs::Faults::rule_fault))]
+    pub fn rule_fault(&self, declared: &Rule) -> Option<FaultCode>
+        ensures { result ≡ spec.rule_fault self.now declared.now }
+    {
+        let name = declared.name.as_str();
+        let steps = declared.steps.as_slice();
+        if self.rules.len() >= 64 {
+            Some(FaultCode::M1)
+        } else if declared.id > 255 {
+            Some(FaultCode::M12)
+        } else if self.rules.has(declared.id) {
+            Some(FaultCode::M2)
+        } else if !is_name(name) {
+            Some(FaultCode::M15)
+        } else if self.rule_names.has(name) {
+            Some(FaultCode::M3)
+        } else if steps.is_empty() || steps.len() > 32 {
+            Some(FaultCode::M1)
+        } else {
+            self.steps_fault(steps)
+        }
+    }
+
+    /// With a rule that has no fault.
+    pub fn with_rule(mut self, alloc: Global, declared: &Rule) -> Result<Self, AllocError>
+        requires { spec.rule_fault self declared.now ≡ None }
+        ensures { IfOk result (λ known. known ≡ spec.with_rule self declared.now) }
+    {
+        self.rules = self.rules.with(declared.id)?;
+        self.rule_names = self.rule_names.with(alloc, declared.name.as_str())?;
+        Ok(self)
+    }
+
+    /// The fault at the end, when all is declared.
+    #[tactic(auto, unfolding(crate::specs::Faults::end_fault))]
+    pub fn end_fault(
+        &self,
+        tunables: Tunables,
+        local_tries: u32,
+        local_fallback_tries: u32,
+    ) -> Option<FaultCode>
+        ensures { result ≡ spec.end_fault self.now tunables local_tries local_fallback_tries }
+    {
+        if !self.types.has(0) {
+            Some(FaultCode::M4)
+        } else if !are_in_range(tunables) {
+            Some(FaultCode::M12)
+        } else if local_tries != 0 || local_fallback_tries != 0 {
+            Some(FaultCode::M13)
+        } else {
+            None
+        }
+    }
+}
+
+fn fault_if(stands: bool, code: FaultCode) -> Option<FaultCode>
+    ensures { result ≡ (if stands then Some code else None) }
+{
+    if stands { Some(code) } else { None }
+}
+
+fn is_bucket_id(id: ItemId) -> bool
+    ensures { result ≡ spec.is_bucket_id id.0 }
+{
+    -65_536 <= id.0 && id.0 <= -1
+}
+
+fn is_uniform(alg: Kind) -> bool
+    ensures { result ≡ spec.is_uniform alg }
+{
+    matches!(alg, Kind::Uniform)
+}
+
+fn are_even(items: &[(ItemId, Weight)]) -> bool
+    ensures { result ≡ spec.are_even items.now }
+{
+    match items {
+        [] => true,
+        [first, rest @ ..] => all_weigh(rest, first.1.0),
+    }
+}
+
+fn all_weigh(items: &[(ItemId, Weight)], weight: u32) -> bool
+    ensures { result ≡ list_all (λ item. item.1.0 == weight) items.now }
+{
+    items.iter().all(|item| item.1.0 == weight)
+}
+
+fn total(items: &[(ItemId, Weight)]) -> u64
+    requires { length items.now ≤ 1024 }
+    ensures { result ≡ spec.total items.now }
+{
+    items.iter().map(|item| u64::from(item.1.0)).sum()
+}
+
+fn are_in_range(tunables: Tunables) -> bool
+    ensures { result ≡ spec.are_in_range tunables }
+{
+    tunables.total_tries <= 999
+        && tunables.descend_once <= 1
+        && tunables.vary_r <= 8
+        && tunables.stable <= 1
+}

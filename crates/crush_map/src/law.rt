@@ -1,0 +1,33 @@
+//! What holds of every draft and of every map. A call does nothing: its caller learns the law.
+
+ghost use Rattle.std.specs.Prelude.{◌≡◌, ℕ, true, Some, None, slice_get, IfSome};
+ghost use Rattle.crush_map.specs.declared.draft.MapDraft.{MapDraft};
+ghost use Rattle.crush_map.specs.declared.fault.MapFault.{MapFault};
+ghost use Rattle.crush_map.specs.Faults as spec;
+ghost use Rattle.crush_map.specs.Map.{Map, IsMap};
+ghost use Rattle.crush_map.specs.Sound.{IsBucketAt, IsRuleAt, IsTypeAt, IsDeviceAt, has_type};
+ghost use Rattle.crush_map.specs.Laws.{StandsFirst, HasNoFault};
+
+/// The first fault of a draft stands where it says, and nothing before it has one; where there is none, nothing has one.
+pub fn first_fault_is_first()
+    ensures fault { (d : MapDraft) (f : MapFault) → spec.first_fault d ≡ Some f → StandsFirst d f.element f.index f.code }
+    ensures none { (d : MapDraft) → spec.first_fault d ≡ None → HasNoFault d }
+{}
+
+/// What each bucket of a map is.
+pub fn buckets_are_sound()
+    ensures { (m : Map) (i : ℕ) → IsMap m → IfSome (slice_get m.buckets i) (λ b. IsBucketAt m i b) }
+{}
+
+/// What each rule of a map is.
+pub fn rules_are_sound()
+    ensures { (m : Map) (i : ℕ) → IsMap m → IfSome (slice_get m.rules i) (λ r. IsRuleAt m i r) }
+{}
+
+/// What the types, the devices and the tunables of a map are.
+pub fn numbers_are_sound()
+    ensures types { (m : Map) (i : ℕ) → IsMap m → IfSome (slice_get m.types i) (λ t. IsTypeAt i t) }
+    ensures devices { (m : Map) (i : ℕ) → IsMap m → IfSome (slice_get m.devices i) (λ d. IsDeviceAt i d) }
+    ensures device_type { (m : Map) → IsMap m → has_type m.types 0 ≡ true }
+    ensures tunables { (m : Map) → IsMap m → spec.are_in_range m.tunables ≡ true }
+{}

@@ -1,0 +1,26 @@
+//! CRUSH maps: their words, their texts, what they are declared of, and which drafts are maps.
+#![tactic(auto)]
+
+mod draft;
+mod fault;
+mod form;
+mod ids;
+mod judge;
+mod known;
+mod law;
+mod list;
+mod map;
+mod names;
+mod numbers;
+mod text;
+mod word;
+
+pub use draft::{Bucket, Device, Items, MapDraft, Rule, Step, Steps, Tunables, TypeName};
+pub use fault::{Element, FaultCode, MapFault};
+pub use form::is_name;
+pub use known::Known;
+pub use law::{buckets_are_sound, first_fault_is_first, numbers_are_sound, rules_are_sound};
+pub use list::Listed;
+pub use map::CrushMap;
+pub use text::Text;
+pub use word::{ItemId, Kind, Weight};

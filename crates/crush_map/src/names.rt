@@ -1,0 +1,60 @@
+//! Names that were seen, with an index by which one is looked up.
+
+ghost use Rattle.std.specs.Prelude.{◌≡◌, ◌++◌, ◌∷◌, [], IfOk};
+ghost use Rattle.crush_map.specs.Faults as spec;
+
+use crate::text::Text;
+use std::alloc::{AllocError, Global};
+use std::collections::BTreeSet;
+use std::marker::Model;
+
+/// Names in the order in which they came.
+#[derive(Drop)]
+pub struct Names {
+    order: Vec<Text>,
+    index: BTreeSet<String>,
+}
+
+impl Model for Names {
+    ghost use Rattle.std.specs.Prelude.{List, ℕ, ◌≡◌};
+    ghost use Rattle.std.specs.BTreeSet.{contains_text};
+    ghost use Rattle.crush_map.specs.Faults.{has_name};
+
+    ghost Value = { List (List ℕ) };
+
+    ghost view = { λ a. a.order.items };
+
+    ghost invariant = { λ a. (name : List ℕ) → contains_text a.index name ≡ has_name a.order.items name };
+}
+
+impl Names {
+    /// No name.
+    pub fn new(alloc: Global) -> Self
+        ensures { result ≡ [] }
+    {
+        Names {
+            order: Vec::new(alloc),
+            index: BTreeSet::new(alloc),
+        }
+    }
+
+    /// Whether a name came.
+    pub fn has(&self, name: &str) -> bool
+        ensures { result ≡ spec.has_name self.now name.now }
+    {
+        self.index.contains(name)
+    }
+
+    /// With one more name.
+    pub fn with(self, alloc: Global, name: &str) -> Result<Self, AllocError>
+        ensures { IfOk result (λ names. names ≡ self ++ name.now ∷ []) }
+    {
+        let Names {
+            mut order,
+            mut index,
+        } = self;
+        order.push(Text::copy(alloc, name)?)?;
+        index.insert(String::from_str(alloc, name)?)?;
+        Ok(Names { order, index })
+    }
+}
