@@ -1,0 +1,142 @@
+//! Picks from one bucket.
+
+ghost use Rattle.std.specs.Prelude.{◌≡◌, ◌<◌, ◌^◌, IsTrue, length};
+ghost use Rattle.crush_bucket.specs.Bucket.{HasEqualWeights, total_weight};
+ghost use Rattle.crush_bucket.specs.Pick.{perm_of};
+
+use crush_bucket::{ListBucket, Perm, Picker, TreeBucket, UniformBucket};
+use crush_map::{ItemId, Kind, Weight};
+use std::alloc::{AllocError, Global};
+use std::io;
+use std::rt::Clock;
+use std::time::{Duration, Instant};
+
+const ONE: u32 = 65_536;
+
+/// The id of the bucket that is asked.
+const ASKED: ItemId = ItemId(-1);
+
+/// The checksum of some picks, and how long they took.
+#[derive(Clone, Copy)]
+pub struct Measured {
+    pub checksum: u64,
+    pub took: Duration,
+}
+
+/// The inputs 0, 1, .. and the attempts 0, 1, .. of each.
+#[derive(Clone, Copy)]
+pub struct Questions {
+    pub inputs: u32,
+    pub tries: u32,
+}
+
+/// Picks from the bucket of a kind with so many items; none where no bucket holds that.
+pub fn measure<R: AllocGlobal + Clock>(
+    rt: &R,
+    kind: Kind,
+    size: u32,
+    questions: Questions,
+) -> io::Result<Option<Measured>> {
+    let alloc = rt.alloc();
+    let entries = entries_of(alloc, kind, size)?;
+    if !can_be_asked(&entries) {
+        return Ok(None);
+    }
+    let perm = Perm::build(alloc, ASKED, entries.len())?;
+    match kind {
+        Kind::Uniform => {
+            if !are_even(&entries) {
+                return Ok(None);
+            }
+            let bucket = UniformBucket::build(alloc, ASKED, &entries)?;
+            measure_bucket(rt, &bucket, perm, questions)
+        }
+        Kind::List => {
+            let bucket = ListBucket::build(alloc, ASKED, &entries)?;
+            measure_bucket(rt, &bucket, perm, questions)
+        }
+        Kind::Tree => {
+            let bucket = TreeBucket::build(alloc, ASKED, &entries)?;
+            measure_bucket(rt, &bucket, perm, questions)
+        }
+    }
+}
+
+/// The items 0, 1, .. and their weights.
+fn entries_of(alloc: Global, kind: Kind, size: u32) -> Result<Vec<(ItemId, Weight)>, AllocError> {
+    let mut entries = Vec::new(alloc);
+    for n in 0..size.min(65_535) {
+        let weight = match kind {
+            Kind::Uniform => ONE,
+            Kind::List | Kind::Tree => ONE * (1 + n % 4),
+        };
+        entries.push((ItemId(n as i32), Weight(weight)))?;
+    }
+    Ok(entries)
+}
+
+/// Takes the time of the picks alone.
+fn measure_bucket<P: Picker, R: Clock>(
+    rt: &R,
+    bucket: &P,
+    mut perm: Perm,
+    questions: Questions,
+) -> io::Result<Option<Measured>>
+    requires { perm ≡ perm_of (P.bucket bucket.now) }
+{
+    let start = Instant::now(rt)?;
+    let checksum = pick_all(bucket, &mut perm, questions);
+    let took = start.elapsed(rt)?;
+    Ok(Some(Measured { checksum, took }))
+}
+
+/// The checksum of all picks.
+fn pick_all<P: Picker>(bucket: &P, perm: &mut Perm, questions: Questions) -> u64
+    requires { perm.old ≡ perm_of (P.bucket bucket.now) }
+{
+    let mut checksum = 0;
+    'inputs: for x in 0..questions.inputs {
+        checksum = pick_tries(bucket, perm, x, questions.tries, checksum);
+    }
+    checksum
+}
+
+/// A checksum, and behind it the picks for one input.
+#[inline]
+fn pick_tries<P: Picker>(bucket: &P, perm: &mut Perm, x: u32, tries: u32, before: u64) -> u64
+    requires { perm.old ≡ perm_of (P.bucket bucket.now) }
+    ensures { perm.new ≡ perm.old }
+{
+    let mut checksum = before;
+    'tries: for r in 0..tries {
+        let item = bucket.pick(perm, x, r);
+        checksum = checksum
+            .wrapping_mul(31)
+            .wrapping_add(u64::from(item.word()));
+    }
+    checksum
+}
+
+fn can_be_asked(entries: &[(ItemId, Weight)]) -> bool
+    ensures { IsTrue result → (0 < length entries.now) × (length entries.now < 2 ^ 16) × (total_weight entries.now < 2 ^ 32) }
+{
+    !entries.is_empty() && entries.len() < 65_536 && total(entries) < 4_294_967_296
+}
+
+fn total(entries: &[(ItemId, Weight)]) -> u64
+    requires { length entries.now < 2 ^ 16 }
+    ensures { result ≡ total_weight entries.now }
+{
+    entries.iter().map(|entry| u64::from(entry.1.0)).sum()
+}
+
+fn are_even(entries: &[(ItemId, Weight)]) -> bool
+    ensures { IsTrue result → HasEqualWeights entries.now }
+{
+    for place in 0..entries.len() {
+        if entries[place].1.0 != entries[0].1.0 {
+            return false;
+        }
+    }
+    true
+}

@@ -1,0 +1,142 @@
+//! The check of a draft at every limit.
+
+use crush_map::{
+    Bucket, CrushMap, Device, ItemId, Kind, Listed, MapDraft, MapFault, Rule, Step, Text, Tunables,
+    TypeName, Weight,
+};
+use std::alloc::{AllocError, Global};
+use std::io;
+use std::rt::Clock;
+use std::time::{Duration, Instant};
+
+const TYPES: u32 = 32;
+
+const DEVICES: u32 = 1_024;
+
+const BUCKETS: u32 = 1_024;
+
+const RULES: u32 = 64;
+
+const STEPS: u32 = 32;
+
+/// 1,024 times this is below 2^32, and one more isn't.
+const HEAVIEST: u32 = 4_194_303;
+
+/// A draft's first fault, and how long it took to seek.
+#[derive(Clone, Copy)]
+pub struct Checked {
+    pub fault: Option<MapFault>,
+    pub took: Duration,
+}
+
+/// Checks the greatest draft.
+pub fn check<R: AllocGlobal + Clock>(rt: &R) -> io::Result<Checked> {
+    let alloc = rt.alloc();
+    let draft = fullest(alloc)?;
+    let start = Instant::now(rt)?;
+    let answer = CrushMap::check(alloc, draft)?;
+    let took = start.elapsed(rt)?;
+    let fault = answer.err().map(|refused| refused.1);
+    Ok(Checked { fault, took })
+}
+
+/// 1,024 devices, 1,024 buckets that hold each of them, and 64 rules of 32 steps, with names as long as they may be.
+fn fullest(alloc: Global) -> Result<MapDraft, AllocError> {
+    Ok(MapDraft {
+        types: types(alloc)?,
+        devices: devices(alloc)?,
+        buckets: buckets(alloc)?,
+        rules: rules(alloc)?,
+        local_tries: 0,
+        local_fallback_tries: 0,
+        tunables: Tunables {
+            total_tries: 50,
+            descend_once: 1,
+            vary_r: 1,
+            stable: 1,
+        },
+    })
+}
+
+/// A name of 64 bytes.
+fn name(alloc: Global, letter: char, number: u32) -> Result<Text, AllocError> {
+    Ok(Text::new(format!(in alloc; "{letter}{number:063}")?))
+}
+
+fn types(alloc: Global) -> Result<Listed<TypeName>, AllocError> {
+    let mut types = Vec::new(alloc);
+    for number in 0..TYPES {
+        let name = name(alloc, 't', number)?;
+        types.push(TypeName { number, name })?;
+    }
+    Ok(Listed::new(types))
+}
+
+fn devices(alloc: Global) -> Result<Listed<Device>, AllocError> {
+    let mut devices = Vec::new(alloc);
+    for id in 0..DEVICES {
+        let name = name(alloc, 'd', id)?;
+        devices.push(Device { id, name })?;
+    }
+    Ok(Listed::new(devices))
+}
+
+/// All devices, each of the same weight.
+fn items(alloc: Global) -> Result<Listed<(ItemId, Weight)>, AllocError> {
+    let mut items = Vec::new(alloc);
+    for id in 0..DEVICES {
+        items.push((ItemId(id as i32), Weight(HEAVIEST)))?;
+    }
+    Ok(Listed::new(items))
+}
+
+fn buckets(alloc: Global) -> Result<Listed<Bucket>, AllocError> {
+    let mut buckets = Vec::new(alloc);
+    for number in 0..BUCKETS {
+        buckets.push(Bucket {
+            id: ItemId(-1 - number as i32),
+            name: name(alloc, 'b', number)?,
+            kind_of: 1 + number % (TYPES - 1),
+            alg: kind_at(number),
+            items: items(alloc)?,
+        })?;
+    }
+    Ok(Listed::new(buckets))
+}
+
+/// Each kind in turn.
+fn kind_at(number: u32) -> Kind {
+    match number % 3 {
+        0 => Kind::Uniform,
+        1 => Kind::List,
+        _ => Kind::Tree,
+    }
+}
+
+fn rules(alloc: Global) -> Result<Listed<Rule>, AllocError> {
+    let mut rules = Vec::new(alloc);
+    for id in 0..RULES {
+        rules.push(Rule {
+            id,
+            name: name(alloc, 'r', id)?,
+            erasure: false,
+            steps: steps(alloc)?,
+        })?;
+    }
+    Ok(Listed::new(rules))
+}
+
+/// A step that takes the last bucket, then steps that choose devices below it.
+fn steps(alloc: Global) -> Result<Listed<Step>, AllocError> {
+    let mut steps = Vec::new(alloc);
+    steps.push(Step::Take(ItemId(-(BUCKETS as i32))))?;
+    for _ in 1..STEPS {
+        steps.push(Step::Choose {
+            firstn: true,
+            leaf: false,
+            n: 1,
+            wanted: 0,
+        })?;
+    }
+    Ok(Listed::new(steps))
+}

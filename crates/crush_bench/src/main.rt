@@ -1,0 +1,114 @@
+//! `crush_bench`, this repository's side of the work that bench/README.md defines.
+#![tactic(auto)]
+
+mod bucket;
+mod fullest;
+mod words;
+
+use bucket::Questions;
+use crush_map::Kind;
+use std::process::ExitCode;
+use std::rt::{Clock, Env};
+use std::{env, io};
+use words::{Work, work_of};
+
+const USAGE: &str =
+    "usage: crush_bench [small] | pick KIND N COUNT [TRIES] | check     (KIND: 1 uniform, 2 list, 3 tree)";
+
+/// What each bucket is asked in the small run.
+const FEW: Questions = Questions {
+    inputs: 1_000,
+    tries: 1,
+};
+
+/// Says what is wrong, and ends as a program that failed.
+fn fault<R: Eprint>(rt: &R, what: &str) -> io::Result<ExitCode> {
+    eprintln!(rt; "crush_bench: {what}")?;
+    Ok(ExitCode::from(1))
+}
+
+/// The picks of one bucket: the checksum, and the nanoseconds of one.
+fn pick<R: AllocGlobal + Clock + Print + Eprint>(
+    rt: &R,
+    kind: Kind,
+    size: u32,
+    questions: Questions,
+) -> io::Result<ExitCode> {
+    let Some(picks) = bucket::measure(rt, kind, size, questions)? else {
+        return fault(rt, "no bucket holds that");
+    };
+    let asked = f64::from(questions.inputs) * f64::from(questions.tries);
+    let each = picks.took.as_secs_f64() * 1e9 / asked;
+    rt.println(picks.checksum)?;
+    eprintln!(rt; "{each:.1}")?;
+    Ok(ExitCode::SUCCESS)
+}
+
+/// A line for a bucket of each of these sizes: the kind, the size, and the checksum of few picks.
+fn list_small<R: AllocGlobal + Clock + Print>(
+    rt: &R,
+    name: &str,
+    kind: Kind,
+    sizes: &[u32],
+) -> io::Result<()> {
+    for size in sizes {
+        let size = *size;
+        if let Some(picks) = bucket::measure(rt, kind, size, FEW)? {
+            let checksum = picks.checksum;
+            println!(rt; "{name} {size} {checksum}")?;
+        }
+    }
+    Ok(())
+}
+
+/// Each kind of bucket at the sizes that are measured, and no times.
+fn small<R: AllocGlobal + Clock + Print>(rt: &R) -> io::Result<ExitCode> {
+    list_small(rt, "uniform", Kind::Uniform, &[8, 32, 128, 1_024])?;
+    list_small(rt, "list", Kind::List, &[8, 32, 128, 1_024])?;
+    list_small(rt, "tree", Kind::Tree, &[8, 32, 64, 128, 1_024])?;
+    Ok(ExitCode::SUCCESS)
+}
+
+/// Whether the greatest draft is a map, and the seconds that finding out takes.
+fn check<R: AllocGlobal + Clock + Print + Eprint>(rt: &R) -> io::Result<ExitCode> {
+    let checked = fullest::check(rt)?;
+    let took = checked.took.as_secs_f64();
+    eprintln!(rt; "{took:.3}")?;
+    match checked.fault {
+        None => {
+            rt.println("accepted")?;
+            Ok(ExitCode::SUCCESS)
+        }
+        Some(fault) => {
+            println!(rt; "refused: {fault:?}")?;
+            Ok(ExitCode::from(1))
+        }
+    }
+}
+
+fn done<R: AllocGlobal + Clock + Print + Eprint>(rt: &R, words: &[String]) -> io::Result<ExitCode> {
+    match work_of(words) {
+        Some(Work::Small) => small(rt),
+        Some(
+            Work::Pick {
+                kind,
+                size,
+                questions,
+            },
+        ) => pick(rt, kind, size, questions),
+        Some(Work::Check) => check(rt),
+        None => {
+            rt.eprintln(USAGE)?;
+            Ok(ExitCode::from(2))
+        }
+    }
+}
+
+fn run<R: AllocGlobal + Clock + Print + Eprint + Env>(rt: &R) -> io::Result<ExitCode> {
+    let words = env::args(rt)?.collect::<Vec<String>>(rt.alloc())?;
+    done(rt, words.as_slice())
+}
+
+fn main(rt: HostRuntime) -> io::Result<ExitCode> {
+    run(&rt)
+}

@@ -1,0 +1,76 @@
+//! The program's words.
+
+use crate::bucket::Questions;
+use crush_map::Kind;
+
+/// What the program is asked for.
+#[derive(Clone, Copy)]
+pub enum Work {
+    /// Each kind of bucket with few inputs.
+    Small,
+    /// Picks of one bucket.
+    Pick {
+        kind: Kind,
+        size: u32,
+        questions: Questions,
+    },
+    /// The check of the greatest draft.
+    Check,
+}
+
+/// What is asked for, the program's own name being the first word.
+pub fn work_of(words: &[String]) -> Option<Work> {
+    match words {
+        [_] => Some(Work::Small),
+        [_, word] => plain_work(word.as_str()),
+        [_, word, kind, size, inputs] if word.as_str() == "pick" => {
+            pick_work(kind.as_str(), size.as_str(), inputs.as_str(), "1")
+        }
+        [_, word, kind, size, inputs, tries] if word.as_str() == "pick" => pick_work(
+            kind.as_str(),
+            size.as_str(),
+            inputs.as_str(),
+            tries.as_str(),
+        ),
+        _ => None,
+    }
+}
+
+fn pick_work(kind: &str, size: &str, inputs: &str, tries: &str) -> Option<Work> {
+    let kind = kind_of(kind)?;
+    let size = number(size, 1_024)?;
+    let inputs = number(inputs, u32::MAX)?;
+    let tries = number(tries, 1_000)?;
+    Some(Work::Pick {
+        kind,
+        size,
+        questions: Questions { inputs, tries },
+    })
+}
+
+fn plain_work(word: &str) -> Option<Work> {
+    match word {
+        "small" => Some(Work::Small),
+        "check" => Some(Work::Check),
+        _ => None,
+    }
+}
+
+fn kind_of(word: &str) -> Option<Kind> {
+    match word {
+        "1" => Some(Kind::Uniform),
+        "2" => Some(Kind::List),
+        "3" => Some(Kind::Tree),
+        _ => None,
+    }
+}
+
+/// A number from 1 to the greatest.
+fn number(word: &str, greatest: u32) -> Option<u32> {
+    let n = word.parse::<u32>().ok()?;
+    if 1 <= n && n <= greatest {
+        Some(n)
+    } else {
+        None
+    }
+}

@@ -1,0 +1,54 @@
+-- A bucket of a CRUSH map, as its pick sees it.
+use Rattle.std.specs.Prelude.{◌≡◌, ℕ, ◌<◌, ◌^◌, List, length, sum_by, take, drop, slice_index_or, SomeIndex, All, pos}
+use Rattle.std.specs.Int.{cast_unsigned, w32}
+use Rattle.crush_map.specs.declared.ItemId.{ItemId}
+use Rattle.crush_map.specs.declared.Weight.{Weight}
+use Rattle.crush_map.specs.declared.Kind.{Kind}
+
+-- an item of a bucket, with its weight
+abbrev pub Entry : Type 0
+Entry = ItemId × Weight
+
+-- a bucket: its id, the kind by which it picks, and its items with their weights, in order of place
+pub record BucketView : Type 0 where
+  pub id : ItemId
+  pub kind : Kind
+  pub entries : List Entry
+
+-- the word by which an id enters a hash: its two's complement
+abbrev pub word : ItemId → ℕ
+word item = cast_unsigned w32 item.0
+
+-- what stands where there is no entry
+abbrev pub no_entry : Entry
+no_entry = (record { 0 = pos 0 }, record { 0 = 0 })
+
+-- the item at a place
+abbrev pub item_at : List Entry → ℕ → ItemId
+item_at entries place = (slice_index_or entries place no_entry).0
+
+-- the weight at a place; past the end it is 0
+abbrev pub weight_at : List Entry → ℕ → ℕ
+weight_at entries place = (slice_index_or entries place no_entry).1.0
+
+-- the sum of the weights
+abbrev pub total_weight : List Entry → ℕ
+total_weight entries = sum_by (λ e. e.1.0) entries
+
+-- the sum of the weights at n places from a place on; past the end there are none
+abbrev pub weight_within : List Entry → ℕ → ℕ → ℕ
+weight_within entries from n = total_weight (take n (drop from entries))
+
+-- an item of the bucket
+abbrev pub IsItemOf : List Entry → ItemId → Type 0
+IsItemOf entries item = SomeIndex entries (λ place. item_at entries place ≡ item)
+
+-- what a bucket must be so that it is asked: it has an item, at most 65,535 of them, and the sum of its weights is a word
+pub record CanBeAsked (entries : List Entry) : Type 0 where
+  pub some : 0 < length entries
+  pub few : length entries < 2 ^ 16
+  pub light : total_weight entries < 2 ^ 32
+
+-- all weights are that of the first place
+abbrev pub HasEqualWeights : List Entry → Type 0
+HasEqualWeights entries = All (λ e. e.1.0 ≡ weight_at entries 0) entries

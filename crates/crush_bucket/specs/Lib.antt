@@ -1,0 +1,9 @@
+pub mod Bucket
+pub mod Kept
+pub mod Kinds
+pub mod Laid
+pub mod Permutation
+pub mod Pick
+pub mod Reached
+pub mod Rows
+pub mod Tables

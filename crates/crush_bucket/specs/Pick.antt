@@ -1,0 +1,22 @@
+-- The pick of a bucket.
+use Rattle.std.specs.Prelude.{ℕ, length}
+use Rattle.crush_map.specs.declared.ItemId.{ItemId}
+use Rattle.crush_map.specs.declared.Kind.{Kind}
+use Rattle.crush_map.specs.declared.Kind.TheVariants.{Uniform, List, Tree}
+use Rattle.crush_bucket.specs.Bucket.{BucketView}
+use Rattle.crush_bucket.specs.Permutation.{PermView}
+use Rattle.crush_bucket.specs.Kinds.{uniform_pick, list_pick, tree_pick}
+
+-- what a bucket would pick if it were of this kind
+abbrev pub pick_as : Kind → BucketView → ℕ → ℕ → ItemId
+pick_as Uniform b = uniform_pick b.id b.entries
+pick_as List b = list_pick b.id b.entries
+pick_as Tree b = tree_pick b.id b.entries
+
+-- what a nonempty bucket picks for an input x and an attempt r
+unfoldable pub pick : BucketView → ℕ → ℕ → ItemId
+pick b x r = pick_as b.kind b x r
+
+-- the permutation by which a bucket picks, if it is uniform
+abbrev pub perm_of : BucketView → PermView
+perm_of b = record { id = b.id; size = length b.entries }

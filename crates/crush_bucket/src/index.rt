@@ -1,0 +1,44 @@
+//! Where the bucket with an id stands.
+
+ghost use Rattle.std.specs.Prelude.{◌≡◌, ◌<◌, ℕ, negsuc, Option, None, IfOk, length, slice_index_or};
+ghost use Rattle.crush_bucket.specs.Laid.{IsIndexOf};
+ghost use Rattle.crush_bucket.specs.Tables.{no_bucket};
+
+use crate::number::{BucketNo, number_of};
+use crate::row::Row;
+use std::alloc::{AllocError, Global};
+
+/// A table of bucket numbers: that of the bucket -1 - n stands at n.
+pub(crate) fn index_of(alloc: Global, rows: &[Row]) -> Result<Vec<Option<BucketNo>>, AllocError>
+    ensures { IfOk result (λ index. IsIndexOf rows.now index.items) }
+{
+    let mut index = empty_index(alloc, index_size(rows))?;
+    for place in (0..rows.len()).rev() {
+        let row = &rows[place];
+        if let Some(n) = number_of(row.id()) {
+            index[n] = Some(BucketNo::new(place));
+        }
+    }
+    Ok(index)
+}
+
+/// A table with no number.
+fn empty_index(alloc: Global, size: usize) -> Result<Vec<Option<BucketNo>>, AllocError>
+    ensures len { IfOk result (λ index. length index.items ≡ size) }
+    ensures none { IfOk result (λ index. (n : ℕ) → slice_index_or index.items n None ≡ None) }
+{
+    Ok(vec![in alloc; None; size]?)
+}
+
+/// A size that is above the n of each bucket -1 - n.
+fn index_size(rows: &[Row]) -> usize
+    ensures { (place n : ℕ) → place < length rows.now → (slice_index_or rows.now place no_bucket).bucket.id.0 ≡ negsuc n → n < result }
+{
+    let mut size = 0;
+    for row in rows {
+        if let Some(n) = number_of(row.id()) {
+            size = size.max(n + 1);
+        }
+    }
+    size
+}

@@ -1,0 +1,31 @@
+//! Buckets of a CRUSH map, and what each picks.
+//!
+//! Sources: Weil et al., 'CRUSH: Controlled, Scalable, Decentralized Placement of Replicated Data' (SC 2006), and Ceph's `src/crush/mapper.c` and `src/crush/builder.c`.
+#![tactic(auto)]
+
+mod index;
+pub mod laws;
+mod list;
+mod number;
+mod perm;
+mod picker;
+mod reach;
+mod row;
+mod scratch;
+mod tables;
+mod tree;
+mod uniform;
+
+pub use list::ListBucket;
+pub use number::BucketNo;
+pub use perm::Perm;
+pub use picker::Picker;
+pub use scratch::Scratch;
+pub use tables::Tables;
+pub use tree::TreeBucket;
+pub use uniform::UniformBucket;
+
+#[cfg(test)]
+mod plain;
+#[cfg(test)]
+mod tests;

@@ -1,0 +1,21 @@
+//! What can be asked for an item.
+
+ghost use Rattle.std.specs.Prelude.{◌≡◌};
+ghost use Rattle.crush_bucket.specs.Bucket.{BucketView, IsItemOf};
+ghost use Rattle.crush_bucket.specs.Pick.{pick, perm_of};
+
+use crate::perm::Perm;
+use crush_map::ItemId;
+
+/// A bucket that picks one of its items.
+pub trait Picker {
+    /// The bucket that it is.
+    ghost bucket: { Self → BucketView };
+
+    /// The item that is picked for an input and an attempt, whatever the scratch was asked before. Takes no memory.
+    fn pick(&self, perm: &mut Perm, x: u32, r: u32) -> ItemId
+        requires { perm.old ≡ perm_of (bucket self.now) }
+        ensures picked { result ≡ pick (bucket self.now) x r }
+        ensures item { IsItemOf (bucket self.now).entries result }
+        ensures same { perm.new ≡ perm.old };
+}

@@ -1,0 +1,160 @@
+//! The buckets of a map, ready to be asked.
+
+ghost use Rattle.std.specs.Prelude.{◌≡◌, ◌<◌, ◌<ℤ◌, ◌==◌, ◌^◌, pos, IfOk, IfSome, OnSome, All, length, map};
+ghost use Rattle.crush_bucket.specs.Bucket.{IsItemOf};
+ghost use Rattle.crush_bucket.specs.Laid.{IsFit};
+ghost use Rattle.crush_bucket.specs.Tables.{tables_of, typed_bucket, bucket_numbered, bucket_at, type_at, kind_at, size_at, pick_at, has_device, perms_of, IsBelow};
+
+use crate::index::index_of;
+use crate::number::{BucketNo, number_of};
+use crate::row::Row;
+use crate::scratch::Scratch;
+use crush_map::{Bucket, CrushMap, Device, ItemId, Kind, Tunables};
+use std::alloc::{AllocError, Global};
+use std::marker::Model;
+
+/// The buckets of a map in order of declaration, its devices and its tunables. A contract sees them as lists.
+#[derive(Drop)]
+pub struct Tables {
+    rows: Vec<Row>,
+    index: Vec<Option<BucketNo>>,
+    devices: Vec<u32>,
+    tunables: Tunables,
+}
+
+impl Model for Tables {
+    ghost use Rattle.crush_bucket.specs.Tables.{TablesView};
+    ghost use Rattle.crush_bucket.specs.Laid.{IsLaid, IsIndexOf};
+
+    ghost Value = { TablesView };
+
+    ghost view = { λ a. record { buckets = a.rows.items; devices = a.devices.items; tunables = a.tunables } };
+
+    ghost invariant = { λ a. record {
+      laid : IsLaid (record { buckets = a.rows.items; devices = a.devices.items; tunables = a.tunables });
+      index : IsIndexOf a.rows.items a.index.items;
+    } };
+}
+
+impl Tables {
+    /// The tables of a map.
+    pub fn build(alloc: Global, map: &CrushMap) -> Result<Self, AllocError>
+        ensures { IfOk result (λ t. t ≡ tables_of map.now) }
+    {
+        let rows = rows_of(alloc, map.buckets())?;
+        let index = index_of(alloc, &rows)?;
+        let devices = ids_of(alloc, map.devices())?;
+        Ok(Tables {
+            rows,
+            index,
+            devices,
+            tunables: map.tunables(),
+        })
+    }
+
+    /// The rows, by number.
+    pub(crate) fn rows(&self) -> &[Row]
+        ensures { result.now ≡ self.now.buckets }
+    {
+        self.rows.as_slice()
+    }
+
+    /// The bucket with an id.
+    pub fn bucket_of(&self, item: ItemId) -> Option<BucketNo>
+        ensures value { result ≡ bucket_numbered self.now item }
+        ensures within { IfSome result (λ n. n < length self.now.buckets) }
+        ensures negative { OnSome result (item.0 <ℤ pos 0) }
+    {
+        let index = self.index.as_slice();
+        let n = number_of(item)?;
+        match index.get(n) {
+            Some(found) => *found,
+            None => None,
+        }
+    }
+
+    /// The number of a bucket's type.
+    pub fn type_of(&self, bucket: BucketNo) -> u32
+        requires { bucket < length self.now.buckets }
+        ensures { result ≡ type_at self.now bucket }
+    {
+        self.rows[bucket.place()].of_type()
+    }
+
+    /// The kind by which a bucket picks.
+    pub fn kind(&self, bucket: BucketNo) -> Kind
+        requires { bucket < length self.now.buckets }
+        ensures { result ≡ kind_at self.now bucket }
+    {
+        self.rows[bucket.place()].kind()
+    }
+
+    /// How many items a bucket has.
+    pub fn size(&self, bucket: BucketNo) -> usize
+        requires { bucket < length self.now.buckets }
+        ensures value { result ≡ size_at self.now bucket }
+        ensures few { result < 2 ^ 16 }
+    {
+        self.rows[bucket.place()].size()
+    }
+
+    /// Whether a bucket has no items.
+    pub fn is_empty(&self, bucket: BucketNo) -> bool
+        requires { bucket < length self.now.buckets }
+        ensures { result ≡ (size_at self.now bucket == 0) }
+    {
+        self.size(bucket) == 0
+    }
+
+    /// The tunables of the map.
+    pub fn tunables(&self) -> Tunables
+        ensures { result ≡ self.now.tunables }
+    {
+        self.tunables
+    }
+
+    /// Whether the map has a device with this id.
+    pub fn has_device(&self, id: u32) -> bool
+        ensures { result ≡ has_device self.now id }
+    {
+        self.devices.contains(&id)
+    }
+
+    /// The item that a bucket picks for an input and an attempt, whatever the scratch was asked before. Takes no memory.
+    #[tactic(auto, unfolding(crate::specs::Tables::pick_at))]
+    pub fn pick(&self, bucket: BucketNo, scratch: &mut Scratch, x: u32, r: u32) -> ItemId
+        requires within { bucket < length self.now.buckets }
+        requires some { 0 < size_at self.now bucket }
+        requires fits { scratch.old ≡ perms_of self.now }
+        ensures picked { result ≡ pick_at self.now bucket x r }
+        ensures item { IsItemOf (bucket_at self.now bucket).entries result }
+        ensures below { IsBelow self.now bucket result }
+        ensures same { scratch.new ≡ scratch.old }
+    {
+        let place = bucket.place();
+        scratch.pick(&self.rows[place], place, x, r)
+    }
+}
+
+/// The rows of a map's buckets.
+fn rows_of(alloc: Global, buckets: &[Bucket]) -> Result<Vec<Row>, AllocError>
+    requires { All IsFit buckets.now }
+    ensures { IfOk result (λ rows. rows.items ≡ map typed_bucket buckets.now) }
+{
+    let mut rows = Vec::with_capacity(alloc, buckets.len())?;
+    for bucket in buckets {
+        rows.push(Row::build(alloc, bucket)?)?;
+    }
+    Ok(rows)
+}
+
+/// The ids of devices.
+fn ids_of(alloc: Global, devices: &[Device]) -> Result<Vec<u32>, AllocError>
+    ensures { IfOk result (λ ids. ids.items ≡ map (λ d. d.id) devices.now) }
+{
+    let mut ids = Vec::with_capacity(alloc, devices.len())?;
+    for device in devices {
+        ids.push(device.id)?;
+    }
+    Ok(ids)
+}

@@ -1,0 +1,207 @@
+//! Tree buckets.
+
+ghost use Rattle.std.specs.Prelude.{◌≡◌, ◌<◌, ◌≤◌, ◌+◌, ◌*◌, ◌^◌, ◌++◌, IfOk, length};
+ghost use Rattle.crush_bucket.specs.Bucket.{CanBeAsked, total_weight, weight_within};
+ghost use Rattle.crush_bucket.specs.Kinds.{height_of, place_within};
+ghost use Rattle.crush_bucket.specs.Kept.{AreNodes, HasNodes, node_weights};
+
+use crate::perm::Perm;
+use crate::picker::Picker;
+use crush_hash::hash4;
+use crush_map::{ItemId, Kind, Weight};
+use std::alloc::{AllocError, Global};
+use std::marker::Model;
+
+/// A bucket that goes down a binary tree over its places. A contract sees the bucket.
+#[derive(Drop)]
+pub struct TreeBucket {
+    id: ItemId,
+    height: u32,
+    entries: Vec<(ItemId, Weight)>,
+    nodes: Vec<u32>,
+}
+
+impl Model for TreeBucket {
+    ghost use Rattle.crush_bucket.specs.Bucket.{BucketView, CanBeAsked};
+    ghost use Rattle.crush_bucket.specs.Kept.{AreNodes};
+    ghost use Rattle.crush_map.specs.declared.Kind.TheVariants.{Tree};
+
+    ghost Value = { BucketView };
+
+    ghost view = { λ a. record { id = a.id; kind = Tree; entries = a.entries.items } };
+
+    ghost invariant = { λ a. record {
+      asked : CanBeAsked a.entries.items;
+      nodes : AreNodes a.entries.items a.height a.nodes.items;
+    } };
+}
+
+impl TreeBucket {
+    /// The tree bucket of these items.
+    pub fn build(
+        alloc: Global,
+        id: ItemId,
+        entries: &[(ItemId, Weight)],
+    ) -> Result<Self, AllocError>
+        requires some { 0 < length entries.now }
+        requires few { length entries.now < 2 ^ 16 }
+        requires light { total_weight entries.now < 2 ^ 32 }
+        ensures { IfOk result (λ b. b ≡ record { id = id; kind = Kind.Tree; entries = entries.now }) }
+    {
+        let height = height_for(entries.len());
+        let nodes = nodes_of(alloc, entries, height)?;
+        let entries = Vec::from_slice(alloc, entries)?;
+        Ok(TreeBucket {
+            id,
+            height,
+            entries,
+            nodes,
+        })
+    }
+
+    /// The bucket's id.
+    pub fn id(&self) -> ItemId
+        ensures { result ≡ self.now.id }
+    {
+        self.id
+    }
+
+    /// The bucket's kind.
+    pub fn kind(&self) -> Kind
+        ensures { result ≡ self.now.kind }
+    {
+        let _id = self.id;
+        Kind::Tree
+    }
+
+    /// How many items the bucket has.
+    pub fn size(&self) -> usize
+        ensures value { result ≡ length self.now.entries }
+        ensures some { 0 < result }
+        ensures few { result < 2 ^ 16 }
+    {
+        self.entries.len()
+    }
+}
+
+impl Picker for TreeBucket {
+    ghost bucket = { λ b. b };
+
+    #[tactic(auto, unfolding(crate::specs::Kinds::tree_pick, crate::specs::Pick::pick))]
+    fn pick(&self, _perm: &mut Perm, x: u32, r: u32) -> ItemId {
+        let place = walk(self.id, &self.entries, &self.nodes, self.height, x, r);
+        self.entries[place.min(self.entries.len() - 1)].0
+    }
+}
+
+/// The least height of a tree with so many leaves.
+fn height_for(size: usize) -> u32
+    requires some { 0 < size }
+    requires few { size < 2 ^ 16 }
+    ensures value { result ≡ height_of size }
+    ensures holds { size ≤ 2 ^ result }
+    ensures near { 2 ^ result < 2 * size }
+    ensures low { result < 17 }
+{
+    let mut height = 0;
+    let mut width = 1;
+    while width < size {
+        width *= 2;
+        height += 1;
+    }
+    height
+}
+
+/// How many places a range of this height has.
+fn places(height: u32) -> usize
+    requires { height < 32 }
+    ensures { result ≡ 2 ^ height }
+{
+    1 << height
+}
+
+/// The sum of the weights.
+pub(crate) fn total(entries: &[(ItemId, Weight)]) -> u64
+    requires { length entries.now < 2 ^ 16 }
+    ensures { result ≡ total_weight entries.now }
+{
+    entries.iter().map(|entry| u64::from(entry.1.0)).sum()
+}
+
+/// The sum of the weights at so many places from a place on.
+fn weight_within(entries: &[(ItemId, Weight)], from: usize, count: usize) -> u32
+    requires few { length entries.now < 2 ^ 16 }
+    requires light { total_weight entries.now < 2 ^ 32 }
+    ensures { result ≡ weight_within entries.now from count }
+{
+    let rest = &entries[from.min(entries.len())..];
+    total(&rest[..count.min(rest.len())]) as u32
+}
+
+/// The weights of all nodes, at their labels; no node has the label 0.
+fn nodes_of(
+    alloc: Global,
+    entries: &[(ItemId, Weight)],
+    height: u32,
+) -> Result<Vec<u32>, AllocError>
+    requires few { length entries.now < 2 ^ 16 }
+    requires light { total_weight entries.now < 2 ^ 32 }
+    requires low { height < 17 }
+    requires least { height ≡ height_of (length entries.now) }
+    ensures { IfOk result (λ nodes. AreNodes entries.now height nodes.items) }
+{
+    let mut nodes = Vec::with_capacity(alloc, 2 * places(height))?;
+    nodes.push(0)?;
+    push_nodes(entries, 0, height, &mut nodes)?;
+    Ok(nodes)
+}
+
+/// Appends the weights of the nodes of a range, in order of label.
+fn push_nodes(
+    entries: &[(ItemId, Weight)],
+    from: usize,
+    height: u32,
+    nodes: &mut Vec<u32>,
+) -> Result<(), AllocError>
+    requires few { length entries.now < 2 ^ 16 }
+    requires light { total_weight entries.now < 2 ^ 32 }
+    requires low { height < 17 }
+    requires near { from + 2 ^ height < 2 ^ 32 }
+    ensures { IfOk result (λ _. nodes.new.items ≡ nodes.old.items ++ node_weights entries.now from height) }
+{
+    if height == 0 {
+        nodes.push(weight_within(entries, from, 1))?;
+        return Ok(());
+    }
+    let half = places(height - 1);
+    push_nodes(entries, from, height - 1, nodes)?;
+    nodes.push(weight_within(entries, from, 2 * half))?;
+    push_nodes(entries, from + half, height - 1, nodes)?;
+    Ok(())
+}
+
+/// The place at which the walk from the root ends.
+fn walk(
+    id: ItemId,
+    entries: &[(ItemId, Weight)],
+    nodes: &[u32],
+    height: u32,
+    x: u32,
+    r: u32,
+) -> usize
+    requires nodes { AreNodes entries.now height nodes.now }
+    ensures { result ≡ place_within id entries.now x r 0 height }
+{
+    let mut node = places(height);
+    for level in (0..height).rev() {
+        let half = places(level);
+        let draw = u64::from(hash4(x, node as u32, r, id.word()));
+        let left = node - half;
+        node = if (draw * u64::from(nodes[node])) >> 32 < u64::from(nodes[left]) {
+            left
+        } else {
+            node + half
+        };
+    }
+    node / 2
+}
