@@ -1,0 +1,12 @@
+pub mod Trying
+pub mod Growing
+pub mod Placing
+pub mod Reaching
+pub mod Rounds
+pub mod IndepTries
+pub mod Walking
+pub mod Entries
+pub mod Tracing
+pub mod Running
+pub mod Faultless
+pub mod Devices

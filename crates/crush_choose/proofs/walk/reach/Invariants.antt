@@ -1,0 +1,15 @@
+use Rattle.std.proofs.Common.{◌≡◌, ◌<◌, ◌+◌, length}
+use Rattle.crush_bucket.specs.Tables.{perms_of}
+use Rattle.crush_choose.specs.Reach.{step}
+use Rattle.crush_choose.proofs.Reaching.{GoesOn}
+use Rattle.crush_choose.proofs.walk.reach.Given as goal
+
+abbrev pub invariant-down : goal.invariant-down
+invariant-down l = record {
+  in_range : l.bucket < length l.tables.buckets;
+  fits : l.scratch ≡ perms_of l.tables;
+  on : GoesOn l.tables l.x (λ b. l.turn.start + step l.tables l.turn.numrep l.turn.round b) l.wanted l.fn.from l.bucket;
+}
+
+abbrev pub decreases-down : goal.decreases-down
+decreases-down l = l.bucket

@@ -1,0 +1,101 @@
+-- The answer of choose firstn (`crush_choose_firstn` of Ceph's `mapper.c`).
+--
+-- There it is made by nested loops that retry; here it is a condition on a finished list: of the tries of each rep, the
+-- least that is acceptable or ends at a wrong device decides.
+use Rattle.std.specs.Prelude.{◌≡◌, ℕ, ◌+◌, ◌-◌, ◌/◌, ◌^◌, ◌<◌, ◌≤◌, ◌&&◌, List, length, take, Bool, false, not, nat_lt, ◌==◌, if◌then◌else◌, Option, Some, None, option_map, slice_index_or}
+use Rattle.std.specs.List.{list_any}
+use Rattle.std.specs.Ordering.{int_eq}
+use Rattle.crush_map.specs.declared.word.ItemId.{ItemId}
+use Rattle.crush_bucket.specs.Tables.{TablesView, bucket_numbered}
+use Rattle.crush_choose.specs.declared.walk.Reached.{Reached}
+use Rattle.crush_choose.specs.declared.walk.Reached.TheVariants.{Empty, Wrong, Found}
+use Rattle.crush_choose.specs.declared.firstn.FirstnCall.{FirstnCall}
+use Rattle.crush_choose.specs.declared.mark.Mark.{Mark}
+use Rattle.crush_choose.specs.declared.mark.Mark.TheVariants.{Skipped, Placed}
+use Rattle.crush_choose.specs.Weights.{is_device_in}
+use Rattle.crush_choose.specs.Reach.{reach}
+use Rattle.crush_choose.specs.Least.{least}
+use Rattle.crush_choose.specs.Growing.{grown}
+use Rattle.crush_choose.specs.Marks.{Marks, Slot, items_of, leaves_of}
+
+-- what a call may ask for
+pub record IsFirstnCall (t : TablesView) (c : FirstnCall) : Type 0 where
+  pub bucket : c.bucket < length t.buckets
+  pub some_reps : 1 ≤ c.numrep
+  pub few_reps : c.numrep ≤ 64
+  pub room : c.room ≤ 32
+  pub some_tries : 1 ≤ c.tries
+  pub few_tries : c.tries ≤ 1000
+  pub leaf_tries : c.leaf_tries ≤ 1000
+  pub vary_r : c.vary_r ≤ 8
+  pub stable : c.stable ≤ 1
+
+abbrev pub slot_has : ItemId → Slot → Bool
+slot_has item None = false
+slot_has item (Some other) = int_eq other.0 item.0
+
+-- whether the item is among these
+abbrev pub has : List Slot → ItemId → Bool
+has slots item = list_any (slot_has item) slots
+
+-- ---- the leaf of an item that is a bucket
+
+-- a device that is in and isn't among the leaves
+abbrev pub new_leaf : List ℕ → FirstnCall → List Slot → Reached → Option ItemId
+new_leaf w c leaves Empty = None
+new_leaf w c leaves Wrong = None
+new_leaf w c leaves (Found item r) = if is_device_in w c.x item && not (has leaves item) then Some item else None
+
+-- the leaf that an attempt r finds below a bucket
+unfoldable pub leaf_by : TablesView → List ℕ → FirstnCall → List Slot → ℕ → ℕ → Option ItemId
+leaf_by t w c leaves bucket r = new_leaf w c leaves (reach t c.x (λ b. r) 0 bucket)
+
+-- the least attempt for a leaf: the number of items so far where the call isn't stable, and a part of the attempt that found the bucket
+abbrev pub leaf_start : FirstnCall → ℕ → ℕ → ℕ
+leaf_start c count r = (if c.stable == 1 then 0 else count) + (if c.vary_r == 0 then 0 else r / 2 ^ (c.vary_r - 1))
+
+-- the leaf of the least attempt that finds one
+unfoldable pub leaf_below : TablesView → List ℕ → FirstnCall → List Slot → ℕ → ℕ → Option ItemId
+leaf_below t w c leaves bucket start = least (λ g. leaf_by t w c leaves bucket (start + g)) c.leaf_tries
+
+-- ---- a try
+
+-- try f that found an item, which is a device or a bucket: the item is placed, or the try fails
+abbrev pub placed : TablesView → List ℕ → FirstnCall → List Slot → List Slot → ℕ → ItemId → ℕ → Option ℕ → Option Mark
+placed t w c items leaves f item r None =
+    if is_device_in w c.x item then Some (Placed (record { round = f; item = item; leaf = item })) else None
+placed t w c items leaves f item r (Some bucket) =
+    if c.leaf_tries == 0 then Some (Placed (record { round = f; item = item; leaf = item }))
+    else option_map (λ leaf. Placed (record { round = f; item = item; leaf = leaf })) (leaf_below t w c leaves bucket (leaf_start c (length items) r))
+
+-- what try f comes to, by where its walk ended
+abbrev pub judged : TablesView → List ℕ → FirstnCall → List Slot → List Slot → ℕ → Reached → Option Mark
+judged t w c items leaves f Empty = None
+judged t w c items leaves f Wrong = Some Skipped
+judged t w c items leaves f (Found item r) = if has items item then None else placed t w c items leaves f item r (bucket_numbered t item)
+
+-- try f of a rep, beside the items and leaves of smaller reps: nothing where it fails
+unfoldable pub attempt : TablesView → List ℕ → FirstnCall → List Slot → List Slot → ℕ → ℕ → Option Mark
+attempt t w c items leaves rep f = judged t w c items leaves f (reach t c.x (λ b. rep + f) c.wanted c.bucket)
+
+-- what the least try that doesn't fail comes to
+unfoldable pub decided : TablesView → List ℕ → FirstnCall → List Slot → List Slot → ℕ → Option Mark
+decided t w c items leaves rep = least (attempt t w c items leaves rep) c.tries
+
+-- ---- the answer
+
+-- the mark of a rep beside the items and leaves of smaller reps: none where there is no room
+abbrev pub mark_beside : TablesView → List ℕ → FirstnCall → List Slot → List Slot → ℕ → Option Mark
+mark_beside t w c items leaves rep = if nat_lt (length items) c.room then decided t w c items leaves rep else None
+
+abbrev pub mark_of : TablesView → List ℕ → FirstnCall → Marks → ℕ → Option Mark
+mark_of t w c before rep = mark_beside t w c (items_of before) (leaves_of before) rep
+
+-- the marks are an answer: each rep has the mark that follows from those of smaller reps
+pub record IsFirstnAnswer (t : TablesView) (w : List ℕ) (c : FirstnCall) (marks : Marks) : Type 0 where
+  pub one_each : length marks ≡ c.numrep
+  pub each : (rep : ℕ) → rep < c.numrep → slice_index_or marks rep None ≡ mark_of t w c (take rep marks) rep
+
+-- the one answer
+unfoldable pub firstn : TablesView → List ℕ → FirstnCall → Marks
+firstn t w c = grown (mark_of t w c) c.numrep

@@ -1,0 +1,12 @@
+pub mod Weights
+pub mod Least
+pub mod Reach
+pub mod Growing
+pub mod Marks
+pub mod Firstn
+pub mod Indep
+pub mod Walks
+pub mod Laws
+pub mod Outs
+pub mod Rules
+pub mod Runs

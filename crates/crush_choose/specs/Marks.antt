@@ -1,0 +1,43 @@
+-- What is decided for a rep of choose firstn or a position of choose indep.
+--
+-- An answer is a list of marks, one for each rep or position: it joins the entries (rep, try, item, leaf), which are the
+-- places where something is placed, with the reps that were given up.
+use Rattle.std.specs.Prelude.{List, [], ◌∷◌, map, Option, Some, None}
+use Rattle.crush_map.specs.declared.word.ItemId.{ItemId}
+use Rattle.crush_choose.specs.declared.mark.Spot.{Spot}
+use Rattle.crush_choose.specs.declared.mark.Mark.{Mark}
+use Rattle.crush_choose.specs.declared.mark.Mark.TheVariants.{Skipped, Placed}
+
+abbrev pub Marks : Type 0
+Marks = List (Option Mark)
+
+-- an item, or none
+abbrev pub Slot : Type 0
+Slot = Option ItemId
+
+-- what is placed, in order
+abbrev pub spots : Marks → List Spot
+spots [] = []
+spots (None ∷ marks) = spots marks
+spots (Some Skipped ∷ marks) = spots marks
+spots (Some (Placed spot) ∷ marks) = spot ∷ spots marks
+
+-- the items that are placed, closed up
+abbrev pub items_of : Marks → List Slot
+items_of marks = map (λ s. Some s.item) (spots marks)
+
+-- their leaves
+abbrev pub leaves_of : Marks → List Slot
+leaves_of marks = map (λ s. Some s.leaf) (spots marks)
+
+-- the item at a position, if one is placed there
+abbrev pub item_at : Option Mark → Slot
+item_at None = None
+item_at (Some Skipped) = None
+item_at (Some (Placed spot)) = Some spot.item
+
+-- its leaf
+abbrev pub leaf_at : Option Mark → Slot
+leaf_at None = None
+leaf_at (Some Skipped) = None
+leaf_at (Some (Placed spot)) = Some spot.leaf

@@ -1,0 +1,8 @@
+-- What a run of a rule leaves.
+use Rattle.std.specs.Prelude.{ℕ, List}
+use Rattle.crush_choose.specs.Marks.{Slot}
+
+-- the answer and the trace
+pub record OutView : Type 0 where
+  pub items : List Slot
+  pub trace : List ℕ

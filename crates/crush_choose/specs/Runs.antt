@@ -1,0 +1,55 @@
+-- For private clauses: where a run of a rule stands.
+use Rattle.std.specs.Prelude.{◌≡◌, ℕ, pos, ◌*◌, ◌≤◌, length, vec_len, vec_capacity, Bool, false}
+use Rattle.crush_map.specs.declared.draft.Step.{Step}
+use Rattle.crush_map.specs.declared.draft.Step.TheVariants.{Take, SetChooseTries, SetLeafTries, SetVaryR, SetStable, Choose, Emit}
+use Rattle.crush_choose.specs.declared.plan.Plan.{Plan}
+use Rattle.crush_choose.specs.declared.rule.Settings.{Settings}
+use Rattle.crush_choose.specs.declared.rule.Run.{Run}
+use Rattle.crush_choose.specs.Rules.{Running, reps}
+
+-- a plan in range
+pub record IsPlan (p : Plan) : Type 0 where
+  pub reps : p.numrep ≤ 64
+  pub some_tries : 1 ≤ p.tries
+  pub few_tries : p.tries ≤ 1000
+  pub leaf_tries : p.leaf_tries ≤ 1000
+  pub vary_r : p.vary_r ≤ 8
+  pub stable : p.stable ≤ 1
+  pub above_leaves : p.firstn ≡ false → p.wanted ≡ 0 → p.leaf_tries ≡ 0
+
+-- settings in range
+pub record AreSettings (s : Settings) : Type 0 where
+  pub some_tries : 1 ≤ s.tries
+  pub few_tries : s.tries ≤ 1000
+  pub leaf_tries : s.leaf_tries ≤ 1000
+  pub vary_r : s.vary_r ≤ 8
+  pub stable : s.stable ≤ 1
+
+abbrev pub state_of : Run → Running
+state_of r = record { settings = r.settings; working = r.working; emitted = r.emitted; made = r.made.items }
+
+-- after k steps
+pub record IsRun (size k : ℕ) (r : Run) : Type 0 where
+  pub settings : AreSettings r.settings
+  pub emitted : length r.emitted ≤ size
+  pub made : vec_len r.made ≤ 32 * k
+  pub capacity : 1024 ≤ vec_capacity r.made
+
+-- a choose step in range
+pub record IsChoose (size : ℕ) (by_firstn leaf : Bool) (numrep wanted : ℕ) : Type 0 where
+  pub reps : numrep ≤ 64
+  pub above_leaves : by_firstn ≡ false → wanted ≡ 0 → leaf ≡ false
+
+-- a step in range
+abbrev pub IsStep : ℕ → Step → Type 0
+IsStep size (Take item) = Unit {0}
+IsStep size (SetChooseTries n) = n ≤ 1000
+IsStep size (SetLeafTries n) = n ≤ 1000
+IsStep size (SetVaryR n) = n ≤ 8
+IsStep size (SetStable n) = n ≤ 1
+IsStep size (Choose by_firstn leaf n wanted) = IsChoose size by_firstn leaf (reps n size) wanted
+IsStep size Emit = Unit {0}
+
+-- what stands past the last step
+abbrev pub no_step : Step
+no_step = Take (record { 0 = pos 0 })

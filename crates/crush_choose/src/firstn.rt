@@ -1,0 +1,295 @@
+//! Choosing without gaps: choose firstn.
+
+ghost use Rattle.std.specs.Prelude.{◌≡◌, ◌<◌, ◌≤◌, ◌+◌, ◌++◌, ◌∷◌, [], ◌^◌, length};
+ghost use Rattle.crush_bucket.specs.Tables.{perms_of};
+ghost use Rattle.crush_choose.specs.Firstn as spec;
+ghost use Rattle.crush_choose.specs.Firstn.{IsFirstnCall};
+ghost use Rattle.crush_choose.specs.Marks.{items_of, leaves_of};
+
+use crate::mark::{Mark, Spot};
+use crate::row::{Row, Slot};
+use crate::walk::{Reached, reach_by};
+use crate::weights::{Weights, is_device_in};
+use crush_bucket::{BucketNo, Scratch, Tables};
+use crush_map::ItemId;
+
+/// What choose firstn is asked for.
+#[derive(Clone, Copy)]
+pub struct FirstnCall {
+    /// Where walks begin.
+    pub bucket: BucketNo,
+    /// The input of the draws.
+    pub x: u32,
+    /// How many reps, 1..64.
+    pub numrep: u32,
+    /// How many items at most, 0..32.
+    pub room: u32,
+    /// The number of the wanted type.
+    pub wanted: u32,
+    /// Tries of a rep, 1..1000.
+    pub tries: u32,
+    /// Tries for a leaf, 0..1000; with 0 no leaf is wanted.
+    pub leaf_tries: u32,
+    /// `chooseleaf_vary_r`, 0..8.
+    pub vary_r: u32,
+    /// `chooseleaf_stable`, 0..1.
+    pub stable: u32,
+}
+
+fn slot_has(slot: Slot, item: ItemId) -> bool
+    ensures { result ≡ spec.slot_has item slot }
+{
+    match slot {
+        Some(other) => other.0 == item.0,
+        None => false,
+    }
+}
+
+fn has(slots: &[Slot], item: ItemId) -> bool
+    ensures { result ≡ spec.has slots.now item }
+{
+    slots.iter().any(|slot| slot_has(*slot, item))
+}
+
+/// The leaf that one attempt finds below a bucket.
+#[tactic(auto, unfolding(crate::specs::Firstn::leaf_by))]
+fn leaf_by(
+    tables: &Tables,
+    scratch: &mut Scratch,
+    weights: &Weights,
+    call: &FirstnCall,
+    leaves: &[Slot],
+    bucket: BucketNo,
+    r: u32,
+) -> Option<ItemId>
+    requires bucket { bucket < length tables.now.buckets }
+    requires fits { scratch.old ≡ perms_of tables.now }
+    requires low { r < 2 ^ 31 }
+    ensures value { result ≡ spec.leaf_by tables.now weights.now call.now leaves.now bucket r }
+    ensures fits { scratch.new ≡ perms_of tables.now }
+{
+    match reach_by(tables, scratch, call.x, r, 0, bucket) {
+        Reached::Found(item, _) => {
+            if is_device_in(weights, call.x, item) && !has(leaves, item) {
+                Some(item)
+            } else {
+                None
+            }
+        }
+        Reached::Empty => None,
+        Reached::Wrong => None,
+    }
+}
+
+/// The least attempt for a leaf, by the number of items so far and the attempt that found the bucket.
+fn leaf_start(call: &FirstnCall, count: u32, r: u32) -> u32
+    requires low { r < 2 ^ 16 }
+    requires few { count ≤ 32 }
+    requires vary_r { call.now.vary_r ≤ 8 }
+    ensures value { result ≡ spec.leaf_start call.now count r }
+    ensures low { result < 2 ^ 17 }
+{
+    let base = if call.stable == 1 { 0 } else { count };
+    let sub = if call.vary_r == 0 {
+        0
+    } else {
+        r >> (call.vary_r - 1)
+    };
+    base + sub
+}
+
+/// The leaf of the least attempt that finds one.
+#[tactic(auto, unfolding(crate::specs::Firstn::leaf_below))]
+fn leaf_below(
+    tables: &Tables,
+    scratch: &mut Scratch,
+    weights: &Weights,
+    call: &FirstnCall,
+    leaves: &[Slot],
+    bucket: BucketNo,
+    start: u32,
+) -> Option<ItemId>
+    requires bucket { bucket < length tables.now.buckets }
+    requires fits { scratch.old ≡ perms_of tables.now }
+    requires low { start < 2 ^ 17 }
+    requires few { call.now.leaf_tries ≤ 1000 }
+    ensures value { result ≡ spec.leaf_below tables.now weights.now call.now leaves.now bucket start }
+    ensures fits { scratch.new ≡ perms_of tables.now }
+{
+    for g in 0..call.leaf_tries {
+        let leaf = leaf_by(tables, scratch, weights, call, leaves, bucket, start + g);
+        if leaf.is_some() {
+            return leaf;
+        }
+    }
+    None
+}
+
+/// One try of a rep, beside the items and leaves of smaller reps.
+#[tactic(auto, unfolding(crate::specs::Firstn::attempt))]
+fn attempt(
+    tables: &Tables,
+    scratch: &mut Scratch,
+    weights: &Weights,
+    call: &FirstnCall,
+    items: &[Slot],
+    leaves: &[Slot],
+    rep: u32,
+    round: u32,
+) -> Option<Mark>
+    requires call { IsFirstnCall tables.now call.now }
+    requires fits { scratch.old ≡ perms_of tables.now }
+    requires few { length items.now ≤ 32 }
+    requires rep { rep ≤ 64 }
+    requires round { round ≤ 1000 }
+    ensures value { result ≡ spec.attempt tables.now weights.now call.now items.now leaves.now rep round }
+    ensures fits { scratch.new ≡ perms_of tables.now }
+{
+    let (item, r) = match reach_by(
+        tables,
+        scratch,
+        call.x,
+        rep + round,
+        call.wanted,
+        call.bucket,
+    ) {
+        Reached::Empty => return None,
+        Reached::Wrong => return Some(Mark::Skipped),
+        Reached::Found(item, r) => (item, r),
+    };
+    if has(items, item) {
+        return None;
+    }
+    match tables.bucket_of(item) {
+        None => {
+            if is_device_in(weights, call.x, item) {
+                Some(Mark::Placed(Spot {
+                    round,
+                    item,
+                    leaf: item,
+                }))
+            } else {
+                None
+            }
+        }
+        Some(bucket) => {
+            if call.leaf_tries == 0 {
+                return Some(Mark::Placed(Spot {
+                    round,
+                    item,
+                    leaf: item,
+                }));
+            }
+            let start = leaf_start(call, items.len() as u32, r);
+            match leaf_below(tables, scratch, weights, call, leaves, bucket, start) {
+                Some(leaf) => Some(Mark::Placed(Spot { round, item, leaf })),
+                None => None,
+            }
+        }
+    }
+}
+
+/// What decides a rep: its least try that doesn't fail.
+#[tactic(auto, unfolding(crate::specs::Firstn::decided))]
+fn decide(
+    tables: &Tables,
+    scratch: &mut Scratch,
+    weights: &Weights,
+    call: &FirstnCall,
+    items: &[Slot],
+    leaves: &[Slot],
+    rep: u32,
+) -> Option<Mark>
+    requires call { IsFirstnCall tables.now call.now }
+    requires fits { scratch.old ≡ perms_of tables.now }
+    requires few { length items.now ≤ 32 }
+    requires rep { rep ≤ 64 }
+    ensures value { result ≡ spec.decided tables.now weights.now call.now items.now leaves.now rep }
+    ensures fits { scratch.new ≡ perms_of tables.now }
+{
+    for round in 0..call.tries {
+        let mark = attempt(tables, scratch, weights, call, items, leaves, rep, round);
+        if mark.is_some() {
+            return mark;
+        }
+    }
+    None
+}
+
+/// The mark of a rep, none where no room is left.
+fn mark_beside(
+    tables: &Tables,
+    scratch: &mut Scratch,
+    weights: &Weights,
+    call: &FirstnCall,
+    items: &[Slot],
+    leaves: &[Slot],
+    rep: u32,
+) -> Option<Mark>
+    requires call { IsFirstnCall tables.now call.now }
+    requires fits { scratch.old ≡ perms_of tables.now }
+    requires few { length items.now ≤ call.now.room }
+    requires rep { rep ≤ 64 }
+    ensures value { result ≡ spec.mark_beside tables.now weights.now call.now items.now leaves.now rep }
+    ensures room { length items.now + length (items_of (result ∷ [])) ≤ call.now.room }
+    ensures fits { scratch.new ≡ perms_of tables.now }
+{
+    if (items.len() as u32) < call.room {
+        decide(tables, scratch, weights, call, items, leaves, rep)
+    } else {
+        None
+    }
+}
+
+/// Puts what a mark places behind the items and the leaves.
+fn add(items: &mut Row, leaves: &mut Row, mark: Option<Mark>)
+    requires room { length items.old + length (items_of (mark ∷ [])) ≤ 32 }
+    requires even { length leaves.old ≡ length items.old }
+    ensures items { items.new ≡ items.old ++ items_of (mark ∷ []) }
+    ensures leaves { leaves.new ≡ leaves.old ++ leaves_of (mark ∷ []) }
+{
+    match mark {
+        Some(Mark::Placed(spot)) => {
+            items.push(Some(spot.item));
+            leaves.push(Some(spot.leaf));
+        }
+        Some(Mark::Skipped) => {}
+        None => {}
+    }
+}
+
+/// Chooses items of a type below a bucket, closed up, and a leaf for each.
+///
+/// Where no leaf is wanted, or where an item is a device, the leaf is the item itself.
+#[tactic(auto, unfolding(crate::specs::Firstn::firstn))]
+pub fn choose_firstn(
+    tables: &Tables,
+    scratch: &mut Scratch,
+    call: &FirstnCall,
+    weights: &Weights,
+    items: &mut Row,
+    leaves: &mut Row,
+)
+    requires call { IsFirstnCall tables.now call.now }
+    requires fits { scratch.old ≡ perms_of tables.now }
+    ensures items { items.new ≡ items_of (spec.firstn tables.now weights.now call.now) }
+    ensures leaves { leaves.new ≡ leaves_of (spec.firstn tables.now weights.now call.now) }
+    ensures room { length items.new ≤ call.now.room }
+    ensures even { length leaves.new ≡ length items.new }
+    ensures fits { scratch.new ≡ perms_of tables.now }
+{
+    items.clear();
+    leaves.clear();
+    for rep in 0..call.numrep {
+        let mark = mark_beside(
+            tables,
+            scratch,
+            weights,
+            call,
+            items.items(),
+            leaves.items(),
+            rep,
+        );
+        add(items, leaves, mark);
+    }
+}

@@ -1,0 +1,323 @@
+//! Choosing at positions: choose indep.
+
+ghost use Rattle.std.specs.Prelude.{◌≡◌, ◌<◌, ◌≤◌, ◌+◌, ◌++◌, ◌^◌, length, map, None, is_some, slice_set, slice_index_or, replicate};
+ghost use Rattle.std.specs.List.{list_all};
+ghost use Rattle.crush_bucket.specs.Tables.{perms_of};
+ghost use Rattle.crush_choose.specs.Least.{or_else};
+ghost use Rattle.crush_choose.specs.Marks.{item_at, leaf_at};
+ghost use Rattle.crush_choose.specs.Indep as spec;
+ghost use Rattle.crush_choose.specs.Indep.{IsIndepCall};
+
+use crate::mark::{Mark, Spot};
+use crate::row::{Row, Slot};
+use crate::walk::{Reached, Turn, reach};
+use crate::weights::{Weights, is_device_in};
+use crush_bucket::{BucketNo, Scratch, Tables};
+use crush_map::ItemId;
+
+/// What choose indep is asked for.
+#[derive(Clone, Copy)]
+pub struct IndepCall {
+    /// Where walks begin.
+    pub bucket: BucketNo,
+    /// The input of the draws.
+    pub x: u32,
+    /// How many positions, at most 32 and `numrep`.
+    pub n: u32,
+    /// By how much a round moves attempts, 1..64.
+    pub numrep: u32,
+    /// The number of the wanted type.
+    pub wanted: u32,
+    /// Rounds, 1..1000.
+    pub tries: u32,
+    /// Rounds for a leaf, 0..1000; with 0 no leaf is wanted.
+    pub leaf_tries: u32,
+}
+
+/// Whether a mark at position q places the item before a try of another position.
+fn is_taken_at(mark: Option<Mark>, q: u32, round: u32, pos: u32, item: ItemId) -> bool
+    ensures { result ≡ spec.is_of item (spec.earlier round pos q mark) }
+{
+    match mark {
+        Some(Mark::Placed(spot)) => {
+            if spot.round < round || (spot.round == round && q < pos) {
+                spot.item.0 == item.0
+            } else {
+                false
+            }
+        }
+        Some(Mark::Skipped) => false,
+        None => false,
+    }
+}
+
+/// Whether the item is placed at a position before a try of this one.
+#[tactic(auto, unfolding(crate::specs::Indep::taken))]
+fn taken(marks: &[Option<Mark>], round: u32, pos: u32, item: ItemId) -> bool
+    requires { length marks.now ≤ 32 }
+    ensures { result ≡ spec.taken marks.now round pos item }
+{
+    for q in 0..marks.len() {
+        if is_taken_at(marks[q], q as u32, round, pos, item) {
+            return true;
+        }
+    }
+    false
+}
+
+/// The leaf that one round finds below a bucket.
+#[tactic(auto, unfolding(crate::specs::Indep::indep_leaf_by))]
+fn leaf_by(
+    tables: &Tables,
+    scratch: &mut Scratch,
+    weights: &Weights,
+    call: &IndepCall,
+    bucket: BucketNo,
+    start: u32,
+    round: u32,
+) -> Option<ItemId>
+    requires call { IsIndepCall tables.now call.now }
+    requires bucket { bucket < length tables.now.buckets }
+    requires fits { scratch.old ≡ perms_of tables.now }
+    requires low { start < 2 ^ 20 }
+    requires soon { round ≤ 1000 }
+    ensures value { result ≡ spec.indep_leaf_by tables.now weights.now call.now bucket start round }
+    ensures fits { scratch.new ≡ perms_of tables.now }
+{
+    let turn = Turn {
+        start,
+        numrep: call.numrep,
+        round,
+    };
+    match reach(tables, scratch, call.x, turn, 0, bucket) {
+        Reached::Found(item, _) => {
+            if is_device_in(weights, call.x, item) {
+                Some(item)
+            } else {
+                None
+            }
+        }
+        Reached::Empty => None,
+        Reached::Wrong => None,
+    }
+}
+
+/// The leaf of the least round that finds one.
+#[tactic(auto, unfolding(crate::specs::Indep::indep_leaf))]
+fn leaf_below(
+    tables: &Tables,
+    scratch: &mut Scratch,
+    weights: &Weights,
+    call: &IndepCall,
+    bucket: BucketNo,
+    start: u32,
+) -> Option<ItemId>
+    requires call { IsIndepCall tables.now call.now }
+    requires bucket { bucket < length tables.now.buckets }
+    requires fits { scratch.old ≡ perms_of tables.now }
+    requires low { start < 2 ^ 20 }
+    ensures value { result ≡ spec.indep_leaf tables.now weights.now call.now bucket start }
+    ensures fits { scratch.new ≡ perms_of tables.now }
+{
+    for round in 0..call.leaf_tries {
+        let leaf = leaf_by(tables, scratch, weights, call, bucket, start, round);
+        if leaf.is_some() {
+            return leaf;
+        }
+    }
+    None
+}
+
+/// One try of a position, beside all marks.
+#[tactic(auto, unfolding(crate::specs::Indep::indep_try))]
+fn attempt(
+    tables: &Tables,
+    scratch: &mut Scratch,
+    weights: &Weights,
+    call: &IndepCall,
+    marks: &[Option<Mark>],
+    pos: u32,
+    round: u32,
+) -> Option<Mark>
+    requires call { IsIndepCall tables.now call.now }
+    requires fits { scratch.old ≡ perms_of tables.now }
+    requires few { length marks.now ≤ 32 }
+    requires pos { pos < 32 }
+    requires soon { round ≤ 1000 }
+    ensures value { result ≡ spec.indep_try tables.now weights.now call.now marks.now pos round }
+    ensures fits { scratch.new ≡ perms_of tables.now }
+{
+    let turn = Turn {
+        start: pos,
+        numrep: call.numrep,
+        round,
+    };
+    let (item, r) = match reach(tables, scratch, call.x, turn, call.wanted, call.bucket) {
+        Reached::Empty => return None,
+        Reached::Wrong => return Some(Mark::Skipped),
+        Reached::Found(item, r) => (item, r),
+    };
+    if taken(marks, round, pos, item) {
+        return None;
+    }
+    match tables.bucket_of(item) {
+        None => {
+            if is_device_in(weights, call.x, item) {
+                Some(Mark::Placed(Spot {
+                    round,
+                    item,
+                    leaf: item,
+                }))
+            } else {
+                None
+            }
+        }
+        Some(bucket) => {
+            if call.leaf_tries == 0 {
+                return Some(Mark::Placed(Spot {
+                    round,
+                    item,
+                    leaf: item,
+                }));
+            }
+            match leaf_below(tables, scratch, weights, call, bucket, pos + r) {
+                Some(leaf) => Some(Mark::Placed(Spot { round, item, leaf })),
+                None => None,
+            }
+        }
+    }
+}
+
+/// The turn of a position in a round: a try where nothing is decided yet.
+fn take_turn(
+    tables: &Tables,
+    scratch: &mut Scratch,
+    weights: &Weights,
+    call: &IndepCall,
+    marks: &mut [Option<Mark>],
+    pos: u32,
+    round: u32,
+)
+    requires call { IsIndepCall tables.now call.now }
+    requires fits { scratch.old ≡ perms_of tables.now }
+    requires few { length marks.old ≤ 32 }
+    requires pos { pos < length marks.old }
+    requires soon { round ≤ 1000 }
+    ensures value { marks.new ≡ slice_set marks.old pos (or_else (slice_index_or marks.old pos None) (spec.indep_try tables.now weights.now call.now marks.old pos round)) }
+    ensures fits { scratch.new ≡ perms_of tables.now }
+{
+    if marks[pos as usize].is_none() {
+        marks[pos as usize] = attempt(tables, scratch, weights, call, marks, pos, round);
+    }
+}
+
+/// One round: the turns of the positions in order.
+fn play_round(
+    tables: &Tables,
+    scratch: &mut Scratch,
+    weights: &Weights,
+    call: &IndepCall,
+    marks: &mut [Option<Mark>],
+    round: u32,
+)
+    requires call { IsIndepCall tables.now call.now }
+    requires fits { scratch.old ≡ perms_of tables.now }
+    requires places { length marks.old ≡ call.now.n }
+    requires soon { round ≤ 1000 }
+    ensures value { marks.new ≡ spec.in_round (spec.indep_try tables.now weights.now call.now) round call.now.n marks.old }
+    ensures places { length marks.new ≡ call.now.n }
+    ensures fits { scratch.new ≡ perms_of tables.now }
+{
+    for pos in 0..call.n {
+        take_turn(tables, scratch, weights, call, marks, pos, round);
+    }
+}
+
+fn all_decided(marks: &[Option<Mark>]) -> bool
+    ensures { result ≡ list_all (λ m. is_some m) marks.now }
+{
+    marks.iter().all(|mark| mark.is_some())
+}
+
+/// All rounds, as long as a position is undecided.
+#[tactic(auto, unfolding(crate::specs::Indep::indep))]
+fn play(
+    tables: &Tables,
+    scratch: &mut Scratch,
+    weights: &Weights,
+    call: &IndepCall,
+    marks: &mut [Option<Mark>],
+)
+    requires call { IsIndepCall tables.now call.now }
+    requires fits { scratch.old ≡ perms_of tables.now }
+    requires places { marks.old ≡ replicate call.now.n None }
+    ensures value { marks.new ≡ spec.indep tables.now weights.now call.now }
+    ensures places { length marks.new ≡ call.now.n }
+    ensures fits { scratch.new ≡ perms_of tables.now }
+{
+    for round in 0..call.tries {
+        if all_decided(marks) {
+            return;
+        }
+        play_round(tables, scratch, weights, call, marks, round);
+    }
+}
+
+fn item_at(mark: Option<Mark>) -> Slot
+    ensures { result ≡ item_at mark }
+{
+    match mark {
+        Some(Mark::Placed(spot)) => Some(spot.item),
+        Some(Mark::Skipped) => None,
+        None => None,
+    }
+}
+
+fn leaf_at(mark: Option<Mark>) -> Slot
+    ensures { result ≡ leaf_at mark }
+{
+    match mark {
+        Some(Mark::Placed(spot)) => Some(spot.leaf),
+        Some(Mark::Skipped) => None,
+        None => None,
+    }
+}
+
+/// Fills rows with the items and the leaves of marks.
+fn fill(items: &mut Row, leaves: &mut Row, marks: &[Option<Mark>])
+    requires { length marks.now ≤ 32 }
+    ensures items { items.new ≡ map item_at marks.now }
+    ensures leaves { leaves.new ≡ map leaf_at marks.now }
+{
+    items.clear();
+    leaves.clear();
+    for mark in marks {
+        items.push(item_at(*mark));
+        leaves.push(leaf_at(*mark));
+    }
+}
+
+/// Chooses items of a type below a bucket, each at its position, and a leaf for each; none where a position finds none.
+///
+/// Where no leaf is wanted, or where an item is a device, the leaf is the item itself.
+pub fn choose_indep(
+    tables: &Tables,
+    scratch: &mut Scratch,
+    call: &IndepCall,
+    weights: &Weights,
+    items: &mut Row,
+    leaves: &mut Row,
+)
+    requires call { IsIndepCall tables.now call.now }
+    requires fits { scratch.old ≡ perms_of tables.now }
+    ensures items { items.new ≡ map item_at (spec.indep tables.now weights.now call.now) }
+    ensures leaves { leaves.new ≡ map leaf_at (spec.indep tables.now weights.now call.now) }
+    ensures places { length items.new ≡ call.now.n }
+    ensures even { length leaves.new ≡ call.now.n }
+    ensures fits { scratch.new ≡ perms_of tables.now }
+{
+    let mut row = [None; 32];
+    let marks = &mut row[..call.n as usize];
+    play(tables, scratch, weights, call, marks);
+    fill(items, leaves, marks);
+}

@@ -1,0 +1,54 @@
+//! Laws of the definitions: each contract holds of the definitions alone.
+
+ghost use Rattle.std.specs.Prelude.{◌≡◌, ◌<◌, ℕ, List, length, slice_get, Option, Some, None};
+ghost use Rattle.crush_map.specs.declared.draft.Rule.{Rule};
+ghost use Rattle.crush_map.specs.Map.{Map, IsMap};
+ghost use Rattle.crush_bucket.specs.Tables.{TablesView, tables_of};
+ghost use Rattle.crush_choose.specs.declared.firstn.FirstnCall.{FirstnCall};
+ghost use Rattle.crush_choose.specs.declared.indep.IndepCall.{IndepCall};
+ghost use Rattle.crush_choose.specs.declared.mark.Mark.{Mark};
+ghost use Rattle.crush_choose.specs.Least.{least};
+ghost use Rattle.crush_choose.specs.Reach.{reach};
+ghost use Rattle.crush_choose.specs.Marks.{Marks};
+ghost use Rattle.crush_choose.specs.Firstn.{IsFirstnAnswer, firstn};
+ghost use Rattle.crush_choose.specs.Indep.{IsIndepAnswer, indep};
+ghost use Rattle.crush_choose.specs.Rules.{CanRun};
+ghost use Rattle.crush_choose.specs.Laws.{HasNoDeviceBucket, PicksBelow, reach_after_pick, AreEntries, entries};
+
+/// What is least is said at a number below the bound, and nothing is said at a lower one; where it is nothing, nothing is said below the bound.
+pub fn least_is_first()
+    ensures some { (said : ℕ → Option Mark) (n : ℕ) (a : Mark) → least said n ≡ Some a → (i : ℕ) × (i < n) × (said i ≡ Some a) × ((j : ℕ) → j < i → said j ≡ None) }
+    ensures none { (said : ℕ → Option Mark) (n : ℕ) → least said n ≡ None → (j : ℕ) → j < n → said j ≡ None }
+{}
+
+/// A walk is one pick, and from there on the walk from what was picked.
+pub fn walk_goes_on()
+    ensures { (t : TablesView) (x : ℕ) (rr : ℕ → ℕ) (wanted bucket : ℕ) → PicksBelow t → bucket < length t.buckets → reach t x rr wanted bucket ≡ reach_after_pick t x rr wanted bucket }
+{}
+
+/// Marks say the same as entries whose reps rise.
+pub fn marks_are_entries()
+    ensures { (marks : Marks) → AreEntries marks (entries marks) }
+{}
+
+/// Exactly one list of marks is an answer of choose firstn.
+pub fn one_firstn_answer()
+    ensures there { (t : TablesView) (w : List ℕ) (c : FirstnCall) → IsFirstnAnswer t w c (firstn t w c) }
+    ensures one { (t : TablesView) (w : List ℕ) (c : FirstnCall) (marks : Marks) → IsFirstnAnswer t w c marks → marks ≡ firstn t w c }
+{}
+
+/// Exactly one list of marks is an answer of choose indep.
+pub fn one_indep_answer()
+    ensures there { (t : TablesView) (w : List ℕ) (c : IndepCall) → IsIndepAnswer t w c (indep t w c) }
+    ensures one { (t : TablesView) (w : List ℕ) (c : IndepCall) (marks : Marks) → IsIndepAnswer t w c marks → marks ≡ indep t w c }
+{}
+
+/// Each rule of a map can run on the tables of the map.
+pub fn rules_of_a_map_can_run()
+    ensures { (m : Map) (place : ℕ) (rule : Rule) → IsMap m → slice_get m.rules place ≡ Some rule → CanRun (tables_of m) rule }
+{}
+
+/// Where no bucket has type 0, as in a map, chooseleaf firstn of type 0 is choose firstn.
+pub fn chooseleaf_of_devices_is_choose()
+    ensures { (t : TablesView) (w : List ℕ) (c : FirstnCall) → HasNoDeviceBucket t → c.wanted ≡ 0 → firstn t w c ≡ firstn t w (record c { leaf_tries = 0 }) }
+{}

@@ -1,0 +1,145 @@
+//! What one choose step puts out.
+
+ghost use Rattle.std.specs.Prelude.{◌≡◌, ◌<◌, ◌≤◌, ◌+◌, ◌++◌, [], length, map};
+ghost use Rattle.crush_bucket.specs.Tables.{perms_of};
+ghost use Rattle.crush_choose.specs.Rules.{put_out, slot_out, step_out};
+ghost use Rattle.crush_choose.specs.Runs.{IsPlan};
+
+use crate::firstn::{FirstnCall, choose_firstn};
+use crate::indep::{IndepCall, choose_indep};
+use crate::row::{Row, Slot};
+use crate::weights::Weights;
+use crush_bucket::{BucketNo, Scratch, Tables};
+
+/// What a choose step asks of each bucket of the working list.
+#[derive(Clone, Copy)]
+pub(crate) struct Plan {
+    pub firstn: bool,
+    pub leaf: bool,
+    pub x: u32,
+    pub numrep: u32,
+    pub wanted: u32,
+    pub tries: u32,
+    pub leaf_tries: u32,
+    pub vary_r: u32,
+    pub stable: u32,
+}
+
+/// Puts slots behind those of a row.
+pub(crate) fn append(row: &mut Row, slots: &[Slot])
+    requires { length row.old + length slots.now ≤ 32 }
+    ensures { row.new ≡ row.old ++ slots.now }
+{
+    for slot in slots {
+        row.push(*slot);
+    }
+}
+
+/// Puts out what one bucket gives, with room for so many.
+#[tactic(auto, unfolding(crate::specs::Rules::put_out))]
+fn put_out(
+    tables: &Tables,
+    scratch: &mut Scratch,
+    weights: &Weights,
+    plan: &Plan,
+    room: u32,
+    bucket: BucketNo,
+    out: &mut Row,
+)
+    requires plan { IsPlan plan.now }
+    requires bucket { bucket < length tables.now.buckets }
+    requires fits { scratch.old ≡ perms_of tables.now }
+    requires room { length out.old + room ≤ 32 }
+    ensures value { out.new ≡ out.old ++ put_out tables.now weights.now plan.now room bucket }
+    ensures room { length (put_out tables.now weights.now plan.now room bucket) ≤ room }
+    ensures fits { scratch.new ≡ perms_of tables.now }
+{
+    if plan.numrep == 0 {
+        return;
+    }
+    let mut items = Row::new();
+    let mut leaves = Row::new();
+    if plan.firstn {
+        let call = FirstnCall {
+            bucket,
+            x: plan.x,
+            numrep: plan.numrep,
+            room,
+            wanted: plan.wanted,
+            tries: plan.tries,
+            leaf_tries: plan.leaf_tries,
+            vary_r: plan.vary_r,
+            stable: plan.stable,
+        };
+        choose_firstn(tables, scratch, &call, weights, &mut items, &mut leaves);
+    } else {
+        let call = IndepCall {
+            bucket,
+            x: plan.x,
+            n: plan.numrep.min(room),
+            numrep: plan.numrep,
+            wanted: plan.wanted,
+            tries: plan.tries,
+            leaf_tries: plan.leaf_tries,
+        };
+        choose_indep(tables, scratch, &call, weights, &mut items, &mut leaves);
+    }
+    append(
+        out,
+        if plan.leaf {
+            leaves.items()
+        } else {
+            items.items()
+        },
+    );
+}
+
+/// Puts out what one slot of the working list gives; devices and none are passed over.
+fn slot_out(
+    tables: &Tables,
+    scratch: &mut Scratch,
+    weights: &Weights,
+    plan: &Plan,
+    room: u32,
+    slot: Slot,
+    out: &mut Row,
+)
+    requires plan { IsPlan plan.now }
+    requires fits { scratch.old ≡ perms_of tables.now }
+    requires room { length out.old + room ≤ 32 }
+    ensures value { out.new ≡ out.old ++ slot_out tables.now weights.now plan.now room slot }
+    ensures room { length (slot_out tables.now weights.now plan.now room slot) ≤ room }
+    ensures fits { scratch.new ≡ perms_of tables.now }
+{
+    match slot {
+        Some(item) => match tables.bucket_of(item) {
+            Some(bucket) => put_out(tables, scratch, weights, plan, room, bucket, out),
+            None => {}
+        },
+        None => {}
+    }
+}
+
+/// Puts out what a working list gives, in order.
+pub(crate) fn step_out(
+    tables: &Tables,
+    scratch: &mut Scratch,
+    weights: &Weights,
+    plan: &Plan,
+    size: u32,
+    working: &[Slot],
+    out: &mut Row,
+)
+    requires plan { IsPlan plan.now }
+    requires fits { scratch.old ≡ perms_of tables.now }
+    requires size { size ≤ 32 }
+    requires empty { out.old ≡ [] }
+    ensures value { out.new ≡ step_out tables.now weights.now plan.now size working.now }
+    ensures room { length out.new ≤ size }
+    ensures fits { scratch.new ≡ perms_of tables.now }
+{
+    for slot in working {
+        let room = size - out.len() as u32;
+        slot_out(tables, scratch, weights, plan, room, *slot, out);
+    }
+}

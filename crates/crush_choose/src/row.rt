@@ -1,0 +1,64 @@
+//! Rows of slots.
+
+ghost use Rattle.std.specs.Prelude.{◌≡◌, ◌<◌, ◌≤◌, [], ◌∷◌, ◌++◌, length};
+
+use arrayvec::ArrayVec;
+use crush_map::ItemId;
+use std::marker::Model;
+
+/// An item, or none.
+pub type Slot = Option<ItemId>;
+
+/// At most 32 slots, kept in place. A contract sees them as a list.
+#[derive(Drop)]
+pub struct Row {
+    slots: ArrayVec<Slot, 32>,
+}
+
+impl Model for Row {
+    ghost use Rattle.std.specs.Prelude.{List, Option};
+    ghost use Rattle.crush_map.specs.declared.word.ItemId.{ItemId};
+
+    ghost Value = { List (Option ItemId) };
+
+    ghost view = { λ a. a.slots.items };
+}
+
+impl Row {
+    /// A row without slots.
+    pub fn new() -> Self
+        ensures { result ≡ [] }
+    {
+        Row {
+            slots: ArrayVec::new(),
+        }
+    }
+
+    /// The slots.
+    pub fn items(&self) -> &[Slot]
+        ensures value { result.now ≡ self.now }
+        ensures fits { length result.now ≤ 32 }
+    {
+        self.slots.as_slice()
+    }
+
+    pub(crate) fn len(&self) -> usize
+        ensures value { result ≡ length self.now }
+        ensures fits { result ≤ 32 }
+    {
+        self.slots.len()
+    }
+
+    pub(crate) fn clear(&mut self)
+        ensures { self.new ≡ [] }
+    {
+        self.slots.clear();
+    }
+
+    pub(crate) fn push(&mut self, slot: Slot)
+        requires { length self.old < 32 }
+        ensures { self.new ≡ self.old ++ slot ∷ [] }
+    {
+        self.slots.push(slot);
+    }
+}

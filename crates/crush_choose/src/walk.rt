@@ -1,0 +1,114 @@
+//! The walk down from a bucket to an item of a type.
+
+ghost use Rattle.std.specs.Prelude.{◌≡◌, ◌+◌, ◌*◌, ◌<◌, ◌≤◌, ◌^◌, length};
+ghost use Rattle.crush_bucket.specs.Tables.{perms_of};
+ghost use Rattle.crush_choose.specs.Reach.{reach, step};
+ghost use Rattle.crush_choose.specs.Walks.{IsUpTo};
+
+use crush_bucket::{BucketNo, Scratch, Tables};
+use crush_map::{ItemId, Kind};
+
+/// The attempt at each bucket of a walk: a start, and a step for each round.
+#[derive(Clone, Copy)]
+pub(crate) struct Turn {
+    pub start: u32,
+    pub numrep: u32,
+    pub round: u32,
+}
+
+/// Where a walk ended.
+#[derive(Clone, Copy, Debug)]
+pub enum Reached {
+    /// At a bucket without items.
+    Empty,
+    /// At a device where another type is wanted.
+    Wrong,
+    /// At an item of the wanted type, picked by this attempt.
+    Found(ItemId, u32),
+}
+
+/// The attempt at a bucket.
+fn attempt_at(tables: &Tables, turn: Turn, bucket: BucketNo) -> u32
+    requires bucket { bucket < length tables.now.buckets }
+    requires start { turn.start < 2 ^ 31 }
+    requires some { 0 < turn.numrep }
+    requires few { turn.numrep ≤ 64 }
+    requires soon { turn.round ≤ 1000 }
+    ensures value { result ≡ turn.start + step tables.now turn.numrep turn.round bucket }
+    ensures low { result ≤ turn.start + 65 * turn.round }
+{
+    let uniform = matches!(tables.kind(bucket), Kind::Uniform);
+    if uniform && tables.size(bucket) % turn.numrep as usize == 0 {
+        turn.start + (turn.numrep + 1) * turn.round
+    } else {
+        turn.start + turn.numrep * turn.round
+    }
+}
+
+/// Picks from a bucket on down until an item has the wanted type.
+pub(crate) fn reach(
+    tables: &Tables,
+    scratch: &mut Scratch,
+    x: u32,
+    turn: Turn,
+    wanted: u32,
+    from: BucketNo,
+) -> Reached
+    requires from { from < length tables.now.buckets }
+    requires fits { scratch.old ≡ perms_of tables.now }
+    requires start { turn.start < 2 ^ 31 }
+    requires some { 0 < turn.numrep }
+    requires few { turn.numrep ≤ 64 }
+    requires soon { turn.round ≤ 1000 }
+    ensures value { result ≡ reach tables.now x (λ b. turn.start + step tables.now turn.numrep turn.round b) wanted from }
+    ensures up_to { IsUpTo (turn.start + 65 * turn.round) result }
+    ensures fits { scratch.new ≡ perms_of tables.now }
+{
+    let mut bucket = from;
+    'down: loop {
+        if tables.is_empty(bucket) {
+            return Reached::Empty;
+        }
+        let r = attempt_at(tables, turn, bucket);
+        let item = tables.pick(bucket, scratch, x, r);
+        match tables.bucket_of(item) {
+            None => {
+                return if wanted == 0 {
+                    Reached::Found(item, r)
+                } else {
+                    Reached::Wrong
+                };
+            }
+            Some(below) => {
+                if tables.type_of(below) == wanted {
+                    return Reached::Found(item, r);
+                }
+                bucket = below;
+            }
+        }
+    }
+}
+
+/// The walk with one attempt at each bucket.
+pub(crate) fn reach_by(
+    tables: &Tables,
+    scratch: &mut Scratch,
+    x: u32,
+    r: u32,
+    wanted: u32,
+    from: BucketNo,
+) -> Reached
+    requires from { from < length tables.now.buckets }
+    requires fits { scratch.old ≡ perms_of tables.now }
+    requires low { r < 2 ^ 31 }
+    ensures value { result ≡ reach tables.now x (λ b. r) wanted from }
+    ensures up_to { IsUpTo r result }
+    ensures fits { scratch.new ≡ perms_of tables.now }
+{
+    let turn = Turn {
+        start: r,
+        numrep: 1,
+        round: 0,
+    };
+    reach(tables, scratch, x, turn, wanted, from)
+}
