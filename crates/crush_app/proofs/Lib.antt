@@ -1,0 +1,6 @@
+pub mod Inputs
+pub mod Kept
+pub mod LineLemmas
+pub mod Playing
+pub mod Texts
+pub mod Writing

@@ -1,0 +1,13 @@
+use Rattle.std.proofs.Common.{length}
+use Rattle.crush_app.proofs.Playing.{PlaysRest}
+use Rattle.crush_app.proofs.play.play.Given as goal
+
+-- the lines before the rest were played
+abbrev pub invariant-loop-rest : goal.invariant-loop-rest
+invariant-loop-rest g l = record {
+  honest : g.T.TenantStore.is_honest l.service → g.T.TenantStore.is_honest l.fn.service;
+  played : g.T.TenantStore.is_honest l.service → PlaysRest (g.T.TenantStore.stands_for l.fn.service) (g.T.TenantStore.stands_for l.service) (g.W.Write.contents l.fn.writer) (g.W.Write.contents l.writer) l.input l.rest;
+}
+
+abbrev pub decreases-loop-rest : goal.decreases-loop-rest
+decreases-loop-rest g l = length l.rest

@@ -1,0 +1,63 @@
+-- A script: the lines of an input as calls, and replies as lines.
+use Rattle.std.specs.Prelude.{ℕ, ◌==◌, List, [], ◌∷◌, ◌++◌, length, map, filter, Bool, nat_lt, if◌then◌else◌, Option, Some, None, codes, decimal}
+use Rattle.std.specs.List.{list_any, before_first, after_first}
+use Rattle.std.specs.Str.{is_utf8}
+use Rattle.std.specs.Str.Lines.{lines}
+use Rattle.tenant_core.specs.Reply.{refused}
+use Rattle.tenant_core.specs.declared.call.Call.{Call}
+use Rattle.tenant_core.specs.declared.reply.Reply.{Reply}
+use Rattle.tenant_core.specs.declared.reply.Problem.TheVariants.{BadRequest}
+
+-- ---- from bytes to calls
+
+abbrev pub is_space : ℕ → Bool
+is_space b = b == 32
+
+-- a call, where the path is UTF-8
+abbrev pub call_if_text : List ℕ → List ℕ → List ℕ → Option Call
+call_if_text method path body = if is_utf8 path then Some (record { method = method; path = path; body = body }) else None
+
+-- METHOD, a space and PATH, and after one more space BODY; without that space BODY is empty
+abbrev pub call_of : List ℕ → Option Call
+call_of line =
+    if list_any is_space line then
+    (let rest = after_first is_space line in
+    call_if_text (before_first is_space line) (before_first is_space rest) (after_first is_space rest)) else None
+
+abbrev pub is_nonempty : List ℕ → Bool
+is_nonempty line = nat_lt 0 (length line)
+
+-- what some lines ask: for each that is not empty a call, or none where it isn't of the form
+abbrev pub messages_in : List (List ℕ) → List (Option Call)
+messages_in ls = map call_of (filter is_nonempty ls)
+
+-- what an input asks. Its lines are ended by LF, one CR before an LF is dropped, and the last LF may be missing
+abbrev pub messages : List ℕ → List (Option Call)
+messages input = messages_in (lines input)
+
+abbrev pub calls_in : List (Option Call) → List Call
+calls_in [] = []
+calls_in (None ∷ ms) = calls_in ms
+calls_in (Some call ∷ ms) = call ∷ calls_in ms
+
+-- ---- from replies to bytes
+
+-- the body as it is written: a reply for want of memory has none of its own
+abbrev pub shown_body : List ℕ → List ℕ
+shown_body [] = codes "{\"error\":\"no_memory\"}"
+shown_body (b ∷ body) = b ∷ body
+
+-- a reply as a line: STATUS, a space, the body, LF
+abbrev pub wire : Reply → List ℕ
+wire reply = (decimal reply.status ++ 32 ∷ []) ++ (shown_body reply.body ++ 10 ∷ [])
+
+-- the lines for some messages, with the replies to the calls among them: a line that isn't of the form is a bad request
+abbrev pub output : List (Option Call) → List Reply → List ℕ
+output [] replies = []
+output (None ∷ ms) replies = wire (refused BadRequest) ++ output ms replies
+output (Some call ∷ ms) [] = []
+output (Some call ∷ ms) (reply ∷ replies) = wire reply ++ output ms replies
+
+-- the greatest input, in bytes
+abbrev pub input_limit : ℕ
+input_limit = 67108864

@@ -1,0 +1,43 @@
+//! Reading a whole input.
+
+ghost use Rattle.std.specs.Prelude.{◌≡◌, ◌≤◌, ◌<◌, length, IfOk, IfSome};
+ghost use Rattle.crush_app.specs.Script.{input_limit};
+
+use std::alloc::Global;
+use std::io::{ErrorKind, Read};
+
+/// The greatest input, in bytes.
+const INPUT_LIMIT: usize = 67_108_864;
+
+/// Why an input wasn't read whole.
+#[derive(Clone, Copy, Debug, PartialEq, Eq)]
+pub(crate) enum InputFault {
+    NoMemory,
+    Read,
+    TooLong,
+}
+
+/// Reads an input of at most 67,108,864 bytes, whole.
+pub(crate) fn read_input<R: Read>(alloc: Global, reader: &mut R) -> Result<Vec<u8>, InputFault>
+    ensures ok { IfOk result (λ v. IfSome (R.remaining reader.old) (λ input. (v.items ≡ input) × (length input ≤ input_limit))) }
+    ensures long { result ≡ Err InputFault.TooLong → IfSome (R.remaining reader.old) (λ input. input_limit < length input) }
+{
+    let mut input = Vec::new(alloc);
+    let mut limited = reader.take(67_108_865);
+    match limited.read_to_end(&mut input) {
+        Ok(_) => {
+            if input.as_slice().len() > INPUT_LIMIT {
+                Err(InputFault::TooLong)
+            } else {
+                Ok(input)
+            }
+        }
+        Err(error) => {
+            if error.kind() == ErrorKind::OutOfMemory {
+                Err(InputFault::NoMemory)
+            } else {
+                Err(InputFault::Read)
+            }
+        }
+    }
+}

@@ -1,0 +1,83 @@
+//! The lines of a script, and the calls that they are.
+
+ghost use Rattle.std.specs.Prelude.{◌≡◌, ◌==◌, ◌<◌, ◌∷◌, position, MatchOption, true, false, length, option_map};
+ghost use Rattle.std.specs.List.{before_first, after_first, list_any};
+ghost use Rattle.std.specs.Str.{is_utf8};
+ghost use Rattle.std.specs.Str.Lines.{lines, strip_carriage_return};
+ghost use Rattle.crush_app.specs.Script as spec;
+ghost use Rattle.crush_app.specs.Line.{view};
+
+/// A call as a line has it.
+#[derive(Clone, Copy)]
+pub(crate) struct LineCall<'a> {
+    pub method: &'a [u8],
+    pub path: &'a str,
+    pub body: &'a [u8],
+}
+
+/// The first place of a byte.
+fn place_of(bytes: &[u8], byte: u8) -> Option<usize>
+    ensures { result ≡ position (λ b. b == byte) bytes.now }
+{
+    bytes.iter().position(|found| *found == byte)
+}
+
+/// What stands before the first space, and what stands after it; without one all, and nothing.
+fn at_space(bytes: &[u8]) -> (&[u8], &[u8])
+    ensures before { result.0.now ≡ before_first spec.is_space bytes.now }
+    ensures after { result.1.now ≡ after_first spec.is_space bytes.now }
+{
+    match place_of(bytes, b' ') {
+        Some(place) => (&bytes[..place], &bytes[place + 1..]),
+        None => (bytes, &[]),
+    }
+}
+
+fn has_space(bytes: &[u8]) -> bool
+    ensures { result ≡ list_any spec.is_space bytes.now }
+{
+    bytes.iter().any(|byte| *byte == b' ')
+}
+
+fn as_text(bytes: &[u8]) -> Option<&str>
+    ensures { MatchOption result (is_utf8 bytes.now ≡ false) (λ s. (s.now ≡ bytes.now) × (is_utf8 bytes.now ≡ true)) }
+{
+    str::from_utf8(bytes).ok()
+}
+
+/// The call of a line, if it is of the form.
+pub(crate) fn call_of(line: &[u8]) -> Option<LineCall<'_>>
+    ensures { option_map view result ≡ spec.call_of line.now }
+{
+    if !has_space(line) {
+        return None;
+    }
+    let (method, rest) = at_space(line);
+    let (path, body) = at_space(rest);
+    match as_text(path) {
+        Some(path) => Some(LineCall { method, path, body }),
+        None => None,
+    }
+}
+
+/// A line without the CR at its end.
+fn without_return(line: &[u8]) -> &[u8]
+    ensures { result.now ≡ strip_carriage_return line.now }
+{
+    match line {
+        [front @ .., b'\r'] => front,
+        _ => line,
+    }
+}
+
+/// The first line of an input, and what follows it.
+pub(crate) fn first_line(input: &[u8]) -> (&[u8], &[u8])
+    requires { 0 < length input.now }
+    ensures lines { lines input.now ≡ result.0.now ∷ lines result.1.now }
+    ensures shorter { length result.1.now < length input.now }
+{
+    match place_of(input, b'\n') {
+        Some(place) => (without_return(&input[..place]), &input[place + 1..]),
+        None => (input, &[]),
+    }
+}

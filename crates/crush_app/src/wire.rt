@@ -1,0 +1,59 @@
+//! Replies as lines.
+
+ghost use Rattle.std.specs.Prelude.{◌≡◌, ◌++◌, IsTrue};
+ghost use Rattle.std.specs.Io.KnownBytes.{Appends};
+ghost use Rattle.crush_app.specs.Play.{AppendsFront};
+ghost use Rattle.crush_app.specs.Script as spec;
+
+use std::io::Write;
+use tenant_core::Reply;
+
+/// Writes all of the bytes, or a front of them. The first error ends it, and so does a write that takes no byte.
+fn write_whole<W: Write>(writer: &mut W, bytes: &[u8]) -> bool
+    ensures whole { IsTrue result → Appends (W.contents writer.old) (W.contents writer.new) bytes.now }
+    ensures front { AppendsFront (W.contents writer.old) (W.contents writer.new) bytes.now }
+{
+    let mut done = 0;
+    while done < bytes.len() {
+        match writer.write(&bytes[done..]) {
+            Ok(0) => return false,
+            Ok(count) => done += count,
+            Err(_) => return false,
+        }
+    }
+    true
+}
+
+fn write_both<W: Write>(writer: &mut W, first: &[u8], second: &[u8]) -> bool
+    ensures whole { IsTrue result → Appends (W.contents writer.old) (W.contents writer.new) (first.now ++ second.now) }
+    ensures front { AppendsFront (W.contents writer.old) (W.contents writer.new) (first.now ++ second.now) }
+{
+    if !write_whole(writer, first) {
+        return false;
+    }
+    write_whole(writer, second)
+}
+
+/// The body as it is written: a reply for want of memory has none of its own.
+fn shown_body(body: &str) -> &[u8]
+    ensures { result.now ≡ spec.shown_body body.now }
+{
+    if body.is_empty() {
+        b"{\"error\":\"no_memory\"}"
+    } else {
+        body.as_bytes()
+    }
+}
+
+/// Writes a reply as a line, or a front of it. Takes no memory.
+pub(crate) fn write_line<W: Write>(writer: &mut W, reply: &Reply) -> bool
+    ensures whole { IsTrue result → Appends (W.contents writer.old) (W.contents writer.new) (spec.wire reply.now) }
+    ensures front { AppendsFront (W.contents writer.old) (W.contents writer.new) (spec.wire reply.now) }
+{
+    let mut buffer = itoa::Buffer::new();
+    let digits = buffer.format(reply.status);
+    if !write_both(writer, digits.as_bytes(), b" ") {
+        return false;
+    }
+    write_both(writer, shown_body(reply.body.as_str()), b"\n")
+}

@@ -1,0 +1,140 @@
+//! Replies.
+
+ghost use Rattle.std.specs.Prelude.{◌≡◌, false, IfOk};
+ghost use Rattle.serde_json.specs.View.{view};
+ghost use Rattle.serde_json.specs.Written.{has_float};
+ghost use Rattle.tenant_core.specs.Reply as spec;
+
+use crush_map::Text;
+use serde_json::{Value, json};
+use std::alloc::{AllocError, Global};
+
+/// The answer to a call: an HTTP status, and a body of compact JSON.
+/// The body of a 503 for want of memory is empty: whoever writes it out knows its text.
+#[derive(Drop)]
+pub struct Reply {
+    pub status: u16,
+    pub body: Text,
+}
+
+/// Why a call is refused.
+#[derive(Clone, Copy, Debug, PartialEq, Eq)]
+pub enum Problem {
+    /// 400: a part of the path or the body isn't of its form.
+    BadRequest,
+    /// 404: the path has no route.
+    NoPath,
+    /// 404: there is no such tenant.
+    NoTenant,
+    /// 405: the path has a route, but not for this method.
+    Method,
+    /// 409: the tenant exists.
+    Exists,
+    /// 413: the body is over its limit.
+    TooLarge,
+}
+
+/// A status and a value as compact JSON.
+pub(crate) fn written(alloc: Global, status: u16, value: &Value) -> Result<Reply, AllocError>
+    requires { has_float (view value.now) ≡ false }
+    ensures { IfOk result (λ r. r ≡ spec.reply status (view value.now)) }
+{
+    Ok(Reply {
+        status,
+        body: Text::new(value.to_string(alloc)?),
+    })
+}
+
+pub(crate) fn error(alloc: Global, code: &str) -> Result<Value, AllocError>
+    ensures { IfOk result (λ v. view v ≡ spec.error code.now) }
+{
+    json!(in alloc; {"error": code})
+}
+
+/// The reply to a call that is refused: the problem's status and `{"error": CODE}`.
+#[tactic(auto, unfolding(crate::specs::Reply::refused))]
+pub fn refused(alloc: Global, problem: Problem) -> Result<Reply, AllocError>
+    ensures { IfOk result (λ r. r ≡ spec.refused problem) }
+{
+    let (status, code) = match problem {
+        Problem::BadRequest => (400, "bad_request"),
+        Problem::NoPath => (404, "no_path"),
+        Problem::NoTenant => (404, "no_tenant"),
+        Problem::Method => (405, "method"),
+        Problem::Exists => (409, "exists"),
+        Problem::TooLarge => (413, "too_large"),
+    };
+    written(alloc, status, &error(alloc, code)?)
+}
+
+fn creation(alloc: Global, tenant: &str) -> Result<Value, AllocError>
+    ensures { IfOk result (λ v. view v ≡ spec.creation tenant.now) }
+{
+    json!(in alloc; {"epoch": 0u64, "tenant": tenant})
+}
+
+/// The reply to the creation of a tenant.
+#[tactic(auto, unfolding(crate::specs::Reply::created))]
+pub(crate) fn created(alloc: Global, tenant: &str) -> Result<Reply, AllocError>
+    ensures { IfOk result (λ r. r ≡ spec.created tenant.now) }
+{
+    written(alloc, 201, &creation(alloc, tenant)?)
+}
+
+fn counts(alloc: Global, tenant: &str, epoch: u64) -> Result<Value, AllocError>
+    ensures { IfOk result (λ v. view v ≡ spec.counts tenant.now epoch) }
+{
+    json!(in alloc; {
+        "devices": 0u64,
+        "epoch": epoch,
+        "pools": 0u64,
+        "tenant": tenant,
+        "versions": 0u64
+    })
+}
+
+/// The reply to the question what a tenant has.
+#[tactic(auto, unfolding(crate::specs::Reply::summary))]
+pub(crate) fn summary(alloc: Global, tenant: &str, epoch: u64) -> Result<Reply, AllocError>
+    ensures { IfOk result (λ r. r ≡ spec.summary tenant.now epoch) }
+{
+    written(alloc, 200, &counts(alloc, tenant, epoch)?)
+}
+
+fn removal(alloc: Global, tenant: &str) -> Result<Value, AllocError>
+    ensures { IfOk result (λ v. view v ≡ spec.removal tenant.now) }
+{
+    json!(in alloc; {"dropped": tenant})
+}
+
+/// The reply to the removal of a tenant.
+#[tactic(auto, unfolding(crate::specs::Reply::dropped))]
+pub fn dropped(alloc: Global, tenant: &str) -> Result<Reply, AllocError>
+    ensures { IfOk result (λ r. r ≡ spec.dropped tenant.now) }
+{
+    written(alloc, 200, &removal(alloc, tenant)?)
+}
+
+fn choice(alloc: Global, item: i32) -> Result<Value, AllocError>
+    ensures { IfOk result (λ v. view v ≡ spec.choice item) }
+{
+    json!(in alloc; {"item": i64::from(item)})
+}
+
+/// The reply to a pick.
+#[tactic(auto, unfolding(crate::specs::Reply::picked))]
+pub(crate) fn picked(alloc: Global, item: i32) -> Result<Reply, AllocError>
+    ensures { IfOk result (λ r. r ≡ spec.picked item) }
+{
+    written(alloc, 200, &choice(alloc, item)?)
+}
+
+/// The reply where there is no memory: 503. Takes none.
+pub fn no_memory(alloc: Global) -> Reply
+    ensures { result ≡ spec.no_memory }
+{
+    Reply {
+        status: 503,
+        body: Text::new(String::new(alloc)),
+    }
+}

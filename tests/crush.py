@@ -1,0 +1,107 @@
+"""CRUSH's hashes and bucket picks, written from their public definition and apart from the crates.
+
+The tests take the replies that they expect from here. `check` holds this file to known values.
+Words are unsigned, of 32 bits, and wrap; a negative id enters a hash as its two's complement.
+"""
+WORD = 0xFFFFFFFF
+SEED = 1315423911
+X, Y = 231232, 1232
+
+
+def mix(a, b, c):
+    a = (a - b - c & WORD) ^ (c >> 13)
+    b = (b - c - a & WORD) ^ (a << 8 & WORD)
+    c = (c - a - b & WORD) ^ (b >> 13)
+    a = (a - b - c & WORD) ^ (c >> 12)
+    b = (b - c - a & WORD) ^ (a << 16 & WORD)
+    c = (c - a - b & WORD) ^ (b >> 5)
+    a = (a - b - c & WORD) ^ (c >> 3)
+    b = (b - c - a & WORD) ^ (a << 10 & WORD)
+    c = (c - a - b & WORD) ^ (b >> 15)
+    return a, b, c
+
+
+def hash2(a, b):
+    a, b = a & WORD, b & WORD
+    x, y, h = X, Y, SEED ^ a ^ b
+    a, b, h = mix(a, b, h)
+    x, a, h = mix(x, a, h)
+    b, y, h = mix(b, y, h)
+    return h
+
+
+def hash3(a, b, c):
+    a, b, c = a & WORD, b & WORD, c & WORD
+    x, y, h = X, Y, SEED ^ a ^ b ^ c
+    a, b, h = mix(a, b, h)
+    c, x, h = mix(c, x, h)
+    y, a, h = mix(y, a, h)
+    b, x, h = mix(b, x, h)
+    y, c, h = mix(y, c, h)
+    return h
+
+
+def hash4(a, b, c, d):
+    a, b, c, d = a & WORD, b & WORD, c & WORD, d & WORD
+    x, y, h = X, Y, SEED ^ a ^ b ^ c ^ d
+    a, b, h = mix(a, b, h)
+    c, d, h = mix(c, d, h)
+    a, x, h = mix(a, x, h)
+    y, b, h = mix(y, b, h)
+    c, x, h = mix(c, x, h)
+    y, d, h = mix(y, d, h)
+    return h
+
+
+def uniform_pick(bucket, entries, x, r):
+    """The item at place r of the permutation for x."""
+    places = list(range(len(entries)))
+    for place in range(len(places) - 1):
+        other = place + hash3(x, bucket, place) % (len(places) - place)
+        places[place], places[other] = places[other], places[place]
+    return entries[places[r % len(places)]][0]
+
+
+def list_pick(bucket, entries, x, r):
+    """From the last item down, the first whose share of the weights up to it is drawn; else the first item."""
+    total = sum(weight for _, weight in entries)
+    for item, weight in reversed(entries):
+        if (hash4(x, item, r, bucket) & 0xFFFF) * total >> 16 < weight:
+            return item
+        total -= weight
+    return entries[0][0]
+
+
+def tree_pick(bucket, entries, x, r):
+    """Down from the root: item i is the node 2i+1, and a node's height is the number of its trailing zero bits."""
+    def weight(node):
+        half = node & -node
+        first, past = (node - half + 1) // 2, (node + half) // 2
+        return sum(it for _, it in entries[first:past])
+
+    node = 1
+    while node < len(entries):
+        node *= 2
+    while node % 2 == 0:
+        half = (node & -node) // 2
+        drawn = hash4(x, node, r, bucket) * weight(node) >> 32
+        node = node - half if drawn < weight(node - half) else node + half
+    return entries[min(node // 2, len(entries) - 1)][0]
+
+
+PICKS = {"uniform": uniform_pick, "list": list_pick, "tree": tree_pick}
+
+
+def check():
+    """Whether the hashes and picks give known values."""
+    even = lambda *items: [(item, 65536) for item in items]
+    return (
+        hash2(0, 1) == 0x0573D827
+        and hash3(0, -1, 0) == 0x2235FB93
+        and hash4(0, 1, 0, -1) == 0x9097F53A
+        and uniform_pick(-1, even(5, 6, 7), 0, 0) == 7
+        and list_pick(-1, [(0, 65536), (1, 22 * 65536)], 0, 0) == 0
+        and list_pick(-1, [(0, 65536), (1, 23 * 65536)], 0, 0) == 1
+        and tree_pick(-1, [(10, 0), (11, 0), (12, 0)], 0, 0) == 12
+        and tree_pick(-1, [(10, 0), (11, 65536), (12, 0)], 0, 0) == 11
+    )
