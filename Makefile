@@ -1,0 +1,89 @@
+# crushcalc: `make help` says what there is. Proofs and builds are made by the Rattle toolchain's command rt.
+
+RT = rt
+PREFIX = /usr/local
+SOURCES = $(shell find crates -name out -prune -o \( -name '*.rt' -o -name '*.antt' \) -print)
+
+build: crushcalc
+	@echo 'The program is ./crushcalc.'
+
+help:
+	@echo 'make build     proves all crates and builds ./crushcalc, optimised (the first time: some minutes)'
+	@echo 'make run       builds, and serves examples/first.script: each request with its reply'
+	@echo 'make test      the whole gate: every proof from nothing, wrong edits, tests, and the program from end to end'
+	@echo 'make install   builds, and installs PREFIX/bin/crushcalc (PREFIX=/usr/local)'
+	@echo 'make ceph-check   compares 152,000 mappings with those of Ceph'"'"'s own library'
+	@echo 'make bench     builds and measures; beside Ceph'"'"'s own library where that is installed'
+	@echo 'make bench-deps   installs what the comparisons with Ceph need (Debian: librados2, gcc)'
+	@echo 'make serve     the server (not built yet)'
+	@echo 'make clean     removes what was built, the finished proofs too'
+
+# rt is itself a python3 program; only make test needs a C compiler, for tests/refuse.c
+tools:
+	@command -v python3 >/dev/null 2>&1 || { \
+	  echo 'python3 is missing: rt and the tests need it.'; \
+	  [ "$$(id -u)" = 0 ] && command -v apt-get >/dev/null || { echo "Install it, as by 'apt-get install python3', and try again." >&2; exit 1; }; \
+	  echo 'Installing it: apt-get install -y python3'; \
+	  apt-get update && apt-get install -y python3; }
+	@[ -z '$(filter test,$(MAKECMDGOALS))' ] || command -v cc >/dev/null 2>&1 || command -v gcc >/dev/null 2>&1 || command -v clang >/dev/null 2>&1 || { \
+	  echo 'A C compiler is missing (cc, gcc or clang): the tests need it.'; \
+	  [ "$$(id -u)" = 0 ] && command -v apt-get >/dev/null || { echo "Install it, as by 'apt-get install gcc libc6-dev', and try again." >&2; exit 1; }; \
+	  echo 'Installing it: apt-get install -y gcc libc6-dev'; \
+	  apt-get update && apt-get install -y gcc libc6-dev; }
+	@command -v $(RT) >/dev/null 2>&1 || { \
+	  echo "The Rattle toolchain is missing: there is no command '$(RT)'. Put the folder bin/ of its kit on PATH, or give make RT=/path/to/rt." >&2; exit 1; }
+
+# rt run proves whatever changed, builds crates/crushcalc/out/crushcalc by LLVM at -O3, and runs it
+crushcalc: $(SOURCES) crates.txt HANDLES | tools
+	@mkdir -p build
+	@echo 'Proving the crates and building ./crushcalc. A first build takes some minutes; build/build.log shows how far it is.'
+	@(cd crates/crushcalc && $(RT) run -- --help) >build/help.txt 2>build/build.log || { tail -n 30 build/build.log; echo 'The build failed; the whole log is build/build.log.' >&2; exit 1; }
+	@cp crates/crushcalc/out/crushcalc crushcalc
+	@echo 'Built ./crushcalc.'
+
+# what make bench measures beside Ceph, built in the same way
+build/crush_bench: $(SOURCES) crates.txt HANDLES | tools
+	@mkdir -p build
+	@echo 'Proving and building crush_bench, which is measured. build/bench.log shows how far it is.'
+	@(cd crates/crush_bench && $(RT) run -- small) >build/bench.txt 2>build/bench.log || { tail -n 30 build/bench.log; echo 'The build failed; the whole log is build/bench.log.' >&2; exit 1; }
+	@cp crates/crush_bench/out/crush_bench build/crush_bench
+
+# what answers the rules of described maps; it is built while its stored run is played
+build/crush_mappings: $(SOURCES) crates.txt HANDLES | tools
+	@mkdir -p build
+	@echo 'Proving and building crush_mappings, whose answers are compared. build/mappings.log shows how far it is.'
+	@(cd crates/crush_mappings && $(RT) run <stdin) >build/mappings.txt 2>build/mappings.log || { tail -n 30 build/mappings.log; echo 'The build failed; the whole log is build/mappings.log.' >&2; exit 1; }
+	@cp crates/crush_mappings/out/crush_mappings build/crush_mappings
+
+run: build
+	@echo 'Serving examples/first.script:'
+	@./crushcalc script <examples/first.script >build/first.replies
+	@awk '$$0 != "" { print "> " $$0; getline reply <"build/first.replies"; print reply }' examples/first.script
+
+test: tools
+	@RT='$(RT)' sh tests/all
+
+install: build
+	@echo 'Installing $(DESTDIR)$(PREFIX)/bin/crushcalc'
+	@install -d '$(DESTDIR)$(PREFIX)/bin'
+	@install -m 755 crushcalc '$(DESTDIR)$(PREFIX)/bin/crushcalc'
+
+serve:
+	@echo "The server isn't built yet: crushcalc has the command 'script' only." >&2; exit 1
+
+ceph-check: build/crush_mappings bench-deps
+	@python3 tests/ceph/check build/crush_mappings
+
+bench: build build/crush_bench build/crush_mappings
+	@sh bench/all
+
+bench-deps:
+	@if [ -e "$$(sh bench/libceph)" ] && command -v gcc >/dev/null; then echo 'librados2 and gcc are installed.'; else \
+	  echo 'Installing librados2 and gcc: apt-get install -y librados2 gcc libc6-dev'; \
+	  apt-get update && apt-get install -y librados2 gcc libc6-dev; fi
+
+clean:
+	@echo 'Removing ./crushcalc, build/ and crates/*/out; the next build proves everything anew.'
+	@rm -rf crushcalc build crates/*/out
+
+.PHONY: build help tools run test install serve ceph-check bench bench-deps clean
