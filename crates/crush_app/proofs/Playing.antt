@@ -1,16 +1,15 @@
 -- A script goes on.
-use Rattle.std.proofs.Common.{◌≡◌, ℕ, ◌≤◌, List, [], ◌∷◌, ◌++◌, length, map, filter, Bool, true, false, if◌then◌else◌, Option, Some, None, refl, ap, sym, ◌∙◌, arith, append_assoc}
+use Rattle.std.proofs.Common.{◌≡◌, ℕ, ◌==◌, ◌≤◌, List, [], ◌∷◌, ◌++◌, length, map, filter, Bool, true, false, if◌then◌else◌, Option, Some, None, refl, ap, sym, ◌∙◌, arith, append_assoc}
+use Rattle.std.proofs.lemmas.Bool.Decides.{nat_tests}
 use Rattle.std.specs.Io.KnownBytes.{Appends}
 use Rattle.std.specs.Str.Lines.{lines}
-use Rattle.tenant_core.specs.Reply.{refused}
 use Rattle.tenant_core.specs.Standing.{Standing, Answers}
 use Rattle.tenant_core.specs.declared.call.Call.{Call}
 use Rattle.tenant_core.specs.declared.reply.Reply.{Reply}
-use Rattle.tenant_core.specs.declared.reply.Problem.TheVariants.{BadRequest}
 use Rattle.tenant_core.proofs.Running.{serves_both, serves_one, serves_none}
 use Rattle.crush_app.specs.Play.{AppendsFront, Plays, PlaysFront}
-use Rattle.crush_app.specs.Script.{call_of, calls_in, is_nonempty, messages_in, messages, output, wire}
-use Rattle.crush_app.proofs.Writing.{appends_both, appends_none, front_after}
+use Rattle.crush_app.specs.Script.{bad_line, call_of, calls_in, is_nonempty, messages_in, messages, output, wire}
+use Rattle.crush_app.proofs.Writing.{appends_both, appends_none, front_after, front_whole}
 
 append_none : {A : Type 0} (xs : List A) → xs ++ [] ≡ xs
 append_none [] = refl
@@ -26,7 +25,7 @@ calls_in-append (Some c ∷ ms) ns = ap (λ cs. c ∷ cs) (calls_in-append ms ns
 output-append : (ms ns : List (Option Call)) (rs qs : List Reply) → length rs ≡ length (calls_in ms) → output (ms ++ ns) (rs ++ qs) ≡ output ms rs ++ output ns qs
 output-append [] ns [] qs h = refl
 output-append [] ns (r ∷ rs) qs h = absurd (omega arith)
-output-append (None ∷ ms) ns rs qs h = ap (λ ys. wire (refused BadRequest) ++ ys) (output-append ms ns rs qs h) ∙ sym (append_assoc (wire (refused BadRequest)) (output ms rs) (output ns qs))
+output-append (None ∷ ms) ns rs qs h = ap (λ ys. wire bad_line ++ ys) (output-append ms ns rs qs h) ∙ sym (append_assoc (wire bad_line) (output ms rs) (output ns qs))
 output-append (Some c ∷ ms) ns [] qs h = absurd (omega arith)
 output-append (Some c ∷ ms) ns (r ∷ rs) qs h = ap (λ ys. wire r ++ ys) (output-append ms ns rs qs (omega arith)) ∙ sym (append_assoc (wire r) (output ms rs) (output ns qs))
 
@@ -42,6 +41,11 @@ messages_in-front line rest = filter-front (is_nonempty line) line rest
 
 pub plays_none : (old : Standing) (a : Option (List ℕ)) → Plays old old [] (Appends a a)
 plays_none old a = record { replies = []; served = serves_none old old (λ t s stands. stands); written = appends_none a }
+
+-- an empty line asks nothing
+pub plays_empty : (old : Standing) (a : Option (List ℕ)) (line : List ℕ) → true ≡ (length line == 0) → Plays old old (messages_in (line ∷ [])) (AppendsFront a a)
+plays_empty old a [] empty = record { replies = []; served = serves_none old old (λ t s stands. stands); written = front_whole a a [] (appends_none a) }
+plays_empty old a (b ∷ line) empty = let none : length (b ∷ line) ≡ 0 = grind (arith, nat_tests, sym empty) in absurd (omega (arith, none))
 
 pub plays_both : (old mid new : Standing) (a b c : Option (List ℕ)) (ms ns : List (Option Call)) → Plays old mid ms (Appends a b) → Plays mid new ns (Appends b c) → Plays old new (ms ++ ns) (Appends a c)
 plays_both old mid new a b c ms ns first second = record {
@@ -68,11 +72,11 @@ plays_call old new call reply Written answered written = record {
 }
 
 -- a line that isn't of the form
-pub plays_bad : (old : Standing) (Written : List ℕ → Type 0) → Written (wire (refused BadRequest)) → Plays old old (None ∷ []) Written
+pub plays_bad : (old : Standing) (Written : List ℕ → Type 0) → Written (wire bad_line) → Plays old old (None ∷ []) Written
 plays_bad old Written written = record {
   replies = [];
   served = serves_none old old (λ t s stands. stands);
-  written = rw (append_none (wire (refused BadRequest))) written;
+  written = rw (append_none (wire bad_line)) written;
 }
 
 -- ---- an input

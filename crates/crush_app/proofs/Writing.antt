@@ -1,55 +1,63 @@
 -- What is written in pieces.
-use Rattle.std.proofs.Common.{◌≡◌, ℕ, zero, suc, ◌+◌, ◌-◌, ◌≤◌, List, [], ◌∷◌, ◌++◌, length, take, drop, Option, Some, None, refl, ap, sym, arith, append_assoc, length-drop, subst}
-use Rattle.std.proofs.lemmas.List.{take_all}
-use Rattle.std.proofs.Math.Seq.{take-add, take-append-add}
+use Rattle.std.proofs.Common.{◌≡◌, ℕ, ◌-◌, List, [], ◌++◌, length, take, drop, Option, Some, None, refl, ap, sym, ◌∙◌, arith, append_assoc, length-drop}
+use Rattle.std.proofs.lemmas.List.{take_all, append-nil, take-append-drop}
 use Rattle.std.specs.Io.KnownBytes.{Appends}
-use Rattle.crush_app.specs.Play.{AppendsFront}
+use Rattle.crush_app.specs.Play.{AppendsUpTo, AppendsFront}
 
-append_none : (xs : List ℕ) → xs ++ [] ≡ xs
-append_none [] = refl
-append_none (x ∷ xs) = ap (λ ys. x ∷ ys) (append_none xs)
-
--- one piece after another
-pub appends_both : (a b c : Option (List ℕ)) (xs ys : List ℕ) → Appends a b xs → Appends b c ys → Appends a c (xs ++ ys)
-appends_both None b c xs ys h k = tt
-appends_both (Some us) None c xs ys h k = absurd h
-appends_both (Some us) (Some vs) None xs ys h k = absurd k
-appends_both (Some us) (Some vs) (Some ws) xs ys h k = rw (k, h) (append_assoc us xs ys)
+-- ---- all of the bytes
 
 pub appends_none : (a : Option (List ℕ)) → Appends a a []
 appends_none None = tt
-appends_none (Some xs) = sym (append_none xs)
+appends_none (Some us) = sym (append-nil us)
 
-pub appends_as : (a b : Option (List ℕ)) (xs ys : List ℕ) → xs ≡ ys → Appends a b xs → Appends a b ys
-appends_as a b xs ys e h = subst (Appends a b) e h
+pub appends_both : (a b c : Option (List ℕ)) (xs ys : List ℕ) → Appends a b xs → Appends b c ys → Appends a c (xs ++ ys)
+appends_both None b c xs ys first second = tt
+appends_both (Some us) None c xs ys first second = absurd first
+appends_both (Some us) (Some vs) None xs ys first second = absurd second
+appends_both (Some us) (Some vs) (Some ws) xs ys first second = rw (second, first) (append_assoc us xs ys)
 
--- a write of n bytes from a place on
-pub appends_more : (a b c : Option (List ℕ)) (bytes : List ℕ) (done n : ℕ) → done ≤ length bytes
-    → Appends a b (take done bytes) → Appends b c (take n (take (length bytes - done) (drop done bytes))) → Appends a c (take (done + n) bytes)
-appends_more a b c bytes done n le h k =
-    let whole : take (length bytes - done) (drop done bytes) ≡ drop done bytes = take_all (length bytes - done) (drop done bytes) (omega (arith, length-drop done bytes)) in
-    appends_as a c (take done bytes ++ take n (take (length bytes - done) (drop done bytes))) (take (done + n) bytes)
-    (rw whole (sym (take-add done n bytes))) (appends_both a b c (take done bytes) (take n (take (length bytes - done) (drop done bytes))) h k)
+-- ---- up to a rest
 
--- all of the first piece, and a front of the next
-pub front_after : (a b c : Option (List ℕ)) (xs ys : List ℕ) → Appends a b xs → AppendsFront b c ys → AppendsFront a c (xs ++ ys)
-front_after a b c xs ys h k = (length xs + k.0, appends_as a c (xs ++ take k.0 ys) (take (length xs + k.0) (xs ++ ys)) (sym (take-append-add xs ys k.0)) (appends_both a b c xs (take k.0 ys) h k.1))
+pub up_to_all : (a : Option (List ℕ)) (bytes : List ℕ) → AppendsUpTo bytes a a bytes
+up_to_all a bytes = record { front = []; all = refl; written = appends_none a }
 
-take_zero : (xs ys : List ℕ) → take 0 xs ≡ take 0 ys
-take_zero [] [] = refl
-take_zero [] (y ∷ ys) = refl
-take_zero (x ∷ xs) [] = refl
-take_zero (x ∷ xs) (y ∷ ys) = refl
+pub up_to_none : (a b : Option (List ℕ)) (bytes : List ℕ) → AppendsUpTo [] a b bytes → Appends a b bytes
+up_to_none a b bytes h = rw (sym h.all ∙ append-nil h.front) h.written
 
-same_front : (n : ℕ) (xs ys : List ℕ) → (m : ℕ) × (take m (xs ++ ys) ≡ take n xs)
-same_front zero xs ys = (0, take_zero (xs ++ ys) xs)
-same_front (suc n) [] ys = (0, take_zero ys [])
-same_front (suc n) (x ∷ xs) ys = let m = same_front n xs ys in (suc m.0, ap (λ zs. x ∷ zs) m.1)
+-- a write of the first n bytes of the rest
+pub up_to_more : (a b c : Option (List ℕ)) (bytes rest : List ℕ) (n : ℕ) → AppendsUpTo rest a b bytes → Appends b c (take n rest)
+    → AppendsUpTo (take (length rest - n) (drop n rest)) a c bytes
+up_to_more a b c bytes rest n before more =
+    let left : take (length rest - n) (drop n rest) ≡ drop n rest = take_all (length rest - n) (drop n rest) (omega (arith, length-drop n rest)) in
+    record {
+      front = before.front ++ take n rest;
+      all = rw left (append_assoc before.front (take n rest) (drop n rest) ∙ ap (λ xs. before.front ++ xs) (take-append-drop n rest) ∙ before.all);
+      written = appends_both a b c before.front (take n rest) before.written more;
+    }
+
+-- ---- a front
+
+pub front_whole : (a b : Option (List ℕ)) (xs : List ℕ) → Appends a b xs → AppendsFront a b xs
+front_whole a b xs whole = ([], record { front = xs; all = append-nil xs; written = whole })
 
 -- a front of the first piece
 pub front_first : (a b : Option (List ℕ)) (xs ys : List ℕ) → AppendsFront a b xs → AppendsFront a b (xs ++ ys)
-front_first a b xs ys k = let m = same_front k.0 xs ys in (m.0, appends_as a b (take k.0 xs) (take m.0 (xs ++ ys)) (sym m.1) k.1)
+front_first a b xs ys part = (
+  part.0 ++ ys,
+  record {
+    front = part.1.front;
+    all = sym (append_assoc part.1.front part.0 ys) ∙ ap (λ zs. zs ++ ys) part.1.all;
+    written = part.1.written;
+  },
+)
 
--- all of a piece is a front of it
-pub front_whole : (a b : Option (List ℕ)) (xs : List ℕ) → Appends a b xs → AppendsFront a b xs
-front_whole a b xs h = (length xs, appends_as a b xs (take (length xs) xs) (sym (take_all (length xs) xs (omega arith))) h)
+-- the first piece, and a front of the next
+pub front_after : (a b c : Option (List ℕ)) (xs ys : List ℕ) → Appends a b xs → AppendsFront b c ys → AppendsFront a c (xs ++ ys)
+front_after a b c xs ys whole part = (
+  part.0,
+  record {
+    front = xs ++ part.1.front;
+    all = append_assoc xs part.1.front part.0 ∙ ap (λ zs. xs ++ zs) part.1.all;
+    written = appends_both a b c xs part.1.front whole part.1.written;
+  },
+)

@@ -1,9 +1,9 @@
 -- A script: the lines of an input as calls, and replies as lines.
-use Rattle.std.specs.Prelude.{ℕ, ◌==◌, List, [], ◌∷◌, ◌++◌, length, map, filter, Bool, nat_lt, if◌then◌else◌, Option, Some, None, codes, decimal}
+use Rattle.std.specs.Prelude.{ℕ, ◌==◌, List, [], ◌∷◌, ◌++◌, length, map, filter, Bool, nat_lt, if◌then◌else◌, Option, Some, None, option_map, codes, decimal}
 use Rattle.std.specs.List.{list_any, before_first, after_first}
 use Rattle.std.specs.Str.{is_utf8}
 use Rattle.std.specs.Str.Lines.{lines}
-use Rattle.tenant_core.specs.Reply.{refused}
+use Rattle.tenant_core.specs.Reply.{reply, refused}
 use Rattle.tenant_core.specs.declared.call.Call.{Call}
 use Rattle.tenant_core.specs.declared.reply.Reply.{Reply}
 use Rattle.tenant_core.specs.declared.reply.Problem.TheVariants.{BadRequest}
@@ -13,16 +13,16 @@ use Rattle.tenant_core.specs.declared.reply.Problem.TheVariants.{BadRequest}
 abbrev pub is_space : ℕ → Bool
 is_space b = b == 32
 
--- a call, where the path is UTF-8
-abbrev pub call_if_text : List ℕ → List ℕ → List ℕ → Option Call
-call_if_text method path body = if is_utf8 path then Some (record { method = method; path = path; body = body }) else None
+-- bytes as text, where they are UTF-8
+abbrev pub text_of : List ℕ → Option (List ℕ)
+text_of bytes = if is_utf8 bytes then Some bytes else None
 
 -- METHOD, a space and PATH, and after one more space BODY; without that space BODY is empty
 abbrev pub call_of : List ℕ → Option Call
 call_of line =
     if list_any is_space line then
     (let rest = after_first is_space line in
-    call_if_text (before_first is_space line) (before_first is_space rest) (after_first is_space rest)) else None
+    option_map (λ path. record { method = before_first is_space line; path = path; body = after_first is_space rest }) (text_of (before_first is_space rest))) else None
 
 abbrev pub is_nonempty : List ℕ → Bool
 is_nonempty line = nat_lt 0 (length line)
@@ -49,14 +49,18 @@ shown_body (b ∷ body) = b ∷ body
 
 -- a reply as a line: STATUS, a space, the body, LF
 abbrev pub wire : Reply → List ℕ
-wire reply = (decimal reply.status ++ 32 ∷ []) ++ (shown_body reply.body ++ 10 ∷ [])
+wire replied = (decimal replied.status ++ 32 ∷ []) ++ (shown_body replied.body ++ 10 ∷ [])
 
--- the lines for some messages, with the replies to the calls among them: a line that isn't of the form is a bad request
+-- the reply to a line that isn't of the form
+abbrev pub bad_line : Reply
+bad_line = reply (refused BadRequest)
+
+-- the lines for some messages, with the replies to the calls among them
 abbrev pub output : List (Option Call) → List Reply → List ℕ
 output [] replies = []
-output (None ∷ ms) replies = wire (refused BadRequest) ++ output ms replies
+output (None ∷ ms) replies = wire bad_line ++ output ms replies
 output (Some call ∷ ms) [] = []
-output (Some call ∷ ms) (reply ∷ replies) = wire reply ++ output ms replies
+output (Some call ∷ ms) (replied ∷ replies) = wire replied ++ output ms replies
 
 -- the greatest input, in bytes
 abbrev pub input_limit : ℕ

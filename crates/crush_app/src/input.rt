@@ -23,21 +23,14 @@ pub(crate) fn read_input<R: Read>(alloc: Global, reader: &mut R) -> Result<Vec<u
     ensures long { result ≡ Err InputFault.TooLong → IfSome (R.remaining reader.old) (λ input. input_limit < length input) }
 {
     let mut input = Vec::new(alloc);
-    let mut limited = reader.take(67_108_865);
-    match limited.read_to_end(&mut input) {
-        Ok(_) => {
-            if input.as_slice().len() > INPUT_LIMIT {
-                Err(InputFault::TooLong)
-            } else {
-                Ok(input)
-            }
-        }
-        Err(error) => {
-            if error.kind() == ErrorKind::OutOfMemory {
-                Err(InputFault::NoMemory)
-            } else {
-                Err(InputFault::Read)
-            }
-        }
+    if let Err(error) = reader.take(67_108_865).read_to_end(&mut input) {
+        return Err(match error.kind() {
+            ErrorKind::OutOfMemory => InputFault::NoMemory,
+            _ => InputFault::Read,
+        });
     }
+    if input.as_slice().len() > INPUT_LIMIT {
+        return Err(InputFault::TooLong);
+    }
+    Ok(input)
 }

@@ -3,13 +3,11 @@
 ghost use Rattle.std.specs.Prelude.{◌≡◌, ◌≤◌, ◌<◌, ◌∷◌, [], length, IsTrue, IfSome, option_map};
 ghost use Rattle.std.specs.Bool.{IsFalse};
 ghost use Rattle.std.specs.Io.KnownBytes.{Appends, Keeps as KeepsBytes};
-ghost use Rattle.tenant_core.specs.Reply.{refused};
 ghost use Rattle.tenant_core.specs.Standing.{Keeps};
-ghost use Rattle.tenant_core.specs.declared.reply.Problem.TheVariants.{BadRequest};
 ghost use Rattle.crush_app.specs.End.{ServesLines, ServesNone};
 ghost use Rattle.crush_app.specs.Line.{view};
 ghost use Rattle.crush_app.specs.Play.{Plays, PlaysFront, AppendsFront};
-ghost use Rattle.crush_app.specs.Script.{messages, messages_in, input_limit};
+ghost use Rattle.crush_app.specs.Script.{bad_line, messages, messages_in, input_limit};
 
 use crate::input::{InputFault, read_input};
 use crate::script::{LineCall, call_of, first_line};
@@ -38,7 +36,7 @@ fn play_message<T: TenantStore, W: Write>(
     message: Option<LineCall<'_>>,
     writer: &mut W,
 ) -> bool
-    requires { bad.now ≡ refused BadRequest }
+    requires { bad.now ≡ bad_line }
     ensures whole { T.is_honest service.new → IsTrue result → Plays (T.stands_for service.old) (T.stands_for service.new) (option_map view message.entry ∷ []) (Appends (W.contents writer.old) (W.contents writer.new)) }
     ensures front { T.is_honest service.new → Plays (T.stands_for service.old) (T.stands_for service.new) (option_map view message.entry ∷ []) (AppendsFront (W.contents writer.old) (W.contents writer.new)) }
     ensures honest { T.is_honest service.new → T.is_honest service.old }
@@ -58,7 +56,7 @@ fn play_line<T: TenantStore, W: Write>(
     line: &[u8],
     writer: &mut W,
 ) -> bool
-    requires { bad.now ≡ refused BadRequest }
+    requires { bad.now ≡ bad_line }
     ensures whole { T.is_honest service.new → IsTrue result → Plays (T.stands_for service.old) (T.stands_for service.new) (messages_in (line.now ∷ [])) (Appends (W.contents writer.old) (W.contents writer.new)) }
     ensures front { T.is_honest service.new → Plays (T.stands_for service.old) (T.stands_for service.new) (messages_in (line.now ∷ [])) (AppendsFront (W.contents writer.old) (W.contents writer.new)) }
     ensures honest { T.is_honest service.new → T.is_honest service.old }
@@ -76,7 +74,7 @@ fn play<T: TenantStore, W: Write>(
     input: &[u8],
     writer: &mut W,
 ) -> bool
-    requires { bad.now ≡ refused BadRequest }
+    requires { bad.now ≡ bad_line }
     ensures whole { T.is_honest service.new → IsTrue result → Plays (T.stands_for service.old) (T.stands_for service.new) (messages input.now) (Appends (W.contents writer.old) (W.contents writer.new)) }
     ensures front { T.is_honest service.new → IsFalse result → PlaysFront (T.stands_for service.old) (T.stands_for service.new) (messages input.now) (AppendsFront (W.contents writer.old) (W.contents writer.new)) }
     ensures honest { T.is_honest service.new → T.is_honest service.old }

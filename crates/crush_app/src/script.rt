@@ -1,8 +1,7 @@
 //! The lines of a script, and the calls that they are.
 
-ghost use Rattle.std.specs.Prelude.{◌≡◌, ◌==◌, ◌<◌, ◌∷◌, position, MatchOption, true, false, length, option_map};
+ghost use Rattle.std.specs.Prelude.{◌≡◌, ◌==◌, ◌<◌, ◌∷◌, position, length, option_map};
 ghost use Rattle.std.specs.List.{before_first, after_first, list_any};
-ghost use Rattle.std.specs.Str.{is_utf8};
 ghost use Rattle.std.specs.Str.Lines.{lines, strip_carriage_return};
 ghost use Rattle.crush_app.specs.Script as spec;
 ghost use Rattle.crush_app.specs.Line.{view};
@@ -40,7 +39,7 @@ fn has_space(bytes: &[u8]) -> bool
 }
 
 fn as_text(bytes: &[u8]) -> Option<&str>
-    ensures { MatchOption result (is_utf8 bytes.now ≡ false) (λ s. (s.now ≡ bytes.now) × (is_utf8 bytes.now ≡ true)) }
+    ensures { option_map (λ text. text.now) result ≡ spec.text_of bytes.now }
 {
     str::from_utf8(bytes).ok()
 }
@@ -54,10 +53,8 @@ pub(crate) fn call_of(line: &[u8]) -> Option<LineCall<'_>>
     }
     let (method, rest) = at_space(line);
     let (path, body) = at_space(rest);
-    match as_text(path) {
-        Some(path) => Some(LineCall { method, path, body }),
-        None => None,
-    }
+    let path = as_text(path)?;
+    Some(LineCall { method, path, body })
 }
 
 /// A line without the CR at its end.

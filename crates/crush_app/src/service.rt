@@ -2,6 +2,7 @@
 
 ghost use Rattle.std.specs.Prelude.{◌≡◌, ◌≢◌, ◌⊎◌, ℕ, List, Option, IfOk, IfErr, OnErr};
 ghost use Rattle.tenant_core.specs.Standing.{Keeps, Takes};
+ghost use Rattle.tenant_core.specs.Reply.{reply};
 ghost use Rattle.tenant_core.specs.Step.{act};
 ghost use Rattle.tenant_core.specs.declared.request.Action.TheVariants as action;
 ghost use Rattle.tenant_core.specs.declared.state.TenantState.{TenantState};
@@ -23,7 +24,7 @@ fn make_tenant<T: TenantStore>(
     tenant: &str,
 ) -> Result<Reply, StoreFault>
     ensures own { T.is_honest store.new → (s : Option TenantState) → T.stands_for store.old tenant.now s →
-        IfOk result (λ reply. (reply ≡ (act tenant.now action.Create s).reply) × T.stands_for store.new tenant.now (act tenant.now action.Create s).state) }
+        IfOk result (λ replied. (replied ≡ reply (act tenant.now action.Create s).answer) × T.stands_for store.new tenant.now (act tenant.now action.Create s).state) }
     ensures others { T.is_honest store.new → (t : List ℕ) (s : Option TenantState) → t ≢ tenant.now → T.stands_for store.old t s → T.stands_for store.new t s }
     ensures err { T.is_honest store.new → OnErr result (Keeps (T.stands_for store.old) (T.stands_for store.new)) }
     ensures damaged { T.is_honest store.new → result ≡ Err StoreFault.Damaged → (s : Option TenantState) → ¬ T.stands_for store.old tenant.now s }
@@ -43,7 +44,7 @@ fn remove_tenant<T: TenantStore>(
     tenant: &str,
 ) -> Result<Reply, StoreFault>
     ensures own { T.is_honest store.new → (s : Option TenantState) → T.stands_for store.old tenant.now s →
-        IfOk result (λ reply. (reply ≡ (act tenant.now action.Remove s).reply) × T.stands_for store.new tenant.now (act tenant.now action.Remove s).state) }
+        IfOk result (λ replied. (replied ≡ reply (act tenant.now action.Remove s).answer) × T.stands_for store.new tenant.now (act tenant.now action.Remove s).state) }
     ensures others { T.is_honest store.new → (t : List ℕ) (s : Option TenantState) → t ≢ tenant.now → T.stands_for store.old t s → T.stands_for store.new t s }
     ensures err { T.is_honest store.new → OnErr result (Keeps (T.stands_for store.old) (T.stands_for store.new)) }
     ensures damaged { T.is_honest store.new → result ≡ Err StoreFault.Damaged → (s : Option TenantState) → ¬ T.stands_for store.old tenant.now s }
@@ -64,7 +65,7 @@ fn ask_tenant<T: TenantStore>(
     query: &Query,
 ) -> Result<Reply, StoreFault>
     ensures own { T.is_honest store.new → (s : Option TenantState) → T.stands_for store.old tenant.now s →
-        IfOk result (λ reply. (reply ≡ (act tenant.now (action.Ask query.now) s).reply) × T.stands_for store.new tenant.now (act tenant.now (action.Ask query.now) s).state) }
+        IfOk result (λ replied. (replied ≡ reply (act tenant.now (action.Ask query.now) s).answer) × T.stands_for store.new tenant.now (act tenant.now (action.Ask query.now) s).state) }
     ensures kept { T.is_honest store.new → Keeps (T.stands_for store.old) (T.stands_for store.new) }
     ensures damaged { T.is_honest store.new → result ≡ Err StoreFault.Damaged → (s : Option TenantState) → ¬ T.stands_for store.old tenant.now s }
     ensures honest { T.is_honest store.new → T.is_honest store.old }
@@ -81,7 +82,7 @@ fn perform<T: TenantStore>(
     request: &Request,
 ) -> Result<Reply, StoreFault>
     ensures own { T.is_honest store.new → (s : Option TenantState) → T.stands_for store.old request.now.tenant s →
-        IfOk result (λ reply. (reply ≡ (act request.now.tenant request.now.action s).reply) × T.stands_for store.new request.now.tenant (act request.now.tenant request.now.action s).state) }
+        IfOk result (λ replied. (replied ≡ reply (act request.now.tenant request.now.action s).answer) × T.stands_for store.new request.now.tenant (act request.now.tenant request.now.action s).state) }
     ensures others { T.is_honest store.new → (t : List ℕ) (s : Option TenantState) → t ≢ request.now.tenant → T.stands_for store.old t s → T.stands_for store.new t s }
     ensures err { T.is_honest store.new → OnErr result (Keeps (T.stands_for store.old) (T.stands_for store.new)) }
     ensures damaged { T.is_honest store.new → result ≡ Err StoreFault.Damaged → (s : Option TenantState) → ¬ T.stands_for store.old request.now.tenant s }

@@ -13,12 +13,11 @@ fn write_whole<W: Write>(writer: &mut W, bytes: &[u8]) -> bool
     ensures whole { IsTrue result → Appends (W.contents writer.old) (W.contents writer.new) bytes.now }
     ensures front { AppendsFront (W.contents writer.old) (W.contents writer.new) bytes.now }
 {
-    let mut done = 0;
-    while done < bytes.len() {
-        match writer.write(&bytes[done..]) {
-            Ok(0) => return false,
-            Ok(count) => done += count,
-            Err(_) => return false,
+    let mut rest = bytes;
+    while !rest.is_empty() {
+        match writer.write(rest) {
+            Ok(0) | Err(_) => return false,
+            Ok(count) => rest = &rest[count..],
         }
     }
     true

@@ -1,15 +1,34 @@
-//! `crushcalc`, a calculator of CRUSH placements.
+//! `crushcalc`, a calculator of CRUSH placements: reads the program's words, and serves.
 #![tactic(auto)]
 
 use clap::error::ErrorKind;
-use clap::{ArgMatches, Command, Error};
+use clap::{Command, Error};
 use crush_app::{ScriptEnd, Service, script_run};
 use std::alloc::{AllocError, Global};
 use std::process::ExitCode;
 use std::rt::Env;
 use std::{env, io};
 
-fn parse<'a>(alloc: Global, words: &'a [String]) -> Result<ArgMatches<'a>, Error> {
+/// Why the program ends without having served all that it was given.
+enum Failure {
+    /// The words name no command of it, or ask for help.
+    Words(Error),
+    NoMemory,
+    TooLong,
+    ReadFault,
+    WriteFault,
+}
+
+/// Reads the program's words; there is one command.
+fn read_words(alloc: Global, words: &[String]) -> Result<(), Failure> {
+    match script_asked(alloc, words) {
+        Ok(()) => Ok(()),
+        Err(error) if error.kind() == ErrorKind::OutOfMemory => Err(Failure::NoMemory),
+        Err(error) => Err(Failure::Words(error)),
+    }
+}
+
+fn script_asked(alloc: Global, words: &[String]) -> Result<(), Error> {
     let script = Command::new(alloc, "script").about(
         "Serves the lines of standard input, and writes a line for each reply",
     );
@@ -17,60 +36,56 @@ fn parse<'a>(alloc: Global, words: &'a [String]) -> Result<ArgMatches<'a>, Error
         .about("A proved calculator of CRUSH placements")
         .subcommand_required(true)
         .subcommand(script)?
-        .try_get_matches_from(words)
+        .try_get_matches_from(words)?;
+    Ok(())
 }
 
-fn fault<R: Eprint>(rt: &R, what: &str) -> io::Result<ExitCode> {
-    eprintln!(rt; "crushcalc: {what}")?;
+/// Serves standard input, with no tenant at first.
+fn serve_script<R: AllocGlobal + Input + Print>(rt: &R) -> Result<(), Failure> {
+    let alloc = rt.alloc();
+    let Ok(mut service) = Service::over_map(alloc) else {
+        return Err(Failure::NoMemory);
+    };
+    let ended = script_run(alloc, &mut service, &mut rt.reader(), &mut io::writer(rt));
+    match ended {
+        Ok(ScriptEnd::Done) => Ok(()),
+        Ok(ScriptEnd::TooLong) => Err(Failure::TooLong),
+        Ok(ScriptEnd::ReadFault) => Err(Failure::ReadFault),
+        Ok(ScriptEnd::WriteFault) => Err(Failure::WriteFault),
+        Err(AllocError) => Err(Failure::NoMemory),
+    }
+}
+
+fn run<R: AllocGlobal + Input + Print + Env>(rt: &R) -> Result<(), Failure> {
+    let Ok(given) = env::args(rt) else {
+        return Err(Failure::NoMemory);
+    };
+    let Ok(words) = given.collect::<Vec<String>>(rt.alloc()) else {
+        return Err(Failure::NoMemory);
+    };
+    read_words(rt.alloc(), words.as_slice())?;
+    serve_script(rt)
+}
+
+/// Says why on standard error, or help on standard output, and gives the status.
+fn tell<R: Print + Eprint>(rt: &R, failure: Failure) -> io::Result<ExitCode> {
+    let why = match failure {
+        Failure::Words(error) => {
+            error.print(rt)?;
+            return Ok(ExitCode::from(error.exit_code() as u8));
+        }
+        Failure::NoMemory => "no memory",
+        Failure::TooLong => "input too long",
+        Failure::ReadFault => "read fault",
+        Failure::WriteFault => "write fault",
+    };
+    eprintln!(rt; "crushcalc: {why}")?;
     Ok(ExitCode::from(1))
 }
 
-fn play<R: AllocGlobal + Input + Print>(rt: &R) -> Result<ScriptEnd, AllocError> {
-    let alloc = rt.alloc();
-    let mut service = Service::over_map(alloc)?;
-    let mut reader = rt.reader();
-    let mut writer = io::writer(rt);
-    script_run(alloc, &mut service, &mut reader, &mut writer)
-}
-
-fn script<R: AllocGlobal + Input + Print + Eprint>(rt: &R) -> io::Result<ExitCode> {
-    match play(rt) {
-        Ok(ScriptEnd::Done) => Ok(ExitCode::SUCCESS),
-        Ok(ScriptEnd::TooLong) => fault(rt, "input too long"),
-        Ok(ScriptEnd::ReadFault) => fault(rt, "read fault"),
-        Ok(ScriptEnd::WriteFault) => fault(rt, "write fault"),
-        Err(_) => fault(rt, "no memory"),
-    }
-}
-
-fn refusal<R: Print + Eprint>(rt: &R, error: Error) -> io::Result<ExitCode> {
-    if error.kind() == ErrorKind::OutOfMemory {
-        return fault(rt, "no memory");
-    }
-    error.print(rt)?;
-    Ok(ExitCode::from(error.exit_code() as u8))
-}
-
-fn served<R: AllocGlobal + Input + Print + Eprint>(
-    rt: &R,
-    words: &[String],
-) -> io::Result<ExitCode> {
-    match parse(rt.alloc(), words) {
-        Ok(_) => script(rt),
-        Err(error) => refusal(rt, error),
-    }
-}
-
-fn run<R: AllocGlobal + Input + Print + Eprint + Env>(rt: &R) -> io::Result<ExitCode> {
-    let Ok(words) = env::args(rt) else {
-        return fault(rt, "no memory");
-    };
-    match words.collect::<Vec<String>>(rt.alloc()) {
-        Ok(words) => served(rt, words.as_slice()),
-        Err(_) => fault(rt, "no memory"),
-    }
-}
-
 fn main(rt: HostRuntime) -> io::Result<ExitCode> {
-    run(&rt)
+    match run(&rt) {
+        Ok(()) => Ok(ExitCode::SUCCESS),
+        Err(failure) => tell(&rt, failure),
+    }
 }

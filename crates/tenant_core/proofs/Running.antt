@@ -1,151 +1,151 @@
 -- A run goes on.
-use Rattle.std.proofs.Common.{◌≡◌, ℕ, ◌&&◌, ◌==◌, inl, inr, List, [], ◌∷◌, ◌++◌, map, length, Bool, true, false, not, if◌then◌else◌, Option, Some, None, Result, Ok, Err, nat_lt, refl, ap, sym, subst, ◌∙◌, arith, length-append}
+use Rattle.std.proofs.Common.{◌≡◌, ℕ, ◌&&◌, ◌==◌, inl, inr, List, [], ◌∷◌, ◌++◌, map, filter, zip, length, Bool, true, false, not, cond, Option, refl, ap, sym, ◌∙◌, arith, length-append}
 use Rattle.std.proofs.lemmas.List.{map-append}
+use Rattle.std.proofs.lemmas.List.Elements.{filter-append}
+use Rattle.std.specs.List.{AllZip}
 use Rattle.tenant_core.specs.declared.call.Call.{Call}
 use Rattle.tenant_core.specs.declared.reply.Reply.{Reply}
-use Rattle.tenant_core.specs.declared.state.TenantState.{TenantState}
 use Rattle.tenant_core.specs.declared.reply.Problem.{Problem}
 use Rattle.tenant_core.specs.declared.reply.Problem.TheVariants.{BadRequest, NoPath, NoTenant, Method, Exists, TooLarge}
-use Rattle.tenant_core.specs.declared.request.Action.{Action}
-use Rattle.tenant_core.specs.declared.request.Action.TheVariants.{Create, Remove, Ask}
-use Rattle.tenant_core.specs.declared.request.Query.{Query}
-use Rattle.tenant_core.specs.declared.request.Query.TheVariants.{Summary, Pick}
-use Rattle.tenant_core.specs.declared.request.Request.{Request}
-use Rattle.tenant_core.specs.Alone.{replies_alone, state_alone, is_told, told, calls_told, replies_told, AnswersNobody, AllAnswerNobody}
-use Rattle.tenant_core.specs.Reply.{created, summary, dropped, picked, refused}
-use Rattle.tenant_core.specs.Request.{request_of}
-use Rattle.tenant_core.specs.Standing.{Standing, Takes, GivesUp, Answers, Serves}
-use Rattle.tenant_core.specs.Step.{step, is_of, act, answer, perform, body_limit, Outcome}
+use Rattle.tenant_core.specs.declared.state.TenantState.{TenantState}
+use Rattle.tenant_core.specs.Alone.{alone, is_told, told, calls_told, replies_told, AnswersNobody}
+use Rattle.tenant_core.specs.Reply.{Answer, refused, created, summary, dropped, picked, problem_status, reply}
+use Rattle.tenant_core.specs.Standing.{Standing, Keeps, Answers, Serves}
+use Rattle.tenant_core.specs.Step.{step, outcome, is_of}
 
--- ---- no step answers 503
+-- ---- an answer is told
 
-is_told-refused : (p : Problem) → is_told (refused p) ≡ true
-unfolding refused
-is_told-refused BadRequest = refl
-is_told-refused NoPath = refl
-is_told-refused NoTenant = refl
-is_told-refused Method = refl
-is_told-refused Exists = refl
-is_told-refused TooLarge = refl
+problem-told : (p : Problem) → not (problem_status p == 503) ≡ true
+problem-told BadRequest = refl
+problem-told NoPath = refl
+problem-told NoTenant = refl
+problem-told Method = refl
+problem-told Exists = refl
+problem-told TooLarge = refl
 
-is_told-answer : (t : List ℕ) (s : TenantState) (q : Query) → is_told (answer t s q) ≡ true
-unfolding summary picked
-is_told-answer t s Summary = refl
-is_told-answer t s (Pick p) = refl
+reply-told : (a : Answer) → is_told (reply a) ≡ true
+unfolding reply
+reply-told (refused p) = problem-told p
+reply-told (created t) = refl
+reply-told (summary t n) = refl
+reply-told (dropped t) = refl
+reply-told (picked i) = refl
 
-is_told-act : (t : List ℕ) (a : Action) (s : Option TenantState) → is_told (act t a s).reply ≡ true
-unfolding created dropped
-is_told-act t Create None = refl
-is_told-act t Create (Some s) = is_told-refused Exists
-is_told-act t Remove None = is_told-refused NoTenant
-is_told-act t Remove (Some s) = refl
-is_told-act t (Ask q) None = is_told-refused NoTenant
-is_told-act t (Ask q) (Some s) = is_told-answer t s q
+pub step-told : (c : Call) (s : Option TenantState) → is_told (step c s).reply ≡ true
+step-told c s = reply-told (outcome c s).answer
 
-is_told-perform : (r : Result Request Problem) (s : Option TenantState) → is_told (perform r s).reply ≡ true
-is_told-perform (Ok r) s = is_told-act r.tenant r.action s
-is_told-perform (Err p) s = is_told-refused p
+-- ---- the empty run
 
-told_if : (b : Bool) (o : Outcome) (s : Option TenantState) → is_told o.reply ≡ true → is_told (if b then record { state = s; reply = refused TooLarge } else o).reply ≡ true
-told_if true o s h = is_told-refused TooLarge
-told_if false o s h = h
+pub serves_none : (old new : Standing) → Keeps old new → Serves old new [] []
+serves_none old new kept = record { count = refl; headline = λ t s stands. refl; leaves = kept; nobody = tt }
 
-pub is_told-step : (c : Call) (s : Option TenantState) → is_told (step c s).reply ≡ true
-unfolding step
-is_told-step c s = told_if (nat_lt body_limit (length c.body)) (perform (request_of c.method c.path c.body) s) s (is_told-perform (request_of c.method c.path c.body) s)
+-- ---- a run of one call
+
+-- whether the tenant is told this reply to this call
+abbrev tells : List ℕ → Call → Reply → Bool
+tells t c r = is_of t c && is_told r
+
+-- what one call and its reply say to a tenant of that state: with the reply, if it is told, the call's step; else the state is kept
+record Says (told : Bool) (old : Option TenantState) (c : Call) (r : Reply) (Stands : Option TenantState → Type 0) : Type 0 where
+  pub of_step : told ≡ true → (r ≡ (step c old).reply) × Stands (step c old).state
+  pub kept : told ≡ false → Stands old
+
+-- so what was told is what the call is told alone, and the state is the one it then leaves
+said-headline : (t : List ℕ) (s : Option TenantState) (c : Call) (r : Reply) (New : Option TenantState → Type 0) (b : Bool) → Says b s c r New
+    → map (λ (p : Call × Reply). p.1) (cond b ((c, r) ∷ []) []) ≡ (alone s (map (λ (p : Call × Reply). p.0) (cond b ((c, r) ∷ []) []))).replies
+said-headline t s c r New true says = ap (λ r. r ∷ []) (says.of_step refl).0
+said-headline t s c r New false says = refl
+
+said-leaves : (t : List ℕ) (s : Option TenantState) (c : Call) (r : Reply) (New : Option TenantState → Type 0) (b : Bool) → Says b s c r New
+    → New (alone s (map (λ (p : Call × Reply). p.0) (cond b ((c, r) ∷ []) []))).state
+said-leaves t s c r New true says = (says.of_step refl).1
+said-leaves t s c r New false says = says.kept refl
+
+-- the reply to its own call is told, whatever it is
+says-own : (t : List ℕ) (s : Option TenantState) (c : Call) (r : Reply) (New : Option TenantState → Type 0) (own : Bool)
+    → (own ≡ true → (r ≡ (step c s).reply) × New (step c s).state) → (own ≡ false → New s) → Says (own && is_told r) s c r New
+says-own t s c r New true taken other = record {
+  of_step = λ h. taken refl;
+  kept = λ h. let yes : is_told r ≡ true = ap is_told (taken refl).0 ∙ step-told c s in let both : true ≡ false = sym yes ∙ h in cc;
+}
+says-own t s c r New false taken other = record { of_step = λ h. let both : false ≡ true = h in cc; kept = λ h. other refl }
+
+-- where the call gave up, nothing is told
+says-nothing : (s : Option TenantState) (c : Call) (r : Reply) (New : Option TenantState → Type 0) (own : Bool) → r.status ≡ 503 → New s → Says (own && is_told r) s c r New
+says-nothing s c r New true gone kept = record {
+  of_step = λ h. let no : is_told r ≡ false = ap (λ n. not (n == 503)) gone in let both : true ≡ false = sym h ∙ no in cc;
+  kept = λ h. kept;
+}
+says-nothing s c r New false gone kept = record { of_step = λ h. let both : false ≡ true = h in cc; kept = λ h. kept }
+
+says : (old new : Standing) (c : Call) (r : Reply) → Answers c old new r → (t : List ℕ) (s : Option TenantState) → old t s → Says (tells t c r) s c r (new t)
+says old new c r (inl taken) t s stands = says-own t s c r (new t) (is_of t c) (λ own. taken.own t s own stands) (λ other. taken.others t s other stands)
+says old new c r (inr gone) t s stands = says-nothing s c r (new t) (is_of t c) gone.status (gone.same t s stands)
+
+answers-nobody : (old new : Standing) (c : Call) (r : Reply) → Answers c old new r → AnswersNobody c r
+answers-nobody old new c r (inl taken) = λ none. inl (taken.nobody none)
+answers-nobody old new c r (inr gone) = λ none. inr gone.status
+
+pub serves_one : (old new : Standing) (c : Call) (r : Reply) → Answers c old new r → Serves old new (c ∷ []) (r ∷ [])
+serves_one old new c r answered = record {
+  count = refl;
+  headline = λ t s stands. said-headline t s c r (new t) (tells t c r) (says old new c r answered t s stands);
+  leaves = λ t s stands. said-leaves t s c r (new t) (tells t c r) (says old new c r answered t s stands);
+  nobody = (answers-nobody old new c r answered, tt);
+}
 
 -- ---- two runs, one after the other
 
-replies_alone-append : (s : Option TenantState) (cs ds : List Call) → replies_alone s (cs ++ ds) ≡ replies_alone s cs ++ replies_alone (state_alone s cs) ds
-replies_alone-append s [] ds = refl
-replies_alone-append s (c ∷ cs) ds = ap (λ rs. (step c s).reply ∷ rs) (replies_alone-append (step c s).state cs ds)
+alone-replies : (s : Option TenantState) (cs ds : List Call) → (alone s (cs ++ ds)).replies ≡ (alone s cs).replies ++ (alone (alone s cs).state ds).replies
+alone-replies s [] ds = refl
+alone-replies s (c ∷ cs) ds = ap (λ rs. (step c s).reply ∷ rs) (alone-replies (step c s).state cs ds)
 
-state_alone-append : (s : Option TenantState) (cs ds : List Call) → state_alone s (cs ++ ds) ≡ state_alone (state_alone s cs) ds
-state_alone-append s [] ds = refl
-state_alone-append s (c ∷ cs) ds = state_alone-append (step c s).state cs ds
+alone-state : (s : Option TenantState) (cs ds : List Call) → (alone s (cs ++ ds)).state ≡ (alone (alone s cs).state ds).state
+alone-state s [] ds = refl
+alone-state s (c ∷ cs) ds = alone-state (step c s).state cs ds
 
-if-append : {A : Type 0} (b : Bool) (x : A) (xs ys : List A) → (if b then x ∷ (xs ++ ys) else xs ++ ys) ≡ (if b then x ∷ xs else xs) ++ ys
-if-append true x xs ys = refl
-if-append false x xs ys = refl
+-- lists of one length are paired, and so are those behind them
+zip-append : {A B : Type 0} (xs zs : List A) (ys ws : List B) → length ys ≡ length xs → zip (xs ++ zs) (ys ++ ws) ≡ zip xs ys ++ zip zs ws
+zip-append [] zs [] ws h = refl
+zip-append [] zs (y ∷ ys) ws h = absurd (omega arith)
+zip-append (x ∷ xs) zs [] ws h = absurd (omega arith)
+zip-append (x ∷ xs) zs (y ∷ ys) ws h = ap (λ ps. (x, y) ∷ ps) (zip-append xs zs ys ws (omega arith))
 
-told-append : (t : List ℕ) (cs : List Call) (rs : List Reply) (ds : List Call) (qs : List Reply) → length rs ≡ length cs → told t (cs ++ ds) (rs ++ qs) ≡ told t cs rs ++ told t ds qs
-told-append t [] [] ds qs h = refl
-told-append t [] (r ∷ rs) ds qs h = absurd (omega arith)
-told-append t (c ∷ cs) [] ds qs h = absurd (omega arith)
-told-append t (c ∷ cs) (r ∷ rs) ds qs h =
-    rw (told-append t cs rs ds qs (omega arith)) (if-append (is_of t c && is_told r) (c, r) (told t cs rs) (told t ds qs))
+all_zip-append : {A B : Type 0} (R : A → B → Type 0) (xs zs : List A) (ys ws : List B) → AllZip R xs ys → AllZip R zs ws → AllZip R (xs ++ zs) (ys ++ ws)
+all_zip-append R [] zs [] ws h k = k
+all_zip-append R [] zs (y ∷ ys) ws h k = absurd h
+all_zip-append R (x ∷ xs) zs [] ws h k = absurd h
+all_zip-append R (x ∷ xs) zs (y ∷ ys) ws h k = (h.0, all_zip-append R xs zs ys ws h.1 k)
 
-nobody-append : (cs : List Call) (rs : List Reply) (ds : List Call) (qs : List Reply) → AllAnswerNobody cs rs → AllAnswerNobody ds qs → AllAnswerNobody (cs ++ ds) (rs ++ qs)
-nobody-append [] [] ds qs h k = k
-nobody-append [] (r ∷ rs) ds qs h k = absurd h
-nobody-append (c ∷ cs) [] ds qs h k = absurd h
-nobody-append (c ∷ cs) (r ∷ rs) ds qs h k = (h.0, nobody-append cs rs ds qs h.1 k)
+-- what is told in both is what is told in one, and then in the other
+told-append : (t : List ℕ) (cs ds : List Call) (rs qs : List Reply) → length rs ≡ length cs → told t (cs ++ ds) (rs ++ qs) ≡ told t cs rs ++ told t ds qs
+told-append t cs ds rs qs h =
+    let test = λ (p : Call × Reply). tells t p.0 p.1 in ap (filter test) (zip-append cs ds rs qs h) ∙ filter-append test (zip cs rs) (zip ds qs)
 
 pub serves_both : (old mid new : Standing) (cs : List Call) (rs : List Reply) (ds : List Call) (qs : List Reply) → Serves old mid cs rs → Serves mid new ds qs → Serves old new (cs ++ ds) (rs ++ qs)
 serves_both old mid new cs rs ds qs first second =
-    let calls : (t : List ℕ) → calls_told t (cs ++ ds) (rs ++ qs) ≡ calls_told t cs rs ++ calls_told t ds qs =
-    λ t. ap (map (λ (p : Call × Reply). p.0)) (told-append t cs rs ds qs first.count) ∙ map-append (λ (p : Call × Reply). p.0) (told t cs rs) (told t ds qs) in
-    let replies : (t : List ℕ) → replies_told t (cs ++ ds) (rs ++ qs) ≡ replies_told t cs rs ++ replies_told t ds qs =
-    λ t. ap (map (λ (p : Call × Reply). p.1)) (told-append t cs rs ds qs first.count) ∙ map-append (λ (p : Call × Reply). p.1) (told t cs rs) (told t ds qs) in
+    let told_calls : (t : List ℕ) → calls_told t (cs ++ ds) (rs ++ qs) ≡ calls_told t cs rs ++ calls_told t ds qs =
+    λ t. ap (map (λ (p : Call × Reply). p.0)) (told-append t cs ds rs qs first.count) ∙ map-append (λ (p : Call × Reply). p.0) (told t cs rs) (told t ds qs) in
+    let told_replies : (t : List ℕ) → replies_told t (cs ++ ds) (rs ++ qs) ≡ replies_told t cs rs ++ replies_told t ds qs =
+    λ t. ap (map (λ (p : Call × Reply). p.1)) (told-append t cs ds rs qs first.count) ∙ map-append (λ (p : Call × Reply). p.1) (told t cs rs) (told t ds qs) in
     record {
-      count = let h = first.count in let k = second.count in simp length-append (omega arith);
+      count = let few = first.count in let more = second.count in simp length-append (omega arith);
       headline = λ t s stands.
-          let left = first.leaves t s stands in
-          replies t ∙ ap (λ rs. rs ++ replies_told t ds qs) (first.headline t s stands)
-          ∙ ap (λ qs. replies_alone s (calls_told t cs rs) ++ qs) (second.headline t (state_alone s (calls_told t cs rs)) left)
-          ∙ sym (ap (replies_alone s) (calls t) ∙ replies_alone-append s (calls_told t cs rs) (calls_told t ds qs));
+          let between = (alone s (calls_told t cs rs)).state in
+          rw (
+            told_replies t,
+            told_calls t,
+            alone-replies s (calls_told t cs rs) (calls_told t ds qs),
+            first.headline t s stands,
+            second.headline t between (first.leaves t s stands),
+          ) refl;
       leaves = λ t s stands.
-          subst (new t) (sym (ap (state_alone s) (calls t) ∙ state_alone-append s (calls_told t cs rs) (calls_told t ds qs)))
-          (second.leaves t (state_alone s (calls_told t cs rs)) (first.leaves t s stands));
-      nobody = nobody-append cs rs ds qs first.nobody second.nobody;
+          let between = (alone s (calls_told t cs rs)).state in
+          rw (told_calls t, alone-state s (calls_told t cs rs) (calls_told t ds qs)) (second.leaves t between (first.leaves t s stands));
+      nobody = all_zip-append AnswersNobody cs ds rs qs first.nobody second.nobody;
     }
 
--- ---- one call
-
--- what one call tells: its reply, if it is of the tenant and other than 503
-abbrev one : Bool → Call → Reply → List (Call × Reply)
-one b c r = if b then (c, r) ∷ [] else []
-
--- what was told of one call is what it is told alone, and that state is left
-record TellsOne (s : Option TenantState) (c : Call) (ps : List (Call × Reply)) (Left : Option TenantState → Type 0) : Type 0 where
-  pub replies : map (λ (p : Call × Reply). p.1) ps ≡ replies_alone s (map (λ (p : Call × Reply). p.0) ps)
-  pub left : Left (state_alone s (map (λ (p : Call × Reply). p.0) ps))
-
-tells_own : (old new : Standing) (t : List ℕ) (s : Option TenantState) (c : Call) (r : Reply) (b : Bool) → is_of t c ≡ b → Takes c old new r → old t s → TellsOne s c (one (b && is_told r) c r) (new t)
-tells_own old new t s c r true of takes stands =
-    let own = takes.own t s of stands in
-    let is : is_told r ≡ true = rw own.0 (is_told-step c s) in
-    rw is (record { replies = ap (λ r. r ∷ []) own.0; left = own.1 })
-tells_own old new t s c r false of takes stands = record { replies = refl; left = takes.others t s of stands }
-
-no_one : (b d : Bool) (c : Call) (r : Reply) → d ≡ false → one (b && d) c r ≡ []
-no_one b true c r h = cc
-no_one true false c r h = refl
-no_one false false c r h = refl
-
-tells_none : (old new : Standing) (t : List ℕ) (s : Option TenantState) (c : Call) (r : Reply) → GivesUp old new r → old t s → TellsOne s c (one (is_of t c && is_told r) c r) (new t)
-tells_none old new t s c r up stands =
-    let none : one (is_of t c && is_told r) c r ≡ [] = no_one (is_of t c) (is_told r) c r (ap (λ n. not (n == 503)) up.status) in
-    rw none (record { replies = refl; left = up.same t s stands })
-
-tells_one : (old new : Standing) (t : List ℕ) (s : Option TenantState) (c : Call) (r : Reply) → Answers c old new r → old t s → TellsOne s c (one (is_of t c && is_told r) c r) (new t)
-tells_one old new t s c r (inl takes) stands = tells_own old new t s c r (is_of t c) refl takes stands
-tells_one old new t s c r (inr up) stands = tells_none old new t s c r up stands
-
-nobody_one : (old new : Standing) (c : Call) (r : Reply) → Answers c old new r → AnswersNobody c r
-nobody_one old new c r (inl takes) = λ none. inl (takes.nobody none)
-nobody_one old new c r (inr up) = λ none. inr up.status
-
-pub serves_one : (old new : Standing) (c : Call) (r : Reply) → Answers c old new r → Serves old new (c ∷ []) (r ∷ [])
-serves_one old new c r answered =
-    record {
-      count = refl;
-      headline = λ t s stands. (tells_one old new t s c r answered stands).replies;
-      leaves = λ t s stands. (tells_one old new t s c r answered stands).left;
-      nobody = (nobody_one old new c r answered, tt);
-    }
-
--- ---- no call
-
-pub serves_none : (old new : Standing) → ((t : List ℕ) (s : Option TenantState) → old t s → new t s) → Serves old new [] []
-serves_none old new same = record { count = refl; headline = λ t s stands. refl; leaves = λ t s stands. same t s stands; nobody = tt }
+-- a run, and one call more
+pub serves_more : (old mid new : Standing) (cs : List Call) (rs : List Reply) (c : Call) (r : Reply) → Serves old mid cs rs → Answers c mid new r
+    → Serves old new (cs ++ c ∷ []) (rs ++ r ∷ [])
+serves_more old mid new cs rs c r before answered = serves_both old mid new cs rs (c ∷ []) (r ∷ []) before (serves_one mid new c r answered)

@@ -1,3 +1,5 @@
+pub mod Json
+pub mod Reads
 pub mod Body
 pub mod Route
 pub mod Reply

@@ -1,59 +1,77 @@
--- What is replied: a status and compact JSON, keys in the order of their bytes.
-use Rattle.std.specs.Prelude.{ℕ, List, [], ℤ, codes}
-use Rattle.serde_json.specs.Data.{Data, number, unsigned, string, object, no_members, member}
+-- What calls are answered, and how an answer is replied: a status and compact JSON, keys in the order of their bytes.
+use Rattle.std.specs.Prelude.{ℕ, List, [], ◌∷◌, ℤ, codes}
+use Rattle.serde_json.specs.Data.{Data, Members, number, unsigned, string, object, no_members, member}
 use Rattle.serde_json.specs.Find.{of_integer}
 use Rattle.serde_json.specs.Written.{compact_text}
 use Rattle.tenant_core.specs.declared.reply.Reply.{Reply}
 use Rattle.tenant_core.specs.declared.reply.Problem.{Problem}
 use Rattle.tenant_core.specs.declared.reply.Problem.TheVariants.{BadRequest, NoPath, NoTenant, Method, Exists, TooLarge}
 
-abbrev pub reply : ℕ → Data → Reply
-reply status d = record { status = status; body = compact_text d }
+-- ---- answers
+
+-- what a call is answered; 500 and 503 are no answers
+pub data Answer : Type 0 where
+  refused : Problem → Answer  -- why it isn't done
+  created : List ℕ → Answer  -- the tenant of this name was made
+  summary : List ℕ → ℕ → Answer  -- what the tenant of this name has, at this epoch
+  dropped : List ℕ → Answer  -- the tenant of this name was removed
+  picked : ℤ → Answer  -- the item that was picked
+
+-- ---- replies
+
+-- an object with these members
+abbrev pub members_of : List (List ℕ × Data) → Members
+members_of [] = no_members
+members_of (m ∷ ms) = member m.0 m.1 (members_of ms)
 
 abbrev natural : ℕ → Data
 natural n = number (unsigned n)
 
+abbrev pub problem_status : Problem → ℕ
+problem_status BadRequest = 400
+problem_status NoPath = 404
+problem_status NoTenant = 404
+problem_status Method = 405
+problem_status Exists = 409
+problem_status TooLarge = 413
+
+abbrev pub problem_code : Problem → List ℕ
+problem_code BadRequest = codes "bad_request"
+problem_code NoPath = codes "no_path"
+problem_code NoTenant = codes "no_tenant"
+problem_code Method = codes "method"
+problem_code Exists = codes "exists"
+problem_code TooLarge = codes "too_large"
+
+-- the HTTP status
+abbrev pub status_of : Answer → ℕ
+status_of (refused problem) = problem_status problem
+status_of (created tenant) = 201
+status_of (summary tenant epoch) = 200
+status_of (dropped tenant) = 200
+status_of (picked item) = 200
+
 -- {"error": code}
 abbrev pub error : List ℕ → Data
-error code = object (member (codes "error") (string code) no_members)
+error code = object (members_of ((codes "error", string code) ∷ []))
 
-unfoldable pub refused : Problem → Reply
-refused BadRequest = reply 400 (error (codes "bad_request"))
-refused NoPath = reply 404 (error (codes "no_path"))
-refused NoTenant = reply 404 (error (codes "no_tenant"))
-refused Method = reply 405 (error (codes "method"))
-refused Exists = reply 409 (error (codes "exists"))
-refused TooLarge = reply 413 (error (codes "too_large"))
+-- the body
+abbrev pub json_of : Answer → Data
+json_of (refused problem) = error (problem_code problem)
+json_of (created tenant) = object (members_of ((codes "epoch", natural 0) ∷ (codes "tenant", string tenant) ∷ []))
+json_of (summary tenant epoch) =
+    object (members_of ((codes "devices", natural 0) ∷ (codes "epoch", natural epoch) ∷ (codes "pools", natural 0)
+    ∷ (codes "tenant", string tenant) ∷ (codes "versions", natural 0) ∷ []))
+json_of (dropped tenant) = object (members_of ((codes "dropped", string tenant) ∷ []))
+json_of (picked item) = object (members_of ((codes "item", number (of_integer item)) ∷ []))
 
--- {"epoch": 0, "tenant": name}
-abbrev pub creation : List ℕ → Data
-creation tenant = object (member (codes "epoch") (natural 0) (member (codes "tenant") (string tenant) no_members))
+abbrev pub written : ℕ → Data → Reply
+written status d = record { status = status; body = compact_text d }
 
-unfoldable pub created : List ℕ → Reply
-created tenant = reply 201 (creation tenant)
+unfoldable pub reply : Answer → Reply
+reply answer = written (status_of answer) (json_of answer)
 
--- {"devices": 0, "epoch": epoch, "pools": 0, "tenant": name, "versions": 0}
-abbrev pub counts : List ℕ → ℕ → Data
-counts tenant epoch =
-    object (member (codes "devices") (natural 0) (member (codes "epoch") (natural epoch) (member (codes "pools") (natural 0)
-    (member (codes "tenant") (string tenant) (member (codes "versions") (natural 0) no_members)))))
-
-unfoldable pub summary : List ℕ → ℕ → Reply
-summary tenant epoch = reply 200 (counts tenant epoch)
-
--- {"dropped": name}
-abbrev pub removal : List ℕ → Data
-removal tenant = object (member (codes "dropped") (string tenant) no_members)
-
-unfoldable pub dropped : List ℕ → Reply
-dropped tenant = reply 200 (removal tenant)
-
--- {"item": item}
-abbrev pub choice : ℤ → Data
-choice item = object (member (codes "item") (number (of_integer item)) no_members)
-
-unfoldable pub picked : ℤ → Reply
-picked item = reply 200 (choice item)
+-- ---- where there is no answer
 
 -- the reply where there is no memory for one: its text is left to whoever writes it out
 abbrev pub no_memory : Reply

@@ -1,5 +1,5 @@
 -- What a call asks of which tenant, or the first of its checks that fails.
-use Rattle.std.specs.Prelude.{ℕ, zero, suc, ◌==◌, List, length, Bool, if◌then◌else◌, Option, Some, None, option_map, Result, Ok, Err, codes}
+use Rattle.std.specs.Prelude.{ℕ, zero, suc, ◌==◌, List, length, Bool, if◌then◌else◌, Option, Some, None, option_map, Result, Err, codes}
 use Rattle.std.specs.Option.{ok_or}
 use Rattle.std.specs.List.{before_first, after_first}
 use Rattle.std.specs.Str.{bytes_eq}
@@ -13,9 +13,11 @@ use Rattle.tenant_core.specs.declared.reply.Problem.TheVariants.{BadRequest, NoP
 use Rattle.tenant_core.specs.declared.request.Action.{Action}
 use Rattle.tenant_core.specs.declared.request.Action.TheVariants as action
 use Rattle.tenant_core.specs.declared.request.Query.TheVariants as query
+use Rattle.tenant_core.specs.declared.request.Operation.{Operation}
+use Rattle.tenant_core.specs.declared.request.Operation.TheVariants as operation
 use Rattle.tenant_core.specs.declared.request.Request.{Request}
 
--- ---- parts of a path
+-- ---- the path
 
 abbrev pub is_slash : ℕ → Bool
 is_slash b = b == 47
@@ -29,33 +31,41 @@ part (suc n) path = part n (after_first is_slash path)
 abbrev pub name_in : List ℕ → List ℕ
 name_in path = part 2 path
 
--- ---- the checks, in their order: the route, the method, the path's parts and the body
+-- ---- the method
 
--- what a method does on the path of a tenant
-abbrev pub tenant_action : List ℕ → Option Action
-tenant_action method =
-    if bytes_eq method (codes "PUT") then Some action.Create
-    else (if bytes_eq method (codes "GET") then Some (action.Ask query.Summary)
-    else (if bytes_eq method (codes "DELETE") then Some action.Remove else None))
+abbrev pub operation_of : Route → List ℕ → Option Operation
+operation_of Tenant method =
+    if bytes_eq method (codes "PUT") then Some operation.MakeTenant
+    else (if bytes_eq method (codes "GET") then Some operation.TellTenant
+    else (if bytes_eq method (codes "DELETE") then Some operation.RemoveTenant else None))
+operation_of Pick method = if bytes_eq method (codes "POST") then Some operation.PickItem else None
 
--- PUT, GET and DELETE have an empty body
-abbrev pub with_no_body : List ℕ → Option Action → Result Action Problem
-with_no_body body (Some a) = if length body == 0 then Ok a else Err BadRequest
-with_no_body body None = Err Method
+-- ---- the body
 
-abbrev pub action_of : Route → List ℕ → List ℕ → Result Action Problem
-action_of Tenant method body = with_no_body body (tenant_action method)
-action_of Pick method body =
-    if bytes_eq method (codes "POST") then ok_or (option_map (λ p. action.Ask (query.Pick p)) (pick_request_of body)) BadRequest else Err Method
+-- an action that is asked with an empty body
+abbrev pub if_empty : List ℕ → Action → Option Action
+if_empty body asked = if length body == 0 then Some asked else None
 
--- the action, on the tenant that the path names
-abbrev pub on_tenant : List ℕ → Result Action Problem → Result Request Problem
-on_tenant path (Ok a) = if is_name (name_in path) then Ok (record { tenant = name_in path; action = a }) else Err BadRequest
-on_tenant path (Err problem) = Err problem
+abbrev pub action_of : Operation → List ℕ → Option Action
+action_of operation.MakeTenant body = if_empty body action.Create
+action_of operation.TellTenant body = if_empty body (action.Ask query.Summary)
+action_of operation.RemoveTenant body = if_empty body action.Remove
+action_of operation.PickItem body = option_map (λ p. action.Ask (query.Pick p)) (pick_request_of body)
 
-abbrev pub on_route : Option Route → List ℕ → List ℕ → List ℕ → Result Request Problem
-on_route None method path body = Err NoPath
-on_route (Some route) method path body = on_tenant path (action_of route method body)
+-- ---- all of it: the checks in their order
+
+-- the path's name, and then the body
+abbrev pub in_form : List ℕ → List ℕ → Operation → Option Request
+in_form path body o =
+    if is_name (name_in path) then option_map (λ a. record { tenant = name_in path; action = a }) (action_of o body) else None
+
+abbrev pub on_operation : List ℕ → List ℕ → Option Operation → Result Request Problem
+on_operation path body None = Err Method
+on_operation path body (Some o) = ok_or (in_form path body o) BadRequest
+
+abbrev pub on_route : List ℕ → List ℕ → List ℕ → Option Route → Result Request Problem
+on_route method path body None = Err NoPath
+on_route method path body (Some route) = on_operation path body (operation_of route method)
 
 unfoldable pub request_of : List ℕ → List ℕ → List ℕ → Result Request Problem
-request_of method path body = on_route (route_of path) method path body
+request_of method path body = on_route method path body (route_of path)

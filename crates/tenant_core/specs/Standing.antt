@@ -1,6 +1,6 @@
 -- What a reply, and a run, say of the states of all tenants.
 use Rattle.std.specs.Prelude.{ℕ, ◌≡◌, ◌⊎◌, List, length, true, false, Option, None}
-use Rattle.tenant_core.specs.Alone.{replies_told, calls_told, replies_alone, state_alone, AllAnswerNobody}
+use Rattle.tenant_core.specs.Alone.{alone, replies_told, calls_told, AllAnswerNobody}
 use Rattle.tenant_core.specs.Step.{step, is_of, tenant_of}
 use Rattle.tenant_core.specs.declared.call.Call.{Call}
 use Rattle.tenant_core.specs.declared.reply.Reply.{Reply}
@@ -32,12 +32,12 @@ Answers call old new reply = Takes call old new reply ⊎ GivesUp old new reply
 -- run over just the requests so answered, from the state that t had
 abbrev pub Headline : Standing → List Call → List Reply → Type 0
 Headline old calls replies =
-    (t : List ℕ) (s : Option TenantState) → old t s → replies_told t calls replies ≡ replies_alone s (calls_told t calls replies)
+    (t : List ℕ) (s : Option TenantState) → old t s → replies_told t calls replies ≡ (alone s (calls_told t calls replies)).replies
 
 -- every tenant then has the state that those requests leave
 abbrev pub Leaves : Standing → Standing → List Call → List Reply → Type 0
 Leaves old new calls replies =
-    (t : List ℕ) (s : Option TenantState) → old t s → new t (state_alone s (calls_told t calls replies))
+    (t : List ℕ) (s : Option TenantState) → old t s → new t (alone s (calls_told t calls replies)).state
 
 -- a run: one reply for each call, the headline, and what it leaves
 pub record Serves (old new : Standing) (calls : List Call) (replies : List Reply) : Type 0 where

@@ -4,7 +4,7 @@ use Rattle.std.specs.Option.{option_map_or}
 use Rattle.std.specs.Str.{bytes_eq}
 use Rattle.crush_bucket.specs.Pick.{pick}
 use Rattle.crush_map.specs.Faults.{is_name}
-use Rattle.tenant_core.specs.Reply.{created, summary, dropped, picked, refused}
+use Rattle.tenant_core.specs.Reply.{Answer, refused, created, summary, dropped, picked, reply}
 use Rattle.tenant_core.specs.Request.{name_in, request_of}
 use Rattle.tenant_core.specs.Route.{route_of}
 use Rattle.tenant_core.specs.declared.call.Call.{Call}
@@ -29,41 +29,60 @@ fresh = record { epoch = 0 }
 abbrev pub after : Change → TenantState → TenantState
 after change state = record { epoch = change.epoch }
 
--- ---- one call
+-- ---- one request
 
--- a state, or none where the tenant is absent, and a reply
+-- what comes of a call: the state that it leaves, or none where the tenant is then absent, and what is answered
 pub record Outcome : Type 0 where
   pub state : Option TenantState
-  pub reply : Reply
+  pub answer : Answer
 
--- the reply to a question, which changes nothing
-abbrev pub answer : List ℕ → TenantState → Query → Reply
+abbrev pub leaves : Option TenantState → Answer → Outcome
+leaves state answer = record { state = state; answer = answer }
+
+-- the answer to a question, which changes nothing
+abbrev pub answer : List ℕ → TenantState → Query → Answer
 answer tenant state Summary = summary tenant state.epoch
 answer tenant state (Pick p) = picked (pick p.bucket p.x p.r).0
 
--- what an action does to a tenant, which may be absent
+-- what an action does to a tenant that is absent
+abbrev pub on_absent : List ℕ → Action → Outcome
+on_absent tenant Create = leaves (Some fresh) (created tenant)
+on_absent tenant Remove = leaves None (refused NoTenant)
+on_absent tenant (Ask query) = leaves None (refused NoTenant)
+
+-- what it does to one that is there
+abbrev pub on_present : List ℕ → TenantState → Action → Outcome
+on_present tenant state Create = leaves (Some state) (refused Exists)
+on_present tenant state Remove = leaves None (dropped tenant)
+on_present tenant state (Ask query) = leaves (Some state) (answer tenant state query)
+
 abbrev pub act : List ℕ → Action → Option TenantState → Outcome
-act tenant Create None = record { state = Some fresh; reply = created tenant }
-act tenant Create (Some s) = record { state = Some s; reply = refused Exists }
-act tenant Remove None = record { state = None; reply = refused NoTenant }
-act tenant Remove (Some s) = record { state = None; reply = dropped tenant }
-act tenant (Ask query) None = record { state = None; reply = refused NoTenant }
-act tenant (Ask query) (Some s) = record { state = Some s; reply = answer tenant s query }
+act tenant action None = on_absent tenant action
+act tenant action (Some state) = on_present tenant state action
+
+-- ---- one call
 
 -- what is refused changes nothing
 abbrev pub perform : Result Request Problem → Option TenantState → Outcome
 perform (Ok request) state = act request.tenant request.action state
-perform (Err problem) state = record { state = state; reply = refused problem }
+perform (Err problem) state = leaves state (refused problem)
 
 -- the greatest body, in bytes
 abbrev pub body_limit : ℕ
 body_limit = 1048576
 
--- what a call does to the state of its tenant, and its reply
-unfoldable pub step : Call → Option TenantState → Outcome
-step call state =
-    if nat_lt body_limit (length call.body) then record { state = state; reply = refused TooLarge }
+unfoldable pub outcome : Call → Option TenantState → Outcome
+outcome call state =
+    if nat_lt body_limit (length call.body) then leaves state (refused TooLarge)
     else perform (request_of call.method call.path call.body) state
+
+-- what a call does to the state of its tenant, and the reply to it
+pub record Step : Type 0 where
+  pub state : Option TenantState
+  pub reply : Reply
+
+abbrev pub step : Call → Option TenantState → Step
+step call state = record { state = (outcome call state).state; reply = reply (outcome call state).answer }
 
 -- ---- whose call it is
 

@@ -3,6 +3,7 @@
 
 mod body;
 mod call;
+mod json;
 mod pick;
 mod reply;
 mod request;
@@ -15,7 +16,7 @@ mod tests;
 pub use call::{Bytes, Call};
 pub use pick::{AskedBucket, PickRequest};
 pub use reply::{Problem, Reply, dropped, no_memory, refused};
-pub use request::{Action, Query, Request, part, read_request};
+pub use request::{Action, Operation, Query, Request, part, read_request};
 pub use route::{Route, Routes};
 pub use state::{Change, TenantState, answer, create};
 pub use store::{StoreFault, TenantStore, store_fault};

@@ -5,7 +5,7 @@ ghost use Rattle.serde_json.specs.View.{view};
 ghost use Rattle.serde_json.specs.Written.{has_float};
 ghost use Rattle.tenant_core.specs.Reply as spec;
 
-use crush_map::Text;
+use crush_map::{ItemId, Text};
 use serde_json::{Value, json};
 use std::alloc::{AllocError, Global};
 
@@ -34,17 +34,48 @@ pub enum Problem {
     TooLarge,
 }
 
+impl Problem {
+    ghost use Rattle.std.specs.Prelude.{◌≡◌};
+    ghost use Rattle.tenant_core.specs.Reply.{problem_status, problem_code};
+
+    /// The HTTP status.
+    pub fn status(self) -> u16
+        ensures { result ≡ problem_status self }
+    {
+        match self {
+            Problem::BadRequest => 400,
+            Problem::NoPath | Problem::NoTenant => 404,
+            Problem::Method => 405,
+            Problem::Exists => 409,
+            Problem::TooLarge => 413,
+        }
+    }
+
+    /// The code in the body.
+    pub fn code(self) -> &'static str
+        ensures { result.now ≡ problem_code self }
+    {
+        match self {
+            Problem::BadRequest => "bad_request",
+            Problem::NoPath => "no_path",
+            Problem::NoTenant => "no_tenant",
+            Problem::Method => "method",
+            Problem::Exists => "exists",
+            Problem::TooLarge => "too_large",
+        }
+    }
+}
+
 /// A status and a value as compact JSON.
 pub(crate) fn written(alloc: Global, status: u16, value: &Value) -> Result<Reply, AllocError>
     requires { has_float (view value.now) ≡ false }
-    ensures { IfOk result (λ r. r ≡ spec.reply status (view value.now)) }
+    ensures { IfOk result (λ r. r ≡ spec.written status (view value.now)) }
 {
-    Ok(Reply {
-        status,
-        body: Text::new(value.to_string(alloc)?),
-    })
+    let body = Text::new(value.to_string(alloc)?);
+    Ok(Reply { status, body })
 }
 
+/// The body that names an error.
 pub(crate) fn error(alloc: Global, code: &str) -> Result<Value, AllocError>
     ensures { IfOk result (λ v. view v ≡ spec.error code.now) }
 {
@@ -52,37 +83,31 @@ pub(crate) fn error(alloc: Global, code: &str) -> Result<Value, AllocError>
 }
 
 /// The reply to a call that is refused: the problem's status and `{"error": CODE}`.
-#[tactic(auto, unfolding(crate::specs::Reply::refused))]
+#[tactic(auto, unfolding(crate::specs::Reply::reply))]
 pub fn refused(alloc: Global, problem: Problem) -> Result<Reply, AllocError>
-    ensures { IfOk result (λ r. r ≡ spec.refused problem) }
+    ensures { IfOk result (λ r. r ≡ spec.reply (spec.refused problem)) }
 {
-    let (status, code) = match problem {
-        Problem::BadRequest => (400, "bad_request"),
-        Problem::NoPath => (404, "no_path"),
-        Problem::NoTenant => (404, "no_tenant"),
-        Problem::Method => (405, "method"),
-        Problem::Exists => (409, "exists"),
-        Problem::TooLarge => (413, "too_large"),
-    };
-    written(alloc, status, &error(alloc, code)?)
+    written(alloc, problem.status(), &error(alloc, problem.code())?)
 }
 
+// ---- answers
+
 fn creation(alloc: Global, tenant: &str) -> Result<Value, AllocError>
-    ensures { IfOk result (λ v. view v ≡ spec.creation tenant.now) }
+    ensures { IfOk result (λ v. view v ≡ spec.json_of (spec.created tenant.now)) }
 {
     json!(in alloc; {"epoch": 0u64, "tenant": tenant})
 }
 
 /// The reply to the creation of a tenant.
-#[tactic(auto, unfolding(crate::specs::Reply::created))]
+#[tactic(auto, unfolding(crate::specs::Reply::reply))]
 pub(crate) fn created(alloc: Global, tenant: &str) -> Result<Reply, AllocError>
-    ensures { IfOk result (λ r. r ≡ spec.created tenant.now) }
+    ensures { IfOk result (λ r. r ≡ spec.reply (spec.created tenant.now)) }
 {
     written(alloc, 201, &creation(alloc, tenant)?)
 }
 
-fn counts(alloc: Global, tenant: &str, epoch: u64) -> Result<Value, AllocError>
-    ensures { IfOk result (λ v. view v ≡ spec.counts tenant.now epoch) }
+fn contents(alloc: Global, tenant: &str, epoch: u64) -> Result<Value, AllocError>
+    ensures { IfOk result (λ v. view v ≡ spec.json_of (spec.summary tenant.now epoch)) }
 {
     json!(in alloc; {
         "devices": 0u64,
@@ -94,37 +119,37 @@ fn counts(alloc: Global, tenant: &str, epoch: u64) -> Result<Value, AllocError>
 }
 
 /// The reply to the question what a tenant has.
-#[tactic(auto, unfolding(crate::specs::Reply::summary))]
+#[tactic(auto, unfolding(crate::specs::Reply::reply))]
 pub(crate) fn summary(alloc: Global, tenant: &str, epoch: u64) -> Result<Reply, AllocError>
-    ensures { IfOk result (λ r. r ≡ spec.summary tenant.now epoch) }
+    ensures { IfOk result (λ r. r ≡ spec.reply (spec.summary tenant.now epoch)) }
 {
-    written(alloc, 200, &counts(alloc, tenant, epoch)?)
+    written(alloc, 200, &contents(alloc, tenant, epoch)?)
 }
 
 fn removal(alloc: Global, tenant: &str) -> Result<Value, AllocError>
-    ensures { IfOk result (λ v. view v ≡ spec.removal tenant.now) }
+    ensures { IfOk result (λ v. view v ≡ spec.json_of (spec.dropped tenant.now)) }
 {
     json!(in alloc; {"dropped": tenant})
 }
 
 /// The reply to the removal of a tenant.
-#[tactic(auto, unfolding(crate::specs::Reply::dropped))]
+#[tactic(auto, unfolding(crate::specs::Reply::reply))]
 pub fn dropped(alloc: Global, tenant: &str) -> Result<Reply, AllocError>
-    ensures { IfOk result (λ r. r ≡ spec.dropped tenant.now) }
+    ensures { IfOk result (λ r. r ≡ spec.reply (spec.dropped tenant.now)) }
 {
     written(alloc, 200, &removal(alloc, tenant)?)
 }
 
-fn choice(alloc: Global, item: i32) -> Result<Value, AllocError>
-    ensures { IfOk result (λ v. view v ≡ spec.choice item) }
+fn choice(alloc: Global, item: ItemId) -> Result<Value, AllocError>
+    ensures { IfOk result (λ v. view v ≡ spec.json_of (spec.picked item.0)) }
 {
-    json!(in alloc; {"item": i64::from(item)})
+    json!(in alloc; {"item": i64::from(item.0)})
 }
 
 /// The reply to a pick.
-#[tactic(auto, unfolding(crate::specs::Reply::picked))]
-pub(crate) fn picked(alloc: Global, item: i32) -> Result<Reply, AllocError>
-    ensures { IfOk result (λ r. r ≡ spec.picked item) }
+#[tactic(auto, unfolding(crate::specs::Reply::reply))]
+pub(crate) fn picked(alloc: Global, item: ItemId) -> Result<Reply, AllocError>
+    ensures { IfOk result (λ r. r ≡ spec.reply (spec.picked item.0)) }
 {
     written(alloc, 200, &choice(alloc, item)?)
 }

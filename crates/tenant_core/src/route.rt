@@ -1,7 +1,8 @@
 //! The routes of paths.
 
 ghost use Rattle.std.specs.Prelude.{◌≡◌, true, is_ok, OnOk};
-ghost use Rattle.tenant_core.specs.Route.{table};
+ghost use Rattle.matchit.specs.Route.{parse_route};
+ghost use Rattle.tenant_core.specs.Route.{table, with_route, is_new};
 
 use matchit::{InsertError, Router};
 use std::alloc::{AllocError, Global};
@@ -15,7 +16,7 @@ pub enum Route {
     Pick,
 }
 
-/// The router of all paths, built once.
+/// The table of all routes, built once.
 #[derive(Drop)]
 pub struct Routes {
     router: Router<Route>,
@@ -23,36 +24,35 @@ pub struct Routes {
 }
 
 impl Routes {
-    ghost use Rattle.tenant_core.specs.Route.{route_of, with_route, is_new};
-    ghost use Rattle.matchit.specs.Route.{parse_route};
+    ghost use Rattle.std.specs.Prelude.{◌≡◌};
+    ghost use Rattle.tenant_core.specs.Route.{route_of};
 
-    /// The router of all paths.
-    pub fn build(alloc: Global) -> Result<Routes, AllocError> {
+    /// The table of all routes.
+    pub fn build(alloc: Global) -> Result<Self, AllocError> {
         let mut router = Router::new(alloc);
-        Routes::add(&mut router, "/t/{t}", Route::Tenant)?;
-        Routes::add(&mut router, "/t/{t}/pick", Route::Pick)?;
+        insert(&mut router, "/t/{t}", Route::Tenant)?;
+        insert(&mut router, "/t/{t}/pick", Route::Pick)?;
         Ok(Routes { router })
     }
 
-    fn add(router: &mut Router<Route>, text: &str, route: Route) -> Result<(), AllocError>
-        requires read { is_ok (parse_route text.now) ≡ true }
-        requires new { is_new (parse_route text.now) router.old ≡ true }
-        ensures { OnOk result (router.new ≡ with_route text.now route router.old) }
-    {
-        match router.insert(text, route) {
-            Ok(()) => Ok(()),
-            Err(InsertError::OutOfMemory) => Err(AllocError),
-            Err(_) => unreachable!(),
-        }
-    }
-
-    /// The route of a path.
+    /// The route of a path, if it has one.
     pub fn find(&self, path: &str) -> Option<Route>
         ensures { result ≡ route_of path.now }
     {
-        match self.router.at(path) {
-            Ok(found) => Some(*found.value),
-            Err(_) => None,
-        }
+        let found = self.router.at(path).ok()?;
+        Some(*found.value)
+    }
+}
+
+/// Adds a route that is well written, and conflicts with none that is there.
+fn insert(router: &mut Router<Route>, text: &str, route: Route) -> Result<(), AllocError>
+    requires read { is_ok (parse_route text.now) ≡ true }
+    requires new { is_new (parse_route text.now) router.old ≡ true }
+    ensures { OnOk result (router.new ≡ with_route router.old (text.now, route)) }
+{
+    match router.insert(text, route) {
+        Ok(()) => Ok(()),
+        Err(InsertError::OutOfMemory) => Err(AllocError),
+        Err(_) => unreachable!(),
     }
 }

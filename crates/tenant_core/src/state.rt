@@ -2,7 +2,7 @@
 
 ghost use Rattle.std.specs.Prelude.{◌≡◌, IfOk};
 ghost use Rattle.tenant_core.specs.Step as spec;
-ghost use Rattle.tenant_core.specs.Reply.{created};
+ghost use Rattle.tenant_core.specs.Reply.{reply, created};
 
 use crate::reply::{self, Reply};
 use crate::request::Query;
@@ -34,7 +34,7 @@ impl TenantState {
 /// A new tenant, and the reply that tells of it.
 pub fn create(alloc: Global, tenant: &str) -> Result<(TenantState, Reply), AllocError>
     ensures state { IfOk result (λ p. p.0 ≡ spec.fresh) }
-    ensures told { IfOk result (λ p. p.1 ≡ created tenant.now) }
+    ensures told { IfOk result (λ p. p.1 ≡ reply (created tenant.now)) }
 {
     let told = reply::created(alloc, tenant)?;
     Ok((TenantState { epoch: 0 }, told))
@@ -47,13 +47,13 @@ pub fn answer(
     state: &TenantState,
     query: &Query,
 ) -> Result<Reply, AllocError>
-    ensures { IfOk result (λ r. r ≡ spec.answer tenant.now state.now query.now) }
+    ensures { IfOk result (λ r. r ≡ reply (spec.answer tenant.now state.now query.now)) }
 {
     match query {
         Query::Summary => reply::summary(alloc, tenant, state.epoch),
         Query::Pick(pick) => {
             let item = pick.bucket.pick(alloc, pick.x, pick.r)?;
-            reply::picked(alloc, item.0)
+            reply::picked(alloc, item)
         }
     }
 }

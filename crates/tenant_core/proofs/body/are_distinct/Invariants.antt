@@ -1,7 +1,10 @@
-use Rattle.std.proofs.Common.{◌≡◌, drop}
+use Rattle.std.proofs.Common.{◌≡◌, length}
 use Rattle.tenant_core.specs.Body.{are_distinct}
 use Rattle.tenant_core.proofs.body.are_distinct.Given as goal
 
--- the items before differ from all others
-abbrev pub invariant-loop-place : goal.invariant-loop-place
-invariant-loop-place l = are_distinct (drop l.place l.entries) ≡ are_distinct l.entries
+-- what is left decides
+abbrev pub invariant-loop-rest : goal.invariant-loop-rest
+invariant-loop-rest l = are_distinct l.rest ≡ are_distinct l.entries
+
+abbrev pub decreases-loop-rest : goal.decreases-loop-rest
+decreases-loop-rest l = length l.rest

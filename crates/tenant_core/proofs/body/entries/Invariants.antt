@@ -1,8 +1,9 @@
-use Rattle.std.proofs.Common.{◌≡◌, ◌++◌, option_map, drop}
+use Rattle.std.proofs.Common.{◌≡◌, ◌++◌, drop, option_map}
 use Rattle.serde_json.specs.View.{items_view}
 use Rattle.tenant_core.specs.Body.{entries_of}
 use Rattle.tenant_core.proofs.body.entries.Given as goal
 
--- what was read and what is left give the whole list
+-- the entries so far, and then those of the values that are left, are all
 abbrev pub invariant-loop-value : goal.invariant-loop-value
-invariant-loop-value l = option_map (λ es. l.found.items ++ es) (entries_of (items_view (drop l.value-index l.list.items))) ≡ entries_of (items_view l.list.items)
+invariant-loop-value l =
+    entries_of (items_view l.values) ≡ option_map (λ others. l.found.items ++ others) (entries_of (items_view (drop l.value-index l.values)))
