@@ -1,5 +1,8 @@
 //! The program's words.
 
+ghost use Rattle.std.specs.Prelude.{◌≤◌, IfSome};
+ghost use Rattle.crush_bench.specs.Words.{IsInRange};
+
 use crate::bucket::Questions;
 use crush_map::Kind;
 
@@ -19,7 +22,9 @@ pub enum Work {
 }
 
 /// What is asked for, the program's own name being the first word.
-pub fn work_of(words: &[String]) -> Option<Work> {
+pub fn work_of(words: &[String]) -> Option<Work>
+    ensures { IfSome result IsInRange }
+{
     match words {
         [_] => Some(Work::Small),
         [_, word] => plain_work(word.as_str()),
@@ -36,7 +41,9 @@ pub fn work_of(words: &[String]) -> Option<Work> {
     }
 }
 
-fn pick_work(kind: &str, size: &str, inputs: &str, tries: &str) -> Option<Work> {
+fn pick_work(kind: &str, size: &str, inputs: &str, tries: &str) -> Option<Work>
+    ensures { IfSome result IsInRange }
+{
     let kind = kind_of(kind)?;
     let size = number(size, 1_024)?;
     let inputs = number(inputs, u32::MAX)?;
@@ -48,7 +55,9 @@ fn pick_work(kind: &str, size: &str, inputs: &str, tries: &str) -> Option<Work> 
     })
 }
 
-fn plain_work(word: &str) -> Option<Work> {
+fn plain_work(word: &str) -> Option<Work>
+    ensures { IfSome result IsInRange }
+{
     match word {
         "small" => Some(Work::Small),
         "check" => Some(Work::Check),
@@ -66,7 +75,9 @@ fn kind_of(word: &str) -> Option<Kind> {
 }
 
 /// A number from 1 to the greatest.
-fn number(word: &str, greatest: u32) -> Option<u32> {
+fn number(word: &str, greatest: u32) -> Option<u32>
+    ensures { IfSome result (λ n. (1 ≤ n) × (n ≤ greatest)) }
+{
     let n = word.parse::<u32>().ok()?;
     if 1 <= n && n <= greatest {
         Some(n)

@@ -4,16 +4,18 @@ ghost use Rattle.std.specs.Prelude.{◌≡◌};
 ghost use Rattle.std.specs.List.{list_all};
 ghost use Rattle.crush_map.specs.Faults as spec;
 
-fn is_name_byte(byte: u8) -> bool
+/// Whether a byte may stand in a name.
+fn may_stand(byte: u8) -> bool
     ensures { result ≡ spec.is_name_byte byte }
 {
     matches!(byte, b'a'..=b'z' | b'A'..=b'Z' | b'0'..=b'9' | b'-' | b'_' | b'.')
 }
 
-fn are_name_bytes(bytes: &[u8]) -> bool
+/// Whether no byte is one that a name can't have.
+fn all_may_stand(bytes: &[u8]) -> bool
     ensures { result ≡ list_all spec.is_name_byte bytes.now }
 {
-    bytes.iter().all(|byte| is_name_byte(*byte))
+    bytes.iter().all(|&byte| may_stand(byte))
 }
 
 /// Whether a text can name something: 1 to 64 ASCII letters, digits, `-`, `_` and `.`.
@@ -21,10 +23,7 @@ pub fn is_name(name: &str) -> bool
     ensures { result ≡ spec.is_name name.now }
 {
     let bytes = name.as_bytes();
-    if bytes.len() < 1 || bytes.len() > 64 {
-        return false;
-    }
-    are_name_bytes(bytes)
+    matches!(bytes.len(), 1..=64) && all_may_stand(bytes)
 }
 
 /// Whether a text is one of the words that begin a declaration, or that behind which a class stands.

@@ -37,6 +37,7 @@ impl<T> Listed<T> {
     pub fn into_vec(self) -> Vec<T>
         ensures { result.items ≡ self }
     {
-        self.elements
+        let Listed { elements } = self;
+        elements
     }
 }

@@ -1,50 +1,54 @@
-//! A text that a contract sees as its bytes.
+//! Texts that are compared by what they say.
+//!
+//! Rattle's `String` is a place in memory to a contract; a name is its bytes, wherever they lie.
 
-ghost use Rattle.std.specs.Prelude.{◌≡◌, IfOk, string_bytes};
+ghost use Rattle.std.specs.Prelude.{string_bytes, ◌≡◌, IfOk};
 
 use std::alloc::{AllocError, Global};
 use std::marker::Model;
 
-/// A text. A contract sees its bytes, so that two texts with the same bytes are one value.
+/// A text, as a name is one. For a contract it is the list of its bytes.
 #[derive(Drop)]
 pub struct Text {
-    text: String,
+    string: String,
 }
 
 impl Model for Text {
-    ghost use Rattle.std.specs.Prelude.{List, ℕ, string_bytes};
+    ghost use Rattle.std.specs.Prelude.{ℕ, List, string_bytes};
 
     ghost Value = { List ℕ };
 
-    ghost view = { λ a. string_bytes a.text };
+    ghost view = { λ written. string_bytes written.string };
 }
 
 impl Text {
-    /// The text of a string. Takes no memory.
-    pub fn new(text: String) -> Self
-        ensures { result ≡ string_bytes text }
+    /// What a string says. The string itself is kept, so this takes no memory.
+    pub fn new(string: String) -> Self
+        ensures { result ≡ string_bytes string }
     {
-        Text { text }
+        Text { string }
     }
 
-    /// A copy of a text.
-    pub fn copy(alloc: Global, text: &str) -> Result<Self, AllocError>
-        ensures { IfOk result (λ t. t ≡ text.now) }
+    /// The same text again, in memory of its own.
+    pub fn copy(alloc: Global, original: &str) -> Result<Self, AllocError>
+        ensures { IfOk result (λ again. again ≡ original.now) }
     {
-        Ok(Text::new(String::from_str(alloc, text)?))
+        let string = String::from_str(alloc, original)?;
+        Ok(Text { string })
     }
 
-    /// The text as it is read.
+    /// Lends the text for reading.
     pub fn as_str(&self) -> &str
         ensures { result.now ≡ self.now }
     {
-        self.text.as_str()
+        self.string.as_str()
     }
 
-    /// The string itself. Takes no memory.
+    /// Hands back the string that was kept. Takes no memory.
     pub fn into_string(self) -> String
         ensures { string_bytes result ≡ self }
     {
-        self.text
+        let Text { string } = self;
+        string
     }
 }

@@ -1,6 +1,11 @@
 //! What single words say.
 
-ghost use Rattle.std.specs.Prelude.{◌≤◌, IfOk};
+ghost use Rattle.std.specs.Prelude.{◌≡◌, ◌<◌, ◌≤◌, ◌^◌, IfErr, IfOk, OkIff};
+ghost use Rattle.std.specs.Int.{w32};
+ghost use Rattle.std.specs.List.{after_first, before_first};
+ghost use Rattle.std.specs.Result.{result_ok};
+ghost use Rattle.std.specs.Str.Parse.{ParsesSigned, signed_digits_value};
+ghost use Rattle.crush_mappings.specs.Words as spec;
 
 use crate::fault::Fault;
 use crush_map::{ItemId, Kind, Weight};
@@ -15,7 +20,8 @@ pub struct Size {
 
 /// A number from 0 to the greatest that is allowed.
 pub fn at_most(greatest: u32, word: &str) -> Result<u32, Fault>
-    ensures { IfOk result (λ n. n ≤ greatest) }
+    ensures value { OkIff result (spec.IsNumber word.now × (spec.number word.now ≤ greatest)) (spec.number word.now) }
+    ensures low { IfOk result (λ n. n ≤ greatest) }
 {
     match word.parse::<u32>() {
         Ok(number) => {
@@ -30,12 +36,16 @@ pub fn at_most(greatest: u32, word: &str) -> Result<u32, Fault>
 }
 
 /// A number.
-pub fn unsigned(word: &str) -> Result<u32, Fault> {
+pub fn unsigned(word: &str) -> Result<u32, Fault>
+    ensures { OkIff result (spec.IsNumber word.now × (spec.number word.now < 2 ^ 32)) (spec.number word.now) }
+{
     at_most(u32::MAX, word)
 }
 
 /// A number with a sign.
-pub fn signed(word: &str) -> Result<i32, Fault> {
+pub fn signed(word: &str) -> Result<i32, Fault>
+    ensures { ParsesSigned w32 10 word.now result }
+{
     match word.parse::<i32>() {
         Ok(number) => Ok(number),
         Err(_) => Err(Fault::Unread),
@@ -43,7 +53,10 @@ pub fn signed(word: &str) -> Result<i32, Fault> {
 }
 
 /// The size of an answer, 1 to 32.
-pub fn size_of_answer(word: &str) -> Result<Size, Fault> {
+pub fn size_of_answer(word: &str) -> Result<Size, Fault>
+    ensures value { IfOk result (λ size. spec.IsSize word.now × (size.slots ≡ spec.number word.now)) }
+    ensures refused { IfErr result (λ fault. ¬ (spec.IsSize word.now)) }
+{
     let slots = at_most(32, word)?;
     if slots == 0 {
         return Err(Fault::Unread);
@@ -52,7 +65,11 @@ pub fn size_of_answer(word: &str) -> Result<Size, Fault> {
 }
 
 /// ITEM:WEIGHT.
-pub fn entry(word: &str) -> Result<(ItemId, Weight), Fault> {
+pub fn entry(word: &str) -> Result<(ItemId, Weight), Fault>
+    ensures item { IfOk result (λ entry. entry.0.0 ≡ signed_digits_value 10 (before_first spec.is_colon word.now)) }
+    ensures weight { IfOk result (λ entry. entry.1.0 ≡ spec.number (after_first spec.is_colon word.now)) }
+    ensures refused { IfErr result (λ fault. ¬ (spec.IsEntry word.now)) }
+{
     let Some((item, weight)) = word.split_once(':') else {
         return Err(Fault::Unread);
     };
@@ -60,7 +77,9 @@ pub fn entry(word: &str) -> Result<(ItemId, Weight), Fault> {
 }
 
 /// The algorithm of a bucket.
-pub fn kind(word: &str) -> Result<Kind, Fault> {
+pub fn kind(word: &str) -> Result<Kind, Fault>
+    ensures { result_ok result ≡ spec.kind_of word.now }
+{
     match word {
         "uniform" => Ok(Kind::Uniform),
         "list" => Ok(Kind::List),
