@@ -27,7 +27,7 @@ fn entries_of(
 fn can_be_built(entries: &[(ItemId, Weight)]) -> bool
     ensures { IsTrue result → (0 < length entries.now) × (length entries.now < 2 ^ 16) × (total_weight entries.now < 2 ^ 32) }
 {
-    !entries.is_empty() && entries.len() < 65_536 && tree::total(entries) < 4_294_967_296
+    !entries.is_empty() && entries.len() < 65_536 && sums::total(entries) < 4_294_967_296
 }
 
 fn are_even(entries: &[(ItemId, Weight)]) -> bool
