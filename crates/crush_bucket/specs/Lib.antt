@@ -2,6 +2,7 @@ pub mod Bucket
 pub mod Kept
 pub mod Kinds
 pub mod Laid
+pub mod Laws
 pub mod Permutation
 pub mod Pick
 pub mod Reached

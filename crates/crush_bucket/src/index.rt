@@ -1,6 +1,6 @@
 //! Where the bucket with an id stands.
 
-ghost use Rattle.std.specs.Prelude.{◌≡◌, ◌<◌, ℕ, negsuc, Option, None, IfOk, length, slice_index_or};
+ghost use Rattle.std.specs.Prelude.{◌≡◌, ◌<◌, ℕ, negsuc, Option, None, Some, IfOk, length, slice_index_or, slice_set};
 ghost use Rattle.crush_bucket.specs.Laid.{IsIndexOf};
 ghost use Rattle.crush_bucket.specs.Tables.{no_bucket};
 
@@ -16,10 +16,18 @@ pub(crate) fn index_of(alloc: Global, rows: &[Row]) -> Result<Vec<Option<BucketN
     for place in (0..rows.len()).rev() {
         let row = &rows[place];
         if let Some(n) = number_of(row.id()) {
-            index[n] = Some(BucketNo::new(place));
+            put(&mut index, n, place);
         }
     }
     Ok(index)
+}
+
+/// Puts a bucket's place at an n, whatever stood there.
+fn put(index: &mut Vec<Option<BucketNo>>, n: usize, place: usize)
+    requires { n < length index.old.items }
+    ensures { index.new.items ≡ slice_set index.old.items n (Some place) }
+{
+    index[n] = Some(BucketNo::new(place));
 }
 
 /// A table with no number.

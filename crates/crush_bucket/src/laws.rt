@@ -1,16 +1,16 @@
 //! Laws of the definitions: each contract holds of the definitions alone.
 
-ghost use Rattle.std.specs.Prelude.{◌≡◌, ◌<◌, ◌≤◌, ◌^◌, ℕ, Bool, Some, None, true, false};
+ghost use Rattle.std.specs.Prelude.{◌<◌, ◌≤◌, ◌^◌, ℕ, Bool, MatchOption};
 ghost use Rattle.std.specs.List.{range_with_len};
 ghost use Rattle.std.specs.List.Sorted.{IsPermutation};
 ghost use Rattle.crush_map.specs.declared.ItemId.{ItemId};
 ghost use Rattle.crush_bucket.specs.Kinds.{greatest, height_of};
+ghost use Rattle.crush_bucket.specs.Laws.{IsGreatest, NonePasses};
 ghost use Rattle.crush_bucket.specs.Permutation.{permutation};
 
-/// The greatest number below n that passes is below n and passes, and none between passes; where there is none, none below n passes.
+/// What is found is the greatest number below n that passes; where nothing is found, no number below n passes.
 pub fn greatest_passes()
-    ensures some { (p : ℕ → Bool) (n i : ℕ) → greatest p n ≡ Some i → (i < n) × (p i ≡ true) × ((j : ℕ) → i < j → j < n → p j ≡ false) }
-    ensures none { (p : ℕ → Bool) (n : ℕ) → greatest p n ≡ None → (j : ℕ) → j < n → p j ≡ false }
+    ensures { (p : ℕ → Bool) (n : ℕ) → MatchOption (greatest p n) (NonePasses p n) (IsGreatest p n) }
 {}
 
 /// The permutation of a uniform bucket's places has each place once.

@@ -12,6 +12,7 @@ mod picker;
 mod reach;
 mod row;
 mod scratch;
+mod sums;
 mod tables;
 mod tree;
 mod uniform;

@@ -1,9 +1,8 @@
 //! List buckets.
 
 ghost use Rattle.std.specs.Prelude.{◌≡◌, ◌<◌, ◌^◌, IfOk, length};
-ghost use Rattle.std.specs.Int.{cast_unsigned, w32};
 ghost use Rattle.crush_bucket.specs.Bucket.{CanBeAsked, total_weight};
-ghost use Rattle.crush_bucket.specs.Kinds.{list_place};
+ghost use Rattle.crush_bucket.specs.Kinds.{list_place, takes};
 ghost use Rattle.crush_bucket.specs.Kept.{AreSums};
 
 use crate::perm::Perm;
@@ -110,11 +109,26 @@ fn place_of(id: ItemId, entries: &[(ItemId, Weight)], sums: &[u32], x: u32, r: u
     ensures within { result < length entries.now }
 {
     for place in (0..entries.len()).rev() {
-        let (item, weight) = entries[place];
-        let draw = u64::from(hash4(x, item.word(), r, id.word()) % 65_536);
-        if draw * u64::from(sums[place]) / 65_536 < u64::from(weight.0) {
+        if takes(id, entries, sums, x, r, place) {
             return place;
         }
     }
     0
+}
+
+/// Whether a place takes the input: a draw, scaled by the sum up to the place, is below its weight.
+fn takes(
+    id: ItemId,
+    entries: &[(ItemId, Weight)],
+    sums: &[u32],
+    x: u32,
+    r: u32,
+    place: usize,
+) -> bool
+    requires within { place < length entries.now }
+    requires sums { AreSums entries.now sums.now }
+    ensures { result ≡ takes id entries.now x r place }
+{
+    let draw = u64::from(hash4(x, entries[place].0.word(), r, id.word())) % 65_536;
+    draw * u64::from(sums[place]) / 65_536 < u64::from(entries[place].1.0)
 }

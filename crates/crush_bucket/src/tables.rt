@@ -9,7 +9,7 @@ use crate::index::index_of;
 use crate::number::{BucketNo, number_of};
 use crate::row::Row;
 use crate::scratch::Scratch;
-use crush_map::{Bucket, CrushMap, Device, ItemId, Kind, Tunables};
+use crush_map::{Bucket, CrushMap, Device, ItemId, Kind, Tunables, buckets_are_sound};
 use std::alloc::{AllocError, Global};
 use std::marker::Model;
 
@@ -25,6 +25,7 @@ pub struct Tables {
 impl Model for Tables {
     ghost use Rattle.crush_bucket.specs.Tables.{TablesView};
     ghost use Rattle.crush_bucket.specs.Laid.{IsLaid, IsIndexOf};
+    ghost use Rattle.std.specs.List.Sorted.{IsStrictlyIncreasing};
 
     ghost Value = { TablesView };
 
@@ -33,6 +34,7 @@ impl Model for Tables {
     ghost invariant = { λ a. record {
       laid : IsLaid (record { buckets = a.rows.items; devices = a.devices.items; tunables = a.tunables });
       index : IsIndexOf a.rows.items a.index.items;
+      order : IsStrictlyIncreasing a.devices.items;
     } };
 }
 
@@ -41,6 +43,7 @@ impl Tables {
     pub fn build(alloc: Global, map: &CrushMap) -> Result<Self, AllocError>
         ensures { IfOk result (λ t. t ≡ tables_of map.now) }
     {
+        buckets_are_sound();
         let rows = rows_of(alloc, map.buckets())?;
         let index = index_of(alloc, &rows)?;
         let devices = ids_of(alloc, map.devices())?;
@@ -117,7 +120,7 @@ impl Tables {
     pub fn has_device(&self, id: u32) -> bool
         ensures { result ≡ has_device self.now id }
     {
-        self.devices.contains(&id)
+        self.devices.binary_search(&id).is_ok()
     }
 
     /// The item that a bucket picks for an input and an attempt, whatever the scratch was asked before. Takes no memory.

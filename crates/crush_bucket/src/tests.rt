@@ -27,7 +27,7 @@ fn entries_of(
 fn can_be_built(entries: &[(ItemId, Weight)]) -> bool
     ensures { IsTrue result → (0 < length entries.now) × (length entries.now < 2 ^ 16) × (total_weight entries.now < 2 ^ 32) }
 {
-    !entries.is_empty() && entries.len() < 65_536 && tree::total(entries) < 4_294_967_296
+    !entries.is_empty() && entries.len() < 65_536 && sums::total(entries) < 4_294_967_296
 }
 
 fn are_even(entries: &[(ItemId, Weight)]) -> bool
@@ -281,4 +281,39 @@ fn tables_of_a_map_are_asked(rt: HostRuntime) -> Result<(), AllocError> {
     let device = tables.pick(below, &mut scratch, 7, 3);
     assert!(rt; 0 <= device.0 && device.0 < 3);
     Ok(())
+}
+
+/// Whether tables of the small map, and a scratch of them, pick what the plain forms pick.
+fn tables_pick_as_their_plain_forms(alloc: Global) -> Result<bool, AllocError> {
+    let Ok(map) = CrushMap::check(alloc, small_map(alloc)?)? else {
+        return Ok(false);
+    };
+    let tables = Tables::build(alloc, &map)?;
+    let mut scratch = Scratch::build(alloc, &tables)?;
+    let (Some(root), Some(list)) = (tables.bucket_of(ItemId(-1)), tables.bucket_of(ItemId(-2)))
+    else {
+        return Ok(false);
+    };
+    if tables.is_empty(root) || tables.is_empty(list) {
+        return Ok(false);
+    }
+    let hosts = entries_of(alloc, &[-2, -3], &[ONE, ONE])?;
+    let devices = entries_of(alloc, &[0, 1], &[ONE, ONE])?;
+    let host = plain::uniform(alloc, ItemId(-1), &hosts, 7, 3)?;
+    let device = plain::list(ItemId(-2), &devices, 7, 3);
+    Ok(
+        tables.pick(root, &mut scratch, 7, 3) == host
+            && tables.pick(list, &mut scratch, 7, 3) == device,
+    )
+}
+
+/// Where memory is refused once, at whichever growth, the next try has it and answers as ever.
+#[test]
+fn what_was_refused_memory_is_built_at_the_next_try(rt: HostRuntime) {
+    let alloc = rt.alloc();
+    let agree = match tables_pick_as_their_plain_forms(alloc) {
+        Ok(agree) => Ok(agree),
+        Err(AllocError) => tables_pick_as_their_plain_forms(alloc),
+    };
+    assert!(rt; agree == Ok(true));
 }

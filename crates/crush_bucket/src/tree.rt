@@ -1,12 +1,13 @@
 //! Tree buckets.
 
 ghost use Rattle.std.specs.Prelude.{◌≡◌, ◌<◌, ◌≤◌, ◌+◌, ◌*◌, ◌^◌, ◌++◌, IfOk, length};
-ghost use Rattle.crush_bucket.specs.Bucket.{CanBeAsked, total_weight, weight_within};
+ghost use Rattle.crush_bucket.specs.Bucket.{CanBeAsked, total_weight};
 ghost use Rattle.crush_bucket.specs.Kinds.{height_of, place_within};
 ghost use Rattle.crush_bucket.specs.Kept.{AreNodes, HasNodes, node_weights};
 
 use crate::perm::Perm;
 use crate::picker::Picker;
+use crate::sums::weight_within;
 use crush_hash::hash4;
 use crush_map::{ItemId, Kind, Weight};
 use std::alloc::{AllocError, Global};
@@ -118,24 +119,6 @@ fn places(height: u32) -> usize
     ensures { result ≡ 2 ^ height }
 {
     1 << height
-}
-
-/// The sum of the weights.
-pub(crate) fn total(entries: &[(ItemId, Weight)]) -> u64
-    requires { length entries.now < 2 ^ 16 }
-    ensures { result ≡ total_weight entries.now }
-{
-    entries.iter().map(|entry| u64::from(entry.1.0)).sum()
-}
-
-/// The sum of the weights at so many places from a place on.
-fn weight_within(entries: &[(ItemId, Weight)], from: usize, count: usize) -> u32
-    requires few { length entries.now < 2 ^ 16 }
-    requires light { total_weight entries.now < 2 ^ 32 }
-    ensures { result ≡ weight_within entries.now from count }
-{
-    let rest = &entries[from.min(entries.len())..];
-    total(&rest[..count.min(rest.len())]) as u32
 }
 
 /// The weights of all nodes, at their labels; no node has the label 0.

@@ -1,5 +1,5 @@
 -- rjenkins1, the hash of CRUSH, over words: numbers below 2^32 (Ceph's `src/crush/hash.c`), and the hash of a name (`src/common/ceph_hash.cc`).
-use Rattle.std.specs.Prelude.{ℕ, zero, suc, ◌+◌, ◌-◌, ◌*◌, ◌/◌, ◌%◌, ◌^◌, bit_xor, List, length, slice_index}
+use Rattle.std.specs.Prelude.{ℕ, zero, suc, ◌+◌, ◌-◌, ◌*◌, ◌/◌, ◌%◌, ◌^◌, bit_xor, List, [], ◌∷◌, fold, length, slice_index, slice_set}
 
 -- ---- mixing
 
@@ -37,96 +37,96 @@ mix (a, b, c) =
     let c = down 15 c a b in
     (a, b, c)
 
--- ---- the hashes of one to five words: each mixes the words into h, beside two fixed words x and y
+-- ---- the hashes of one to five words
 
--- what h is xored from, beside the words (`crush_hash_seed`)
+-- what the hash is before a word comes to it (`crush_hash_seed`)
 abbrev pub seed : ℕ
 seed = 1315423911
 
-abbrev pub x_word : ℕ
-x_word = 231232
+-- the places of the words at hand: two fixed ones, and behind them those that are hashed
+abbrev pub X : ℕ
+X = 0
 
-abbrev pub y_word : ℕ
-y_word = 1232
+abbrev pub Y : ℕ
+Y = 1
 
--- (b, x, h) (y, a, h), where b is a at first
+abbrev pub A : ℕ
+A = 2
+
+abbrev pub B : ℕ
+B = 3
+
+abbrev pub C : ℕ
+C = 4
+
+abbrev pub D : ℕ
+D = 5
+
+abbrev pub E : ℕ
+E = 6
+
+-- the words at hand and the hash, after the words at two places were mixed with it
+abbrev pub stirred : List ℕ × ℕ → ℕ × ℕ → List ℕ × ℕ
+stirred (words, hash) (i, j) =
+    let mixed = mix (slice_index words i, slice_index words j, hash) in
+    (slice_set (slice_set words i mixed.0) j mixed.1, mixed.2)
+
+-- what a hash becomes, stirred at these pairs of places in turn
+abbrev pub hash_from : ℕ → List (ℕ × ℕ) → List ℕ → ℕ
+hash_from hash pairs words = (fold stirred (231232 ∷ 1232 ∷ words, hash) pairs).1
+
+-- the same from the seed, xor each word
+abbrev pub hash_by : List (ℕ × ℕ) → List ℕ → ℕ
+hash_by pairs words = hash_from (fold bit_xor seed words) pairs words
+
+-- `crush_hash32_rjenkins1`; its word stands at two places
 unfoldable pub hash1 : ℕ → ℕ
-hash1 a =
-    let h = bit_xor seed a in
-    let (b, x, h) = mix (a, x_word, h) in
-    let (y, a, h) = mix (y_word, a, h) in
-    h
+hash1 a = hash_from (bit_xor seed a) ((B, X) ∷ (Y, A) ∷ []) (a ∷ a ∷ [])
 
--- (a, b, h) (x, a, h) (b, y, h)
+-- `crush_hash32_rjenkins1_2`
 unfoldable pub hash2 : ℕ → ℕ → ℕ
-hash2 a b =
-    let h = bit_xor (bit_xor seed a) b in
-    let (a, b, h) = mix (a, b, h) in
-    let (x, a, h) = mix (x_word, a, h) in
-    let (b, y, h) = mix (b, y_word, h) in
-    h
+hash2 a b = hash_by ((A, B) ∷ (X, A) ∷ (B, Y) ∷ []) (a ∷ b ∷ [])
 
--- (a, b, h) (c, x, h) (y, a, h) (b, x, h) (y, c, h)
+-- `crush_hash32_rjenkins1_3`
 unfoldable pub hash3 : ℕ → ℕ → ℕ → ℕ
-hash3 a b c =
-    let h = bit_xor (bit_xor (bit_xor seed a) b) c in
-    let (a, b, h) = mix (a, b, h) in
-    let (c, x, h) = mix (c, x_word, h) in
-    let (y, a, h) = mix (y_word, a, h) in
-    let (b, x, h) = mix (b, x, h) in
-    let (y, c, h) = mix (y, c, h) in
-    h
+hash3 a b c = hash_by ((A, B) ∷ (C, X) ∷ (Y, A) ∷ (B, X) ∷ (Y, C) ∷ []) (a ∷ b ∷ c ∷ [])
 
--- (a, b, h) (c, d, h) (a, x, h) (y, b, h) (c, x, h) (y, d, h)
+-- `crush_hash32_rjenkins1_4`
 unfoldable pub hash4 : ℕ → ℕ → ℕ → ℕ → ℕ
-hash4 a b c d =
-    let h = bit_xor (bit_xor (bit_xor (bit_xor seed a) b) c) d in
-    let (a, b, h) = mix (a, b, h) in
-    let (c, d, h) = mix (c, d, h) in
-    let (a, x, h) = mix (a, x_word, h) in
-    let (y, b, h) = mix (y_word, b, h) in
-    let (c, x, h) = mix (c, x, h) in
-    let (y, d, h) = mix (y, d, h) in
-    h
+hash4 a b c d = hash_by ((A, B) ∷ (C, D) ∷ (A, X) ∷ (Y, B) ∷ (C, X) ∷ (Y, D) ∷ []) (a ∷ b ∷ c ∷ d ∷ [])
 
--- (a, b, h) (c, d, h) (e, x, h) (y, a, h) (b, x, h) (y, c, h) (d, x, h) (y, e, h)
+-- `crush_hash32_rjenkins1_5`
 unfoldable pub hash5 : ℕ → ℕ → ℕ → ℕ → ℕ → ℕ
-hash5 a b c d e =
-    let h = bit_xor (bit_xor (bit_xor (bit_xor (bit_xor seed a) b) c) d) e in
-    let (a, b, h) = mix (a, b, h) in
-    let (c, d, h) = mix (c, d, h) in
-    let (e, x, h) = mix (e, x_word, h) in
-    let (y, a, h) = mix (y_word, a, h) in
-    let (b, x, h) = mix (b, x, h) in
-    let (y, c, h) = mix (y, c, h) in
-    let (d, x, h) = mix (d, x, h) in
-    let (y, e, h) = mix (y, e, h) in
-    h
+hash5 a b c d e = hash_by ((A, B) ∷ (C, D) ∷ (E, X) ∷ (Y, A) ∷ (B, X) ∷ (Y, C) ∷ (D, X) ∷ (Y, E) ∷ []) (a ∷ b ∷ c ∷ d ∷ e ∷ [])
 
 -- ---- the hash of a name
 
--- the word of the four bytes from a place on, the lowest first; past the end there is a 0
+-- the four bytes from a place on as a word, the lowest first; past the end each is 0
 unfoldable pub word_at : List ℕ → ℕ → ℕ
-word_at bytes i =
-    plus (plus (plus (slice_index bytes i) (slice_index bytes (i + 1) * 2 ^ 8)) (slice_index bytes (i + 2) * 2 ^ 16)) (slice_index bytes (i + 3) * 2 ^ 24)
+word_at name place =
+    let byte = λ (k : ℕ). slice_index name (place + k) in
+    (byte 0 + 2 ^ 8 * byte 1 + 2 ^ 16 * byte 2 + 2 ^ 24 * byte 3) % 2 ^ 32
 
--- the words after the group of 12 bytes from a place on
-unfoldable pub absorbed : List ℕ → ℕ → Words → Words
-absorbed bytes i (a, b, c) =
-    mix (plus a (word_at bytes i), plus b (word_at bytes (i + 4)), plus c (word_at bytes (i + 8)))
+-- words, to each of which a word is added, mixed
+unfoldable pub absorb : Words → Words → Words
+absorb (a, b, c) (p, q, r) = mix (plus a p, plus b q, plus c r)
 
--- the words after so many groups of 12 bytes
+-- the three words of the 12 bytes from a place on
+abbrev pub group : List ℕ → ℕ → Words
+group name place = (word_at name place, word_at name (place + 4), word_at name (place + 8))
+
+-- those of what is behind the last 12 bytes, at most 11: in the last word the lowest byte is kept free for the length, which is added
+unfoldable pub last_group : List ℕ → ℕ → Words
+last_group name place =
+    (word_at name place, word_at name (place + 4), plus (length name) (2 ^ 8 * word_at name (place + 8)))
+
+-- the words after so many groups of 12 bytes; at first two are of the golden ratio
 abbrev pub after_groups : List ℕ → ℕ → Words
-after_groups bytes zero = (2654435769, 2654435769, 0)
-after_groups bytes (suc n) = absorbed bytes (12 * n) (after_groups bytes n)
-
--- the words after the closing group, which has at most 11 bytes: c gains the length in its lowest byte and the last three bytes above it
-unfoldable pub closed : List ℕ → ℕ → Words → Words
-closed bytes i (a, b, c) =
-    mix (plus a (word_at bytes i), plus b (word_at bytes (i + 4)), plus (plus c (length bytes)) ((word_at bytes (i + 8) * 2 ^ 8) % 2 ^ 32))
+after_groups name zero = (2654435769, 2654435769, 0)
+after_groups name (suc n) = absorb (after_groups name n) (group name (12 * n))
 
 -- `ceph_str_hash_rjenkins`
 abbrev pub name_hash : List ℕ → ℕ
-name_hash bytes =
-    let groups = length bytes / 12 in
-    (closed bytes (12 * groups) (after_groups bytes groups)).2
+name_hash name =
+    let groups = length name / 12 in
+    (absorb (after_groups name groups) (last_group name (12 * groups))).2

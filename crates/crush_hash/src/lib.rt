@@ -4,10 +4,12 @@
 #![tactic(auto)]
 
 ghost use Rattle.std.specs.Prelude.{◌≡◌, ◌<◌, ◌+◌, ◌^◌, length, slice_index};
-ghost use Rattle.crush_hash.specs.Hash as spec;
+ghost use Rattle.crush_hash.specs.Hash.{down, up, mix, hash1, hash2, hash3, hash4, hash5, word_at, absorb, group, last_group, name_hash};
 
+/// What a hash is before a word comes to it.
 const SEED: u32 = 1_315_423_911;
 
+/// The two fixed words, which are mixed beside those that are hashed.
 const X: u32 = 231_232;
 
 const Y: u32 = 1_232;
@@ -22,7 +24,7 @@ type Words = (u32, u32, u32);
 #[tactic(auto, unfolding(crate::specs::Hash::down))]
 fn down(bits: u32, x: u32, y: u32, z: u32) -> u32
     requires { bits < 32 }
-    ensures { result ≡ spec.down bits x y z }
+    ensures { result ≡ down bits x y z }
 {
     x.wrapping_sub(y).wrapping_sub(z) ^ (z >> bits)
 }
@@ -31,16 +33,16 @@ fn down(bits: u32, x: u32, y: u32, z: u32) -> u32
 #[tactic(auto, unfolding(crate::specs::Hash::up))]
 fn up(bits: u32, x: u32, y: u32, z: u32) -> u32
     requires { bits < 32 }
-    ensures { result ≡ spec.up bits x y z }
+    ensures { result ≡ up bits x y z }
 {
     x.wrapping_sub(y).wrapping_sub(z) ^ (z << bits)
 }
 
+/// The nine lines of `crush_hashmix`.
 #[tactic(auto, unfolding(crate::specs::Hash::mix))]
-fn mix(words: Words) -> Words
-    ensures { result ≡ spec.mix words }
+fn mix(a: u32, b: u32, c: u32) -> Words
+    ensures { result ≡ mix (a, b, c) }
 {
-    let (a, b, c) = words;
     let a = down(13, a, b, c);
     let b = up(8, b, c, a);
     let c = down(13, c, a, b);
@@ -53,138 +55,146 @@ fn mix(words: Words) -> Words
     (a, b, c)
 }
 
+/// Mixes two words with the hash; answers what the two become.
+fn stir(hash: &mut u32, p: u32, q: u32) -> (u32, u32)
+    ensures { mix (p, q, hash.old) ≡ (result.0, result.1, hash.new) }
+{
+    let (p, q, mixed) = mix(p, q, *hash);
+    *hash = mixed;
+    (p, q)
+}
+
 /// The hash of one word (`crush_hash32`).
 #[tactic(auto, unfolding(crate::specs::Hash::hash1))]
 pub fn hash1(a: u32) -> u32
-    ensures { result ≡ spec.hash1 a }
+    ensures { result ≡ hash1 a }
 {
-    let h = SEED ^ a;
-    let (_b, _x, h) = mix((a, X, h));
-    let (_y, _a, h) = mix((Y, a, h));
-    h
+    let mut hash = SEED ^ a;
+    stir(&mut hash, a, X);
+    stir(&mut hash, Y, a);
+    hash
 }
 
 /// The hash of two words (`crush_hash32_2`).
 #[tactic(auto, unfolding(crate::specs::Hash::hash2))]
 pub fn hash2(a: u32, b: u32) -> u32
-    ensures { result ≡ spec.hash2 a b }
+    ensures { result ≡ hash2 a b }
 {
-    let h = SEED ^ a ^ b;
-    let (a, b, h) = mix((a, b, h));
-    let (_x, _a, h) = mix((X, a, h));
-    let (_b, _y, h) = mix((b, Y, h));
-    h
+    let mut hash = SEED ^ a ^ b;
+    let (a, b) = stir(&mut hash, a, b);
+    stir(&mut hash, X, a);
+    stir(&mut hash, b, Y);
+    hash
 }
 
 /// The hash of three words (`crush_hash32_3`).
 #[tactic(auto, unfolding(crate::specs::Hash::hash3))]
 pub fn hash3(a: u32, b: u32, c: u32) -> u32
-    ensures { result ≡ spec.hash3 a b c }
+    ensures { result ≡ hash3 a b c }
 {
-    let h = SEED ^ a ^ b ^ c;
-    let (a, b, h) = mix((a, b, h));
-    let (c, x, h) = mix((c, X, h));
-    let (y, _a, h) = mix((Y, a, h));
-    let (_b, _x, h) = mix((b, x, h));
-    let (_y, _c, h) = mix((y, c, h));
-    h
+    let mut hash = SEED ^ a ^ b ^ c;
+    let (a, b) = stir(&mut hash, a, b);
+    let (c, x) = stir(&mut hash, c, X);
+    let (y, _) = stir(&mut hash, Y, a);
+    stir(&mut hash, b, x);
+    stir(&mut hash, y, c);
+    hash
 }
 
 /// The hash of four words (`crush_hash32_4`).
 #[tactic(auto, unfolding(crate::specs::Hash::hash4))]
 pub fn hash4(a: u32, b: u32, c: u32, d: u32) -> u32
-    ensures { result ≡ spec.hash4 a b c d }
+    ensures { result ≡ hash4 a b c d }
 {
-    let h = SEED ^ a ^ b ^ c ^ d;
-    let (a, b, h) = mix((a, b, h));
-    let (c, d, h) = mix((c, d, h));
-    let (_a, x, h) = mix((a, X, h));
-    let (y, _b, h) = mix((Y, b, h));
-    let (_c, _x, h) = mix((c, x, h));
-    let (_y, _d, h) = mix((y, d, h));
-    h
+    let mut hash = SEED ^ a ^ b ^ c ^ d;
+    let (a, b) = stir(&mut hash, a, b);
+    let (c, d) = stir(&mut hash, c, d);
+    let (_, x) = stir(&mut hash, a, X);
+    let (y, _) = stir(&mut hash, Y, b);
+    stir(&mut hash, c, x);
+    stir(&mut hash, y, d);
+    hash
 }
 
 /// The hash of five words (`crush_hash32_5`).
 #[tactic(auto, unfolding(crate::specs::Hash::hash5))]
 pub fn hash5(a: u32, b: u32, c: u32, d: u32, e: u32) -> u32
-    ensures { result ≡ spec.hash5 a b c d e }
+    ensures { result ≡ hash5 a b c d e }
 {
-    let h = SEED ^ a ^ b ^ c ^ d ^ e;
-    let (a, b, h) = mix((a, b, h));
-    let (c, d, h) = mix((c, d, h));
-    let (e, x, h) = mix((e, X, h));
-    let (y, _a, h) = mix((Y, a, h));
-    let (_b, x, h) = mix((b, x, h));
-    let (y, _c, h) = mix((y, c, h));
-    let (_d, _x, h) = mix((d, x, h));
-    let (_y, _e, h) = mix((y, e, h));
-    h
+    let mut hash = SEED ^ a ^ b ^ c ^ d ^ e;
+    let (a, b) = stir(&mut hash, a, b);
+    let (c, d) = stir(&mut hash, c, d);
+    let (e, x) = stir(&mut hash, e, X);
+    let (y, _) = stir(&mut hash, Y, a);
+    let (_, x) = stir(&mut hash, b, x);
+    let (y, _) = stir(&mut hash, y, c);
+    stir(&mut hash, d, x);
+    stir(&mut hash, y, e);
+    hash
 }
 
 /// The byte at a place, or 0 past the end.
-fn byte_at(bytes: &[u8], place: usize) -> u32
-    ensures value { result ≡ slice_index bytes.now place }
+fn byte_at(name: &[u8], place: usize) -> u32
+    ensures value { result ≡ slice_index name.now place }
     ensures small { result < 256 }
 {
-    match bytes.get(place) {
-        Some(byte) => u32::from(*byte),
-        None => 0,
-    }
+    u32::from(name.get(place).copied().unwrap_or(0))
 }
 
+/// The four bytes from a place on as a word, the lowest first.
 #[tactic(auto, unfolding(crate::specs::Hash::word_at))]
-fn word_at(bytes: &[u8], place: usize) -> u32
+fn word_at(name: &[u8], place: usize) -> u32
     requires { place + 4 < 2 ^ 63 }
-    ensures { result ≡ spec.word_at bytes.now place }
+    ensures { result ≡ word_at name.now place }
 {
-    byte_at(bytes, place)
-        .wrapping_add(byte_at(bytes, place + 1) << 8)
-        .wrapping_add(byte_at(bytes, place + 2) << 16)
-        .wrapping_add(byte_at(bytes, place + 3) << 24)
+    let low = byte_at(name, place) + 256 * byte_at(name, place + 1);
+    let high = byte_at(name, place + 2) + 256 * byte_at(name, place + 3);
+    low + 65_536 * high
 }
 
-/// The words after the group of 12 bytes at a place.
-#[tactic(auto, unfolding(crate::specs::Hash::absorbed))]
-fn absorbed(bytes: &[u8], place: usize, words: Words) -> Words
+/// Words, to each of which a word is added, mixed.
+#[tactic(auto, unfolding(crate::specs::Hash::absorb))]
+fn absorb(words: Words, group: Words) -> Words
+    ensures { result ≡ absorb words group }
+{
+    let ((a, b, c), (p, q, r)) = (words, group);
+    mix(a.wrapping_add(p), b.wrapping_add(q), c.wrapping_add(r))
+}
+
+/// The three words of the 12 bytes from a place on.
+fn group(name: &[u8], place: usize) -> Words
     requires { place + 16 < 2 ^ 63 }
-    ensures { result ≡ spec.absorbed bytes.now place words }
+    ensures { result ≡ group name.now place }
 {
-    let (a, b, c) = words;
-    mix((
-        a.wrapping_add(word_at(bytes, place)),
-        b.wrapping_add(word_at(bytes, place + 4)),
-        c.wrapping_add(word_at(bytes, place + 8)),
-    ))
+    (
+        word_at(name, place),
+        word_at(name, place + 4),
+        word_at(name, place + 8),
+    )
 }
 
-/// The words after the closing group, which begins at a place.
-#[tactic(auto, unfolding(crate::specs::Hash::closed))]
-fn closed(bytes: &[u8], place: usize, words: Words) -> Words
+/// The three words of the last bytes, at most 11, and of the name's length.
+#[tactic(auto, unfolding(crate::specs::Hash::last_group))]
+fn last_group(name: &[u8], place: usize) -> Words
     requires near { place + 16 < 2 ^ 63 }
-    requires short { length bytes.now < 2 ^ 32 }
-    ensures { result ≡ spec.closed bytes.now place words }
+    requires short { length name.now < 2 ^ 32 }
+    ensures { result ≡ last_group name.now place }
 {
-    let (a, b, c) = words;
-    mix((
-        a.wrapping_add(word_at(bytes, place)),
-        b.wrapping_add(word_at(bytes, place + 4)),
-        c.wrapping_add(bytes.len() as u32)
-            .wrapping_add(word_at(bytes, place + 8) << 8),
-    ))
+    let (a, b, c) = group(name, place);
+    (a, b, (name.len() as u32).wrapping_add(c << 8))
 }
 
 /// The hash of a name (`ceph_str_hash_rjenkins`).
-pub fn name_hash(bytes: &[u8]) -> u32
-    requires { length bytes.now < 2 ^ 32 }
-    ensures { result ≡ spec.name_hash bytes.now }
+pub fn name_hash(name: &[u8]) -> u32
+    requires { length name.now < 2 ^ 32 }
+    ensures { result ≡ name_hash name.now }
 {
-    let groups = bytes.len() / 12;
+    let groups = name.len() / 12;
     let mut words = (GOLDEN, GOLDEN, 0);
     for n in 0..groups {
-        words = absorbed(bytes, 12 * n, words);
+        words = absorb(words, group(name, 12 * n));
     }
-    closed(bytes, 12 * groups, words).2
+    absorb(words, last_group(name, 12 * groups)).2
 }
 
 #[cfg(test)]

@@ -2,7 +2,7 @@ use Rattle.std.proofs.Common.{◌≡◌, arith}
 use Rattle.std.proofs.lemmas.List.{take_rest}
 use Rattle.crush_bucket.proofs.Weights.{within_total, within_cut}
 use Rattle.crush_bucket.specs.Bucket.{weight_within}
-use Rattle.crush_bucket.proofs.tree.weight_within.Goals as goal
+use Rattle.crush_bucket.proofs.sums.weight_within.Goals as goal
 
 pub overflow_cast-result : goal.overflow_cast-result
 overflow_cast-result c =
