@@ -40,9 +40,11 @@ pub record IsSettled (tries : Tries) (n rounds : ℕ) (a : Marks) : Type 0 where
 
 -- ---- the order of tries
 
+-- a try of a later round doesn't come before
 later_round : (g q f pos : ℕ) → f < g → comes_before g q f pos ≡ false
 later_round g q f pos lt = grind (arith, nat_tests)
 
+-- nor does one of the same round at a position that isn't smaller
 not_before : (g q f pos : ℕ) → f ≤ g → pos ≤ q → comes_before g q f pos ≡ false
 not_before g q f pos le to = grind (arith, nat_tests)
 
@@ -52,6 +54,7 @@ hidden g q f pos None numbered e = refl
 hidden g q f pos (Some Skipped) numbered e = refl
 hidden g q f pos (Some (Placed s)) numbered e = rw (numbered s refl, e) refl
 
+-- what isn't seen changes nothing where it is put behind a mark
 unseen : (f pos q : ℕ) (m now : Option Mark) → earlier f pos q now ≡ None → earlier f pos q (or_else m now) ≡ earlier f pos q m
 unseen f pos q None now e = e
 unseen f pos q (Some m) now e = refl
@@ -93,9 +96,11 @@ module _ (tries : Tries) (n : ℕ) where
     waiting = λ q low less. is.waiting q low less ∙ least_same _ _ f (λ g lt. same g q (omega arith) (λ e. absurd (omega arith)));
   }
 
+  -- the end of a round is the start of the next
   next_round : (a : Marks) (f : ℕ) (now : Marks) → Follow a f n now → Follow a (suc f) 0 now
   next_round a f now is = record { long = is.long; played = λ q lt. absurd (omega arith); waiting = λ q low lt. is.played q lt }
 
+  -- before the first turn nothing is tried
   at_first : (a : Marks) → Follow a 0 0 (after_rounds tries n 0)
   at_first a = record { long = length-replicate n None; played = λ q lt. absurd (omega arith); waiting = λ q low lt. get_or-replicate n q None None lt }
 
@@ -144,11 +149,13 @@ module _ (tries : Tries) (is : IsOrderly tries) where
 
 -- ---- all turns
 
+-- a position that is decided has what further rounds would give it
 decided_stays : (said : ℕ → Option Mark) (n m : ℕ) (now : Option Mark) → n ≤ m → now ≡ least said n → (now ≡ None → ⊥) → now ≡ least said m
 decided_stays said n m None le e some = absurd (some refl)
 decided_stays said n m (Some mark) le e some = sym (least_stays said n m mark le (sym e))
 
 module _ (tries : Tries) (is : IsOrderly tries) (n : ℕ) where
+  -- the one step: a turn follows beside the list that it makes, and beside each settled list
   one_turn : (rounds f pos : ℕ) (now : Marks) → f < rounds → pos < n → Stand tries n rounds f pos now → Stand tries n rounds f (suc pos) (after_turn tries f pos now)
   one_turn rounds f pos now round lt stand =
       let fits : pos < length now = rw stand.own.long lt in

@@ -41,7 +41,7 @@ has slots item = list_any (slot_has item) slots
 
 -- ---- the leaf of an item
 
--- the device that a walk found, if it is in and no leaf so far
+-- the device that a walk found, if it is in and isn't a leaf yet
 abbrev pub new_leaf : List ℕ → FirstnCall → List Slot → Reached → Option ItemId
 new_leaf w c leaves (Found item r) = then_some (is_device_in w c.x item && not (has leaves item)) item
 new_leaf w c leaves Empty = None
@@ -51,17 +51,17 @@ new_leaf w c leaves Wrong = None
 unfoldable pub leaf_by : TablesView → List ℕ → FirstnCall → List Slot → ℕ → ℕ → Option ItemId
 leaf_by t w c leaves bucket r = new_leaf w c leaves (reach t c.x (λ b. r) 0 bucket)
 
--- from where attempts for a leaf are counted: from 0 where the call is stable, else from the number of items so far
+-- base: from where attempts for a leaf are counted, 0 where the call is stable, else the number of items so far
 abbrev pub leaf_base : FirstnCall → ℕ → ℕ
 leaf_base c count = if c.stable == 1 then 0 else count
 
--- how far the attempt r that found a bucket moves the attempts for its leaf: by r, by its half, by its quarter and so on, or not at all
-abbrev pub leaf_shift : FirstnCall → ℕ → ℕ
-leaf_shift c r = if c.vary_r == 0 then 0 else r / 2 ^ (c.vary_r - 1)
+-- sub: how far the attempt r that found a bucket moves those for its leaf, by r, its half, its quarter and so on, or not at all
+abbrev pub leaf_sub : FirstnCall → ℕ → ℕ
+leaf_sub c r = if c.vary_r == 0 then 0 else r / 2 ^ (c.vary_r - 1)
 
 -- the least attempt for a leaf below a bucket
 abbrev pub leaf_start : FirstnCall → ℕ → ℕ → ℕ
-leaf_start c count r = leaf_base c count + leaf_shift c r
+leaf_start c count r = leaf_base c count + leaf_sub c r
 
 -- the leaf of the least attempt that finds one
 unfoldable pub leaf_below : TablesView → List ℕ → FirstnCall → List Slot → ℕ → ℕ → Option ItemId
