@@ -12,7 +12,7 @@ use Rattle.crush_choose.specs.Growing.{grown}
 use Rattle.crush_choose.specs.Marks.{Slot, items_of, leaves_of}
 use Rattle.crush_choose.specs.Firstn.{judged, attempt, decided, mark_of, firstn}
 use Rattle.crush_choose.specs.Laws.{HasNoDeviceBucket}
-use Rattle.crush_choose.proofs.Trying.{least-same}
+use Rattle.crush_choose.proofs.Least.{least_same}
 
 -- a walk ended at a device, if it found an item
 abbrev FindsDevice : TablesView → Reached → Type 0
@@ -59,7 +59,7 @@ decided-leafless : (t : TablesView) (w : List ℕ) (c : FirstnCall) (items leave
     → decided t w c items leaves rep ≡ decided t w (leafless_call c) items leaves rep
 unfolding decided attempt
 decided-leafless t w c items leaves rep typed e =
-    least-same _ _ c.tries (λ f lt.
+    least_same _ _ c.tries (λ f lt.
     judged-leafless t w c items leaves f (reach t c.x (λ b. rep + f) c.wanted c.bucket) (rw e (reach_finds t c.x (λ b. rep + f) c.bucket typed)))
 
 grown-leafless : (t : TablesView) (w : List ℕ) (c : FirstnCall) → HasNoDeviceBucket t → c.wanted ≡ 0 → (n : ℕ) → grown (mark_of t w c) n ≡ grown (mark_of t w (leafless_call c)) n

@@ -1,4 +1,4 @@
-pub mod Trying
+pub mod Least
 pub mod Growing
 pub mod Placing
 pub mod Reaching

@@ -1,5 +1,5 @@
--- The items and leaves of marks.
-use Rattle.std.proofs.Common.{◌≡◌, ℕ, ◌+◌, List, [], ◌∷◌, ◌++◌, map, Option, Some, None, refl, ap, ◌∙◌, add-one}
+-- What is placed for reps, closed up, rep by rep.
+use Rattle.std.proofs.Common.{◌≡◌, ℕ, ◌+◌, List, [], ◌∷◌, ◌++◌, map, Option, Some, None, refl, ap, sym, ◌∙◌, add-one}
 use Rattle.std.proofs.lemmas.List.{map-append}
 use Rattle.crush_bucket.specs.Tables.{TablesView}
 use Rattle.crush_choose.specs.declared.firstn.FirstnCall.{FirstnCall}
@@ -10,37 +10,27 @@ use Rattle.crush_choose.specs.Marks.{Marks, Slot, spots, items_of, leaves_of}
 use Rattle.crush_choose.specs.Firstn.{mark_of, mark_beside}
 use Rattle.crush_choose.specs.Growing.{grown}
 
-spots-append : (a b : Marks) → spots (a ++ b) ≡ spots a ++ spots b
-spots-append [] b = refl
-spots-append (None ∷ a) b = spots-append a b
-spots-append (Some Skipped ∷ a) b = spots-append a b
-spots-append (Some (Placed s) ∷ a) b = ap (λ (x : List Spot). s ∷ x) (spots-append a b)
+spots_append : (before after : Marks) → spots (before ++ after) ≡ spots before ++ spots after
+spots_append [] after = refl
+spots_append (Some (Placed spot) ∷ before) after = ap (λ (placed : List Spot). spot ∷ placed) (spots_append before after)
+spots_append (Some Skipped ∷ before) after = spots_append before after
+spots_append (None ∷ before) after = spots_append before after
 
-abbrev item_slot : Spot → Slot
-item_slot s = Some s.item
+-- a slot for each spot: its item, or its leaf
+abbrev pub slots : (Spot → Slot) → Marks → List Slot
+slots slot marks = map slot (spots marks)
 
-abbrev leaf_slot : Spot → Slot
-leaf_slot s = Some s.leaf
+slots_append : (slot : Spot → Slot) (before after : Marks) → slots slot (before ++ after) ≡ slots slot before ++ slots slot after
+slots_append slot before after = rw (spots_append before after) (map-append slot (spots before) (spots after))
 
-items-append : (a b : Marks) → items_of (a ++ b) ≡ items_of a ++ items_of b
-items-append a b = ap (λ (x : List Spot). map item_slot x) (spots-append a b) ∙ map-append item_slot (spots a) (spots b)
+-- the slots of the marks so far and of one more are those of the list that grew by it
+pub slots_more : (slot : Spot → Slot) (next : Marks → ℕ → Option Mark) (n : ℕ) (old new : List Slot) (mark : Option Mark)
+    → old ≡ slots slot (grown next n) → mark ≡ next (grown next n) n → new ≡ old ++ slots slot (mark ∷ []) → new ≡ slots slot (grown next (n + 1))
+slots_more slot next n old new mark so_far is put =
+    rw add-one (put ∙ rw (so_far, is) (sym (slots_append slot (grown next n) (next (grown next n) n ∷ []))))
 
-leaves-append : (a b : Marks) → leaves_of (a ++ b) ≡ leaves_of a ++ leaves_of b
-leaves-append a b = ap (λ (x : List Spot). map leaf_slot x) (spots-append a b) ∙ map-append leaf_slot (spots a) (spots b)
-
--- one rep more
-pub items-more : (t : TablesView) (w : List ℕ) (c : FirstnCall) (rep : ℕ) (items leaves new : List Slot) (mark : Option Mark)
-    → items ≡ items_of (grown (mark_of t w c) rep) → leaves ≡ leaves_of (grown (mark_of t w c) rep)
-    → mark ≡ mark_beside t w c items leaves rep → new ≡ items ++ items_of (mark ∷ [])
-    → new ≡ items_of (grown (mark_of t w c) (rep + 1))
-items-more t w c rep items leaves new mark i l m n =
-    let made : mark ≡ mark_of t w c (grown (mark_of t w c) rep) rep = m ∙ rw (i, l) refl in
-    rw add-one (rw (items-append (grown (mark_of t w c) rep) _) (rw (n, i, made) refl))
-
-pub leaves-more : (t : TablesView) (w : List ℕ) (c : FirstnCall) (rep : ℕ) (items leaves new : List Slot) (mark : Option Mark)
-    → items ≡ items_of (grown (mark_of t w c) rep) → leaves ≡ leaves_of (grown (mark_of t w c) rep)
-    → mark ≡ mark_beside t w c items leaves rep → new ≡ leaves ++ leaves_of (mark ∷ [])
-    → new ≡ leaves_of (grown (mark_of t w c) (rep + 1))
-leaves-more t w c rep items leaves new mark i l m n =
-    let made : mark ≡ mark_of t w c (grown (mark_of t w c) rep) rep = m ∙ rw (i, l) refl in
-    rw add-one (rw (leaves-append (grown (mark_of t w c) rep) _) (rw (n, l, made) refl))
+-- a mark beside the items and leaves so far is that of the rep
+pub mark_is : (t : TablesView) (w : List ℕ) (c : FirstnCall) (rep : ℕ) (items leaves : List Slot) (mark : Option Mark)
+    → items ≡ items_of (grown (mark_of t w c) rep) → leaves ≡ leaves_of (grown (mark_of t w c) rep) → mark ≡ mark_beside t w c items leaves rep
+    → mark ≡ mark_of t w c (grown (mark_of t w c) rep) rep
+mark_is t w c rep items leaves mark items_so_far leaves_so_far is = is ∙ rw (items_so_far, leaves_so_far) refl

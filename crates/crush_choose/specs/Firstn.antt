@@ -3,6 +3,7 @@
 -- There it is made by nested loops that retry; here it is a condition on a finished list: of the tries of each rep, the
 -- least that is acceptable or ends at a wrong device decides.
 use Rattle.std.specs.Prelude.{◌≡◌, ℕ, ◌+◌, ◌-◌, ◌/◌, ◌^◌, ◌<◌, ◌≤◌, ◌&&◌, List, length, take, Bool, false, not, nat_lt, ◌==◌, if◌then◌else◌, Option, Some, None, option_map, slice_index_or}
+use Rattle.std.specs.Bool.{then_some}
 use Rattle.std.specs.List.{list_any}
 use Rattle.std.specs.Ordering.{int_eq}
 use Rattle.crush_map.specs.declared.word.ItemId.{ItemId}
@@ -11,12 +12,12 @@ use Rattle.crush_choose.specs.declared.walk.Reached.{Reached}
 use Rattle.crush_choose.specs.declared.walk.Reached.TheVariants.{Empty, Wrong, Found}
 use Rattle.crush_choose.specs.declared.firstn.FirstnCall.{FirstnCall}
 use Rattle.crush_choose.specs.declared.mark.Mark.{Mark}
-use Rattle.crush_choose.specs.declared.mark.Mark.TheVariants.{Skipped, Placed}
+use Rattle.crush_choose.specs.declared.mark.Mark.TheVariants.{Skipped}
 use Rattle.crush_choose.specs.Weights.{is_device_in}
 use Rattle.crush_choose.specs.Reach.{reach}
 use Rattle.crush_choose.specs.Least.{least}
 use Rattle.crush_choose.specs.Growing.{grown}
-use Rattle.crush_choose.specs.Marks.{Marks, Slot, items_of, leaves_of}
+use Rattle.crush_choose.specs.Marks.{Marks, Slot, placed_by, items_of, leaves_of}
 
 -- what a call may ask for
 pub record IsFirstnCall (t : TablesView) (c : FirstnCall) : Type 0 where
@@ -38,47 +39,55 @@ slot_has item (Some other) = int_eq other.0 item.0
 abbrev pub has : List Slot → ItemId → Bool
 has slots item = list_any (slot_has item) slots
 
--- ---- the leaf of an item that is a bucket
+-- ---- the leaf of an item
 
--- a device that is in and isn't among the leaves
+-- the device that a walk found, if it is in and isn't a leaf yet
 abbrev pub new_leaf : List ℕ → FirstnCall → List Slot → Reached → Option ItemId
+new_leaf w c leaves (Found item r) = then_some (is_device_in w c.x item && not (has leaves item)) item
 new_leaf w c leaves Empty = None
 new_leaf w c leaves Wrong = None
-new_leaf w c leaves (Found item r) = if is_device_in w c.x item && not (has leaves item) then Some item else None
 
 -- the leaf that an attempt r finds below a bucket
 unfoldable pub leaf_by : TablesView → List ℕ → FirstnCall → List Slot → ℕ → ℕ → Option ItemId
 leaf_by t w c leaves bucket r = new_leaf w c leaves (reach t c.x (λ b. r) 0 bucket)
 
--- the least attempt for a leaf: the number of items so far where the call isn't stable, and a part of the attempt that found the bucket
+-- base: from where attempts for a leaf are counted, 0 where the call is stable, else the number of items so far
+abbrev pub leaf_base : FirstnCall → ℕ → ℕ
+leaf_base c count = if c.stable == 1 then 0 else count
+
+-- sub: how far the attempt r that found a bucket moves those for its leaf, by r, its half, its quarter and so on, or not at all
+abbrev pub leaf_sub : FirstnCall → ℕ → ℕ
+leaf_sub c r = if c.vary_r == 0 then 0 else r / 2 ^ (c.vary_r - 1)
+
+-- the least attempt for a leaf below a bucket
 abbrev pub leaf_start : FirstnCall → ℕ → ℕ → ℕ
-leaf_start c count r = (if c.stable == 1 then 0 else count) + (if c.vary_r == 0 then 0 else r / 2 ^ (c.vary_r - 1))
+leaf_start c count r = leaf_base c count + leaf_sub c r
 
 -- the leaf of the least attempt that finds one
 unfoldable pub leaf_below : TablesView → List ℕ → FirstnCall → List Slot → ℕ → ℕ → Option ItemId
 leaf_below t w c leaves bucket start = least (λ g. leaf_by t w c leaves bucket (start + g)) c.leaf_tries
 
+-- the leaf of an item that was found, a device or a bucket: itself, if it is a device that is in or no leaf is wanted, else one below it
+abbrev pub leaf_of : TablesView → List ℕ → FirstnCall → List Slot → ℕ → ItemId → ℕ → Option ℕ → Option ItemId
+leaf_of t w c leaves count item r None = then_some (is_device_in w c.x item) item
+leaf_of t w c leaves count item r (Some bucket) =
+    if c.leaf_tries == 0 then Some item else leaf_below t w c leaves bucket (leaf_start c count r)
+
 -- ---- a try
 
--- try f that found an item, which is a device or a bucket: the item is placed, or the try fails
-abbrev pub placed : TablesView → List ℕ → FirstnCall → List Slot → List Slot → ℕ → ItemId → ℕ → Option ℕ → Option Mark
-placed t w c items leaves f item r None =
-    if is_device_in w c.x item then Some (Placed (record { round = f; item = item; leaf = item })) else None
-placed t w c items leaves f item r (Some bucket) =
-    if c.leaf_tries == 0 then Some (Placed (record { round = f; item = item; leaf = item }))
-    else option_map (λ leaf. Placed (record { round = f; item = item; leaf = leaf })) (leaf_below t w c leaves bucket (leaf_start c (length items) r))
-
--- what try f comes to, by where its walk ended
+-- what try f comes to, by where its walk ended: an item that isn't among those so far is placed where it has a leaf
 abbrev pub judged : TablesView → List ℕ → FirstnCall → List Slot → List Slot → ℕ → Reached → Option Mark
+judged t w c items leaves f (Found item r) =
+    if has items item then None
+    else option_map (placed_by f item) (leaf_of t w c leaves (length items) item r (bucket_numbered t item))
 judged t w c items leaves f Empty = None
 judged t w c items leaves f Wrong = Some Skipped
-judged t w c items leaves f (Found item r) = if has items item then None else placed t w c items leaves f item r (bucket_numbered t item)
 
--- try f of a rep, beside the items and leaves of smaller reps: nothing where it fails
+-- try f of a rep, beside what smaller reps chose: none where it fails
 unfoldable pub attempt : TablesView → List ℕ → FirstnCall → List Slot → List Slot → ℕ → ℕ → Option Mark
 attempt t w c items leaves rep f = judged t w c items leaves f (reach t c.x (λ b. rep + f) c.wanted c.bucket)
 
--- what the least try that doesn't fail comes to
+-- what decides a rep: its least try that doesn't fail
 unfoldable pub decided : TablesView → List ℕ → FirstnCall → List Slot → List Slot → ℕ → Option Mark
 decided t w c items leaves rep = least (attempt t w c items leaves rep) c.tries
 

@@ -3,6 +3,7 @@
 -- There rounds go over the positions that are left, and the leaf is sought by a call of itself; here it is a condition on
 -- a finished list: of the tries of each position, the least that is acceptable or ends at a wrong device decides.
 use Rattle.std.specs.Prelude.{◌≡◌, ℕ, zero, suc, ◌+◌, ◌<◌, ◌≤◌, ◌&&◌, ◌||◌, List, length, Bool, false, nat_lt, ◌==◌, if◌then◌else◌, Option, Some, None, option_map, slice_index_or, slice_set, replicate}
+use Rattle.std.specs.Bool.{then_some}
 use Rattle.std.specs.Ordering.{int_eq}
 use Rattle.crush_map.specs.declared.word.ItemId.{ItemId}
 use Rattle.crush_bucket.specs.Tables.{TablesView, bucket_numbered}
@@ -15,7 +16,7 @@ use Rattle.crush_choose.specs.declared.mark.Mark.TheVariants.{Skipped, Placed}
 use Rattle.crush_choose.specs.Weights.{is_device_in}
 use Rattle.crush_choose.specs.Reach.{reach, step}
 use Rattle.crush_choose.specs.Least.{least, or_else}
-use Rattle.crush_choose.specs.Marks.{Marks}
+use Rattle.crush_choose.specs.Marks.{Marks, placed_by}
 
 -- what a call may ask for: a leaf is wanted below a bucket alone
 pub record IsIndepCall (t : TablesView) (c : IndepCall) : Type 0 where
@@ -54,13 +55,13 @@ some_below p (suc n) = some_below p n || p n
 unfoldable pub taken : Marks → ℕ → ℕ → ItemId → Bool
 taken marks f pos item = some_below (λ q. is_of item (earlier f pos q (slice_index_or marks q None))) (length marks)
 
--- ---- the leaf of an item that is a bucket
+-- ---- the leaf of an item
 
--- a device that is in; leaves of different positions aren't compared
+-- the device that a walk found, if it is in; leaves of different positions aren't compared
 abbrev pub leaf_in : List ℕ → ℕ → Reached → Option ItemId
+leaf_in w x (Found item r) = then_some (is_device_in w x item) item
 leaf_in w x Empty = None
 leaf_in w x Wrong = None
-leaf_in w x (Found item r) = if is_device_in w x item then Some item else None
 
 -- the leaf that round g finds below a bucket
 unfoldable pub indep_leaf_by : TablesView → List ℕ → IndepCall → ℕ → ℕ → ℕ → Option ItemId
@@ -70,23 +71,23 @@ indep_leaf_by t w c bucket start g = leaf_in w c.x (reach t c.x (λ k. start + s
 unfoldable pub indep_leaf : TablesView → List ℕ → IndepCall → ℕ → ℕ → Option ItemId
 indep_leaf t w c bucket start = least (indep_leaf_by t w c bucket start) c.leaf_tries
 
+-- the leaf of an item that was found, a device or a bucket: itself, if it is a device that is in or no leaf is wanted, else one below it
+abbrev pub indep_leaf_of : TablesView → List ℕ → IndepCall → ℕ → ItemId → ℕ → Option ℕ → Option ItemId
+indep_leaf_of t w c pos item r None = then_some (is_device_in w c.x item) item
+indep_leaf_of t w c pos item r (Some bucket) =
+    if c.leaf_tries == 0 then Some item else indep_leaf t w c bucket (pos + r)
+
 -- ---- a try
 
--- try f that found an item, which is a device or a bucket: the item is placed, or the try fails
-abbrev pub settled : TablesView → List ℕ → IndepCall → ℕ → ℕ → ItemId → ℕ → Option ℕ → Option Mark
-settled t w c pos f item r None =
-    if is_device_in w c.x item then Some (Placed (record { round = f; item = item; leaf = item })) else None
-settled t w c pos f item r (Some bucket) =
-    if c.leaf_tries == 0 then Some (Placed (record { round = f; item = item; leaf = item }))
-    else option_map (λ leaf. Placed (record { round = f; item = item; leaf = leaf })) (indep_leaf t w c bucket (pos + r))
-
--- what try f comes to, by where its walk ended
+-- what try f comes to, by where its walk ended: an item that isn't taken is placed where it has a leaf
 abbrev pub weighed : TablesView → List ℕ → IndepCall → Marks → ℕ → ℕ → Reached → Option Mark
+weighed t w c marks pos f (Found item r) =
+    if taken marks f pos item then None
+    else option_map (placed_by f item) (indep_leaf_of t w c pos item r (bucket_numbered t item))
 weighed t w c marks pos f Empty = None
 weighed t w c marks pos f Wrong = Some Skipped
-weighed t w c marks pos f (Found item r) = if taken marks f pos item then None else settled t w c pos f item r (bucket_numbered t item)
 
--- try f of a position, beside the marks of a finished list: nothing where it fails
+-- try f of a position, beside the marks of a finished list: none where it fails
 unfoldable pub indep_try : TablesView → List ℕ → IndepCall → Marks → ℕ → ℕ → Option Mark
 indep_try t w c marks pos f = weighed t w c marks pos f (reach t c.x (λ k. pos + step t c.numrep f k) c.wanted c.bucket)
 
@@ -97,17 +98,19 @@ pub record IsIndepAnswer (t : TablesView) (w : List ℕ) (c : IndepCall) (marks 
   pub one_each : length marks ≡ c.n
   pub each : (pos : ℕ) → pos < c.n → slice_index_or marks pos None ≡ least (indep_try t w c marks pos) c.tries
 
--- the marks after the first positions of a round
+-- the marks after the turn of a position in round f: a try beside them, where nothing is decided yet
+abbrev pub after_turn : (Marks → ℕ → ℕ → Option Mark) → ℕ → ℕ → Marks → Marks
+after_turn tries f pos marks = slice_set marks pos (or_else (slice_index_or marks pos None) (tries marks pos f))
+
+-- the marks after the turns of the first positions in round f
 abbrev pub in_round : (Marks → ℕ → ℕ → Option Mark) → ℕ → ℕ → Marks → Marks
-in_round try f zero marks = marks
-in_round try f (suc pos) marks =
-    let now = in_round try f pos marks in
-    slice_set now pos (or_else (slice_index_or now pos None) (try now pos f))
+in_round tries f zero marks = marks
+in_round tries f (suc pos) marks = after_turn tries f pos (in_round tries f pos marks)
 
 -- the marks of n positions after so many rounds
 abbrev pub after_rounds : (Marks → ℕ → ℕ → Option Mark) → ℕ → ℕ → Marks
-after_rounds try n zero = replicate n None
-after_rounds try n (suc f) = in_round try f n (after_rounds try n f)
+after_rounds tries n zero = replicate n None
+after_rounds tries n (suc rounds) = in_round tries rounds n (after_rounds tries n rounds)
 
 -- the one answer
 unfoldable pub indep : TablesView → List ℕ → IndepCall → Marks

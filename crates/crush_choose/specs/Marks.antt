@@ -2,7 +2,7 @@
 --
 -- An answer is a list of marks, one for each rep or position: it joins the entries (rep, try, item, leaf), which are the
 -- places where something is placed, with the reps that were given up.
-use Rattle.std.specs.Prelude.{List, [], ◌∷◌, map, Option, Some, None}
+use Rattle.std.specs.Prelude.{ℕ, List, [], ◌∷◌, map, Option, Some, None}
 use Rattle.crush_map.specs.declared.word.ItemId.{ItemId}
 use Rattle.crush_choose.specs.declared.mark.Spot.{Spot}
 use Rattle.crush_choose.specs.declared.mark.Mark.{Mark}
@@ -14,6 +14,10 @@ Marks = List (Option Mark)
 -- an item, or none
 abbrev pub Slot : Type 0
 Slot = Option ItemId
+
+-- the mark of a try that places an item and its leaf
+abbrev pub placed_by : ℕ → ItemId → ItemId → Mark
+placed_by round item leaf = Placed (record { round = round; item = item; leaf = leaf })
 
 -- what is placed, in order
 abbrev pub spots : Marks → List Spot

@@ -1,7 +1,7 @@
 //! Choosing without gaps: choose firstn.
 
 ghost use Rattle.std.specs.Prelude.{◌≡◌, ◌<◌, ◌≤◌, ◌+◌, ◌++◌, ◌∷◌, [], ◌^◌, length};
-ghost use Rattle.crush_bucket.specs.Tables.{perms_of};
+ghost use Rattle.crush_bucket.specs.Tables.{perms_of, bucket_numbered};
 ghost use Rattle.crush_choose.specs.Firstn as spec;
 ghost use Rattle.crush_choose.specs.Firstn.{IsFirstnCall};
 ghost use Rattle.crush_choose.specs.Marks.{items_of, leaves_of};
@@ -69,15 +69,10 @@ fn leaf_by(
     ensures fits { scratch.new ≡ perms_of tables.now }
 {
     match reach_by(tables, scratch, call.x, r, 0, bucket) {
-        Reached::Found(item, _) => {
-            if is_device_in(weights, call.x, item) && !has(leaves, item) {
-                Some(item)
-            } else {
-                None
-            }
+        Reached::Found(item, _) if is_device_in(weights, call.x, item) && !has(leaves, item) => {
+            Some(item)
         }
-        Reached::Empty => None,
-        Reached::Wrong => None,
+        _ => None,
     }
 }
 
@@ -125,6 +120,34 @@ fn leaf_below(
     None
 }
 
+/// The leaf of an item that the attempt r found, where so many items were chosen before.
+fn leaf_of(
+    tables: &Tables,
+    scratch: &mut Scratch,
+    weights: &Weights,
+    call: &FirstnCall,
+    leaves: &[Slot],
+    count: u32,
+    item: ItemId,
+    r: u32,
+) -> Option<ItemId>
+    requires call { IsFirstnCall tables.now call.now }
+    requires fits { scratch.old ≡ perms_of tables.now }
+    requires few { count ≤ 32 }
+    requires low { r < 2 ^ 16 }
+    ensures value { result ≡ spec.leaf_of tables.now weights.now call.now leaves.now count item r (bucket_numbered tables.now item) }
+    ensures fits { scratch.new ≡ perms_of tables.now }
+{
+    match tables.bucket_of(item) {
+        None => is_device_in(weights, call.x, item).then_some(item),
+        Some(_) if call.leaf_tries == 0 => Some(item),
+        Some(bucket) => {
+            let start = leaf_start(call, count, r);
+            leaf_below(tables, scratch, weights, call, leaves, bucket, start)
+        }
+    }
+}
+
 /// One try of a rep, beside the items and leaves of smaller reps.
 #[tactic(auto, unfolding(crate::specs::Firstn::attempt))]
 fn attempt(
@@ -145,48 +168,25 @@ fn attempt(
     ensures value { result ≡ spec.attempt tables.now weights.now call.now items.now leaves.now rep round }
     ensures fits { scratch.new ≡ perms_of tables.now }
 {
-    let (item, r) = match reach_by(
+    let end = reach_by(
         tables,
         scratch,
         call.x,
         rep + round,
         call.wanted,
         call.bucket,
-    ) {
+    );
+    let (item, r) = match end {
+        Reached::Found(item, r) => (item, r),
         Reached::Empty => return None,
         Reached::Wrong => return Some(Mark::Skipped),
-        Reached::Found(item, r) => (item, r),
     };
     if has(items, item) {
         return None;
     }
-    match tables.bucket_of(item) {
-        None => {
-            if is_device_in(weights, call.x, item) {
-                Some(Mark::Placed(Spot {
-                    round,
-                    item,
-                    leaf: item,
-                }))
-            } else {
-                None
-            }
-        }
-        Some(bucket) => {
-            if call.leaf_tries == 0 {
-                return Some(Mark::Placed(Spot {
-                    round,
-                    item,
-                    leaf: item,
-                }));
-            }
-            let start = leaf_start(call, items.len() as u32, r);
-            match leaf_below(tables, scratch, weights, call, leaves, bucket, start) {
-                Some(leaf) => Some(Mark::Placed(Spot { round, item, leaf })),
-                None => None,
-            }
-        }
-    }
+    let count = items.len() as u32;
+    let leaf = leaf_of(tables, scratch, weights, call, leaves, count, item, r)?;
+    Some(Mark::Placed(Spot { round, item, leaf }))
 }
 
 /// What decides a rep: its least try that doesn't fail.

@@ -1,9 +1,8 @@
 //! Choosing at positions: choose indep.
 
-ghost use Rattle.std.specs.Prelude.{◌≡◌, ◌<◌, ◌≤◌, ◌+◌, ◌++◌, ◌^◌, length, map, None, is_some, slice_set, slice_index_or, replicate};
+ghost use Rattle.std.specs.Prelude.{◌≡◌, ◌<◌, ◌≤◌, ◌+◌, ◌++◌, ◌^◌, length, map, None, is_some, replicate};
 ghost use Rattle.std.specs.List.{list_all};
-ghost use Rattle.crush_bucket.specs.Tables.{perms_of};
-ghost use Rattle.crush_choose.specs.Least.{or_else};
+ghost use Rattle.crush_bucket.specs.Tables.{perms_of, bucket_numbered};
 ghost use Rattle.crush_choose.specs.Marks.{item_at, leaf_at};
 ghost use Rattle.crush_choose.specs.Indep as spec;
 ghost use Rattle.crush_choose.specs.Indep.{IsIndepCall};
@@ -46,8 +45,7 @@ fn is_taken_at(mark: Option<Mark>, q: u32, round: u32, pos: u32, item: ItemId) -
                 false
             }
         }
-        Some(Mark::Skipped) => false,
-        None => false,
+        _ => false,
     }
 }
 
@@ -90,13 +88,7 @@ fn leaf_by(
         round,
     };
     match reach(tables, scratch, call.x, turn, 0, bucket) {
-        Reached::Found(item, _) => {
-            if is_device_in(weights, call.x, item) {
-                Some(item)
-            } else {
-                None
-            }
-        }
+        Reached::Found(item, _) => is_device_in(weights, call.x, item).then_some(item),
         Reached::Empty => None,
         Reached::Wrong => None,
     }
@@ -128,6 +120,30 @@ fn leaf_below(
     None
 }
 
+/// The leaf of an item that the attempt r found for a position.
+fn leaf_of(
+    tables: &Tables,
+    scratch: &mut Scratch,
+    weights: &Weights,
+    call: &IndepCall,
+    pos: u32,
+    item: ItemId,
+    r: u32,
+) -> Option<ItemId>
+    requires call { IsIndepCall tables.now call.now }
+    requires fits { scratch.old ≡ perms_of tables.now }
+    requires pos { pos < 32 }
+    requires low { r < 2 ^ 16 }
+    ensures value { result ≡ spec.indep_leaf_of tables.now weights.now call.now pos item r (bucket_numbered tables.now item) }
+    ensures fits { scratch.new ≡ perms_of tables.now }
+{
+    match tables.bucket_of(item) {
+        None => is_device_in(weights, call.x, item).then_some(item),
+        Some(_) if call.leaf_tries == 0 => Some(item),
+        Some(bucket) => leaf_below(tables, scratch, weights, call, bucket, pos + r),
+    }
+}
+
 /// One try of a position, beside all marks.
 #[tactic(auto, unfolding(crate::specs::Indep::indep_try))]
 fn attempt(
@@ -153,39 +169,15 @@ fn attempt(
         round,
     };
     let (item, r) = match reach(tables, scratch, call.x, turn, call.wanted, call.bucket) {
+        Reached::Found(item, r) => (item, r),
         Reached::Empty => return None,
         Reached::Wrong => return Some(Mark::Skipped),
-        Reached::Found(item, r) => (item, r),
     };
     if taken(marks, round, pos, item) {
         return None;
     }
-    match tables.bucket_of(item) {
-        None => {
-            if is_device_in(weights, call.x, item) {
-                Some(Mark::Placed(Spot {
-                    round,
-                    item,
-                    leaf: item,
-                }))
-            } else {
-                None
-            }
-        }
-        Some(bucket) => {
-            if call.leaf_tries == 0 {
-                return Some(Mark::Placed(Spot {
-                    round,
-                    item,
-                    leaf: item,
-                }));
-            }
-            match leaf_below(tables, scratch, weights, call, bucket, pos + r) {
-                Some(leaf) => Some(Mark::Placed(Spot { round, item, leaf })),
-                None => None,
-            }
-        }
-    }
+    let leaf = leaf_of(tables, scratch, weights, call, pos, item, r)?;
+    Some(Mark::Placed(Spot { round, item, leaf }))
 }
 
 /// The turn of a position in a round: a try where nothing is decided yet.
@@ -203,7 +195,7 @@ fn take_turn(
     requires few { length marks.old ≤ 32 }
     requires pos { pos < length marks.old }
     requires soon { round ≤ 1000 }
-    ensures value { marks.new ≡ slice_set marks.old pos (or_else (slice_index_or marks.old pos None) (spec.indep_try tables.now weights.now call.now marks.old pos round)) }
+    ensures value { marks.new ≡ spec.after_turn (spec.indep_try tables.now weights.now call.now) round pos marks.old }
     ensures fits { scratch.new ≡ perms_of tables.now }
 {
     if marks[pos as usize].is_none() {

@@ -3,12 +3,12 @@
 ghost use Rattle.std.specs.Prelude.{◌≡◌, ◌+◌, ◌*◌, ◌<◌, ◌≤◌, ◌^◌, length};
 ghost use Rattle.crush_bucket.specs.Tables.{perms_of};
 ghost use Rattle.crush_choose.specs.Reach.{reach, step};
-ghost use Rattle.crush_choose.specs.Walks.{IsUpTo};
+ghost use Rattle.crush_choose.specs.Walks.{IsTurn, IsUpTo};
 
 use crush_bucket::{BucketNo, Scratch, Tables};
 use crush_map::{ItemId, Kind};
 
-/// The attempt at each bucket of a walk: a start, and a step for each round.
+/// What sets the attempts of a walk: from a start on, each bucket moves them in each round by a step of its own.
 #[derive(Clone, Copy)]
 pub(crate) struct Turn {
     pub start: u32,
@@ -30,19 +30,17 @@ pub enum Reached {
 /// The attempt at a bucket.
 fn attempt_at(tables: &Tables, turn: Turn, bucket: BucketNo) -> u32
     requires bucket { bucket < length tables.now.buckets }
-    requires start { turn.start < 2 ^ 31 }
-    requires some { 0 < turn.numrep }
-    requires few { turn.numrep ≤ 64 }
-    requires soon { turn.round ≤ 1000 }
+    requires turn { IsTurn turn }
     ensures value { result ≡ turn.start + step tables.now turn.numrep turn.round bucket }
     ensures low { result ≤ turn.start + 65 * turn.round }
 {
     let uniform = matches!(tables.kind(bucket), Kind::Uniform);
-    if uniform && tables.size(bucket) % turn.numrep as usize == 0 {
-        turn.start + (turn.numrep + 1) * turn.round
+    let extra = if uniform && tables.size(bucket) % turn.numrep as usize == 0 {
+        1
     } else {
-        turn.start + turn.numrep * turn.round
-    }
+        0
+    };
+    turn.start + (turn.numrep + extra) * turn.round
 }
 
 /// Picks from a bucket on down until an item has the wanted type.
@@ -56,10 +54,7 @@ pub(crate) fn reach(
 ) -> Reached
     requires from { from < length tables.now.buckets }
     requires fits { scratch.old ≡ perms_of tables.now }
-    requires start { turn.start < 2 ^ 31 }
-    requires some { 0 < turn.numrep }
-    requires few { turn.numrep ≤ 64 }
-    requires soon { turn.round ≤ 1000 }
+    requires turn { IsTurn turn }
     ensures value { result ≡ reach tables.now x (λ b. turn.start + step tables.now turn.numrep turn.round b) wanted from }
     ensures up_to { IsUpTo (turn.start + 65 * turn.round) result }
     ensures fits { scratch.new ≡ perms_of tables.now }
