@@ -1,13 +1,13 @@
 //! Texts that are compared by what they say.
 //!
-//! Rattle's `String` is a place in memory to a contract; a name is its bytes, wherever they lie.
+//! To a contract a `String` has a place in memory; a text is its bytes, wherever they lie.
 
 ghost use Rattle.std.specs.Prelude.{string_bytes, ◌≡◌, IfOk};
 
 use std::alloc::{AllocError, Global};
 use std::marker::Model;
 
-/// A text, as a name is one. For a contract it is the list of its bytes.
+/// A text, such as a name. A contract sees the list of its bytes.
 #[derive(Drop)]
 pub struct Text {
     string: String,
