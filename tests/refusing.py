@@ -1,0 +1,28 @@
+"""The library that refuses a program one of its growths of memory (refuse.c)."""
+import functools
+import os
+import pathlib
+import shutil
+import subprocess
+
+HERE = pathlib.Path(__file__).resolve().parent
+
+
+class Unfit(Exception):
+    """Why there is no whole sweep to check."""
+
+
+@functools.lru_cache(maxsize=None)
+def refuser():
+    """The folder to run in, and the path from there of refuse.c compiled (LD_PRELOAD splits at blanks and colons)."""
+    compiler = next(filter(None, map(shutil.which, ("cc", "gcc", "clang"))), None)
+    if compiler is None:
+        raise Unfit("there is no C compiler for tests/refuse.c: install the package gcc, as by 'apt-get install gcc libc6-dev'")
+    top = HERE.parent
+    (top / "build").mkdir(exist_ok=True)
+    library, made = "build/refuse.so", f"build/refuse.{os.getpid()}.so"
+    compiled = subprocess.run([compiler, "-O1", "-fPIC", "-shared", "-o", made, str(HERE / "refuse.c")], cwd=top, stderr=subprocess.PIPE)
+    if compiled.returncode != 0:
+        raise Unfit(f"{compiler} doesn't compile tests/refuse.c (are the packages gcc and libc6-dev installed?): {compiled.stderr.decode(errors='replace').strip()[:200]}")
+    os.replace(top / made, top / library)
+    return top, library
