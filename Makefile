@@ -8,7 +8,7 @@ build: crushcalc
 	@echo 'The program is ./crushcalc.'
 
 help:
-	@echo 'make build     proves all crates and builds ./crushcalc, optimised (the first time: some minutes)'
+	@echo 'make build     proves the crates of the program and builds it as ./crushcalc, optimised (the first time: some minutes)'
 	@echo 'make run       builds, and serves examples/first.script: each request with its reply'
 	@echo 'make test      the whole gate: every proof from nothing, wrong edits, tests, and the program from end to end'
 	@echo 'make install   builds, and installs PREFIX/bin/crushcalc (PREFIX=/usr/local)'
@@ -18,7 +18,7 @@ help:
 	@echo 'make serve     the server (not built yet)'
 	@echo 'make clean     removes what was built, the finished proofs too'
 
-# rt is itself a python3 program; only make test needs a C compiler, for tests/refuse.c
+# rt is itself a python3 program; make test needs a C compiler for tests/refuse.c, and the comparisons with Ceph need gcc
 tools:
 	@command -v python3 >/dev/null 2>&1 || { \
 	  echo 'python3 is missing: rt and the tests need it.'; \

@@ -42,7 +42,7 @@ least_from p k (suc n) = if p k then k else least_from p (k + 1) n
 abbrev pub height_of : ℕ → ℕ
 height_of size = least_from (λ k. nat_le size (2 ^ k)) 0 size
 
--- the label of the range of 2^h places from a place on
+-- the label of the range of 2^h places from a place on, which is the node's index in `node_weights`
 abbrev pub label : ℕ → ℕ → ℕ
 label from h = 2 * from + 2 ^ h
 

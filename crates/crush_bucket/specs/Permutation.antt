@@ -10,7 +10,7 @@ pub record PermView : Type 0 where
   pub id : ItemId
   pub size : ℕ
 
--- the place with which a place changes contents: one from it on
+-- the place with which place p changes contents: p + (hash3(x, id, p) mod (size - p))
 abbrev pub partner : ItemId → ℕ → ℕ → ℕ → ℕ
 partner id size x place = place + hash3 x (word id) place % (size - place)
 

@@ -19,7 +19,7 @@ use Rattle.crush_choose.specs.Least.{least}
 use Rattle.crush_choose.specs.Growing.{grown}
 use Rattle.crush_choose.specs.Marks.{Marks, Slot, placed_by, items_of, leaves_of}
 
--- what a call may ask for
+-- what a call may ask for; room is `out_size`, and no leaf tries say that no leaf is wanted (`recurse_to_leaf` 0)
 pub record IsFirstnCall (t : TablesView) (c : FirstnCall) : Type 0 where
   pub bucket : c.bucket < length t.buckets
   pub some_reps : 1 ≤ c.numrep
@@ -51,11 +51,11 @@ new_leaf w c leaves Wrong = None
 unfoldable pub leaf_by : TablesView → List ℕ → FirstnCall → List Slot → ℕ → ℕ → Option ItemId
 leaf_by t w c leaves bucket r = new_leaf w c leaves (reach t c.x (λ b. r) 0 bucket)
 
--- base: from where attempts for a leaf are counted, 0 where the call is stable, else the number of items so far
+-- base: the rep of the inner call for a leaf, 0 where the call is stable, else the number of items so far (`outpos`)
 abbrev pub leaf_base : FirstnCall → ℕ → ℕ
 leaf_base c count = if c.stable == 1 then 0 else count
 
--- sub: how far the attempt r that found a bucket moves those for its leaf, by r, its half, its quarter and so on, or not at all
+-- sub: what the attempt r that found a bucket adds to those for its leaf (`sub_r`): r, its half, its quarter and so on, or nothing
 abbrev pub leaf_sub : FirstnCall → ℕ → ℕ
 leaf_sub c r = if c.vary_r == 0 then 0 else r / 2 ^ (c.vary_r - 1)
 

@@ -18,7 +18,7 @@ use Rattle.crush_choose.specs.Reach.{reach, step}
 use Rattle.crush_choose.specs.Least.{least, or_else}
 use Rattle.crush_choose.specs.Marks.{Marks, placed_by}
 
--- what a call may ask for: a leaf is wanted below a bucket alone
+-- what a call may ask for: a leaf is wanted below a bucket alone, and where there are leaf tries (else `recurse_to_leaf` is 0)
 pub record IsIndepCall (t : TablesView) (c : IndepCall) : Type 0 where
   pub bucket : c.bucket < length t.buckets
   pub positions : c.n ≤ 32

@@ -13,7 +13,7 @@ abbrev pub at_item : TablesView → ℕ → (ℕ → Reached) → ItemId → ℕ
 at_item t wanted down item r None = if 0 == wanted then Found item r else Wrong
 at_item t wanted down item r (Some bucket) = if type_at t bucket == wanted then Found item r else down bucket
 
--- the walk over the buckets of a number below n alone; rr is the attempt at each bucket
+-- the walk of at most n picks, which is Empty where it would need more; rr is the attempt at each bucket
 abbrev pub reach_below : TablesView → ℕ → (ℕ → ℕ) → ℕ → ℕ → ℕ → Reached
 reach_below t x rr wanted zero bucket = Empty
 reach_below t x rr wanted (suc n) bucket =
@@ -21,11 +21,11 @@ reach_below t x rr wanted (suc n) bucket =
     else (let item = pick_at t bucket x (rr bucket) in
     at_item t wanted (reach_below t x rr wanted n) item (rr bucket) (bucket_numbered t item))
 
--- the walk from a bucket on: the buckets that it comes to have ever smaller numbers
+-- the walk from a bucket on: the buckets that it comes to have ever smaller numbers, so its number and one more picks are enough
 unfoldable pub reach : TablesView → ℕ → (ℕ → ℕ) → ℕ → ℕ → Reached
 reach t x rr wanted bucket = reach_below t x rr wanted (suc bucket) bucket
 
--- how far the attempt at a bucket moves by round f of choose indep: a uniform bucket whose size is a multiple of numrep moves by one more a round
+-- what round f of choose indep adds to the attempt at a bucket: (numrep + 1) * f at a uniform one whose size is a multiple of numrep
 abbrev pub step : TablesView → ℕ → ℕ → ℕ → ℕ
 step t numrep f bucket =
     if is_uniform (kind_at t bucket) && (size_at t bucket % numrep == 0) then (numrep + 1) * f else numrep * f

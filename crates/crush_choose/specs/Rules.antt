@@ -62,7 +62,8 @@ step_out t w p room (slot ∷ slots) =
 
 -- ---- what is set
 
--- the numbers that hold where no step sets others, of the map's tunables; no number of leaf tries is set
+-- the numbers that hold where no step sets others, of the map's tunables; total_tries counts tries again, so there is one more; no number of
+-- leaf tries is set
 abbrev pub settings_of : Tunables → Settings
 settings_of t = record { tries = t.total_tries + 1; leaf_tries = 0; vary_r = t.vary_r; stable = t.stable }
 
@@ -72,7 +73,7 @@ leaf_tries t s by_firstn =
     if nat_lt 0 s.leaf_tries then s.leaf_tries
     else (if by_firstn then (if t.descend_once == 1 then 1 else s.tries) else 1)
 
--- how many are chosen for a number n of a choose step: n more than size where n isn't above 0; none where that is below 0
+-- how many are chosen for a number n of a choose step: n itself above 0, else size + n, or 0 where that is below 0
 abbrev pub reps : ℤ → ℕ → ℕ
 reps (pos zero) size = size
 reps (pos (suc n)) size = suc n

@@ -26,7 +26,7 @@ pub fn walk_goes_on()
     ensures { (t : TablesView) (x : ℕ) (rr : ℕ → ℕ) (wanted bucket : ℕ) → PicksBelow t → bucket < length t.buckets → reach t x rr wanted bucket ≡ reach_after_pick t x rr wanted bucket }
 {}
 
-/// Marks say the same as entries whose reps rise.
+/// What marks place are entries whose reps rise.
 pub fn marks_are_entries()
     ensures { (marks : Marks) → AreEntries marks (entries marks) }
 {}

@@ -8,7 +8,7 @@ pub struct Spot {
     /// The try that chose it.
     pub round: u32,
     pub item: ItemId,
-    /// A device: the item itself where it is one or where no leaf is wanted, else one below it.
+    /// The item itself where it is a device or no leaf is wanted, else a device below it.
     pub leaf: ItemId,
 }
 

@@ -29,7 +29,7 @@ impl Model for Weights {
 impl Weights {
     /// The reweights of a map's devices, of pairs of device and reweight.
     ///
-    /// Of several pairs for one device the first counts, and a device without a pair has 65536.
+    /// Of several pairs for one device the first counts, and a device without a pair has 65536. A pair for an id above the map's greatest is dropped.
     pub fn build(alloc: Global, map: &CrushMap, given: &[(u32, u32)]) -> Result<Weights, AllocError>
         ensures { IfOk result (λ w. w ≡ weights_of map.now given.now) }
     {

@@ -43,7 +43,7 @@ mix (a, b, c) =
 abbrev pub seed : ℕ
 seed = 1315423911
 
--- the places of the words at hand: two fixed ones, and behind them those that are hashed
+-- places in the list 231232, 1232 and the words: x, y and a, b, .. of `hash.c`
 abbrev pub X : ℕ
 X = 0
 
@@ -65,7 +65,7 @@ D = 5
 abbrev pub E : ℕ
 E = 6
 
--- the words at hand and the hash, after the words at two places were mixed with it
+-- the words and the hash after one `crush_hashmix` of the words at two places
 abbrev pub stirred : List ℕ × ℕ → ℕ × ℕ → List ℕ × ℕ
 stirred (words, hash) (i, j) =
     let mixed = mix (slice_index words i, slice_index words j, hash) in
@@ -79,7 +79,7 @@ hash_from hash pairs words = (fold stirred (231232 ∷ 1232 ∷ words, hash) pai
 abbrev pub hash_by : List (ℕ × ℕ) → List ℕ → ℕ
 hash_by pairs words = hash_from (fold bit_xor seed words) pairs words
 
--- `crush_hash32_rjenkins1`; its word stands at two places
+-- `crush_hash32_rjenkins1`; b begins as a copy of a, and the seed has a once
 unfoldable pub hash1 : ℕ → ℕ
 hash1 a = hash_from (bit_xor seed a) ((B, X) ∷ (Y, A) ∷ []) (a ∷ a ∷ [])
 
@@ -115,7 +115,7 @@ absorb (a, b, c) (p, q, r) = mix (plus a p, plus b q, plus c r)
 abbrev pub group : List ℕ → ℕ → Words
 group name place = (word_at name place, word_at name (place + 4), word_at name (place + 8))
 
--- those of what is behind the last 12 bytes, at most 11: in the last word the lowest byte is kept free for the length, which is added
+-- those of what is behind the last whole group, at most 11 bytes: in the last word the lowest byte is left to the length, which is added
 unfoldable pub last_group : List ℕ → ℕ → Words
 last_group name place =
     (word_at name place, word_at name (place + 4), plus (length name) (2 ^ 8 * word_at name (place + 8)))

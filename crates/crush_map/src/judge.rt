@@ -10,8 +10,8 @@ use crate::fault::{Element, MapFault};
 use crate::known::Known;
 use std::alloc::{AllocError, Global};
 
-#[tactic(auto, unfolding(crate::specs::Faults::first_in))]
 /// The first fault of types behind what is known, or what is known behind them.
+#[tactic(auto, unfolding(crate::specs::Faults::first_in))]
 fn judge_types(
     alloc: Global,
     mut known: Known,
@@ -34,8 +34,8 @@ fn judge_types(
     Ok(Ok(known))
 }
 
-#[tactic(auto, unfolding(crate::specs::Faults::first_in))]
 /// The first fault of devices behind what is known, or what is known behind them.
+#[tactic(auto, unfolding(crate::specs::Faults::first_in))]
 fn judge_devices(
     alloc: Global,
     mut known: Known,
@@ -58,8 +58,8 @@ fn judge_devices(
     Ok(Ok(known))
 }
 
-#[tactic(auto, unfolding(crate::specs::Faults::first_in))]
 /// The first fault of buckets behind what is known, or what is known behind them.
+#[tactic(auto, unfolding(crate::specs::Faults::first_in))]
 fn judge_buckets(
     alloc: Global,
     mut known: Known,
@@ -82,8 +82,8 @@ fn judge_buckets(
     Ok(Ok(known))
 }
 
-#[tactic(auto, unfolding(crate::specs::Faults::first_in))]
 /// The first fault of rules behind what is known, or what is known behind them.
+#[tactic(auto, unfolding(crate::specs::Faults::first_in))]
 fn judge_rules(
     alloc: Global,
     mut known: Known,
@@ -106,8 +106,8 @@ fn judge_rules(
     Ok(Ok(known))
 }
 
-#[tactic(auto, unfolding(crate::specs::Faults::element_fault))]
 /// What is known behind the elements of a draft, or their first fault.
+#[tactic(auto, unfolding(crate::specs::Faults::element_fault))]
 fn judge_elements(alloc: Global, draft: &MapDraft) -> Result<Result<Known, MapFault>, AllocError>
     ensures fault { IfOk result (λ r. result_err r ≡ spec.element_fault draft.now) }
     ensures known { IfOk result (λ r. IfOk r (λ known. known ≡ spec.known_rules draft.now)) }
