@@ -21,36 +21,28 @@ def mix(a, b, c):
     return a, b, c
 
 
-def hash2(a, b):
-    a, b = a & WORD, b & WORD
-    x, y, h = X, Y, SEED ^ a ^ b
-    a, b, h = mix(a, b, h)
-    x, a, h = mix(x, a, h)
-    b, y, h = mix(b, y, h)
+def hashed(turns, **words):
+    """The seed xor all the words, mixed in turn with the two words that each pair of letters names."""
+    words = {name: word & WORD for name, word in words.items()}
+    h = SEED
+    for word in words.values():
+        h ^= word
+    words.update(x=X, y=Y)
+    for p, q in turns.split():
+        words[p], words[q], h = mix(words[p], words[q], h)
     return h
+
+
+def hash2(a, b):
+    return hashed("ab xa by", a=a, b=b)
 
 
 def hash3(a, b, c):
-    a, b, c = a & WORD, b & WORD, c & WORD
-    x, y, h = X, Y, SEED ^ a ^ b ^ c
-    a, b, h = mix(a, b, h)
-    c, x, h = mix(c, x, h)
-    y, a, h = mix(y, a, h)
-    b, x, h = mix(b, x, h)
-    y, c, h = mix(y, c, h)
-    return h
+    return hashed("ab cx ya bx yc", a=a, b=b, c=c)
 
 
 def hash4(a, b, c, d):
-    a, b, c, d = a & WORD, b & WORD, c & WORD, d & WORD
-    x, y, h = X, Y, SEED ^ a ^ b ^ c ^ d
-    a, b, h = mix(a, b, h)
-    c, d, h = mix(c, d, h)
-    a, x, h = mix(a, x, h)
-    y, b, h = mix(y, b, h)
-    c, x, h = mix(c, x, h)
-    y, d, h = mix(y, d, h)
-    return h
+    return hashed("ab cd ax yb cx yd", a=a, b=b, c=c, d=d)
 
 
 def uniform_pick(bucket, entries, x, r):
