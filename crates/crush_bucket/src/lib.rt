@@ -25,8 +25,3 @@ pub use scratch::Scratch;
 pub use tables::Tables;
 pub use tree::TreeBucket;
 pub use uniform::UniformBucket;
-
-#[cfg(test)]
-mod plain;
-#[cfg(test)]
-mod tests;

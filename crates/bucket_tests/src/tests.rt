@@ -1,8 +1,10 @@
+//! Worked rows, picks beside their plain forms, tables and scratches of a map.
+
 ghost use Rattle.std.specs.Prelude.{◌≡◌, ◌<◌, ◌^◌, IsTrue, length};
 ghost use Rattle.crush_bucket.specs.Bucket.{HasEqualWeights, total_weight};
 
-use super::*;
 use crate::plain;
+use crush_bucket::{ListBucket, Perm, Picker, Scratch, Tables, TreeBucket, UniformBucket};
 use crush_map::{
     Bucket, CrushMap, Device, ItemId, Kind, Listed, MapDraft, Text, Tunables, TypeName, Weight,
 };
@@ -24,10 +26,17 @@ fn entries_of(
     Ok(entries)
 }
 
+fn total(entries: &[(ItemId, Weight)]) -> u64
+    requires { length entries.now < 2 ^ 16 }
+    ensures { result ≡ total_weight entries.now }
+{
+    entries.iter().map(|entry| u64::from(entry.1.0)).sum()
+}
+
 fn can_be_built(entries: &[(ItemId, Weight)]) -> bool
     ensures { IsTrue result → (0 < length entries.now) × (length entries.now < 2 ^ 16) × (total_weight entries.now < 2 ^ 32) }
 {
-    !entries.is_empty() && entries.len() < 65_536 && sums::total(entries) < 4_294_967_296
+    !entries.is_empty() && entries.len() < 65_536 && total(entries) < 4_294_967_296
 }
 
 fn are_even(entries: &[(ItemId, Weight)]) -> bool
