@@ -1,12 +1,12 @@
 //! Worked rows, picks beside their plain forms, tables and scratches of a map.
 
-ghost use Rattle.std.specs.Prelude.{◌≡◌, ◌<◌, ◌^◌, IsTrue, length};
-ghost use Rattle.crush_bucket.specs.Bucket.{HasEqualWeights, total_weight};
-
 use crate::plain;
-use crush_bucket::{ListBucket, Perm, Picker, Scratch, Tables, TreeBucket, UniformBucket};
+use crush_bucket::{
+    ListBucket, Perm, Picker, Scratch, Tables, TreeBucket, UniformBucket, can_be_asked,
+};
 use crush_map::{
     Bucket, CrushMap, Device, ItemId, Kind, Listed, MapDraft, Text, Tunables, TypeName, Weight,
+    has_equal_weights,
 };
 use std::alloc::{AllocError, Global};
 use std::process::Abort;
@@ -26,30 +26,6 @@ fn entries_of(
     Ok(entries)
 }
 
-fn total(entries: &[(ItemId, Weight)]) -> u64
-    requires { length entries.now < 2 ^ 16 }
-    ensures { result ≡ total_weight entries.now }
-{
-    entries.iter().map(|entry| u64::from(entry.1.0)).sum()
-}
-
-fn can_be_built(entries: &[(ItemId, Weight)]) -> bool
-    ensures { IsTrue result → (0 < length entries.now) × (length entries.now < 2 ^ 16) × (total_weight entries.now < 2 ^ 32) }
-{
-    !entries.is_empty() && entries.len() < 65_536 && total(entries) < 4_294_967_296
-}
-
-fn are_even(entries: &[(ItemId, Weight)]) -> bool
-    ensures { IsTrue result → HasEqualWeights entries.now }
-{
-    for place in 0..entries.len() {
-        if entries[place].1.0 != entries[0].1.0 {
-            return false;
-        }
-    }
-    true
-}
-
 /// The next of a row of numbers that look random, and a number of it.
 fn next(seed: &mut u64) -> u32 {
     *seed = seed
@@ -64,7 +40,7 @@ fn lists_answer_the_worked_rows(rt: HostRuntime) -> Result<(), AllocError> {
     let id = ItemId(-1);
     for (weights, want) in [([ONE, 0], 4), ([0, ONE], 9), ([0, 0], 4)] {
         let entries = entries_of(alloc, &[4, 9], &weights)?;
-        assert!(rt; can_be_built(&entries));
+        assert!(rt; can_be_asked(&entries));
         let bucket = ListBucket::build(alloc, id, &entries)?;
         let mut perm = Perm::build(alloc, id, entries.len())?;
         'questions: for x in 0..20 {
@@ -73,7 +49,7 @@ fn lists_answer_the_worked_rows(rt: HostRuntime) -> Result<(), AllocError> {
     }
     for (weight, want) in [(ONE, 0), (22 * ONE, 0), (23 * ONE, 1)] {
         let entries = entries_of(alloc, &[0, 1], &[ONE, weight])?;
-        assert!(rt; can_be_built(&entries));
+        assert!(rt; can_be_asked(&entries));
         let bucket = ListBucket::build(alloc, id, &entries)?;
         let mut perm = Perm::build(alloc, id, entries.len())?;
         assert_eq!(rt; bucket.pick(&mut perm, 0, 0), ItemId(want));
@@ -87,7 +63,7 @@ fn trees_answer_the_worked_rows(rt: HostRuntime) -> Result<(), AllocError> {
     let id = ItemId(-1);
     for (weights, want) in [([0, 0, 0], 12), ([0, ONE, 0], 11)] {
         let entries = entries_of(alloc, &[10, 11, 12], &weights)?;
-        assert!(rt; can_be_built(&entries));
+        assert!(rt; can_be_asked(&entries));
         let bucket = TreeBucket::build(alloc, id, &entries)?;
         let mut perm = Perm::build(alloc, id, entries.len())?;
         'questions: for x in 0..20 {
@@ -102,7 +78,7 @@ fn a_uniform_bucket_answers_the_worked_row(rt: HostRuntime) -> Result<(), AllocE
     let alloc = rt.alloc();
     let id = ItemId(-1);
     let entries = entries_of(alloc, &[5, 6, 7], &[ONE, ONE, ONE])?;
-    assert!(rt; can_be_built(&entries) && are_even(&entries));
+    assert!(rt; can_be_asked(&entries) && has_equal_weights(&entries));
     let bucket = UniformBucket::build(alloc, id, &entries)?;
     let mut perm = Perm::build(alloc, id, entries.len())?;
     assert_eq!(rt; bucket.pick(&mut perm, 0, 0), ItemId(7));
@@ -156,7 +132,7 @@ fn a_uniform_bucket_picks_as_its_plain_form(rt: HostRuntime) -> Result<(), Alloc
     for _ in 0..200 {
         let id = random_id(&mut seed);
         let entries = random_entries(alloc, &mut seed, true)?;
-        assert!(rt; can_be_built(&entries) && are_even(&entries));
+        assert!(rt; can_be_asked(&entries) && has_equal_weights(&entries));
         let bucket = UniformBucket::build(alloc, id, &entries)?;
         let mut perm = Perm::build(alloc, id, entries.len())?;
         'questions: for _ in 0..10 {
@@ -176,7 +152,7 @@ fn a_list_picks_as_its_plain_form(rt: HostRuntime) -> Result<(), AllocError> {
     for _ in 0..200 {
         let id = random_id(&mut seed);
         let entries = random_entries(alloc, &mut seed, false)?;
-        assert!(rt; can_be_built(&entries));
+        assert!(rt; can_be_asked(&entries));
         let bucket = ListBucket::build(alloc, id, &entries)?;
         let mut perm = Perm::build(alloc, id, entries.len())?;
         'questions: for _ in 0..10 {
@@ -196,7 +172,7 @@ fn a_tree_picks_as_its_plain_form(rt: HostRuntime) -> Result<(), AllocError> {
     for _ in 0..200 {
         let id = random_id(&mut seed);
         let entries = random_entries(alloc, &mut seed, false)?;
-        assert!(rt; can_be_built(&entries));
+        assert!(rt; can_be_asked(&entries));
         let bucket = TreeBucket::build(alloc, id, &entries)?;
         let mut perm = Perm::build(alloc, id, entries.len())?;
         'questions: for _ in 0..10 {

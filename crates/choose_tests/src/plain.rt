@@ -290,7 +290,7 @@ fn firstn_mark(
 
 /// The marks of choose firstn.
 #[tactic(auto, unfolding(crush_choose::specs::Firstn::firstn))]
-pub fn plain_firstn(
+pub(crate) fn plain_firstn(
     alloc: Global,
     tables: &Tables,
     scratch: &mut Scratch,
@@ -562,7 +562,7 @@ fn play_round(
 
 /// The marks of choose indep.
 #[tactic(auto, unfolding(crush_choose::specs::Indep::indep))]
-pub fn plain_indep(
+pub(crate) fn plain_indep(
     alloc: Global,
     tables: &Tables,
     scratch: &mut Scratch,

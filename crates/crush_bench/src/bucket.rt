@@ -1,11 +1,10 @@
 //! Picks from one bucket.
 
-ghost use Rattle.std.specs.Prelude.{◌≡◌, ◌<◌, ◌^◌, IsTrue, length};
-ghost use Rattle.crush_bucket.specs.Bucket.{HasEqualWeights, total_weight};
+ghost use Rattle.std.specs.Prelude.{◌≡◌};
 ghost use Rattle.crush_bucket.specs.Pick.{perm_of};
 
-use crush_bucket::{ListBucket, Perm, Picker, TreeBucket, UniformBucket};
-use crush_map::{ItemId, Kind, Weight};
+use crush_bucket::{ListBucket, Perm, Picker, TreeBucket, UniformBucket, can_be_asked};
+use crush_map::{ItemId, Kind, Weight, has_equal_weights};
 use std::alloc::{AllocError, Global};
 use std::io;
 use std::rt::Clock;
@@ -31,7 +30,7 @@ pub struct Questions {
 }
 
 /// Picks from the bucket of a kind with so many items; none where no bucket holds that.
-pub fn measure<R: AllocGlobal + Clock>(
+pub(crate) fn measure<R: AllocGlobal + Clock>(
     rt: &R,
     kind: Kind,
     size: u32,
@@ -45,7 +44,7 @@ pub fn measure<R: AllocGlobal + Clock>(
     let perm = Perm::build(alloc, ASKED, entries.len())?;
     match kind {
         Kind::Uniform => {
-            if !are_even(&entries) {
+            if !has_equal_weights(&entries) {
                 return Ok(None);
             }
             let bucket = UniformBucket::build(alloc, ASKED, &entries)?;
@@ -115,28 +114,4 @@ fn pick_tries<P: Picker>(bucket: &P, perm: &mut Perm, x: u32, tries: u32, before
             .wrapping_add(u64::from(item.word()));
     }
     checksum
-}
-
-fn can_be_asked(entries: &[(ItemId, Weight)]) -> bool
-    ensures { IsTrue result → (0 < length entries.now) × (length entries.now < 2 ^ 16) × (total_weight entries.now < 2 ^ 32) }
-{
-    !entries.is_empty() && entries.len() < 65_536 && total(entries) < 4_294_967_296
-}
-
-fn total(entries: &[(ItemId, Weight)]) -> u64
-    requires { length entries.now < 2 ^ 16 }
-    ensures { result ≡ total_weight entries.now }
-{
-    entries.iter().map(|entry| u64::from(entry.1.0)).sum()
-}
-
-fn are_even(entries: &[(ItemId, Weight)]) -> bool
-    ensures { IsTrue result → HasEqualWeights entries.now }
-{
-    for place in 0..entries.len() {
-        if entries[place].1.0 != entries[0].1.0 {
-            return false;
-        }
-    }
-    true
 }

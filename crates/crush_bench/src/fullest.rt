@@ -30,7 +30,7 @@ pub struct Checked {
 }
 
 /// Checks the greatest draft.
-pub fn check<R: AllocGlobal + Clock>(rt: &R) -> io::Result<Checked> {
+pub(crate) fn check<R: AllocGlobal + Clock>(rt: &R) -> io::Result<Checked> {
     let alloc = rt.alloc();
     let draft = fullest(alloc)?;
     let start = Instant::now(rt)?;

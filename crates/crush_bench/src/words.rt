@@ -22,7 +22,7 @@ pub enum Work {
 }
 
 /// What is asked for, the program's own name being the first word.
-pub fn work_of(words: &[String]) -> Option<Work>
+pub(crate) fn work_of(words: &[String]) -> Option<Work>
     ensures { IfSome result IsInRange }
 {
     match words {

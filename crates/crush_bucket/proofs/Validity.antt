@@ -5,13 +5,14 @@ use Rattle.std.specs.Option.{IfSome}
 use Rattle.std.proofs.lemmas.Bool.Decides.{Decides-eqb}
 use Rattle.std.proofs.lemmas.List.{get_or-map, length-map, get_or-take, length-take-le}
 use Rattle.std.proofs.lemmas.List.Folds.{Any-from_list_any}
-use Rattle.std.proofs.lemmas.List.Sums.{sum-map, AllPass-from_list_all}
+use Rattle.std.proofs.lemmas.List.Sums.{AllPass-from_list_all}
 use Rattle.std.proofs.lemmas.Option.{slice_get-get_or}
 use Rattle.crush_map.specs.declared.draft.Bucket.{Bucket}
 use Rattle.crush_map.specs.declared.draft.Device.{Device}
 use Rattle.crush_map.specs.declared.word.ItemId.{ItemId}
 use Rattle.crush_map.specs.declared.word.Kind.TheVariants.{Uniform}
-use Rattle.crush_map.specs.Faults.{is_bucket_id, is_uniform, are_even}
+use Rattle.crush_map.specs.Faults.{is_bucket_id, is_uniform}
+use Rattle.crush_map.specs.Weights.{has_equal_weights}
 use Rattle.crush_map.specs.Map.{Map}
 use Rattle.crush_map.specs.Sound as sound
 use Rattle.crush_bucket.specs.Bucket.{BucketView, Entry, item_at, no_entry, HasEqualWeights}
@@ -36,7 +37,7 @@ like_first : (first : Entry) (items : List Entry) → All (λ (e : Entry). (e.1.
 like_first first items rest zero d below = refl
 like_first first items rest (suc k) d below = (Decides-eqb (slice_index_or items k d).1.0 first.1.0).0 (rest k d (omega arith))
 
-equal_weights : (items : List Entry) → are_even items ≡ true → HasEqualWeights items
+equal_weights : (items : List Entry) → has_equal_weights items ≡ true → HasEqualWeights items
 equal_weights [] even = λ k d below. absurd (omega arith)
 equal_weights (first ∷ items) even =
     like_first first items (AllPass-from_list_all (λ (e : Entry). e.1.0 == first.1.0) items even)
@@ -44,7 +45,7 @@ equal_weights (first ∷ items) even =
 is_fit : (m : Map) (i : ℕ) (b : Bucket) → sound.IsBucketAt m i b → IsFit b
 is_fit m i b is = record {
   few = omega (arith, is.few);
-  light = rw (sum-map (λ (e : Entry). e.1.0) b.items) at is.light;
+  light = is.light;
   equal = λ uniform. equal_weights b.items (is.even (ap is_uniform uniform));
 }
 

@@ -1,6 +1,7 @@
 -- A bucket of a CRUSH map, as its pick sees it.
-use Rattle.std.specs.Prelude.{◌≡◌, ℕ, ◌<◌, ◌^◌, List, length, sum_by, take, drop, slice_index_or, SomeIndex, All, pos}
+use Rattle.std.specs.Prelude.{◌≡◌, ℕ, ◌<◌, ◌^◌, List, length, take, drop, slice_index_or, SomeIndex, All, pos}
 use Rattle.std.specs.Int.{cast_unsigned, w32}
+pub use Rattle.crush_map.specs.Weights.{total_weight}
 use Rattle.crush_map.specs.declared.ItemId.{ItemId}
 use Rattle.crush_map.specs.declared.Weight.{Weight}
 use Rattle.crush_map.specs.declared.Kind.{Kind}
@@ -30,10 +31,6 @@ item_at entries place = (slice_index_or entries place no_entry).0
 -- the weight at a place; past the end it is 0
 abbrev pub weight_at : List Entry → ℕ → ℕ
 weight_at entries place = (slice_index_or entries place no_entry).1.0
-
--- the sum of the weights
-abbrev pub total_weight : List Entry → ℕ
-total_weight entries = sum_by (λ e. e.1.0) entries
 
 -- the sum of the weights at n places from a place on; past the end there are none
 abbrev pub weight_within : List Entry → ℕ → ℕ → ℕ

@@ -22,6 +22,7 @@ pub use number::BucketNo;
 pub use perm::Perm;
 pub use picker::Picker;
 pub use scratch::Scratch;
+pub use sums::can_be_asked;
 pub use tables::Tables;
 pub use tree::TreeBucket;
 pub use uniform::UniformBucket;

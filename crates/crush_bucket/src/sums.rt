@@ -1,9 +1,17 @@
-//! Sums of weights.
+//! Sums of weights, and whether a bucket can be built of items.
 
-ghost use Rattle.std.specs.Prelude.{◌≡◌, ◌<◌, ◌^◌, length};
-ghost use Rattle.crush_bucket.specs.Bucket.{total_weight, weight_within};
+ghost use Rattle.std.specs.Prelude.{◌≡◌, ◌<◌, ◌^◌, IsTrue, length};
+ghost use Rattle.crush_bucket.specs.Bucket.{CanBeAsked, total_weight, weight_within};
 
-use crush_map::{ItemId, Weight};
+use crush_map::{ItemId, Weight, total_weight};
+
+/// A bucket of these items can be built: they are 1 to 65,535, and the sum of their weights is a word.
+pub fn can_be_asked(entries: &[(ItemId, Weight)]) -> bool
+    ensures yes { IsTrue result → CanBeAsked entries.now }
+    ensures no { CanBeAsked entries.now → IsTrue result }
+{
+    !entries.is_empty() && entries.len() < 65_536 && total_weight(entries) < 4_294_967_296
+}
 
 /// The sum of the weights at so many places from a place on.
 pub(crate) fn weight_within(entries: &[(ItemId, Weight)], from: usize, count: usize) -> u32
@@ -12,14 +20,5 @@ pub(crate) fn weight_within(entries: &[(ItemId, Weight)], from: usize, count: us
     ensures { result ≡ weight_within entries.now from count }
 {
     let rest = &entries[from.min(entries.len())..];
-    total(&rest[..count.min(rest.len())]) as u32
-}
-
-/// The sum of all weights.
-pub(crate) fn total(part: &[(ItemId, Weight)]) -> u64
-    requires { length part.now < 2 ^ 16 }
-    ensures { result ≡ total_weight part.now }
-{
-    let weights = part.iter().map(|(_, weight)| u64::from(weight.0));
-    weights.sum()
+    total_weight(&rest[..count.min(rest.len())]) as u32
 }

@@ -15,7 +15,8 @@ use Rattle.crush_map.specs.declared.draft.Step.TheVariants.{Take, SetChooseTries
 use Rattle.crush_map.specs.declared.word.ItemId.{ItemId}
 use Rattle.crush_map.specs.declared.word.Weight.{Weight}
 use Rattle.crush_map.specs.declared.word.Kind.{Kind}
-use Rattle.crush_map.specs.Faults.{Known, Ids, no_ids, nothing, ◌when◌, has_number, has_id, with_id, items_fault, contents_fault, bucket_checks, bucket_fault, with_bucket, with_device, with_type, known_types, known_devices, is_bucket_id, is_uniform, are_even, total, choose_fault, step_fault, steps_fault, rule_fault, with_rule, known_buckets, known_rules, is_count, are_in_range, end_fault, end_checks, type_fault, device_fault}
+use Rattle.crush_map.specs.Faults.{Known, Ids, no_ids, nothing, ◌when◌, has_number, has_id, with_id, items_fault, contents_fault, bucket_checks, bucket_fault, with_bucket, with_device, with_type, known_types, known_devices, is_bucket_id, is_uniform, choose_fault, step_fault, steps_fault, rule_fault, with_rule, known_buckets, known_rules, is_count, are_in_range, end_fault, end_checks, type_fault, device_fault}
+use Rattle.crush_map.specs.Weights.{has_equal_weights, total_weight}
 use Rattle.crush_map.specs.Map.{Map, draft_of, IsMap}
 use Rattle.crush_map.specs.Laws.{Pass}
 use Rattle.crush_map.specs.Sound.{same_id, has_bucket, has_type, has_item, IsItemAt, IsBucketAt, IsStep, IsRuleAt, IsTypeAt, IsDeviceAt}
@@ -182,19 +183,19 @@ item_is m i j items all None h = tt
 item_is m i j items all (Some item) h = record { declared = sym (item_at m (take i m.buckets) all item.0.0) ∙ h.declared; once = h.once }
 
 abbrev contents_checks : Known → Kind → List (ItemId × Weight) → List (Option FaultCode)
-contents_checks known alg items = items_fault known no_ids items ∷ (M8 when (is_uniform alg && not (are_even items))) ∷ (M7 when nat_lt 4294967295 (total items)) ∷ []
+contents_checks known alg items = items_fault known no_ids items ∷ (M8 when (is_uniform alg && not (has_equal_weights items))) ∷ (M7 when nat_lt 4294967295 (total_weight items)) ∷ []
 
 record Contents (known : Known) (b : Bucket) : Type 0 where
   pub items : items_fault known no_ids b.items ≡ None
-  pub even : (is_uniform b.alg && not (are_even b.items)) ≡ false
-  pub light : nat_lt 4294967295 (total b.items) ≡ false
+  pub even : (is_uniform b.alg && not (has_equal_weights b.items)) ≡ false
+  pub light : nat_lt 4294967295 (total_weight b.items) ≡ false
 
 contents : (known : Known) (b : Bucket) → contents_fault known b.alg b.items ≡ None → Contents known b
 unfolding contents_fault
 contents known b h = record {
   items = passes (contents_checks known b.alg b.items) 0 (items_fault known no_ids b.items) refl h;
-  even = fails M8 _ (passes (contents_checks known b.alg b.items) 1 (M8 when (is_uniform b.alg && not (are_even b.items))) refl h);
-  light = fails M7 _ (passes (contents_checks known b.alg b.items) 2 (M7 when nat_lt 4294967295 (total b.items)) refl h);
+  even = fails M8 _ (passes (contents_checks known b.alg b.items) 1 (M8 when (is_uniform b.alg && not (has_equal_weights b.items))) refl h);
+  light = fails M7 _ (passes (contents_checks known b.alg b.items) 2 (M7 when nat_lt 4294967295 (total_weight b.items)) refl h);
 }
 
 bucket_passes : (m : Map) (i : ℕ) (b : Bucket) → length (take i m.buckets) ≡ i → AllBuckets (take i m.buckets) → bucket_fault (known_at m (take i m.buckets)) b ≡ None → IsBucketAt m i b
@@ -214,8 +215,8 @@ bucket_passes m i b len all h =
       no_device = fails M9 _ (passes (bucket_checks k b) 6 (M9 when (b.kind_of == 0)) refl h);
       few = below 1024 (length b.items) (fails M1 _ (passes (bucket_checks k b) 7 (M1 when nat_lt 1024 (length b.items)) refl h));
       items = λ j. item_is m i j b.items all (slice_get b.items j) (items_pass k no_ids b.items held.items j);
-      even = uneven (is_uniform b.alg) (are_even b.items) held.even;
-      light = let h : total b.items ≤ 4294967295 = below 4294967295 (total b.items) held.light in omega (arith, h);
+      even = uneven (is_uniform b.alg) (has_equal_weights b.items) held.even;
+      light = let h : total_weight b.items ≤ 4294967295 = below 4294967295 (total_weight b.items) held.light in omega (arith, h);
     }
 
 -- ---- all buckets of a map

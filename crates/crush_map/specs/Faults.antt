@@ -1,7 +1,7 @@
 -- Which drafts of a map are refused, and for what.
 --
 -- The limits are those of Ceph's map where it has any, and otherwise this program's own.
-use Rattle.std.specs.Prelude.{ℕ, ℤ, pos, negsuc, int_le, ◌+◌, nat_lt, nat_le, ◌==◌, ◌&&◌, ◌||◌, not, Bool, true, false, List, [], ◌∷◌, ◌++◌, length, map, sum, fold, codes, bytes_eq, Option, Some, None, if◌then◌else◌}
+use Rattle.std.specs.Prelude.{ℕ, ℤ, pos, negsuc, int_le, ◌+◌, nat_lt, nat_le, ◌==◌, ◌&&◌, ◌||◌, not, Bool, true, false, List, [], ◌∷◌, ◌++◌, length, map, fold, codes, bytes_eq, Option, Some, None, if◌then◌else◌}
 use Rattle.std.specs.List.{list_any, list_all}
 use Rattle.crush_map.specs.declared.fault.FaultCode.{FaultCode}
 use Rattle.crush_map.specs.declared.fault.FaultCode.TheVariants.{M1, M2, M3, M4, M5, M6, M7, M8, M9, M10, M11, M12, M13, M14, M15}
@@ -20,6 +20,7 @@ use Rattle.crush_map.specs.declared.word.ItemId.{ItemId}
 use Rattle.crush_map.specs.declared.word.Weight.{Weight}
 use Rattle.crush_map.specs.declared.word.Kind.{Kind}
 use Rattle.crush_map.specs.declared.word.Kind.TheVariants.{Uniform, List as ListKind, Tree}
+use Rattle.crush_map.specs.Weights.{has_equal_weights, total_weight}
 
 -- ---- checks in order
 
@@ -155,15 +156,6 @@ items_fault known before (item ∷ items) = first_of (
     ∷ items_fault known (with_id before item.0.0) items
     ∷ [])
 
--- each weight is that of the first item
-abbrev pub are_even : List (ItemId × Weight) → Bool
-are_even [] = true
-are_even (item ∷ items) = list_all (λ other. other.1.0 == item.1.0) items
-
--- the sum of the weights
-abbrev pub total : List (ItemId × Weight) → ℕ
-total items = sum (map (λ item. item.1.0) items)
-
 -- a bucket of this kind has one weight for all items
 abbrev pub is_uniform : Kind → Bool
 is_uniform Uniform = true
@@ -174,8 +166,8 @@ is_uniform Tree = false
 unfoldable pub contents_fault : Known → Kind → List (ItemId × Weight) → Option FaultCode
 contents_fault known alg items = first_of (
     items_fault known no_ids items
-    ∷ (M8 when (is_uniform alg && not (are_even items)))
-    ∷ (M7 when nat_lt 4294967295 (total items))
+    ∷ (M8 when (is_uniform alg && not (has_equal_weights items)))
+    ∷ (M7 when nat_lt 4294967295 (total_weight items))
     ∷ [])
 
 -- of a bucket: there are 1,024; its id is out of range, or known; its name is not of the form, or known; its type is unknown, or that of devices; it has over 1,024 items; what it holds

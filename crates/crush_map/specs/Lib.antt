@@ -3,3 +3,4 @@ pub mod Map
 pub mod Tables
 pub mod Laws
 pub mod Sound
+pub mod Weights

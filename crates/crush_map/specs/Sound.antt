@@ -9,7 +9,8 @@ use Rattle.crush_map.specs.declared.draft.Step.{Step}
 use Rattle.crush_map.specs.declared.draft.Step.TheVariants.{Take, SetChooseTries, SetLeafTries, SetVaryR, SetStable, Choose, Emit}
 use Rattle.crush_map.specs.declared.word.ItemId.{ItemId}
 use Rattle.crush_map.specs.declared.word.Weight.{Weight}
-use Rattle.crush_map.specs.Faults.{is_bucket_id, is_uniform, are_even, total, is_count}
+use Rattle.crush_map.specs.Faults.{is_bucket_id, is_uniform, is_count}
+use Rattle.crush_map.specs.Weights.{has_equal_weights, total_weight}
 use Rattle.crush_map.specs.Map.{Map}
 
 abbrev pub same_id : ℤ → ℤ → Bool
@@ -46,8 +47,8 @@ pub record IsBucketAt (m : Map) (i : ℕ) (b : Bucket) : Type 0 where
   pub no_device : (b.kind_of == 0) ≡ false
   pub few : length b.items ≤ 1024
   pub items : (j : ℕ) → IfSome (slice_get b.items j) (λ item. IsItemAt m i j b.items item.0.0)
-  pub even : is_uniform b.alg ≡ true → are_even b.items ≡ true
-  pub light : total b.items < 2 ^ 32
+  pub even : is_uniform b.alg ≡ true → has_equal_weights b.items ≡ true
+  pub light : total_weight b.items < 2 ^ 32
 
 -- a choose step
 pub record IsChoose (m : Map) (firstn leaf : Bool) (n : ℤ) (wanted : ℕ) : Type 0 where

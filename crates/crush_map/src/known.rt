@@ -1,7 +1,6 @@
 //! What was declared, and the faults of what is declared behind it.
 
-ghost use Rattle.std.specs.Prelude.{◌≡◌, ◌==◌, ◌≤◌, IfOk, if◌then◌else◌, length, None};
-ghost use Rattle.std.specs.List.{list_all};
+ghost use Rattle.std.specs.Prelude.{◌≡◌, ◌≤◌, IfOk, if◌then◌else◌, length, None};
 ghost use Rattle.crush_map.specs.Faults as spec;
 
 use crate::draft::{Bucket, Device, Rule, Step, Tunables, TypeName};
@@ -10,6 +9,7 @@ use crate::form::{is_name, is_reserved};
 use crate::ids::Ids;
 use crate::names::Names;
 use crate::numbers::Numbers;
+use crate::weights::{has_equal_weights, total_weight};
 use crate::word::{ItemId, Kind, Weight};
 use std::alloc::{AllocError, Global};
 use std::marker::Model;
@@ -156,10 +156,10 @@ impl Known {
         if let Some(fault) = self.items_fault(alloc, items)? {
             return Ok(Some(fault));
         }
-        if is_uniform(alg) && !are_even(items) {
+        if is_uniform(alg) && !has_equal_weights(items) {
             return Ok(Some(FaultCode::M8));
         }
-        if total(items) > 4_294_967_295 {
+        if total_weight(items) > 4_294_967_295 {
             return Ok(Some(FaultCode::M7));
         }
         Ok(None)
@@ -318,28 +318,6 @@ fn is_uniform(alg: Kind) -> bool
     ensures { result ≡ spec.is_uniform alg }
 {
     matches!(alg, Kind::Uniform)
-}
-
-fn are_even(items: &[(ItemId, Weight)]) -> bool
-    ensures { result ≡ spec.are_even items.now }
-{
-    match items {
-        [] => true,
-        [first, rest @ ..] => all_weigh(rest, first.1.0),
-    }
-}
-
-fn all_weigh(items: &[(ItemId, Weight)], weight: u32) -> bool
-    ensures { result ≡ list_all (λ item. item.1.0 == weight) items.now }
-{
-    items.iter().all(|item| item.1.0 == weight)
-}
-
-fn total(items: &[(ItemId, Weight)]) -> u64
-    requires { length items.now ≤ 1024 }
-    ensures { result ≡ spec.total items.now }
-{
-    items.iter().map(|item| u64::from(item.1.0)).sum()
 }
 
 fn are_in_range(tunables: Tunables) -> bool

@@ -13,6 +13,7 @@ mod map;
 mod names;
 mod numbers;
 mod text;
+mod weights;
 mod word;
 
 pub use draft::{Bucket, Device, Items, MapDraft, Rule, Step, Steps, Tunables, TypeName};
@@ -23,4 +24,5 @@ pub use law::{buckets_are_sound, first_fault_is_first, numbers_are_sound, rules_
 pub use list::Listed;
 pub use map::CrushMap;
 pub use text::Text;
+pub use weights::{has_equal_weights, total_weight};
 pub use word::{ItemId, Kind, Weight};

@@ -21,7 +21,7 @@ pub struct Description {
 
 impl Description {
     /// A map of which nothing is declared; it has the tunables of Ceph's jewel.
-    pub fn new(alloc: Global) -> Self {
+    pub(crate) fn new(alloc: Global) -> Self {
         Description {
             alloc,
             tunables: Tunables {
@@ -38,7 +38,7 @@ impl Description {
     }
 
     /// With one more declaration.
-    pub fn with(mut self, declaration: Declaration) -> Result<Self, AllocError> {
+    pub(crate) fn with(mut self, declaration: Declaration) -> Result<Self, AllocError> {
         match declaration {
             Declaration::Tunables(tunables) => self.tunables = tunables,
             Declaration::Devices(count) => self.devices = count,
@@ -50,7 +50,7 @@ impl Description {
     }
 
     /// The draft of the map, with one rule, and the reweights.
-    pub fn drafted(self) -> Result<(MapDraft, Vec<(u32, u32)>), AllocError> {
+    pub(crate) fn drafted(self) -> Result<(MapDraft, Vec<(u32, u32)>), AllocError> {
         let draft = MapDraft {
             types: types(self.alloc)?,
             devices: devices(self.alloc, self.devices)?,

@@ -34,7 +34,7 @@ pub enum Declaration {
 }
 
 /// What the words of a line say.
-pub fn line_of<'a>(alloc: Global, words: &[&'a str]) -> Result<Line<'a>, Fault> {
+pub(crate) fn line_of<'a>(alloc: Global, words: &[&'a str]) -> Result<Line<'a>, Fault> {
     let [word, rest @ ..] = words else {
         return Ok(Line::Blank);
     };

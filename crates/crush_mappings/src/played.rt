@@ -27,7 +27,7 @@ fn write_answer<W: Write>(writer: &mut W, x: u32, slots: &[Slot]) -> io::Result<
 }
 
 /// Writes the answers for the inputs from `first` to below `end`.
-pub fn run<W: Write>(
+pub(crate) fn run<W: Write>(
     writer: &mut W,
     ready: &mut Ready,
     size: Size,
@@ -62,7 +62,7 @@ fn checksum(ready: &mut Ready, size: Size, count: u32) -> u64 {
 }
 
 /// Writes the checksum, and the shortest time on standard error.
-pub fn time<R: Eprint + Clock, W: Write>(
+pub(crate) fn time<R: Eprint + Clock, W: Write>(
     rt: &R,
     writer: &mut W,
     ready: &mut Ready,

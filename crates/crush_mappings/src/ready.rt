@@ -28,7 +28,7 @@ pub struct Ready {
 
 impl Ready {
     /// The map that a description declares.
-    pub fn build(alloc: Global, description: Description) -> Result<Ready, Fault> {
+    pub(crate) fn build(alloc: Global, description: Description) -> Result<Ready, Fault> {
         let (draft, reweights) = description.drafted()?;
         let map = match CrushMap::check(alloc, draft)? {
             Ok(map) => map,
@@ -48,7 +48,7 @@ impl Ready {
     }
 
     /// What the rule answers for an input.
-    pub fn answer(&mut self, x: u32, size: Size) -> &[Slot] {
+    pub(crate) fn answer(&mut self, x: u32, size: Size) -> &[Slot] {
         rules_of_a_map_can_run();
         match self.map.rules().first() {
             Some(rule) => {

@@ -18,12 +18,12 @@ pub enum Session {
 
 impl Session {
     /// Before the first line.
-    pub fn new(alloc: Global) -> Self {
+    pub(crate) fn new(alloc: Global) -> Self {
         Session::Declared(Description::new(alloc))
     }
 
     /// After one more line, with its answers written.
-    pub fn after<R: Eprint + Clock, W: Write>(
+    pub(crate) fn after<R: Eprint + Clock, W: Write>(
         self,
         rt: &R,
         alloc: Global,

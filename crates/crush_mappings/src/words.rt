@@ -19,7 +19,7 @@ pub struct Size {
 }
 
 /// A number from 0 to the greatest that is allowed.
-pub fn at_most(greatest: u32, word: &str) -> Result<u32, Fault>
+pub(crate) fn at_most(greatest: u32, word: &str) -> Result<u32, Fault>
     ensures value { OkIff result (spec.IsNumber word.now × (spec.number word.now ≤ greatest)) (spec.number word.now) }
     ensures low { IfOk result (λ n. n ≤ greatest) }
 {
@@ -36,14 +36,14 @@ pub fn at_most(greatest: u32, word: &str) -> Result<u32, Fault>
 }
 
 /// A number.
-pub fn unsigned(word: &str) -> Result<u32, Fault>
+pub(crate) fn unsigned(word: &str) -> Result<u32, Fault>
     ensures { OkIff result (spec.IsNumber word.now × (spec.number word.now < 2 ^ 32)) (spec.number word.now) }
 {
     at_most(u32::MAX, word)
 }
 
 /// A number with a sign.
-pub fn signed(word: &str) -> Result<i32, Fault>
+pub(crate) fn signed(word: &str) -> Result<i32, Fault>
     ensures { ParsesSigned w32 10 word.now result }
 {
     match word.parse::<i32>() {
@@ -53,7 +53,7 @@ pub fn signed(word: &str) -> Result<i32, Fault>
 }
 
 /// The size of an answer, 1 to 32.
-pub fn size_of_answer(word: &str) -> Result<Size, Fault>
+pub(crate) fn size_of_answer(word: &str) -> Result<Size, Fault>
     ensures value { IfOk result (λ size. spec.IsSize word.now × (size.slots ≡ spec.number word.now)) }
     ensures refused { IfErr result (λ fault. ¬ (spec.IsSize word.now)) }
 {
@@ -65,7 +65,7 @@ pub fn size_of_answer(word: &str) -> Result<Size, Fault>
 }
 
 /// ITEM:WEIGHT.
-pub fn entry(word: &str) -> Result<(ItemId, Weight), Fault>
+pub(crate) fn entry(word: &str) -> Result<(ItemId, Weight), Fault>
     ensures item { IfOk result (λ entry. entry.0.0 ≡ signed_digits_value 10 (before_first spec.is_colon word.now)) }
     ensures weight { IfOk result (λ entry. entry.1.0 ≡ spec.number (after_first spec.is_colon word.now)) }
     ensures refused { IfErr result (λ fault. ¬ (spec.IsEntry word.now)) }
@@ -77,7 +77,7 @@ pub fn entry(word: &str) -> Result<(ItemId, Weight), Fault>
 }
 
 /// The algorithm of a bucket.
-pub fn kind(word: &str) -> Result<Kind, Fault>
+pub(crate) fn kind(word: &str) -> Result<Kind, Fault>
     ensures { result_ok result ≡ spec.kind_of word.now }
 {
     match word {

@@ -5,7 +5,8 @@ use Rattle.std.specs.Str.{bytes_eq}
 use Rattle.serde_json.specs.Data.{Data, Items, no_items, item}
 use Rattle.serde_json.specs.Find.{get, as_array}
 use Rattle.crush_bucket.specs.Bucket.{BucketView, Entry, total_weight}
-use Rattle.crush_map.specs.Faults.{is_uniform, are_even}
+use Rattle.crush_map.specs.Faults.{is_uniform}
+use Rattle.crush_map.specs.Weights.{has_equal_weights}
 use Rattle.crush_map.specs.declared.Kind.{Kind}
 use Rattle.crush_map.specs.declared.Kind.TheVariants.{Uniform, List as ListKind, Tree}
 use Rattle.tenant_core.specs.Json.{value_of, has_keys, natural, integer, text, both, all_three}
@@ -45,7 +46,7 @@ kind_named name =
 abbrev pub may_be : BucketView → Bool
 may_be b =
     nat_lt 0 (length b.entries) && nat_le (length b.entries) 1024 && nat_lt (total_weight b.entries) (2 ^ 32)
-    && not (list_any (is_of_item b.id.0) b.entries) && are_distinct b.entries && (not (is_uniform b.kind) || are_even b.entries)
+    && not (list_any (is_of_item b.id.0) b.entries) && are_distinct b.entries && (not (is_uniform b.kind) || has_equal_weights b.entries)
 
 abbrev pub if_it_may_be : BucketView → Option BucketView
 if_it_may_be b = if may_be b then Some b else None

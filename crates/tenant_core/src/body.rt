@@ -1,16 +1,15 @@
 //! Reading the body of a pick.
 
-ghost use Rattle.std.specs.Prelude.{◌≡◌, ◌==◌, codes, option_and_then};
-ghost use Rattle.std.specs.List.{list_any, list_all};
+ghost use Rattle.std.specs.Prelude.{◌≡◌, codes, option_and_then};
+ghost use Rattle.std.specs.List.{list_any};
 ghost use Rattle.serde_json.specs.View.{view, items_view};
-ghost use Rattle.crush_map.specs.Faults.{are_even};
 ghost use Rattle.tenant_core.specs.Body as spec;
 ghost use Rattle.tenant_core.specs.Json as json;
 ghost use Rattle.tenant_core.specs.Reads.{Reads};
 
 use crate::json::{has_keys, integer, natural, text};
-use crate::pick::{AskedBucket, PickRequest, total};
-use crush_map::{ItemId, Kind, Weight};
+use crate::pick::{AskedBucket, PickRequest};
+use crush_map::{ItemId, Kind, Weight, has_equal_weights, total_weight};
 use serde_json::Value;
 use std::alloc::{AllocError, Global};
 
@@ -79,21 +78,6 @@ fn are_distinct(entries: &[(ItemId, Weight)]) -> bool
     true
 }
 
-fn are_even(entries: &[(ItemId, Weight)]) -> bool
-    ensures { result ≡ are_even entries.now }
-{
-    match entries {
-        [] => true,
-        [first, others @ ..] => weigh_all(others, first.1.0),
-    }
-}
-
-fn weigh_all(entries: &[(ItemId, Weight)], weight: u32) -> bool
-    ensures { result ≡ list_all (λ e. e.1.0 == weight) entries.now }
-{
-    entries.iter().all(|entry| entry.1.0 == weight)
-}
-
 // ---- a bucket
 
 fn kind_named(name: &str) -> Option<Kind>
@@ -112,10 +96,10 @@ fn may_be(id: ItemId, kind: Kind, entries: &[(ItemId, Weight)]) -> bool
 {
     !entries.is_empty()
         && entries.len() <= 1024
-        && total(entries) < 4_294_967_296
+        && total_weight(entries) < 4_294_967_296
         && !stands_in(id.0, entries)
         && are_distinct(entries)
-        && (kind != Kind::Uniform || are_even(entries))
+        && (kind != Kind::Uniform || has_equal_weights(entries))
 }
 
 fn kind_in(value: &Value) -> Option<Kind>

@@ -90,11 +90,3 @@ pub struct PickRequest {
     pub x: u32,
     pub r: u32,
 }
-
-/// The sum of the weights.
-pub(crate) fn total(items: &[(ItemId, Weight)]) -> u64
-    requires { length items.now < 2 ^ 16 }
-    ensures { result ≡ total_weight items.now }
-{
-    items.iter().map(|item| u64::from(item.1.0)).sum()
-}

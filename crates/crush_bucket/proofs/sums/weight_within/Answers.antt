@@ -8,7 +8,7 @@ pub overflow_cast-result : goal.overflow_cast-result
 overflow_cast-result c =
     let rest = take_rest c.args.entries.now c.min.result in
     let cut = within_cut c.args.entries.now c.args.from c.args.count in
-    let is : c.total.result ≡ weight_within c.args.entries.now c.args.from c.args.count = grind (arith, rest, cut) in
+    let is : c.total_weight.result ≡ weight_within c.args.entries.now c.args.from c.args.count = grind (arith, rest, cut) in
     omega (arith, is, within_total c.args.entries.now c.args.from c.args.count)
 
 pub returns : goal.returns
