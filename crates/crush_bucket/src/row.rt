@@ -44,7 +44,7 @@ impl Model for Row {
 
 impl Row {
     /// The row of a map's bucket.
-    pub fn build(alloc: Global, bucket: &Bucket) -> Result<Self, AllocError>
+    pub(crate) fn build(alloc: Global, bucket: &Bucket) -> Result<Self, AllocError>
         requires { IsFit bucket.now }
         ensures { IfOk result (λ row. row ≡ typed_bucket bucket.now) }
     {
@@ -56,14 +56,14 @@ impl Row {
     }
 
     /// The number of the bucket's type.
-    pub fn of_type(&self) -> u32
+    pub(crate) fn of_type(&self) -> u32
         ensures { result ≡ self.now.of_type }
     {
         self.of_type
     }
 
     /// The bucket's id.
-    pub fn id(&self) -> ItemId
+    pub(crate) fn id(&self) -> ItemId
         ensures { result ≡ self.now.bucket.id }
     {
         match &self.picking {
@@ -75,7 +75,7 @@ impl Row {
     }
 
     /// The bucket's kind.
-    pub fn kind(&self) -> Kind
+    pub(crate) fn kind(&self) -> Kind
         ensures { result ≡ self.now.bucket.kind }
     {
         match &self.picking {
@@ -87,7 +87,7 @@ impl Row {
     }
 
     /// How many items the bucket has.
-    pub fn size(&self) -> usize
+    pub(crate) fn size(&self) -> usize
         ensures value { result ≡ length self.now.bucket.entries }
         ensures few { result < 2 ^ 16 }
     {
@@ -100,7 +100,7 @@ impl Row {
     }
 
     /// The item that the bucket picks.
-    pub fn pick(&self, perm: &mut Perm, x: u32, r: u32) -> ItemId
+    pub(crate) fn pick(&self, perm: &mut Perm, x: u32, r: u32) -> ItemId
         requires some { 0 < length self.now.bucket.entries }
         requires fits { perm.old ≡ perm_of self.now.bucket }
         ensures picked { result ≡ pick self.now.bucket x r }

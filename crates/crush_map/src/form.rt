@@ -27,7 +27,7 @@ pub fn is_name(name: &str) -> bool
 }
 
 /// Whether a text is one of the words that begin a declaration, or that behind which a class stands.
-pub fn is_reserved(name: &str) -> bool
+pub(crate) fn is_reserved(name: &str) -> bool
     ensures { result ≡ spec.is_reserved name.now }
 {
     matches!(

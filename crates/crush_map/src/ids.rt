@@ -25,7 +25,7 @@ impl Model for Ids {
 
 impl Ids {
     /// No id.
-    pub fn new(alloc: Global) -> Result<Self, AllocError>
+    pub(crate) fn new(alloc: Global) -> Result<Self, AllocError>
         ensures { IfOk result (λ ids. ids ≡ spec.no_ids) }
     {
         Ok(Ids {
@@ -35,28 +35,28 @@ impl Ids {
     }
 
     /// How many devices came.
-    pub fn devices(&self) -> usize
+    pub(crate) fn devices(&self) -> usize
         ensures { result ≡ length self.now.devices }
     {
         self.devices.len()
     }
 
     /// How many buckets came.
-    pub fn buckets(&self) -> usize
+    pub(crate) fn buckets(&self) -> usize
         ensures { result ≡ length self.now.buckets }
     {
         self.buckets.len()
     }
 
     /// Whether a device came.
-    pub fn has_device(&self, id: u32) -> bool
+    pub(crate) fn has_device(&self, id: u32) -> bool
         ensures { result ≡ spec.has_number self.now.devices id }
     {
         self.devices.has(id)
     }
 
     /// With one more device.
-    pub fn with_device(self, id: u32) -> Result<Self, AllocError>
+    pub(crate) fn with_device(self, id: u32) -> Result<Self, AllocError>
         requires { id ≤ 65535 }
         ensures { IfOk result (λ ids. ids ≡ spec.with_id self (pos id)) }
     {
@@ -68,7 +68,7 @@ impl Ids {
     }
 
     /// Whether an id came.
-    pub fn has(&self, id: ItemId) -> bool
+    pub(crate) fn has(&self, id: ItemId) -> bool
         ensures value { result ≡ spec.has_id self.now id.0 }
         ensures known { IsTrue result → IsTrue (spec.is_id id.0) }
     {
@@ -80,7 +80,7 @@ impl Ids {
     }
 
     /// With one more id.
-    pub fn with(self, id: ItemId) -> Result<Self, AllocError>
+    pub(crate) fn with(self, id: ItemId) -> Result<Self, AllocError>
         requires { IsTrue (spec.is_id id.0) }
         ensures { IfOk result (λ ids. ids ≡ spec.with_id self id.0) }
     {

@@ -129,7 +129,7 @@ fn judge_elements(alloc: Global, draft: &MapDraft) -> Result<Result<Known, MapFa
 
 /// The first fault of a draft.
 #[tactic(auto, unfolding(crate::specs::Faults::first_fault))]
-pub fn first_fault(alloc: Global, draft: &MapDraft) -> Result<Option<MapFault>, AllocError>
+pub(crate) fn first_fault(alloc: Global, draft: &MapDraft) -> Result<Option<MapFault>, AllocError>
     ensures { IfOk result (λ fault. fault ≡ spec.first_fault draft.now) }
 {
     let known = match judge_elements(alloc, draft)? {

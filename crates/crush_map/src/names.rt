@@ -29,7 +29,7 @@ impl Model for Names {
 
 impl Names {
     /// No name.
-    pub fn new(alloc: Global) -> Self
+    pub(crate) fn new(alloc: Global) -> Self
         ensures { result ≡ [] }
     {
         Names {
@@ -39,14 +39,14 @@ impl Names {
     }
 
     /// Whether a name came.
-    pub fn has(&self, name: &str) -> bool
+    pub(crate) fn has(&self, name: &str) -> bool
         ensures { result ≡ spec.has_name self.now name.now }
     {
         self.index.contains(name)
     }
 
     /// With one more name.
-    pub fn with(self, alloc: Global, name: &str) -> Result<Self, AllocError>
+    pub(crate) fn with(self, alloc: Global, name: &str) -> Result<Self, AllocError>
         ensures { IfOk result (λ names. names ≡ self ++ name.now ∷ []) }
     {
         let Names {

@@ -37,7 +37,7 @@ fn empty_table(alloc: Global, size: usize) -> Result<Vec<bool>, AllocError>
 
 impl Numbers {
     /// No number.
-    pub fn new(alloc: Global) -> Result<Self, AllocError>
+    pub(crate) fn new(alloc: Global) -> Result<Self, AllocError>
         ensures { IfOk result (λ numbers. numbers ≡ []) }
     {
         Ok(Numbers {
@@ -47,14 +47,14 @@ impl Numbers {
     }
 
     /// How many came.
-    pub fn len(&self) -> usize
+    pub(crate) fn len(&self) -> usize
         ensures { result ≡ length self.now }
     {
         self.order.as_slice().len()
     }
 
     /// Whether a number came.
-    pub fn has(&self, number: u32) -> bool
+    pub(crate) fn has(&self, number: u32) -> bool
         ensures value { result ≡ spec.has_number self.now number }
         ensures known { IsTrue result → number < NUMBERS }
     {
@@ -65,7 +65,7 @@ impl Numbers {
     }
 
     /// With one more number.
-    pub fn with(self, number: u32) -> Result<Self, AllocError>
+    pub(crate) fn with(self, number: u32) -> Result<Self, AllocError>
         requires { number < NUMBERS }
         ensures { IfOk result (λ numbers. numbers ≡ self ++ number ∷ []) }
     {
