@@ -25,7 +25,7 @@ fn weight_within(entries: &[(ItemId, Weight)], from: usize, to: usize) -> u64 {
 }
 
 /// The whole permutation is made for each question.
-pub fn uniform(
+pub(crate) fn uniform(
     alloc: Global,
     id: ItemId,
     entries: &[(ItemId, Weight)],
@@ -54,7 +54,7 @@ pub fn uniform(
 }
 
 /// Each place is tried from the first on, and the last that passes stays.
-pub fn list(id: ItemId, entries: &[(ItemId, Weight)], x: u32, r: u32) -> ItemId {
+pub(crate) fn list(id: ItemId, entries: &[(ItemId, Weight)], x: u32, r: u32) -> ItemId {
     let mut picked = item_at(entries, 0);
     for (place, entry) in entries.iter().enumerate() {
         let sum = weight_within(entries, 0, place.wrapping_add(1));
@@ -67,7 +67,7 @@ pub fn list(id: ItemId, entries: &[(ItemId, Weight)], x: u32, r: u32) -> ItemId 
 }
 
 /// The range of places is halved until one is left.
-pub fn tree(id: ItemId, entries: &[(ItemId, Weight)], x: u32, r: u32) -> ItemId {
+pub(crate) fn tree(id: ItemId, entries: &[(ItemId, Weight)], x: u32, r: u32) -> ItemId {
     let mut width = 1usize;
     for _ in 0..32 {
         if width < entries.len() {

@@ -1,4 +1,6 @@
 //! CRUSH maps: their words, their texts, what they are declared of, and which drafts are maps.
+//!
+//! Its tests are the crate `map_tests`.
 #![tactic(auto)]
 
 mod draft;
