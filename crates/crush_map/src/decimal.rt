@@ -58,23 +58,23 @@ fn first_point(text: &[u8]) -> Option<usize>
     text.iter().position(|byte| *byte == b'.')
 }
 
-/// The weight that a text writes, rounded down, where it is 1 to 10 digits, or these with a point and 1 to 20 digits behind them.
+/// The weight that a text writes, rounded down, if it is 1 to 10 digits, or these with a point and 1 to 20 digits behind them,
+/// and the weight is below 65536.0.
 #[tactic(auto, unfolding(crate::specs::WeightText::weight_of))]
 pub fn weight_from_text(text: &[u8]) -> Option<Weight>
     ensures { result ≡ spec.weight_of text.now }
 {
-    let Some(place) = first_point(text) else {
-        return if are_digits(1, 10, text) {
-            weight_of_parts(text, &[])
-        } else {
-            None
-        };
-    };
-    let (whole, fraction) = (&text[..place], &text[place + 1..]);
-    if are_digits(1, 10, whole) && are_digits(1, 20, fraction) {
-        weight_of_parts(whole, fraction)
-    } else {
-        None
+    match first_point(text) {
+        None if are_digits(1, 10, text) => weight_of_parts(text, &[]),
+        None => None,
+        Some(place) => {
+            let (whole, fraction) = (&text[..place], &text[place + 1..]);
+            if are_digits(1, 10, whole) && are_digits(1, 20, fraction) {
+                weight_of_parts(whole, fraction)
+            } else {
+                None
+            }
+        }
     }
 }
 
