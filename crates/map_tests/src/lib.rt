@@ -3,6 +3,5 @@
 
 #[cfg(test)]
 mod tests;
-
 #[cfg(test)]
 mod weights;
