@@ -9,3 +9,4 @@ mod Numbered
 mod Valid
 mod First
 mod Sound
+mod Once
