@@ -2,4 +2,10 @@
 #![tactic(auto)]
 
 #[cfg(test)]
+mod drafts;
+#[cfg(test)]
+mod edges;
+#[cfg(test)]
+mod order;
+#[cfg(test)]
 mod tests;
