@@ -12,7 +12,7 @@ help:
 	@echo 'make run       builds, and serves examples/first.script: each request with its reply'
 	@echo 'make test      the whole gate: every proof from nothing, wrong edits, tests, and the program from end to end'
 	@echo 'make install   builds, and installs PREFIX/bin/crushcalc (PREFIX=/usr/local)'
-	@echo 'make ceph-check   compares 152,000 mappings with those of Ceph'"'"'s own library'
+	@echo 'make ceph-check   compares 152,000 mappings and 93 name hashes with those of Ceph'"'"'s own library'
 	@echo 'make bench     builds and measures; beside Ceph'"'"'s own library where that is installed'
 	@echo 'make bench-deps   installs what the comparisons with Ceph need (Debian: librados2, gcc)'
 	@echo 'make serve     the server (not built yet)'
@@ -72,6 +72,7 @@ serve:
 	@echo "The server isn't built yet: crushcalc has the command 'script' only." >&2; exit 1
 
 ceph-check: build/crush_mappings bench-deps
+	@python3 tests/ceph/check_names
 	@python3 tests/ceph/check build/crush_mappings
 
 bench: build build/crush_bench build/crush_mappings

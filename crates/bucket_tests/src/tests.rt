@@ -105,17 +105,29 @@ fn a_scratch_that_was_asked_answers_as_a_new_one(rt: HostRuntime) -> Result<(), 
     Ok(())
 }
 
-/// 1 to 64 items of random weights, or of one weight.
+/// How many items the bucket of a round has: around powers of two that are past 64, else 1 to 200.
+fn random_size(seed: &mut u64, round: u32) -> u16 {
+    match round {
+        0 => 65,
+        1 => 127,
+        2 => 128,
+        3 => 129,
+        _ => 1 + (next(seed) % 200) as u16,
+    }
+}
+
+/// Items of random weights, whose sum is below 2^32, or of one weight.
 fn random_entries(
     alloc: Global,
     seed: &mut u64,
+    round: u32,
     even: bool,
 ) -> Result<Vec<(ItemId, Weight)>, AllocError> {
-    let size = 1 + next(seed) % 64;
+    let size = random_size(seed, round);
     let mut entries = Vec::new(alloc);
     for place in 0..size {
-        let weight = if even { ONE } else { next(seed) % 67_108_864 };
-        entries.push((ItemId(place as i32), Weight(weight)))?;
+        let weight = if even { ONE } else { next(seed) % 16_777_216 };
+        entries.push((ItemId(i32::from(place)), Weight(weight)))?;
     }
     Ok(entries)
 }
@@ -124,14 +136,14 @@ fn random_id(seed: &mut u64) -> ItemId {
     ItemId(-1 - (next(seed) % 1_000) as i32)
 }
 
-/// 200 buckets, each asked ten times for few inputs.
+/// 200 buckets of up to 200 items, each asked ten times for few inputs.
 #[test]
 fn a_uniform_bucket_picks_as_its_plain_form(rt: HostRuntime) -> Result<(), AllocError> {
     let alloc = rt.alloc();
     let mut seed = 2_026;
-    for _ in 0..200 {
+    for round in 0..200 {
         let id = random_id(&mut seed);
-        let entries = random_entries(alloc, &mut seed, true)?;
+        let entries = random_entries(alloc, &mut seed, round, true)?;
         assert!(rt; can_be_asked(&entries) && has_equal_weights(&entries));
         let bucket = UniformBucket::build(alloc, id, &entries)?;
         let mut perm = Perm::build(alloc, id, entries.len())?;
@@ -144,14 +156,14 @@ fn a_uniform_bucket_picks_as_its_plain_form(rt: HostRuntime) -> Result<(), Alloc
     Ok(())
 }
 
-/// 200 buckets, each asked ten times for few inputs.
+/// 200 buckets of up to 200 items, each asked ten times for few inputs.
 #[test]
 fn a_list_picks_as_its_plain_form(rt: HostRuntime) -> Result<(), AllocError> {
     let alloc = rt.alloc();
     let mut seed = 2_026;
-    for _ in 0..200 {
+    for round in 0..200 {
         let id = random_id(&mut seed);
-        let entries = random_entries(alloc, &mut seed, false)?;
+        let entries = random_entries(alloc, &mut seed, round, false)?;
         assert!(rt; can_be_asked(&entries));
         let bucket = ListBucket::build(alloc, id, &entries)?;
         let mut perm = Perm::build(alloc, id, entries.len())?;
@@ -164,14 +176,14 @@ fn a_list_picks_as_its_plain_form(rt: HostRuntime) -> Result<(), AllocError> {
     Ok(())
 }
 
-/// 200 buckets, each asked ten times for few inputs.
+/// 200 buckets of up to 200 items, each asked ten times for few inputs.
 #[test]
 fn a_tree_picks_as_its_plain_form(rt: HostRuntime) -> Result<(), AllocError> {
     let alloc = rt.alloc();
     let mut seed = 2_026;
-    for _ in 0..200 {
+    for round in 0..200 {
         let id = random_id(&mut seed);
-        let entries = random_entries(alloc, &mut seed, false)?;
+        let entries = random_entries(alloc, &mut seed, round, false)?;
         assert!(rt; can_be_asked(&entries));
         let bucket = TreeBucket::build(alloc, id, &entries)?;
         let mut perm = Perm::build(alloc, id, entries.len())?;

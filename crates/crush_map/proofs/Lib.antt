@@ -11,3 +11,4 @@ mod First
 mod Sound
 pub mod Digits
 pub mod WeightText
+mod Once

@@ -5,7 +5,7 @@ use Rattle.std.proofs.lemmas.Bool.Decides.{nat_tests}
 use Rattle.std.proofs.lemmas.List.{length-append, length-map}
 use Rattle.std.proofs.lemmas.List.Folds.{list_any-append}
 use Rattle.crush_map.specs.declared.fault.FaultCode.{FaultCode}
-use Rattle.crush_map.specs.declared.fault.FaultCode.TheVariants.{M1, M2, M4, M5, M6, M7, M8, M9, M10, M11, M12, M14}
+use Rattle.crush_map.specs.declared.fault.FaultCode.TheVariants.{M1, M2, M4, M5, M6, M7, M8, M9, M10, M11, M12, M14, M15}
 use Rattle.crush_map.specs.declared.draft.TypeName.{TypeName}
 use Rattle.crush_map.specs.declared.draft.Device.{Device}
 use Rattle.crush_map.specs.declared.draft.Bucket.{Bucket}
@@ -15,7 +15,7 @@ use Rattle.crush_map.specs.declared.draft.Step.TheVariants.{Take, SetChooseTries
 use Rattle.crush_map.specs.declared.word.ItemId.{ItemId}
 use Rattle.crush_map.specs.declared.word.Weight.{Weight}
 use Rattle.crush_map.specs.declared.word.Kind.{Kind}
-use Rattle.crush_map.specs.Faults.{Known, Ids, no_ids, nothing, ◌when◌, has_number, has_id, with_id, items_fault, contents_fault, bucket_checks, bucket_fault, with_bucket, with_device, with_type, known_types, known_devices, is_bucket_id, is_uniform, choose_fault, step_fault, steps_fault, rule_fault, with_rule, known_buckets, known_rules, is_count, are_in_range, end_fault, end_checks, type_fault, device_fault}
+use Rattle.crush_map.specs.Faults.{Known, Ids, no_ids, nothing, ◌when◌, has_number, has_id, with_id, items_fault, contents_fault, bucket_checks, bucket_fault, with_bucket, with_device, with_type, known_types, known_devices, is_bucket_id, is_uniform, choose_fault, step_fault, steps_fault, rule_fault, with_rule, known_buckets, known_rules, is_count, are_in_range, end_fault, end_checks, type_fault, device_fault, is_name, is_reserved}
 use Rattle.crush_map.specs.Weights.{has_equal_weights, total_weight}
 use Rattle.crush_map.specs.Map.{Map, draft_of, IsMap}
 use Rattle.crush_map.specs.Laws.{Pass}
@@ -149,7 +149,7 @@ types_of m = rw (devices_behind (known_types (draft_of m)) m.devices, types_behi
 devices_of : (m : Map) → (known_devices (draft_of m)).items.devices ≡ map (λ d. d.id) m.devices
 devices_of m = rw (devices_behind (known_types (draft_of m)) m.devices, types_behind nothing m.types) refl
 
-no_buckets : (m : Map) → (known_devices (draft_of m)).items.buckets ≡ []
+pub no_buckets : (m : Map) → (known_devices (draft_of m)).items.buckets ≡ []
 no_buckets m = rw (devices_behind (known_types (draft_of m)) m.devices, types_behind nothing m.types) refl
 
 -- what is known behind a map's first buckets
@@ -211,6 +211,7 @@ bucket_passes m i b len all h =
       place = omega arith;
       id = id;
       new = sym (not_new m.devices (take i m.buckets) b.id.0 id) ∙ (sym (item_at m (take i m.buckets) all b.id.0) ∙ fails M2 _ (passes (bucket_checks k b) 2 (M2 when has_id k.items b.id.0) refl h));
+      name = is_so _ (fails M15 _ (passes (bucket_checks k b) 3 (M15 when not (is_name b.name)) refl h));
       typed = sym (type_at m (take i m.buckets) b.kind_of) ∙ is_so _ (fails M4 _ (passes (bucket_checks k b) 5 (M4 when not (has_number k.types b.kind_of)) refl h));
       no_device = fails M9 _ (passes (bucket_checks k b) 6 (M9 when (b.kind_of == 0)) refl h);
       few = below 1024 (length b.items) (fails M1 _ (passes (bucket_checks k b) 7 (M1 when nat_lt 1024 (length b.items)) refl h));
@@ -325,6 +326,7 @@ rule_passes m i r len all h =
     record {
       place = omega arith;
       id = below 255 r.id own.in_range;
+      name = is_so (is_name r.name) own.form;
       some = positive (length r.steps) own.count;
       few = below 32 (length r.steps) (right_false (length r.steps == 0) _ own.count);
       steps = steps_pass m k (rule_items m (take i m.rules) all) (rule_types m (take i m.rules)) r.steps own.steps;
@@ -350,7 +352,12 @@ type_if m i (Some t) e h =
     let count : length (fold with_type nothing (take i m.types)).types ≡ length (take i m.types) = rw (types_behind nothing (take i m.types)) (simp length-map) in
     let room = p.room in
     let len : length (take i m.types) ≡ i = place_before m.types i t e in
-    record { place = omega (arith, room, count, len); number = below 65535 t.number p.own.in_range }
+    record {
+      place = omega (arith, room, count, len);
+      number = below 65535 t.number p.own.in_range;
+      name = is_so (is_name t.name) (left_false _ (is_reserved t.name) p.own.form);
+      not_reserved = right_false (not (is_name t.name)) (is_reserved t.name) p.own.form;
+    }
 
 pub types_sound : (m : Map) (i : ℕ) → IsMap m → IfSome (slice_get m.types i) (IsTypeAt i)
 types_sound m i is = type_if m i (slice_get m.types i) refl ((none_stands (draft_of m) is.faultless).0.0 i)
@@ -364,7 +371,7 @@ device_if m i (Some d) e h =
     let count : length k.items.devices ≡ length (take i m.devices) = rw (devices_behind (known_types (draft_of m)) (take i m.devices), ids_before (draft_of m)) (simp length-map) in
     let room = p.room in
     let len : length (take i m.devices) ≡ i = place_before m.devices i d e in
-    record { place = omega (arith, room, count, len); id = below 65535 d.id p.own.in_range }
+    record { place = omega (arith, room, count, len); id = below 65535 d.id p.own.in_range; name = is_so (is_name d.name) p.own.form }
 
 pub devices_sound : (m : Map) (i : ℕ) → IsMap m → IfSome (slice_get m.devices i) (IsDeviceAt i)
 devices_sound m i is = device_if m i (slice_get m.devices i) refl ((none_stands (draft_of m) is.faultless).0.1 i)

@@ -99,7 +99,7 @@ alike_trans j k l a b = record {
 
 -- ---- order
 
-none_distinct : {K : Type 0} (e : K → K → Bool) → IsDistinct e []
+pub none_distinct : {K : Type 0} (e : K → K → Bool) → IsDistinct e []
 unfolding IsDistinct
 none_distinct e = tt
 
@@ -140,13 +140,13 @@ whole d f = rw (f.types, f.devices, f.buckets, f.rules, f.end) refl
 pub rules_before : (d : MapDraft) → (known_buckets d).rules ≡ []
 rules_before d = rules_behind_buckets (known_devices d) d.buckets ∙ rw (devices_behind (known_types d) d.devices, types_behind nothing d.types) refl
 
-rule_names_before : (d : MapDraft) → (known_buckets d).rule_names ≡ []
+pub rule_names_before : (d : MapDraft) → (known_buckets d).rule_names ≡ []
 rule_names_before d = names_behind_buckets (known_devices d) d.buckets ∙ rw (devices_behind (known_types d) d.devices, types_behind nothing d.types) refl
 
 pub ids_before : (d : MapDraft) → (known_types d).items.devices ≡ []
 ids_before d = rw (types_behind nothing d.types) refl
 
-names_before : (d : MapDraft) → (known_types d).item_names ≡ []
+pub names_before : (d : MapDraft) → (known_types d).item_names ≡ []
 names_before d = rw (types_behind nothing d.types) refl
 
 -- what is known behind the lists of a draft and of its map

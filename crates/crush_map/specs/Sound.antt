@@ -1,5 +1,5 @@
 -- What holds of each part of a map.
-use Rattle.std.specs.Prelude.{◌≡◌, ℕ, ℤ, pos, negsuc, ◌<◌, ◌≤◌, ◌^◌, ◌==◌, Bool, true, false, List, length, take, slice_get, IfSome, ⊤}
+use Rattle.std.specs.Prelude.{◌≡◌, ℕ, ℤ, pos, negsuc, ◌<◌, ◌≤◌, ◌^◌, ◌==◌, Bool, true, false, List, length, take, slice_get, Some, IfSome, ⊤}
 use Rattle.std.specs.List.{list_any}
 use Rattle.crush_map.specs.declared.draft.TypeName.{TypeName}
 use Rattle.crush_map.specs.declared.draft.Device.{Device}
@@ -9,9 +9,13 @@ use Rattle.crush_map.specs.declared.draft.Step.{Step}
 use Rattle.crush_map.specs.declared.draft.Step.TheVariants.{Take, SetChooseTries, SetLeafTries, SetVaryR, SetStable, Choose, Emit}
 use Rattle.crush_map.specs.declared.word.ItemId.{ItemId}
 use Rattle.crush_map.specs.declared.word.Weight.{Weight}
-use Rattle.crush_map.specs.Faults.{is_bucket_id, is_uniform, is_count}
+use Rattle.crush_map.specs.Faults.{is_bucket_id, is_uniform, is_count, is_name, is_reserved}
 use Rattle.crush_map.specs.Weights.{has_equal_weights, total_weight}
 use Rattle.crush_map.specs.Map.{Map}
+
+-- nothing is at two places of a list
+abbrev pub IsEachOnce : {X : Type 0} → List X → Type 0
+IsEachOnce {X} xs = (x : X) (i j : ℕ) → slice_get xs i ≡ Some x → slice_get xs j ≡ Some x → i ≡ j
 
 abbrev pub same_id : ℤ → ℤ → Bool
 same_id (pos m) (pos n) = m == n
@@ -43,6 +47,7 @@ pub record IsBucketAt (m : Map) (i : ℕ) (b : Bucket) : Type 0 where
   pub place : i < 1024
   pub id : is_bucket_id b.id.0 ≡ true
   pub new : has_bucket (take i m.buckets) b.id.0 ≡ false
+  pub name : is_name b.name ≡ true
   pub typed : has_type m.types b.kind_of ≡ true
   pub no_device : (b.kind_of == 0) ≡ false
   pub few : length b.items ≤ 1024
@@ -69,6 +74,7 @@ IsStep m Emit = ⊤
 pub record IsRuleAt (m : Map) (i : ℕ) (r : Rule) : Type 0 where
   pub place : i < 64
   pub id : r.id ≤ 255
+  pub name : is_name r.name ≡ true
   pub some : 1 ≤ length r.steps
   pub few : length r.steps ≤ 32
   pub steps : (j : ℕ) → IfSome (slice_get r.steps j) (IsStep m)
@@ -77,8 +83,11 @@ pub record IsRuleAt (m : Map) (i : ℕ) (r : Rule) : Type 0 where
 pub record IsTypeAt (i : ℕ) (t : TypeName) : Type 0 where
   pub place : i < 32
   pub number : t.number ≤ 65535
+  pub name : is_name t.name ≡ true
+  pub not_reserved : is_reserved t.name ≡ false
 
 -- the device at place i
 pub record IsDeviceAt (i : ℕ) (d : Device) : Type 0 where
   pub place : i < 1024
   pub id : d.id ≤ 65535
+  pub name : is_name d.name ≡ true

@@ -1,11 +1,11 @@
 //! What holds of every draft and of every map. A call does nothing: its caller learns the law.
 
-ghost use Rattle.std.specs.Prelude.{◌≡◌, ℕ, true, Some, None, slice_get, IfSome};
+ghost use Rattle.std.specs.Prelude.{◌≡◌, ℕ, true, ◌++◌, map, Some, None, slice_get, IfSome};
 ghost use Rattle.crush_map.specs.declared.draft.MapDraft.{MapDraft};
 ghost use Rattle.crush_map.specs.declared.fault.MapFault.{MapFault};
 ghost use Rattle.crush_map.specs.Faults as spec;
 ghost use Rattle.crush_map.specs.Map.{Map, IsMap};
-ghost use Rattle.crush_map.specs.Sound.{IsBucketAt, IsRuleAt, IsTypeAt, IsDeviceAt, has_type};
+ghost use Rattle.crush_map.specs.Sound.{IsBucketAt, IsRuleAt, IsTypeAt, IsDeviceAt, IsEachOnce, has_type};
 ghost use Rattle.crush_map.specs.Laws.{StandsFirst, HasNoFault};
 
 /// The first fault of a draft stands where it says, and nothing before it has one; where there is none, nothing has one.
@@ -30,4 +30,15 @@ pub fn numbers_are_sound()
     ensures devices { (m : Map) (i : ℕ) → IsMap m → IfSome (slice_get m.devices i) (λ d. IsDeviceAt i d) }
     ensures device_type { (m : Map) → IsMap m → has_type m.types 0 ≡ true }
     ensures tunables { (m : Map) → IsMap m → spec.are_in_range m.tunables ≡ true }
+{}
+
+/// No number, no id and no name is twice in a map. Devices and buckets share their names.
+pub fn numbers_and_names_are_once()
+    ensures type_numbers { (m : Map) → IsMap m → IsEachOnce (map (λ t. t.number) m.types) }
+    ensures type_names { (m : Map) → IsMap m → IsEachOnce (map (λ t. t.name) m.types) }
+    ensures device_ids { (m : Map) → IsMap m → IsEachOnce (map (λ d. d.id) m.devices) }
+    ensures bucket_ids { (m : Map) → IsMap m → IsEachOnce (map (λ b. b.id) m.buckets) }
+    ensures item_names { (m : Map) → IsMap m → IsEachOnce (map (λ d. d.name) m.devices ++ map (λ b. b.name) m.buckets) }
+    ensures rule_ids { (m : Map) → IsMap m → IsEachOnce (map (λ r. r.id) m.rules) }
+    ensures rule_names { (m : Map) → IsMap m → IsEachOnce (map (λ r. r.name) m.rules) }
 {}

@@ -24,7 +24,10 @@ pub use draft::{Bucket, Device, Items, MapDraft, Rule, Step, Steps, Tunables, Ty
 pub use fault::{Element, FaultCode, MapFault};
 pub use form::is_name;
 pub use known::Known;
-pub use law::{buckets_are_sound, first_fault_is_first, numbers_are_sound, rules_are_sound};
+pub use law::{
+    buckets_are_sound, first_fault_is_first, numbers_and_names_are_once, numbers_are_sound,
+    rules_are_sound,
+};
 pub use list::Listed;
 pub use map::CrushMap;
 pub use text::Text;

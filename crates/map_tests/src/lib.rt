@@ -2,6 +2,12 @@
 #![tactic(auto)]
 
 #[cfg(test)]
+mod drafts;
+#[cfg(test)]
+mod edges;
+#[cfg(test)]
+mod order;
+#[cfg(test)]
 mod tests;
 #[cfg(test)]
 mod weights;
