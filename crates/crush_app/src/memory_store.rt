@@ -1,4 +1,4 @@
-//! The store that keeps states in a map, in memory.
+//! The store that keeps states in memory.
 
 ghost use Rattle.std.specs.Prelude.{◌≡◌, ℕ, List, Some, None, OnOk, OnErr, if◌then◌else◌, option_map};
 ghost use Rattle.std.specs.Str.{bytes_eq};
@@ -31,34 +31,42 @@ fn take_out(states: &mut States, name: &str)
     let _state = states.remove(name);
 }
 
-/// The states of all tenants in a map. Nothing outlives it.
+/// The states of all tenants, in memory. Nothing outlives it.
 #[derive(Drop)]
-pub struct MapStore {
+pub struct MemoryStore {
     alloc: Global,
     states: States,
 }
 
-impl MapStore {
-    ghost use Rattle.std.specs.Prelude.{◌≡◌, ℕ, List, None};
+impl MemoryStore {
+    ghost use Rattle.std.specs.Prelude.{◌≡◌, ℕ, List, Option, None};
+    ghost use Rattle.tenant_core.specs.declared.state.TenantState.{TenantState};
+    ghost use Rattle.crush_app.specs.declared.memory_store.MemoryStore.{MemoryStore};
 
     /// A store with no tenant. Takes no memory.
+    ///
+    /// Every store of this type is honest, and in every one each name has exactly one state.
     pub fn new(alloc: Global) -> Self
-        ensures { (t : List ℕ) → ⟦<MapStore as TenantStore>⟧.stands_for result t None }
+        ensures empty { (name : List ℕ) → ⟦<MemoryStore as TenantStore>⟧.has_state result name None }
+        ensures honest { (store : MemoryStore) → ⟦<MemoryStore as TenantStore>⟧.is_honest store }
+        ensures some_state { (store : MemoryStore) (name : List ℕ) → (s : Option TenantState) × ⟦<MemoryStore as TenantStore>⟧.has_state store name s }
+        ensures one_state { (store : MemoryStore) (name : List ℕ) (s u : Option TenantState) → ⟦<MemoryStore as TenantStore>⟧.has_state store name s → ⟦<MemoryStore as TenantStore>⟧.has_state store name u → s ≡ u }
     {
-        MapStore {
+        MemoryStore {
             alloc,
             states: BTreeMap::new(alloc),
         }
     }
 }
 
-impl TenantStore for MapStore {
+impl TenantStore for MemoryStore {
     ghost use Rattle.std.specs.Prelude.{◌≡◌, option_map};
+    ghost use Rattle.std.proofs.Common.{◌∙◌, sym};
     ghost use Rattle.std.specs.BTreeMap.{get_by_text};
 
     ghost is_honest = { λ store. Unit {0} };
 
-    ghost stands_for = { λ store name s. option_map (λ r. r.value) (get_by_text store.states name) ≡ s };
+    ghost has_state = { λ store name s. option_map (λ r. r.value) (get_by_text store.states name) ≡ s };
 
     fn load(&mut self, name: &str) -> Result<Option<Rc<TenantState>>, StoreFault> {
         match self.states.get(name) {
@@ -68,7 +76,7 @@ impl TenantStore for MapStore {
     }
 
     fn create(&mut self, name: &str) -> Result<(), StoreFault> {
-        put(self.alloc, &mut self.states, name, TenantState { epoch: 0 })?;
+        put(self.alloc, &mut self.states, name, TenantState::fresh())?;
         Ok(())
     }
 
@@ -87,4 +95,6 @@ impl TenantStore for MapStore {
         take_out(&mut self.states, name);
         Ok(())
     }
+
+    ghost one_state = { λ store t s u honest is also. sym is ∙ also };
 }

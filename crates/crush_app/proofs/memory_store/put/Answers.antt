@@ -4,7 +4,7 @@ use Rattle.std.specs.BTreeMap.{get_by_text}
 use Rattle.std.specs.declared.alloc.Global.{Global}
 use Rattle.std.proofs.lemmas.Map.Text.{btree_map_updates_text}
 use Rattle.crush_app.proofs.Kept.{option_map-if}
-use Rattle.crush_app.proofs.map_store.put.Goals as goal
+use Rattle.crush_app.proofs.memory_store.put.Goals as goal
 
 pub returns-clause-ok : goal.returns-clause-ok
 returns-clause-ok c u =
