@@ -1,13 +1,13 @@
 -- A script goes on.
-use Rattle.std.proofs.Common.{◌≡◌, ℕ, ◌==◌, ◌≤◌, ◌<◌, List, [], ◌∷◌, ◌++◌, length, map, filter, length-append, Bool, true, false, if◌then◌else◌, Option, Some, None, refl, ap, sym, ◌∙◌, arith, append_assoc}
+use Rattle.std.proofs.Common.{◌≡◌, ℕ, ◌==◌, ◌≤◌, List, [], ◌∷◌, ◌++◌, length, map, filter, length-append, Bool, true, false, if◌then◌else◌, Option, Some, None, refl, ap, sym, ◌∙◌, arith, append_assoc}
 use Rattle.std.proofs.lemmas.Bool.Decides.{nat_tests}
 use Rattle.std.specs.Io.KnownBytes.{Appends}
 use Rattle.std.specs.Str.Lines.{lines}
-use Rattle.tenant_core.specs.States.{States, Answers, MeetsDefinition}
+use Rattle.tenant_core.specs.States.{States, Answers}
 use Rattle.tenant_core.specs.declared.call.Call.{Call}
 use Rattle.tenant_core.specs.declared.reply.Reply.{Reply}
 use Rattle.tenant_core.proofs.Running.{run_both, run_one, run_none}
-use Rattle.crush_app.specs.Play.{AppendsUpTo, AppendsPart, Plays, PlaysUpTo, WritesHeadline}
+use Rattle.crush_app.specs.Play.{AppendsPart, Plays, PlaysUpTo, WritesHeadline}
 use Rattle.crush_app.specs.Script.{bad_line, call_of, calls_in, is_nonempty, messages_in, messages, output, wire}
 use Rattle.crush_app.proofs.Writing.{appends_both, appends_none}
 

@@ -17,11 +17,7 @@ use tenant_core::{
 };
 
 /// Carries out the effect of a request on its tenant.
-fn carry_out<T: TenantStore>(
-    store: &mut T,
-    tenant: &str,
-    effect: &Effect,
-) -> Result<(), StoreFault>
+fn carry_out<T: TenantStore>(store: &mut T, tenant: &str, effect: &Effect) -> Result<(), StoreFault>
     requires { T.is_honest store.old → (s : Option TenantState) × T.has_state store.old tenant.now s × Fits effect.now s }
     ensures left { T.is_honest store.new → (s : Option TenantState) → T.has_state store.old tenant.now s → Fits effect.now s → OnOk result (T.has_state store.new tenant.now (after_effect effect.now s)) }
     ensures others { T.is_honest store.new → (t : List ℕ) (s : Option TenantState) → t ≢ tenant.now → (T.has_state store.old t s ↔ T.has_state store.new t s) }
@@ -104,10 +100,21 @@ impl Service<MemoryStore> {
         ensures some_state { (store : MemoryStore) (name : List ℕ) → (s : Option TenantState) × ⟦<MemoryStore as TenantStore>⟧.has_state store name s }
         ensures one_state { (store : MemoryStore) (name : List ℕ) (s u : Option TenantState) → ⟦<MemoryStore as TenantStore>⟧.has_state store name s → ⟦<MemoryStore as TenantStore>⟧.has_state store name u → s ≡ u }
     {
+        Service::over(alloc, MemoryStore::new(alloc))
+    }
+}
+
+impl<T: TenantStore + Drop> Service<T> {
+    ghost use Rattle.std.specs.Prelude.{◌≡◌, IfOk};
+
+    /// A service over this store.
+    pub fn over(alloc: Global, store: T) -> Result<Self, AllocError>
+        ensures { IfOk result (λ service. service ≡ store) }
+    {
         Ok(Service {
             alloc,
             routes: Routes::build(alloc)?,
-            store: MemoryStore::new(alloc),
+            store,
         })
     }
 }

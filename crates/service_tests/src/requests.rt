@@ -1,19 +1,25 @@
-use crate::{
-    Action, Problem, Routes, StoreFault, TenantState, answer, create, read_request, refused,
-    store_fault,
-};
+//! Requests as `tenant_core` reads and decides them.
+
 use std::alloc::{AllocError, Global};
 use std::test::Fail;
+use tenant_core::{
+    CallParts, Effect, Routes, StoreFault, TenantState, decide, read_request, refused, store_fault,
+};
 
 /// The reply to a POST of this body to the path of a tenant's picks: its status and body.
 fn asked(alloc: Global, body: &str) -> Result<(u16, String), AllocError> {
     let routes = Routes::build(alloc)?;
-    let reply = match read_request(alloc, &routes, b"POST", "/t/a/pick", body.as_bytes())? {
+    let call = CallParts {
+        method: b"POST",
+        path: "/t/a/pick",
+        body: body.as_bytes(),
+    };
+    let reply = match read_request(alloc, &routes, call)? {
         Err(problem) => refused(alloc, problem)?,
-        Ok(request) => match &request.action {
-            Action::Ask(query) => answer(alloc, "a", &TenantState { epoch: 3 }, query)?,
-            _ => refused(alloc, Problem::Method)?,
-        },
+        Ok(request) => {
+            let state = TenantState { epoch: 3 };
+            decide(alloc, "a", Some(&state), &request.action)?.reply
+        }
     };
     Ok((reply.status, reply.body.into_string()))
 }
@@ -91,16 +97,46 @@ fn buckets_pick_as_worked_out_by_hand(rt: HostRuntime) -> Result<(), Fail> {
 }
 
 #[test]
-fn a_tenant_is_made_and_a_fault_is_told(rt: HostRuntime) -> Result<(), Fail> {
+fn a_tenant_is_made_and_dropped(rt: HostRuntime) -> Result<(), Fail> {
     let alloc = rt.alloc();
-    let (state, reply) = create(alloc, "a")?;
-    assert_eq!(rt; state.epoch, 0);
-    assert_eq!(rt; reply.body.as_str(), "{\"epoch\":0,\"tenant\":\"a\"}");
-    let failed = store_fault(alloc, StoreFault::Failed);
-    assert_eq!(rt; failed.status, 503);
-    assert_eq!(rt; failed.body.as_str(), "{\"error\":\"store_failed\"}");
-    let damaged = store_fault(alloc, StoreFault::Damaged);
-    assert_eq!(rt; damaged.status, 500);
-    assert_eq!(rt; damaged.body.as_str(), "{\"error\":\"store_damaged\"}");
+    let routes = Routes::build(alloc)?;
+    for (method, there, body) in [
+        ("PUT", false, "{\"epoch\":0,\"tenant\":\"a\"}"),
+        ("PUT", true, "{\"error\":\"exists\"}"),
+        ("DELETE", true, "{\"dropped\":\"a\"}"),
+        ("DELETE", false, "{\"error\":\"no_tenant\"}"),
+    ] {
+        let call = CallParts {
+            method: method.as_bytes(),
+            path: "/t/a",
+            body: b"",
+        };
+        let Ok(request) = read_request(alloc, &routes, call)? else {
+            assert!(rt; false, "{method} is a request");
+            return Ok(());
+        };
+        let state = TenantState::fresh();
+        let state = if there { Some(&state) } else { None };
+        let decision = decide(alloc, "a", state, &request.action)?;
+        assert_eq!(rt; decision.reply.body.as_str(), body, "{method} {there}");
+        let changes = !matches!(decision.effect, Effect::Keep);
+        assert_eq!(rt; changes, decision.reply.status < 300, "{method} {there}");
+    }
+    Ok(())
+}
+
+#[test]
+fn a_fault_of_the_store_has_its_reply(rt: HostRuntime) -> Result<(), Fail> {
+    let alloc = rt.alloc();
+    for (fault, status, body) in [
+        (StoreFault::NoMemory, 503, ""),
+        (StoreFault::Full, 503, "{\"error\":\"store_failed\"}"),
+        (StoreFault::Failed, 503, "{\"error\":\"store_failed\"}"),
+        (StoreFault::Damaged, 500, "{\"error\":\"store_damaged\"}"),
+    ] {
+        let reply = store_fault(alloc, fault);
+        assert_eq!(rt; reply.status, status);
+        assert_eq!(rt; reply.body.as_str(), body);
+    }
     Ok(())
 }

@@ -1,9 +1,11 @@
-use crate::{MapStore, ScriptEnd, Service, script_run};
+//! Scripts and runs on the service over a store in memory.
+
+use crush_app::{MemoryStore, ScriptEnd, Service, script_run};
 use crush_map::Text;
 use std::alloc::{AllocError, Global};
 use std::io::{self, ErrorKind, Read, Write};
 use std::test::Fail;
-use tenant_core::{Bytes, Call, Change, TenantStore};
+use tenant_core::{Bytes, Call, CallParts, Change, TenantStore};
 
 const SCRIPT: &str =
     "PUT /t/a\nPOST /t/a/pick {\"bucket\":{\"id\":-1,\"items\":[{\"item\":4,\"weight\":0},{\"item\":9,\"weight\":65536}],\"kind\":\"list\"},\"r\":0,\"x\":5}\r\nGET\n\nGET /t/a\nPUT /t/a\nDELETE /t/a\nGET /t/a";
@@ -103,6 +105,32 @@ fn a_write_fault_leaves_a_front_of_the_replies(rt: HostRuntime) -> Result<(), Fa
     Ok(())
 }
 
+#[test]
+fn a_write_fault_answers_no_later_line(rt: HostRuntime) -> Result<(), Fail> {
+    let alloc = rt.alloc();
+    let mut service = Service::over_map(alloc)?;
+    let mut reader = Reader {
+        rest: b"PUT /t/a\nPUT /t/b\nPUT /t/c\n",
+        reads: 1_000,
+    };
+    // a reply is 28 bytes, so the writes end in the second
+    let mut writer = Writer {
+        taken: Vec::new(alloc),
+        writes: 13,
+    };
+    let end = script_run(alloc, &mut service, &mut reader, &mut writer)?;
+    assert_eq!(rt; end, ScriptEnd::WriteFault);
+    for (path, status) in [("/t/a", 200), ("/t/b", 200), ("/t/c", 404)] {
+        let reply = service.request(CallParts {
+            method: b"GET",
+            path,
+            body: b"",
+        });
+        assert_eq!(rt; reply.status, status, "{path}");
+    }
+    Ok(())
+}
+
 fn call(alloc: Global, method: &str, path: &str) -> Result<Call, AllocError> {
     Ok(Call {
         method: Bytes::new(Vec::from_slice(alloc, method.as_bytes())?),
@@ -112,7 +140,7 @@ fn call(alloc: Global, method: &str, path: &str) -> Result<Call, AllocError> {
 }
 
 #[test]
-fn a_run_tells_each_tenant_its_own_state(rt: HostRuntime) -> Result<(), Fail> {
+fn a_run_answers_each_tenant_from_its_own_state(rt: HostRuntime) -> Result<(), Fail> {
     let alloc = rt.alloc();
     let asked = [
         ("PUT", "/t/a", 201),
@@ -139,7 +167,7 @@ fn a_run_tells_each_tenant_its_own_state(rt: HostRuntime) -> Result<(), Fail> {
 
 #[test]
 fn a_change_is_kept_by_the_store_in_memory(rt: HostRuntime) -> Result<(), Fail> {
-    let mut store = MapStore::new(rt.alloc());
+    let mut store = MemoryStore::new(rt.alloc());
     assert!(rt; store.create("a").is_ok());
     assert!(rt; store.commit("a", &Change { epoch: 7 }).is_ok());
     match store.load("a") {

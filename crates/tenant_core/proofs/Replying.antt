@@ -40,8 +40,7 @@ reply-answered a = ap not (of_answer a).no_503
 pub step_status : (call : Call) (s : Option TenantState) → ((step call s).reply.status ≡ 500 → ⊥) × ((step call s).reply.status ≡ 503 → ⊥)
 unfolding step
 step_status call s =
-    let status = of_answer (decision_or_refusal (request_of call) s).answer in
-    (
+    let status = of_answer (decision_or_refusal (request_of call) s).answer in (
       λ h. let both : false ≡ true = sym status.no_500 ∙ ap (λ n. n == 500) h in cc,
       λ h. let both : false ≡ true = sym status.no_503 ∙ ap (λ n. n == 503) h in cc,
     )
