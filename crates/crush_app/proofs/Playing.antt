@@ -1,15 +1,15 @@
 -- A script goes on.
-use Rattle.std.proofs.Common.{◌≡◌, ℕ, ◌==◌, ◌≤◌, List, [], ◌∷◌, ◌++◌, length, map, filter, Bool, true, false, if◌then◌else◌, Option, Some, None, refl, ap, sym, ◌∙◌, arith, append_assoc}
+use Rattle.std.proofs.Common.{◌≡◌, ℕ, ◌==◌, ◌≤◌, List, [], ◌∷◌, ◌++◌, length, map, filter, length-append, Bool, true, false, if◌then◌else◌, Option, Some, None, refl, ap, sym, ◌∙◌, arith, append_assoc}
 use Rattle.std.proofs.lemmas.Bool.Decides.{nat_tests}
 use Rattle.std.specs.Io.KnownBytes.{Appends}
 use Rattle.std.specs.Str.Lines.{lines}
-use Rattle.tenant_core.specs.Standing.{Standing, Answers}
+use Rattle.tenant_core.specs.States.{States, Answers}
 use Rattle.tenant_core.specs.declared.call.Call.{Call}
 use Rattle.tenant_core.specs.declared.reply.Reply.{Reply}
-use Rattle.tenant_core.proofs.Running.{serves_both, serves_one, serves_none}
-use Rattle.crush_app.specs.Play.{AppendsFront, Plays, PlaysFront}
+use Rattle.tenant_core.proofs.Running.{run_both, run_one, run_none}
+use Rattle.crush_app.specs.Play.{AppendsPart, Plays, PlaysUpTo, WritesHeadline}
 use Rattle.crush_app.specs.Script.{bad_line, call_of, calls_in, is_nonempty, messages_in, messages, output, wire}
-use Rattle.crush_app.proofs.Writing.{appends_both, appends_none, front_after, front_whole}
+use Rattle.crush_app.proofs.Writing.{appends_both, appends_none}
 
 append_none : {A : Type 0} (xs : List A) → xs ++ [] ≡ xs
 append_none [] = refl
@@ -39,55 +39,83 @@ messages_in-front line rest = filter-front (is_nonempty line) line rest
 
 -- ---- scripts, one after the other
 
-pub plays_none : (old : Standing) (a : Option (List ℕ)) → Plays old old [] (Appends a a)
-plays_none old a = record { replies = []; served = serves_none old old (λ t s stands. stands); written = appends_none a }
+pub plays_none : (old : States) (a : Option (List ℕ)) → Plays old old [] a a
+plays_none old a = record { replies = []; meets = run_none old old (λ t s. (λ has. has, λ has. has)); written = appends_none a }
 
--- an empty line asks nothing
-pub plays_empty : (old : Standing) (a : Option (List ℕ)) (line : List ℕ) → true ≡ (length line == 0) → Plays old old (messages_in (line ∷ [])) (AppendsFront a a)
-plays_empty old a [] empty = record { replies = []; served = serves_none old old (λ t s stands. stands); written = front_whole a a [] (appends_none a) }
-plays_empty old a (b ∷ line) empty = let none : length (b ∷ line) ≡ 0 = grind (arith, nat_tests, sym empty) in absurd (omega (arith, none))
-
-pub plays_both : (old mid new : Standing) (a b c : Option (List ℕ)) (ms ns : List (Option Call)) → Plays old mid ms (Appends a b) → Plays mid new ns (Appends b c) → Plays old new (ms ++ ns) (Appends a c)
+pub plays_both : (old mid new : States) (a b c : Option (List ℕ)) (ms ns : List (Option Call)) → Plays old mid ms a b → Plays mid new ns b c → Plays old new (ms ++ ns) a c
 plays_both old mid new a b c ms ns first second = record {
   replies = first.replies ++ second.replies;
-  served = rw (calls_in-append ms ns) (serves_both old mid new (calls_in ms) first.replies (calls_in ns) second.replies first.served second.served);
-  written = rw (output-append ms ns first.replies second.replies first.served.count) (appends_both a b c (output ms first.replies) (output ns second.replies) first.written second.written);
-}
-
-pub plays_cut : (old mid new : Standing) (a b c : Option (List ℕ)) (ms ns : List (Option Call)) → Plays old mid ms (Appends a b) → Plays mid new ns (AppendsFront b c) → Plays old new (ms ++ ns) (AppendsFront a c)
-plays_cut old mid new a b c ms ns first second = record {
-  replies = first.replies ++ second.replies;
-  served = rw (calls_in-append ms ns) (serves_both old mid new (calls_in ms) first.replies (calls_in ns) second.replies first.served second.served);
-  written = rw (output-append ms ns first.replies second.replies first.served.count) (front_after a b c (output ms first.replies) (output ns second.replies) first.written second.written);
+  meets = rw (calls_in-append ms ns) (run_both old mid new (calls_in ms) first.replies (calls_in ns) second.replies first.meets second.meets);
+  written = rw (output-append ms ns first.replies second.replies first.meets.count) (appends_both a b c (output ms first.replies) (output ns second.replies) first.written second.written);
 }
 
 -- ---- one message
 
 -- a call, and its reply as a line
-pub plays_call : (old new : Standing) (call : Call) (reply : Reply) (Written : List ℕ → Type 0) → Answers call old new reply → Written (wire reply) → Plays old new (Some call ∷ []) Written
-plays_call old new call reply Written answered written = record {
+pub plays_call : (old new : States) (call : Call) (reply : Reply) (a b : Option (List ℕ)) → Answers call old new reply → Appends a b (wire reply) → Plays old new (Some call ∷ []) a b
+plays_call old new call reply a b answered written = record {
   replies = reply ∷ [];
-  served = serves_one old new call reply answered;
+  meets = run_one old new call reply answered;
   written = rw (append_none (wire reply)) written;
 }
 
--- a line that isn't of the form
-pub plays_bad : (old : Standing) (Written : List ℕ → Type 0) → Written (wire bad_line) → Plays old old (None ∷ []) Written
-plays_bad old Written written = record {
+-- a call, and its reply as a line in part
+pub cut_call : (old new : States) (call : Call) (reply : Reply) (a b : Option (List ℕ)) → Answers call old new reply → AppendsPart a b (wire reply) → PlaysUpTo old new (Some call ∷ []) a b
+cut_call old new call reply a b answered part = record {
+  before = [];
+  cut = Some call;
+  later = [];
+  all = refl;
   replies = [];
-  served = serves_none old old (λ t s stands. stands);
+  last = reply ∷ [];
+  count = refl;
+  meets = run_one old new call reply answered;
+  line = part.front.front;
+  rest = part.rest;
+  some = part.some;
+  part = part.front.all ∙ sym (append_none (wire reply));
+  written = part.front.written;
+}
+
+-- a line that isn't of the form
+pub plays_bad : (old : States) (a b : Option (List ℕ)) → Appends a b (wire bad_line) → Plays old old (None ∷ []) a b
+plays_bad old a b written = record {
+  replies = [];
+  meets = run_none old old (λ t s. (λ has. has, λ has. has));
   written = rw (append_none (wire bad_line)) written;
 }
+
+pub cut_bad : (old : States) (a b : Option (List ℕ)) → AppendsPart a b (wire bad_line) → PlaysUpTo old old (None ∷ []) a b
+cut_bad old a b part = record {
+  before = [];
+  cut = None;
+  later = [];
+  all = refl;
+  replies = [];
+  last = [];
+  count = refl;
+  meets = run_none old old (λ t s. (λ has. has, λ has. has));
+  line = part.front.front;
+  rest = part.rest;
+  some = part.some;
+  part = part.front.all ∙ sym (append_none (wire bad_line));
+  written = part.front.written;
+}
+
+-- an empty line asks nothing
+pub plays_empty : (old : States) (a : Option (List ℕ)) (line : List ℕ) → true ≡ (length line == 0) → Plays old old (messages_in (line ∷ [])) a a
+plays_empty old a [] empty = plays_none old a
+plays_empty old a (b ∷ line) empty = let none : length (b ∷ line) ≡ 0 = grind (arith, nat_tests, sym empty) in absurd (omega (arith, none))
 
 -- ---- an input
 
 -- the messages of what was taken from an input were played, and the rest is left
-pub record PlaysRest (old mid : Standing) (a b : Option (List ℕ)) (input rest : List ℕ) : Type 0 where
+pub record PlaysRest (old mid : States) (a b : Option (List ℕ)) (input rest : List ℕ) : Type 0 where
   pub done : List (Option Call)
   pub all : done ++ messages rest ≡ messages input
-  pub plays : Plays old mid done (Appends a b)
+  pub plays : Plays old mid done a b
 
-pub rest_whole : (old : Standing) (a : Option (List ℕ)) (input : List ℕ) → PlaysRest old old a a input input
+pub rest_whole : (old : States) (a : Option (List ℕ)) (input : List ℕ) → PlaysRest old old a a input input
 rest_whole old a input = record { done = []; all = refl; plays = plays_none old a }
 
 messages-line : (rest line after : List ℕ) → lines rest ≡ line ∷ lines after → messages rest ≡ messages_in (line ∷ []) ++ messages after
@@ -97,25 +125,76 @@ moved : (done m after rest input : List (Option Call)) → rest ≡ m ++ after �
 moved done m after rest input e h = append_assoc done m after ∙ ap (λ ys. done ++ ys) (sym e) ∙ h
 
 -- one more line was played
-pub rest_more : (old mid new : Standing) (a b c : Option (List ℕ)) (input rest line after : List ℕ) → lines rest ≡ line ∷ lines after
-    → PlaysRest old mid a b input rest → Plays mid new (messages_in (line ∷ [])) (Appends b c) → PlaysRest old new a c input after
+pub rest_more : (old mid new : States) (a b c : Option (List ℕ)) (input rest line after : List ℕ) → lines rest ≡ line ∷ lines after
+    → PlaysRest old mid a b input rest → Plays mid new (messages_in (line ∷ [])) b c → PlaysRest old new a c input after
 rest_more old mid new a b c input rest line after h played one = record {
   done = played.done ++ messages_in (line ∷ []);
   all = moved played.done (messages_in (line ∷ [])) (messages after) (messages rest) (messages input) (messages-line rest line after h) played.all;
   plays = plays_both old mid new a b c played.done (messages_in (line ∷ [])) played.plays one;
 }
 
--- the next line was cut
-pub rest_cut : (old mid new : Standing) (a b c : Option (List ℕ)) (input rest line after : List ℕ) → lines rest ≡ line ∷ lines after
-    → PlaysRest old mid a b input rest → Plays mid new (messages_in (line ∷ [])) (AppendsFront b c) → PlaysFront old new (messages input) (AppendsFront a c)
-rest_cut old mid new a b c input rest line after h played one = record {
-  front = played.done ++ messages_in (line ∷ []);
-  others = messages after;
-  all = moved played.done (messages_in (line ∷ [])) (messages after) (messages rest) (messages input) (messages-line rest line after h) played.all;
-  plays = plays_cut old mid new a b c played.done (messages_in (line ∷ [])) played.plays one;
+-- behind messages that were played whole, and before others
+cut-between : (done before after later : List (Option Call)) (cut : Option Call) → (done ++ before) ++ cut ∷ (later ++ after) ≡ done ++ ((before ++ cut ∷ later) ++ after)
+cut-between done before after later cut = append_assoc done before (cut ∷ (later ++ after)) ∙ ap (λ ys. done ++ ys) (sym (append_assoc before (cut ∷ later) after))
+
+pub cut_after : (old mid new : States) (a b c : Option (List ℕ)) (done ms after : List (Option Call)) → Plays old mid done a b → PlaysUpTo mid new ms b c → PlaysUpTo old new (done ++ (ms ++ after)) a c
+cut_after old mid new a b c done ms after first second = record {
+  before = done ++ second.before;
+  cut = second.cut;
+  later = second.later ++ after;
+  all = cut-between done second.before after second.later second.cut ∙ ap (λ ys. done ++ (ys ++ after)) second.all;
+  replies = first.replies ++ second.replies;
+  last = second.last;
+  count = let one = first.meets.count in let two = second.count in rw (calls_in-append done second.before) (simp length-append (omega arith));
+  meets =
+      let both = run_both old mid new (calls_in done) first.replies (calls_in (second.before ++ second.cut ∷ [])) (second.replies ++ second.last) first.meets second.meets in
+      rw (append_assoc done second.before (second.cut ∷ []), calls_in-append done (second.before ++ second.cut ∷ []), append_assoc first.replies second.replies second.last) both;
+  line = second.line;
+  rest = second.rest;
+  some = second.some;
+  part = second.part;
+  written =
+      rw (output-append done second.before first.replies second.replies first.meets.count, append_assoc (output done first.replies) (output second.before second.replies) second.line)
+      (appends_both a b c (output done first.replies) (output second.before second.replies ++ second.line) first.written second.written);
 }
 
+-- the next line was cut
+pub rest_cut : (old mid new : States) (a b c : Option (List ℕ)) (input rest line after : List ℕ) → lines rest ≡ line ∷ lines after
+    → PlaysRest old mid a b input rest → PlaysUpTo mid new (messages_in (line ∷ [])) b c → PlaysUpTo old new (messages input) a c
+rest_cut old mid new a b c input rest line after h played one =
+    rw (sym played.all, messages-line rest line after h) (cut_after old mid new a b c played.done (messages_in (line ∷ [])) (messages after) played.plays one)
+
 -- nothing is left
-pub rest_none : (old new : Standing) (a b : Option (List ℕ)) (input rest : List ℕ) → length rest ≤ 0 → PlaysRest old new a b input rest → Plays old new (messages input) (Appends a b)
+pub rest_none : (old new : States) (a b : Option (List ℕ)) (input rest : List ℕ) → length rest ≤ 0 → PlaysRest old new a b input rest → Plays old new (messages input) a b
 rest_none old new a b input [] h played = rw (sym played.all ∙ append_none played.done) played.plays
 rest_none old new a b input (x ∷ rest) h played = absurd (omega arith)
+
+-- ---- the headline of what was written
+
+pub headline_whole : (old new : States) (ms : List (Option Call)) (a b : Option (List ℕ)) → Plays old new ms a b → WritesHeadline old ms a b
+headline_whole old new ms a b plays = record {
+  answered = ms;
+  later = [];
+  all = append_none ms;
+  replies = plays.replies;
+  rest = [];
+  written = record { front = output ms plays.replies; all = append_none (output ms plays.replies); written = plays.written };
+  headline = plays.meets.headline;
+}
+
+pub headline_part : (old new : States) (ms : List (Option Call)) (a b : Option (List ℕ)) → PlaysUpTo old new ms a b → WritesHeadline old ms a b
+headline_part old new ms a b plays = record {
+  answered = plays.before ++ plays.cut ∷ [];
+  later = plays.later;
+  all = append_assoc plays.before (plays.cut ∷ []) plays.later ∙ plays.all;
+  replies = plays.replies ++ plays.last;
+  rest = plays.rest;
+  written = record {
+    front = output plays.before plays.replies ++ plays.line;
+    all =
+        append_assoc (output plays.before plays.replies) plays.line plays.rest ∙ ap (λ ys. output plays.before plays.replies ++ ys) plays.part
+        ∙ sym (output-append plays.before (plays.cut ∷ []) plays.replies plays.last plays.count);
+    written = plays.written;
+  };
+  headline = plays.meets.headline;
+}

@@ -1,8 +1,8 @@
 -- What is written in pieces.
-use Rattle.std.proofs.Common.{◌≡◌, ℕ, ◌-◌, List, [], ◌++◌, length, take, drop, Option, Some, None, refl, ap, sym, ◌∙◌, arith, append_assoc, length-drop}
+use Rattle.std.proofs.Common.{◌≡◌, ℕ, ◌-◌, ◌<◌, List, [], ◌++◌, length, take, drop, Option, Some, None, refl, ap, sym, ◌∙◌, arith, append_assoc, length-append, length-drop}
 use Rattle.std.proofs.lemmas.List.{take_all, append-nil, take-append-drop}
 use Rattle.std.specs.Io.KnownBytes.{Appends}
-use Rattle.crush_app.specs.Play.{AppendsUpTo, AppendsFront}
+use Rattle.crush_app.specs.Play.{AppendsUpTo, AppendsPart}
 
 -- ---- all of the bytes
 
@@ -35,29 +35,31 @@ up_to_more a b c bytes rest n before more =
       written = appends_both a b c before.front (take n rest) before.written more;
     }
 
--- ---- a front
+-- ---- in part
 
-pub front_whole : (a b : Option (List ℕ)) (xs : List ℕ) → Appends a b xs → AppendsFront a b xs
-front_whole a b xs whole = ([], record { front = xs; all = append-nil xs; written = whole })
+length-some : (rest more : List ℕ) → 0 < length rest → 0 < length (rest ++ more)
+length-some rest more h = simp length-append (omega arith)
 
--- a front of the first piece
-pub front_first : (a b : Option (List ℕ)) (xs ys : List ℕ) → AppendsFront a b xs → AppendsFront a b (xs ++ ys)
-front_first a b xs ys part = (
-  part.0 ++ ys,
-  record {
-    front = part.1.front;
-    all = sym (append_assoc part.1.front part.0 ys) ∙ ap (λ zs. zs ++ ys) part.1.all;
-    written = part.1.written;
-  },
-)
+-- the first piece in part
+pub part_first : (a b : Option (List ℕ)) (xs ys : List ℕ) → AppendsPart a b xs → AppendsPart a b (xs ++ ys)
+part_first a b xs ys part = record {
+  rest = part.rest ++ ys;
+  some = length-some part.rest ys part.some;
+  front = record {
+    front = part.front.front;
+    all = sym (append_assoc part.front.front part.rest ys) ∙ ap (λ zs. zs ++ ys) part.front.all;
+    written = part.front.written;
+  };
+}
 
--- the first piece, and a front of the next
-pub front_after : (a b c : Option (List ℕ)) (xs ys : List ℕ) → Appends a b xs → AppendsFront b c ys → AppendsFront a c (xs ++ ys)
-front_after a b c xs ys whole part = (
-  part.0,
-  record {
-    front = xs ++ part.1.front;
-    all = append_assoc xs part.1.front part.0 ∙ ap (λ zs. xs ++ zs) part.1.all;
-    written = appends_both a b c xs part.1.front whole part.1.written;
-  },
-)
+-- the first piece, and the next in part
+pub part_after : (a b c : Option (List ℕ)) (xs ys : List ℕ) → Appends a b xs → AppendsPart b c ys → AppendsPart a c (xs ++ ys)
+part_after a b c xs ys whole part = record {
+  rest = part.rest;
+  some = part.some;
+  front = record {
+    front = xs ++ part.front.front;
+    all = append_assoc xs part.front.front part.rest ∙ ap (λ zs. xs ++ zs) part.front.all;
+    written = appends_both a b c xs part.front.front whole part.front.written;
+  };
+}

@@ -1,4 +1,3 @@
 pub mod Script
 pub mod Play
-pub mod Line
 pub mod End

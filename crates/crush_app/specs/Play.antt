@@ -1,7 +1,7 @@
 -- What playing a script does to the states of tenants and to the bytes that were written.
-use Rattle.std.specs.Prelude.{ℕ, ◌≡◌, List, ◌++◌, Option}
+use Rattle.std.specs.Prelude.{ℕ, ◌≡◌, ◌<◌, List, [], ◌∷◌, ◌++◌, length, Option}
 use Rattle.std.specs.Io.KnownBytes.{Appends}
-use Rattle.tenant_core.specs.Standing.{Standing, Serves}
+use Rattle.tenant_core.specs.States.{States, Headline, MeetsDefinition}
 use Rattle.tenant_core.specs.declared.call.Call.{Call}
 use Rattle.tenant_core.specs.declared.reply.Reply.{Reply}
 use Rattle.crush_app.specs.Script.{calls_in, output}
@@ -14,21 +14,44 @@ pub record AppendsUpTo (rest : List ℕ) (old new : Option (List ℕ)) (bytes : 
   pub all : front ++ rest ≡ bytes
   pub written : Appends old new front
 
--- a front of the bytes was written: all of them, some, or none
-abbrev pub AppendsFront : Option (List ℕ) → Option (List ℕ) → List ℕ → Type 0
-AppendsFront old new bytes = (rest : List ℕ) × AppendsUpTo rest old new bytes
+-- the bytes were written up to a rest that isn't empty
+pub record AppendsPart (old new : Option (List ℕ)) (bytes : List ℕ) : Type 0 where
+  pub rest : List ℕ
+  pub some : 0 < length rest
+  pub front : AppendsUpTo rest old new bytes
 
 -- ---- messages
 
--- the calls among the messages were served, and of the lines of all messages that was written
-pub record Plays (old new : Standing) (ms : List (Option Call)) (Written : List ℕ → Type 0) : Type 0 where
+-- the calls among the messages were answered as the definition says, and the lines of all messages were written
+pub record Plays (old new : States) (ms : List (Option Call)) (from to : Option (List ℕ)) : Type 0 where
   pub replies : List Reply
-  pub served : Serves old new (calls_in ms) replies
-  pub written : Written (output ms replies)
+  pub meets : MeetsDefinition old new (calls_in ms) replies
+  pub written : Appends from to (output ms replies)
 
--- so it was with the first of the messages, and the others were not served
-pub record PlaysFront (old new : Standing) (ms : List (Option Call)) (Written : List ℕ → Type 0) : Type 0 where
-  pub front : List (Option Call)
-  pub others : List (Option Call)
-  pub all : front ++ others ≡ ms
-  pub plays : Plays old new front Written
+-- the messages before one were answered and their lines written whole; that one was answered, and its line was written
+-- in part; no later message was answered
+pub record PlaysUpTo (old new : States) (ms : List (Option Call)) (from to : Option (List ℕ)) : Type 0 where
+  pub before : List (Option Call)
+  pub cut : Option Call
+  pub later : List (Option Call)
+  pub all : before ++ cut ∷ later ≡ ms
+  pub replies : List Reply
+  pub last : List Reply
+  pub count : length replies ≡ length (calls_in before)
+  pub meets : MeetsDefinition old new (calls_in (before ++ cut ∷ [])) (replies ++ last)
+  pub line : List ℕ
+  pub rest : List ℕ
+  pub some : 0 < length rest
+  pub part : line ++ rest ≡ output (cut ∷ []) last
+  pub written : Appends from to (output before replies ++ line)
+
+-- the headline of what was written: it is a front of the lines of the first messages with the replies to their calls,
+-- and of these replies, for every tenant, those other than 503 are the definition's
+pub record WritesHeadline (old : States) (ms : List (Option Call)) (from to : Option (List ℕ)) : Type 0 where
+  pub answered : List (Option Call)
+  pub later : List (Option Call)
+  pub all : answered ++ later ≡ ms
+  pub replies : List Reply
+  pub rest : List ℕ
+  pub written : AppendsUpTo rest from to (output answered replies)
+  pub headline : Headline old (calls_in answered) replies

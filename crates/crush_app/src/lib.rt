@@ -2,14 +2,12 @@
 #![tactic(auto)]
 
 mod input;
-mod map_store;
+mod memory_store;
 mod play;
 mod script;
 mod service;
-#[cfg(test)]
-mod tests;
 mod wire;
 
-pub use map_store::MapStore;
+pub use memory_store::MemoryStore;
 pub use play::{ScriptEnd, script_run};
 pub use service::Service;

@@ -2,20 +2,20 @@
 
 ghost use Rattle.std.specs.Prelude.{◌≡◌, ◌≤◌, ◌<◌, ◌∷◌, [], length, IsTrue, IfSome, option_map};
 ghost use Rattle.std.specs.Bool.{IsFalse};
-ghost use Rattle.std.specs.Io.KnownBytes.{Appends, Keeps as KeepsBytes};
-ghost use Rattle.tenant_core.specs.Standing.{Keeps};
-ghost use Rattle.crush_app.specs.End.{ServesLines, ServesNone};
-ghost use Rattle.crush_app.specs.Line.{view};
-ghost use Rattle.crush_app.specs.Play.{Plays, PlaysFront, AppendsFront};
+ghost use Rattle.std.specs.Io.KnownBytes.{Keeps as KeepsBytes};
+ghost use Rattle.tenant_core.specs.CallParts.{call_of};
+ghost use Rattle.tenant_core.specs.States.{Same};
+ghost use Rattle.crush_app.specs.End.{AnswersLines, AnswersNone};
+ghost use Rattle.crush_app.specs.Play.{Plays, PlaysUpTo, WritesHeadline};
 ghost use Rattle.crush_app.specs.Script.{bad_line, messages, messages_in, input_limit};
 
 use crate::input::{InputFault, read_input};
-use crate::script::{LineCall, call_of, first_line};
+use crate::script::{call_of as call_in, first_line};
 use crate::service::Service;
 use crate::wire::write_line;
 use std::alloc::{AllocError, Global};
 use std::io::{Read, Write};
-use tenant_core::{Problem, Reply, TenantStore, refused};
+use tenant_core::{CallParts, Problem, Reply, TenantStore, refused};
 
 /// How a script ended.
 #[derive(Clone, Copy, Debug, PartialEq, Eq)]
@@ -33,17 +33,17 @@ pub enum ScriptEnd {
 fn play_message<T: TenantStore, W: Write>(
     service: &mut Service<T>,
     bad: &Reply,
-    message: Option<LineCall<'_>>,
+    message: Option<CallParts<'_>>,
     writer: &mut W,
 ) -> bool
     requires { bad.now ≡ bad_line }
-    ensures whole { T.is_honest service.new → IsTrue result → Plays (T.stands_for service.old) (T.stands_for service.new) (option_map view message.entry ∷ []) (Appends (W.contents writer.old) (W.contents writer.new)) }
-    ensures front { T.is_honest service.new → Plays (T.stands_for service.old) (T.stands_for service.new) (option_map view message.entry ∷ []) (AppendsFront (W.contents writer.old) (W.contents writer.new)) }
+    ensures whole { T.is_honest service.new → IsTrue result → Plays (T.has_state service.old) (T.has_state service.new) (option_map call_of message.entry ∷ []) (W.contents writer.old) (W.contents writer.new) }
+    ensures cut { T.is_honest service.new → IsFalse result → PlaysUpTo (T.has_state service.old) (T.has_state service.new) (option_map call_of message.entry ∷ []) (W.contents writer.old) (W.contents writer.new) }
     ensures honest { T.is_honest service.new → T.is_honest service.old }
 {
     match message {
         Some(call) => {
-            let reply = service.request(call.method, call.path, call.body);
+            let reply = service.request(call);
             write_line(writer, &reply)
         }
         None => write_line(writer, bad),
@@ -57,14 +57,14 @@ fn play_line<T: TenantStore, W: Write>(
     writer: &mut W,
 ) -> bool
     requires { bad.now ≡ bad_line }
-    ensures whole { T.is_honest service.new → IsTrue result → Plays (T.stands_for service.old) (T.stands_for service.new) (messages_in (line.now ∷ [])) (Appends (W.contents writer.old) (W.contents writer.new)) }
-    ensures front { T.is_honest service.new → Plays (T.stands_for service.old) (T.stands_for service.new) (messages_in (line.now ∷ [])) (AppendsFront (W.contents writer.old) (W.contents writer.new)) }
+    ensures whole { T.is_honest service.new → IsTrue result → Plays (T.has_state service.old) (T.has_state service.new) (messages_in (line.now ∷ [])) (W.contents writer.old) (W.contents writer.new) }
+    ensures cut { T.is_honest service.new → IsFalse result → PlaysUpTo (T.has_state service.old) (T.has_state service.new) (messages_in (line.now ∷ [])) (W.contents writer.old) (W.contents writer.new) }
     ensures honest { T.is_honest service.new → T.is_honest service.old }
 {
     if line.is_empty() {
         true
     } else {
-        play_message(service, bad, call_of(line), writer)
+        play_message(service, bad, call_in(line), writer)
     }
 }
 
@@ -75,8 +75,9 @@ fn play<T: TenantStore, W: Write>(
     writer: &mut W,
 ) -> bool
     requires { bad.now ≡ bad_line }
-    ensures whole { T.is_honest service.new → IsTrue result → Plays (T.stands_for service.old) (T.stands_for service.new) (messages input.now) (Appends (W.contents writer.old) (W.contents writer.new)) }
-    ensures front { T.is_honest service.new → IsFalse result → PlaysFront (T.stands_for service.old) (T.stands_for service.new) (messages input.now) (AppendsFront (W.contents writer.old) (W.contents writer.new)) }
+    ensures whole { T.is_honest service.new → IsTrue result → Plays (T.has_state service.old) (T.has_state service.new) (messages input.now) (W.contents writer.old) (W.contents writer.new) }
+    ensures cut { T.is_honest service.new → IsFalse result → PlaysUpTo (T.has_state service.old) (T.has_state service.new) (messages input.now) (W.contents writer.old) (W.contents writer.new) }
+    ensures headline { T.is_honest service.new → WritesHeadline (T.has_state service.old) (messages input.now) (W.contents writer.old) (W.contents writer.new) }
     ensures honest { T.is_honest service.new → T.is_honest service.old }
 {
     let mut rest = input;
@@ -90,29 +91,34 @@ fn play<T: TenantStore, W: Write>(
     true
 }
 
-/// Reads a script whole, serves its lines and writes their replies, a line for each. An empty line has no reply.
-/// Want of memory for the script itself is the only `Err`: no line was served.
+/// Reads a script whole, answers its lines and writes a line for each reply. An empty line has no reply.
+/// Want of memory for the script itself is the only `Err`: no line was answered.
 pub fn script_run<T: TenantStore, R: Read, W: Write>(
     alloc: Global,
     service: &mut Service<T>,
     reader: &mut R,
     writer: &mut W,
 ) -> Result<ScriptEnd, AllocError>
-    // Where all was done: the lines of what was read were served, and what was written is their replies and nothing else.
+    // Where all was done: the lines of what was read were answered, and what was written is their replies and nothing else.
     ensures done { T.is_honest service.new → result ≡ Ok ScriptEnd.Done → IfSome (R.remaining reader.old)
-        (λ input. Plays (T.stands_for service.old) (T.stands_for service.new) (messages input) (Appends (W.contents writer.old) (W.contents writer.new))) }
+        (λ input. Plays (T.has_state service.old) (T.has_state service.new) (messages input) (W.contents writer.old) (W.contents writer.new)) }
 
-    // Where a write failed: the first of the lines were served, and what was written is a front of their replies.
+    // Where a write failed: the replies before that one stand written whole, that one in part, and no later line was answered.
     ensures cut { T.is_honest service.new → result ≡ Ok ScriptEnd.WriteFault → IfSome (R.remaining reader.old)
-        (λ input. PlaysFront (T.stands_for service.old) (T.stands_for service.new) (messages input) (AppendsFront (W.contents writer.old) (W.contents writer.new))) }
+        (λ input. PlaysUpTo (T.has_state service.old) (T.has_state service.new) (messages input) (W.contents writer.old) (W.contents writer.new)) }
+
+    // The headline of what was written: for every tenant, its replies other than 503 are those of the definition run over
+    // just the calls so answered, from the state that it had.
+    ensures headline { T.is_honest service.new → AnswersLines result → IfSome (R.remaining reader.old)
+        (λ input. WritesHeadline (T.has_state service.old) (messages input) (W.contents writer.old) (W.contents writer.new)) }
 
     // The input decides whether it is too long.
-    ensures short { ServesLines result → IfSome (R.remaining reader.old) (λ input. length input ≤ input_limit) }
+    ensures short { AnswersLines result → IfSome (R.remaining reader.old) (λ input. length input ≤ input_limit) }
     ensures long { result ≡ Ok ScriptEnd.TooLong → IfSome (R.remaining reader.old) (λ input. input_limit < length input) }
 
     // Otherwise nothing is done, and nothing is written.
-    ensures none { T.is_honest service.new → ServesNone result → Keeps (T.stands_for service.old) (T.stands_for service.new) }
-    ensures silent { ServesNone result → KeepsBytes (W.contents writer.old) (W.contents writer.new) }
+    ensures none { T.is_honest service.new → AnswersNone result → Same (T.has_state service.old) (T.has_state service.new) }
+    ensures silent { AnswersNone result → KeepsBytes (W.contents writer.old) (W.contents writer.new) }
     ensures honest { T.is_honest service.new → T.is_honest service.old }
 {
     let input = match read_input(alloc, reader) {

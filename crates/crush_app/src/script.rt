@@ -3,16 +3,10 @@
 ghost use Rattle.std.specs.Prelude.{◌≡◌, ◌==◌, ◌<◌, ◌∷◌, position, length, option_map};
 ghost use Rattle.std.specs.List.{before_first, after_first, list_any};
 ghost use Rattle.std.specs.Str.Lines.{lines, strip_carriage_return};
+ghost use Rattle.tenant_core.specs.CallParts.{call_of};
 ghost use Rattle.crush_app.specs.Script as spec;
-ghost use Rattle.crush_app.specs.Line.{view};
 
-/// A call as a line has it.
-#[derive(Clone, Copy)]
-pub(crate) struct LineCall<'a> {
-    pub method: &'a [u8],
-    pub path: &'a str,
-    pub body: &'a [u8],
-}
+use tenant_core::CallParts;
 
 /// The first place of a byte.
 fn place_of(bytes: &[u8], byte: u8) -> Option<usize>
@@ -45,8 +39,8 @@ fn as_text(bytes: &[u8]) -> Option<&str>
 }
 
 /// The call of a line, if it is of the form.
-pub(crate) fn call_of(line: &[u8]) -> Option<LineCall<'_>>
-    ensures { option_map view result ≡ spec.call_of line.now }
+pub(crate) fn call_of(line: &[u8]) -> Option<CallParts<'_>>
+    ensures { option_map call_of result ≡ spec.call_of line.now }
 {
     if !has_space(line) {
         return None;
@@ -54,7 +48,7 @@ pub(crate) fn call_of(line: &[u8]) -> Option<LineCall<'_>>
     let (method, rest) = at_space(line);
     let (path, body) = at_space(rest);
     let path = as_text(path)?;
-    Some(LineCall { method, path, body })
+    Some(CallParts { method, path, body })
 }
 
 /// A line without the CR at its end.

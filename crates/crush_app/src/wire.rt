@@ -1,8 +1,9 @@
 //! Replies as lines.
 
 ghost use Rattle.std.specs.Prelude.{◌≡◌, ◌++◌, IsTrue};
+ghost use Rattle.std.specs.Bool.{IsFalse};
 ghost use Rattle.std.specs.Io.KnownBytes.{Appends};
-ghost use Rattle.crush_app.specs.Play.{AppendsFront};
+ghost use Rattle.crush_app.specs.Play.{AppendsPart};
 ghost use Rattle.crush_app.specs.Script as spec;
 
 use std::io::Write;
@@ -11,7 +12,7 @@ use tenant_core::Reply;
 /// Writes all of the bytes, or a front of them. The first error ends it, and so does a write that takes no byte.
 fn write_whole<W: Write>(writer: &mut W, bytes: &[u8]) -> bool
     ensures whole { IsTrue result → Appends (W.contents writer.old) (W.contents writer.new) bytes.now }
-    ensures front { AppendsFront (W.contents writer.old) (W.contents writer.new) bytes.now }
+    ensures part { IsFalse result → AppendsPart (W.contents writer.old) (W.contents writer.new) bytes.now }
 {
     let mut rest = bytes;
     while !rest.is_empty() {
@@ -25,7 +26,7 @@ fn write_whole<W: Write>(writer: &mut W, bytes: &[u8]) -> bool
 
 fn write_both<W: Write>(writer: &mut W, first: &[u8], second: &[u8]) -> bool
     ensures whole { IsTrue result → Appends (W.contents writer.old) (W.contents writer.new) (first.now ++ second.now) }
-    ensures front { AppendsFront (W.contents writer.old) (W.contents writer.new) (first.now ++ second.now) }
+    ensures part { IsFalse result → AppendsPart (W.contents writer.old) (W.contents writer.new) (first.now ++ second.now) }
 {
     if !write_whole(writer, first) {
         return false;
@@ -47,7 +48,7 @@ fn shown_body(body: &str) -> &[u8]
 /// Writes a reply as a line, or a front of it. Takes no memory.
 pub(crate) fn write_line<W: Write>(writer: &mut W, reply: &Reply) -> bool
     ensures whole { IsTrue result → Appends (W.contents writer.old) (W.contents writer.new) (spec.wire reply.now) }
-    ensures front { AppendsFront (W.contents writer.old) (W.contents writer.new) (spec.wire reply.now) }
+    ensures part { IsFalse result → AppendsPart (W.contents writer.old) (W.contents writer.new) (spec.wire reply.now) }
 {
     let mut buffer = itoa::Buffer::new();
     let digits = buffer.format(reply.status);

@@ -1,3 +1,4 @@
-pub mod Asking
 pub mod Bodies
+pub mod Following
+pub mod Replying
 pub mod Running

@@ -1,97 +1,106 @@
 -- A run goes on.
-use Rattle.std.proofs.Common.{◌≡◌, ℕ, ◌&&◌, ◌==◌, inl, inr, List, [], ◌∷◌, ◌++◌, map, filter, zip, length, Bool, true, false, not, cond, Option, refl, ap, sym, ◌∙◌, arith, length-append}
+use Rattle.std.proofs.Common.{◌≡◌, ◌⊎◌, ℕ, zero, suc, ◌&&◌, ◌==◌, inl, inr, List, [], ◌∷◌, ◌++◌, map, filter, zip, length, Bool, true, false, not, cond, Option, refl, ap, sym, ◌∙◌, arith, length-append}
 use Rattle.std.proofs.lemmas.List.{map-append}
-use Rattle.std.proofs.lemmas.List.Elements.{filter-append}
-use Rattle.std.specs.List.{AllZip}
+use Rattle.std.proofs.lemmas.List.Elements.{filter-append, All-append}
+use Rattle.std.specs.List.{All, AllZip}
 use Rattle.tenant_core.specs.declared.call.Call.{Call}
 use Rattle.tenant_core.specs.declared.reply.Reply.{Reply}
-use Rattle.tenant_core.specs.declared.reply.Problem.{Problem}
-use Rattle.tenant_core.specs.declared.reply.Problem.TheVariants.{BadRequest, NoPath, NoTenant, Method, Exists, TooLarge}
 use Rattle.tenant_core.specs.declared.state.TenantState.{TenantState}
-use Rattle.tenant_core.specs.Alone.{alone, is_told, told, calls_told, replies_told, AnswersNobody}
-use Rattle.tenant_core.specs.Reply.{Answer, refused, created, summary, dropped, picked, problem_status, reply}
-use Rattle.tenant_core.specs.Standing.{Standing, Keeps, Answers, Serves}
-use Rattle.tenant_core.specs.Step.{step, outcome, is_of}
-
--- ---- an answer is told
-
-problem-told : (p : Problem) → not (problem_status p == 503) ≡ true
-problem-told BadRequest = refl
-problem-told NoPath = refl
-problem-told NoTenant = refl
-problem-told Method = refl
-problem-told Exists = refl
-problem-told TooLarge = refl
-
-reply-told : (a : Answer) → is_told (reply a) ≡ true
-unfolding reply
-reply-told (refused p) = problem-told p
-reply-told (created t) = refl
-reply-told (summary t n) = refl
-reply-told (dropped t) = refl
-reply-told (picked i) = refl
-
-pub step-told : (c : Call) (s : Option TenantState) → is_told (step c s).reply ≡ true
-step-told c s = reply-told (outcome c s).answer
+use Rattle.tenant_core.specs.Alone.{alone, is_answered, answered, calls_answered, replies_answered}
+use Rattle.tenant_core.specs.States.{States, Same, Follows, Answers, AnswersNobody, AnswersDamaged, NamesCause, MeetsDefinition}
+use Rattle.tenant_core.specs.Step.{step, is_of}
+use Rattle.tenant_core.specs.StoreReply.{IsUnavailable, no_memory, store_failed}
+use Rattle.tenant_core.proofs.Replying.{status-unavailable}
 
 -- ---- the empty run
 
-pub serves_none : (old new : Standing) → Keeps old new → Serves old new [] []
-serves_none old new kept = record { count = refl; headline = λ t s stands. refl; leaves = kept; nobody = tt }
+pub run_none : (old new : States) → Same old new → MeetsDefinition old new [] []
+run_none old new same = record {
+  count = refl;
+  headline = λ t s has. refl;
+  leaves = λ t s has. (same t s).0 has;
+  nobody = tt;
+  damaged = λ t bad. (λ s has. bad s ((same t s).1 has), tt);
+  causes = λ k d lt. absurd (omega arith);
+}
 
 -- ---- a run of one call
 
--- whether the tenant is told this reply to this call
-abbrev tells : List ℕ → Call → Reply → Bool
-tells t c r = is_of t c && is_told r
+-- whether the reply to this call is an answer to the tenant
+abbrev counts : List ℕ → Call → Reply → Bool
+counts t c r = is_of t c && is_answered r
 
--- what one call and its reply say to a tenant of that state: with the reply, if it is told, the call's step; else the state is kept
-record Says (told : Bool) (old : Option TenantState) (c : Call) (r : Reply) (Stands : Option TenantState → Type 0) : Type 0 where
-  pub of_step : told ≡ true → (r ≡ (step c old).reply) × Stands (step c old).state
-  pub kept : told ≡ false → Stands old
+-- what one call and its reply come to for a tenant of that state: with a reply that counts, the call's step; else the state is kept
+record Comes (counted : Bool) (old : Option TenantState) (c : Call) (r : Reply) (Has : Option TenantState → Type 0) : Type 0 where
+  pub of_step : counted ≡ true → (r ≡ (step c old).reply) × Has (step c old).state
+  pub kept : counted ≡ false → Has old
 
--- so what was told is what the call is told alone, and the state is the one it then leaves
-said-headline : (t : List ℕ) (s : Option TenantState) (c : Call) (r : Reply) (New : Option TenantState → Type 0) (b : Bool) → Says b s c r New
+-- so the reply is that to the call alone, and the state is the one it then leaves
+one-headline : (t : List ℕ) (s : Option TenantState) (c : Call) (r : Reply) (New : Option TenantState → Type 0) (b : Bool) → Comes b s c r New
     → map (λ (p : Call × Reply). p.1) (cond b ((c, r) ∷ []) []) ≡ (alone s (map (λ (p : Call × Reply). p.0) (cond b ((c, r) ∷ []) []))).replies
-said-headline t s c r New true says = ap (λ r. r ∷ []) (says.of_step refl).0
-said-headline t s c r New false says = refl
+one-headline t s c r New true comes = ap (λ r. r ∷ []) (comes.of_step refl).0
+one-headline t s c r New false comes = refl
 
-said-leaves : (t : List ℕ) (s : Option TenantState) (c : Call) (r : Reply) (New : Option TenantState → Type 0) (b : Bool) → Says b s c r New
+one-leaves : (t : List ℕ) (s : Option TenantState) (c : Call) (r : Reply) (New : Option TenantState → Type 0) (b : Bool) → Comes b s c r New
     → New (alone s (map (λ (p : Call × Reply). p.0) (cond b ((c, r) ∷ []) []))).state
-said-leaves t s c r New true says = (says.of_step refl).1
-said-leaves t s c r New false says = says.kept refl
+one-leaves t s c r New true comes = (comes.of_step refl).1
+one-leaves t s c r New false comes = comes.kept refl
 
--- the reply to its own call is told, whatever it is
-says-own : (t : List ℕ) (s : Option TenantState) (c : Call) (r : Reply) (New : Option TenantState → Type 0) (own : Bool)
-    → (own ≡ true → (r ≡ (step c s).reply) × New (step c s).state) → (own ≡ false → New s) → Says (own && is_told r) s c r New
-says-own t s c r New true taken other = record {
+-- an answer to a call of the tenant counts
+comes-answered : (s : Option TenantState) (c : Call) (r : Reply) (New : Option TenantState → Type 0) (own : Bool) → is_answered r ≡ true
+    → (own ≡ true → (r ≡ (step c s).reply) × New (step c s).state) → (own ≡ false → New s) → Comes (own && is_answered r) s c r New
+comes-answered s c r New true counted taken other = record {
   of_step = λ h. taken refl;
-  kept = λ h. let yes : is_told r ≡ true = ap is_told (taken refl).0 ∙ step-told c s in let both : true ≡ false = sym yes ∙ h in cc;
+  kept = λ h. let both : true ≡ false = sym counted ∙ h in cc;
 }
-says-own t s c r New false taken other = record { of_step = λ h. let both : false ≡ true = h in cc; kept = λ h. other refl }
+comes-answered s c r New false counted taken other = record { of_step = λ h. let both : false ≡ true = h in cc; kept = λ h. other refl }
 
--- where the call gave up, nothing is told
-says-nothing : (s : Option TenantState) (c : Call) (r : Reply) (New : Option TenantState → Type 0) (own : Bool) → r.status ≡ 503 → New s → Says (own && is_told r) s c r New
-says-nothing s c r New true gone kept = record {
-  of_step = λ h. let no : is_told r ≡ false = ap (λ n. not (n == 503)) gone in let both : true ≡ false = sym h ∙ no in cc;
+-- a 503 doesn't
+comes-unavailable : (s : Option TenantState) (c : Call) (r : Reply) (New : Option TenantState → Type 0) (own : Bool) → r.status ≡ 503 → New s → Comes (own && is_answered r) s c r New
+comes-unavailable s c r New true gone kept = record {
+  of_step = λ h. let no : is_answered r ≡ false = ap (λ n. not (n == 503)) gone in let both : true ≡ false = sym h ∙ no in cc;
   kept = λ h. kept;
 }
-says-nothing s c r New false gone kept = record { of_step = λ h. let both : false ≡ true = h in cc; kept = λ h. kept }
+comes-unavailable s c r New false gone kept = record { of_step = λ h. let both : false ≡ true = h in cc; kept = λ h. kept }
 
-says : (old new : Standing) (c : Call) (r : Reply) → Answers c old new r → (t : List ℕ) (s : Option TenantState) → old t s → Says (tells t c r) s c r (new t)
-says old new c r (inl taken) t s stands = says-own t s c r (new t) (is_of t c) (λ own. taken.own t s own stands) (λ other. taken.others t s other stands)
-says old new c r (inr gone) t s stands = says-nothing s c r (new t) (is_of t c) gone.status (gone.same t s stands)
+comes : (old new : States) (c : Call) (r : Reply) → Answers c old new r → (t : List ℕ) (s : Option TenantState) → old t s → Comes (counts t c r) s c r (new t)
+comes old new c r (inl by) t s has = comes-answered s c r (new t) (is_of t c) by.answered (λ own. by.own t s own has) (λ other. (by.others t s other).0 has)
+comes old new c r (inr gone) t s has = comes-unavailable s c r (new t) (is_of t c) (status-unavailable r gone.unavailable) ((gone.same t s).0 has)
 
-answers-nobody : (old new : Standing) (c : Call) (r : Reply) → Answers c old new r → AnswersNobody c r
-answers-nobody old new c r (inl taken) = λ none. inl (taken.nobody none)
-answers-nobody old new c r (inr gone) = λ none. inr gone.status
+answers-nobody : (old new : States) (c : Call) (r : Reply) → Answers c old new r → AnswersNobody c r
+answers-nobody old new c r (inl by) = λ none. inl (by.nobody none)
+answers-nobody old new c r (inr gone) = λ none. inr gone.unavailable
 
-pub serves_one : (old new : Standing) (c : Call) (r : Reply) → Answers c old new r → Serves old new (c ∷ []) (r ∷ [])
-serves_one old new c r answered = record {
+answers-damaged : (old new : States) (c : Call) (r : Reply) (t : List ℕ) → Answers c old new r → ((s : Option TenantState) → old t s → ⊥) → AnswersDamaged t c r
+answers-damaged old new c r t (inl by) bad = λ own. inl (by.damaged t own bad).0
+answers-damaged old new c r t (inr gone) bad = λ own. inr gone.unavailable
+
+-- a damaged tenant stays so, whether the call is its own or not
+still-by : (old new : States) (c : Call) (r : Reply) (t : List ℕ) (own : Bool) → is_of t c ≡ own → Follows c old new r
+    → ((s : Option TenantState) → old t s → ⊥) → (s : Option TenantState) → new t s → ⊥
+still-by old new c r t true e by bad = (by.damaged t e bad).1
+still-by old new c r t false e by bad = λ s has. bad s ((by.others t s e).1 has)
+
+still-damaged : (old new : States) (c : Call) (r : Reply) (t : List ℕ) → Answers c old new r → ((s : Option TenantState) → old t s → ⊥) → (s : Option TenantState) → new t s → ⊥
+still-damaged old new c r t (inl by) bad = still-by old new c r t (is_of t c) refl by bad
+still-damaged old new c r t (inr gone) bad = λ s has. bad s ((gone.same t s).1 has)
+
+names-cause : (old new : States) (c : Call) (r : Reply) → Answers c old new r → NamesCause r
+names-cause old new c r (inl by) = λ gone. let no : is_answered r ≡ false = ap (λ n. not (n == 503)) gone in let both : true ≡ false = sym by.answered ∙ no in cc
+names-cause old new c r (inr gone) = λ _. gone.unavailable
+
+all_one : (P : Reply → Type 0) (r : Reply) → P r → All P (r ∷ [])
+all_one P r h zero d lt = h
+all_one P r h (suc k) d lt = absurd (omega arith)
+
+pub run_one : (old new : States) (c : Call) (r : Reply) → Answers c old new r → MeetsDefinition old new (c ∷ []) (r ∷ [])
+run_one old new c r by = record {
   count = refl;
-  headline = λ t s stands. said-headline t s c r (new t) (tells t c r) (says old new c r answered t s stands);
-  leaves = λ t s stands. said-leaves t s c r (new t) (tells t c r) (says old new c r answered t s stands);
-  nobody = (answers-nobody old new c r answered, tt);
+  headline = λ t s has. one-headline t s c r (new t) (counts t c r) (comes old new c r by t s has);
+  leaves = λ t s has. one-leaves t s c r (new t) (counts t c r) (comes old new c r by t s has);
+  nobody = (answers-nobody old new c r by, tt);
+  damaged = λ t bad. (still-damaged old new c r t by bad, (answers-damaged old new c r t by bad, tt));
+  causes = all_one NamesCause r (names-cause old new c r by);
 }
 
 -- ---- two runs, one after the other
@@ -117,35 +126,40 @@ all_zip-append R [] zs (y ∷ ys) ws h k = absurd h
 all_zip-append R (x ∷ xs) zs [] ws h k = absurd h
 all_zip-append R (x ∷ xs) zs (y ∷ ys) ws h k = (h.0, all_zip-append R xs zs ys ws h.1 k)
 
--- what is told in both is what is told in one, and then in the other
-told-append : (t : List ℕ) (cs ds : List Call) (rs qs : List Reply) → length rs ≡ length cs → told t (cs ++ ds) (rs ++ qs) ≡ told t cs rs ++ told t ds qs
-told-append t cs ds rs qs h =
-    let test = λ (p : Call × Reply). tells t p.0 p.1 in ap (filter test) (zip-append cs ds rs qs h) ∙ filter-append test (zip cs rs) (zip ds qs)
+-- what counts in both is what counts in one, and then in the other
+answered-append : (t : List ℕ) (cs ds : List Call) (rs qs : List Reply) → length rs ≡ length cs → answered t (cs ++ ds) (rs ++ qs) ≡ answered t cs rs ++ answered t ds qs
+answered-append t cs ds rs qs h =
+    let test = λ (p : Call × Reply). counts t p.0 p.1 in ap (filter test) (zip-append cs ds rs qs h) ∙ filter-append test (zip cs rs) (zip ds qs)
 
-pub serves_both : (old mid new : Standing) (cs : List Call) (rs : List Reply) (ds : List Call) (qs : List Reply) → Serves old mid cs rs → Serves mid new ds qs → Serves old new (cs ++ ds) (rs ++ qs)
-serves_both old mid new cs rs ds qs first second =
-    let told_calls : (t : List ℕ) → calls_told t (cs ++ ds) (rs ++ qs) ≡ calls_told t cs rs ++ calls_told t ds qs =
-    λ t. ap (map (λ (p : Call × Reply). p.0)) (told-append t cs ds rs qs first.count) ∙ map-append (λ (p : Call × Reply). p.0) (told t cs rs) (told t ds qs) in
-    let told_replies : (t : List ℕ) → replies_told t (cs ++ ds) (rs ++ qs) ≡ replies_told t cs rs ++ replies_told t ds qs =
-    λ t. ap (map (λ (p : Call × Reply). p.1)) (told-append t cs ds rs qs first.count) ∙ map-append (λ (p : Call × Reply). p.1) (told t cs rs) (told t ds qs) in
+pub run_both : (old mid new : States) (cs : List Call) (rs : List Reply) (ds : List Call) (qs : List Reply) → MeetsDefinition old mid cs rs → MeetsDefinition mid new ds qs → MeetsDefinition old new (cs ++ ds) (rs ++ qs)
+run_both old mid new cs rs ds qs first second =
+    let both_calls : (t : List ℕ) → calls_answered t (cs ++ ds) (rs ++ qs) ≡ calls_answered t cs rs ++ calls_answered t ds qs =
+    λ t. ap (map (λ (p : Call × Reply). p.0)) (answered-append t cs ds rs qs first.count) ∙ map-append (λ (p : Call × Reply). p.0) (answered t cs rs) (answered t ds qs) in
+    let both_replies : (t : List ℕ) → replies_answered t (cs ++ ds) (rs ++ qs) ≡ replies_answered t cs rs ++ replies_answered t ds qs =
+    λ t. ap (map (λ (p : Call × Reply). p.1)) (answered-append t cs ds rs qs first.count) ∙ map-append (λ (p : Call × Reply). p.1) (answered t cs rs) (answered t ds qs) in
     record {
       count = let few = first.count in let more = second.count in simp length-append (omega arith);
-      headline = λ t s stands.
-          let between = (alone s (calls_told t cs rs)).state in
+      headline = λ t s has.
+          let between = (alone s (calls_answered t cs rs)).state in
           rw (
-            told_replies t,
-            told_calls t,
-            alone-replies s (calls_told t cs rs) (calls_told t ds qs),
-            first.headline t s stands,
-            second.headline t between (first.leaves t s stands),
+            both_replies t,
+            both_calls t,
+            alone-replies s (calls_answered t cs rs) (calls_answered t ds qs),
+            first.headline t s has,
+            second.headline t between (first.leaves t s has),
           ) refl;
-      leaves = λ t s stands.
-          let between = (alone s (calls_told t cs rs)).state in
-          rw (told_calls t, alone-state s (calls_told t cs rs) (calls_told t ds qs)) (second.leaves t between (first.leaves t s stands));
+      leaves = λ t s has.
+          let between = (alone s (calls_answered t cs rs)).state in
+          rw (both_calls t, alone-state s (calls_answered t cs rs) (calls_answered t ds qs)) (second.leaves t between (first.leaves t s has));
       nobody = all_zip-append AnswersNobody cs ds rs qs first.nobody second.nobody;
+      damaged = λ t bad.
+          let one = first.damaged t bad in
+          let two = second.damaged t one.0 in
+          (two.0, all_zip-append (AnswersDamaged t) cs ds rs qs one.1 two.1);
+      causes = All-append NamesCause rs qs first.causes second.causes;
     }
 
 -- a run, and one call more
-pub serves_more : (old mid new : Standing) (cs : List Call) (rs : List Reply) (c : Call) (r : Reply) → Serves old mid cs rs → Answers c mid new r
-    → Serves old new (cs ++ c ∷ []) (rs ++ r ∷ [])
-serves_more old mid new cs rs c r before answered = serves_both old mid new cs rs (c ∷ []) (r ∷ []) before (serves_one mid new c r answered)
+pub run_more : (old mid new : States) (cs : List Call) (rs : List Reply) (c : Call) (r : Reply) → MeetsDefinition old mid cs rs → Answers c mid new r
+    → MeetsDefinition old new (cs ++ c ∷ []) (rs ++ r ∷ [])
+run_more old mid new cs rs c r before answered = run_both old mid new cs rs (c ∷ []) (r ∷ []) before (run_one mid new c r answered)

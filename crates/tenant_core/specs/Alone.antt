@@ -1,7 +1,6 @@
 -- A tenant's calls run alone: as if there were no other tenant, no store and no want of memory.
-use Rattle.std.specs.Prelude.{ℕ, ◌≡◌, ◌&&◌, ◌==◌, ◌⊎◌, List, [], ◌∷◌, map, filter, zip, Bool, not, Option, None}
-use Rattle.std.specs.List.{AllZip}
-use Rattle.tenant_core.specs.Step.{step, is_of, tenant_of}
+use Rattle.std.specs.Prelude.{ℕ, ◌≡◌, ◌&&◌, ◌==◌, List, [], ◌∷◌, map, filter, zip, Bool, not, Option}
+use Rattle.tenant_core.specs.Step.{step, is_of}
 use Rattle.tenant_core.specs.declared.call.Call.{Call}
 use Rattle.tenant_core.specs.declared.reply.Reply.{Reply}
 use Rattle.tenant_core.specs.declared.state.TenantState.{TenantState}
@@ -21,28 +20,18 @@ abbrev pub alone : Option TenantState → List Call → Course
 alone state [] = record { replies = []; state = state }
 alone state (call ∷ calls) = let first = step call state in replied_first first.reply (alone first.state calls)
 
--- ---- what a tenant was told in a run
+-- ---- a tenant's calls in a run, and the replies to them
 
--- 503 says that nothing was done; every other reply tells something
-abbrev pub is_told : Reply → Bool
-is_told reply = not (reply.status == 503)
+-- 503 says that nothing was done
+abbrev pub is_answered : Reply → Bool
+is_answered reply = not (reply.status == 503)
 
 -- of the calls with their replies, those of the tenant that were answered by anything but 503
-abbrev pub told : List ℕ → List Call → List Reply → List (Call × Reply)
-told tenant calls replies = filter (λ p. is_of tenant p.0 && is_told p.1) (zip calls replies)
+abbrev pub answered : List ℕ → List Call → List Reply → List (Call × Reply)
+answered tenant calls replies = filter (λ p. is_of tenant p.0 && is_answered p.1) (zip calls replies)
 
-abbrev pub calls_told : List ℕ → List Call → List Reply → List Call
-calls_told tenant calls replies = map (λ p. p.0) (told tenant calls replies)
+abbrev pub calls_answered : List ℕ → List Call → List Reply → List Call
+calls_answered tenant calls replies = map (λ p. p.0) (answered tenant calls replies)
 
-abbrev pub replies_told : List ℕ → List Call → List Reply → List Reply
-replies_told tenant calls replies = map (λ p. p.1) (told tenant calls replies)
-
--- ---- calls of no tenant
-
--- such a call is answered by itself alone, or 503
-abbrev pub AnswersNobody : Call → Reply → Type 0
-AnswersNobody call reply = tenant_of call ≡ None → (reply ≡ (step call None).reply) ⊎ (reply.status ≡ 503)
-
--- a reply for each call, and to those of no tenant such a reply
-abbrev pub AllAnswerNobody : List Call → List Reply → Type 0
-AllAnswerNobody calls replies = AllZip AnswersNobody calls replies
+abbrev pub replies_answered : List ℕ → List Call → List Reply → List Reply
+replies_answered tenant calls replies = map (λ p. p.1) (answered tenant calls replies)

@@ -1,3 +1,4 @@
+pub mod CallParts
 pub mod Json
 pub mod Reads
 pub mod Body
@@ -6,5 +7,6 @@ pub mod Reply
 pub mod Request
 pub mod Step
 pub mod Alone
-pub mod Standing
+pub mod States
 pub mod StoreReply
+pub mod Performs

@@ -1,15 +1,16 @@
 -- What a call asks of which tenant, or the first of its checks that fails.
-use Rattle.std.specs.Prelude.{ℕ, zero, suc, ◌==◌, List, length, Bool, if◌then◌else◌, Option, Some, None, option_map, Result, Err, codes}
+use Rattle.std.specs.Prelude.{ℕ, zero, suc, ◌==◌, List, length, Bool, nat_lt, if◌then◌else◌, Option, Some, None, option_map, Result, Err, codes}
 use Rattle.std.specs.Option.{ok_or}
 use Rattle.std.specs.List.{before_first, after_first}
 use Rattle.std.specs.Str.{bytes_eq}
 use Rattle.crush_map.specs.Faults.{is_name}
 use Rattle.tenant_core.specs.Body.{pick_request_of}
 use Rattle.tenant_core.specs.Route.{route_of}
+use Rattle.tenant_core.specs.declared.call.Call.{Call}
 use Rattle.tenant_core.specs.declared.route.Route.{Route}
 use Rattle.tenant_core.specs.declared.route.Route.TheVariants.{Tenant, Pick}
 use Rattle.tenant_core.specs.declared.reply.Problem.{Problem}
-use Rattle.tenant_core.specs.declared.reply.Problem.TheVariants.{BadRequest, NoPath, Method}
+use Rattle.tenant_core.specs.declared.reply.Problem.TheVariants.{BadRequest, NoPath, Method, TooLarge}
 use Rattle.tenant_core.specs.declared.request.Action.{Action}
 use Rattle.tenant_core.specs.declared.request.Action.TheVariants as action
 use Rattle.tenant_core.specs.declared.request.Query.TheVariants as query
@@ -67,5 +68,12 @@ abbrev pub on_route : List ℕ → List ℕ → List ℕ → Option Route → Re
 on_route method path body None = Err NoPath
 on_route method path body (Some route) = on_operation path body (operation_of route method)
 
-unfoldable pub request_of : List ℕ → List ℕ → List ℕ → Result Request Problem
-request_of method path body = on_route method path body (route_of path)
+-- the greatest body, in bytes
+abbrev pub body_limit : ℕ
+body_limit = 1048576
+
+-- the length of the body comes before all other checks
+unfoldable pub request_of : Call → Result Request Problem
+request_of call =
+    if nat_lt body_limit (length call.body) then Err TooLarge
+    else on_route call.method call.path call.body (route_of call.path)

@@ -1,15 +1,39 @@
--- What is replied where the store couldn't serve.
-use Rattle.std.specs.Prelude.{codes}
-use Rattle.tenant_core.specs.Reply.{written, error, no_memory as out_of_memory}
+-- What is replied where a store can't serve.
+use Rattle.std.specs.Prelude.{◌≡◌, ◌⊎◌, Result, Ok, Err, codes}
+use Rattle.tenant_core.specs.Reply.{written, error, refused, reply, no_memory as out_of_memory}
+use Rattle.tenant_core.specs.Request.{request_of}
+use Rattle.tenant_core.specs.declared.call.Call.{Call}
+use Rattle.tenant_core.specs.declared.reply.Problem.{Problem}
 use Rattle.tenant_core.specs.declared.reply.Reply.{Reply}
+use Rattle.tenant_core.specs.declared.request.Request.{Request}
 use Rattle.tenant_core.specs.declared.store.StoreFault.{StoreFault}
 use Rattle.tenant_core.specs.declared.store.StoreFault.TheVariants.{NoMemory, Full, Damaged, Failed}
 
 abbrev pub no_memory : Reply
 no_memory = out_of_memory
 
-unfoldable pub store_fault : StoreFault → Reply
+-- 503: the store is full, or failed otherwise
+unfoldable pub store_failed : Reply
+store_failed = written 503 (error (codes "store_failed"))
+
+-- 500: what the store has of the tenant is no state
+unfoldable pub store_damaged : Reply
+store_damaged = written 500 (error (codes "store_damaged"))
+
+abbrev pub store_fault : StoreFault → Reply
 store_fault NoMemory = no_memory
-store_fault Full = written 503 (error (codes "store_failed"))
-store_fault Failed = written 503 (error (codes "store_failed"))
-store_fault Damaged = written 500 (error (codes "store_damaged"))
+store_fault Full = store_failed
+store_fault Failed = store_failed
+store_fault Damaged = store_damaged
+
+-- the replies 503: want of memory, or a store that can't serve; there is no other
+abbrev pub IsUnavailable : Reply → Type 0
+IsUnavailable replied = (replied ≡ no_memory) ⊎ (replied ≡ store_failed)
+
+-- the reply to a call where the data of its tenant is damaged: a call that is refused by itself is refused as ever
+abbrev pub refused_or_damaged : Result Request Problem → Reply
+refused_or_damaged (Ok request) = store_damaged
+refused_or_damaged (Err problem) = reply (refused problem)
+
+abbrev pub reply_where_damaged : Call → Reply
+reply_where_damaged call = refused_or_damaged (request_of call)

@@ -1,5 +1,8 @@
 //! A call as it comes.
 
+ghost use Rattle.std.specs.Prelude.{◌≡◌};
+ghost use Rattle.tenant_core.specs.CallParts.{call_of};
+
 use crush_map::{Listed, Text};
 
 /// Bytes that a contract sees as a list.
@@ -11,4 +14,25 @@ pub struct Call {
     pub method: Bytes,
     pub path: Text,
     pub body: Bytes,
+}
+
+impl Call {
+    /// The call, borrowed.
+    pub fn parts(&self) -> CallParts<'_>
+        ensures { call_of result ≡ self.now }
+    {
+        CallParts {
+            method: self.method.as_slice(),
+            path: self.path.as_str(),
+            body: self.body.as_slice(),
+        }
+    }
+}
+
+/// A call whose parts are borrowed from where it was read.
+#[derive(Clone, Copy)]
+pub struct CallParts<'a> {
+    pub method: &'a [u8],
+    pub path: &'a str,
+    pub body: &'a [u8],
 }

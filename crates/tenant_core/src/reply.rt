@@ -134,7 +134,7 @@ fn removal(alloc: Global, tenant: &str) -> Result<Value, AllocError>
 
 /// The reply to the removal of a tenant.
 #[tactic(auto, unfolding(crate::specs::Reply::reply))]
-pub fn dropped(alloc: Global, tenant: &str) -> Result<Reply, AllocError>
+pub(crate) fn dropped(alloc: Global, tenant: &str) -> Result<Reply, AllocError>
     ensures { IfOk result (λ r. r ≡ spec.reply (spec.dropped tenant.now)) }
 {
     written(alloc, 200, &removal(alloc, tenant)?)

@@ -2,10 +2,12 @@
 
 ghost use Rattle.std.specs.Prelude.{◌≡◌, IfOk};
 ghost use Rattle.std.specs.List.{before_first, after_first};
+ghost use Rattle.tenant_core.specs.CallParts.{call_of};
 ghost use Rattle.tenant_core.specs.Reads.{Reads};
 ghost use Rattle.tenant_core.specs.Request as spec;
 
 use crate::body::{Unread, read_pick};
+use crate::call::CallParts;
 use crate::pick::PickRequest;
 use crate::reply::Problem;
 use crate::route::{Route, Routes};
@@ -25,7 +27,7 @@ pub enum Operation {
     PickItem,
 }
 
-/// What a call does to its tenant.
+/// What a request asks of its tenant.
 #[derive(Drop)]
 pub enum Action {
     /// The tenant is made.
@@ -137,25 +139,29 @@ fn in_form(alloc: Global, path: &str, body: &[u8], operation: Operation) -> Resu
     })
 }
 
-/// What a call asks of which tenant, or why it is refused: the first of its checks that fails, in the order route, method,
-/// the tenant's name and the body. The body's length isn't tested here.
+/// The greatest body, in bytes.
+const BODY_LIMIT: usize = 1_048_576;
+
+/// What a call asks of which tenant, or why it is refused: the first of its checks that fails, in the order length of the
+/// body, route, method, the tenant's name and the body's form.
 #[tactic(auto, unfolding(crate::specs::Request::request_of))]
 pub fn read_request(
     alloc: Global,
     routes: &Routes,
-    method: &[u8],
-    path: &str,
-    body: &[u8],
+    call: CallParts<'_>,
 ) -> Result<Result<Request, Problem>, AllocError>
-    ensures { IfOk result (λ r. r ≡ spec.request_of method.now path.now body.now) }
+    ensures { IfOk result (λ r. r ≡ spec.request_of (call_of call.entry)) }
 {
-    let Some(route) = routes.find(path) else {
+    if call.body.len() > BODY_LIMIT {
+        return Ok(Err(Problem::TooLarge));
+    }
+    let Some(route) = routes.find(call.path) else {
         return Ok(Err(Problem::NoPath));
     };
-    let Some(operation) = operation_on(route, method) else {
+    let Some(operation) = operation_on(route, call.method) else {
         return Ok(Err(Problem::Method));
     };
-    match in_form(alloc, path, body, operation) {
+    match in_form(alloc, call.path, call.body, operation) {
         Ok(request) => Ok(Ok(request)),
         Err(Unread::Form) => Ok(Err(Problem::BadRequest)),
         Err(Unread::Memory) => Err(AllocError),

@@ -6,7 +6,7 @@ use Rattle.crush_app.proofs.play.play.Given as goal
 abbrev pub invariant-loop-rest : goal.invariant-loop-rest
 invariant-loop-rest g l = record {
   honest : g.T.TenantStore.is_honest l.service → g.T.TenantStore.is_honest l.fn.service;
-  played : g.T.TenantStore.is_honest l.service → PlaysRest (g.T.TenantStore.stands_for l.fn.service) (g.T.TenantStore.stands_for l.service) (g.W.Write.contents l.fn.writer) (g.W.Write.contents l.writer) l.input l.rest;
+  played : g.T.TenantStore.is_honest l.service → PlaysRest (g.T.TenantStore.has_state l.fn.service) (g.T.TenantStore.has_state l.service) (g.W.Write.contents l.fn.writer) (g.W.Write.contents l.writer) l.input l.rest;
 }
 
 abbrev pub decreases-loop-rest : goal.decreases-loop-rest

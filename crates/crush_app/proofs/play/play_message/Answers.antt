@@ -1,20 +1,23 @@
-use Rattle.crush_app.specs.Line.{view}
-use Rattle.crush_app.specs.Play.{AppendsFront}
-use Rattle.crush_app.proofs.Playing.{plays_bad, plays_call}
-use Rattle.std.specs.Io.KnownBytes.{Appends}
+use Rattle.tenant_core.specs.CallParts.{call_of}
+use Rattle.crush_app.proofs.Playing.{plays_bad, plays_call, cut_bad, cut_call}
 use Rattle.crush_app.proofs.play.play_message.Goals as goal
 
 pub returns-in-Some-clause-whole : goal.returns-in-Some-clause-whole
 returns-in-Some-clause-whole g c = λ honest yes.
-    rw c.in-Some.is (plays_call (g.T.TenantStore.stands_for c.args.service.now) (g.T.TenantStore.stands_for c.request-reply.new.self) (view c.in-Some.call) c.request-reply.result
-    (Appends (g.W.Write.contents c.args.writer.now) (g.W.Write.contents c.write_line.new.writer)) (c.request-reply.ensures.answered honest) (c.write_line.ensures.whole yes))
+    rw c.in-Some.is (plays_call (g.T.TenantStore.has_state c.args.service.now) (g.T.TenantStore.has_state c.request-reply.new.self) (call_of c.in-Some.call) c.request-reply.result
+    (g.W.Write.contents c.args.writer.now) (g.W.Write.contents c.write_line.new.writer) (c.request-reply.ensures.answered honest) (c.write_line.ensures.whole yes))
 
-pub returns-in-Some-clause-front : goal.returns-in-Some-clause-front
-returns-in-Some-clause-front g c = λ honest.
-    rw c.in-Some.is (plays_call (g.T.TenantStore.stands_for c.args.service.now) (g.T.TenantStore.stands_for c.request-reply.new.self) (view c.in-Some.call) c.request-reply.result
-    (AppendsFront (g.W.Write.contents c.args.writer.now) (g.W.Write.contents c.write_line.new.writer)) (c.request-reply.ensures.answered honest) c.write_line.ensures.front)
+pub returns-in-Some-clause-cut : goal.returns-in-Some-clause-cut
+returns-in-Some-clause-cut g c = λ honest no.
+    rw c.in-Some.is (cut_call (g.T.TenantStore.has_state c.args.service.now) (g.T.TenantStore.has_state c.request-reply.new.self) (call_of c.in-Some.call) c.request-reply.result
+    (g.W.Write.contents c.args.writer.now) (g.W.Write.contents c.write_line.new.writer) (c.request-reply.ensures.answered honest) (c.write_line.ensures.part no))
 
-pub returns-in-None-clause-front : goal.returns-in-None-clause-front
-returns-in-None-clause-front g c = λ honest.
-    rw c.in-None.is (plays_bad (g.T.TenantStore.stands_for c.args.service.now)
-    (AppendsFront (g.W.Write.contents c.args.writer.now) (g.W.Write.contents c.write_line-in-None.new.writer)) (rw c.requires at c.write_line-in-None.ensures.front))
+pub returns-in-None-clause-whole : goal.returns-in-None-clause-whole
+returns-in-None-clause-whole g c = λ honest yes.
+    rw c.in-None.is (plays_bad (g.T.TenantStore.has_state c.args.service.now) (g.W.Write.contents c.args.writer.now) (g.W.Write.contents c.write_line-in-None.new.writer)
+    (rw c.requires at (c.write_line-in-None.ensures.whole yes)))
+
+pub returns-in-None-clause-cut : goal.returns-in-None-clause-cut
+returns-in-None-clause-cut g c = λ honest no.
+    rw c.in-None.is (cut_bad (g.T.TenantStore.has_state c.args.service.now) (g.W.Write.contents c.args.writer.now) (g.W.Write.contents c.write_line-in-None.new.writer)
+    (rw c.requires at (c.write_line-in-None.ensures.part no)))

@@ -1,0 +1,100 @@
+//! The store that keeps states in memory.
+
+ghost use Rattle.std.specs.Prelude.{◌≡◌, ℕ, List, Some, None, OnOk, OnErr, if◌then◌else◌, option_map};
+ghost use Rattle.std.specs.Str.{bytes_eq};
+ghost use Rattle.std.specs.BTreeMap.{get_by_text};
+
+use std::alloc::{AllocError, Global};
+use std::collections::BTreeMap;
+use std::rc::Rc;
+use tenant_core::{Change, StoreFault, TenantState, TenantStore};
+
+type States = BTreeMap<String, Rc<TenantState>>;
+
+/// Gives a name a state. A refused call changes none.
+fn put(alloc: Global, states: &mut States, name: &str, state: TenantState) -> Result<(), AllocError>
+    ensures ok { OnOk result ((u : List ℕ) → option_map (λ r. r.value) (get_by_text states.new u)
+        ≡ (if bytes_eq name.now u then Some state else option_map (λ r. r.value) (get_by_text states.old u))) }
+    ensures err { OnErr result ((u : List ℕ) → get_by_text states.new u ≡ get_by_text states.old u) }
+{
+    let key = String::from_str(alloc, name)?;
+    let shared = Rc::new(alloc, state)?;
+    states.insert(key, shared)?;
+    Ok(())
+}
+
+/// Leaves a name with no state.
+fn take_out(states: &mut States, name: &str)
+    ensures { (u : List ℕ) → get_by_text states.new u
+        ≡ (if bytes_eq name.now u then None else get_by_text states.old u) }
+{
+    let _state = states.remove(name);
+}
+
+/// The states of all tenants, in memory. Nothing outlives it.
+#[derive(Drop)]
+pub struct MemoryStore {
+    alloc: Global,
+    states: States,
+}
+
+impl MemoryStore {
+    ghost use Rattle.std.specs.Prelude.{◌≡◌, ℕ, List, Option, None};
+    ghost use Rattle.tenant_core.specs.declared.state.TenantState.{TenantState};
+    ghost use Rattle.crush_app.specs.declared.memory_store.MemoryStore.{MemoryStore};
+
+    /// A store with no tenant. Takes no memory.
+    ///
+    /// Every store of this type is honest, and in every one each name has exactly one state.
+    pub fn new(alloc: Global) -> Self
+        ensures empty { (name : List ℕ) → ⟦<MemoryStore as TenantStore>⟧.has_state result name None }
+        ensures honest { (store : MemoryStore) → ⟦<MemoryStore as TenantStore>⟧.is_honest store }
+        ensures some_state { (store : MemoryStore) (name : List ℕ) → (s : Option TenantState) × ⟦<MemoryStore as TenantStore>⟧.has_state store name s }
+        ensures one_state { (store : MemoryStore) (name : List ℕ) (s u : Option TenantState) → ⟦<MemoryStore as TenantStore>⟧.has_state store name s → ⟦<MemoryStore as TenantStore>⟧.has_state store name u → s ≡ u }
+    {
+        MemoryStore {
+            alloc,
+            states: BTreeMap::new(alloc),
+        }
+    }
+}
+
+impl TenantStore for MemoryStore {
+    ghost use Rattle.std.specs.Prelude.{◌≡◌, option_map};
+    ghost use Rattle.std.proofs.Common.{◌∙◌, sym};
+    ghost use Rattle.std.specs.BTreeMap.{get_by_text};
+
+    ghost is_honest = { λ store. Unit {0} };
+
+    ghost has_state = { λ store name s. option_map (λ r. r.value) (get_by_text store.states name) ≡ s };
+
+    fn load(&mut self, name: &str) -> Result<Option<Rc<TenantState>>, StoreFault> {
+        match self.states.get(name) {
+            Some(state) => Ok(Some(state.clone()?)),
+            None => Ok(None),
+        }
+    }
+
+    fn create(&mut self, name: &str) -> Result<(), StoreFault> {
+        put(self.alloc, &mut self.states, name, TenantState::fresh())?;
+        Ok(())
+    }
+
+    fn commit(&mut self, name: &str, change: &Change) -> Result<(), StoreFault> {
+        match self.states.get(name) {
+            None => Ok(()),
+            Some(state) => {
+                let next = state.after(change);
+                put(self.alloc, &mut self.states, name, next)?;
+                Ok(())
+            }
+        }
+    }
+
+    fn remove(&mut self, name: &str) -> Result<(), StoreFault> {
+        take_out(&mut self.states, name);
+        Ok(())
+    }
+
+    ghost one_state = { λ store t s u honest is also. sym is ∙ also };
+}

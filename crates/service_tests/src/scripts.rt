@@ -1,0 +1,180 @@
+//! Scripts and runs on the service over a store in memory.
+
+use crush_app::{MemoryStore, ScriptEnd, Service, script_run};
+use crush_map::Text;
+use std::alloc::{AllocError, Global};
+use std::io::{self, ErrorKind, Read, Write};
+use std::test::Fail;
+use tenant_core::{Bytes, Call, CallParts, Change, TenantStore};
+
+const SCRIPT: &str =
+    "PUT /t/a\nPOST /t/a/pick {\"bucket\":{\"id\":-1,\"items\":[{\"item\":4,\"weight\":0},{\"item\":9,\"weight\":65536}],\"kind\":\"list\"},\"r\":0,\"x\":5}\r\nGET\n\nGET /t/a\nPUT /t/a\nDELETE /t/a\nGET /t/a";
+
+const REPLIES: &str =
+    "201 {\"epoch\":0,\"tenant\":\"a\"}\n200 {\"item\":9}\n400 {\"error\":\"bad_request\"}\n200 {\"devices\":0,\"epoch\":0,\"pools\":0,\"tenant\":\"a\",\"versions\":0}\n409 {\"error\":\"exists\"}\n200 {\"dropped\":\"a\"}\n404 {\"error\":\"no_tenant\"}\n";
+
+/// Gives one byte a read, and fails after so many reads.
+#[derive(Drop)]
+struct Reader<'a> {
+    rest: &'a [u8],
+    reads: usize,
+}
+
+impl Read for Reader<'_> {
+    fn read(&mut self, buf: &mut [u8]) -> io::Result<usize> {
+        if self.reads == 0 {
+            return Err(ErrorKind::Other.into());
+        }
+        self.reads -= 1;
+        if self.rest.is_empty() || buf.is_empty() {
+            return Ok(0);
+        }
+        buf[0] = self.rest[0];
+        self.rest = &self.rest[1..];
+        Ok(1)
+    }
+}
+
+/// Takes at most three bytes a write, and fails after so many writes.
+#[derive(Drop)]
+struct Writer {
+    taken: Vec<u8>,
+    writes: usize,
+}
+
+impl Write for Writer {
+    fn write(&mut self, buf: &[u8]) -> io::Result<usize> {
+        if self.writes == 0 {
+            return Err(ErrorKind::Other.into());
+        }
+        self.writes -= 1;
+        let count = buf.len().min(3);
+        self.taken.extend_from_slice(&buf[..count])?;
+        Ok(count)
+    }
+
+    fn flush(&mut self) -> io::Result<()> {
+        Ok(())
+    }
+}
+
+/// The stored run over a reader and a writer that fail after so many turns.
+fn play(alloc: Global, reads: usize, writes: usize) -> Result<(ScriptEnd, Vec<u8>), AllocError> {
+    let mut service = Service::over_map(alloc)?;
+    let mut reader = Reader {
+        rest: SCRIPT.as_bytes(),
+        reads,
+    };
+    let mut writer = Writer {
+        taken: Vec::new(alloc),
+        writes,
+    };
+    let end = script_run(alloc, &mut service, &mut reader, &mut writer)?;
+    let Writer { taken, writes: _ } = writer;
+    Ok((end, taken))
+}
+
+#[test]
+fn a_script_is_played_whatever_one_read_and_one_write_take(rt: HostRuntime) -> Result<(), Fail> {
+    let (end, written) = play(rt.alloc(), 10_000, 10_000)?;
+    assert_eq!(rt; end, ScriptEnd::Done);
+    assert_eq!(rt; written.as_slice(), REPLIES.as_bytes());
+    Ok(())
+}
+
+#[test]
+fn a_read_fault_serves_no_line(rt: HostRuntime) -> Result<(), Fail> {
+    for reads in [0, 1, 9, 10, 60, 150] {
+        let (end, written) = play(rt.alloc(), reads, 10_000)?;
+        assert_eq!(rt; end, ScriptEnd::ReadFault, "after {reads} reads");
+        assert!(rt; written.is_empty(), "after {reads} reads");
+    }
+    Ok(())
+}
+
+#[test]
+fn a_write_fault_leaves_a_front_of_the_replies(rt: HostRuntime) -> Result<(), Fail> {
+    for writes in [0, 1, 2, 11, 12, 40] {
+        let (end, written) = play(rt.alloc(), 10_000, writes)?;
+        assert_eq!(rt; end, ScriptEnd::WriteFault, "after {writes} writes");
+        assert!(rt;
+            REPLIES.as_bytes().starts_with(written.as_slice()),
+            "after {writes} writes"
+        );
+    }
+    Ok(())
+}
+
+#[test]
+fn a_write_fault_answers_no_later_line(rt: HostRuntime) -> Result<(), Fail> {
+    let alloc = rt.alloc();
+    let mut service = Service::over_map(alloc)?;
+    let mut reader = Reader {
+        rest: b"PUT /t/a\nPUT /t/b\nPUT /t/c\n",
+        reads: 1_000,
+    };
+    // a reply is 28 bytes, so the writes end in the second
+    let mut writer = Writer {
+        taken: Vec::new(alloc),
+        writes: 13,
+    };
+    let end = script_run(alloc, &mut service, &mut reader, &mut writer)?;
+    assert_eq!(rt; end, ScriptEnd::WriteFault);
+    for (path, status) in [("/t/a", 200), ("/t/b", 200), ("/t/c", 404)] {
+        let reply = service.request(CallParts {
+            method: b"GET",
+            path,
+            body: b"",
+        });
+        assert_eq!(rt; reply.status, status, "{path}");
+    }
+    Ok(())
+}
+
+fn call(alloc: Global, method: &str, path: &str) -> Result<Call, AllocError> {
+    Ok(Call {
+        method: Bytes::new(Vec::from_slice(alloc, method.as_bytes())?),
+        path: Text::copy(alloc, path)?,
+        body: Bytes::new(Vec::new(alloc)),
+    })
+}
+
+#[test]
+fn a_run_answers_each_tenant_from_its_own_state(rt: HostRuntime) -> Result<(), Fail> {
+    let alloc = rt.alloc();
+    let asked = [
+        ("PUT", "/t/a", 201),
+        ("PUT", "/t/b", 201),
+        ("DELETE", "/t/a", 200),
+        ("GET", "/t/a", 404),
+        ("GET", "/t/b", 200),
+        ("PUT", "/t/b", 409),
+        ("GET", "/x", 404),
+        ("POST", "/t/b", 405),
+        ("PUT", "/t/b!", 400),
+    ];
+    let mut calls = Vec::new(alloc);
+    for (method, path, _) in asked {
+        calls.push(call(alloc, method, path)?)?;
+    }
+    let replies = Service::over_map(alloc)?.run(&calls)?;
+    assert_eq!(rt; replies.len(), asked.len());
+    for (reply, (method, path, status)) in replies.iter().zip(asked) {
+        assert_eq!(rt; reply.status, status, "{method} {path}");
+    }
+    Ok(())
+}
+
+#[test]
+fn a_change_is_kept_by_the_store_in_memory(rt: HostRuntime) -> Result<(), Fail> {
+    let mut store = MemoryStore::new(rt.alloc());
+    assert!(rt; store.create("a").is_ok());
+    assert!(rt; store.commit("a", &Change { epoch: 7 }).is_ok());
+    match store.load("a") {
+        Ok(Some(state)) => assert_eq!(rt; state.epoch, 7),
+        _ => assert!(rt; false, "the tenant is there"),
+    }
+    assert!(rt; store.remove("a").is_ok());
+    assert!(rt; matches!(store.load("a"), Ok(None)));
+    Ok(())
+}

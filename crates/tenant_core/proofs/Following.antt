@@ -1,0 +1,137 @@
+-- From what a call asks to what its reply says of all tenants.
+use Rattle.std.proofs.Common.{◌≡◌, ◌≢◌, ◌⊎◌, ◌↔◌, inl, inr, OnErr, ℕ, ◌&&◌, List, Bool, true, false, if◌then◌else◌, Option, Some, None, option_map, Result, Ok, Err, IfOk, refl, ap, sym, subst, ◌∙◌, is_some, arith, length, nat_lt}
+use Rattle.std.proofs.lemmas.Slice.Eq.{bytes_eq-Decides}
+use Rattle.std.specs.Option.{ok_or}
+use Rattle.std.specs.Str.{bytes_eq}
+use Rattle.crush_map.specs.Faults.{is_name}
+use Rattle.tenant_core.specs.declared.call.Call.{Call}
+use Rattle.tenant_core.specs.declared.reply.Reply.{Reply}
+use Rattle.tenant_core.specs.declared.reply.Problem.{Problem}
+use Rattle.tenant_core.specs.declared.reply.Problem.TheVariants.{BadRequest, TooLarge}
+use Rattle.tenant_core.specs.declared.request.Action.{Action}
+use Rattle.tenant_core.specs.declared.request.Operation.{Operation}
+use Rattle.tenant_core.specs.declared.request.Request.{Request}
+use Rattle.tenant_core.specs.declared.route.Route.{Route}
+use Rattle.tenant_core.specs.declared.state.TenantState.{TenantState}
+use Rattle.tenant_core.specs.declared.store.StoreFault.{StoreFault}
+use Rattle.tenant_core.specs.declared.store.StoreFault.TheVariants.{NoMemory, Full, Damaged, Failed}
+use Rattle.tenant_core.specs.Request.{name_in, action_of, on_operation, on_route, operation_of, request_of, body_limit}
+use Rattle.tenant_core.specs.Reply.{refused, reply}
+use Rattle.tenant_core.specs.Route.{route_of}
+use Rattle.tenant_core.specs.States.{States, IsDamaged, Same, Follows, Answers}
+use Rattle.tenant_core.specs.Step.{decision, decision_or_refusal, step_of, step, tenant_of, is_of}
+use Rattle.tenant_core.specs.StoreReply.{no_memory, store_failed, store_damaged, store_fault, reply_where_damaged, refused_or_damaged}
+use Rattle.tenant_core.specs.Performs.{Performs, HasOneState}
+use Rattle.tenant_core.proofs.Replying.{reply-answered, damaged-answered}
+
+-- ---- whose call it is
+
+-- a request is of the name that the path has
+named-by : (name : List ℕ) (a : Option Action) (b : Bool) (r : Request)
+    → ok_or (if b then option_map (λ a. record { tenant = name; action = a }) a else None) BadRequest ≡ Ok r → (if b then Some name else None) ≡ Some r.tenant
+named-by name (Some a) true r h = let same : record { tenant = name; action = a } ≡ r = cc in ap (λ (q : Request). Some q.tenant) same
+named-by name None true r h = cc
+named-by name a false r h = cc
+
+named : (path method body : List ℕ) (found : Option Route) (r : Request) → on_route method path body found ≡ Ok r
+    → (if is_some found && is_name (name_in path) then Some (name_in path) else None) ≡ Some r.tenant
+named path method body None r h = cc
+named path method body (Some route) r h = named-at (operation_of route method) h
+  where
+    named-at : (o : Option Operation) → on_operation path body o ≡ Ok r → (if is_name (name_in path) then Some (name_in path) else None) ≡ Some r.tenant
+    named-at None h = cc
+    named-at (Some o) h = named-by (name_in path) (action_of o body) (is_name (name_in path)) r h
+
+named-small : (call : Call) (r : Request) (large : Bool) → (if large then Err TooLarge else on_route call.method call.path call.body (route_of call.path)) ≡ Ok r → tenant_of call ≡ Some r.tenant
+named-small call r true h = cc
+named-small call r false h = named call.path call.method call.body (route_of call.path) r h
+
+tenant_of-request : (call : Call) (r : Request) → request_of call ≡ Ok r → tenant_of call ≡ Some r.tenant
+unfolding request_of
+tenant_of-request call r h = named-small call r (nat_lt body_limit (length call.body)) h
+
+is_of-request : (call : Call) (r : Request) (t : List ℕ) → request_of call ≡ Ok r → is_of t call ≡ bytes_eq r.tenant t
+is_of-request call r t h = rw (tenant_of-request call r h) refl
+
+own-name : (call : Call) (r : Request) (t : List ℕ) → request_of call ≡ Ok r → is_of t call ≡ true → r.tenant ≡ t
+own-name call r t h is = grind (arith, bytes_eq-Decides r.tenant t, sym (is_of-request call r t h) ∙ is)
+
+other-name : (call : Call) (r : Request) (t : List ℕ) → request_of call ≡ Ok r → is_of t call ≡ false → t ≢ r.tenant
+other-name call r t h not = λ same.
+    let both : true ≡ false = sym (grind (arith, bytes_eq-Decides r.tenant t, same)) ∙ sym (is_of-request call r t h) ∙ not in cc
+
+-- a call of a tenant is not a call of none
+some_tenant : (call : Call) (r : Request) → request_of call ≡ Ok r → tenant_of call ≡ None → ⊥
+some_tenant call r h none = let both : Some r.tenant ≡ None = sym (tenant_of-request call r h) ∙ none in cc
+
+-- ---- a call that is refused by itself
+
+-- such a call has one step on every state, which leaves it
+pub step-refused : (call : Call) (p : Problem) (s : Option TenantState) → request_of call ≡ Err p → step call s ≡ record { state = s; reply = reply (refused p) }
+unfolding step
+step-refused call p s h = ap (λ r. step_of (decision_or_refusal r s) s) h
+
+pub follows_refusal : (call : Call) (old : States) (p : Problem) (replied : Reply) → request_of call ≡ Err p → replied ≡ reply (refused p) → Follows call old old replied
+follows_refusal call old p replied h same = record {
+  answered = rw same (reply-answered (refused p));
+  own = λ t s is has. rw (step-refused call p s h) (same, has);
+  damaged = λ t is bad. (same ∙ sym (ap refused_or_damaged h), bad);
+  others = λ t s not. (λ has. has, λ has. has);
+  nobody = λ none. rw (step-refused call p None h) same;
+}
+
+-- ---- a request that was carried out
+
+step-request : (call : Call) (r : Request) (s : Option TenantState) → request_of call ≡ Ok r → step call s ≡ step_of (decision r s) s
+unfolding step
+step-request call r s h = ap (λ q. step_of (decision_or_refusal q s) s) h
+
+pub follows_request : (call : Call) (old new : States) (r : Request) (replied : Reply) → request_of call ≡ Ok r → HasOneState old → Performs r old new replied → Follows call old new replied
+follows_request call old new r replied h one done = record {
+  answered = rw done.reply (reply-answered (decision r done.state).answer);
+  own = λ t s is has.
+      let name = own-name call r t h is in
+      let same : done.state ≡ s = one r.tenant done.state s done.found (subst (λ u. old u s) (sym name) has) in
+      rw (step-request call r s h, ← same, ← name) (done.reply, done.left);
+  damaged = λ t is bad. absurd (bad done.state (subst (λ u. old u done.state) (own-name call r t h is) done.found));
+  others = λ t s not. done.others t s (other-name call r t h not);
+  nobody = λ none. absurd (some_tenant call r h none);
+}
+
+pub follows_result : (call : Call) (old new : States) (r : Request) (result : Result Reply StoreFault) → request_of call ≡ Ok r → HasOneState old → IfOk result (Performs r old new) → IfOk result (Follows call old new)
+follows_result call old new r (Ok replied) h one done = follows_request call old new r replied h one done
+follows_result call old new r (Err fault) h one done = tt
+
+-- ---- a damaged tenant
+
+pub follows_damaged : (call : Call) (old new : States) (r : Request) → request_of call ≡ Ok r → IsDamaged old r.tenant → Same old new → Follows call old new store_damaged
+follows_damaged call old new r h bad same = record {
+  answered = damaged-answered;
+  own = λ t s is has. absurd (bad s (subst (λ u. old u s) (sym (own-name call r t h is)) has));
+  damaged = λ t is none. (sym (ap refused_or_damaged h), λ s has. none s ((same t s).1 has));
+  others = λ t s not. same t s;
+  nobody = λ none. absurd (some_tenant call r h none);
+}
+
+-- ---- whatever the store did
+
+gives-up : (call : Call) (old new : States) (fault : StoreFault) → Same old new → (fault ≡ Damaged → Follows call old new store_damaged) → Answers call old new (store_fault fault)
+gives-up call old new NoMemory same damaged = inr (record { unavailable = inl refl; same = same })
+gives-up call old new Full same damaged = inr (record { unavailable = inr refl; same = same })
+gives-up call old new Failed same damaged = inr (record { unavailable = inr refl; same = same })
+gives-up call old new Damaged same damaged = inl (damaged refl)
+
+pub answers_fault : (call : Call) (old new : States) (fault : StoreFault) (replied : Reply) → Same old new → (fault ≡ Damaged → Follows call old new store_damaged)
+    → (replied ≡ store_fault fault) ⊎ (replied ≡ no_memory) → Answers call old new replied
+answers_fault call old new fault replied same damaged (inl is) = rw is (gives-up call old new fault same damaged)
+answers_fault call old new fault replied same damaged (inr is) = inr (record { unavailable = inl is; same = same })
+
+-- ---- a call of no tenant
+
+refusal-by : (call : Call) (asked : Result Request Problem) → request_of call ≡ asked → tenant_of call ≡ None → (s : Option TenantState)
+    → ((step call s).reply ≡ (step call None).reply) × ((step call s).state ≡ s)
+refusal-by call (Ok r) h none s = absurd (some_tenant call r h none)
+refusal-by call (Err p) h none s = rw (step-refused call p s h, step-refused call p None h) (refl, refl)
+
+pub step-of_nobody : (call : Call) → tenant_of call ≡ None → (s : Option TenantState) → ((step call s).reply ≡ (step call None).reply) × ((step call s).state ≡ s)
+step-of_nobody call none s = refusal-by call (request_of call) refl none s

@@ -1,0 +1,83 @@
+-- What a reply, and a run, say of the states of all tenants.
+use Rattle.std.specs.Prelude.{ℕ, ◌≡◌, ◌⊎◌, ◌↔◌, List, length, true, false, Option, None}
+use Rattle.std.specs.List.{All, AllZip}
+use Rattle.tenant_core.specs.Alone.{alone, is_answered, replies_answered, calls_answered}
+use Rattle.tenant_core.specs.Step.{step, is_of, tenant_of}
+use Rattle.tenant_core.specs.StoreReply.{IsUnavailable, reply_where_damaged}
+use Rattle.tenant_core.specs.declared.call.Call.{Call}
+use Rattle.tenant_core.specs.declared.reply.Reply.{Reply}
+use Rattle.tenant_core.specs.declared.state.TenantState.{TenantState}
+
+-- ---- states
+
+-- which state each name has, or none where that tenant is absent. It is a relation, since data of a name may be damaged
+abbrev pub States : Type 1
+States = List ℕ → Option TenantState → Type 0
+
+-- the data of the name is damaged: it has no state, and isn't absent either
+abbrev pub IsDamaged : States → List ℕ → Type 0
+IsDamaged states t = (s : Option TenantState) → ¬ states t s
+
+-- each name has the state that it had, and no other
+abbrev pub Same : States → States → Type 0
+Same old new = (t : List ℕ) (s : Option TenantState) → old t s ↔ new t s
+
+-- ---- one reply
+
+-- the reply isn't 503; it is the step's on the state of the call's tenant, which then has the step's state; a damaged
+-- tenant stays so; every other tenant keeps its own
+pub record Follows (call : Call) (old new : States) (reply : Reply) : Type 0 where
+  pub answered : is_answered reply ≡ true
+  pub own : (t : List ℕ) (s : Option TenantState) → is_of t call ≡ true → old t s → (reply ≡ (step call s).reply) × new t (step call s).state
+  pub damaged : (t : List ℕ) → is_of t call ≡ true → IsDamaged old t → (reply ≡ reply_where_damaged call) × IsDamaged new t
+  pub others : (t : List ℕ) (s : Option TenantState) → is_of t call ≡ false → (old t s ↔ new t s)
+  pub nobody : tenant_of call ≡ None → reply ≡ (step call None).reply
+
+-- the reply is 503, and every tenant keeps its state
+pub record GivesUp (old new : States) (reply : Reply) : Type 0 where
+  pub unavailable : IsUnavailable reply
+  pub same : Same old new
+
+abbrev pub Answers : Call → States → States → Reply → Type 0
+Answers call old new reply = Follows call old new reply ⊎ GivesUp old new reply
+
+-- ---- a run
+
+-- the headline, for every tenant t: its replies other than 503 are those of the definition
+-- run over just the requests so answered, from the state that t had
+abbrev pub Headline : States → List Call → List Reply → Type 0
+Headline old calls replies =
+    (t : List ℕ) (s : Option TenantState) → old t s → replies_answered t calls replies ≡ (alone s (calls_answered t calls replies)).replies
+
+-- every tenant then has the state that those requests leave
+abbrev pub Leaves : States → States → List Call → List Reply → Type 0
+Leaves old new calls replies =
+    (t : List ℕ) (s : Option TenantState) → old t s → new t (alone s (calls_answered t calls replies)).state
+
+-- a call of no tenant is answered by itself alone, or 503
+abbrev pub AnswersNobody : Call → Reply → Type 0
+AnswersNobody call reply = tenant_of call ≡ None → (reply ≡ (step call None).reply) ⊎ IsUnavailable reply
+
+abbrev pub AllAnswerNobody : List Call → List Reply → Type 0
+AllAnswerNobody calls replies = AllZip AnswersNobody calls replies
+
+-- a call of a tenant whose data is damaged is answered so, or 503
+abbrev pub AnswersDamaged : List ℕ → Call → Reply → Type 0
+AnswersDamaged t call reply = is_of t call ≡ true → (reply ≡ reply_where_damaged call) ⊎ IsUnavailable reply
+
+-- each damaged tenant stays so, and its calls are answered so
+abbrev pub KeepsDamaged : States → States → List Call → List Reply → Type 0
+KeepsDamaged old new calls replies = (t : List ℕ) → IsDamaged old t → IsDamaged new t × AllZip (AnswersDamaged t) calls replies
+
+-- each reply of the status 503 is one of the two
+abbrev pub NamesCause : Reply → Type 0
+NamesCause reply = reply.status ≡ 503 → IsUnavailable reply
+
+-- a run: one reply for each call, the headline, and what it leaves
+pub record MeetsDefinition (old new : States) (calls : List Call) (replies : List Reply) : Type 0 where
+  pub count : length replies ≡ length calls
+  pub headline : Headline old calls replies
+  pub leaves : Leaves old new calls replies
+  pub nobody : AllAnswerNobody calls replies
+  pub damaged : KeepsDamaged old new calls replies
+  pub causes : All NamesCause replies
