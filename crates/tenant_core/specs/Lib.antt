@@ -1,6 +1,8 @@
 pub mod Json
 pub mod Reads
 pub mod Body
+pub mod Forms
+pub mod PickForm
 pub mod Route
 pub mod Reply
 pub mod Request
