@@ -1,4 +1,6 @@
 pub mod Asking
 pub mod Bodies
+pub mod Finding
 pub mod Objects
+pub mod PickForms
 pub mod Running

@@ -4,6 +4,7 @@ use Rattle.std.specs.List.{AllZip}
 use Rattle.serde_json.specs.Data.{Num, unsigned, Data, number, string, array, object, Members, no_members, member}
 use Rattle.serde_json.specs.Find.{get, as_integer}
 use Rattle.serde_json.specs.View.{items_of}
+use Rattle.tenant_core.specs.Json.{value_of}
 
 -- ---- numbers and texts
 
@@ -47,4 +48,12 @@ pub record HasExactly (keys : List (List ℕ)) (d : Data) : Type 0 where
 pub record IsUnder {A : Type 0} (key : List ℕ) (Says : Data → A → Type 0) (d : Data) (a : A) : Type 0 where
   pub value : Data
   pub there : get key d ≡ Some value
+  pub says : Says value a
+
+-- ---- bytes
+
+-- JSON whose value says a
+pub record IsJson {A : Type 0} (Says : Data → A → Type 0) (bytes : List ℕ) (a : A) : Type 0 where
+  pub value : Data
+  pub read : value_of bytes ≡ Some value
   pub says : Says value a

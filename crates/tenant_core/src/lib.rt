@@ -4,6 +4,7 @@
 mod body;
 mod call;
 mod json;
+pub mod laws;
 mod pick;
 mod reply;
 mod request;
