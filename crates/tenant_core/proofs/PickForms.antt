@@ -12,12 +12,13 @@ use Rattle.serde_json.specs.Find.{as_str}
 use Rattle.crush_bucket.specs.Bucket.{BucketView, Entry, total_weight, HasEqualWeights}
 use Rattle.crush_map.specs.Faults.{is_uniform}
 use Rattle.crush_map.specs.Weights.{has_equal_weights}
+use Rattle.crush_map.specs.declared.ItemId.{ItemId}
 use Rattle.crush_map.specs.declared.Kind.{Kind}
 use Rattle.crush_map.specs.declared.Kind.TheVariants.{Uniform, List as ListKind, Tree}
 use Rattle.tenant_core.proofs.Finding.{Finds, finds_as, finds_both, finds_integer, finds_list, finds_natural, finds_object, finds_tested, finds_text, finds_three, finds_under, is_there}
 use Rattle.tenant_core.specs.Body.{weighed, entry_of, is_of_item, are_distinct, kind_named, kind_of, may_be, bucket_of, pick_of}
 use Rattle.tenant_core.specs.Forms.{IsText}
-use Rattle.tenant_core.specs.PickForm.{IsItem, kind_name, IsBucketObject, IsAskable, IsBucket, IsPickBody}
+use Rattle.tenant_core.specs.PickForm.{IsItem, kind_name, IsBucket, IsPickBody}
 use Rattle.tenant_core.specs.declared.pick.PickRequest.{PickRequest}
 
 -- ---- an item
@@ -58,30 +59,34 @@ finds_kind = record {
 Decides-same : (z y : ℤ) → Decides (int_le z y && int_le y z) (y ≡ z)
 Decides-same z y = (λ h. grind (arith, ints), λ h. grind (arith, ints))
 
-Decides-other : (z : ℤ) (e : Entry) → Decides (not (is_of_item z e)) (e.0.0 ≢ z)
-Decides-other z e = Decides-not (is_of_item z e) (Decides-same z e.0.0)
+Decides-other : (i : ItemId) (e : Entry) → Decides (not (is_of_item i.0 e)) (e.0 ≢ i)
+Decides-other i e =
+    Decides-not (is_of_item i.0 e) (Decides-like (is_of_item i.0 e) (ap (λ z. record { 0 = z })) (ap (λ (j : ItemId). j.0)) (Decides-same i.0 e.0.0))
 
-Decides-none : (z : ℤ) (es : List Entry) → Decides (not (list_any (is_of_item z) es)) (All (λ e. e.0.0 ≢ z) es)
-Decides-none z es =
-    Decides-by_and (λ e. not (is_of_item z e)) (λ e. e.0.0 ≢ z) (λ es. not (list_any (is_of_item z) es)) (Decides-other z) refl
-    (λ e es. either (is_of_item z e) (list_any (is_of_item z) es)) es
+Decides-none : (i : ItemId) (es : List Entry) → Decides (not (list_any (is_of_item i.0) es)) (All (λ e. e.0 ≢ i) es)
+Decides-none i es =
+    Decides-by_and (λ e. not (is_of_item i.0 e)) (λ e. e.0 ≢ i) (λ es. not (list_any (is_of_item i.0) es)) (Decides-other i) refl
+    (λ e es. neither (is_of_item i.0 e) (list_any (is_of_item i.0) es)) es
   where
-    either : (a b : Bool) → not (a || b) ≡ (not a && not b)
-    either true b = refl
-    either false b = refl
+    neither : (a b : Bool) → not (a || b) ≡ (not a && not b)
+    neither true b = refl
+    neither false b = refl
 
-pairs-head : (e : Entry) (es : List Entry) → AllPairs (λ (e f : Entry). e.0.0 ≢ f.0.0) (e ∷ es) → All (λ (f : Entry). f.0.0 ≢ e.0.0) es
+abbrev Differ : Entry → Entry → Type 0
+Differ e f = e.0 ≢ f.0
+
+pairs-head : (e : Entry) (es : List Entry) → AllPairs Differ (e ∷ es) → All (λ (f : Entry). f.0 ≢ e.0) es
 pairs-head e es h k d below same = h 0 (suc k) d (omega arith) (omega arith) (sym same)
 
-pairs-tail : (e : Entry) (es : List Entry) → AllPairs (λ (e f : Entry). e.0.0 ≢ f.0.0) (e ∷ es) → AllPairs (λ (e f : Entry). e.0.0 ≢ f.0.0) es
+pairs-tail : (e : Entry) (es : List Entry) → AllPairs Differ (e ∷ es) → AllPairs Differ es
 pairs-tail e es h i j d before below = h (suc i) (suc j) d (omega arith) (omega arith)
 
-Decides-distinct : (es : List Entry) → Decides (are_distinct es) (AllPairs (λ (e f : Entry). e.0.0 ≢ f.0.0) es)
+Decides-distinct : (es : List Entry) → Decides (are_distinct es) (AllPairs Differ es)
 Decides-distinct [] = (λ h i j d before below. absurd (omega arith), λ h. refl)
 Decides-distinct (e ∷ es) =
-    Decides-like _ (λ is. AllPairs-cons (λ (e f : Entry). e.0.0 ≢ f.0.0) e es (λ k d below same. is.0 k d below (sym same)) is.1)
+    Decides-like _ (λ is. AllPairs-cons Differ e es (λ k d below same. is.0 k d below (sym same)) is.1)
     (λ is. (pairs-head e es is, pairs-tail e es is))
-    (Decides-and (not (list_any (is_of_item e.0.0) es)) (are_distinct es) (Decides-none e.0.0 es) (Decides-distinct es))
+    (Decides-and (not (list_any (is_of_item e.0.0) es)) (are_distinct es) (Decides-none e.0 es) (Decides-distinct es))
 
 like_first : (first : Entry) (es : List Entry) → All (λ (e : Entry). e.1.0 ≡ first.1.0) es → HasEqualWeights (first ∷ es)
 like_first first es rest zero d below = refl
@@ -102,29 +107,58 @@ Decides-if_uniform Uniform b P h = (λ yes same. h.0 yes, λ holds. h.1 (holds r
 Decides-if_uniform ListKind b P h = (λ yes same. cc, λ holds. refl)
 Decides-if_uniform Tree b P h = (λ yes same. cc, λ holds. refl)
 
-Decides-askable : (b : BucketView) → Decides (may_be b) (IsAskable b)
-Decides-askable b =
-    Decides-like (may_be b) (λ is. record { some = is.0.0.0.0.0; few = is.0.0.0.0.1; light = is.0.0.0.1; others = is.0.0.1; distinct = is.0.1; equal = is.1 })
-    (λ is. (((((is.some, is.few), is.light), is.others), is.distinct), is.equal))
+record MayBe (b : BucketView) : Type 0 where
+  some : 1 ≤ length b.entries
+  few : length b.entries ≤ 1024
+  distinct : AllPairs Differ b.entries
+  others : All (λ e. e.0 ≢ b.id) b.entries
+  light : total_weight b.entries ≤ 4294967295
+  equal : b.kind ≡ Uniform → HasEqualWeights b.entries
+
+Decides-may_be : (b : BucketView) → Decides (may_be b) (MayBe b)
+Decides-may_be b =
+    Decides-like (may_be b)
+    (λ is. record { some = is.0.0.0.0.0; few = is.0.0.0.0.1; light = less is.0.0.0.1; others = is.0.0.1; distinct = is.0.1; equal = is.1 })
+    (λ is. (((((is.some, is.few), let light = is.light in omega arith), is.others), is.distinct), is.equal))
     (Decides-and _ (not (is_uniform b.kind) || has_equal_weights b.entries)
     (Decides-and _ (are_distinct b.entries)
     (Decides-and _ (not (list_any (is_of_item b.id.0) b.entries))
     (Decides-and _ (nat_lt (total_weight b.entries) (2 ^ 32))
     (Decides-and (nat_lt 0 (length b.entries)) (nat_le (length b.entries) 1024) (Decides-leb 1 (length b.entries)) (Decides-leb (length b.entries) 1024))
     (Decides-ltb (total_weight b.entries) (2 ^ 32)))
-    (Decides-none b.id.0 b.entries))
+    (Decides-none b.id b.entries))
     (Decides-distinct b.entries))
     (Decides-if_uniform b.kind (has_equal_weights b.entries) (HasEqualWeights b.entries) (Decides-equal b.entries)))
+  where
+    less : total_weight b.entries < 2 ^ 32 → total_weight b.entries ≤ 4294967295
+    less h = omega arith
 
 -- ---- a bucket
 
 finds_bucket : Finds bucket_of IsBucket
 finds_bucket = finds_as
-    (λ d b is. (record { keys = is.0; id = is.1.0.1; items = is.1.0.2; kind = is.1.0.0 }, is.1.1))
-    (λ d b is. (is.0.keys, ((is.0.kind, is.0.id, is.0.items), is.1)))
+    (λ d b is. record {
+      keys = is.0;
+      id = is.1.0.1;
+      items = is.1.0.2;
+      kind = is.1.0.0;
+      some = is.1.1.some;
+      few = is.1.1.few;
+      distinct = is.1.1.distinct;
+      others = is.1.1.others;
+      light = is.1.1.light;
+      equal = is.1.1.equal;
+    })
+    (λ d b is. (
+      is.keys,
+      (
+        (is.kind, is.id, is.items),
+        record { some = is.some; few = is.few; distinct = is.distinct; others = is.others; light = is.light; equal = is.equal }
+      ),
+    ))
     (finds_object (codes "id" ∷ codes "items" ∷ codes "kind" ∷ []) refl
     (λ d b is. (is_there (codes "id") d b.id.0 is.0.1, (is_there (codes "items") d b.entries is.0.2, (is_there (codes "kind") d b.kind is.0.0, tt))))
-    (finds_tested may_be IsAskable (λ b. (Decides-askable b).0) (λ b. (Decides-askable b).1)
+    (finds_tested may_be MayBe (λ b. (Decides-may_be b).0) (λ b. (Decides-may_be b).1)
     (finds_three (λ kind id es. record { id = record { 0 = id }; kind = kind; entries = es }) (λ b. b.kind) (λ b. b.id.0) (λ b. b.entries)
     (λ a b c. refl) (λ a b c. refl) (λ a b c. refl) (λ b. refl)
     (finds_under (codes "kind") finds_kind) (finds_under (codes "id") (finds_integer (negsuc 65535) (negsuc 0) refl)) (finds_under (codes "items") (finds_list finds_entry)))))

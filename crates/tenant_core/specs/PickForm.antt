@@ -1,5 +1,5 @@
 -- The form of a pick's body: {"bucket": {"id", "items": [{"item", "weight"}, ..], "kind"}, "r", "x"}.
-use Rattle.std.specs.Prelude.{◌≡◌, ◌≢◌, ℕ, ◌^◌, ◌≤◌, ◌<◌, pos, negsuc, List, [], ◌∷◌, length, codes}
+use Rattle.std.specs.Prelude.{◌≡◌, ◌≢◌, ℕ, ◌≤◌, pos, negsuc, List, [], ◌∷◌, length, codes}
 use Rattle.std.specs.List.{All, AllPairs}
 use Rattle.serde_json.specs.Data.{Data}
 use Rattle.crush_bucket.specs.Bucket.{BucketView, Entry, total_weight, HasEqualWeights}
@@ -19,24 +19,19 @@ kind_name Uniform = codes "uniform"
 kind_name ListKind = codes "list"
 kind_name Tree = codes "tree"
 
--- {"id": -65536..-1, "items": [ITEM, ..], "kind": "uniform", "list" or "tree"}
-pub record IsBucketObject (d : Data) (b : BucketView) : Type 0 where
+-- {"id": -65536..-1, "items": [ITEM, ..], "kind": "uniform", "list" or "tree"}: 1 to 1,024 distinct items other than the bucket,
+-- whose weights have a sum of at most 2^32 - 1, and are equal in a uniform bucket
+pub record IsBucket (d : Data) (b : BucketView) : Type 0 where
   pub keys : HasExactly (codes "id" ∷ codes "items" ∷ codes "kind" ∷ []) d
   pub id : IsUnder (codes "id") (IsInteger (negsuc 65535) (negsuc 0)) d b.id.0
   pub items : IsUnder (codes "items") (IsListOf IsItem) d b.entries
   pub kind : IsUnder (codes "kind") (λ v k. IsText v (kind_name k)) d b.kind
-
--- what a request may ask: 1 to 1,024 distinct items other than the bucket; the sum of their weights is a word; in a uniform bucket the weights are equal
-pub record IsAskable (b : BucketView) : Type 0 where
   pub some : 1 ≤ length b.entries
   pub few : length b.entries ≤ 1024
-  pub others : All (λ e. e.0.0 ≢ b.id.0) b.entries
-  pub distinct : AllPairs (λ e f. e.0.0 ≢ f.0.0) b.entries
-  pub light : total_weight b.entries < 2 ^ 32
+  pub distinct : AllPairs (λ e f. e.0 ≢ f.0) b.entries
+  pub others : All (λ e. e.0 ≢ b.id) b.entries
+  pub light : total_weight b.entries ≤ 4294967295
   pub equal : b.kind ≡ Uniform → HasEqualWeights b.entries
-
-abbrev pub IsBucket : Data → BucketView → Type 0
-IsBucket d b = IsBucketObject d b × IsAskable b
 
 -- {"bucket": BUCKET, "r": 0..2147483647, "x": 0..4294967295}
 pub record IsPickBody (d : Data) (p : PickRequest) : Type 0 where
