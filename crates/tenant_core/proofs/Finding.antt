@@ -1,10 +1,10 @@
 -- What finds a value exactly where a JSON value is of a form and says it.
-use Rattle.std.proofs.Common.{◌≡◌, ◌≢◌, ◌↔◌, ℕ, suc, ◌+◌, ◌^◌, ◌&&◌, ◌<◌, ◌≤◌, ℤ, pos, negsuc, ◌≤ℤ◌, List, [], ◌∷◌, length, Bool, true, false, nat_lt, nat_le, int_le, cond, if◌then◌else◌, Option, Some, None, is_some, option_and_then, refl, sym, ap, subst, ◌∙◌, arith, rules}
+use Rattle.std.proofs.Common.{◌≡◌, ◌↔◌, ℕ, ◌^◌, ◌&&◌, ◌≤◌, ℤ, pos, ◌≤ℤ◌, List, [], ◌∷◌, length, Bool, true, false, nat_lt, nat_le, int_le, if◌then◌else◌, Option, Some, None, is_some, option_and_then, refl, sym, ap, subst, ◌∙◌, arith}
 use Rattle.std.proofs.lemmas.Bool.Decides.{nat_tests}
 use Rattle.std.proofs.lemmas.Int.{ints}
 use Rattle.std.specs.List.{AllZip}
 use Rattle.serde_json.specs.Data.{Num, unsigned, negative, float, Data, null, boolean, number, string, array, object, Items, no_items, item}
-use Rattle.serde_json.specs.Find.{get, as_array, as_i64, as_integer, as_number, as_str, as_u64}
+use Rattle.serde_json.specs.Find.{get, as_i64, as_integer, as_str}
 use Rattle.serde_json.specs.View.{items_of}
 use Rattle.tenant_core.proofs.Objects.{AllFound, are_different, has_exactly, has_keys-exactly}
 use Rattle.tenant_core.specs.Forms.{IsNatural, IsInteger, IsText, IsListOf, HasExactly, IsUnder, IsJson}
@@ -208,17 +208,26 @@ finds_list finds = record { says = list-says finds; found = λ d xs is. rw is.is
 -- ---- objects
 
 -- where as many keys are there as are named for what is found, and each of them, the keys are exactly those named
+pub finds_object_with : {A : Type 0} {f : Data → Option A} {Says : Data → A → Type 0} (count : Data → ℕ) (keys : A → List (List ℕ))
+    → ((a : A) → are_different (keys a) ≡ true) → ((d : Data) (a : A) → Says d a → AllFound (keys a) d) → ((d : Data) (a : A) → Says d a → count d ≡ length (keys a))
+    → Finds f Says → Finds (λ d. if has_keys (count d) d then f d else None) (λ d a. HasExactly (keys a) d × Says d a)
+finds_object_with {A} {f} {Says} count keys differ there many finds = record {
+  says = λ d a h. object-says (has_keys (count d) d) d a refl h;
+  found = λ d a is. rw (many d a is.1, has_keys-exactly (keys a) d is.0) (finds.found d a is.1);
+}
+  where
+    object-says : (b : Bool) (d : Data) (a : A) → has_keys (count d) d ≡ b → (if b then f d else None) ≡ Some a → HasExactly (keys a) d × Says d a
+    object-says true d a counted h =
+        let said = finds.says d a h in
+        let as_many : has_keys (length (keys a)) d ≡ true = subst (λ n. has_keys n d ≡ true) (many d a said) counted in
+        (has_exactly (keys a) d (differ a) as_many (there d a said), said)
+    object-says false d a counted h = cc
+
+-- the same where each key has to be there
 pub finds_object : {A : Type 0} {f : Data → Option A} {Says : Data → A → Type 0} (keys : List (List ℕ)) → are_different keys ≡ true
     → ((d : Data) (a : A) → Says d a → AllFound keys d) → Finds f Says
     → Finds (λ d. if has_keys (length keys) d then f d else None) (λ d a. HasExactly keys d × Says d a)
-finds_object {A} {f} {Says} keys differ there finds = record {
-  says = λ d a h. object-says (has_keys (length keys) d) d a refl h;
-  found = λ d a is. rw (has_keys-exactly keys d is.0) (finds.found d a is.1);
-}
-  where
-    object-says : (b : Bool) (d : Data) (a : A) → has_keys (length keys) d ≡ b → (if b then f d else None) ≡ Some a → HasExactly keys d × Says d a
-    object-says true d a count h = let said = finds.says d a h in (has_exactly keys d differ count (there d a said), said)
-    object-says false d a count h = cc
+finds_object keys differ there finds = finds_object_with (λ d. length keys) (λ a. keys) (λ a. differ) there (λ d a is. refl) finds
 
 -- ---- a further test
 
@@ -263,6 +272,7 @@ found_none (Some a) h = absurd (h a refl)
 -- and nothing is found exactly where there is no such value
 pub json_refuses : {A : Type 0} {f : Data → Option A} {Says : Data → A → Type 0} → Finds f Says → (bytes : List ℕ)
     → (option_and_then f (value_of bytes) ≡ None) ↔ ((a : A) → ¬ IsJson Says bytes a)
-json_refuses {A} {f} {Says} finds bytes =
-    (λ none a is. let some : Some a ≡ None = sym ((json_finds finds bytes a).1 is) ∙ none in cc,
-    λ no. found_none (option_and_then f (value_of bytes)) (λ a h. no a ((json_finds finds bytes a).0 h)))
+json_refuses {A} {f} {Says} finds bytes = (
+  λ none a is. let some : Some a ≡ None = sym ((json_finds finds bytes a).1 is) ∙ none in cc,
+  λ no. found_none (option_and_then f (value_of bytes)) (λ a h. no a ((json_finds finds bytes a).0 h)),
+)

@@ -1,8 +1,8 @@
 -- What the body of a pick says is found exactly where the body is of the form.
-use Rattle.std.proofs.Common.{◌≡◌, ◌≢◌, ◌⊎◌, inl, inr, ℕ, zero, suc, ◌+◌, ◌^◌, ◌&&◌, ◌||◌, ◌==◌, ◌<◌, ◌≤◌, ℤ, pos, negsuc, ◌≤ℤ◌, List, [], ◌∷◌, length, Bool, true, false, not, nat_lt, nat_le, int_le, cond, if◌then◌else◌, Option, Some, None, option_and_then, bytes_eq, refl, sym, ap, subst, ◌∙◌, arith, rules}
+use Rattle.std.proofs.Common.{◌≡◌, ◌≢◌, ℕ, zero, suc, ◌^◌, ◌&&◌, ◌||◌, ◌==◌, ◌<◌, ◌≤◌, ℤ, pos, negsuc, List, [], ◌∷◌, length, Bool, true, false, not, nat_lt, nat_le, int_le, if◌then◌else◌, Option, Some, None, option_and_then, bytes_eq, refl, sym, ap, ◌∙◌, arith}
 use Rattle.std.specs.Bool.{Decides}
 use Rattle.std.specs.List.{All, AllPairs, list_any, list_all}
-use Rattle.std.specs.Prelude.{codes, slice_index_or}
+use Rattle.std.specs.Prelude.{codes}
 use Rattle.std.proofs.lemmas.Bool.Decides.{nat_tests, Decides-and, Decides-by_and, Decides-eqb, Decides-like, Decides-ltb, Decides-not}
 use Rattle.std.proofs.lemmas.Int.{ints}
 use Rattle.std.proofs.lemmas.Slice.Eq.{bytes_eq-Decides}
@@ -19,7 +19,6 @@ use Rattle.tenant_core.proofs.Finding.{Finds, finds_as, finds_both, finds_intege
 use Rattle.tenant_core.specs.Body.{weighed, entry_of, is_of_item, are_distinct, kind_named, kind_of, may_be, bucket_of, pick_of}
 use Rattle.tenant_core.specs.Forms.{IsText}
 use Rattle.tenant_core.specs.PickForm.{IsItem, kind_name, IsBucket, IsPickBody}
-use Rattle.tenant_core.specs.declared.pick.PickRequest.{PickRequest}
 
 -- ---- an item
 
@@ -153,7 +152,7 @@ finds_bucket = finds_as
       is.keys,
       (
         (is.kind, is.id, is.items),
-        record { some = is.some; few = is.few; distinct = is.distinct; others = is.others; light = is.light; equal = is.equal }
+        record { some = is.some; few = is.few; distinct = is.distinct; others = is.others; light = is.light; equal = is.equal },
       ),
     ))
     (finds_object (codes "id" ∷ codes "items" ∷ codes "kind" ∷ []) refl

@@ -1,5 +1,5 @@
 -- What it is that a JSON value is of some form (RFC 8259), and says some value.
-use Rattle.std.specs.Prelude.{◌≡◌, ℕ, ◌≤◌, ℤ, ◌≤ℤ◌, List, [], ◌∷◌, IsPermutation, Option, Some, None}
+use Rattle.std.specs.Prelude.{◌≡◌, ℕ, ◌≤◌, ℤ, ◌≤ℤ◌, List, [], ◌∷◌, IsPermutation, Some}
 use Rattle.std.specs.List.{AllZip}
 use Rattle.serde_json.specs.Data.{Num, unsigned, Data, number, string, array, object, Members, no_members, member}
 use Rattle.serde_json.specs.Find.{get, as_integer}
