@@ -1,4 +1,4 @@
--- What the body of a pick says, where it is of the form: {"bucket": {"id", "items": [{"item", "weight"}], "kind"}, "r", "x"}.
+-- Reading the body of a pick. What is found is what a body of the form says (`PickForm.antt`), by the law `picks_are_of_the_form`.
 use Rattle.std.specs.Prelude.{ℕ, ◌^◌, ◌&&◌, ◌||◌, ℤ, pos, negsuc, int_le, List, [], ◌∷◌, length, Bool, true, not, nat_lt, nat_le, if◌then◌else◌, Option, Some, None, option_and_then, codes}
 use Rattle.std.specs.List.{list_any}
 use Rattle.std.specs.Str.{bytes_eq}

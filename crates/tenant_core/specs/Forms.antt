@@ -1,4 +1,4 @@
--- What it is that a JSON value is of some form (RFC 8259), and says some value.
+-- Forms: that a JSON value (RFC 8259) is of some form, and says some value.
 use Rattle.std.specs.Prelude.{◌≡◌, ℕ, ◌≤◌, ℤ, ◌≤ℤ◌, List, [], ◌∷◌, IsPermutation, Some}
 use Rattle.std.specs.List.{AllZip}
 use Rattle.serde_json.specs.Data.{Num, unsigned, Data, number, string, array, object, Members, no_members, member}
@@ -8,11 +8,11 @@ use Rattle.tenant_core.specs.Json.{value_of}
 
 -- ---- numbers and texts
 
--- the whole number n, from 0 to a greatest
+-- the whole number n, from 0 to a greatest, by a numeral with no sign, point or exponent
 abbrev pub IsNatural : ℕ → Data → ℕ → Type 0
 IsNatural greatest d n = (d ≡ number (unsigned n)) × (n ≤ greatest)
 
--- the whole number z, from a least to a greatest
+-- the whole number z, from a least to a greatest, by a numeral with neither point nor exponent; `-0` is no such number
 pub record IsInteger (least greatest : ℤ) (d : Data) (z : ℤ) : Type 0 where
   pub numeral : Num
   pub is_number : d ≡ number numeral
