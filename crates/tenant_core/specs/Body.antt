@@ -1,15 +1,15 @@
--- What the body of a pick says, where it is of the form: {"bucket": {"id", "items": [{"item", "weight"}], "kind"}, "r", "x"}.
+-- Reading the body of a pick. What is found is what a body of the form says (`PickForm.antt`), by the law `picks_are_of_the_form`.
 use Rattle.std.specs.Prelude.{ℕ, ◌^◌, ◌&&◌, ◌||◌, ℤ, pos, negsuc, int_le, List, [], ◌∷◌, length, Bool, true, not, nat_lt, nat_le, if◌then◌else◌, Option, Some, None, option_and_then, codes}
 use Rattle.std.specs.List.{list_any}
 use Rattle.std.specs.Str.{bytes_eq}
-use Rattle.serde_json.specs.Data.{Data, Items, no_items, item}
-use Rattle.serde_json.specs.Find.{get, as_array}
+use Rattle.serde_json.specs.Data.{Data}
+use Rattle.serde_json.specs.Find.{as_str}
 use Rattle.crush_bucket.specs.Bucket.{BucketView, Entry, total_weight}
 use Rattle.crush_map.specs.Faults.{is_uniform}
 use Rattle.crush_map.specs.Weights.{has_equal_weights}
 use Rattle.crush_map.specs.declared.Kind.{Kind}
 use Rattle.crush_map.specs.declared.Kind.TheVariants.{Uniform, List as ListKind, Tree}
-use Rattle.tenant_core.specs.Json.{value_of, has_keys, natural, integer, text, both, all_three}
+use Rattle.tenant_core.specs.Json.{value_of, natural_of, integer_of, both, all_three, list_of, has_keys, under}
 use Rattle.tenant_core.specs.declared.pick.PickRequest.{PickRequest}
 
 -- ---- the items of a bucket
@@ -20,11 +20,7 @@ weighed id weight = (record { 0 = id }, record { 0 = weight })
 -- {"item": -65536..65535, "weight": 0..4294967295}
 abbrev pub entry_of : Data → Option Entry
 entry_of d =
-    if has_keys 2 d then both weighed (integer (negsuc 65535) (pos 65535) (codes "item") d) (natural 4294967295 (codes "weight") d) else None
-
-abbrev pub entries_of : Items → Option (List Entry)
-entries_of no_items = Some []
-entries_of (item d ds) = both (λ e es. e ∷ es) (entry_of d) (entries_of ds)
+    if has_keys 2 d then both weighed (under (codes "item") (integer_of (negsuc 65535) (pos 65535)) d) (under (codes "weight") (natural_of 4294967295) d) else None
 
 abbrev pub is_of_item : ℤ → Entry → Bool
 is_of_item z e = int_le z e.0.0 && int_le e.0.0 z
@@ -42,6 +38,9 @@ kind_named name =
     else (if bytes_eq name (codes "list") then Some ListKind
     else (if bytes_eq name (codes "tree") then Some Tree else None))
 
+abbrev pub kind_of : Data → Option Kind
+kind_of d = option_and_then kind_named (as_str d)
+
 -- 1 to 1,024 distinct items other than the bucket, whose weights have a sum below 2^32, and are equal in a uniform bucket
 abbrev pub may_be : BucketView → Bool
 may_be b =
@@ -56,8 +55,8 @@ abbrev pub bucket_of : Data → Option BucketView
 bucket_of d =
     if has_keys 3 d then
     option_and_then if_it_may_be (all_three (λ kind id es. record { id = record { 0 = id }; kind = kind; entries = es })
-    (option_and_then kind_named (text (codes "kind") d)) (integer (negsuc 65535) (negsuc 0) (codes "id") d)
-    (option_and_then entries_of (option_and_then as_array (get (codes "items") d)))) else None
+    (under (codes "kind") kind_of d) (under (codes "id") (integer_of (negsuc 65535) (negsuc 0)) d)
+    (under (codes "items") (list_of entry_of) d)) else None
 
 -- ---- the whole body
 
@@ -65,8 +64,8 @@ bucket_of d =
 abbrev pub pick_of : Data → Option PickRequest
 pick_of d =
     if has_keys 3 d then
-    all_three (λ b r x. record { bucket = b; x = x; r = r }) (option_and_then bucket_of (get (codes "bucket") d))
-    (natural 2147483647 (codes "r") d) (natural 4294967295 (codes "x") d) else None
+    all_three (λ b r x. record { bucket = b; x = x; r = r }) (under (codes "bucket") bucket_of d)
+    (under (codes "r") (natural_of 2147483647) d) (under (codes "x") (natural_of 4294967295) d) else None
 
 abbrev pub pick_request_of : List ℕ → Option PickRequest
 pick_request_of body = option_and_then pick_of (value_of body)

@@ -2,6 +2,9 @@ pub mod CallParts
 pub mod Json
 pub mod Reads
 pub mod Body
+pub mod Forms
+pub mod Optional
+pub mod PickForm
 pub mod Route
 pub mod Reply
 pub mod Request

@@ -1,6 +1,6 @@
 //! Reading the body of a pick.
 
-ghost use Rattle.std.specs.Prelude.{◌≡◌, codes, option_and_then};
+ghost use Rattle.std.specs.Prelude.{◌≡◌, codes};
 ghost use Rattle.std.specs.List.{list_any};
 ghost use Rattle.serde_json.specs.View.{view, items_view};
 ghost use Rattle.tenant_core.specs.Body as spec;
@@ -47,7 +47,7 @@ fn entry(value: &Value) -> Option<(ItemId, Weight)>
 }
 
 fn entries(alloc: Global, values: &[Value]) -> Result<Vec<(ItemId, Weight)>, Unread>
-    ensures { Reads (λ v. v.items) result (spec.entries_of (items_view values.now)) }
+    ensures { Reads (λ v. v.items) result (json.each_of spec.entry_of (items_view values.now)) }
 {
     let mut found = Vec::new(alloc);
     for value in values {
@@ -103,7 +103,7 @@ fn may_be(id: ItemId, kind: Kind, entries: &[(ItemId, Weight)]) -> bool
 }
 
 fn kind_in(value: &Value) -> Option<Kind>
-    ensures { result ≡ option_and_then spec.kind_named (json.text (codes "kind") (view value.now)) }
+    ensures { result ≡ json.under (codes "kind") spec.kind_of (view value.now) }
 {
     kind_named(text(value, "kind")?)
 }

@@ -1,6 +1,7 @@
 //! Reading a JSON value that has to be of some form.
 
 ghost use Rattle.std.specs.Prelude.{◌≡◌, option_map};
+ghost use Rattle.serde_json.specs.Find.{as_str};
 ghost use Rattle.serde_json.specs.View.{view};
 ghost use Rattle.tenant_core.specs.Json as spec;
 
@@ -18,7 +19,7 @@ pub(crate) fn has_keys(value: &Value, count: usize) -> bool
 
 /// The whole number under a key, where it is at most the greatest.
 pub(crate) fn natural(value: &Value, key: &str, greatest: u32) -> Option<u32>
-    ensures { result ≡ spec.natural greatest key.now (view value.now) }
+    ensures { result ≡ spec.under key.now (spec.natural_of greatest) (view value.now) }
 {
     let number = value.get(key)?.as_u64()?;
     if number <= u64::from(greatest) {
@@ -30,7 +31,7 @@ pub(crate) fn natural(value: &Value, key: &str, greatest: u32) -> Option<u32>
 
 /// The whole number under a key, where it is between the bounds, or one of them.
 pub(crate) fn integer(value: &Value, key: &str, least: i32, greatest: i32) -> Option<i32>
-    ensures { result ≡ spec.integer least greatest key.now (view value.now) }
+    ensures { result ≡ spec.under key.now (spec.integer_of least greatest) (view value.now) }
 {
     let number = value.get(key)?.as_i64()?;
     if i64::from(least) <= number && number <= i64::from(greatest) {
@@ -42,7 +43,7 @@ pub(crate) fn integer(value: &Value, key: &str, least: i32, greatest: i32) -> Op
 
 /// The text under a key.
 pub(crate) fn text<'a>(value: &'a Value, key: &str) -> Option<&'a str>
-    ensures { option_map (λ t. t.now) result ≡ spec.text key.now (view value.now) }
+    ensures { option_map (λ t. t.now) result ≡ spec.under key.now as_str (view value.now) }
 {
     value.get(key)?.as_str()
 }

@@ -1,9 +1,14 @@
 //! Laws of the definitions: each contract holds of the definitions alone.
 
-ghost use Rattle.std.specs.Prelude.{◌≡◌, ◌≢◌, Option, None};
-ghost use Rattle.tenant_core.specs.declared.call.Call.{Call};
-ghost use Rattle.tenant_core.specs.declared.state.TenantState.{TenantState};
+ghost use Rattle.std.specs.Prelude.{◌≡◌, ◌≢◌, ◌↔◌, ℕ, List, Option, Some, None};
+ghost use Rattle.serde_json.specs.Data.{Data};
+ghost use Rattle.tenant_core.specs.Body.{pick_of, pick_request_of};
+ghost use Rattle.tenant_core.specs.Forms.{IsJson};
+ghost use Rattle.tenant_core.specs.PickForm.{IsPickBody};
 ghost use Rattle.tenant_core.specs.Step.{step, tenant_of};
+ghost use Rattle.tenant_core.specs.declared.call.Call.{Call};
+ghost use Rattle.tenant_core.specs.declared.pick.PickRequest.{PickRequest};
+ghost use Rattle.tenant_core.specs.declared.state.TenantState.{TenantState};
 
 /// No step answers 500 or 503: these stand for a store that can't serve, and for want of memory.
 pub fn no_step_answers_500_or_503()
@@ -15,4 +20,11 @@ pub fn no_step_answers_500_or_503()
 pub fn a_call_of_no_tenant_stands_alone()
     ensures reply { (call : Call) (s : Option TenantState) → tenant_of call ≡ None → (step call s).reply ≡ (step call None).reply }
     ensures state { (call : Call) (s : Option TenantState) → tenant_of call ≡ None → (step call s).state ≡ s }
+{}
+
+/// A pick is read of a body exactly where the body is of its form, and says that pick; any other body is refused.
+pub fn picks_are_of_the_form()
+    ensures value { (d : Data) (p : PickRequest) → (pick_of d ≡ Some p) ↔ IsPickBody d p }
+    ensures body { (body : List ℕ) (p : PickRequest) → (pick_request_of body ≡ Some p) ↔ IsJson IsPickBody body p }
+    ensures refused { (body : List ℕ) → (pick_request_of body ≡ None) ↔ ((p : PickRequest) → ¬ IsJson IsPickBody body p) }
 {}
