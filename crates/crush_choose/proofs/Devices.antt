@@ -11,7 +11,7 @@ use Rattle.crush_choose.specs.Reach.{at_item, reach_below, reach}
 use Rattle.crush_choose.specs.Growing.{grown}
 use Rattle.crush_choose.specs.Marks.{Slot, items_of, leaves_of}
 use Rattle.crush_choose.specs.Firstn.{judged, attempt, decided, mark_of, firstn}
-use Rattle.crush_choose.specs.Laws.{HasNoDeviceBucket}
+use Rattle.crush_bucket.specs.Laws.{HasNoDeviceBucket}
 use Rattle.crush_choose.proofs.Least.{least_same}
 
 -- a walk ended at a device, if it found an item

@@ -1,4 +1,5 @@
 pub mod Least
+pub mod Padding
 pub mod Growing
 pub mod Placing
 pub mod Reaching

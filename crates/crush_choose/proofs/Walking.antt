@@ -5,7 +5,8 @@ use Rattle.crush_bucket.specs.Tables.{TablesView, pick_at, type_at, size_at, buc
 use Rattle.crush_choose.specs.declared.walk.Reached.{Reached}
 use Rattle.crush_choose.specs.declared.walk.Reached.TheVariants.{Empty, Found}
 use Rattle.crush_choose.specs.Reach.{at_item, reach_below, reach}
-use Rattle.crush_choose.specs.Laws.{PicksBelow, reach_after_pick}
+use Rattle.crush_bucket.specs.Laws.{PicksBelow}
+use Rattle.crush_choose.specs.Laws.{reach_after_pick}
 
 some_size : (n : ℕ) → (n == 0) ≡ false → 0 < n
 some_size zero h = cc

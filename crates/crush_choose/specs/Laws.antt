@@ -1,18 +1,13 @@
 -- What the definitions come to.
-use Rattle.std.specs.Prelude.{◌≡◌, ◌≢◌, ℕ, suc, ◌<◌, ◌==◌, List, [], ◌∷◌, length, map, slice_index_or, Some, None, if◌then◌else◌, Contains}
+use Rattle.std.specs.Prelude.{◌≡◌, ℕ, suc, ◌==◌, List, [], ◌∷◌, map, slice_index_or, Some, None, if◌then◌else◌, Contains}
 use Rattle.std.specs.List.Sorted.{IsStrictlyIncreasing}
-use Rattle.crush_map.specs.declared.word.ItemId.{ItemId}
-use Rattle.crush_bucket.specs.Tables.{type_at, TablesView, pick_at, size_at, bucket_numbered, IsBelow}
+use Rattle.crush_bucket.specs.Tables.{TablesView, pick_at, size_at, bucket_numbered}
 use Rattle.crush_choose.specs.declared.walk.Reached.{Reached}
 use Rattle.crush_choose.specs.declared.walk.Reached.TheVariants.{Empty}
 use Rattle.crush_choose.specs.declared.mark.Spot.{Spot}
 use Rattle.crush_choose.specs.declared.mark.Mark.TheVariants.{Skipped, Placed}
 use Rattle.crush_choose.specs.Reach.{reach, at_item}
 use Rattle.crush_choose.specs.Marks.{Marks, items_of, leaves_of}
-
--- a bucket picks devices and buckets of smaller numbers alone, as those of a map do
-abbrev pub PicksBelow : TablesView → Type 0
-PicksBelow t = (bucket x r : ℕ) → bucket < length t.buckets → 0 < size_at t bucket → IsBelow t bucket (pick_at t bucket x r)
 
 -- one pick, and from there on the walk from what was picked
 abbrev pub reach_after_pick : TablesView → ℕ → (ℕ → ℕ) → ℕ → ℕ → Reached
@@ -43,7 +38,3 @@ pub record AreEntries (marks : Marks) (found : List Entry) : Type 0 where
   pub there : (rep : ℕ) (spot : Spot) → slice_index_or marks rep None ≡ Some (Placed spot) → Contains found (record { rep = rep; spot = spot })
   pub items : items_of marks ≡ map (λ e. Some e.spot.item) found
   pub leaves : leaves_of marks ≡ map (λ e. Some e.spot.leaf) found
-
--- no bucket has type 0, that of devices
-abbrev pub HasNoDeviceBucket : TablesView → Type 0
-HasNoDeviceBucket t = (item : ItemId) (bucket : ℕ) → bucket_numbered t item ≡ Some bucket → type_at t bucket ≢ 0

@@ -3,6 +3,7 @@
 ghost use Rattle.std.specs.Prelude.{◌≡◌, ◌<◌, ℕ, List, length, slice_get, Option, Some, None};
 ghost use Rattle.crush_map.specs.declared.draft.Rule.{Rule};
 ghost use Rattle.crush_map.specs.Map.{Map, IsMap};
+ghost use Rattle.crush_bucket.specs.Laws.{PicksBelow, HasNoDeviceBucket};
 ghost use Rattle.crush_bucket.specs.Tables.{TablesView, tables_of};
 ghost use Rattle.crush_choose.specs.declared.firstn.FirstnCall.{FirstnCall};
 ghost use Rattle.crush_choose.specs.declared.indep.IndepCall.{IndepCall};
@@ -13,7 +14,7 @@ ghost use Rattle.crush_choose.specs.Marks.{Marks};
 ghost use Rattle.crush_choose.specs.Firstn.{IsFirstnAnswer, firstn};
 ghost use Rattle.crush_choose.specs.Indep.{IsIndepAnswer, indep};
 ghost use Rattle.crush_choose.specs.Rules.{CanRun};
-ghost use Rattle.crush_choose.specs.Laws.{HasNoDeviceBucket, PicksBelow, reach_after_pick, AreEntries, entries};
+ghost use Rattle.crush_choose.specs.Laws.{reach_after_pick, AreEntries, entries};
 
 /// What is least is said at a number below the bound, and nothing is said at a lower one; where it is nothing, nothing is said below the bound.
 pub fn least_is_first()
