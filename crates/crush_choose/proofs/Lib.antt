@@ -5,6 +5,7 @@ pub mod Placing
 pub mod Reaching
 pub mod Rounds
 pub mod IndepTries
+pub mod Answering
 pub mod Walking
 pub mod Entries
 pub mod Tracing

@@ -9,12 +9,14 @@ ghost use Rattle.crush_choose.specs.declared.firstn.FirstnCall.{FirstnCall};
 ghost use Rattle.crush_choose.specs.declared.indep.IndepCall.{IndepCall};
 ghost use Rattle.crush_choose.specs.declared.mark.Mark.{Mark};
 ghost use Rattle.crush_choose.specs.Least.{least};
-ghost use Rattle.crush_choose.specs.Reach.{reach};
+ghost use Rattle.crush_choose.specs.Reach.{reach, reach_below};
 ghost use Rattle.crush_choose.specs.Marks.{Marks};
 ghost use Rattle.crush_choose.specs.Firstn.{IsFirstnAnswer, firstn};
 ghost use Rattle.crush_choose.specs.Indep.{IsIndepAnswer, indep};
 ghost use Rattle.crush_choose.specs.Rules.{CanRun};
 ghost use Rattle.crush_choose.specs.Laws.{reach_after_pick, AreEntries, entries};
+
+use crush_bucket::laws::buckets_of_a_map_pick_below;
 
 /// What is least is said at a number below the bound, and nothing is said at a lower one; where it is nothing, nothing is said below the bound.
 pub fn least_is_first()
@@ -22,10 +24,19 @@ pub fn least_is_first()
     ensures none { (said : ℕ → Option Mark) (n : ℕ) → least said n ≡ None → (j : ℕ) → j < n → said j ≡ None }
 {}
 
-/// A walk is one pick, and from there on the walk from what was picked.
+/// A walk is one pick, and from there on the walk from what was picked; and it ends within as many picks as its bucket's number and one more.
 pub fn walk_goes_on()
-    ensures { (t : TablesView) (x : ℕ) (rr : ℕ → ℕ) (wanted bucket : ℕ) → PicksBelow t → bucket < length t.buckets → reach t x rr wanted bucket ≡ reach_after_pick t x rr wanted bucket }
+    ensures step { (t : TablesView) (x : ℕ) (rr : ℕ → ℕ) (wanted bucket : ℕ) → PicksBelow t → bucket < length t.buckets → reach t x rr wanted bucket ≡ reach_after_pick t x rr wanted bucket }
+    ensures enough { (t : TablesView) (x : ℕ) (rr : ℕ → ℕ) (wanted bucket n : ℕ) → PicksBelow t → bucket < length t.buckets → bucket < n → reach_below t x rr wanted n bucket ≡ reach t x rr wanted bucket }
 {}
+
+/// So it is on the tables of every map.
+pub fn walk_on_a_map_goes_on()
+    ensures step { (m : Map) (x : ℕ) (rr : ℕ → ℕ) (wanted bucket : ℕ) → IsMap m → bucket < length m.buckets → reach (tables_of m) x rr wanted bucket ≡ reach_after_pick (tables_of m) x rr wanted bucket }
+    ensures enough { (m : Map) (x : ℕ) (rr : ℕ → ℕ) (wanted bucket n : ℕ) → IsMap m → bucket < length m.buckets → bucket < n → reach_below (tables_of m) x rr wanted n bucket ≡ reach (tables_of m) x rr wanted bucket }
+{
+    buckets_of_a_map_pick_below();
+}
 
 /// What marks place are entries whose reps rise.
 pub fn marks_are_entries()
