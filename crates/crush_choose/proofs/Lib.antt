@@ -8,6 +8,7 @@ pub mod IndepTries
 pub mod Answering
 pub mod Walking
 pub mod Entries
+pub mod Entering
 pub mod Tracing
 pub mod Running
 pub mod Faultless

@@ -40,7 +40,10 @@ impl Weights {
         ensures all { IfOk result (λ w. w ≡ weights_of given.now) }
         ensures each { IfOk result (λ w. (id : ℕ) → weight_at w id ≡ reweight_of given.now id) }
     {
-        let devices = map.devices().last().map_or(0, |device| device.id as usize + 1);
+        let devices = map
+            .devices()
+            .last()
+            .map_or(0, |device| device.id as usize + 1);
         let bound = bound_of(devices, given);
         let table = table_of(alloc, bound, given)?;
         Ok(Weights { table })
