@@ -4,6 +4,8 @@
 #[cfg(test)]
 mod agreement;
 #[cfg(test)]
+mod limits;
+#[cfg(test)]
 mod plain;
 #[cfg(test)]
 mod tests;

@@ -102,7 +102,7 @@ pub(crate) fn draft(
     })
 }
 
-fn choose(firstn: bool, leaf: bool, n: i32, wanted: u32) -> Step {
+pub(crate) fn choose(firstn: bool, leaf: bool, n: i32, wanted: u32) -> Step {
     Step::Choose {
         firstn,
         leaf,
@@ -112,7 +112,7 @@ fn choose(firstn: bool, leaf: bool, n: i32, wanted: u32) -> Step {
 }
 
 /// The wanted answer and trace of each input, where they are the same.
-type Wanted<'a> = Option<(&'a [Slot], &'a [u32])>;
+pub(crate) type Wanted<'a> = Option<(&'a [Slot], &'a [u32])>;
 
 /// Runs a rule for inputs from 0 on, and folds all answers.
 fn ask_all(
@@ -144,7 +144,7 @@ fn ask_all(
 }
 
 /// The folded answers of the rule of a map.
-fn ask(
+pub(crate) fn ask(
     rt: &impl Abort,
     alloc: Global,
     draft: MapDraft,
@@ -204,7 +204,7 @@ fn assert_always(
     Ok(())
 }
 
-fn item(id: i32) -> Slot {
+pub(crate) fn item(id: i32) -> Slot {
     Some(ItemId(id))
 }
 

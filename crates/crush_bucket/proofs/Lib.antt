@@ -3,5 +3,6 @@ pub mod Heights
 pub mod Members
 pub mod Nodes
 pub mod Numbered
+pub mod Picking
 pub mod Validity
 pub mod Weights

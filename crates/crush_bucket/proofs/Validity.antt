@@ -25,7 +25,7 @@ abbrev pub HasSoundBuckets : Map → Type 0
 HasSoundBuckets m = (i : ℕ) → IfSome (slice_get m.buckets i) (λ b. sound.IsBucketAt m i b)
 
 -- what it says of the bucket at a place, and of an item of it
-sound_at : (m : Map) → HasSoundBuckets m → (i : ℕ) (d : Bucket) → i < length m.buckets → sound.IsBucketAt m i (slice_index_or m.buckets i d)
+pub sound_at : (m : Map) → HasSoundBuckets m → (i : ℕ) (d : Bucket) → i < length m.buckets → sound.IsBucketAt m i (slice_index_or m.buckets i d)
 sound_at m are i d below = rw (slice_get-get_or m.buckets i d below) at (are i)
 
 item_sound_at : (m : Map) (i : ℕ) (b : Bucket) → sound.IsBucketAt m i b → (place : ℕ) → place < length b.items → sound.IsItemAt m i place b.items (item_at b.items place).0
@@ -62,7 +62,7 @@ negative_id (negsuc n) h = (n, refl)
 at_number : (m : Map) (i : ℕ) (d : Bucket) → i < length m.buckets → bucket_at (tables_of m) i ≡ (typed_bucket (slice_index_or m.buckets i d)).bucket
 at_number m i d below = ap (λ (b : TypedBucket). b.bucket) (get_or-map typed_bucket m.buckets i d no_bucket below)
 
-no_declaration : Bucket
+pub no_declaration : Bucket
 no_declaration = record { id = record { 0 = pos 0 }; name = []; kind_of = 0; alg = Uniform; items = [] }
 
 has_negative_ids : (m : Map) → HasSoundBuckets m → HasNegativeIds (tables_of m)

@@ -1,12 +1,18 @@
 //! Laws of the definitions: each contract holds of the definitions alone.
 
-ghost use Rattle.std.specs.Prelude.{◌<◌, ◌≤◌, ◌^◌, ℕ, Bool, MatchOption};
+ghost use Rattle.std.specs.Prelude.{◌<◌, length, ◌≤◌, ◌^◌, ℕ, Bool, MatchOption};
 ghost use Rattle.std.specs.List.{range_with_len};
 ghost use Rattle.std.specs.List.Sorted.{IsPermutation};
+ghost use Rattle.crush_map.specs.Map.{Map, IsMap};
 ghost use Rattle.crush_map.specs.declared.ItemId.{ItemId};
+ghost use Rattle.crush_bucket.specs.Bucket.{BucketView, IsItemOf};
 ghost use Rattle.crush_bucket.specs.Kinds.{greatest, height_of};
-ghost use Rattle.crush_bucket.specs.Laws.{IsGreatest, NonePasses};
+ghost use Rattle.crush_bucket.specs.Laws.{IsGreatest, NonePasses, PicksBelow, HasNoDeviceBucket};
 ghost use Rattle.crush_bucket.specs.Permutation.{permutation};
+ghost use Rattle.crush_bucket.specs.Pick.{pick};
+ghost use Rattle.crush_bucket.specs.Tables.{tables_of};
+
+use crush_map::buckets_are_sound;
 
 /// What is found is the greatest number below n that passes; where nothing is found, no number below n passes.
 pub fn greatest_passes()
@@ -23,3 +29,22 @@ pub fn height_is_least()
     ensures enough { (size : ℕ) → size ≤ 2 ^ height_of size }
     ensures least { (size h : ℕ) → h < height_of size → 2 ^ h < size }
 {}
+
+/// What a bucket that has items picks is one of them.
+pub fn a_pick_is_an_item()
+    ensures { (b : BucketView) (x r : ℕ) → 0 < length b.entries → IsItemOf b.entries (pick b x r) }
+{}
+
+/// On the tables of a map each bucket picks devices and buckets of smaller numbers alone.
+pub fn buckets_of_a_map_pick_below()
+    ensures { (m : Map) → IsMap m → PicksBelow (tables_of m) }
+{
+    buckets_are_sound();
+}
+
+/// No bucket of a map has the type of devices.
+pub fn no_bucket_of_a_map_has_type_0()
+    ensures { (m : Map) → IsMap m → HasNoDeviceBucket (tables_of m) }
+{
+    buckets_are_sound();
+}

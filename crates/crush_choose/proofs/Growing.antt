@@ -10,7 +10,7 @@ pub record Grows {A : Type 0} (next : List A → ℕ → A) (n : ℕ) (d : A) (x
   pub long : length xs ≡ n
   pub each : (i : ℕ) → i < n → slice_index_or xs i d ≡ next (take i xs) i
 
-length_grown : {A : Type 0} (next : List A → ℕ → A) (n : ℕ) → length (grown next n) ≡ n
+pub length_grown : {A : Type 0} (next : List A → ℕ → A) (n : ℕ) → length (grown next n) ≡ n
 length_grown next zero = refl
 length_grown next (suc n) = rw length-append (rw (length_grown next n) (omega arith))
 

@@ -30,14 +30,14 @@ weighed_alike t w c a b f pos (Found item r) alike = rw (taken_alike a b f pos i
 -- ---- what a try places
 
 -- what a mark places was placed by this try
-abbrev IsNumbered : ℕ → Option Mark → Type 0
+abbrev pub IsNumbered : ℕ → Option Mark → Type 0
 IsNumbered f mark = (s : Spot) → mark ≡ Some (Placed s) → s.round ≡ f
 
-placed_is : (f : ℕ) (item : ItemId) (leaf : Option ItemId) → IsNumbered f (option_map (placed_by f item) leaf)
+pub placed_is : (f : ℕ) (item : ItemId) (leaf : Option ItemId) → IsNumbered f (option_map (placed_by f item) leaf)
 placed_is f item None s e = cc
 placed_is f item (Some leaf) s e = let same : record { round = f; item = item; leaf = leaf } ≡ s = cc in rw (← same) refl
 
-untaken_is : (f : ℕ) (taken : Bool) (mark : Option Mark) → IsNumbered f mark → IsNumbered f (if taken then None else mark)
+pub untaken_is : (f : ℕ) (taken : Bool) (mark : Option Mark) → IsNumbered f mark → IsNumbered f (if taken then None else mark)
 untaken_is f true mark numbered s e = cc
 untaken_is f false mark numbered s e = numbered s e
 

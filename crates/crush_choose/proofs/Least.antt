@@ -39,6 +39,11 @@ least_some said n a e = rw e at (least_is_first said n)
 pub least_none : {A : Type 0} (said : ℕ → Option A) (n : ℕ) → least said n ≡ None → (j : ℕ) → j < n → said j ≡ None
 least_none said n e = rw e at (least_is_first said n)
 
+-- where nothing is said below n, nothing is least
+pub least_silent : {A : Type 0} (said : ℕ → Option A) (n : ℕ) → ((j : ℕ) → j < n → said j ≡ None) → least said n ≡ None
+least_silent said zero silent = refl
+least_silent said (suc n) silent = rw (least_silent said n (λ j lt. silent j (omega arith)), silent n (omega arith)) refl
+
 -- ---- bounds
 
 -- what is said below a bound is said below each greater one

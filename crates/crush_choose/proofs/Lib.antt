@@ -1,11 +1,14 @@
 pub mod Least
+pub mod Padding
 pub mod Growing
 pub mod Placing
 pub mod Reaching
 pub mod Rounds
 pub mod IndepTries
+pub mod Answering
 pub mod Walking
 pub mod Entries
+pub mod Entering
 pub mod Tracing
 pub mod Running
 pub mod Faultless

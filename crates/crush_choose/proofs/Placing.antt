@@ -20,7 +20,7 @@ spots_append (None ∷ before) after = spots_append before after
 abbrev pub slots : (Spot → Slot) → Marks → List Slot
 slots slot marks = map slot (spots marks)
 
-slots_append : (slot : Spot → Slot) (before after : Marks) → slots slot (before ++ after) ≡ slots slot before ++ slots slot after
+pub slots_append : (slot : Spot → Slot) (before after : Marks) → slots slot (before ++ after) ≡ slots slot before ++ slots slot after
 slots_append slot before after = rw (spots_append before after) (map-append slot (spots before) (spots after))
 
 -- the slots of the marks so far and of one more are those of the list that grew by it

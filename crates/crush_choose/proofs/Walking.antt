@@ -5,7 +5,8 @@ use Rattle.crush_bucket.specs.Tables.{TablesView, pick_at, type_at, size_at, buc
 use Rattle.crush_choose.specs.declared.walk.Reached.{Reached}
 use Rattle.crush_choose.specs.declared.walk.Reached.TheVariants.{Empty, Found}
 use Rattle.crush_choose.specs.Reach.{at_item, reach_below, reach}
-use Rattle.crush_choose.specs.Laws.{PicksBelow, reach_after_pick}
+use Rattle.crush_bucket.specs.Laws.{PicksBelow}
+use Rattle.crush_choose.specs.Laws.{reach_after_pick}
 
 some_size : (n : ℕ) → (n == 0) ≡ false → 0 < n
 some_size zero h = cc
@@ -37,3 +38,9 @@ reach-step t x rr wanted b below lt =
     by_empty (size_at t b == 0) Empty _ _ (λ some.
     at_item-same t wanted (reach_below t x rr wanted b) (λ k. reach_below t x rr wanted (suc k) k) (pick_at t b x (rr b)) (rr b) b (bucket_numbered t (pick_at t b x (rr b))) (below b x (rr b) lt (some_size (size_at t b) some))
     (λ j less. reach-limits t x rr wanted b (suc j) j below (omega arith) less (omega arith)))
+
+-- more picks than the bucket's number change nothing
+pub reach-enough : (t : TablesView) (x : ℕ) (rr : ℕ → ℕ) (wanted b n : ℕ) → PicksBelow t → b < length t.buckets → b < n
+    → reach_below t x rr wanted n b ≡ reach t x rr wanted b
+unfolding reach
+reach-enough t x rr wanted b n below lt enough = reach-limits t x rr wanted n (suc b) b below lt enough (omega arith)

@@ -4,6 +4,7 @@ pub mod Reach
 pub mod Growing
 pub mod Marks
 pub mod Firstn
+pub mod Entries
 pub mod Indep
 pub mod Walks
 pub mod Laws

@@ -12,8 +12,6 @@ use Rattle.crush_map.specs.Faults.{Known, rule_fault, are_in_range, has_number}
 use Rattle.crush_bucket.specs.Tables.{TablesView, bucket_numbered}
 use Rattle.crush_choose.specs.declared.firstn.FirstnCall.{FirstnCall}
 use Rattle.crush_choose.specs.declared.indep.IndepCall.{IndepCall}
-use Rattle.crush_choose.specs.declared.plan.Plan.{Plan}
-use Rattle.crush_choose.specs.declared.rule.Settings.{Settings}
 use Rattle.crush_choose.specs.Marks.{Slot, items_of, leaves_of, item_at, leaf_at}
 use Rattle.crush_choose.specs.Firstn.{firstn}
 use Rattle.crush_choose.specs.Indep.{indep}
@@ -26,41 +24,61 @@ pub record CanRun (t : TablesView) (rule : Rule) : Type 0 where
 
 -- ---- what a choose step puts out
 
--- the call for a bucket, with room for so many
-abbrev pub firstn_call : Plan → ℕ → ℕ → FirstnCall
-firstn_call p room bucket =
-    record { bucket = bucket; x = p.x; numrep = p.numrep; room = room; wanted = p.wanted; tries = p.tries; leaf_tries = p.leaf_tries; vary_r = p.vary_r; stable = p.stable }
+-- what a choose step asks of each bucket of the working list: whether by firstn, else by indep; whether for leaves, and then with so many
+-- tries for each; for the input x so many items of a type, and the numbers that are set
+pub record ChooseCall : Type 0 where
+  pub firstn : Bool
+  pub leaf : Bool
+  pub x : ℕ
+  pub numrep : ℕ
+  pub wanted : ℕ
+  pub tries : ℕ
+  pub leaf_tries : ℕ
+  pub vary_r : ℕ
+  pub stable : ℕ
 
-abbrev pub indep_call : Plan → ℕ → ℕ → IndepCall
-indep_call p room bucket =
-    record { bucket = bucket; x = p.x; n = min p.numrep room; numrep = p.numrep; wanted = p.wanted; tries = p.tries; leaf_tries = p.leaf_tries }
+-- the call for a bucket, with room for so many
+abbrev pub firstn_call : ChooseCall → ℕ → ℕ → FirstnCall
+firstn_call c room bucket =
+    record { bucket = bucket; x = c.x; numrep = c.numrep; room = room; wanted = c.wanted; tries = c.tries; leaf_tries = c.leaf_tries; vary_r = c.vary_r; stable = c.stable }
+
+abbrev pub indep_call : ChooseCall → ℕ → ℕ → IndepCall
+indep_call c room bucket =
+    record { bucket = bucket; x = c.x; n = min c.numrep room; numrep = c.numrep; wanted = c.wanted; tries = c.tries; leaf_tries = c.leaf_tries }
 
 -- what one bucket puts out, with room for so many: items, or for chooseleaf their leaves
-unfoldable pub put_out : TablesView → List ℕ → Plan → ℕ → ℕ → List Slot
-put_out t w p room bucket =
-    if p.numrep == 0 then []
-    else (if p.firstn then
-    (let marks = firstn t w (firstn_call p room bucket) in if p.leaf then leaves_of marks else items_of marks)
+unfoldable pub put_out : TablesView → List ℕ → ChooseCall → ℕ → ℕ → List Slot
+put_out t w c room bucket =
+    if c.numrep == 0 then []
+    else (if c.firstn then
+    (let marks = firstn t w (firstn_call c room bucket) in if c.leaf then leaves_of marks else items_of marks)
     else
-    (let marks = indep t w (indep_call p room bucket) in if p.leaf then map leaf_at marks else map item_at marks))
+    (let marks = indep t w (indep_call c room bucket) in if c.leaf then map leaf_at marks else map item_at marks))
 
-abbrev pub bucket_out : TablesView → List ℕ → Plan → ℕ → Option ℕ → List Slot
-bucket_out t w p room None = []
-bucket_out t w p room (Some bucket) = put_out t w p room bucket
+abbrev pub bucket_out : TablesView → List ℕ → ChooseCall → ℕ → Option ℕ → List Slot
+bucket_out t w c room None = []
+bucket_out t w c room (Some bucket) = put_out t w c room bucket
 
 -- what one slot of the working list puts out: devices and none are passed over
-abbrev pub slot_out : TablesView → List ℕ → Plan → ℕ → Slot → List Slot
-slot_out t w p room None = []
-slot_out t w p room (Some item) = bucket_out t w p room (bucket_numbered t item)
+abbrev pub slot_out : TablesView → List ℕ → ChooseCall → ℕ → Slot → List Slot
+slot_out t w c room None = []
+slot_out t w c room (Some item) = bucket_out t w c room (bucket_numbered t item)
 
 -- what a working list puts out, in order: each bucket has the room that those before it left
-abbrev pub step_out : TablesView → List ℕ → Plan → ℕ → List Slot → List Slot
-step_out t w p room [] = []
-step_out t w p room (slot ∷ slots) =
-    let out = slot_out t w p room slot in
-    out ++ step_out t w p (room - length out) slots
+abbrev pub step_out : TablesView → List ℕ → ChooseCall → ℕ → List Slot → List Slot
+step_out t w c room [] = []
+step_out t w c room (slot ∷ slots) =
+    let out = slot_out t w c room slot in
+    out ++ step_out t w c (room - length out) slots
 
 -- ---- what is set
+
+-- the numbers that hold for the steps to come; leaf tries are 0 as long as no step sets them
+pub record Settings : Type 0 where
+  pub tries : ℕ
+  pub leaf_tries : ℕ
+  pub vary_r : ℕ
+  pub stable : ℕ
 
 -- the numbers that hold where no step sets others, of the map's tunables; total_tries counts tries again, so there is one more; no number of
 -- leaf tries is set
@@ -80,8 +98,8 @@ reps (pos (suc n)) size = suc n
 reps (negsuc n) size = size - suc n
 
 -- what a choose step asks of each bucket
-abbrev pub plan_of : Tunables → Settings → ℕ → ℕ → Bool → Bool → ℤ → ℕ → Plan
-plan_of t s x size by_firstn leaf n wanted =
+abbrev pub choose_call : Tunables → Settings → ℕ → ℕ → Bool → Bool → ℤ → ℕ → ChooseCall
+choose_call t s x size by_firstn leaf n wanted =
     record { firstn = by_firstn; leaf = leaf; x = x; numrep = reps n size; wanted = wanted; tries = s.tries; leaf_tries = if leaf then leaf_tries t s by_firstn else 0; vary_r = s.vary_r; stable = s.stable }
 
 -- ---- a rule
@@ -119,7 +137,7 @@ after_step t w x size s (SetLeafTries n) = if n == 0 then s else with_settings s
 after_step t w x size s (SetVaryR n) = with_settings s (record s.settings { vary_r = n })
 after_step t w x size s (SetStable n) = with_settings s (record s.settings { stable = n })
 after_step t w x size s (Choose by_firstn leaf n wanted) =
-    with_chosen s (step_out t w (plan_of t.tunables s.settings x size by_firstn leaf n wanted) size s.working)
+    with_chosen s (step_out t w (choose_call t.tunables s.settings x size by_firstn leaf n wanted) size s.working)
 after_step t w x size s Emit = record s { working = []; emitted = s.emitted ++ take (size - length s.emitted) s.working }
 
 -- the steps in order

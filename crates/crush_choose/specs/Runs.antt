@@ -1,11 +1,11 @@
--- For private clauses: where a run of a rule stands.
+-- For private clauses: what the code keeps of the definitions' values, and where a run of a rule stands.
 use Rattle.std.specs.Prelude.{◌≡◌, ℕ, pos, ◌*◌, ◌≤◌, length, vec_len, vec_capacity, Bool, false}
 use Rattle.crush_map.specs.declared.draft.Step.{Step}
 use Rattle.crush_map.specs.declared.draft.Step.TheVariants.{Take, SetChooseTries, SetLeafTries, SetVaryR, SetStable, Choose, Emit}
 use Rattle.crush_choose.specs.declared.plan.Plan.{Plan}
-use Rattle.crush_choose.specs.declared.rule.Settings.{Settings}
+use Rattle.crush_choose.specs.declared.rule.Settings as kept
 use Rattle.crush_choose.specs.declared.rule.Run.{Run}
-use Rattle.crush_choose.specs.Rules.{Running, reps}
+use Rattle.crush_choose.specs.Rules.{ChooseCall, Settings, Running, reps}
 
 -- a plan in range
 pub record IsPlan (p : Plan) : Type 0 where
@@ -17,16 +17,25 @@ pub record IsPlan (p : Plan) : Type 0 where
   pub stable : p.stable ≤ 1
   pub above_leaves : p.firstn ≡ false → p.wanted ≡ 0 → p.leaf_tries ≡ 0
 
+-- what a plan asks
+abbrev pub call_of : Plan → ChooseCall
+call_of p =
+    record { firstn = p.firstn; leaf = p.leaf; x = p.x; numrep = p.numrep; wanted = p.wanted; tries = p.tries; leaf_tries = p.leaf_tries; vary_r = p.vary_r; stable = p.stable }
+
 -- settings in range
-pub record AreSettings (s : Settings) : Type 0 where
+pub record AreSettings (s : kept.Settings) : Type 0 where
   pub some_tries : 1 ≤ s.tries
   pub few_tries : s.tries ≤ 1000
   pub leaf_tries : s.leaf_tries ≤ 1000
   pub vary_r : s.vary_r ≤ 8
   pub stable : s.stable ≤ 1
 
+-- what is set
+abbrev pub settings_in : kept.Settings → Settings
+settings_in s = record { tries = s.tries; leaf_tries = s.leaf_tries; vary_r = s.vary_r; stable = s.stable }
+
 abbrev pub state_of : Run → Running
-state_of r = record { settings = r.settings; working = r.working; emitted = r.emitted; made = r.made.items }
+state_of r = record { settings = settings_in r.settings; working = r.working; emitted = r.emitted; made = r.made.items }
 
 -- after k steps
 pub record IsRun (size k : ℕ) (r : Run) : Type 0 where

@@ -1,31 +1,33 @@
 -- Reweights of devices, and the device test (`is_out` of Ceph's `mapper.c`, which answers the opposite).
-use Rattle.std.specs.Prelude.{ℕ, ℤ, pos, negsuc, suc, ◌%◌, ◌==◌, ◌&&◌, ◌||◌, nat_lt, nat_le, Bool, false, List, [], ◌∷◌, map, max, slice_index_or, if◌then◌else◌}
+use Rattle.std.specs.Prelude.{ℕ, ℤ, pos, negsuc, ◌-◌, ◌%◌, ◌==◌, ◌&&◌, ◌||◌, nat_lt, nat_le, Bool, false, List, [], ◌∷◌, ◌++◌, length, map, replicate, slice_index_or, if◌then◌else◌}
 use Rattle.std.specs.List.{range_with_len}
 use Rattle.crush_hash.specs.Hash.{hash2}
 use Rattle.crush_map.specs.declared.word.ItemId.{ItemId}
-use Rattle.crush_map.specs.Map.{Map}
 
 -- in full
 abbrev pub full : ℕ
 full = 65536
 
--- the reweight of a device among those given: the first that is given for it, or else in full
+-- how many ids a device can have: 0 to 65535
+abbrev pub ids : ℕ
+ids = 65536
+
+-- the first reweight that is given for an id, of pairs of id and reweight, or else in full
+abbrev pub first_given : List (ℕ × ℕ) → ℕ → ℕ
+first_given [] id = full
+first_given (given ∷ rest) id = if given.0 == id then given.1 else first_given rest id
+
+-- the reweight of an id among those given; an id that no device can have is in full
 abbrev pub reweight_of : List (ℕ × ℕ) → ℕ → ℕ
-reweight_of [] device = full
-reweight_of (given ∷ rest) device = if given.0 == device then given.1 else reweight_of rest device
+reweight_of given id = if nat_lt id ids then first_given given id else full
 
--- the least number above each of these
-abbrev pub bound_of : List ℕ → ℕ
-bound_of [] = 0
-bound_of (number ∷ numbers) = max (suc number) (bound_of numbers)
+-- the reweights of all ids, in order
+unfoldable pub weights_of : List (ℕ × ℕ) → List ℕ
+weights_of given = map (reweight_of given) (range_with_len 0 ids)
 
--- the reweights by number of device, up to the greatest of the map
-abbrev pub weights_of : Map → List (ℕ × ℕ) → List ℕ
-weights_of m given = map (reweight_of given) (range_with_len 0 (bound_of (map (λ d. d.id) m.devices)))
-
--- the reweight of a device
+-- the reweight of an id
 abbrev pub weight_at : List ℕ → ℕ → ℕ
-weight_at weights device = slice_index_or weights device full
+weight_at weights id = slice_index_or weights id full
 
 -- whether a device is in for an input x: always in full, never with 0, and else where a draw below 2^16 is below its reweight
 unfoldable pub is_in : List ℕ → ℕ → ℕ → Bool
@@ -40,3 +42,9 @@ id_is_in weights x (negsuc n) = false
 -- whether an item is a device that is in
 abbrev pub is_device_in : List ℕ → ℕ → ItemId → Bool
 is_device_in weights x item = id_is_in weights x item.0
+
+-- ---- for private clauses
+
+-- the reweights of all ids, where those of the first are in a table and the others are in full
+unfoldable pub padded : List ℕ → List ℕ
+padded table = table ++ replicate (ids - length table) full

@@ -3,8 +3,8 @@
 ghost use Rattle.std.specs.Prelude.{◌≡◌, ◌<◌, ◌≤◌, ◌+◌, ◌++◌, ◌∷◌, [], ◌^◌, length};
 ghost use Rattle.crush_bucket.specs.Tables.{perms_of, bucket_numbered};
 ghost use Rattle.crush_choose.specs.Firstn as spec;
-ghost use Rattle.crush_choose.specs.Firstn.{IsFirstnCall};
-ghost use Rattle.crush_choose.specs.Marks.{items_of, leaves_of};
+ghost use Rattle.crush_choose.specs.Firstn.{IsFirstnCall, IsFirstnAnswer};
+ghost use Rattle.crush_choose.specs.Marks.{Marks, items_of, leaves_of};
 
 use crate::mark::{Mark, Spot};
 use crate::row::{Row, Slot};
@@ -274,6 +274,8 @@ pub fn choose_firstn(
     requires fits { scratch.old ≡ perms_of tables.now }
     ensures items { items.new ≡ items_of (spec.firstn tables.now weights.now call.now) }
     ensures leaves { leaves.new ≡ leaves_of (spec.firstn tables.now weights.now call.now) }
+    ensures there { IsFirstnAnswer tables.now weights.now call.now (spec.firstn tables.now weights.now call.now) }
+    ensures only { (marks : Marks) → IsFirstnAnswer tables.now weights.now call.now marks → (items.new ≡ items_of marks) × (leaves.new ≡ leaves_of marks) }
     ensures room { length items.new ≤ call.now.room }
     ensures even { length leaves.new ≡ length items.new }
     ensures fits { scratch.new ≡ perms_of tables.now }

@@ -3,9 +3,9 @@
 ghost use Rattle.std.specs.Prelude.{◌≡◌, ◌<◌, ◌≤◌, ◌+◌, ◌++◌, ◌^◌, length, map, None, is_some, replicate};
 ghost use Rattle.std.specs.List.{list_all};
 ghost use Rattle.crush_bucket.specs.Tables.{perms_of, bucket_numbered};
-ghost use Rattle.crush_choose.specs.Marks.{item_at, leaf_at};
+ghost use Rattle.crush_choose.specs.Marks.{Marks, item_at, leaf_at};
 ghost use Rattle.crush_choose.specs.Indep as spec;
-ghost use Rattle.crush_choose.specs.Indep.{IsIndepCall};
+ghost use Rattle.crush_choose.specs.Indep.{IsIndepCall, IsIndepAnswer};
 
 use crate::mark::{Mark, Spot};
 use crate::row::{Row, Slot};
@@ -304,6 +304,8 @@ pub fn choose_indep(
     requires fits { scratch.old ≡ perms_of tables.now }
     ensures items { items.new ≡ map item_at (spec.indep tables.now weights.now call.now) }
     ensures leaves { leaves.new ≡ map leaf_at (spec.indep tables.now weights.now call.now) }
+    ensures there { IsIndepAnswer tables.now weights.now call.now (spec.indep tables.now weights.now call.now) }
+    ensures only { (marks : Marks) → IsIndepAnswer tables.now weights.now call.now marks → (items.new ≡ map item_at marks) × (leaves.new ≡ map leaf_at marks) }
     ensures places { length items.new ≡ call.now.n }
     ensures even { length leaves.new ≡ call.now.n }
     ensures fits { scratch.new ≡ perms_of tables.now }

@@ -1,19 +1,25 @@
 //! Laws of the definitions: each contract holds of the definitions alone.
 
-ghost use Rattle.std.specs.Prelude.{◌≡◌, ◌<◌, ℕ, List, length, slice_get, Option, Some, None};
+ghost use Rattle.std.specs.Prelude.{◌≡◌, ◌<◌, ℕ, ℤ, List, length, slice_get, Option, Some, None, true, false};
 ghost use Rattle.crush_map.specs.declared.draft.Rule.{Rule};
+ghost use Rattle.crush_map.specs.declared.draft.Step.TheVariants.{Choose};
+ghost use Rattle.crush_map.specs.declared.draft.Tunables.{Tunables};
 ghost use Rattle.crush_map.specs.Map.{Map, IsMap};
+ghost use Rattle.crush_bucket.specs.Laws.{PicksBelow, HasNoDeviceBucket};
 ghost use Rattle.crush_bucket.specs.Tables.{TablesView, tables_of};
 ghost use Rattle.crush_choose.specs.declared.firstn.FirstnCall.{FirstnCall};
 ghost use Rattle.crush_choose.specs.declared.indep.IndepCall.{IndepCall};
 ghost use Rattle.crush_choose.specs.declared.mark.Mark.{Mark};
 ghost use Rattle.crush_choose.specs.Least.{least};
-ghost use Rattle.crush_choose.specs.Reach.{reach};
-ghost use Rattle.crush_choose.specs.Marks.{Marks};
+ghost use Rattle.crush_choose.specs.Reach.{reach, reach_below};
+ghost use Rattle.crush_choose.specs.Marks.{Marks, Slot};
 ghost use Rattle.crush_choose.specs.Firstn.{IsFirstnAnswer, firstn};
 ghost use Rattle.crush_choose.specs.Indep.{IsIndepAnswer, indep};
-ghost use Rattle.crush_choose.specs.Rules.{CanRun};
-ghost use Rattle.crush_choose.specs.Laws.{HasNoDeviceBucket, PicksBelow, reach_after_pick, AreEntries, entries};
+ghost use Rattle.crush_choose.specs.Rules.{CanRun, Running, Settings, choose_call, step_out, after_step};
+ghost use Rattle.crush_choose.specs.Laws.{reach_after_pick};
+ghost use Rattle.crush_choose.specs.Entries.{Entry, AreEntries, AreFirstnEntries, entries};
+
+use crush_bucket::laws::{buckets_of_a_map_pick_below, no_bucket_of_a_map_has_type_0};
 
 /// What is least is said at a number below the bound, and nothing is said at a lower one; where it is nothing, nothing is said below the bound.
 pub fn least_is_first()
@@ -21,14 +27,35 @@ pub fn least_is_first()
     ensures none { (said : ℕ → Option Mark) (n : ℕ) → least said n ≡ None → (j : ℕ) → j < n → said j ≡ None }
 {}
 
-/// A walk is one pick, and from there on the walk from what was picked.
+/// A walk is one pick, and from there on the walk from what was picked; and it ends within as many picks as its bucket's number and one more.
 pub fn walk_goes_on()
-    ensures { (t : TablesView) (x : ℕ) (rr : ℕ → ℕ) (wanted bucket : ℕ) → PicksBelow t → bucket < length t.buckets → reach t x rr wanted bucket ≡ reach_after_pick t x rr wanted bucket }
+    ensures step { (t : TablesView) (x : ℕ) (rr : ℕ → ℕ) (wanted bucket : ℕ) → PicksBelow t → bucket < length t.buckets → reach t x rr wanted bucket ≡ reach_after_pick t x rr wanted bucket }
+    ensures enough { (t : TablesView) (x : ℕ) (rr : ℕ → ℕ) (wanted bucket n : ℕ) → PicksBelow t → bucket < length t.buckets → bucket < n → reach_below t x rr wanted n bucket ≡ reach t x rr wanted bucket }
 {}
+
+/// So it is on the tables of every map.
+pub fn walk_on_a_map_goes_on()
+    ensures step { (m : Map) (x : ℕ) (rr : ℕ → ℕ) (wanted bucket : ℕ) → IsMap m → bucket < length m.buckets → reach (tables_of m) x rr wanted bucket ≡ reach_after_pick (tables_of m) x rr wanted bucket }
+    ensures enough { (m : Map) (x : ℕ) (rr : ℕ → ℕ) (wanted bucket n : ℕ) → IsMap m → bucket < length m.buckets → bucket < n → reach_below (tables_of m) x rr wanted n bucket ≡ reach (tables_of m) x rr wanted bucket }
+{
+    buckets_of_a_map_pick_below();
+}
 
 /// What marks place are entries whose reps rise.
 pub fn marks_are_entries()
     ensures { (marks : Marks) → AreEntries marks (entries marks) }
+{}
+
+/// The entries of marks that are an answer of choose firstn are one, and entries that are an answer are those of such marks.
+pub fn entries_are_those_of_marks()
+    ensures entries { (t : TablesView) (w : List ℕ) (c : FirstnCall) (marks : Marks) → IsFirstnAnswer t w c marks → AreFirstnEntries t w c (entries marks) }
+    ensures marks { (t : TablesView) (w : List ℕ) (c : FirstnCall) (found : List Entry) → AreFirstnEntries t w c found → (marks : Marks) × IsFirstnAnswer t w c marks × (found ≡ entries marks) }
+{}
+
+/// Exactly one list of entries is an answer of choose firstn.
+pub fn one_list_of_entries()
+    ensures there { (t : TablesView) (w : List ℕ) (c : FirstnCall) → AreFirstnEntries t w c (entries (firstn t w c)) }
+    ensures one { (t : TablesView) (w : List ℕ) (c : FirstnCall) (found : List Entry) → AreFirstnEntries t w c found → found ≡ entries (firstn t w c) }
 {}
 
 /// Exactly one list of marks is an answer of choose firstn.
@@ -48,7 +75,11 @@ pub fn rules_of_a_map_can_run()
     ensures { (m : Map) (place : ℕ) (rule : Rule) → IsMap m → slice_get m.rules place ≡ Some rule → CanRun (tables_of m) rule }
 {}
 
-/// Where no bucket has type 0, as in a map, chooseleaf firstn of type 0 is choose firstn.
+/// Where no bucket has type 0, as on the tables of every map, a step `chooseleaf firstn` of type 0 does what `choose firstn` does.
 pub fn chooseleaf_of_devices_is_choose()
-    ensures { (t : TablesView) (w : List ℕ) (c : FirstnCall) → HasNoDeviceBucket t → c.wanted ≡ 0 → firstn t w c ≡ firstn t w (record c { leaf_tries = 0 }) }
-{}
+    ensures marks { (t : TablesView) (w : List ℕ) (c : FirstnCall) → HasNoDeviceBucket t → c.wanted ≡ 0 → firstn t w c ≡ firstn t w (record c { leaf_tries = 0 }) }
+    ensures out { (t : TablesView) (w : List ℕ) (tunables : Tunables) (s : Settings) (x size : ℕ) (n : ℤ) (working : List Slot) → HasNoDeviceBucket t → step_out t w (choose_call tunables s x size true true n 0) size working ≡ step_out t w (choose_call tunables s x size true false n 0) size working }
+    ensures map { (m : Map) (w : List ℕ) (x size : ℕ) (s : Running) (n : ℤ) → IsMap m → after_step (tables_of m) w x size s (Choose true true n 0) ≡ after_step (tables_of m) w x size s (Choose true false n 0) }
+{
+    no_bucket_of_a_map_has_type_0();
+}

@@ -3,7 +3,7 @@
 ghost use Rattle.std.specs.Prelude.{◌≡◌, ◌<◌, ◌≤◌, ◌+◌, ◌++◌, [], length, map};
 ghost use Rattle.crush_bucket.specs.Tables.{perms_of};
 ghost use Rattle.crush_choose.specs.Rules.{put_out, slot_out, step_out};
-ghost use Rattle.crush_choose.specs.Runs.{IsPlan};
+ghost use Rattle.crush_choose.specs.Runs.{IsPlan, call_of};
 
 use crate::firstn::{FirstnCall, choose_firstn};
 use crate::indep::{IndepCall, choose_indep};
@@ -50,8 +50,8 @@ fn put_out(
     requires bucket { bucket < length tables.now.buckets }
     requires fits { scratch.old ≡ perms_of tables.now }
     requires room { length out.old + room ≤ 32 }
-    ensures value { out.new ≡ out.old ++ put_out tables.now weights.now plan.now room bucket }
-    ensures room { length (put_out tables.now weights.now plan.now room bucket) ≤ room }
+    ensures value { out.new ≡ out.old ++ put_out tables.now weights.now (call_of plan.now) room bucket }
+    ensures room { length (put_out tables.now weights.now (call_of plan.now) room bucket) ≤ room }
     ensures fits { scratch.new ≡ perms_of tables.now }
 {
     if plan.numrep == 0 {
@@ -107,8 +107,8 @@ fn slot_out(
     requires plan { IsPlan plan.now }
     requires fits { scratch.old ≡ perms_of tables.now }
     requires room { length out.old + room ≤ 32 }
-    ensures value { out.new ≡ out.old ++ slot_out tables.now weights.now plan.now room slot }
-    ensures room { length (slot_out tables.now weights.now plan.now room slot) ≤ room }
+    ensures value { out.new ≡ out.old ++ slot_out tables.now weights.now (call_of plan.now) room slot }
+    ensures room { length (slot_out tables.now weights.now (call_of plan.now) room slot) ≤ room }
     ensures fits { scratch.new ≡ perms_of tables.now }
 {
     match slot {
@@ -134,7 +134,7 @@ pub(crate) fn step_out(
     requires fits { scratch.old ≡ perms_of tables.now }
     requires size { size ≤ 32 }
     requires empty { out.old ≡ [] }
-    ensures value { out.new ≡ step_out tables.now weights.now plan.now size working.now }
+    ensures value { out.new ≡ step_out tables.now weights.now (call_of plan.now) size working.now }
     ensures room { length out.new ≤ size }
     ensures fits { scratch.new ≡ perms_of tables.now }
 {

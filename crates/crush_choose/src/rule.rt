@@ -6,7 +6,7 @@ ghost use Rattle.crush_map.specs.Faults.{are_in_range, has_number};
 ghost use Rattle.crush_bucket.specs.Tables.{perms_of};
 ghost use Rattle.crush_choose.specs.Rules as spec;
 ghost use Rattle.crush_choose.specs.Rules.{CanRun, IsTrace, rule_answer, with_chosen};
-ghost use Rattle.crush_choose.specs.Runs.{AreSettings, IsPlan, IsRun, IsStep, no_step, state_of};
+ghost use Rattle.crush_choose.specs.Runs.{AreSettings, IsPlan, IsRun, IsStep, call_of, no_step, settings_in, state_of};
 
 use crate::plan::{Plan, append, step_out};
 use crate::row::{Row, Slot};
@@ -49,7 +49,7 @@ fn reps(n: i32, size: u32) -> u32
 
 /// Tries for a leaf.
 fn leaf_tries(tunables: Tunables, settings: Settings, firstn: bool) -> u32
-    ensures { result ≡ spec.leaf_tries tunables settings firstn }
+    ensures { result ≡ spec.leaf_tries tunables (settings_in settings) firstn }
 {
     if settings.leaf_tries > 0 {
         settings.leaf_tries
@@ -116,7 +116,7 @@ fn choose(
     requires size { size ≤ 32 }
     requires few { k < 32 }
     requires run { IsRun size k run.old }
-    ensures value { state_of run.new ≡ with_chosen (state_of run.old) (spec.step_out tables.now weights.now plan.now size run.old.working) }
+    ensures value { state_of run.new ≡ with_chosen (state_of run.old) (spec.step_out tables.now weights.now (call_of plan.now) size run.old.working) }
     ensures run { IsRun size (k + 1) run.new }
     ensures fits { scratch.new ≡ perms_of tables.now }
 {

@@ -1,43 +1,55 @@
 //! Reweights of devices, and the device test.
 
-ghost use Rattle.std.specs.Prelude.{◌≡◌, ◌<◌, ◌≤◌, ◌^◌, IfOk, length, map, slice_index_or, ℕ};
+ghost use Rattle.std.specs.Prelude.{◌≡◌, ◌<◌, ◌≤◌, ◌^◌, IfOk, length, slice_index_or, ℕ};
 ghost use Rattle.crush_choose.specs.Weights as spec;
-ghost use Rattle.crush_choose.specs.Weights.{weights_of, weight_at, reweight_of, bound_of, is_device_in};
+ghost use Rattle.crush_choose.specs.Weights.{weights_of, weight_at, reweight_of, first_given, is_device_in};
 
 use crush_hash::hash2;
-use crush_map::{CrushMap, Device, ItemId};
+use crush_map::{CrushMap, ItemId};
 use std::alloc::{AllocError, Global};
 use std::marker::Model;
 
 /// The reweight of a device that is given none, and from which on a device is always in.
 const FULL: u32 = 65_536;
 
-/// Reweights of a map's devices in 16.16 fixed point. A contract sees them by number of device, up to the greatest.
+/// How many ids a device can have.
+const IDS: usize = 65_536;
+
+/// Reweights of devices in 16.16 fixed point. A contract sees those of all ids, 0 to 65535, in order.
 #[derive(Drop)]
 pub struct Weights {
     table: Vec<u32>,
 }
 
 impl Model for Weights {
-    ghost use Rattle.std.specs.Prelude.{List, ℕ};
+    ghost use Rattle.std.specs.Prelude.{List, ℕ, ◌≤◌, length};
+    ghost use Rattle.crush_choose.specs.Weights.{ids, padded};
 
     ghost Value = { List ℕ };
 
-    ghost view = { λ a. a.table.items };
+    ghost view = { λ a. padded a.table.items };
+
+    ghost invariant = { λ a. length a.table.items ≤ ids };
 }
 
 impl Weights {
-    /// The reweights of a map's devices, of pairs of device and reweight.
+    /// The reweights that pairs of id and reweight give, with memory for the devices of a map and for each id that is given.
     ///
-    /// Of several pairs for one device the first counts, and a device without a pair has 65536. A pair for an id above the map's greatest is dropped.
+    /// Of several pairs for one id the first counts, and an id without a pair has 65536; so has each id above 65535. An id needs no device in the map.
     pub fn build(alloc: Global, map: &CrushMap, given: &[(u32, u32)]) -> Result<Weights, AllocError>
-        ensures { IfOk result (λ w. w ≡ weights_of map.now given.now) }
+        ensures all { IfOk result (λ w. w ≡ weights_of given.now) }
+        ensures each { IfOk result (λ w. (id : ℕ) → weight_at w id ≡ reweight_of given.now id) }
     {
-        let table = table_of(alloc, bound_of(map.devices()), given)?;
+        let devices = map
+            .devices()
+            .last()
+            .map_or(0, |device| device.id as usize + 1);
+        let bound = bound_of(devices, given);
+        let table = table_of(alloc, bound, given)?;
         Ok(Weights { table })
     }
 
-    /// The reweight of a device, 65536 where none is given.
+    /// The reweight of an id.
     pub fn get(&self, device: u32) -> u32
         ensures { result ≡ weight_at self.now device }
     {
@@ -48,27 +60,30 @@ impl Weights {
     }
 }
 
-/// The least number above the id of each device.
-fn bound_of(devices: &[Device]) -> usize
-    ensures { result ≡ bound_of (map (λ d. d.id) devices.now) }
+/// The least number, from a first one on, above each id that is given and that a device can have.
+fn bound_of(first: usize, given: &[(u32, u32)]) -> usize
+    ensures few { result ≤ spec.ids }
+    ensures above { (id : ℕ) → result ≤ id → id < spec.ids → first_given given.now id ≡ spec.full }
 {
-    let mut bound = 0;
-    for device in devices {
-        bound = bound.max(device.id as usize + 1);
+    let mut bound = first.min(IDS);
+    for (id, _) in given {
+        if (*id as usize) < IDS {
+            bound = bound.max(*id as usize + 1);
+        }
     }
     bound
 }
 
-/// The reweights of the devices below a bound.
+/// The reweights of the ids below a bound.
 fn table_of(alloc: Global, bound: usize, given: &[(u32, u32)]) -> Result<Vec<u32>, AllocError>
     ensures len { IfOk result (λ table. length table.items ≡ bound) }
-    ensures each { IfOk result (λ table. (d : ℕ) → d < bound → slice_index_or table.items d spec.full ≡ reweight_of given.now d) }
+    ensures each { IfOk result (λ table. (id : ℕ) → id < bound → slice_index_or table.items id spec.full ≡ first_given given.now id) }
 {
     let mut table = vec![in alloc; FULL; bound]?;
     for place in (0..given.len()).rev() {
-        let (device, weight) = given[place];
-        if (device as usize) < bound {
-            table[device as usize] = weight;
+        let (id, weight) = given[place];
+        if (id as usize) < bound {
+            table[id as usize] = weight;
         }
     }
     Ok(table)

@@ -1,5 +1,7 @@
-use Rattle.std.proofs.Common.{Some, rules, length-append}
+use Rattle.std.proofs.Common.{◌≡◌, Some, arith, rules, length-append}
+use Rattle.crush_choose.specs.Marks.{items_of, leaves_of}
 use Rattle.crush_choose.specs.Firstn.{mark_of}
+use Rattle.crush_choose.proofs.Answering.{firstn_is, firstn_rows}
 use Rattle.crush_choose.proofs.Placing.{slots_more, mark_is}
 use Rattle.crush_choose.proofs.firstn.choose_firstn.Goals as goal
 
@@ -13,3 +15,13 @@ loop-rep-preserved c =
       room = rw c.add.ensures.items (rw length-append (search rules));
       fits = c.mark_beside-mark.ensures.fits;
     }
+
+pub returns-clause-there : goal.returns-clause-there
+returns-clause-there c = firstn_is c.args.tables.now c.args.weights.now c.args.call.now
+
+pub returns-clause-only : goal.returns-clause-only
+returns-clause-only c = λ marks is.
+    let all : c.loop-rep.rep ≡ c.args.call.now.numrep = omega arith in (
+      firstn_rows items_of c.loop-rep.items c.args.tables.now c.args.weights.now c.args.call.now c.loop-rep.rep marks c.loop-rep.invariant.items all is,
+      firstn_rows leaves_of c.loop-rep.leaves c.args.tables.now c.args.weights.now c.args.call.now c.loop-rep.rep marks c.loop-rep.invariant.leaves all is,
+    )

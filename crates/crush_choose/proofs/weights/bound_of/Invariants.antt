@@ -1,6 +1,9 @@
-use Rattle.std.proofs.Common.{◌≡◌, map, drop, max}
-use Rattle.crush_choose.specs.Weights.{bound_of}
+use Rattle.std.proofs.Common.{◌≡◌, ℕ, ◌<◌, ◌≤◌, drop}
+use Rattle.crush_choose.specs.Weights.{first_given, ids}
 use Rattle.crush_choose.proofs.weights.bound_of.Given as goal
 
-abbrev pub invariant-loop-device : goal.invariant-loop-device
-invariant-loop-device l = max l.bound (bound_of (map (λ d. d.id) (drop l.device-index l.devices))) ≡ bound_of (map (λ d. d.id) l.devices)
+abbrev pub invariant-loop-id : goal.invariant-loop-id
+invariant-loop-id l = record {
+  few : l.bound ≤ ids;
+  above : (n : ℕ) → l.bound ≤ n → n < ids → first_given l.given n ≡ first_given (drop l.id-index l.given) n;
+}
