@@ -170,10 +170,11 @@ fn a_change_is_kept_by_the_store_in_memory(rt: HostRuntime) -> Result<(), Fail> 
     let mut store = MemoryStore::new(rt.alloc());
     assert!(rt; store.create("a").is_ok());
     assert!(rt; store.commit("a", &Change { epoch: 7 }).is_ok());
-    match store.load("a") {
-        Ok(Some(state)) => assert_eq!(rt; state.epoch, 7),
-        _ => assert!(rt; false, "the tenant is there"),
-    }
+    let Ok(Some(state)) = store.load("a") else {
+        assert!(rt; false, "the tenant is there");
+        return Ok(());
+    };
+    assert_eq!(rt; state.epoch, 7);
     assert!(rt; store.remove("a").is_ok());
     assert!(rt; matches!(store.load("a"), Ok(None)));
     Ok(())

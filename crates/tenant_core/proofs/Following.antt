@@ -1,5 +1,5 @@
 -- From what a call asks to what its reply says of all tenants.
-use Rattle.std.proofs.Common.{◌≡◌, ◌≢◌, ◌⊎◌, ◌↔◌, inl, inr, OnErr, ℕ, ◌&&◌, List, Bool, true, false, if◌then◌else◌, Option, Some, None, option_map, Result, Ok, Err, IfOk, refl, ap, sym, subst, ◌∙◌, is_some, arith, length, nat_lt}
+use Rattle.std.proofs.Common.{◌≡◌, ◌≢◌, ◌⊎◌, inl, inr, ℕ, ◌&&◌, List, Bool, true, false, if◌then◌else◌, Option, Some, None, option_map, Result, Ok, Err, IfOk, refl, ap, sym, subst, ◌∙◌, is_some, arith, length, nat_lt}
 use Rattle.std.proofs.lemmas.Slice.Eq.{bytes_eq-Decides}
 use Rattle.std.specs.Option.{ok_or}
 use Rattle.std.specs.Str.{bytes_eq}
@@ -20,7 +20,7 @@ use Rattle.tenant_core.specs.Reply.{refused, reply}
 use Rattle.tenant_core.specs.Route.{route_of}
 use Rattle.tenant_core.specs.States.{States, IsDamaged, Same, Follows, Answers}
 use Rattle.tenant_core.specs.Step.{decision, decision_or_refusal, step_of, step, tenant_of, is_of}
-use Rattle.tenant_core.specs.StoreReply.{no_memory, store_failed, store_damaged, store_fault, reply_where_damaged, refused_or_damaged}
+use Rattle.tenant_core.specs.StoreReply.{no_memory, store_damaged, store_fault, refused_or_damaged}
 use Rattle.tenant_core.specs.Performs.{Performs, HasOneState}
 use Rattle.tenant_core.proofs.Replying.{reply-answered, damaged-answered}
 

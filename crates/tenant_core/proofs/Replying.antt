@@ -1,16 +1,15 @@
 -- The status of replies.
-use Rattle.std.proofs.Common.{◌≡◌, ◌⊎◌, inl, inr, ℕ, ◌==◌, Bool, true, false, not, Option, Some, None, List, Result, Ok, Err, refl, ap, sym, ◌∙◌}
+use Rattle.std.proofs.Common.{◌≡◌, inl, inr, ℕ, ◌==◌, true, false, not, Option, refl, ap, sym, ◌∙◌}
 use Rattle.tenant_core.specs.declared.call.Call.{Call}
 use Rattle.tenant_core.specs.declared.reply.Reply.{Reply}
 use Rattle.tenant_core.specs.declared.reply.Problem.{Problem}
 use Rattle.tenant_core.specs.declared.reply.Problem.TheVariants.{BadRequest, NoPath, NoTenant, Method, Exists, TooLarge}
-use Rattle.tenant_core.specs.declared.request.Request.{Request}
 use Rattle.tenant_core.specs.declared.state.TenantState.{TenantState}
 use Rattle.tenant_core.specs.Alone.{is_answered}
 use Rattle.tenant_core.specs.Reply.{Answer, refused, created, summary, dropped, picked, problem_status, reply}
 use Rattle.tenant_core.specs.Request.{request_of}
 use Rattle.tenant_core.specs.Step.{step, decision_or_refusal}
-use Rattle.tenant_core.specs.StoreReply.{IsUnavailable, no_memory, store_failed, store_damaged}
+use Rattle.tenant_core.specs.StoreReply.{IsUnavailable, store_failed, store_damaged}
 
 -- neither 500 nor 503
 record IsOfAnswer (n : ℕ) : Type 0 where

@@ -1,5 +1,5 @@
 -- A run goes on.
-use Rattle.std.proofs.Common.{◌≡◌, ◌⊎◌, ℕ, zero, suc, ◌&&◌, ◌==◌, inl, inr, List, [], ◌∷◌, ◌++◌, map, filter, zip, length, Bool, true, false, not, cond, Option, refl, ap, sym, ◌∙◌, arith, length-append}
+use Rattle.std.proofs.Common.{◌≡◌, ℕ, zero, suc, ◌&&◌, ◌==◌, inl, inr, List, [], ◌∷◌, ◌++◌, map, filter, zip, length, Bool, true, false, not, cond, Option, refl, ap, sym, ◌∙◌, arith, length-append}
 use Rattle.std.proofs.lemmas.List.{map-append}
 use Rattle.std.proofs.lemmas.List.Elements.{filter-append, All-append}
 use Rattle.std.specs.List.{All, AllZip}
@@ -9,7 +9,6 @@ use Rattle.tenant_core.specs.declared.state.TenantState.{TenantState}
 use Rattle.tenant_core.specs.Alone.{alone, is_answered, answered, calls_answered, replies_answered}
 use Rattle.tenant_core.specs.States.{States, Same, Follows, Answers, AnswersNobody, AnswersDamaged, NamesCause, MeetsDefinition}
 use Rattle.tenant_core.specs.Step.{step, is_of}
-use Rattle.tenant_core.specs.StoreReply.{IsUnavailable, no_memory, store_failed}
 use Rattle.tenant_core.proofs.Replying.{status-unavailable}
 
 -- ---- the empty run
