@@ -2,6 +2,7 @@
 
 RT = rt
 PREFIX = /usr/local
+CRATES =
 SOURCES = $(shell find crates -name out -prune -o \( -name '*.rt' -o -name '*.antt' \) -print)
 
 build: crushcalc
@@ -9,8 +10,11 @@ build: crushcalc
 
 help:
 	@echo 'make build     proves the crates of the program and builds it as ./crushcalc, optimised (the first time: some minutes)'
+	@echo 'make try       plays examples/first.script in a minute, with no proof'
 	@echo 'make run       builds, and serves examples/first.script: each request with its reply'
-	@echo 'make test      the whole gate: every proof from nothing, wrong edits, tests, and the program from end to end'
+	@echo 'make test      every proof from nothing, tests, the program from end to end, and the edits that must fail of each crate that changed'
+	@echo 'make gate      the same with every edit that must fail'
+	@echo 'make wrong     tries the edits of the crates that changed, or of CRATES="NAME..", and records what refused them'
 	@echo 'make install   builds, and installs PREFIX/bin/crushcalc (PREFIX=/usr/local)'
 	@echo 'make ceph-check   compares 152,000 mappings and 93 name hashes with those of Ceph'"'"'s own library'
 	@echo 'make bench     builds and measures; beside Ceph'"'"'s own library where that is installed'
@@ -25,7 +29,7 @@ tools:
 	  [ "$$(id -u)" = 0 ] && command -v apt-get >/dev/null || { echo "Install it, as by 'apt-get install python3', and try again." >&2; exit 1; }; \
 	  echo 'Installing it: apt-get install -y python3'; \
 	  apt-get update && apt-get install -y python3; }
-	@[ -z '$(filter test,$(MAKECMDGOALS))' ] || command -v cc >/dev/null 2>&1 || command -v gcc >/dev/null 2>&1 || command -v clang >/dev/null 2>&1 || { \
+	@[ -z '$(filter test gate,$(MAKECMDGOALS))' ] || command -v cc >/dev/null 2>&1 || command -v gcc >/dev/null 2>&1 || command -v clang >/dev/null 2>&1 || { \
 	  echo 'A C compiler is missing (cc, gcc or clang): the tests need it.'; \
 	  [ "$$(id -u)" = 0 ] && command -v apt-get >/dev/null || { echo "Install it, as by 'apt-get install gcc libc6-dev', and try again." >&2; exit 1; }; \
 	  echo 'Installing it: apt-get install -y gcc libc6-dev'; \
@@ -55,13 +59,28 @@ build/crush_mappings: $(SOURCES) crates.txt HANDLES | tools
 	@(cd crates/crush_mappings && $(RT) run <stdin) >build/mappings.txt 2>build/mappings.log || { tail -n 30 build/mappings.log; echo 'The build failed; the whole log is build/mappings.log.' >&2; exit 1; }
 	@cp crates/crush_mappings/out/crush_mappings build/crush_mappings
 
+# a script's lines, each with its reply
+SHOW = awk '$$0 != "" { print "> " $$0; getline reply <"build/first.replies"; print reply }' examples/first.script
+
+try: tools
+	@mkdir -p build
+	@echo 'Playing examples/first.script with no proof: 20 to 60 seconds. Nothing is proved by this; make run proves the program and builds it.'
+	@(cd crates/crushcalc && $(RT) try -- script <../../examples/first.script) >build/first.replies 2>build/try.log || { tail -n 30 build/try.log; exit 1; }
+	@$(SHOW)
+
 run: build
 	@echo 'Serving examples/first.script:'
 	@./crushcalc script <examples/first.script >build/first.replies
-	@awk '$$0 != "" { print "> " $$0; getline reply <"build/first.replies"; print reply }' examples/first.script
+	@$(SHOW)
 
 test: tools
 	@RT='$(RT)' sh tests/all
+
+gate: tools
+	@RT='$(RT)' sh tests/all --all
+
+wrong: tools
+	@RT='$(RT)' python3 tests/wrong $(CRATES)
 
 install: build
 	@echo 'Installing $(DESTDIR)$(PREFIX)/bin/crushcalc'
@@ -87,4 +106,4 @@ clean:
 	@echo 'Removing ./crushcalc, build/ and crates/*/out; the next build proves everything anew.'
 	@rm -rf crushcalc build crates/*/out
 
-.PHONY: build help tools run test install serve ceph-check bench bench-deps clean
+.PHONY: build help tools try run test gate wrong install serve ceph-check bench bench-deps clean

@@ -1,0 +1,103 @@
+"""Edits that must fail, and the record of what refused them.
+
+crates/NAME/must-fail/WHAT_IT_DOES.edit is a wrong body: the prover must refuse the crate with that edit. Trying one takes 10 to 40
+seconds, so a crate's edits are tried when the crate changed. REFUSED.md beside them records the last time: a digest of all that the
+outcome rests on in the crate, with the toolchain's version, and for each edit the goal that refused it. A record counts only
+while its digest fits; it is written by tests/wrong (make wrong), never by hand.
+"""
+import hashlib
+import os
+import pathlib
+import re
+import subprocess
+
+TOP = pathlib.Path(__file__).resolve().parent.parent
+CRATES = TOP / "crates"
+RT = os.environ.get("RT", "rt")
+REFUSED = re.compile(r"^rt: must-fail (\w+)/(\w+)\.edit: refused, as it must be: (.*)$")
+TRIED = re.compile(r"^rt: must-fail (\w+)/(\w+)\.edit: (.*)$")
+PLACE = re.compile(r"(src/\w+\.rt):(\d+):\d+: (.*)")
+GOAL = re.compile(r"\(`([^`]*)`\)")
+DIGEST = re.compile(r"^Digest: ([0-9a-f]{64})$", re.M)
+
+
+def version():
+    return subprocess.run([RT, "version"], stdout=subprocess.PIPE, text=True, check=True).stdout.strip()
+
+
+def crates():
+    """The crates that have edits, in the order of crates.txt."""
+    names = [line.split(":")[0].split()[0] for line in (TOP / "crates.txt").read_text().splitlines() if line.strip() and not line.startswith("#")]
+    return [name for name in names if edits(name)]
+
+
+def edits(crate):
+    return sorted((CRATES / crate / "must-fail").glob("*.edit"))
+
+
+def digest(crate):
+    """Of the crate's line in crates.txt, its sources, definitions, proofs and edits, and the toolchain's version."""
+    line = [line for line in (TOP / "crates.txt").read_text().splitlines() if re.match(rf"{crate}\b", line)]
+    sha = hashlib.sha256(f"{version()}\n{line}\n".encode())
+    files = [p for part in ("src", "specs", "proofs") for p in (CRATES / crate / part).rglob("*") if p.is_file()]
+    for path in sorted(files + edits(crate)):
+        data = path.read_bytes()
+        sha.update(f"{path.relative_to(CRATES)} {len(data)}\n".encode() + data)
+    return sha.hexdigest()
+
+
+def record(crate):
+    return CRATES / crate / "must-fail" / "REFUSED.md"
+
+
+def is_recorded(crate):
+    """Whether the crate's edits, as all of it is now, were refused when they were tried."""
+    path = record(crate)
+    if not path.is_file():
+        return False
+    text = path.read_text()
+    found = DIGEST.search(text)
+    rows = set(re.findall(r"^\| `(\w+)` \|", text, re.M))
+    return found is not None and found.group(1) == digest(crate) and rows == {p.stem for p in edits(crate)}
+
+
+def function_at(crate, file, line):
+    """The function whose signature, attributes before it included, or whose body is at this line."""
+    lines = (CRATES / crate / file).read_text().splitlines()
+    at = int(line) - 1
+    while at + 1 < len(lines) and lines[at].lstrip().startswith("#["):
+        at += 1
+    for text in reversed(lines[: at + 1]):
+        found = re.search(r"\bfn (\w+)", text)
+        if found:
+            return found.group(1)
+    return "?"
+
+
+def refusal(crate, said):
+    """The function and the goal that refused an edit, as rt says it."""
+    at, goal = PLACE.search(said), GOAL.search(said)
+    where = f"`{function_at(crate, at.group(1), at.group(2))}`, {at.group(1)}" if at else "-"
+    return where, f"`{goal.group(1)}`" if goal else said[:120].replace("|", "/")
+
+
+def attempt(crate):
+    """Tries the crate's edits: what refused each, or None; and all that was said."""
+    ran = subprocess.run([RT, "must-fail", crate], cwd=TOP, stdout=subprocess.PIPE, stderr=subprocess.STDOUT, text=True)
+    found = {p.stem: None for p in edits(crate)}
+    for line in ran.stdout.splitlines():
+        match = REFUSED.match(line)
+        if match and match.group(2) in found:
+            found[match.group(2)] = refusal(crate, match.group(3))
+    return found, ran.stdout, ran.returncode
+
+
+def write_record(crate, found, before):
+    rows = [f"| `{name}` | {name.replace('_', ' ')} | {where} | {goal} |" for name, (where, goal) in sorted(found.items())]
+    record(crate).write_text(
+        "# Refused edits\n\n"
+        "Written by `make wrong`, never by hand. Each edit beside this file was tried on the crate as the digest names it, and the prover\n"
+        "refused it. `make test` takes that for granted while the digest fits, and `make gate` tries every edit again.\n\n"
+        f"Toolchain: {version()}\n\nDigest: {before}\n\n"
+        "| edit | what it does | refused at | goal |\n|---|---|---|---|\n" + "\n".join(rows) + "\n"
+    )
