@@ -1,5 +1,5 @@
 -- The greatest number that passes.
-use Rattle.std.proofs.Common.{◌≡◌, ℕ, zero, suc, ◌<◌, Bool, true, false, Option, Some, None, MatchOption, refl, arith, ◌⊎◌, inl, inr}
+use Rattle.std.proofs.Common.{◌≡◌, ℕ, zero, suc, ◌+◌, ◌<◌, Bool, true, false, Option, Some, None, MatchOption, IfSome, refl, arith, ◌⊎◌, inl, inr}
 use Rattle.crush_bucket.specs.Kinds.{greatest}
 use Rattle.crush_bucket.specs.Laws.{IsGreatest, NonePasses}
 
@@ -20,3 +20,21 @@ greatest_is p (suc n) =
       | true ↦ λ passes. rw passes (record { below = omega arith; passes = passes; no_later = λ j above below. absurd (omega arith) })
       | false ↦ λ fails. rw fails (one_more p n (greatest p n) fails (greatest_is p n))
     ] in by (p n) refl
+
+-- the last of n places from a place on that passes, as far as they were asked
+pub record IsLast (p : ℕ → Bool) (from n : ℕ) (last : Option ℕ) : Type 0 where
+  pub same : MatchOption last (greatest p (from + n) ≡ greatest p from) (λ place. greatest p (from + n) ≡ Some place)
+  pub within : IfSome last (λ place. place < from + n)
+
+pub last_none : (p : ℕ → Bool) (from : ℕ) → IsLast p from 0 None
+last_none p from = let e : from + 0 ≡ from = omega arith in record { same = rw e refl; within = tt }
+
+pub last_passes : (p : ℕ → Bool) (from n : ℕ) → p (from + n) ≡ true → IsLast p from (n + 1) (Some (from + n))
+last_passes p from n passes =
+    let e : from + (n + 1) ≡ suc (from + n) = omega arith in record { same = rw (e, passes) refl; within = omega arith }
+
+pub last_fails : (p : ℕ → Bool) (from n : ℕ) (last : Option ℕ) → p (from + n) ≡ false → IsLast p from n last → IsLast p from (n + 1) last
+last_fails p from n None fails is =
+    let e : from + (n + 1) ≡ suc (from + n) = omega arith in record { same = rw (e, fails) is.same; within = tt }
+last_fails p from n (Some place) fails is =
+    let e : from + (n + 1) ≡ suc (from + n) = omega arith in record { same = rw (e, fails) is.same; within = let w = is.within in omega arith }

@@ -1,3 +1,4 @@
+pub mod Eight
 pub mod Greatest
 pub mod Heights
 pub mod Members

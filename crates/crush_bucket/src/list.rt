@@ -1,13 +1,13 @@
 //! List buckets.
 
-ghost use Rattle.std.specs.Prelude.{◌≡◌, ◌<◌, ◌^◌, IfOk, length};
-ghost use Rattle.crush_bucket.specs.Bucket.{CanBeAsked, total_weight};
-ghost use Rattle.crush_bucket.specs.Kinds.{list_place, takes};
+ghost use Rattle.std.specs.Prelude.{◌≡◌, ℕ, ◌<◌, ◌≤◌, ◌+◌, ◌*◌, ◌/◌, ◌%◌, ◌^◌, nat_lt, MatchOption, IfOk, IfSome, length, slice_index};
+ghost use Rattle.crush_bucket.specs.Bucket.{CanBeAsked, item_at, word, total_weight};
+ghost use Rattle.crush_bucket.specs.Kinds.{list_place, greatest, takes};
 ghost use Rattle.crush_bucket.specs.Kept.{AreSums};
 
 use crate::perm::Perm;
 use crate::picker::Picker;
-use crush_hash::hash4;
+use crush_hash::{hash4, hash4_lanes};
 use crush_map::{ItemId, Kind, Weight};
 use std::alloc::{AllocError, Global};
 use std::marker::Model;
@@ -101,14 +101,20 @@ fn sums_of(alloc: Global, entries: &[(ItemId, Weight)]) -> Result<Vec<u32>, Allo
     Ok(sums)
 }
 
-/// The greatest place that takes the input, or the first.
+/// The greatest place that takes the input, or the first. The places are asked from the last one on, eight at a time, and the first `size mod 8` one by one.
 fn place_of(id: ItemId, entries: &[(ItemId, Weight)], sums: &[u32], x: u32, r: u32) -> usize
     requires asked { CanBeAsked entries.now }
     requires sums { AreSums entries.now sums.now }
     ensures value { result ≡ list_place id entries.now x r }
     ensures within { result < length entries.now }
 {
-    for place in (0..entries.len()).rev() {
+    let rest = entries.len() % 8;
+    for block in (0..entries.len() / 8).rev() {
+        if let Some(place) = last_of_eight(id, entries, sums, x, r, rest + 8 * block) {
+            return place;
+        }
+    }
+    for place in (0..rest).rev() {
         if takes(id, entries, sums, x, r, place) {
             return place;
         }
@@ -116,7 +122,53 @@ fn place_of(id: ItemId, entries: &[(ItemId, Weight)], sums: &[u32], x: u32, r: u
     0
 }
 
-/// Whether a place takes the input: a draw, scaled by the sum up to the place, is below its weight.
+/// The last of eight places that takes the input.
+#[inline]
+fn last_of_eight(
+    id: ItemId,
+    entries: &[(ItemId, Weight)],
+    sums: &[u32],
+    x: u32,
+    r: u32,
+    from: usize,
+) -> Option<usize>
+    requires within { from + 8 ≤ length entries.now }
+    requires few { length entries.now < 2 ^ 16 }
+    requires sums { AreSums entries.now sums.now }
+    ensures last { MatchOption result (greatest (takes id entries.now x r) (from + 8) ≡ greatest (takes id entries.now x r) from) (λ place. greatest (takes id entries.now x r) (from + 8) ≡ Some place) }
+    ensures within { IfSome result (λ place. place < from + 8) }
+{
+    let hashes = hash4_lanes(x, &words(entries, from), r, id.word());
+    let mut last = None;
+    for lane in 0..8 {
+        let place = from + lane;
+        if is_below(hashes[lane], sums[place], entries[place].1.0) {
+            last = Some(place);
+        }
+    }
+    last
+}
+
+/// The words of eight items.
+#[inline]
+fn words(entries: &[(ItemId, Weight)], from: usize) -> [u32; 8]
+    requires within { from + 8 ≤ length entries.now }
+    requires few { length entries.now < 2 ^ 16 }
+    ensures { (n : ℕ) → n < 8 → slice_index result n ≡ word (item_at entries.now (from + n)) }
+{
+    [
+        entries[from].0.word(),
+        entries[from + 1].0.word(),
+        entries[from + 2].0.word(),
+        entries[from + 3].0.word(),
+        entries[from + 4].0.word(),
+        entries[from + 5].0.word(),
+        entries[from + 6].0.word(),
+        entries[from + 7].0.word(),
+    ]
+}
+
+/// Whether a place takes the input.
 fn takes(
     id: ItemId,
     entries: &[(ItemId, Weight)],
@@ -129,6 +181,14 @@ fn takes(
     requires sums { AreSums entries.now sums.now }
     ensures { result ≡ takes id entries.now x r place }
 {
-    let draw = u64::from(hash4(x, entries[place].0.word(), r, id.word())) % 65_536;
-    draw * u64::from(sums[place]) / 65_536 < u64::from(entries[place].1.0)
+    let hash = hash4(x, entries[place].0.word(), r, id.word());
+    is_below(hash, sums[place], entries[place].1.0)
+}
+
+/// Whether a draw, scaled by the sum up to its place, is below the weight there.
+#[inline]
+fn is_below(hash: u32, sum: u32, weight: u32) -> bool
+    ensures { result ≡ nat_lt (hash % 65536 * sum / 65536) weight }
+{
+    u64::from(hash) % 65_536 * u64::from(sum) / 65_536 < u64::from(weight)
 }

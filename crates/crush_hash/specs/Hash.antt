@@ -99,6 +99,12 @@ hash4 a b c d = hash_by ((A, B) ∷ (C, D) ∷ (A, X) ∷ (Y, B) ∷ (C, X) ∷ 
 unfoldable pub hash5 : ℕ → ℕ → ℕ → ℕ → ℕ → ℕ
 hash5 a b c d e = hash_by ((A, B) ∷ (C, D) ∷ (E, X) ∷ (Y, A) ∷ (B, X) ∷ (Y, C) ∷ (D, X) ∷ (Y, E) ∷ []) (a ∷ b ∷ c ∷ d ∷ e ∷ [])
 
+-- ---- vectors
+
+-- the words in one lane of three vectors
+abbrev pub lane : ℕ → List ℕ × List ℕ × List ℕ → Words
+lane n (a, b, c) = (slice_index a n, slice_index b n, slice_index c n)
+
 -- ---- the hash of a name
 
 -- the four bytes from a place on as a word, the lowest first; past the end each is 0

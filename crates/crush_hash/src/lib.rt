@@ -197,5 +197,9 @@ pub fn name_hash(name: &[u8]) -> u32
     absorb(words, last_group(name, 12 * groups)).2
 }
 
+mod lanes;
+
+pub use lanes::hash4_lanes;
+
 #[cfg(test)]
 mod tests;
