@@ -1,6 +1,7 @@
 pub mod Eight
 pub mod Greatest
 pub mod Heights
+pub mod Lanes
 pub mod Members
 pub mod Nodes
 pub mod Numbered

@@ -1,3 +1,4 @@
+pub mod Descent
 pub mod Bucket
 pub mod Kept
 pub mod Kinds
