@@ -9,3 +9,5 @@ mod Numbered
 mod Valid
 mod First
 mod Sound
+pub mod Digits
+pub mod WeightText

@@ -4,3 +4,4 @@ pub mod Tables
 pub mod Laws
 pub mod Sound
 pub mod Weights
+pub mod WeightText

@@ -3,6 +3,7 @@
 //! Its tests are the crate `map_tests`.
 #![tactic(auto)]
 
+mod decimal;
 mod draft;
 mod fault;
 mod form;
@@ -18,6 +19,7 @@ mod text;
 mod weights;
 mod word;
 
+pub use decimal::{weight_comes_back, weight_from_text, weight_text, weight_texts_are_read};
 pub use draft::{Bucket, Device, Items, MapDraft, Rule, Step, Steps, Tunables, TypeName};
 pub use fault::{Element, FaultCode, MapFault};
 pub use form::is_name;

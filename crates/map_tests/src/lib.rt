@@ -3,3 +3,6 @@
 
 #[cfg(test)]
 mod tests;
+
+#[cfg(test)]
+mod weights;
