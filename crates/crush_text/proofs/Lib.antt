@@ -1,2 +1,6 @@
-pub mod Read
+pub mod IsRead
 pub mod Written
+pub mod States
+pub mod Joins
+pub mod Lines
+pub mod Whole

@@ -13,7 +13,7 @@ use Rattle.crush_text.specs.Syntax.{Keyword, Saying, Name, optional, Class, clau
 use Rattle.crush_text.specs.Syntax.Early.{ATunable, ADevice, AType}
 use Rattle.crush_text.specs.Syntax.Late.{ABucket, ARule}
 use Rattle.crush_text.specs.Syntax.Action.{ATake, ASet, AChoose, AChooseLeaf, AnEmit}
-use Rattle.crush_text.proofs.Read.{bucket_tail, rule_tail}
+use Rattle.crush_text.proofs.IsRead.{bucket_tail, rule_tail}
 use Rattle.crush_text.specs.Fronts.{is}
 use Rattle.crush_text.specs.Automaton.{State, Move, Reading, reading, step, text, give, with_item, with_step, named, to, wrong, on, first, begun_bucket, begun, in_lines, plain, in_items, in_pos, in_steps, at_step, at_max, action, at_end, tunable_at, device_at, type_at}
 use Rattle.crush_text.specs.Automaton.State.{Between, TunableWord, TunableKey, DeviceWord, DeviceNumber, DeviceName, ClassWord, TypeWord, TypeNumber, BucketType, BucketName, IdLines, IdWord, IdNumber, IdClass, AlgWord, Hashes, HashWord, Items, ItemWord, ItemName, WeightWord, ItemWeight, PosWord, RuleWord, RuleName, RuleOpen, RuleId, RuleNumber, RuleType, RuleKind, MinWord, RuleMin, MaxWord, RuleMax, StepWord, TakeWord, Taken, SetWord, ChooseWord, ChooseHow, ChooseNumber, ChooseType, Steps, Dead}
@@ -400,3 +400,8 @@ follows p line (w ∷ ws) h = join p w ws (reading (step p w).state w.line ws) (
 
 pub is_written : (ws : List Word) → (text ws).fault ≡ None → Declares ws (text ws).decls
 is_written ws h = follows (Between true) 1 ws h
+
+-- the same where buckets and rules alone may come
+pub declares_from : (early : Bool) (line : ℕ) (ws : List Word) → (reading (Between early) line ws).fault ≡ None → Declares ws (reading (Between early) line ws).decls
+declares_from true line ws h = follows (Between true) line ws h
+declares_from false line ws h = any_late true ws (reading (Between false) line ws).decls (follows (Between false) line ws h)

@@ -110,14 +110,17 @@ abbrev pub begun_bucket : Word → Option (List ℕ) → State
 begun_bucket w (Some t) = BucketType w.line t
 begun_bucket w None = wrong (if is (codes "choose_args") w then X4 else X1) w
 
+-- a word where a bucket or a rule begins
+abbrev pub begun_late : Word → State
+begun_late w = if is (codes "rule") w then RuleWord w.line else begun_bucket w (type_of w.text)
+
 -- a word where a declaration begins
 abbrev pub begun : Bool → Word → State
 begun early w =
     if is (codes "tunable") w then first early w (TunableWord w.line)
     else (if is (codes "device") w then first early w (DeviceWord w.line)
     else (if is (codes "type") w then first early w (TypeWord w.line)
-    else (if is (codes "rule") w then RuleWord w.line
-    else begun_bucket w (type_of w.text))))
+    else begun_late w))
 
 abbrev pub in_lines : BucketHead → Option ℤ → Word → Move
 in_lines h (Some i) w = if is (codes "id") w then to (IdWord h (Some i)) else (if is (codes "alg") w then to (AlgWord h i) else to (wrong X1 w))

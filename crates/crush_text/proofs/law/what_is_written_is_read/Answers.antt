@@ -1,4 +1,4 @@
-use Rattle.crush_text.proofs.Read.{is_read}
+use Rattle.crush_text.proofs.IsRead.{is_read}
 use Rattle.crush_text.proofs.law.what_is_written_is_read.Goals as goal
 
 pub returns : goal.returns

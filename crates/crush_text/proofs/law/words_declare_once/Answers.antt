@@ -1,5 +1,5 @@
 use Rattle.std.proofs.Common.{sym, ap, ◌∙◌}
-use Rattle.crush_text.proofs.Read.{is_read}
+use Rattle.crush_text.proofs.IsRead.{is_read}
 use Rattle.crush_text.proofs.law.words_declare_once.Goals as goal
 
 pub returns : goal.returns
