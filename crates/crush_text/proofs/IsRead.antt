@@ -13,7 +13,7 @@ use Rattle.crush_text.specs.Syntax.Early.{ATunable, ADevice, AType}
 use Rattle.crush_text.specs.Syntax.Late.{ABucket, ARule}
 use Rattle.crush_text.specs.Syntax.Action.{ATake, ASet, AChoose, AChooseLeaf, AnEmit}
 use Rattle.crush_text.specs.Fronts.{is}
-use Rattle.crush_text.specs.Automaton.{State, Reading, reading, step, text, give, with_item, with_step, named, on, first, device_at}
+use Rattle.crush_text.specs.Automaton.{State, Reading, reading, step, text, give, with_item, with_step, named, device_at}
 use Rattle.crush_text.specs.Automaton.State.{Between, DeviceName, IdLines, IdNumber, Hashes, Items, ItemName, ItemWeight, RuleKind, RuleMin, RuleMax, StepWord, Steps}
 use Rattle.crush_text.specs.declared.declaration.Place.{Place}
 use Rattle.crush_text.specs.declared.declaration.DeclaredItem.{DeclaredItem}

@@ -4,3 +4,4 @@ pub mod States
 pub mod Joins
 pub mod Lines
 pub mod Whole
+pub mod Forms

@@ -1,6 +1,6 @@
 -- Where words leave the grammar, with which code, and what is declared before.
 use Rattle.std.proofs.Common.{ℤ, ◌==◌, IsSomeAnd, sym, ◌≡◌, ◌∙◌, ℕ, suc, ◌<◌, ◌⊎◌, inl, inr, List, [], ◌∷◌, ◌++◌, length, take, Option, Some, None, Bool, true, false, not, ◌&&◌, ◌||◌, refl, bytes_eq, append_assoc, arith, ap, IfSome, slice_get, if◌then◌else◌}
-use Rattle.std.specs.Prelude.{codes, ◌↔◌}
+use Rattle.std.specs.Prelude.{codes}
 use Rattle.std.proofs.lemmas.Slice.Eq.{bytes_eq-Decides}
 use Rattle.std.proofs.lemmas.Option.{slice_get-get_or}
 use Rattle.std.proofs.lemmas.List.{append-nil}

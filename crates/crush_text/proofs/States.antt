@@ -1,5 +1,5 @@
 -- Reading from a state on.
-use Rattle.std.proofs.Common.{◌≡◌, ◌∙◌, ℕ, Bool, true, false, List, [], ◌∷◌, ◌++◌, Some, refl, Err, append_assoc, codes}
+use Rattle.std.proofs.Common.{◌≡◌, ◌∙◌, ℕ, Bool, true, List, [], ◌∷◌, ◌++◌, Some, refl, Err, append_assoc, codes}
 use Rattle.std.proofs.lemmas.List.{append-nil}
 use Rattle.crush_words.specs.Words.{Word}
 use Rattle.crush_text.specs.Automaton.{Reading, reading, step, failed, give, begun}

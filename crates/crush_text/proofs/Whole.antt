@@ -1,11 +1,10 @@
 -- Words are of the grammar, or leave it at one place.
-use Rattle.std.proofs.Common.{◌≡◌, ◌∙◌, ℕ, suc, ◌<◌, ◌≤◌, ◌⊎◌, inl, inr, List, [], ◌∷◌, ◌++◌, take, drop, Option, Some, None, refl, sym, ap, append_assoc, arith}
+use Rattle.std.proofs.Common.{◌≡◌, ◌∙◌, ℕ, suc, ◌<◌, ◌≤◌, ◌⊎◌, inl, inr, List, ◌++◌, take, drop, Option, Some, None, refl, sym, ap, append_assoc, arith}
 use Rattle.std.proofs.lemmas.List.{take-append-drop, take-take}
 use Rattle.crush_words.specs.Words.{Word}
 use Rattle.crush_text.proofs.Lines.{breaks}
 use Rattle.crush_text.proofs.Written.{is_written}
 use Rattle.crush_text.specs.Automaton.{text}
-use Rattle.crush_text.specs.Syntax.{Declares}
 use Rattle.crush_text.specs.Fronts.{IsFront, IsWhole, LeavesAt, Breaks}
 use Rattle.crush_text.specs.declared.code.TextFault.{TextFault}
 use Rattle.crush_text.specs.declared.declaration.Declaration.{Declaration}

@@ -4,7 +4,6 @@ use Rattle.std.specs.List.{flat_map}
 use Rattle.std.specs.Prelude.{option_map}
 use Rattle.std.proofs.lemmas.List.{append-nil}
 use Rattle.std.proofs.lemmas.Slice.Eq.{bytes_eq-Decides}
-use Rattle.crush_map.specs.declared.word.Weight.{Weight as MapWeight}
 use Rattle.crush_map.specs.WeightText.{weight_of}
 use Rattle.crush_words.specs.Words.{Word}
 use Rattle.crush_words.specs.Numbers.{number_of, integer_of}
@@ -18,7 +17,7 @@ use Rattle.crush_text.specs.Fronts.{is}
 use Rattle.crush_text.specs.Automaton.{State, Move, Reading, reading, step, text, give, with_item, with_step, named, to, wrong, on, first, begun_bucket, begun, in_lines, plain, in_items, in_pos, in_steps, at_step, at_max, action, at_end, tunable_at, device_at, type_at}
 use Rattle.crush_text.specs.Automaton.State.{Between, TunableWord, TunableKey, DeviceWord, DeviceNumber, DeviceName, ClassWord, TypeWord, TypeNumber, BucketType, BucketName, IdLines, IdWord, IdNumber, IdClass, AlgWord, Hashes, HashWord, Items, ItemWord, ItemName, WeightWord, ItemWeight, PosWord, RuleWord, RuleName, RuleOpen, RuleId, RuleNumber, RuleType, RuleKind, MinWord, RuleMin, MaxWord, RuleMax, StepWord, TakeWord, Taken, SetWord, ChooseWord, ChooseHow, ChooseNumber, ChooseType, Steps, Dead}
 use Rattle.crush_text.specs.declared.code.TextCode.{TextCode}
-use Rattle.crush_text.specs.declared.code.TextCode.TheVariants.{X1, X3, X6}
+use Rattle.crush_text.specs.declared.code.TextCode.TheVariants.{X1, X3}
 use Rattle.crush_text.specs.declared.declaration.Place.{Place}
 use Rattle.crush_text.specs.declared.declaration.DeclaredItem.{DeclaredItem}
 use Rattle.crush_text.specs.declared.declaration.BucketHead.{BucketHead}

@@ -1,5 +1,5 @@
 -- Where words leave the grammar, and what is declared before.
-use Rattle.std.specs.Prelude.{◌≡◌, ℕ, suc, ◌<◌, ◌||◌, ◌⊎◌, true, codes, bytes_eq, Bool, List, [], ◌∷◌, ◌++◌, length, take, slice_get, IfSome, IsSomeAnd, Option, Some, is_some}
+use Rattle.std.specs.Prelude.{◌≡◌, ℕ, suc, ◌<◌, ◌||◌, ◌⊎◌, true, codes, bytes_eq, Bool, List, [], ◌∷◌, ◌++◌, length, take, slice_get, IsSomeAnd, is_some}
 use Rattle.crush_words.specs.Words.{Word}
 use Rattle.crush_text.specs.Sayings.{name_of}
 use Rattle.crush_text.specs.Syntax.{Declares}

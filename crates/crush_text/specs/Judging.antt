@@ -17,7 +17,6 @@ use Rattle.crush_map.specs.declared.word.Weight.{Weight}
 use Rattle.crush_map.specs.Weights.{total_weight}
 use Rattle.crush_map.specs.Faults.{◌when◌, or_else, first_of, Known, nothing, has_number, are_in_range, type_fault, device_fault, bucket_fault, rule_head_fault, step_fault, end_fault, with_type, with_device, with_bucket, with_rule}
 use Rattle.crush_text.specs.Places.{wrong_place, in_place}
-use Rattle.crush_text.specs.declared.code.TextCode.{TextCode}
 use Rattle.crush_text.specs.declared.code.TextCode.TheVariants.{X5, Map}
 use Rattle.crush_text.specs.declared.code.TextFault.{TextFault}
 use Rattle.crush_text.specs.declared.declaration.TunableName.{TunableName}

@@ -3,7 +3,6 @@ use Rattle.std.specs.Prelude.{◌≡◌, ◌++◌, ℕ, ⊤, Bool, true, false, 
 use Rattle.crush_words.specs.Words.{Word, Rest}
 use Rattle.crush_text.specs.Automaton.{State, Reading, reading, failed}
 use Rattle.crush_text.specs.declared.code.TextCode.TheVariants.{X1}
-use Rattle.crush_text.specs.declared.code.TextFault.{TextFault}
 use Rattle.crush_text.specs.declared.declaration.Declaration.{Declaration}
 use Rattle.crush_text.specs.declared.declaration.Declaration.TheVariants as declarations
 use Rattle.crush_text.specs.declared.error.ReadError.{ReadError}

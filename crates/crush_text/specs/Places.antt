@@ -31,9 +31,9 @@ wrong_place items = wrong_place_from (length items) [] items
 abbrev pub fill : List DeclaredItem → ℕ → ℕ → List DeclaredItem → List DeclaredItem
 fill items k zero others = []
 fill items k (suc n) others = elim (find (names_place k) items) [
-      | Some item ↦ item ∷ fill items (k + 1) n others
-      | None ↦ take 1 others ++ fill items (k + 1) n (drop 1 others)
-    ]
+  | Some item ↦ item ∷ fill items (k + 1) n others
+  | None ↦ take 1 others ++ fill items (k + 1) n (drop 1 others)
+]
 
 unfoldable pub in_place : List DeclaredItem → List DeclaredItem
 in_place items = fill items 0 (length items) (filter (λ item. is_none item.place) items)

@@ -11,7 +11,9 @@ ghost use Rattle.crush_text.specs.declared.declaration.DeclaredItem.{DeclaredIte
 use crate::code::{TextCode, TextFault};
 use crate::declaration::{BucketHead, DeclaredBucket, DeclaredItem, Place};
 use crate::error::ReadError;
-use crate::say::{alg_of, hash, integer, is, is_token, keyword, name, next, number, out_of_grammar};
+use crate::say::{
+    alg_of, hash, integer, is, is_token, keyword, name, next, number, out_of_grammar,
+};
 use crush_map::{Kind, Listed, Weight, weight_from_text};
 use crush_words::{Cursor, Name};
 use std::alloc::Global;
@@ -103,10 +105,7 @@ fn id_line<'a>(
 
 /// The id lines, up to the word alg: the one id without a class.
 #[tactic(auto, using(crate::proofs::States::dead), unfolding(crate::specs::Automaton::step))]
-fn bucket_id<'a>(
-    head: &BucketHead<'a>,
-    cursor: Cursor<'a>,
-) -> Result<(i64, Cursor<'a>), ReadError>
+fn bucket_id<'a>(head: &BucketHead<'a>, cursor: Cursor<'a>) -> Result<(i64, Cursor<'a>), ReadError>
     ensures value { Leads (ahead (State.IdLines head.now None) cursor.entry) result (λ x. ahead (State.AlgWord head.now x.0) x.1) }
     ensures less { IfOk result (λ x. length x.1.words ≤ length cursor.entry.words) }
 {

@@ -16,8 +16,9 @@ mod say;
 mod write;
 
 pub use code::{TextCode, TextFault};
-pub use write::write_map;
 pub use law::{
     form_faults_are_first, what_is_read_is_written, what_is_written_is_read,
     words_are_whole_or_break, words_declare_once,
 };
+pub use read::form_fault;
+pub use write::write_map;

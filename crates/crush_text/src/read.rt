@@ -1,8 +1,10 @@
 //! Reading the declarations of a text.
 
-ghost use Rattle.std.specs.Prelude.{◌≡◌, ◌≤◌, Some, None, Err, true, false, codes, length, IfOk};
+ghost use Rattle.std.specs.Prelude.{◌≡◌, ◌≤◌, ◌↔◌, List, Some, None, Err, true, false, codes, length, IfOk, IfSome};
 ghost use Rattle.crush_words.specs.Words.{words};
 ghost use Rattle.crush_text.specs.Fronts as fronts;
+ghost use Rattle.crush_text.specs.Fronts.{IsWhole, Breaks};
+ghost use Rattle.crush_text.specs.declared.declaration.Declaration as spec;
 ghost use Rattle.crush_text.specs.Automaton.{State, Reading, begun, begun_late, give, text as read_text};
 ghost use Rattle.crush_text.specs.Leads.{ahead, Leads, behind, is_early, no_more};
 
@@ -140,4 +142,15 @@ pub(crate) fn read<'a>(alloc: Global, text: &'a [u8]) -> Result<Declarations<'a>
         declarations: Listed::new(found),
         fault: None,
     })
+}
+
+/// The first fault of form of a text, whatever its length; none where its words are of the grammar.
+///
+/// What is declared isn't judged. `AllocError` comes where memory was refused.
+pub fn form_fault(alloc: Global, text: &[u8]) -> Result<Option<TextFault>, AllocError>
+    ensures none { IfOk result (λ fault. (fault ≡ None) ↔ IsWhole (words text.now)) }
+    ensures some { IfOk result (λ fault. IfSome fault (λ f. (ds : List spec.Declaration) × Breaks (words text.now) ds f)) }
+{
+    let declarations = read(alloc, text)?;
+    Ok(declarations.fault)
 }

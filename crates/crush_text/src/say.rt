@@ -142,7 +142,11 @@ fn is_reserved(word: &Word<'_>) -> bool
 pub(crate) fn type_of<'a>(word: &Word<'a>) -> Option<Name<'a>>
     ensures { result ≡ spec.type_of word.now.text }
 {
-    if is_reserved(word) { None } else { name_of(word) }
+    if is_reserved(word) {
+        None
+    } else {
+        name_of(word)
+    }
 }
 
 /// The tunable that a word names.

@@ -44,12 +44,7 @@ fn write_inner_line(out: &mut Vec<u8>, first: &[u8], others: &[&[u8]]) -> Result
 
 /// A tunable.
 #[tactic(auto, unfolding(crate::specs::Canonical::tunable_line))]
-fn write_tunable(
-    alloc: Global,
-    out: &mut Vec<u8>,
-    name: &str,
-    value: u32,
-) -> Result<(), AllocError>
+fn write_tunable(alloc: Global, out: &mut Vec<u8>, name: &str, value: u32) -> Result<(), AllocError>
     ensures { OnOk result (out.new.items ≡ out.old.items ++ spec.tunable_line name.now value) }
 {
     let value = format!(in alloc; "{}", value)?;
@@ -57,11 +52,7 @@ fn write_tunable(
 }
 
 /// The tunables.
-fn write_tunables(
-    alloc: Global,
-    out: &mut Vec<u8>,
-    tunables: Tunables,
-) -> Result<(), AllocError>
+fn write_tunables(alloc: Global, out: &mut Vec<u8>, tunables: Tunables) -> Result<(), AllocError>
     ensures { OnOk result (out.new.items ≡ out.old.items ++ spec.tunable_lines tunables) }
 {
     write_tunable(alloc, out, "choose_local_tries", 0)?;

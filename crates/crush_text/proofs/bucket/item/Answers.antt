@@ -1,4 +1,4 @@
-use Rattle.std.proofs.Common.{◌∙◌, [], None}
+use Rattle.std.proofs.Common.{◌∙◌}
 use Rattle.std.proofs.lemmas.Result.{err_from_is_err_and}
 use Rattle.crush_text.proofs.States.{leads_any, leads_after}
 use Rattle.crush_text.proofs.bucket.item.Goals as goal

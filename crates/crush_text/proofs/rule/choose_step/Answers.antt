@@ -1,4 +1,3 @@
-use Rattle.std.proofs.Common.{◌∙◌, [], None}
 use Rattle.std.proofs.lemmas.Result.{err_from_is_err_and}
 use Rattle.crush_text.proofs.States.{leads_any}
 use Rattle.crush_text.proofs.rule.choose_step.Goals as goal
