@@ -1,11 +1,11 @@
 -- What a text without a fault of form is, and what one with a fault is.
-use Rattle.std.proofs.Common.{◌≡◌, List, Option, Some, None, IfSome, refl, sym, ap, ◌∙◌}
+use Rattle.std.proofs.Common.{◌≡◌, List, Option, Some, None, IfSome, sym, ap, ◌∙◌}
 use Rattle.std.specs.Prelude.{◌↔◌}
 use Rattle.crush_words.specs.Words.{Word}
 use Rattle.crush_text.proofs.IsRead.{is_read}
 use Rattle.crush_text.proofs.Lines.{breaks}
 use Rattle.crush_text.proofs.Written.{is_written}
-use Rattle.crush_text.specs.Automaton.{Reading, text}
+use Rattle.crush_text.specs.Automaton.{text}
 use Rattle.crush_text.specs.Fronts.{IsWhole, Breaks}
 use Rattle.crush_text.specs.declared.code.TextFault.{TextFault}
 use Rattle.crush_text.specs.declared.declaration.Declaration.{Declaration}

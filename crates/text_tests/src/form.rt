@@ -160,7 +160,12 @@ fn a_text_that_ends_early_is_named_by_its_last_line(rt: HostRuntime) -> Result<(
     let alloc = rt.alloc();
     let text = with_line(alloc, 16, None)?;
     assert_eq!(rt; fault(alloc, text.as_str())?, Some((15, TextCode::X1)));
-    for text in ["device 0 osd.0 class", "@", "tunable", "root r { id -1 alg list item a weight"] {
+    for text in [
+        "device 0 osd.0 class",
+        "@",
+        "tunable",
+        "root r { id -1 alg list item a weight",
+    ] {
         assert_eq!(rt; fault(alloc, text)?, Some((1, TextCode::X1)), "{text}");
     }
     Ok(())

@@ -3,12 +3,9 @@
 
 #[cfg(test)]
 mod form;
-
 #[cfg(test)]
 mod maps;
-
 #[cfg(test)]
 mod words;
-
 #[cfg(test)]
 mod write;
