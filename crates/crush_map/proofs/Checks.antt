@@ -1,8 +1,10 @@
 -- The checks of elements, one step on.
-use Rattle.std.proofs.Common.{◌≡◌, ◌∙◌, ◌<◌, ◌+◌, true, false, Option, Some, None, List, ◌∷◌, ℕ, refl, ap, length, drop, get_or, drop-cons, add-one}
+use Rattle.std.proofs.Common.{◌≡◌, ◌∙◌, ◌<◌, ◌+◌, true, false, Option, Some, None, List, [], ◌∷◌, ◌++◌, ℕ, refl, ap, length, drop, get_or, drop-cons, add-one}
 use Rattle.crush_map.specs.declared.word.ItemId.{ItemId}
 use Rattle.crush_map.specs.declared.word.Weight.{Weight}
-use Rattle.crush_map.specs.Faults.{Known, Ids, items_fault, has_id, with_id, or_else}
+use Rattle.crush_map.specs.declared.draft.Rule.{Rule}
+use Rattle.crush_map.specs.declared.fault.FaultCode.{FaultCode}
+use Rattle.crush_map.specs.Faults.{Known, Ids, items_fault, has_id, with_id, or_else, first_of, rule_fault, rule_head_fault, rule_head_checks, steps_fault}
 
 pub or_else-none : {X : Type 0} (o : Option X) → or_else o None ≡ o
 or_else-none None = refl
@@ -19,3 +21,13 @@ pub items-more : (known : Known) (before : Ids) (items : List (ItemId × Weight)
     items_fault known before (drop i items) ≡ items_fault known (with_id before (get_or items i d).0.0) (drop (i + 1) items)
 items-more known before items i d short here new =
     ap (items_fault known before) (drop-cons items i d short) ∙ passed known before (get_or items i d) _ here new ∙ rw add-one refl
+
+last_of : (checks : List (Option FaultCode)) (check : Option FaultCode) → first_of (checks ++ check ∷ []) ≡ or_else (first_of checks) check
+last_of [] check = or_else-none check
+last_of (Some code ∷ checks) check = refl
+last_of (None ∷ checks) check = last_of checks check
+
+-- what stands before the steps of a rule, or else its steps
+pub rule_fault_by_parts : (known : Known) (r : Rule) → rule_fault known r ≡ or_else (rule_head_fault known r) (steps_fault known r.steps)
+unfolding rule_fault rule_head_fault
+rule_fault_by_parts known r = last_of (rule_head_checks known r) (steps_fault known r.steps)

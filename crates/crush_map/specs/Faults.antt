@@ -220,17 +220,24 @@ step_fault known Emit = None
 abbrev pub steps_fault : Known → List Step → Option FaultCode
 steps_fault known steps = first_of (map (step_fault known) steps)
 
--- of a rule: there are 64; its id is out of range, or known; its name is not of the form, or known; it has no step, or over 32; its steps
-abbrev pub rule_checks : Known → Rule → List (Option FaultCode)
-rule_checks known r =
+-- of a rule before its steps: there are 64; its id is out of range, or known; its name is not of the form, or known; it has no step, or over 32
+abbrev pub rule_head_checks : Known → Rule → List (Option FaultCode)
+rule_head_checks known r =
     (M1 when nat_le 64 (length known.rules))
     ∷ (M12 when nat_lt 255 r.id)
     ∷ (M2 when has_number known.rules r.id)
     ∷ (M15 when not (is_name r.name))
     ∷ (M3 when has_name known.rule_names r.name)
     ∷ (M1 when ((length r.steps == 0) || nat_lt 32 (length r.steps)))
-    ∷ steps_fault known r.steps
     ∷ []
+
+-- the fault of a rule before its steps are judged
+unfoldable pub rule_head_fault : Known → Rule → Option FaultCode
+rule_head_fault known r = first_of (rule_head_checks known r)
+
+-- of a rule: what stands before its steps, and then its steps
+abbrev pub rule_checks : Known → Rule → List (Option FaultCode)
+rule_checks known r = rule_head_checks known r ++ steps_fault known r.steps ∷ []
 
 -- the fault of a rule behind what is known
 unfoldable pub rule_fault : Known → Rule → Option FaultCode

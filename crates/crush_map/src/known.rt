@@ -215,7 +215,7 @@ impl Known {
 
     /// The fault of a step of a rule.
     #[tactic(auto, unfolding(crate::specs::Faults::step_fault))]
-    fn step_fault(&self, step: Step) -> Option<FaultCode>
+    pub fn step_fault(&self, step: Step) -> Option<FaultCode>
         ensures { result ≡ spec.step_fault self.now step }
     {
         match step {
@@ -246,10 +246,10 @@ impl Known {
         None
     }
 
-    /// The fault of a rule that is declared next.
-    #[tactic(auto, unfolding(crate::specs::Faults::rule_fault))]
-    pub fn rule_fault(&self, declared: &Rule) -> Option<FaultCode>
-        ensures { result ≡ spec.rule_fault self.now declared.now }
+    /// The fault of a rule that is declared next, before its steps are judged.
+    #[tactic(auto, unfolding(crate::specs::Faults::rule_head_fault))]
+    pub fn rule_head_fault(&self, declared: &Rule) -> Option<FaultCode>
+        ensures { result ≡ spec.rule_head_fault self.now declared.now }
     {
         let name = declared.name.as_str();
         let steps = declared.steps.as_slice();
@@ -266,7 +266,18 @@ impl Known {
         } else if steps.is_empty() || steps.len() > 32 {
             Some(FaultCode::M1)
         } else {
-            self.steps_fault(steps)
+            None
+        }
+    }
+
+    /// The fault of a rule that is declared next.
+    #[tactic(auto, using(crate::proofs::Checks::rule_fault_by_parts))]
+    pub fn rule_fault(&self, declared: &Rule) -> Option<FaultCode>
+        ensures { result ≡ spec.rule_fault self.now declared.now }
+    {
+        match self.rule_head_fault(declared) {
+            Some(fault) => Some(fault),
+            None => self.steps_fault(declared.steps.as_slice()),
         }
     }
 

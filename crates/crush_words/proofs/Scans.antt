@@ -1,0 +1,46 @@
+-- The word that comes first.
+use Rattle.std.proofs.Common.{◌≡◌, ℕ, ◌<◌, ◌==◌, List, [], ◌∷◌, take, drop, Bool, true, false, if◌then◌else◌, refl, ap, arith}
+use Rattle.std.proofs.lemmas.Bool.Decides.{nat_tests}
+use Rattle.crush_map.specs.Faults.{is_name_byte}
+use Rattle.crush_words.specs.Words.{words_from, is_blank, onto, alone}
+use Rattle.crush_words.specs.Scan.{run_len, starts_word}
+
+name_not_lf : (b : ℕ) → is_name_byte b ≡ true → (b == 10) ≡ false
+name_not_lf b e = grind (arith, nat_tests)
+
+other : {A : Type 0} (k : Bool) (x y : A) → k ≡ false → (if k then x else y) ≡ y
+other true x y e = cc
+other false x y e = refl
+
+-- the word of so many bytes comes first
+abbrev IsFirst : ℕ → ℕ → List ℕ → Type 0
+IsFirst line n bytes = words_from false line bytes ≡ record { line = line; text = take n bytes } ∷ words_from false line (drop n bytes)
+
+ahead : (line b : ℕ) (c : ℕ) (cs : List ℕ) (k : Bool) → is_name_byte c ≡ k → (0 < run_len (c ∷ cs) → IsFirst line (run_len (c ∷ cs)) (c ∷ cs)) →
+    (if is_name_byte c then onto b (words_from false line (c ∷ cs)) else alone line b (words_from false line (c ∷ cs))) ≡ record { line = line; text = b ∷ take (run_len (c ∷ cs)) (c ∷ cs) } ∷ words_from false line (drop (run_len (c ∷ cs)) (c ∷ cs))
+ahead line b c cs true e more =
+    let some : 0 < run_len (c ∷ cs) = rw e (omega arith) in
+    rw e (ap (onto b) (rw e at (more some)))
+ahead line b c cs false e more =
+    let none : run_len (c ∷ cs) ≡ 0 = rw e refl in
+    rw none (other (is_name_byte c) _ _ e)
+
+by_name : (line b : ℕ) (bs : List ℕ) (k : Bool) → is_name_byte b ≡ k → 0 < run_len (b ∷ bs) → (0 < run_len bs → IsFirst line (run_len bs) bs) → IsFirst line (run_len (b ∷ bs)) (b ∷ bs)
+by_name line b [] true e h more = rw (name_not_lf b e, e) refl
+by_name line b (c ∷ cs) true e h more = rw (name_not_lf b e, e) (ahead line b c cs (is_name_byte c) refl more)
+by_name line b bs false e h more = let bad = rw e at h in absurd (omega arith)
+
+pub run_word : (line : ℕ) (bs : List ℕ) → 0 < run_len bs → IsFirst line (run_len bs) bs
+run_word line [] h = absurd (omega arith)
+run_word line (b ∷ bs) h = by_name line b bs (is_name_byte b) refl h (run_word line bs)
+
+alone_by : (line b : ℕ) (bs : List ℕ) (k l m n : Bool) → is_name_byte b ≡ k → (b == 10) ≡ l → (b == 35) ≡ m → is_blank b ≡ n → run_len (b ∷ bs) ≡ 0 → starts_word (b ∷ bs) ≡ true → IsFirst line 1 (b ∷ bs)
+alone_by line b bs true l m n e f g h none word = let bad = rw e at none in absurd (omega arith)
+alone_by line b bs false false false false e f g h none word = rw (f, e, g, h) refl
+alone_by line b bs false true m n e f g h none word = let bad = rw f at word in cc
+alone_by line b bs false false true n e f g h none word = let bad = rw (f, g) at word in cc
+alone_by line b bs false false false true e f g h none word = let bad = rw (f, g, h) at word in cc
+
+pub alone_word : (line : ℕ) (bs : List ℕ) → run_len bs ≡ 0 → starts_word bs ≡ true → IsFirst line 1 bs
+alone_word line [] none word = cc
+alone_word line (b ∷ bs) none word = alone_by line b bs _ _ _ _ refl refl refl refl none word

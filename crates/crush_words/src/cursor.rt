@@ -1,0 +1,54 @@
+//! Where the reading of a text has come.
+
+ghost use Rattle.std.specs.Prelude.{◌≡◌, ◌<◌, ◌∷◌, [], length, MatchOption, IfSome};
+ghost use Rattle.crush_words.specs.Words as spec;
+
+use crate::lex::first_word;
+use crate::word::Word;
+use std::marker::Model;
+
+/// What is left of a text. A contract sees the words that are left, and the line of the word before them.
+#[derive(Drop)]
+pub struct Cursor<'a> {
+    line: usize,
+    rest: &'a [u8],
+}
+
+impl<'a> Model for Cursor<'a> {
+    ghost use Rattle.std.specs.Prelude.{◌+◌, ◌<◌, ◌^◌, length, false};
+    ghost use Rattle.crush_words.specs.Words as spec;
+
+    ghost Value = { spec.Rest };
+
+    ghost view = { λ c. record { line = c.line; words = spec.words_from false c.line c.rest.now } };
+
+    ghost invariant = { λ c. c.line + length c.rest.now < 2 ^ 64 };
+}
+
+impl<'a> Cursor<'a> {
+    /// Before a text.
+    pub fn new(text: &'a [u8]) -> Self
+        ensures { result ≡ record { line = 1; words = spec.words text.now } }
+    {
+        Cursor {
+            line: 1,
+            rest: text,
+        }
+    }
+
+    /// The line of the word before, or 1.
+    pub fn line(&self) -> usize
+        ensures { result ≡ self.now.line }
+    {
+        self.line
+    }
+
+    /// The next word, and what is left behind it.
+    pub fn next(&self) -> Option<(Word<'a>, Cursor<'a>)>
+        ensures { MatchOption result (self.now.words ≡ []) (λ r. (self.now.words ≡ r.0 ∷ r.1.words) × (r.1.line ≡ r.0.line)) }
+    {
+        let (word, rest) = first_word(self.line, self.rest)?;
+        let line = word.line();
+        Some((word, Cursor { line, rest }))
+    }
+}

@@ -1,0 +1,68 @@
+//! Numbers as words say them.
+
+ghost use Rattle.std.specs.Prelude.{◌≡◌, ◌<◌, ◌≤◌, ◌^◌, ◌-◌, length, true, IfSome};
+ghost use Rattle.std.specs.List.{list_all};
+ghost use Rattle.crush_words.specs.Numbers as spec;
+
+fn all_digits(text: &[u8]) -> bool
+    ensures { result ≡ list_all spec.is_digit text.now }
+{
+    text.iter().all(|byte| byte.is_ascii_digit())
+}
+
+fn are_digits(text: &[u8]) -> bool
+    ensures { result ≡ spec.are_digits text.now }
+{
+    1 <= text.len() && text.len() <= 10 && all_digits(text)
+}
+
+fn digit(byte: u8) -> u64
+    requires { spec.is_digit byte ≡ true }
+    ensures value { result ≡ byte - 48 }
+    ensures bound { result ≤ 9 }
+{
+    u64::from(byte - b'0')
+}
+
+/// The number that digits say.
+#[tactic(auto, using(crate::proofs::Digits::more_below, crate::proofs::Digits::first_is, crate::proofs::Digits::others_are))]
+fn number(text: &[u8]) -> u64
+    requires digits { list_all spec.is_digit text.now ≡ true }
+    requires few { length text.now ≤ 10 }
+    ensures value { result ≡ spec.number_from 0 text.now }
+    ensures bound { result < 10 ^ length text.now }
+{
+    let mut number = 0;
+    for byte in text {
+        number = number * 10 + digit(*byte);
+    }
+    number
+}
+
+/// The number that 1 to 10 digits say.
+#[tactic(auto, using(crate::proofs::Digits::below_ten), unfolding(crate::specs::Numbers::number_of))]
+pub fn number_from_text(text: &[u8]) -> Option<u64>
+    ensures value { result ≡ spec.number_of text.now }
+    ensures bound { IfSome result (λ n. n < 10 ^ 10) }
+{
+    if are_digits(text) {
+        Some(number(text))
+    } else {
+        None
+    }
+}
+
+/// The integer that 1 to 10 digits say, with or without a minus before them.
+#[tactic(auto, unfolding(crate::specs::Numbers::integer_of))]
+pub fn integer_from_text(text: &[u8]) -> Option<i64>
+    ensures { result ≡ spec.integer_of text.now }
+{
+    let [first, digits @ ..] = text else {
+        return None;
+    };
+    if *first == b'-' {
+        number_from_text(digits).map(|n| -(n as i64))
+    } else {
+        number_from_text(text).map(|n| n as i64)
+    }
+}

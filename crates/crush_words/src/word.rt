@@ -1,0 +1,42 @@
+//! Words.
+
+ghost use Rattle.std.specs.Prelude.{◌≡◌};
+
+use std::marker::Model;
+
+/// A run of bytes that names may have, or one other byte, as a brace. A contract sees its bytes and its line.
+#[derive(Drop)]
+pub struct Word<'a> {
+    line: usize,
+    text: &'a [u8],
+}
+
+impl<'a> Model for Word<'a> {
+    ghost use Rattle.crush_words.specs.Words as spec;
+
+    ghost Value = { spec.Word };
+
+    ghost view = { λ w. record { line = w.line; text = w.text.now } };
+}
+
+impl<'a> Word<'a> {
+    pub(crate) fn new(line: usize, text: &'a [u8]) -> Self
+        ensures { result ≡ record { line = line; text = text.now } }
+    {
+        Word { line, text }
+    }
+
+    /// The line on which it stands; the first one is 1.
+    pub fn line(&self) -> usize
+        ensures { result ≡ self.now.line }
+    {
+        self.line
+    }
+
+    /// Its bytes.
+    pub fn text(&self) -> &'a [u8]
+        ensures { result.now ≡ self.now.text }
+    {
+        self.text
+    }
+}

@@ -1,0 +1,172 @@
+//! Texts and their first faults of form, with their lines.
+
+use crush_text::{TextCode, form_fault};
+use std::alloc::Global;
+use std::test::Fail;
+
+/// A small map with one device, of 23 lines.
+const TINY: &str = "tunable choose_local_tries 0
+tunable choose_local_fallback_tries 0
+tunable choose_total_tries 50
+tunable chooseleaf_descend_once 1
+tunable chooseleaf_vary_r 1
+tunable chooseleaf_stable 1
+device 0 osd.0
+type 0 osd
+type 1 host
+type 10 root
+root default {
+ id -1
+ alg uniform
+ hash 0
+ item osd.0 weight 1.0
+}
+rule all {
+ id 0
+ type replicated
+ step take default
+ step choose firstn 0 type osd
+ step emit
+}
+";
+
+/// The small map with another text on one of its lines, or the lines before it alone.
+fn with_line(alloc: Global, number: usize, line: Option<&str>) -> Result<String, Fail> {
+    let mut text = String::new(alloc);
+    for (index, old) in TINY.lines().enumerate() {
+        if index + 1 == number {
+            match line {
+                Some(line) => text.push_str(line)?,
+                None => return Ok(text),
+            }
+        } else {
+            text.push_str(old)?;
+        }
+        text.push_str("\n")?;
+    }
+    if number == 24 {
+        if let Some(line) = line {
+            text.push_str(line)?;
+            text.push_str("\n")?;
+        }
+    }
+    Ok(text)
+}
+
+/// The first fault of form, by line and code.
+fn fault(alloc: Global, text: &str) -> Result<Option<(usize, TextCode)>, Fail> {
+    match form_fault(alloc, text.as_bytes())? {
+        Some(fault) => Ok(Some((fault.line, fault.code))),
+        None => Ok(None),
+    }
+}
+
+#[test]
+fn texts_of_the_form_have_no_fault(rt: HostRuntime) -> Result<(), Fail> {
+    let alloc = rt.alloc();
+    for text in [
+        "",
+        TINY,
+        "# nothing\n",
+        "device 0 osd.0",
+        "device 65536 a",
+        "type 0 osd\ntype 1 rule",
+        "device 0 class class ssd device 1 b",
+        "root r { id -3 class ssd id -1 id -2 class hdd alg list hash 0 hash rjenkins1 item weight weight 1.5 pos 0 }",
+        "rule q { ruleset 0 type erasure min_size 1 max_size 3 step take r step set_choose_tries 9 step chooseleaf indep -1 type 00 step emit }",
+    ] {
+        assert_eq!(rt; fault(alloc, text)?, None, "{text}");
+    }
+    Ok(())
+}
+
+#[test]
+fn a_text_of_crushtool_has_no_fault(rt: HostRuntime) -> Result<(), Fail> {
+    let text = "# begin crush map
+tunable choose_local_tries 0
+tunable choose_local_fallback_tries 0
+tunable choose_total_tries 50
+tunable chooseleaf_descend_once 1
+tunable chooseleaf_vary_r 1
+tunable chooseleaf_stable 1
+tunable straw_calc_version 1
+tunable allowed_bucket_algs 54
+
+# devices
+device 0 osd.0 class ssd
+
+# types
+type 0 osd
+type 1 host
+
+# buckets
+host a {
+\tid -2\t\t# do not change unnecessarily
+\tid -4 class ssd\t\t# do not change unnecessarily
+\t# weight 1.000
+\talg list\t# add new items at the end; do not change order unnecessarily
+\thash 0\t# rjenkins1
+\titem osd.0 weight 1.000
+}
+
+# rules
+rule data {
+\tid 0
+\ttype replicated
+\tmin_size 1
+\tmax_size 10
+\tstep take a
+\tstep choose firstn 0 type osd
+\tstep emit
+}
+
+# end crush map
+";
+    assert_eq!(rt; fault(rt.alloc(), text)?, None);
+    Ok(())
+}
+
+#[test]
+fn one_wrong_line_is_named(rt: HostRuntime) -> Result<(), Fail> {
+    let alloc = rt.alloc();
+    for (number, line, want) in [
+        (13, " alg straw2", (13, TextCode::X2)),
+        (13, " alg straw", (13, TextCode::X2)),
+        (13, " alg straw3", (13, TextCode::X1)),
+        (14, " hash 1", (14, TextCode::X1)),
+        (14, " hash 00", (14, TextCode::X1)),
+        (15, " item osd.0 weight 65536", (15, TextCode::X6)),
+        (15, " item osd.0 weight 1.", (15, TextCode::X6)),
+        (15, " item osd.0 weight", (16, TextCode::X6)),
+        (15, " item osd.0 weight @", (15, TextCode::X1)),
+        (15, " item osd.0 pos 0 weight 1.0", (15, TextCode::X1)),
+        (12, " id -1 id -2", (13, TextCode::X1)),
+        (12, " id -1 class ssd", (13, TextCode::X1)),
+        (20, " step take default class ssd", (20, TextCode::X3)),
+        (21, " step choose firstn 0 kind osd", (21, TextCode::X1)),
+        (24, "choose_args 0 {", (24, TextCode::X4)),
+        (24, "device 1 osd.1", (24, TextCode::X1)),
+        (24, "class", (24, TextCode::X1)),
+        (8, "type 0 osd class", (8, TextCode::X1)),
+    ] {
+        let text = with_line(alloc, number, Some(line))?;
+        assert_eq!(rt; fault(alloc, text.as_str())?, Some(want), "{line}");
+    }
+    Ok(())
+}
+
+#[test]
+fn a_text_that_ends_early_is_named_by_its_last_line(rt: HostRuntime) -> Result<(), Fail> {
+    let alloc = rt.alloc();
+    let text = with_line(alloc, 16, None)?;
+    assert_eq!(rt; fault(alloc, text.as_str())?, Some((15, TextCode::X1)));
+    for text in [
+        "device 0 osd.0 class",
+        "@",
+        "tunable",
+        "root r { id -1 alg list item a weight",
+    ] {
+        assert_eq!(rt; fault(alloc, text)?, Some((1, TextCode::X1)), "{text}");
+    }
+    Ok(())
+}

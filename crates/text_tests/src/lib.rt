@@ -1,0 +1,11 @@
+//! Tests of `crush_words` and `crush_text`. They stand apart, so that the crates themselves are proved once.
+#![tactic(auto)]
+
+#[cfg(test)]
+mod form;
+#[cfg(test)]
+mod maps;
+#[cfg(test)]
+mod words;
+#[cfg(test)]
+mod write;
