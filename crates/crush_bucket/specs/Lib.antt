@@ -5,6 +5,6 @@ pub mod Laid
 pub mod Laws
 pub mod Permutation
 pub mod Pick
-pub mod Reached
+pub mod Pairs
 pub mod Rows
 pub mod Tables

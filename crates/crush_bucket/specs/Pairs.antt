@@ -1,0 +1,33 @@
+-- Pairs of a place and the number at it, in order of place: at each other place stands the place's own number.
+use Rattle.std.specs.Prelude.{ℕ, ◌==◌, nat_lt, if◌then◌else◌, List, [], ◌∷◌, ◌++◌, take, drop}
+use Rattle.std.specs.List.{prefix_len}
+
+abbrev pub Pair : Type 0
+Pair = ℕ × ℕ
+
+-- how many pairs are of lower places
+abbrev pub index : List Pair → ℕ → ℕ
+index pairs place = prefix_len (λ pair. nat_lt pair.0 place) pairs
+
+-- the number at a place, by the pairs from it on
+abbrev pub first_at : List Pair → ℕ → ℕ
+first_at [] place = place
+first_at (pair ∷ rest) place = if pair.0 == place then pair.1 else place
+
+-- the number at a place
+abbrev pub member_at : List Pair → ℕ → ℕ
+member_at pairs place = first_at (drop (index pairs place) pairs) place
+
+-- the pairs but for that of a place, of those from it on
+abbrev pub others : List Pair → ℕ → List Pair
+others [] place = []
+others (pair ∷ rest) place = if pair.0 == place then rest else pair ∷ rest
+
+-- the pair of a place, none where its own number stands there
+abbrev pub pair_of : ℕ → ℕ → List Pair
+pair_of place member = if member == place then [] else (place, member) ∷ []
+
+-- the pairs after a number was put at a place
+abbrev pub put : List Pair → ℕ → ℕ → List Pair
+put pairs place member =
+    take (index pairs place) pairs ++ (pair_of place member ++ others (drop (index pairs place) pairs) place)

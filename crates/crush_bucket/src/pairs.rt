@@ -1,0 +1,46 @@
+//! A list of numbers, kept as the places at which a number stands that isn't the place's own.
+
+ghost use Rattle.std.specs.Prelude.{◌≡◌, ◌≤◌, ◌<◌, vec_capacity, length, slice_index_or, drop, IsTrue};
+ghost use Rattle.crush_bucket.specs.Pairs.{index, member_at, put};
+
+/// A place, and the number at it.
+pub(crate) type Pair = (u32, u32);
+
+/// How many pairs are of lower places.
+fn index_of(pairs: &[Pair], place: u32) -> usize
+    ensures value { result ≡ index pairs.now place }
+    ensures within { result ≤ length pairs.now }
+{
+    pairs.iter().take_while(|pair| pair.0 < place).count()
+}
+
+/// The number at a place.
+pub(crate) fn member_at(pairs: &[Pair], place: u32) -> u32
+    ensures { result ≡ member_at pairs.now place }
+{
+    let at = index_of(pairs, place);
+    if at < pairs.len() && pairs[at].0 == place {
+        pairs[at].1
+    } else {
+        place
+    }
+}
+
+/// Puts a number at a place.
+pub(crate) fn put(pairs: &mut Vec<Pair>, place: u32, member: u32)
+    requires room { member_at pairs.old.items place ≡ place → length pairs.old.items < vec_capacity pairs.old }
+    ensures items { pairs.new.items ≡ put pairs.old.items place member }
+    ensures capacity { vec_capacity pairs.new ≡ vec_capacity pairs.old }
+{
+    let at = index_of(pairs, place);
+    let there = at < pairs.len() && pairs[at].0 == place;
+    if member == place {
+        if there {
+            pairs.remove(at);
+        }
+    } else if there {
+        pairs[at].1 = member;
+    } else if pairs.insert(at, (place, member)).is_err() {
+        unreachable!()
+    }
+}
