@@ -16,7 +16,7 @@ fn even_entries(
     weight: u32,
 ) -> Result<Vec<(ItemId, Weight)>, AllocError> {
     let mut entries = Vec::new(alloc);
-    for n in 0..size {
+    for n in 0..size.min(65_535) {
         entries.push((ItemId(first.wrapping_add(n as i32)), Weight(weight)))?;
     }
     Ok(entries)

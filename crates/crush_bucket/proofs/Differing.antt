@@ -1,8 +1,8 @@
 -- Pairs of the places of a list at which another number stands.
-use Rattle.std.proofs.Common.{◌≡◌, ◌≢◌, ℕ, zero, suc, ◌+◌, ◌<◌, ◌≤◌, ◌==◌, Bool, true, false, List, [], ◌∷◌, ◌++◌, length, take, drop, nat_lt, slice_index, slice_set, slice_index_or, if◌then◌else◌, refl, ap, sym, ◌∙◌, arith, ◌⊎◌, inl, inr}
+use Rattle.std.proofs.Common.{◌≡◌, ◌≢◌, ℕ, zero, suc, ◌+◌, ◌<◌, ◌≤◌, ◌==◌, true, false, List, [], ◌∷◌, ◌++◌, length, take, drop, nat_lt, slice_index, slice_set, slice_index_or, if◌then◌else◌, refl, ap, sym, ◌∙◌, arith, ◌⊎◌, inl, inr}
 use Rattle.std.specs.List.{range_with_len, swap}
-use Rattle.std.proofs.Math.Seq.{drop-cons}
-use Rattle.std.proofs.lemmas.List.{append_assoc, take-append-drop, take-set, drop-set, length-take-le, get_or_default, length-set}
+use Rattle.std.proofs.Math.Seq.{drop-cons, take-length}
+use Rattle.std.proofs.lemmas.List.{take-append-drop, take-set, drop-set, length-take-le, get_or_default, length-set, drop_all}
 use Rattle.std.proofs.lemmas.Bool.Decides.{nat_tests}
 use Rattle.crush_map.specs.declared.ItemId.{ItemId}
 use Rattle.crush_bucket.specs.Permutation.{differing, after_swaps}
@@ -158,6 +158,11 @@ put_there pairs at place member q w is low there too own other =
     let mine : q.0 ≡ place = first ∙ named in
     let front : drop at pairs ≡ q ∷ drop (suc at) pairs = drop-cons pairs at q low ∙ ap (λ (p : Pair). p ∷ drop (suc at) pairs) (sym there) in
     set_splits pairs at (q.0, member) low ∙ rw (← is, front, is_same q.0 place mine, is_other member place other, mine) refl
+
+-- the same, where no pair is of the place or a higher one
+pub put_end : (pairs : List Pair) (place member : ℕ) → index pairs place ≡ length pairs → member ≢ place → pairs ++ (place, member) ∷ [] ≡ put pairs place member
+put_end pairs place member is other =
+    rw (is, take-length pairs, drop_all (length pairs) pairs (omega arith), is_other member place other) refl
 
 -- ---- exchanges
 

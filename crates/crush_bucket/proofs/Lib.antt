@@ -2,6 +2,7 @@ pub mod Differing
 pub mod Eight
 pub mod Greatest
 pub mod Heights
+pub mod Lanes
 pub mod Members
 pub mod Nodes
 pub mod Numbered

@@ -1,6 +1,7 @@
 -- The nodes of a tree, and a walk over them.
-use Rattle.std.proofs.Common.{◌≡◌, ℕ, zero, suc, ◌+◌, ◌-◌, ◌*◌, ◌/◌, ◌<◌, ◌≤◌, ◌^◌, List, [], ◌∷◌, ◌++◌, length, slice_index, slice_index_or, false, nat_lt, refl, ap, sym, ◌∙◌, arith}
-use Rattle.std.proofs.Math.Nat.{pow-succ'}
+use Rattle.std.proofs.Common.{◌≡◌, ℕ, zero, suc, ◌+◌, ◌-◌, ◌*◌, ◌/◌, ◌<◌, ◌≤◌, ◌^◌, List, [], ◌∷◌, ◌++◌, length, slice_index, slice_index_or, Bool, true, false, nat_lt, refl, ap, sym, ◌∙◌, arith, subst}
+use Rattle.std.proofs.Math.Nat.{pow-succ', pow-le-pow_right}
+use Rattle.std.proofs.lemmas.Nat.{pow_pos}
 use Rattle.std.proofs.lemmas.List.{get_or_at, length-append, append_assoc}
 use Rattle.std.proofs.lemmas.Bool.{lt-ltb}
 use Rattle.std.proofs.lemmas.Bool.Decides.{nat_tests}
@@ -9,6 +10,7 @@ use Rattle.crush_map.specs.declared.ItemId.{ItemId}
 use Rattle.crush_bucket.specs.Bucket.{Entry, word, weight_within}
 use Rattle.crush_bucket.specs.Kinds.{label, tree_draw, place_within}
 use Rattle.crush_bucket.specs.Kept.{HasNodes, node_weights}
+use Rattle.crush_bucket.specs.Descent.{is_left, child, down_by}
 
 pub length-node_weights : (entries : List Entry) (from h : ℕ) → length (node_weights entries from h) + 1 ≡ 2 ^ suc h
 length-node_weights entries from zero = refl
@@ -107,3 +109,43 @@ nodes_split entries from h some =
 pub joined : (old low high a b d : List ℕ) (w : ℕ) → a ≡ old ++ low → b ≡ a ++ w ∷ [] → d ≡ b ++ high → d ≡ old ++ (low ++ w ∷ high)
 joined old low high a b d w p q r =
     r ∙ (ap (λ (xs : List ℕ). xs ++ high) (q ∙ ap (λ (xs : List ℕ). xs ++ w ∷ []) p) ∙ (append_assoc (old ++ low) (w ∷ []) high ∙ append_assoc old low (w ∷ high)))
+
+-- ---- levels at a time
+
+-- the child to which a node's hash leads
+pub step_down : (id : ItemId) (entries : List Entry) (nodes : List ℕ) (x r height h node : ℕ) → AtNode id entries nodes x r height (suc h) node → AtNode id entries nodes x r height h (child nodes (hash4 x node r (word id)) node (2 ^ h))
+step_down id entries nodes x r height h node at =
+    let go : (b : Bool) → is_left nodes (hash4 x node r (word id)) node (2 ^ h) ≡ b → AtNode id entries nodes x r height h (child nodes (hash4 x node r (word id)) node (2 ^ h)) = λ b. elim b as (λ b. is_left nodes (hash4 x node r (word id)) node (2 ^ h) ≡ b → AtNode id entries nodes x r height h (child nodes (hash4 x node r (word id)) node (2 ^ h))) [
+      | true ↦ λ e. (let less : drawn id nodes x r node < slice_index nodes (node - 2 ^ h) = grind (arith, nat_tests, e) in rw e (at_left id entries nodes x r height h node at less))
+      | false ↦ λ e. (let more : slice_index nodes (node - 2 ^ h) ≤ drawn id nodes x r node = grind (arith, nat_tests, e) in rw e (at_right id entries nodes x r height h node at more))
+    ] in go (is_left nodes (hash4 x node r (word id)) node (2 ^ h)) refl
+
+-- the node so many levels below
+pub down_is : (id : ItemId) (entries : List Entry) (nodes : List ℕ) (x r height k level node : ℕ) → k ≤ level → AtNode id entries nodes x r height level node → AtNode id entries nodes x r height (level - k) (down_by id nodes x r k level node)
+down_is id entries nodes x r height zero level node few at = let e : level - 0 ≡ level = omega arith in rw e at
+down_is id entries nodes x r height (suc k) level node few at =
+    let e : level ≡ suc (level - 1) = omega arith in
+    let above : AtNode id entries nodes x r height (suc (level - 1)) node = subst (λ (l : ℕ). AtNode id entries nodes x r height l node) e at in
+    let left : level - suc k ≡ level - 1 - k = omega arith in
+    rw left (down_is id entries nodes x r height k (level - 1) (child nodes (hash4 x node r (word id)) node (2 ^ (level - 1))) (omega arith) (step_down id entries nodes x r height (level - 1) node above))
+
+-- the walk's end
+pub at_leaf : (id : ItemId) (entries : List Entry) (nodes : List ℕ) (x r height node : ℕ) → AtNode id entries nodes x r height 0 node → node / 2 ≡ place_within id entries x r 0 height
+at_leaf id entries nodes x r height node at =
+    let l = at.labelled in let here : node / 2 ≡ at.from = omega arith in here ∙ sym at.rest
+
+-- a range of 2^level places is four of two levels below, and a range of those two of three below
+pub quarters : (level : ℕ) → 1 < level → (2 ^ level ≡ 4 * 2 ^ (level - 2)) × (0 < 2 ^ (level - 2))
+quarters level some =
+    let e : level ≡ suc (suc (level - 2)) = omega arith in
+    let double = pow-succ' 2 (level - 2) in
+    let four : 2 ^ level ≡ 2 ^ suc (suc (level - 2)) = ap (λ (k : ℕ). 2 ^ k) e in
+    (omega (arith, four, double, pow-succ' 2 (suc (level - 2))), pow_pos (level - 2))
+
+pub eighths : (level : ℕ) → 2 < level → 2 ^ (level - 2) ≡ 2 * 2 ^ (level - 3)
+eighths level some =
+    let e : level - 2 ≡ suc (level - 3) = omega arith in ap (λ (k : ℕ). 2 ^ k) e ∙ pow-succ' 2 (level - 3)
+
+-- a tree has few nodes
+pub few_nodes : (height : ℕ) → height < 17 → 2 ^ suc height ≤ 2 ^ 17
+few_nodes height low = pow-le-pow_right {n = 2} (omega arith) {i = suc height} {j = 17} (omega arith)

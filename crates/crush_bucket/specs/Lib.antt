@@ -1,4 +1,5 @@
 pub mod Bucket
+pub mod Descent
 pub mod Kept
 pub mod Kinds
 pub mod Laid

@@ -3,6 +3,7 @@
 //! Sources: Weil et al., 'CRUSH: Controlled, Scalable, Decentralized Placement of Replicated Data' (SC 2006), and Ceph's `src/crush/mapper.c` and `src/crush/builder.c`. Its tests are the crate `bucket_tests`.
 #![tactic(auto)]
 
+mod descent;
 mod index;
 pub mod laws;
 mod list;

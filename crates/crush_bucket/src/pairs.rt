@@ -7,6 +7,7 @@ ghost use Rattle.crush_bucket.specs.Pairs.{index, member_at, put};
 pub(crate) type Pair = (u32, u32);
 
 /// How many pairs are of lower places.
+#[inline]
 fn index_of(pairs: &[Pair], place: u32) -> usize
     ensures value { result ≡ index pairs.now place }
     ensures within { result ≤ length pairs.now }
@@ -15,6 +16,7 @@ fn index_of(pairs: &[Pair], place: u32) -> usize
 }
 
 /// The number at a place.
+#[inline]
 pub(crate) fn member_at(pairs: &[Pair], place: u32) -> u32
     ensures { result ≡ member_at pairs.now place }
 {
@@ -27,6 +29,7 @@ pub(crate) fn member_at(pairs: &[Pair], place: u32) -> u32
 }
 
 /// Puts a number at a place.
+#[inline]
 pub(crate) fn put(pairs: &mut Vec<Pair>, place: u32, member: u32)
     requires room { member_at pairs.old.items place ≡ place → length pairs.old.items < vec_capacity pairs.old }
     ensures items { pairs.new.items ≡ put pairs.old.items place member }
@@ -40,6 +43,8 @@ pub(crate) fn put(pairs: &mut Vec<Pair>, place: u32, member: u32)
         }
     } else if there {
         pairs[at].1 = member;
+    } else if at == pairs.len() {
+        pairs.push_reserved((place, member));
     } else if pairs.insert(at, (place, member)).is_err() {
         unreachable!()
     }

@@ -6,10 +6,10 @@ ghost use Rattle.crush_bucket.specs.Pick.{pick};
 ghost use Rattle.crush_bucket.specs.Kinds.{height_of, place_within};
 ghost use Rattle.crush_bucket.specs.Kept.{AreNodes, HasNodes, node_weights};
 
+use crate::descent::{down, last_down, places};
 use crate::perm::Perm;
 use crate::picker::Picker;
 use crate::sums::weight_within;
-use crush_hash::hash4;
 use crush_map::{ItemId, Kind, Weight};
 use std::alloc::{AllocError, Global};
 use std::marker::Model;
@@ -123,14 +123,6 @@ fn height_for(size: usize) -> u32
     height
 }
 
-/// How many places a range of this height has.
-fn places(height: u32) -> usize
-    requires { height < 32 }
-    ensures { result ≡ 2 ^ height }
-{
-    1 << height
-}
-
 /// The weights of all nodes, at their labels; no node has the label 0.
 fn nodes_of(
     alloc: Global,
@@ -186,15 +178,13 @@ fn walk(
     ensures { result ≡ place_within id entries.now x r 0 height }
 {
     let mut node = places(height);
-    for level in (0..height).rev() {
-        let half = places(level);
-        let draw = u64::from(hash4(x, node as u32, r, id.word()));
-        let left = node - half;
-        node = if (draw * u64::from(nodes[node])) >> 32 < u64::from(nodes[left]) {
-            left
-        } else {
-            node + half
-        };
+    let mut level = height;
+    while level > 1 {
+        node = down(id, nodes, x, r, node, level);
+        level = level.saturating_sub(3);
+    }
+    if level == 1 {
+        node = last_down(id, nodes, x, r, node);
     }
     node / 2
 }

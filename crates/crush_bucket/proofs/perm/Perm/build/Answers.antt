@@ -1,4 +1,4 @@
-use Rattle.std.proofs.Common.{◌≡◌, ◌≤◌, length, vec_capacity, sym, arith, ◌∙◌}
+use Rattle.std.proofs.Common.{sym, arith, ◌∙◌}
 use Rattle.crush_bucket.proofs.Differing.{differing_range}
 use Rattle.crush_bucket.proofs.perm.Perm.build.Goals as goal
 
