@@ -1,5 +1,5 @@
 -- Eight places.
-use Rattle.std.proofs.Common.{ℕ, zero, suc, ◌<◌, arith}
+use Rattle.std.proofs.Common.{◌≡◌, ℕ, zero, suc, ◌<◌, [], ◌∷◌, slice_index, refl, arith}
 
 -- what holds of each number below eight
 pub below_eight : (P : ℕ → Type 0) → P 0 → P 1 → P 2 → P 3 → P 4 → P 5 → P 6 → P 7 → (n : ℕ) → n < 8 → P n
@@ -12,3 +12,11 @@ below_eight P p0 p1 p2 p3 p4 p5 p6 p7 (suc (suc (suc (suc (suc zero))))) h = p5
 below_eight P p0 p1 p2 p3 p4 p5 p6 p7 (suc (suc (suc (suc (suc (suc zero)))))) h = p6
 below_eight P p0 p1 p2 p3 p4 p5 p6 p7 (suc (suc (suc (suc (suc (suc (suc zero))))))) h = p7
 below_eight P p0 p1 p2 p3 p4 p5 p6 p7 (suc (suc (suc (suc (suc (suc (suc (suc n)))))))) h = absurd (omega arith)
+
+-- the numbers below four, in order
+pub first_four : (n : ℕ) → n < 4 → slice_index (0 ∷ 1 ∷ 2 ∷ 3 ∷ []) n ≡ n
+first_four zero h = refl
+first_four (suc zero) h = refl
+first_four (suc (suc zero)) h = refl
+first_four (suc (suc (suc zero))) h = refl
+first_four (suc (suc (suc (suc n)))) h = absurd (omega arith)

@@ -1,6 +1,9 @@
 -- Pairs of a place and the number at it, in order of place: at each other place stands the place's own number.
-use Rattle.std.specs.Prelude.{ℕ, ◌==◌, nat_lt, if◌then◌else◌, List, [], ◌∷◌, ◌++◌, take, drop}
+use Rattle.std.specs.Prelude.{◌≡◌, ℕ, ◌<◌, slice_index, ◌==◌, nat_lt, if◌then◌else◌, List, [], ◌∷◌, ◌++◌, take, drop}
 use Rattle.std.specs.List.{prefix_len}
+use Rattle.crush_hash.specs.Hash.{hash3}
+use Rattle.crush_map.specs.declared.ItemId.{ItemId}
+use Rattle.crush_bucket.specs.Bucket.{word}
 
 abbrev pub Pair : Type 0
 Pair = ℕ × ℕ
@@ -31,3 +34,7 @@ pair_of place member = if member == place then [] else (place, member) ∷ []
 abbrev pub put : List Pair → ℕ → ℕ → List Pair
 put pairs place member =
     take (index pairs place) pairs ++ (pair_of place member ++ others (drop (index pairs place) pairs) place)
+
+-- the hashes by which the first four places find their partners
+abbrev pub AreFirstHashes : ItemId → ℕ → List ℕ → Type 0
+AreFirstHashes id x hashes = (place : ℕ) → place < 4 → slice_index hashes place ≡ hash3 x (word id) place
