@@ -1,12 +1,13 @@
 -- Pairs of the places of a list at which another number stands.
-use Rattle.std.proofs.Common.{◌≡◌, ◌≢◌, ℕ, zero, suc, ◌+◌, ◌<◌, ◌≤◌, ◌==◌, true, false, List, [], ◌∷◌, ◌++◌, length, take, drop, nat_lt, slice_index, slice_set, slice_index_or, if◌then◌else◌, refl, ap, sym, ◌∙◌, arith, ◌⊎◌, inl, inr}
+use Rattle.std.proofs.Common.{◌≡◌, ◌≢◌, ℕ, zero, suc, ◌+◌, ◌-◌, ◌<◌, ◌≤◌, ◌==◌, true, false, List, [], ◌∷◌, ◌++◌, length, take, drop, nat_lt, slice_index, slice_set, slice_index_or, if◌then◌else◌, refl, ap, sym, subst, ◌∙◌, arith, ◌⊎◌, inl, inr}
 use Rattle.std.specs.List.{range_with_len, swap}
 use Rattle.std.proofs.Math.Seq.{drop-cons, take-length}
 use Rattle.std.proofs.lemmas.List.{take-append-drop, take-set, drop-set, length-take-le, get_or_default, length-set, drop_all}
 use Rattle.std.proofs.lemmas.Bool.Decides.{nat_tests}
+use Rattle.std.proofs.lemmas.List.Sums.{prefix_len_is}
 use Rattle.crush_map.specs.declared.ItemId.{ItemId}
 use Rattle.crush_bucket.specs.Permutation.{differing, after_swaps}
-use Rattle.crush_bucket.specs.Pairs.{Pair, index, first_at, member_at, others, pair_of, put}
+use Rattle.crush_bucket.specs.Pairs.{Pair, no_pair, IsRising, index, first_at, member_at, others, pair_of, put}
 
 is_same : (m k : ℕ) → m ≡ k → (m == k) ≡ true
 is_same m k e = grind (arith, nat_tests)
@@ -197,3 +198,57 @@ begun id size last x swaps made before after is count left = elim (either_way la
   | inl same ↦ rw (count, left, is_same last x same) (rw same at is)
   | inr other ↦ rw (count, left, is_other last x other) (sym (differing_range 0 size))
 ]
+
+-- ---- the order of the pairs
+
+at_head : (k m i : ℕ) (rest : List Pair) → ((j : ℕ) → j < length rest → k ≤ (slice_index_or rest j no_pair).0) → i < suc (length rest) → k ≤ (slice_index_or ((k, m) ∷ rest) i no_pair).0
+at_head k m zero rest above low = omega arith
+at_head k m (suc i) rest above low = above i (omega arith)
+
+place_above : (xs : List ℕ) (k i : ℕ) → i < length (differing k xs) → k ≤ (slice_index_or (differing k xs) i no_pair).0
+place_above [] k i low = absurd (omega arith)
+place_above (m ∷ ms) k i low =
+    let rest : (j : ℕ) → j < length (differing (k + 1) ms) → k ≤ (slice_index_or (differing (k + 1) ms) j no_pair).0 = λ j h. (let r = place_above ms (k + 1) j h in omega arith) in
+    elim (either_way m k) [
+      | inl same ↦
+          let e = begins_same k m ms same in
+          let under : i < length (differing (k + 1) ms) = subst (λ (ps : List Pair). i < length ps) e low in
+          rw e (rest i under)
+      | inr other ↦
+          let e = begins_other k m ms other in
+          let under : i < suc (length (differing (k + 1) ms)) = subst (λ (ps : List Pair). i < length ps) e low in
+          rw e (at_head k m i (differing (k + 1) ms) rest under)
+    ]
+
+rising_head : (k m : ℕ) (rest : List Pair) → ((j : ℕ) → j < length rest → k + 1 ≤ (slice_index_or rest j no_pair).0) → IsRising rest → IsRising ((k, m) ∷ rest)
+rising_head k m rest above rising zero zero lt low = absurd (omega arith)
+rising_head k m rest above rising zero (suc j) lt low = let r = above j (omega arith) in omega arith
+rising_head k m rest above rising (suc i) zero lt low = absurd (omega arith)
+rising_head k m rest above rising (suc i) (suc j) lt low = rising i j (omega arith) (omega arith)
+
+pub rising_differing : (xs : List ℕ) (k : ℕ) → IsRising (differing k xs)
+rising_differing [] k = λ i j lt low. absurd (omega arith)
+rising_differing (m ∷ ms) k = elim (either_way m k) [
+  | inl same ↦ subst (λ (ps : List Pair). IsRising ps) (sym (begins_same k m ms same)) (rising_differing ms (k + 1))
+  | inr other ↦ subst (λ (ps : List Pair). IsRising ps) (sym (begins_other k m ms other)) (rising_head k m (differing (k + 1) ms) (λ j h. place_above ms (k + 1) j h) (rising_differing ms (k + 1)))
+]
+
+-- a pair's place is no less than the pair's index
+pub place_from_index : (pairs : List Pair) → IsRising pairs → (i : ℕ) → i < length pairs → i ≤ (slice_index_or pairs i no_pair).0
+place_from_index pairs rising zero low = omega arith
+place_from_index pairs rising (suc i) low =
+    let before = place_from_index pairs rising i (omega arith) in
+    let next = rising i (suc i) (omega arith) low in
+    omega arith
+
+-- what a search from above finds
+pub index_is : (pairs : List Pair) (place at : ℕ) → IsRising pairs → at ≤ length pairs → ((j : ℕ) → at ≤ j → j < length pairs → place ≤ (slice_index_or pairs j no_pair).0) → (0 < at → (slice_index_or pairs (at - 1) no_pair).0 < place) → at ≡ index pairs place
+index_is pairs place at rising low higher below =
+    let lower : (k : ℕ) → k < at → nat_lt (slice_index_or pairs k no_pair).0 place ≡ true = λ k h.
+    (let last = below (omega arith) in
+    let either : (k ≡ at - 1) ⊎ (k < at - 1) = grind arith in
+    is_lower (slice_index_or pairs k no_pair).0 place (elim either [
+      | inl same ↦ rw same last
+      | inr less ↦ (let r = rising k (at - 1) less (omega arith) in omega arith)
+    ])) in
+    sym (prefix_len_is (λ (pair : Pair). nat_lt pair.0 place) pairs at no_pair low lower (λ h. is_not_lower (slice_index_or pairs at no_pair).0 place (higher at (omega arith) h)))

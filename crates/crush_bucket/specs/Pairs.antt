@@ -1,5 +1,5 @@
 -- Pairs of a place and the number at it, in order of place: at each other place stands the place's own number.
-use Rattle.std.specs.Prelude.{◌≡◌, ℕ, ◌<◌, slice_index, ◌==◌, nat_lt, if◌then◌else◌, List, [], ◌∷◌, ◌++◌, take, drop}
+use Rattle.std.specs.Prelude.{◌≡◌, ℕ, ◌<◌, slice_index, slice_index_or, length, ◌==◌, nat_lt, if◌then◌else◌, List, [], ◌∷◌, ◌++◌, take, drop}
 use Rattle.std.specs.List.{prefix_len}
 use Rattle.crush_hash.specs.Hash.{hash3}
 use Rattle.crush_map.specs.declared.ItemId.{ItemId}
@@ -7,6 +7,15 @@ use Rattle.crush_bucket.specs.Bucket.{word}
 
 abbrev pub Pair : Type 0
 Pair = ℕ × ℕ
+
+-- what stands where there is no pair
+abbrev pub no_pair : Pair
+no_pair = (0, 0)
+
+-- the places rise
+abbrev pub IsRising : List Pair → Type 0
+IsRising pairs =
+    (i j : ℕ) → i < j → j < length pairs → (slice_index_or pairs i no_pair).0 < (slice_index_or pairs j no_pair).0
 
 -- how many pairs are of lower places
 abbrev pub index : List Pair → ℕ → ℕ

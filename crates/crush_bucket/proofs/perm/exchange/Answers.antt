@@ -4,14 +4,14 @@ use Rattle.std.proofs.lemmas.List.{length-set}
 use Rattle.crush_bucket.specs.Permutation.{after_swaps, differing}
 use Rattle.crush_bucket.specs.Pairs.{member_at, put}
 use Rattle.crush_bucket.proofs.Members.{after_swaps_more, length-after_swaps}
-use Rattle.crush_bucket.proofs.Differing.{room_for, exchanged}
+use Rattle.crush_bucket.proofs.Differing.{room_for, exchanged, rising_differing}
 use Rattle.crush_bucket.proofs.perm.exchange.Goals as goal
 
 pub put-requires : goal.put-requires
 put-requires c =
     let xs = after_swaps c.args.id c.args.size c.args.x c.args.n in
     let len = length-after_swaps c.args.id c.args.size c.args.x c.args.n in
-    record { room = room_for xs c.args.pairs.now.items c.args.n _ c.requires.pairs (omega (arith, len)) (omega (arith, len)) }
+    record { rising = rw c.requires.pairs (rising_differing xs 0); room = room_for xs c.args.pairs.now.items c.args.n _ c.requires.pairs (omega (arith, len)) (omega (arith, len)) }
 
 pub put-requires-2 : goal.put-requires-2
 put-requires-2 c =
@@ -24,7 +24,7 @@ put-requires-2 c =
     let done = exchanged xs pairs c.put.new.pairs.items two c.args.n other (omega (arith, len)) (omega (arith, len)) c.requires.pairs once refl in
     let set = slice_set xs c.args.n (slice_index xs other) in
     let same : length set ≡ length xs = length-set xs c.args.n (slice_index xs other) in
-    record { room = room_for set c.put.new.pairs.items other _ done.0 (omega (arith, len, same)) (omega (arith, len, same)) }
+    record { rising = rw done.0 (rising_differing set 0); room = room_for set c.put.new.pairs.items other _ done.0 (omega (arith, len, same)) (omega (arith, len, same)) }
 
 pub returns-clause-pairs : goal.returns-clause-pairs
 returns-clause-pairs c =
@@ -37,3 +37,13 @@ returns-clause-pairs c =
     let done = exchanged xs pairs c.put.new.pairs.items c.put-2.new.pairs.items c.args.n other (omega (arith, len)) (omega (arith, len)) c.requires.pairs once twice in
     let more : swap xs c.args.n other ≡ after_swaps c.args.id c.args.size c.args.x (c.args.n + 1) = rw c.partner.ensures.value (after_swaps_more c.args.id c.args.size c.args.x c.args.n) in
     done.1 ∙ ap (λ (ys : List ℕ). differing 0 ys) more
+
+pub member_at-first-requires : goal.member_at-first-requires
+member_at-first-requires c =
+    let xs = after_swaps c.args.id c.args.size c.args.x c.args.n in
+    rw (c.deref.ensures.value, c.requires.pairs) (rising_differing xs 0)
+
+pub member_at-second-requires : goal.member_at-second-requires
+member_at-second-requires c =
+    let xs = after_swaps c.args.id c.args.size c.args.x c.args.n in
+    rw (c.deref-2.ensures.value, c.requires.pairs) (rising_differing xs 0)

@@ -3,7 +3,7 @@ use Rattle.std.proofs.lemmas.Grind.{common_steps}
 use Rattle.crush_bucket.specs.Permutation.{Remembered, permutation, after_swaps, differing}
 use Rattle.crush_bucket.specs.Pairs.{member_at}
 use Rattle.crush_bucket.proofs.Members.{member_is, member_below, length-after_swaps}
-use Rattle.crush_bucket.proofs.Differing.{begun, member_of_list}
+use Rattle.crush_bucket.proofs.Differing.{begun, member_of_list, rising_differing}
 use Rattle.crush_bucket.proofs.perm.Perm.member.Goals as goal
 
 pub exchange_all-requires-clause-pairs : goal.exchange_all-requires-clause-pairs
@@ -40,3 +40,8 @@ returns-clause-within c =
     read ∙ (member_of_list (after_swaps id size c.args.x wanted) 0 c.args.place c.args.place (omega arith) (omega (arith, len)) ∙ member_is id size c.args.x c.args.place wanted low few enough) in
     let below = member_below id size c.args.x c.args.place low in
     omega (arith, at, below, is)
+
+pub member_at-requires : goal.member_at-requires
+member_at-requires c =
+    let xs = after_swaps c.self.inside.id c.self.inside.size c.args.x c.max-wanted.result in
+    rw (c.deref.ensures.value, c.exchange_all.ensures.pairs) (rising_differing xs 0)
