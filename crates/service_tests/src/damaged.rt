@@ -1,39 +1,50 @@
 //! What a service answers where the data of some names is damaged.
 
-ghost use Rattle.std.specs.Prelude.{◌≡◌};
-ghost use Rattle.service_tests.specs.Damaged.{is_damaged};
+ghost use Rattle.std.specs.Prelude.{◌≡◌, IfOk};
+ghost use Rattle.tenant_core.specs.Step.{fresh};
+ghost use Rattle.service_tests.specs.Damaged.{begins_with};
 
 use crush_app::Service;
-use std::alloc::Global;
+use std::alloc::{AllocError, Global};
 use std::rc::Rc;
 use std::test::Fail;
 use tenant_core::{Call, CallParts, Change, StoreFault, TenantState, TenantStore};
 
-fn is_damaged(name: &str) -> bool
-    ensures { result ≡ is_damaged name.now }
+fn begins_with(byte: u8, name: &str) -> bool
+    ensures { result ≡ begins_with byte name.now }
 {
     match name.as_bytes() {
         [] => false,
-        [first, ..] => *first == b'd',
+        [first, ..] => *first == byte,
     }
 }
 
-/// A full store with no tenant, in which the data of each name that begins with `d` is damaged.
+fn fresh_tenant(alloc: Global) -> Result<Rc<TenantState>, AllocError>
+    ensures { IfOk result (λ state. state.value ≡ fresh) }
+{
+    Ok(Rc::new(alloc, TenantState::fresh())?)
+}
+
+/// A full store in which the data of each name that begins with `d` is damaged, and each that begins with `b` is a tenant.
 #[derive(Drop)]
-struct PartlyDamaged;
+struct PartlyDamaged {
+    alloc: Global,
+}
 
 impl TenantStore for PartlyDamaged {
-    ghost use Rattle.std.specs.Prelude.{◌≡◌, false, None};
+    ghost use Rattle.std.specs.Prelude.{◌≡◌, false};
     ghost use Rattle.std.proofs.Common.{◌∙◌, sym};
-    ghost use Rattle.service_tests.specs.Damaged.{is_damaged};
+    ghost use Rattle.service_tests.specs.Damaged.{begins_with, state_of};
 
     ghost is_honest = { λ store. Unit {0} };
 
-    ghost has_state = { λ store name s. (is_damaged name ≡ false) × (s ≡ None) };
+    ghost has_state = { λ store name s. (begins_with 100 name ≡ false) × (s ≡ state_of name) };
 
     fn load(&mut self, name: &str) -> Result<Option<Rc<TenantState>>, StoreFault> {
-        if is_damaged(name) {
+        if begins_with(b'd', name) {
             Err(StoreFault::Damaged)
+        } else if begins_with(b'b', name) {
+            Ok(Some(fresh_tenant(self.alloc)?))
         } else {
             Ok(None)
         }
@@ -57,7 +68,7 @@ impl TenantStore for PartlyDamaged {
 #[test]
 fn a_damaged_tenant_is_answered_500_and_others_as_ever(rt: HostRuntime) -> Result<(), Fail> {
     let alloc = rt.alloc();
-    let mut service = Service::over(alloc, PartlyDamaged)?;
+    let mut service = Service::over(alloc, PartlyDamaged { alloc })?;
     for (method, path, status, body) in [
         ("GET", "/t/d", 500, "{\"error\":\"store_damaged\"}"),
         ("PUT", "/t/da", 500, "{\"error\":\"store_damaged\"}"),
@@ -68,6 +79,8 @@ fn a_damaged_tenant_is_answered_500_and_others_as_ever(rt: HostRuntime) -> Resul
         ("GET", "/t/a", 404, "{\"error\":\"no_tenant\"}"),
         ("DELETE", "/t/a", 404, "{\"error\":\"no_tenant\"}"),
         ("PUT", "/t/a", 503, "{\"error\":\"store_failed\"}"),
+        ("PUT", "/t/b", 409, "{\"error\":\"exists\"}"),
+        ("DELETE", "/t/b", 503, "{\"error\":\"store_failed\"}"),
     ] {
         let reply = service.request(CallParts {
             method: method.as_bytes(),
