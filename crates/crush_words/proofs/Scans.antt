@@ -3,7 +3,7 @@ use Rattle.std.proofs.Common.{◌≡◌, ℕ, ◌<◌, ◌==◌, List, [], ◌�
 use Rattle.std.proofs.lemmas.Bool.Decides.{nat_tests}
 use Rattle.crush_map.specs.Faults.{is_name_byte}
 use Rattle.crush_words.specs.Words.{words_from, is_blank, onto, alone}
-use Rattle.crush_words.specs.Scan.{run_len, starts_word}
+use Rattle.crush_words.specs.Private.Scan.{run_len, starts_word}
 
 name_not_lf : (b : ℕ) → is_name_byte b ≡ true → (b == 10) ≡ false
 name_not_lf b e = grind (arith, nat_tests)

@@ -1,3 +1,3 @@
 pub mod Words
 pub mod Numbers
-pub mod Scan
+pub mod Private

@@ -2,7 +2,7 @@
 
 ghost use Rattle.std.specs.Prelude.{◌≡◌, ◌≤◌, ◌<◌, ◌+◌, ◌^◌, ℕ, [], ◌∷◌, length, take, drop, IfSome, MatchOption, true, false};
 ghost use Rattle.crush_map.specs.Faults.{is_name_byte};
-ghost use Rattle.crush_words.specs.Scan as scan;
+ghost use Rattle.crush_words.specs.Private.Scan as scan;
 ghost use Rattle.crush_words.specs.Words as spec;
 
 use crate::word::Word;

@@ -1,5 +1,5 @@
 use Rattle.std.proofs.Common.{◌≡◌, ◌+◌, drop}
-use Rattle.crush_words.specs.Scan.{run_len}
+use Rattle.crush_words.specs.Private.Scan.{run_len}
 use Rattle.crush_words.proofs.lex.run_len.Given as goal
 
 abbrev pub invariant-loop-byte : goal.invariant-loop-byte
