@@ -13,7 +13,7 @@ use Rattle.crush_choose.specs.declared.mark.Mark.TheVariants.{Skipped, Placed}
 use Rattle.crush_choose.specs.Least.{least}
 use Rattle.crush_choose.specs.Growing.{grown}
 use Rattle.crush_choose.specs.Marks.{Marks, Slot, items_of, leaves_of}
-use Rattle.crush_choose.specs.Firstn.{has, leaf_of, judged, attempt, decided, mark_beside, mark_of, IsFirstnAnswer, firstn}
+use Rattle.crush_choose.specs.Firstn.{has, leaf_of, firstn_outcome, firstn_try, decided, mark_beside, mark_of, IsFirstnAnswer, firstn}
 use Rattle.crush_choose.specs.Entries.{Entry, entry_items, entry_leaves, before, spot_of, IsLeastTry, IsDecided, tries_of, AreFirstnEntries, entries}
 use Rattle.crush_choose.proofs.Least.{least_some, least_none, least_found, least_silent}
 use Rattle.crush_choose.proofs.Growing.{length_grown}
@@ -22,15 +22,15 @@ use Rattle.crush_choose.proofs.Entries.{items_are, leaves_are, rises_of, before_
 
 -- ---- a try places with its own number
 
-judged_is : (t : TablesView) (w : List ℕ) (c : FirstnCall) (items leaves : List Slot) (f : ℕ) (end : Reached) → IsNumbered f (judged t w c items leaves f end)
-judged_is t w c items leaves f Empty s e = cc
-judged_is t w c items leaves f Wrong s e = cc
-judged_is t w c items leaves f (Found item r) s e =
+outcome_is : (t : TablesView) (w : List ℕ) (c : FirstnCall) (items leaves : List Slot) (f : ℕ) (end : Reached) → IsNumbered f (firstn_outcome t w c items leaves f end)
+outcome_is t w c items leaves f Empty s e = cc
+outcome_is t w c items leaves f Wrong s e = cc
+outcome_is t w c items leaves f (Found item r) s e =
     untaken_is f (has items item) _ (placed_is f item (leaf_of t w c leaves (length items) item r (bucket_numbered t item))) s e
 
-attempt_is : (t : TablesView) (w : List ℕ) (c : FirstnCall) (items leaves : List Slot) (rep f : ℕ) → IsNumbered f (attempt t w c items leaves rep f)
-unfolding attempt
-attempt_is t w c items leaves rep f s e = judged_is t w c items leaves f _ s e
+try_is : (t : TablesView) (w : List ℕ) (c : FirstnCall) (items leaves : List Slot) (rep f : ℕ) → IsNumbered f (firstn_try t w c items leaves rep f)
+unfolding firstn_try
+try_is t w c items leaves rep f s e = outcome_is t w c items leaves f _ s e
 
 -- ---- what decides a rep
 
@@ -61,7 +61,7 @@ is_decided tries n (Some (Placed s)) numbered e =
 
 -- the mark of a rep, where there is room and where there isn't
 mark_with_room : (t : TablesView) (w : List ℕ) (c : FirstnCall) (items leaves : List Slot) (rep : ℕ) → length items < c.room
-    → mark_beside t w c items leaves rep ≡ least (attempt t w c items leaves rep) c.tries
+    → mark_beside t w c items leaves rep ≡ least (firstn_try t w c items leaves rep) c.tries
 unfolding decided
 mark_with_room t w c items leaves rep lt = let room : nat_lt (length items) c.room ≡ true = grind (arith, nat_tests) in rw room refl
 
@@ -96,8 +96,8 @@ module _ (t : TablesView) (w : List ℕ) (c : FirstnCall) (marks : Marks) (is : 
       let room : length (items_of (take rep marks)) < c.room = rw (← how_many) less in
       let mark = mark_with_room t w c (items_of (take rep marks)) (leaves_of (take rep marks)) rep room in
       rw (items_beside, leaves_beside, its_spot)
-      (is_decided (attempt t w c (items_of (take rep marks)) (leaves_of (take rep marks)) rep) c.tries (mark_of t w c (take rep marks) rep)
-      (λ f. attempt_is t w c (items_of (take rep marks)) (leaves_of (take rep marks)) rep f) (sym mark))
+      (is_decided (firstn_try t w c (items_of (take rep marks)) (leaves_of (take rep marks)) rep) c.tries (mark_of t w c (take rep marks) rep)
+      (λ f. try_is t w c (items_of (take rep marks)) (leaves_of (take rep marks)) rep f) (sym mark))
 
 pub are_firstn_entries : (t : TablesView) (w : List ℕ) (c : FirstnCall) (marks : Marks) → IsFirstnAnswer t w c marks → AreFirstnEntries t w c (entries marks)
 are_firstn_entries t w c marks is = record {
@@ -124,7 +124,7 @@ module _ (t : TablesView) (w : List ℕ) (c : FirstnCall) (found : List Entry) (
       elim (cases_lt (length (before k found)) c.room) [
         | inl less ↦
             let room : length (items_of ms) < c.room = rw (← many) less in
-            let of_tries : spot_of k found ≡ placed_at (least (attempt t w c (items_of ms) (leaves_of ms) k) c.tries) =
+            let of_tries : spot_of k found ≡ placed_at (least (firstn_try t w c (items_of ms) (leaves_of ms) k) c.tries) =
             rw (items, leaves) at (decided_is (tries_of t w c (before k found) k) c.tries (spot_of k found) (are.decided k lt less)) in
             of_tries ∙ ap placed_at (sym (mark_with_room t w c (items_of ms) (leaves_of ms) k room))
         | inr le ↦

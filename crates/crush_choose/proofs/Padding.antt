@@ -5,7 +5,8 @@ use Rattle.std.proofs.lemmas.Bool.{cases_lt}
 use Rattle.std.proofs.lemmas.Bool.Decides.{nat_tests}
 use Rattle.std.proofs.lemmas.List.{ext_get_or, get_or_past, length-replicate, get_or-replicate, get_or-append_right}
 use Rattle.std.proofs.lemmas.List.FromFn.{length-map-range_with_len, get_or-map-range_with_len}
-use Rattle.crush_choose.specs.Weights.{first_given, reweight_of, weights_of, weight_at, full, ids, padded}
+use Rattle.crush_choose.specs.Weights.{first_given, reweight_of, weights_of, weight_at, full, ids}
+use Rattle.crush_choose.specs.Private.Weights.{padded}
 
 -- ---- ids of devices
 

@@ -8,7 +8,7 @@ use Rattle.crush_map.specs.declared.draft.Step.TheVariants.{Take, SetChooseTries
 use Rattle.crush_map.specs.declared.draft.Rule.{Rule}
 use Rattle.crush_map.specs.Faults.{Known, ◌when◌, or_else, first_of, has_number, is_count, choose_fault, step_fault, steps_fault, rule_checks, rule_fault}
 use Rattle.crush_choose.specs.Rules.{reps}
-use Rattle.crush_choose.specs.Runs.{IsChoose, IsStep, no_step}
+use Rattle.crush_choose.specs.Private.Runs.{IsChoose, IsStep, no_step}
 
 passes_first : (a b : Option FaultCode) → or_else a b ≡ None → a ≡ None
 passes_first None b h = refl

@@ -1,7 +1,7 @@
 pub mod Faults
 pub mod Map
-pub mod Tables
 pub mod Laws
 pub mod Sound
 pub mod Weights
 pub mod WeightText
+pub mod Private

@@ -1,4 +1,4 @@
-//! Ids, weights and kinds of bucket.
+//! Ids, weights and kinds of buckets.
 
 ghost use Rattle.std.specs.Prelude.{◌≡◌};
 ghost use Rattle.std.specs.Int.{cast_unsigned, w32};
@@ -7,12 +7,12 @@ ghost use Rattle.std.specs.Int.{cast_unsigned, w32};
 #[derive(Clone, Copy, Debug, PartialEq, Eq)]
 pub struct Weight(pub u32);
 
-/// What a map places on or in: a device from 0 on, a bucket below 0.
+/// The id of an item: a device's is 0 or above, a bucket's is below 0.
 #[derive(Clone, Copy, Debug, PartialEq, Eq)]
 pub struct ItemId(pub i32);
 
 impl ItemId {
-    /// The word by which an id enters a hash: its two's complement.
+    /// The 32-bit word of an id in a hash: its two's complement.
     pub fn word(self) -> u32
         ensures { result ≡ cast_unsigned w32 self.0 }
     {

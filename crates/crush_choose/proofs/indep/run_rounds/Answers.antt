@@ -2,7 +2,7 @@ use Rattle.std.proofs.Common.{◌∙◌, sym, arith}
 use Rattle.crush_choose.specs.Indep.{indep, indep_try}
 use Rattle.crush_choose.proofs.Rounds.{rounds_decided}
 use Rattle.crush_choose.proofs.IndepTries.{indep_orderly}
-use Rattle.crush_choose.proofs.indep.play.Goals as goal
+use Rattle.crush_choose.proofs.indep.run_rounds.Goals as goal
 
 pub returns-then-all_decided-clause-value : goal.returns-then-all_decided-clause-value
 unfolding indep

@@ -1,7 +1,7 @@
 use Rattle.std.proofs.Common.{◌≡◌, length}
 use Rattle.crush_bucket.specs.Tables.{perms_of}
 use Rattle.crush_choose.specs.Indep.{indep_try, after_rounds}
-use Rattle.crush_choose.proofs.indep.play.Given as goal
+use Rattle.crush_choose.proofs.indep.run_rounds.Given as goal
 
 abbrev pub invariant-loop-round : goal.invariant-loop-round
 invariant-loop-round l = record {

@@ -1,7 +1,7 @@
 use Rattle.std.proofs.Common.{◌≡◌, length}
 use Rattle.crush_bucket.specs.Tables.{perms_of}
 use Rattle.crush_choose.specs.Indep.{indep_try, in_round}
-use Rattle.crush_choose.proofs.indep.play_round.Given as goal
+use Rattle.crush_choose.proofs.indep.run_round.Given as goal
 
 abbrev pub invariant-loop-pos : goal.invariant-loop-pos
 invariant-loop-pos l = record {

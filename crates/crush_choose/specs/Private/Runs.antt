@@ -1,4 +1,4 @@
--- For private clauses: what the code keeps of the definitions' values, and where a run of a rule stands.
+-- The values that a rule's run keeps, their ranges, and what they mean in the definitions.
 use Rattle.std.specs.Prelude.{◌≡◌, ℕ, pos, ◌*◌, ◌≤◌, length, vec_len, vec_capacity, Bool, false}
 use Rattle.crush_map.specs.declared.draft.Step.{Step}
 use Rattle.crush_map.specs.declared.draft.Step.TheVariants.{Take, SetChooseTries, SetLeafTries, SetVaryR, SetStable, Choose, Emit}
@@ -17,7 +17,7 @@ pub record IsPlan (p : Plan) : Type 0 where
   pub stable : p.stable ≤ 1
   pub above_leaves : p.firstn ≡ false → p.wanted ≡ 0 → p.leaf_tries ≡ 0
 
--- what a plan asks
+-- the definitions' call of a plan
 abbrev pub call_of : Plan → ChooseCall
 call_of p =
     record { firstn = p.firstn; leaf = p.leaf; x = p.x; numrep = p.numrep; wanted = p.wanted; tries = p.tries; leaf_tries = p.leaf_tries; vary_r = p.vary_r; stable = p.stable }
@@ -30,14 +30,14 @@ pub record AreSettings (s : kept.Settings) : Type 0 where
   pub vary_r : s.vary_r ≤ 8
   pub stable : s.stable ≤ 1
 
--- what is set
+-- the definitions' settings of kept ones
 abbrev pub settings_in : kept.Settings → Settings
 settings_in s = record { tries = s.tries; leaf_tries = s.leaf_tries; vary_r = s.vary_r; stable = s.stable }
 
 abbrev pub state_of : Run → Running
 state_of r = record { settings = settings_in r.settings; working = r.working; emitted = r.emitted; made = r.made.items }
 
--- after k steps
+-- the bounds of a run after k steps
 pub record IsRun (size k : ℕ) (r : Run) : Type 0 where
   pub settings : AreSettings r.settings
   pub emitted : length r.emitted ≤ size
@@ -59,6 +59,6 @@ IsStep size (SetStable n) = n ≤ 1
 IsStep size (Choose by_firstn leaf n wanted) = IsChoose size by_firstn leaf (reps n size) wanted
 IsStep size Emit = Unit {0}
 
--- what stands past the last step
+-- a value for the places after the last step
 abbrev pub no_step : Step
 no_step = Take (record { 0 = pos 0 })
