@@ -3,7 +3,7 @@
 ghost use Rattle.std.specs.Prelude.{◌≡◌, ◌<◌, ◌≤◌, ◌+◌, ◌-◌, ◌^◌, IfOk, length, slice_index};
 ghost use Rattle.std.specs.List.{range_with_len};
 ghost use Rattle.crush_bucket.specs.Permutation.{permutation, after_swaps, partner};
-ghost use Rattle.crush_bucket.specs.Reached.{IsReached};
+ghost use Rattle.crush_bucket.specs.Private.Reached.{IsReached};
 
 use crate::reach::Reach;
 use crush_hash::hash3;
@@ -28,7 +28,7 @@ impl Model for Perm {
 
     ghost Value = { PermView };
 
-    ghost use Rattle.crush_bucket.specs.Reached.{IsReached};
+    ghost use Rattle.crush_bucket.specs.Private.Reached.{IsReached};
 
     ghost view = { λ a. record { id = a.id; size = length a.members.items } };
 
