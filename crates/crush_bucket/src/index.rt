@@ -1,7 +1,7 @@
 //! Where the bucket with an id stands.
 
 ghost use Rattle.std.specs.Prelude.{◌≡◌, ◌<◌, ℕ, negsuc, Option, None, Some, IfOk, length, slice_index_or, slice_set};
-ghost use Rattle.crush_bucket.specs.Laid.{IsIndexOf};
+ghost use Rattle.crush_bucket.specs.Private.Laid.{IsIndexOf};
 ghost use Rattle.crush_bucket.specs.Tables.{no_bucket};
 
 use crate::number::{BucketNo, number_of};

@@ -3,7 +3,7 @@
 ghost use Rattle.std.specs.Prelude.{◌≡◌, ℕ, ◌<◌, ◌≤◌, ◌+◌, ◌*◌, ◌/◌, ◌%◌, ◌^◌, nat_lt, MatchOption, IfOk, IfSome, length, slice_index};
 ghost use Rattle.crush_bucket.specs.Bucket.{CanBeAsked, item_at, word, total_weight};
 ghost use Rattle.crush_bucket.specs.Kinds.{list_place, greatest, takes};
-ghost use Rattle.crush_bucket.specs.Kept.{AreSums};
+ghost use Rattle.crush_bucket.specs.Private.Kept.{AreSums};
 
 use crate::perm::Perm;
 use crate::picker::Picker;
@@ -22,7 +22,7 @@ pub struct ListBucket {
 
 impl Model for ListBucket {
     ghost use Rattle.crush_bucket.specs.Bucket.{BucketView, CanBeAsked};
-    ghost use Rattle.crush_bucket.specs.Kept.{AreSums};
+    ghost use Rattle.crush_bucket.specs.Private.Kept.{AreSums};
     ghost use Rattle.crush_map.specs.declared.Kind.TheVariants.{List};
 
     ghost Value = { BucketView };

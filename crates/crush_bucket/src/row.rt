@@ -4,8 +4,8 @@ ghost use Rattle.std.specs.Prelude.{◌≡◌, ◌<◌, ◌^◌, IfOk, length};
 ghost use Rattle.crush_bucket.specs.Bucket.{IsItemOf};
 ghost use Rattle.crush_bucket.specs.Pick.{pick, perm_of};
 ghost use Rattle.crush_bucket.specs.Tables.{typed_bucket};
-ghost use Rattle.crush_bucket.specs.Laid.{IsFit};
-ghost use Rattle.crush_bucket.specs.Rows.{bucket_of};
+ghost use Rattle.crush_bucket.specs.Private.Laid.{IsFit};
+ghost use Rattle.crush_bucket.specs.Private.Rows.{bucket_of};
 
 use crate::list::ListBucket;
 use crate::perm::Perm;
@@ -37,7 +37,7 @@ impl Model for Row {
 
     ghost Value = { TypedBucket };
 
-    ghost use Rattle.crush_bucket.specs.Rows.{bucket_of};
+    ghost use Rattle.crush_bucket.specs.Private.Rows.{bucket_of};
 
     ghost view = { λ a. record { of_type = a.of_type; bucket = bucket_of a.picking } };
 }

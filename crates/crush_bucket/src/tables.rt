@@ -2,7 +2,7 @@
 
 ghost use Rattle.std.specs.Prelude.{◌≡◌, ◌<◌, ◌<ℤ◌, ◌==◌, ◌^◌, pos, IfOk, IfSome, OnSome, All, length, map};
 ghost use Rattle.crush_bucket.specs.Bucket.{IsItemOf};
-ghost use Rattle.crush_bucket.specs.Laid.{IsFit};
+ghost use Rattle.crush_bucket.specs.Private.Laid.{IsFit};
 ghost use Rattle.crush_bucket.specs.Tables.{tables_of, typed_bucket, bucket_numbered, bucket_at, type_at, kind_at, size_at, pick_at, has_device, perms_of, IsBelow};
 
 use crate::index::index_of;
@@ -24,7 +24,7 @@ pub struct Tables {
 
 impl Model for Tables {
     ghost use Rattle.crush_bucket.specs.Tables.{TablesView};
-    ghost use Rattle.crush_bucket.specs.Laid.{IsLaid, IsIndexOf};
+    ghost use Rattle.crush_bucket.specs.Private.Laid.{IsLaid, IsIndexOf};
     ghost use Rattle.std.specs.List.Sorted.{IsStrictlyIncreasing};
 
     ghost Value = { TablesView };

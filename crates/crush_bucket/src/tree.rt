@@ -3,7 +3,7 @@
 ghost use Rattle.std.specs.Prelude.{◌≡◌, ◌<◌, ◌≤◌, ◌+◌, ◌*◌, ◌^◌, ◌++◌, IfOk, length};
 ghost use Rattle.crush_bucket.specs.Bucket.{CanBeAsked, total_weight};
 ghost use Rattle.crush_bucket.specs.Kinds.{height_of, place_within};
-ghost use Rattle.crush_bucket.specs.Kept.{AreNodes, HasNodes, node_weights};
+ghost use Rattle.crush_bucket.specs.Private.Kept.{AreNodes, HasNodes, node_weights};
 
 use crate::descent::{down, last_down, places};
 use crate::perm::Perm;
@@ -24,7 +24,7 @@ pub struct TreeBucket {
 
 impl Model for TreeBucket {
     ghost use Rattle.crush_bucket.specs.Bucket.{BucketView, CanBeAsked};
-    ghost use Rattle.crush_bucket.specs.Kept.{AreNodes};
+    ghost use Rattle.crush_bucket.specs.Private.Kept.{AreNodes};
     ghost use Rattle.crush_map.specs.declared.Kind.TheVariants.{Tree};
 
     ghost Value = { BucketView };
