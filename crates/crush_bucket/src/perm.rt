@@ -1,43 +1,40 @@
 //! The scratch of a uniform bucket.
 
-ghost use Rattle.std.specs.Prelude.{◌≡◌, ◌<◌, ◌≤◌, ◌+◌, ◌-◌, ◌==◌, ◌^◌, if◌then◌else◌, [], IfOk, length, slice_index, vec_capacity};
-ghost use Rattle.crush_bucket.specs.Permutation.{permutation, after_swaps, partner, asked, differing, kept};
-ghost use Rattle.crush_bucket.specs.Pairs.{AreFirstHashes};
+ghost use Rattle.std.specs.Prelude.{◌≡◌, ◌<◌, ◌≤◌, ◌+◌, ◌-◌, ◌^◌, IfOk, length, slice_index};
+ghost use Rattle.std.specs.List.{range_with_len};
+ghost use Rattle.crush_bucket.specs.Permutation.{permutation, after_swaps, partner};
+ghost use Rattle.crush_bucket.specs.Private.Reached.{IsReached};
 
-use crate::pairs::{Pair, member_at, put};
-use crush_hash::{hash3, hash3_lanes};
+use crate::reach::Reach;
+use crush_hash::hash3;
 use crush_map::ItemId;
 use std::alloc::{AllocError, Global};
 use std::marker::Model;
 
-/// The permutation of a bucket's places for the input that was asked last, as far as it was needed (`crush_work_bucket` of `mapper.c`): the places at which it differs from the identity. The hashes of the first four places are made at once, when the input is new.
+/// The permutation of a bucket's places for the input that was asked last, as far as it was needed (`crush_work_bucket` of `mapper.c`).
 ///
-/// A contract sees the bucket's id and size, that input, and how many exchanges were made for it.
+/// A contract sees the bucket's id and size alone: what is answered never depends on earlier questions.
 #[derive(Drop)]
 pub struct Perm {
     id: ItemId,
-    size: usize,
     x: u32,
-    swaps: usize,
-    hashes: [u32; 4],
-    pairs: Vec<Pair>,
+    reach: Reach,
+    members: Vec<u32>,
 }
 
 impl Model for Perm {
-    ghost use Rattle.std.specs.Prelude.{◌≡◌, ◌<◌, ◌≤◌, ◌^◌, vec_capacity};
-    ghost use Rattle.crush_bucket.specs.Permutation.{Remembered, after_swaps, differing};
-    ghost use Rattle.crush_bucket.specs.Pairs.{AreFirstHashes};
+    ghost use Rattle.std.specs.Prelude.{◌<◌, ◌^◌, length};
+    ghost use Rattle.crush_bucket.specs.Permutation.{PermView};
 
-    ghost Value = { Remembered };
+    ghost Value = { PermView };
 
-    ghost view = { λ a. record { of = record { id = a.id; size = a.size }; x = a.x; swaps = a.swaps } };
+    ghost use Rattle.crush_bucket.specs.Private.Reached.{IsReached};
+
+    ghost view = { λ a. record { id = a.id; size = length a.members.items } };
 
     ghost invariant = { λ a. record {
-      pairs : a.pairs.items ≡ differing 0 (after_swaps a.id a.size a.x a.swaps);
-      hashes : AreFirstHashes a.id a.x a.hashes;
-      made : a.swaps ≤ a.size;
-      room : a.size ≤ vec_capacity a.pairs;
-      small : a.size < 2 ^ 32;
+      reached : IsReached a.id a.x a.members.items a.reach;
+      small : length a.members.items < 2 ^ 32;
     } };
 }
 
@@ -45,140 +42,133 @@ impl Perm {
     /// The scratch of a bucket with this id and so many items.
     pub fn build(alloc: Global, id: ItemId, size: usize) -> Result<Self, AllocError>
         requires { size < 2 ^ 32 }
-        ensures { IfOk result (λ p. p ≡ record { of = record { id = id; size = size }; x = 0; swaps = 0 }) }
+        ensures { IfOk result (λ p. p ≡ record { id = id; size = size }) }
     {
-        let pairs = Vec::with_capacity(alloc, size)?;
+        let mut members = Vec::with_capacity(alloc, size)?;
+        for place in 0..size {
+            members.push(place as u32)?;
+        }
         Ok(Perm {
             id,
-            size,
             x: 0,
-            swaps: 0,
-            hashes: first_hashes(id, 0),
-            pairs,
+            reach: Reach::Swaps(0),
+            members,
         })
     }
 
     /// The member of the permutation for x at a place (`bucket_perm_choose` of `mapper.c`). Takes no memory.
     pub fn member(&mut self, x: u32, place: usize) -> usize
-        requires { place < self.old.of.size }
-        ensures member { result ≡ slice_index (permutation self.old.of.id self.old.of.size x) place }
-        ensures within { result < self.old.of.size }
-        ensures asked { self.new ≡ asked self.old x place }
+        requires { place < self.old.size }
+        ensures member { result ≡ slice_index (permutation self.old.id self.old.size x) place }
+        ensures within { result < self.old.size }
+        ensures same { self.new ≡ self.old }
     {
-        let made = begin(&mut self.pairs, self.x, self.swaps, x);
-        let wanted = (place + 1).min(self.size - 1).max(made);
-        let hashes = hashes_for(self.id, x, self.x, self.hashes);
-        exchange_all(
-            self.id,
-            self.size,
-            x,
-            &hashes,
-            &mut self.pairs,
-            made,
-            wanted,
-        );
+        if x != self.x && place == 0 {
+            self.x = x;
+            self.reach = Reach::First;
+            return first_member(self.id, x, &mut self.members);
+        }
+        let members = self.members.as_mut_slice();
+        let reach = kept_for(self.id, x, members, self.x, self.reach);
+        let swaps = reach_place(self.id, x, members, reach, place);
+        let member = members[place] as usize;
         self.x = x;
-        self.hashes = hashes;
-        self.swaps = wanted;
-        member_at(&self.pairs, place as u32) as usize
-    }
-
-    /// At how many places the permutation's list differs from the identity, after the exchanges made for the input that was asked last. No other place is kept.
-    pub fn kept(&self) -> usize
-        ensures { result ≡ kept self.now }
-    {
-        self.pairs.len()
-    }
-}
-
-/// The hashes of the first four places for x.
-fn first_hashes(id: ItemId, x: u32) -> [u32; 4]
-    ensures { AreFirstHashes id x result }
-{
-    hash3_lanes(x, id.word(), &[0, 1, 2, 3])
-}
-
-/// The same, where those for the input that was asked last are there.
-#[inline]
-fn hashes_for(id: ItemId, x: u32, last: u32, hashes: [u32; 4]) -> [u32; 4]
-    requires { AreFirstHashes id last hashes }
-    ensures { AreFirstHashes id x result }
-{
-    if last == x {
-        hashes
-    } else {
-        first_hashes(id, x)
+        self.reach = Reach::Swaps(swaps);
+        member
     }
 }
 
 /// The place with which a place changes contents.
-#[inline]
-fn partner(id: ItemId, size: usize, x: u32, hashes: &[u32; 4], place: usize) -> usize
-    requires hashes { AreFirstHashes id x hashes.now }
+fn partner(id: ItemId, size: usize, x: u32, place: usize) -> usize
     requires within { place < size }
     requires small { size < 2 ^ 32 }
     ensures value { result ≡ partner id size x place }
     ensures within { result < size }
 {
     let places = (size - place) as u32;
-    let hash = if place < 4 {
-        hashes[place]
-    } else {
-        hash3(x, id.word(), place as u32)
-    };
-    place + (hash % places) as usize
+    place + (hash3(x, id.word(), place as u32) % places) as usize
 }
 
-/// Empties the pairs where x is new; answers how many exchanges are made for it.
-fn begin(pairs: &mut Vec<Pair>, last: u32, swaps: usize, x: u32) -> usize
-    ensures made { result ≡ (if last == x then swaps else 0) }
-    ensures pairs { pairs.new.items ≡ (if last == x then pairs.old.items else []) }
-    ensures capacity { vec_capacity pairs.new ≡ vec_capacity pairs.old }
+/// Keeps the first member of the permutation for x, and no other.
+fn first_member(id: ItemId, x: u32, members: &mut [u32]) -> usize
+    requires some { 0 < length members.old }
+    requires small { length members.old < 2 ^ 32 }
+    ensures value { result ≡ partner id (length members.old) x 0 }
+    ensures kept { slice_index members.new 0 ≡ result }
 {
-    if last == x {
-        swaps
-    } else {
-        pairs.clear();
-        0
+    let first = partner(id, members.len(), x, 0);
+    members[0] = first as u32;
+    first
+}
+
+/// Puts each place's own number at it.
+fn reset(members: &mut [u32])
+    requires { length members.old < 2 ^ 32 }
+    ensures { members.new ≡ range_with_len 0 (length members.old) }
+{
+    for place in 0..members.len() {
+        members[place] = place as u32;
     }
 }
 
-/// Makes the exchanges from one on up to another.
-fn exchange_all(
-    id: ItemId,
-    size: usize,
-    x: u32,
-    hashes: &[u32; 4],
-    pairs: &mut Vec<Pair>,
-    made: usize,
-    wanted: usize,
-)
-    requires hashes { AreFirstHashes id x hashes.now }
-    requires more { made ≤ wanted }
-    requires few { wanted ≤ size }
-    requires small { size < 2 ^ 32 }
-    requires room { size ≤ vec_capacity pairs.old }
-    requires pairs { pairs.old.items ≡ differing 0 (after_swaps id size x made) }
-    ensures pairs { pairs.new.items ≡ differing 0 (after_swaps id size x wanted) }
-    ensures capacity { vec_capacity pairs.new ≡ vec_capacity pairs.old }
+/// Makes good the short cut: the members after one exchange.
+fn repair(id: ItemId, x: u32, members: &mut [u32])
+    requires some { 0 < length members.old }
+    requires small { length members.old < 2 ^ 32 }
+    requires first { slice_index members.old 0 ≡ partner id (length members.old) x 0 }
+    ensures { members.new ≡ after_swaps id (length members.old) x 1 }
 {
+    let first = members[0] as usize;
+    reset(members);
+    members.swap(0, first);
+}
+
+/// Keeps the members where x is still the input that they are of, and begins anew where it isn't.
+fn kept_for(id: ItemId, x: u32, members: &mut [u32], kept: u32, reach: Reach) -> Reach
+    requires small { length members.old < 2 ^ 32 }
+    requires reached { IsReached id kept members.old reach }
+    ensures { IsReached id x members.new result }
+{
+    if kept == x {
+        reach
+    } else {
+        reset(members);
+        Reach::Swaps(0)
+    }
+}
+
+/// Makes good the short cut where it was taken; answers how many exchanges are made.
+fn settled(id: ItemId, x: u32, members: &mut [u32], reach: Reach) -> usize
+    requires small { length members.old < 2 ^ 32 }
+    requires some { 0 < length members.old }
+    requires reached { IsReached id x members.old reach }
+    ensures members { members.new ≡ after_swaps id (length members.old) x result }
+    ensures within { result ≤ length members.old }
+{
+    match reach {
+        Reach::First => {
+            repair(id, x, members);
+            1
+        }
+        Reach::Swaps(made) => made,
+    }
+}
+
+/// Makes the exchanges that the member at a place needs; answers how many are made.
+fn reach_place(id: ItemId, x: u32, members: &mut [u32], reach: Reach, place: usize) -> usize
+    requires within { place < length members.old }
+    requires small { length members.old < 2 ^ 32 }
+    requires reached { IsReached id x members.old reach }
+    ensures reached { members.new ≡ after_swaps id (length members.old) x result }
+    ensures within { result ≤ length members.old }
+    ensures member { slice_index members.new place ≡ slice_index (permutation id (length members.old) x) place }
+{
+    let size = members.len();
+    let made = settled(id, x, members, reach);
+    let wanted = (place + 1).min(size - 1).max(made);
     for n in made..wanted {
-        exchange(id, size, x, hashes, pairs, n);
+        let other = partner(id, size, x, n);
+        members.swap(n, other);
     }
-}
-
-/// Makes one exchange more.
-fn exchange(id: ItemId, size: usize, x: u32, hashes: &[u32; 4], pairs: &mut Vec<Pair>, n: usize)
-    requires hashes { AreFirstHashes id x hashes.now }
-    requires within { n < size }
-    requires small { size < 2 ^ 32 }
-    requires room { size ≤ vec_capacity pairs.old }
-    requires pairs { pairs.old.items ≡ differing 0 (after_swaps id size x n) }
-    ensures pairs { pairs.new.items ≡ differing 0 (after_swaps id size x (n + 1)) }
-    ensures capacity { vec_capacity pairs.new ≡ vec_capacity pairs.old }
-{
-    let (place, other) = (n as u32, partner(id, size, x, hashes, n) as u32);
-    let (first, second) = (member_at(pairs, place), member_at(pairs, other));
-    put(pairs, place, second);
-    put(pairs, other, first);
+    wanted
 }
