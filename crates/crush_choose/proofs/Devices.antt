@@ -19,7 +19,7 @@ use Rattle.crush_bucket.specs.Laws.{HasNoDeviceBucket}
 use Rattle.crush_choose.proofs.Least.{least_same}
 use Rattle.crush_choose.proofs.Placing.{slots_append}
 
--- a walk ended at a device, if it found an item
+-- if the walk found an item, it is a device
 abbrev FindsDevice : TablesView → Reached → Type 0
 FindsDevice t o = (item : ItemId) (r : ℕ) → o ≡ Found item r → bucket_numbered t item ≡ None
 
@@ -80,7 +80,7 @@ pub leafless : (t : TablesView) (w : List ℕ) (c : FirstnCall) → HasNoDeviceB
 unfolding firstn
 leafless t w c typed e = grown-leafless t w c typed e c.numrep
 
--- ---- leaves where none is wanted
+-- ---- leaves if none is wanted
 
 append_same : {a b d e : List Slot} → a ≡ b → d ≡ e → a ++ d ≡ b ++ e
 append_same p q = rw (p, q) refl
@@ -138,14 +138,14 @@ grown_owns t w c (suc n) =
     let own = room_owns (nat_lt (length (items_of ms)) c.room) (decided t w (leafless_call c) (items_of ms) (leaves_of ms) n) (decided_owns t w c (items_of ms) (leaves_of ms) n) in
     slots_append (λ s. Some s.leaf) ms (next ms n ∷ []) ∙ (append_same (grown_owns t w c n) own ∙ sym (slots_append (λ s. Some s.item) ms (next ms n ∷ [])))
 
--- where no leaf is wanted, the leaves are the items
+-- if no leaf is wanted, the leaves are the items
 firstn_owns : (t : TablesView) (w : List ℕ) (c : FirstnCall) → leaves_of (firstn t w (leafless_call c)) ≡ items_of (firstn t w (leafless_call c))
 unfolding firstn
 firstn_owns t w c = grown_owns t w c c.numrep
 
 -- ---- a choose step
 
--- a choose step by firstn for devices, with so many tries for a leaf
+-- a choose firstn step for devices, with this number of tries for a leaf
 abbrev for_devices : ChooseCall → ℕ → ChooseCall
 for_devices c leaf_tries = record c { firstn = true; wanted = 0; leaf_tries = leaf_tries }
 

@@ -1,4 +1,4 @@
--- The one list of entries that is an answer: the entries of the marks that are one.
+-- Exactly one list of entries is an answer: the entries of the answer's marks.
 use Rattle.std.proofs.Common.{◌≡◌, ℕ, zero, suc, ◌+◌, ◌<◌, ◌≤◌, nat_lt, true, false, List, length, take, Option, Some, None, inl, inr, refl, ap, sym, ◌∙◌, arith}
 use Rattle.std.proofs.lemmas.Bool.{cases_lt}
 use Rattle.std.proofs.lemmas.Bool.Decides.{nat_tests}
@@ -32,13 +32,13 @@ try_is : (t : TablesView) (w : List ℕ) (c : FirstnCall) (items leaves : List S
 unfolding firstn_try
 try_is t w c items leaves rep f s e = outcome_is t w c items leaves f _ s e
 
--- ---- what decides a rep
+-- ---- the outcome of a rep
 
 least_at : (tries : ℕ → Option Mark) (n f : ℕ) (mark : Mark) → IsLeastTry tries n f mark → least tries n ≡ Some mark
 least_at tries n f mark is =
     sym (least_found tries f n (Some mark) (least_silent tries f is.no_earlier) is.below (sym is.comes_to) refl)
 
--- what is decided is what the least try places
+-- the first try that doesn't fail places what is decided
 decided_is : (tries : ℕ → Option Mark) (n : ℕ) (spot : Option Spot) → IsDecided tries n spot → spot ≡ placed_at (least tries n)
 decided_is tries n (Some spot) is = rw (least_at tries n spot.round (Placed spot) is) refl
 decided_is tries n None (inl (f, is)) = rw (least_at tries n f Skipped is) refl
@@ -59,7 +59,7 @@ is_decided tries n (Some (Placed s)) numbered e =
 
 -- ---- from marks to entries
 
--- the mark of a rep, where there is room and where there isn't
+-- the mark of a rep, with room and without
 mark_with_room : (t : TablesView) (w : List ℕ) (c : FirstnCall) (items leaves : List Slot) (rep : ℕ) → length items < c.room
     → mark_beside t w c items leaves rep ≡ least (firstn_try t w c items leaves rep) c.tries
 unfolding decided
@@ -69,7 +69,7 @@ mark_without_room : (t : TablesView) (w : List ℕ) (c : FirstnCall) (items leav
     → mark_beside t w c items leaves rep ≡ None
 mark_without_room t w c items leaves rep le = let room : nat_lt (length items) c.room ≡ false = grind (arith, nat_tests) in rw room refl
 
--- a rep of an answer, beside the entries of smaller reps
+-- a rep of an answer, given the entries of smaller reps
 module _ (t : TablesView) (w : List ℕ) (c : FirstnCall) (marks : Marks) (is : IsFirstnAnswer t w c marks) (rep : ℕ) (lt : rep < c.numrep) where
   smaller : before rep (entries marks) ≡ entries (take rep marks)
   smaller = before_entries 0 rep rep marks (omega arith)

@@ -1,4 +1,4 @@
--- Tries of choose indep see what is placed before them alone, and place with their own number.
+-- A try of choose indep depends only on what is placed before it, and places with its own number.
 use Rattle.std.proofs.Common.{◌≡◌, ℕ, List, length, Bool, true, false, if◌then◌else◌, Option, Some, None, option_map, refl, ap, ◌∙◌}
 use Rattle.crush_map.specs.declared.word.ItemId.{ItemId}
 use Rattle.crush_bucket.specs.Tables.{TablesView, bucket_numbered}

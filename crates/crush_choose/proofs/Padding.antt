@@ -1,4 +1,4 @@
--- The reweights of all ids, of which a table has the first.
+-- The reweights of all ids, from a table that has those of the first ids.
 use Rattle.std.proofs.Common.{◌≡◌, ℕ, ◌-◌, ◌<◌, ◌≤◌, ◌==◌, List, ◌∷◌, length, replicate, slice_index_or, true, false, nat_lt, refl, sym, ◌∙◌, arith, inl, inr, length-append}
 use Rattle.std.proofs.Math.ListN.{get_or-append}
 use Rattle.std.proofs.lemmas.Bool.{cases_lt}
@@ -16,7 +16,7 @@ below_ids given id lt = let test : nat_lt id ids ≡ true = grind (arith, nat_te
 above_ids : (given : List (ℕ × ℕ)) (id : ℕ) → ids ≤ id → reweight_of given id ≡ full
 above_ids given id le = let test : nat_lt id ids ≡ false = grind (arith, nat_tests) in rw test refl
 
--- a pair for another id is passed over
+-- a pair for another id is skipped
 pub passed_over : (given : ℕ × ℕ) (rest : List (ℕ × ℕ)) (id : ℕ) → (given.0 ≡ id → ⊥) → first_given (given ∷ rest) id ≡ first_given rest id
 passed_over given rest id other = let test : (given.0 == id) ≡ false = grind (arith, nat_tests, other) in rw test refl
 
@@ -59,7 +59,7 @@ length-padded : (table : List ℕ) → length table ≤ ids → length (padded t
 unfolding padded
 length-padded table few = omega (arith, few, length-append table (replicate (ids - length table) full), length-replicate (ids - length table) full)
 
--- a table with the reweights that are given, above which none is given
+-- a table with the given reweights; no id after its end is given one
 pub padded_is : (given : List (ℕ × ℕ)) (bound : ℕ) (table : List ℕ) → bound ≤ ids → length table ≡ bound
     → ((id : ℕ) → id < bound → slice_index_or table id full ≡ first_given given id) → ((id : ℕ) → bound ≤ id → id < ids → first_given given id ≡ full)
     → padded table ≡ weights_of given

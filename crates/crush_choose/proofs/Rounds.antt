@@ -1,4 +1,4 @@
--- Rounds of tries leave the one list that stands beside its own tries.
+-- Rounds of tries end with the one list of marks that follows from its own tries.
 use Rattle.std.proofs.Common.{◌≡◌, ℕ, zero, suc, ◌<◌, ◌≤◌, length, true, false, Option, Some, None, slice_index_or, inl, inr, refl, ap, sym, subst, ◌∙◌, is_some, arith, get_or-set_other, get_or-set_same}
 use Rattle.std.specs.List.{list_all}
 use Rattle.std.proofs.Math.ListN.{length-set}
@@ -15,11 +15,11 @@ use Rattle.crush_choose.specs.Marks.{Marks}
 use Rattle.crush_choose.specs.Indep.{comes_before, earlier, after_try, in_round, after_rounds}
 use Rattle.crush_choose.proofs.Least.{holds_from, least_same, least_stays}
 
--- what try f of a position comes to, beside the marks of all positions
+-- the outcome of try f of a position, given the marks of all positions
 abbrev pub Tries : Type 0
 Tries = Marks → ℕ → ℕ → Option Mark
 
--- the mark at a position, none past the last
+-- the mark at a position, none after the last
 abbrev pub at : Marks → ℕ → Option Mark
 at marks pos = slice_index_or marks pos None
 
@@ -28,12 +28,12 @@ pub record PlaceAlike (f pos : ℕ) (a b : Marks) : Type 0 where
   pub long : length a ≡ length b
   pub same : (q : ℕ) → earlier f pos q (at a q) ≡ earlier f pos q (at b q)
 
--- a try sees of the marks what is placed before it, and what it places has its number
+-- a try depends only on the marks placed before it, and what it places has its number
 pub record IsOrderly (tries : Tries) : Type 0 where
   pub alike : (a b : Marks) (f pos : ℕ) → PlaceAlike f pos a b → tries a pos f ≡ tries b pos f
   pub numbered : (a : Marks) (f pos : ℕ) (s : Spot) → tries a pos f ≡ Some (Placed s) → s.round ≡ f
 
--- each position has what its least try that doesn't fail comes to, beside the list itself
+-- each position has the outcome of its first try that doesn't fail, given the list itself
 pub record IsSettled (tries : Tries) (n rounds : ℕ) (a : Marks) : Type 0 where
   pub long : length a ≡ n
   pub each : (q : ℕ) → q < n → at a q ≡ least (tries a q) rounds
@@ -48,13 +48,13 @@ later_round g q f pos lt = grind (arith, nat_tests)
 not_before : (g q f pos : ℕ) → f ≤ g → pos ≤ q → comes_before g q f pos ≡ false
 not_before g q f pos le to = grind (arith, nat_tests)
 
--- a mark of a try that doesn't come before is as good as none
+-- a mark of a try that doesn't come before counts as none
 hidden : (g q f pos : ℕ) (m : Option Mark) → ((s : Spot) → m ≡ Some (Placed s) → s.round ≡ g) → comes_before g q f pos ≡ false → earlier f pos q m ≡ None
 hidden g q f pos None numbered e = refl
 hidden g q f pos (Some Skipped) numbered e = refl
 hidden g q f pos (Some (Placed s)) numbered e = rw (numbered s refl, e) refl
 
--- what isn't seen changes nothing where it is put behind a mark
+-- adding a mark that doesn't come before changes nothing
 unseen : (f pos q : ℕ) (m now : Option Mark) → earlier f pos q now ≡ None → earlier f pos q (or_else m now) ≡ earlier f pos q m
 unseen f pos q None now e = e
 unseen f pos q (Some m) now e = refl
@@ -68,7 +68,7 @@ module _ (tries : Tries) (n : ℕ) where
     played : (q : ℕ) → q < pos → at now q ≡ least (tries a q) (suc f)
     waiting : (q : ℕ) → pos ≤ q → q < n → at now q ≡ least (tries a q) f
 
-  -- the marks follow from the tries beside themselves, and beside each settled list
+  -- the marks are the outcomes of the tries given themselves, and given each settled list
   record Stand (rounds f pos : ℕ) (now : Marks) : Type 0 where
     own : Follow now f pos now
     settled : (a : Marks) → IsSettled tries n rounds a → Follow a f pos now
@@ -88,7 +88,7 @@ module _ (tries : Tries) (n : ℕ) where
         waiting = λ q low less. get_or-set_other now pos q _ None (omega arith) ∙ is.waiting q (omega arith) less;
       }
 
-  -- where the tries so far are the same beside another list
+  -- if the tries so far are the same given another list
   beside : (a b : Marks) (f pos : ℕ) (now : Marks) → ((g q : ℕ) → g ≤ f → (g ≡ f → q < pos) → tries a q g ≡ tries b q g) → Follow a f pos now → Follow b f pos now
   beside a b f pos now same is = record {
     long = is.long;
@@ -104,10 +104,10 @@ module _ (tries : Tries) (n : ℕ) where
   at_first : (a : Marks) → Follow a 0 0 (after_rounds tries n 0)
   at_first a = record { long = length-replicate n None; played = λ q lt. absurd (omega arith); waiting = λ q low lt. get_or-replicate n q None None lt }
 
--- ---- what tries see
+-- ---- what tries depend on
 
 module _ (tries : Tries) (is : IsOrderly tries) where
-  -- tries that don't come before change nothing of what is seen of their position
+  -- tries that don't come before change nothing that another depends on
   further_unseen : (a : Marks) (f pos q low rounds : ℕ) → low ≤ rounds → ((g : ℕ) → low ≤ g → comes_before g q f pos ≡ false)
       → earlier f pos q (least (tries a q) low) ≡ earlier f pos q (least (tries a q) rounds)
   further_unseen a f pos q low rounds le later =
@@ -149,7 +149,7 @@ module _ (tries : Tries) (is : IsOrderly tries) where
 
 -- ---- all tries
 
--- a position that is decided has what further rounds would give it
+-- a decided position has what further rounds would give it
 decided_stays : (said : ℕ → Option Mark) (n m : ℕ) (now : Option Mark) → n ≤ m → now ≡ least said n → (now ≡ None → ⊥) → now ≡ least said m
 decided_stays said n m None le e some = absurd (some refl)
 decided_stays said n m (Some mark) le e some = sym (least_stays said n m mark le (sym e))
@@ -178,7 +178,7 @@ module _ (tries : Tries) (is : IsOrderly tries) (n : ℕ) where
       let stand = tries_of_round rounds f n _ le (omega arith) (all_rounds rounds f (omega arith)) in
       record { own = next_round tries n _ f _ stand.own; settled = λ a a_settled. next_round tries n a f _ (stand.settled a a_settled) }
 
-  -- ---- what they leave
+  -- ---- the end of the rounds
 
   pub rounds_settle : (rounds : ℕ) → IsSettled tries n rounds (after_rounds tries n rounds)
   rounds_settle rounds =
@@ -192,7 +192,7 @@ module _ (tries : Tries) (is : IsOrderly tries) (n : ℕ) where
       let lt : q < n = rw (← settled.long) less in
       settled.each q lt ∙ sym (follow.waiting q (omega arith) lt))
 
-  -- where each position is decided, the list is settled: further rounds change nothing
+  -- if each position is decided, the list is settled: further rounds change nothing
   pub rounds_decided : (f rounds : ℕ) (now : Marks) → f ≤ rounds → now ≡ after_rounds tries n f → list_all (λ m. is_some m) now ≡ true → now ≡ after_rounds tries n rounds
   rounds_decided f rounds now le e all =
       let settled : IsSettled tries n f now = rw e (rounds_settle f) in

@@ -22,7 +22,7 @@ test_fails : (code : FaultCode) (test : Bool) → (code when test) ≡ None → 
 test_fails code true h = cc
 test_fails code false h = refl
 
--- no check of a row has a fault
+-- no check of a list finds a fault
 passes : (checks : List (Option FaultCode)) → first_of checks ≡ None → (i : ℕ) → slice_index_or checks i None ≡ None
 passes [] h i = refl
 passes (check ∷ checks) h zero = passes_first check _ h
@@ -38,7 +38,7 @@ not_false : (b : Bool) → not b ≡ false → b ≡ true
 not_false true h = refl
 not_false false h = cc
 
--- a number of a choose step in range gives a number of reps in range
+-- a count in range gives a number of reps in range
 reps_few : (n : ℤ) (size : ℕ) → size ≤ 32 → is_count n ≡ true → reps n size ≤ 64
 reps_few (pos zero) size le h = omega arith
 reps_few (pos (suc n)) size le h = let k : nat_le (suc n) 64 ≡ true = h in grind (arith, nat_tests)

@@ -1,4 +1,4 @@
--- The first fault of a list stands at its place.
+-- The first fault of a draft is at the place that it names, and nothing before it has one.
 use Rattle.std.proofs.Common.{arith, ◌≡◌, ◌∙◌, ◌<◌, ◌+◌, Option, Some, None, List, [], ◌∷◌, ℕ, zero, suc, refl, sym, ap, take, fold, slice_get, IfSome, ◌⊎◌, inl, inr}
 use Rattle.crush_map.specs.declared.fault.FaultCode.{FaultCode}
 use Rattle.crush_map.specs.declared.fault.Element.{Element}
@@ -64,7 +64,7 @@ found element check with n k [] f h = cc
 found element check with n k (x ∷ xs) f h =
     found_by element check with n k x xs f (check k x) refl h (λ later. found element check with (n + 1) (with k x) xs f later)
 
--- the fault of a list is of its element, and stands at its index
+-- the first fault of a list has the list's name and is at its index
 record FirstOf {X : Type 0} (element : Element) (check : Known → X → Option FaultCode) (with : Known → X → Known) (k : Known) (xs : List X) (f : MapFault) : Type 0 where
   pub element_is : f.element ≡ element
   pub first : FailsFirst check with k xs f.index f.code
@@ -91,7 +91,7 @@ none_stands d h =
       f.end,
     )
 
--- a fault is of the first, or else of the second
+-- a value of `or_else` is the first's, or the first has none and it is the second's
 either : {X : Type 0} (first second : Option X) (f : X) → or_else first second ≡ Some f → (first ≡ Some f) ⊎ ((first ≡ None) × (second ≡ Some f))
 either None second f h = inr (refl, h)
 either (Some x) second f h = inl h

@@ -95,11 +95,6 @@ pub record Ids : Type 0 where
 abbrev pub no_ids : Ids
 no_ids = record { devices = []; buckets = [] }
 
--- -65536 to 65535
-abbrev pub is_id : ℤ → Bool
-is_id (pos n) = nat_le n number_limit
-is_id (negsuc n) = nat_le n number_limit
-
 -- adds an id
 abbrev pub with_id : Ids → ℤ → Ids
 with_id ids (pos n) = record ids { devices = ids.devices ++ n ∷ [] }

@@ -2,13 +2,14 @@
 
 ghost use Rattle.std.specs.Prelude.{◌≡◌, ◌≤◌, pos, IfOk, IsTrue, length};
 ghost use Rattle.crush_map.specs.Faults as spec;
+ghost use Rattle.crush_map.specs.Private.Tables as tables;
 
 use crate::numbers::Numbers;
 use crate::word::ItemId;
 use std::alloc::{AllocError, Global};
 use std::marker::Model;
 
-/// Ids of devices and ids of buckets, each in the order in which they were added. The bucket id `-1 - n` is kept as `n`.
+/// Ids of devices and ids of buckets, each in the order in which they were added. The id `-1 - n` of a bucket is kept as `n`.
 #[derive(Drop)]
 pub struct Ids {
     devices: Numbers,
@@ -70,7 +71,7 @@ impl Ids {
     /// Whether there is this id.
     pub(crate) fn has(&self, id: ItemId) -> bool
         ensures value { result ≡ spec.has_id self.now id.0 }
-        ensures known { IsTrue result → IsTrue (spec.is_id id.0) }
+        ensures known { IsTrue result → IsTrue (tables.is_id id.0) }
     {
         if id.0 < 0 {
             self.buckets.has(id.0.unsigned_abs() - 1)
@@ -81,7 +82,7 @@ impl Ids {
 
     /// Adds an id.
     pub(crate) fn with(self, id: ItemId) -> Result<Self, AllocError>
-        requires { IsTrue (spec.is_id id.0) }
+        requires { IsTrue (tables.is_id id.0) }
         ensures { IfOk result (λ ids. ids ≡ spec.with_id self id.0) }
     {
         let Ids {

@@ -1,4 +1,4 @@
--- What single words say.
+-- What single words mean.
 use Rattle.std.specs.Prelude.{ℕ, ◌<◌, ◌≤◌, ◌==◌, ◌^◌, Bool, FitsSigned, List, Option, Some, None, codes, bytes_eq, if◌then◌else◌}
 use Rattle.std.specs.Int.{w32}
 use Rattle.std.specs.List.{after_first, before_first}
@@ -10,7 +10,7 @@ use Rattle.crush_map.specs.declared.word.Kind.TheVariants.{Uniform, List as List
 abbrev pub IsNumber : List ℕ → Type 0
 IsNumber word = IsNumeral 10 (without_leading_plus word)
 
--- the number that its digits write
+-- the number that the word writes
 abbrev pub number : List ℕ → ℕ
 number word = digits_value 10 (without_leading_plus word)
 

@@ -1,4 +1,4 @@
-//! What single words say.
+//! Reading single words.
 
 ghost use Rattle.std.specs.Prelude.{◌≡◌, ◌<◌, ◌≤◌, ◌^◌, IfErr, IfOk, OkIff};
 ghost use Rattle.std.specs.Int.{w32};
@@ -18,7 +18,7 @@ pub struct Size {
     ghost few: { slots ≤ 32 },
 }
 
-/// A number from 0 to the greatest that is allowed.
+/// A number from 0 to `greatest`.
 pub(crate) fn at_most(greatest: u32, word: &str) -> Result<u32, Fault>
     ensures value { OkIff result (spec.IsNumber word.now × (spec.number word.now ≤ greatest)) (spec.number word.now) }
     ensures low { IfOk result (λ n. n ≤ greatest) }

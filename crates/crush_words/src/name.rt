@@ -1,10 +1,10 @@
-//! Names as they stand in a text.
+//! Names in a text.
 
 ghost use Rattle.std.specs.Prelude.{◌≡◌};
 
 use std::marker::Model;
 
-/// A name that lies in a text. A contract sees its bytes.
+/// A name, borrowed from a text. Contracts see its bytes.
 #[derive(Drop)]
 pub struct Name<'a> {
     bytes: &'a [u8],
@@ -19,7 +19,7 @@ impl<'a> Model for Name<'a> {
 }
 
 impl<'a> Name<'a> {
-    /// The name that these bytes are.
+    /// The name of these bytes.
     pub fn new(bytes: &'a [u8]) -> Self
         ensures { result ≡ bytes.now }
     {

@@ -1,4 +1,4 @@
-//! What is written of a map's answers.
+//! Writing a map's answers.
 
 use crate::fault::Fault;
 use crate::ready::Ready;
@@ -9,10 +9,10 @@ use std::io::Write;
 use std::rt::Clock;
 use std::time::{Duration, Instant};
 
-/// Ceph's CRUSH_ITEM_NONE, which stands for none in a checksum.
+/// Ceph's CRUSH_ITEM_NONE, the value of an empty slot in a checksum.
 const NONE: u64 = 0x7fff_ffff;
 
-/// How often the same work is timed.
+/// How many times the same work is timed.
 const RUNS: u32 = 5;
 
 fn write_answer<W: Write>(writer: &mut W, x: u32, slots: &[Slot]) -> io::Result<()> {
@@ -61,7 +61,7 @@ fn checksum(ready: &mut Ready, size: Size, count: u32) -> u64 {
     sum
 }
 
-/// Writes the checksum, and the shortest time on standard error.
+/// Writes the checksum, and on standard error the shortest time of a mapping, in microseconds.
 pub(crate) fn time<R: Eprint + Clock, W: Write>(
     rt: &R,
     writer: &mut W,
