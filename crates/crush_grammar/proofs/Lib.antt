@@ -8,3 +8,4 @@ pub mod Codes
 pub mod Breaking
 pub mod Whole
 pub mod Forms
+pub mod Names

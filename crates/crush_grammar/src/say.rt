@@ -85,6 +85,18 @@ fn all_may_stand(bytes: &[u8]) -> bool
     bytes.iter().all(|&byte| may_stand(byte))
 }
 
+/// The text of bytes that names may have, all of which are ASCII.
+#[tactic(auto, using(crate::proofs::Names::are_utf8))]
+fn as_text(bytes: &[u8]) -> &str
+    requires { list_all is_name_byte bytes.now ≡ true }
+    ensures { result.now ≡ bytes.now }
+{
+    match str::from_utf8(bytes) {
+        Ok(text) => text,
+        Err(_) => unreachable!(),
+    }
+}
+
 /// The name that a word is.
 #[tactic(auto, unfolding(crate::specs::Sayings::name_of))]
 pub(crate) fn name_of<'a>(word: &Word<'a>) -> Option<Name<'a>>
@@ -92,7 +104,7 @@ pub(crate) fn name_of<'a>(word: &Word<'a>) -> Option<Name<'a>>
 {
     let text = word.text();
     if !text.is_empty() && all_may_stand(text) {
-        Some(Name::new(text))
+        Some(Name::new(as_text(text)))
     } else {
         None
     }
