@@ -16,7 +16,7 @@ help:
 	@echo 'make gate      the same with every edit that must fail'
 	@echo 'make wrong     tries the edits of the crates that changed, or of CRATES="NAME..", and records what refused them'
 	@echo 'make install   builds, and installs PREFIX/bin/crushcalc (PREFIX=/usr/local)'
-	@echo 'make ceph-check   compares 152,000 mappings and 93 name hashes with those of Ceph'"'"'s own library'
+	@echo 'make ceph-check   compares 176,000 mappings and 93 name hashes with those of Ceph'"'"'s own library'
 	@echo 'make bench     builds and measures; beside Ceph'"'"'s own library where that is installed'
 	@echo 'make bench-deps   installs what the comparisons with Ceph need (Debian: librados2, gcc)'
 	@echo 'make serve     the server (not built yet)'
