@@ -21,7 +21,7 @@ use Rattle.tenant_core.specs.Route.{route_of}
 use Rattle.tenant_core.specs.States.{States, IsDamaged, Same, Follows, Answers}
 use Rattle.tenant_core.specs.Step.{decision, decision_or_refusal, step_of, step, tenant_of, is_of}
 use Rattle.tenant_core.specs.StoreReply.{no_memory, store_damaged, store_fault, refused_or_damaged}
-use Rattle.tenant_core.specs.Performs.{Performs, HasOneState}
+use Rattle.tenant_core.specs.Private.Performing.{Performs, HasOneState}
 use Rattle.tenant_core.proofs.Replying.{reply-answered, damaged-answered}
 
 -- ---- whose call it is

@@ -1,13 +1,15 @@
-//! The routes of paths.
+//! The table of all routes, and the route of a path.
 
 ghost use Rattle.std.specs.Prelude.{◌≡◌, true, is_ok, OnOk};
 ghost use Rattle.matchit.specs.Route.{parse_route};
-ghost use Rattle.tenant_core.specs.Route.{table, with_route, is_new};
+ghost use Rattle.tenant_core.specs.Private.Inserting.{is_new};
+ghost use Rattle.tenant_core.specs.Route.{table, with_route};
 
+use crate::{picks, tenants};
 use matchit::{InsertError, Router};
 use std::alloc::{AllocError, Global};
 
-/// What a path names.
+/// The routes: one for each thing that a path can name.
 #[derive(Clone, Copy, Debug, PartialEq, Eq)]
 pub enum Route {
     /// `/t/{t}`
@@ -30,8 +32,8 @@ impl Routes {
     /// The table of all routes.
     pub fn build(alloc: Global) -> Result<Self, AllocError> {
         let mut router = Router::new(alloc);
-        insert(&mut router, "/t/{t}", Route::Tenant)?;
-        insert(&mut router, "/t/{t}/pick", Route::Pick)?;
+        insert(&mut router, tenants::ROUTE, Route::Tenant)?;
+        insert(&mut router, picks::ROUTE, Route::Pick)?;
         Ok(Routes { router })
     }
 
@@ -44,7 +46,7 @@ impl Routes {
     }
 }
 
-/// Adds a route that is well written, and conflicts with none that is there.
+/// Adds a route, which is well formed and conflicts with none in the router.
 fn insert(router: &mut Router<Route>, text: &str, route: Route) -> Result<(), AllocError>
     requires read { is_ok (parse_route text.now) ≡ true }
     requires new { is_new (parse_route text.now) router.old ≡ true }

@@ -1,8 +1,9 @@
--- For private clauses: a request that was carried out on a store.
+-- A request that was carried out on a store.
 use Rattle.std.specs.Prelude.{ℕ, ◌≡◌, ◌≢◌, ◌↔◌, List, Option}
 use Rattle.tenant_core.specs.Reply.{reply}
 use Rattle.tenant_core.specs.States.{States}
-use Rattle.tenant_core.specs.Step.{decision, after_effect}
+use Rattle.tenant_core.specs.Effects.{after_effect}
+use Rattle.tenant_core.specs.Step.{decision}
 use Rattle.tenant_core.specs.declared.reply.Reply.{Reply}
 use Rattle.tenant_core.specs.declared.request.Request.{Request}
 use Rattle.tenant_core.specs.declared.state.TenantState.{TenantState}

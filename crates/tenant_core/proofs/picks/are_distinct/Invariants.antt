@@ -1,6 +1,6 @@
 use Rattle.std.proofs.Common.{◌≡◌, length}
-use Rattle.tenant_core.specs.Body.{are_distinct}
-use Rattle.tenant_core.proofs.body.are_distinct.Given as goal
+use Rattle.tenant_core.specs.Picks.{are_distinct}
+use Rattle.tenant_core.proofs.picks.are_distinct.Given as goal
 
 -- what is left decides
 abbrev pub invariant-loop-rest : goal.invariant-loop-rest
