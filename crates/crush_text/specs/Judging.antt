@@ -17,21 +17,21 @@ use Rattle.crush_map.specs.declared.word.Weight.{Weight}
 use Rattle.crush_map.specs.Weights.{total_weight}
 use Rattle.crush_map.specs.Faults.{◌when◌, or_else, first_of, Known, nothing, has_number, are_in_range, type_fault, device_fault, bucket_fault, rule_head_fault, step_fault, end_fault, with_type, with_device, with_bucket, with_rule}
 use Rattle.crush_text.specs.Places.{wrong_place, in_place}
-use Rattle.crush_text.specs.declared.code.TextCode.TheVariants.{X5, Map}
-use Rattle.crush_text.specs.declared.code.TextFault.{TextFault}
-use Rattle.crush_text.specs.declared.declaration.TunableName.{TunableName}
-use Rattle.crush_text.specs.declared.declaration.TunableName.TheVariants.{LocalTries, LocalFallbackTries, TotalTries, DescendOnce, VaryR, Stable, StrawCalcVersion, AllowedBucketAlgs}
-use Rattle.crush_text.specs.declared.declaration.Setting.TheVariants as settings
-use Rattle.crush_text.specs.declared.declaration.DeclaredTunable.{DeclaredTunable}
-use Rattle.crush_text.specs.declared.declaration.DeclaredDevice.{DeclaredDevice}
-use Rattle.crush_text.specs.declared.declaration.DeclaredType.{DeclaredType}
-use Rattle.crush_text.specs.declared.declaration.DeclaredItem.{DeclaredItem}
-use Rattle.crush_text.specs.declared.declaration.DeclaredBucket.{DeclaredBucket}
-use Rattle.crush_text.specs.declared.declaration.DeclaredStep.{DeclaredStep}
-use Rattle.crush_text.specs.declared.declaration.DeclaredStep.TheVariants as steps
-use Rattle.crush_text.specs.declared.declaration.DeclaredRule.{DeclaredRule}
-use Rattle.crush_text.specs.declared.declaration.Declaration.{Declaration}
-use Rattle.crush_text.specs.declared.declaration.Declaration.TheVariants as declarations
+use Rattle.crush_grammar.specs.declared.code.TextCode.TheVariants.{X5, Map}
+use Rattle.crush_grammar.specs.declared.code.TextFault.{TextFault}
+use Rattle.crush_grammar.specs.declared.declaration.TunableName.{TunableName}
+use Rattle.crush_grammar.specs.declared.declaration.TunableName.TheVariants.{LocalTries, LocalFallbackTries, TotalTries, DescendOnce, VaryR, Stable, StrawCalcVersion, AllowedBucketAlgs}
+use Rattle.crush_grammar.specs.declared.declaration.Setting.TheVariants as settings
+use Rattle.crush_grammar.specs.declared.declaration.DeclaredTunable.{DeclaredTunable}
+use Rattle.crush_grammar.specs.declared.declaration.DeclaredDevice.{DeclaredDevice}
+use Rattle.crush_grammar.specs.declared.declaration.DeclaredType.{DeclaredType}
+use Rattle.crush_grammar.specs.declared.declaration.DeclaredItem.{DeclaredItem}
+use Rattle.crush_grammar.specs.declared.declaration.DeclaredBucket.{DeclaredBucket}
+use Rattle.crush_grammar.specs.declared.declaration.DeclaredStep.{DeclaredStep}
+use Rattle.crush_grammar.specs.declared.declaration.DeclaredStep.TheVariants as steps
+use Rattle.crush_grammar.specs.declared.declaration.DeclaredRule.{DeclaredRule}
+use Rattle.crush_grammar.specs.declared.declaration.Declaration.{Declaration}
+use Rattle.crush_grammar.specs.declared.declaration.Declaration.TheVariants as declarations
 
 -- what was declared so far: a draft of the map, what is known by then, and the tunables that were named
 pub record Declared : Type 0 where

@@ -1,9 +1,4 @@
-pub mod Sayings
-pub mod Syntax
-pub mod Fronts
 pub mod Places
 pub mod Judging
 pub mod MapText
 pub mod Canonical
-pub mod Automaton
-pub mod Leads

@@ -3,12 +3,12 @@ use Rattle.std.specs.Prelude.{◌≡◌, ℕ, ◌<◌, ◌≤◌, ◌⊎◌, Lis
 use Rattle.crush_map.specs.Map.{Map, IsMap, IsMapOf}
 use Rattle.crush_map.specs.Faults.{or_else}
 use Rattle.crush_words.specs.Words.{Word, words}
-use Rattle.crush_text.specs.Syntax.{Declares}
-use Rattle.crush_text.specs.Fronts.{Breaks, last_line}
+use Rattle.crush_grammar.specs.Syntax.{Declares}
+use Rattle.crush_grammar.specs.Fronts.{Breaks, last_line}
 use Rattle.crush_text.specs.Judging.{declared, declared_fault, last_fault}
-use Rattle.crush_text.specs.declared.code.TextCode.TheVariants.{X7}
-use Rattle.crush_text.specs.declared.code.TextFault.{TextFault}
-use Rattle.crush_text.specs.declared.declaration.Declaration.{Declaration}
+use Rattle.crush_grammar.specs.declared.code.TextCode.TheVariants.{X7}
+use Rattle.crush_grammar.specs.declared.code.TextFault.{TextFault}
+use Rattle.crush_grammar.specs.declared.declaration.Declaration.{Declaration}
 
 -- the words are of the grammar, no declaration and nothing at the end has a fault, and the map is the one that is declared
 pub record SaysMap (ws : List Word) (m : Map) : Type 0 where

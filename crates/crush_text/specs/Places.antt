@@ -3,8 +3,8 @@ use Rattle.std.specs.Prelude.{ℕ, zero, suc, ◌+◌, nat_le, ◌==◌, ◌||�
 use Rattle.std.specs.List.{list_any}
 use Rattle.std.specs.Option.{option_map_or}
 use Rattle.crush_map.specs.Faults.{or_else}
-use Rattle.crush_text.specs.declared.declaration.Place.{Place}
-use Rattle.crush_text.specs.declared.declaration.DeclaredItem.{DeclaredItem}
+use Rattle.crush_grammar.specs.declared.declaration.Place.{Place}
+use Rattle.crush_grammar.specs.declared.declaration.DeclaredItem.{DeclaredItem}
 
 -- an item names this place
 abbrev pub names_place : ℕ → DeclaredItem → Bool

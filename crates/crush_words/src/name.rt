@@ -7,7 +7,7 @@ use std::marker::Model;
 /// A name that lies in a text. A contract sees its bytes.
 #[derive(Drop)]
 pub struct Name<'a> {
-    bytes: &'a [u8],
+    text: &'a str,
 }
 
 impl<'a> Model for Name<'a> {
@@ -15,21 +15,21 @@ impl<'a> Model for Name<'a> {
 
     ghost Value = { List ℕ };
 
-    ghost view = { λ name. name.bytes.now };
+    ghost view = { λ name. name.text.now };
 }
 
 impl<'a> Name<'a> {
-    /// The name that these bytes are.
-    pub fn new(bytes: &'a [u8]) -> Self
-        ensures { result ≡ bytes.now }
+    /// The name that this text is.
+    pub fn new(text: &'a str) -> Self
+        ensures { result ≡ text.now }
     {
-        Name { bytes }
+        Name { text }
     }
 
-    /// Its bytes.
-    pub fn bytes(&self) -> &'a [u8]
+    /// Its text.
+    pub fn as_str(&self) -> &'a str
         ensures { result.now ≡ self.now }
     {
-        self.bytes
+        self.text
     }
 }

@@ -1,6 +1,6 @@
 //! Texts and their first faults of form, with their lines.
 
-use crush_text::{TextCode, form_fault};
+use crush_grammar::{TextCode, read_declarations};
 use std::alloc::Global;
 use std::test::Fail;
 
@@ -55,7 +55,7 @@ fn with_line(alloc: Global, number: usize, line: Option<&str>) -> Result<String,
 
 /// The first fault of form, by line and code.
 fn fault(alloc: Global, text: &str) -> Result<Option<(usize, TextCode)>, Fail> {
-    match form_fault(alloc, text.as_bytes())? {
+    match read_declarations(alloc, text.as_bytes())?.fault {
         Some(fault) => Ok(Some((fault.line, fault.code))),
         None => Ok(None),
     }

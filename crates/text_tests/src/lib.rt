@@ -1,4 +1,4 @@
-//! Tests of `crush_words` and `crush_text`. They stand apart, so that the crates themselves are proved once.
+//! Tests of `crush_words`, `crush_grammar` and `crush_text`. They stand apart, so that the crates themselves are proved once.
 #![tactic(auto)]
 
 #[cfg(test)]

@@ -1,0 +1,101 @@
+-- Where words leave the grammar, and what is declared before.
+use Rattle.std.specs.Prelude.{◌≡◌, ℕ, suc, ◌<◌, ◌||◌, ◌⊎◌, true, codes, bytes_eq, Bool, List, [], ◌∷◌, ◌++◌, length, take, slice_get, IsSomeAnd, is_some}
+use Rattle.crush_words.specs.Words.{Word}
+use Rattle.crush_grammar.specs.Sayings.{name_of}
+use Rattle.crush_grammar.specs.Syntax.{Declares}
+use Rattle.crush_grammar.specs.declared.code.TextCode.{TextCode}
+use Rattle.crush_grammar.specs.declared.code.TextCode.TheVariants.{X1, X2, X3, X4, X6}
+use Rattle.crush_grammar.specs.declared.code.TextFault.{TextFault}
+use Rattle.crush_grammar.specs.declared.declaration.DeclaredRule.{DeclaredRule}
+use Rattle.crush_grammar.specs.declared.declaration.DeclaredStep.{DeclaredStep}
+use Rattle.crush_grammar.specs.declared.declaration.DeclaredStep.TheVariants.{Take}
+use Rattle.crush_grammar.specs.declared.declaration.Declaration.{Declaration}
+use Rattle.crush_grammar.specs.declared.declaration.Declaration.TheVariants.{Rule}
+
+-- the words are the front of a text: with some words behind them they are a text
+abbrev pub IsFront : List Word → Type 0
+IsFront ws = (more : List Word) × (ds : List Declaration) × Declares (ws ++ more) ds
+
+-- the words are a whole text
+abbrev pub IsWhole : List Word → Type 0
+IsWhole ws = (ds : List Declaration) × Declares ws ds
+
+-- the word at place i is the first with which the words are no front of a text
+abbrev pub LeavesAt : List Word → ℕ → Type 0
+LeavesAt ws i = (i < length ws) × IsFront (take i ws) × ¬ (IsFront (take (suc i) ws))
+
+-- ---- what is wrong with a word behind a front
+
+abbrev pub is : List ℕ → Word → Bool
+is text w = bytes_eq w.text text
+
+-- a word of names' bytes, or a brace; any other word is a byte that no text may have
+abbrev pub is_token : Word → Bool
+is_token w = is_some (name_of w.text) || is (codes "{") w || is (codes "}") w
+
+-- a word with this text may stand behind the front
+abbrev pub MayStand : List Word → List ℕ → Type 0
+MayStand front text = IsFront (front ++ record { line = 0; text = text } ∷ [])
+
+-- such a word may stand there, and the name a may not
+abbrev pub Wants : List Word → List ℕ → Type 0
+Wants front text = MayStand front text × ¬ (MayStand front (codes "a"))
+
+-- straw or straw2 where the algorithm of a bucket is wanted
+abbrev pub IsStraw : List Word → Word → Type 0
+IsStraw front w = ((is (codes "straw") w || is (codes "straw2") w) ≡ true) × Wants front (codes "tree")
+
+-- class behind a take step: with a brace behind it, the front is a text that ends with a rule whose last step is that take
+abbrev pub IsClassOfTake : List Word → Word → Type 0
+IsClassOfTake front w =
+    (is (codes "class") w ≡ true)
+    × ((ds : List Declaration) × (r : DeclaredRule) × (before : List DeclaredStep) × (name : List ℕ)
+    × Declares (front ++ record { line = 0; text = codes "}" } ∷ []) (ds ++ Rule r ∷ []) × (r.steps ≡ before ++ Take name ∷ []))
+
+-- choose_args where a declaration may begin
+abbrev pub IsChooseArgs : List Word → Word → Type 0
+IsChooseArgs front w = (is (codes "choose_args") w ≡ true) × IsWhole front
+
+-- a word where a weight is wanted
+abbrev pub IsNoWeight : List Word → Word → Type 0
+IsNoWeight front w = (is_token w ≡ true) × Wants front (codes "0.5")
+
+-- the code of a word that leaves the grammar behind a front
+abbrev pub HasCode : List Word → Word → TextCode → Type 0
+HasCode front w X2 = IsStraw front w
+HasCode front w X3 = IsClassOfTake front w
+HasCode front w X4 = IsChooseArgs front w
+HasCode front w X6 = IsNoWeight front w
+HasCode front w X1 = ¬ (IsStraw front w) × ¬ (IsClassOfTake front w) × ¬ (IsChooseArgs front w) × ¬ (IsNoWeight front w)
+HasCode front w other = ⊥
+
+-- ---- what is declared before a fault
+
+-- the words xs are whole, and the words ys behind them begin one more declaration
+abbrev pub IsCut : List Word → List Word → Type 0
+IsCut xs ys = (more : List Word) × (d : Declaration) × Declares (ys ++ more) (d ∷ [])
+
+-- what a front declares: all, if it is whole; else what stands before the declaration that it breaks off.
+-- So a word that does not continue a device that is whole belongs to the next declaration.
+abbrev pub FrontDeclares : List Word → List Declaration → Type 0
+FrontDeclares front ds = Declares front ds ⊎ (¬ (IsWhole front) × ((xs : List Word) × (ys : List Word) × (front ≡ xs ++ ys) × Declares xs ds × IsCut xs ys))
+
+-- ---- faults of the form
+
+-- the line of the last word, or this one
+abbrev pub last_line : ℕ → List Word → ℕ
+last_line line [] = line
+last_line line (w ∷ ws) = last_line w.line ws
+
+-- a word leaves the grammar, and before it this is declared
+abbrev pub LeavesWith : List Word → List Declaration → TextFault → Type 0
+LeavesWith ws ds f =
+    (i : ℕ) × LeavesAt ws i × IsSomeAnd (slice_get ws i) (λ w. (f.line ≡ w.line) × HasCode (take i ws) w f.code) × FrontDeclares (take i ws) ds
+
+-- the words are a front, and end before they are whole
+abbrev pub EndsEarly : List Word → List Declaration → TextFault → Type 0
+EndsEarly ws ds f = IsFront ws × ¬ (IsWhole ws) × (f ≡ record { line = last_line 1 ws; code = X1 }) × FrontDeclares ws ds
+
+-- what is declared before the fault of the form, and that fault
+abbrev pub Breaks : List Word → List Declaration → TextFault → Type 0
+Breaks ws ds f = LeavesWith ws ds f ⊎ EndsEarly ws ds f

@@ -1,0 +1,4 @@
+pub mod Sayings
+pub mod Syntax
+pub mod Fronts
+pub mod Private

@@ -1,0 +1,20 @@
+//! What holds of every text. A call does nothing: its caller learns the law.
+
+ghost use Rattle.std.specs.Prelude.{◌≡◌, ◌⊎◌, ℕ, List};
+ghost use Rattle.crush_words.specs.Words.{Word};
+ghost use Rattle.crush_grammar.specs.Fronts.{Breaks, IsWhole, LeavesAt};
+ghost use Rattle.crush_grammar.specs.Syntax.{Declares};
+ghost use Rattle.crush_grammar.specs.declared.code.TextFault.{TextFault};
+ghost use Rattle.crush_grammar.specs.declared.declaration.Declaration.{Declaration};
+
+/// The words of a text declare one list.
+pub fn words_declare_once()
+    ensures { (ws : List Word) (ds es : List Declaration) → Declares ws ds → Declares ws es → ds ≡ es }
+{}
+
+/// Words are of the grammar or break, and never both; they leave the grammar at one place at most.
+pub fn words_are_whole_or_break()
+    ensures either { (ws : List Word) → IsWhole ws ⊎ ((ds : List Declaration) × (f : TextFault) × Breaks ws ds f) }
+    ensures not_both { (ws : List Word) (ds : List Declaration) (f : TextFault) → Breaks ws ds f → ¬ (IsWhole ws) }
+    ensures one_place { (ws : List Word) (i j : ℕ) → LeavesAt ws i → LeavesAt ws j → i ≡ j }
+{}

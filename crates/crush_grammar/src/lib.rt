@@ -1,0 +1,24 @@
+//! The form of map texts: their grammar, what they declare, and their first fault of form, by name and line.
+//!
+//! Source: Ceph's CRUSH map manual, which shows the text that `crushtool -d` writes.
+#![tactic(auto)]
+
+mod bucket;
+mod code;
+mod declaration;
+mod early;
+mod error;
+mod law;
+mod line;
+mod read;
+mod rule;
+mod say;
+
+pub use code::{TextCode, TextFault};
+pub use declaration::{
+    BucketHead, Declaration, DeclaredBucket, DeclaredDevice, DeclaredItem, DeclaredRule,
+    DeclaredStep, DeclaredTunable, DeclaredType, Place, Setting, TunableName,
+};
+pub use law::{words_are_whole_or_break, words_declare_once};
+pub use line::last_line;
+pub use read::{Declarations, read_declarations};
