@@ -1,13 +1,17 @@
 -- Pairs of the places of a list at which another number stands.
-use Rattle.std.proofs.Common.{◌≡◌, ◌≢◌, ℕ, zero, suc, ◌+◌, ◌-◌, ◌<◌, ◌≤◌, ◌==◌, true, false, List, [], ◌∷◌, ◌++◌, length, take, drop, nat_lt, slice_index, slice_set, slice_index_or, if◌then◌else◌, refl, ap, sym, subst, ◌∙◌, arith, ◌⊎◌, inl, inr}
-use Rattle.std.specs.List.{range_with_len, swap}
+use Rattle.std.proofs.Common.{◌≡◌, ◌≢◌, ℕ, zero, suc, ◌+◌, ◌-◌, ◌<◌, ◌≤◌, min, ◌==◌, true, false, List, [], ◌∷◌, ◌++◌, length, take, drop, nat_lt, slice_index, slice_set, slice_index_or, if◌then◌else◌, refl, ap, sym, subst, ◌∙◌, arith, ◌⊎◌, inl, inr}
+use Rattle.std.specs.List.{range_with_len, swap, insert}
 use Rattle.std.proofs.Math.Seq.{drop-cons, take-length}
-use Rattle.std.proofs.lemmas.List.{take-append-drop, take-set, drop-set, length-take-le, get_or_default, length-set, drop_all}
+use Rattle.std.proofs.lemmas.List.{take-append-drop, take-set, drop-set, length-take-le, get_or_default, length-set, drop_all, length-drop, length-append, get_or-drop, get_or-set_other, get_or-set_same, set_comm, set-get_or, take-set-le, ext_get_or}
+use Rattle.std.proofs.Math.ListN.{get_or-append}
 use Rattle.std.proofs.lemmas.Bool.Decides.{nat_tests}
-use Rattle.std.proofs.lemmas.List.Sums.{prefix_len_is}
+use Rattle.std.proofs.lemmas.List.Sums.{prefix_len_is, prefix_len_passes}
+use Rattle.std.proofs.lemmas.List.Folds.{length-prefix_len}
+use Rattle.std.proofs.lemmas.List.Edits.{length-insert, get_or-insert_at, get_or-insert_below, get_or-insert_above}
+use Rattle.std.proofs.lemmas.List.FromFn.{length-range_with_len}
 use Rattle.crush_map.specs.declared.ItemId.{ItemId}
-use Rattle.crush_bucket.specs.Permutation.{differing, after_swaps}
-use Rattle.crush_bucket.specs.Pairs.{Pair, no_pair, IsRising, index, first_at, member_at, others, pair_of, put}
+use Rattle.crush_bucket.specs.Permutation.{differing, after_swaps, partner}
+use Rattle.crush_bucket.specs.Private.Pairs.{Pair, no_pair, IsRising, index, first_at, member_at, others, pair_of, put}
 
 is_same : (m k : ℕ) → m ≡ k → (m == k) ≡ true
 is_same m k e = grind (arith, nat_tests)
@@ -252,3 +256,103 @@ index_is pairs place at rising low higher below =
       | inr less ↦ (let r = rising k (at - 1) less (omega arith) in omega arith)
     ])) in
     sym (prefix_len_is (λ (pair : Pair). nat_lt pair.0 place) pairs at no_pair low lower (λ h. is_not_lower (slice_index_or pairs at no_pair).0 place (higher at (omega arith) h)))
+
+-- ---- the pairs that a search leaves behind it
+
+-- the pair before a place's index is of a lower place
+pub pair_below : (pairs : List Pair) (place : ℕ) → 0 < index pairs place → (slice_index_or pairs (index pairs place - 1) no_pair).0 < place
+pair_below pairs place some =
+    let h = prefix_len_passes (λ (pair : Pair). nat_lt pair.0 place) pairs (index pairs place - 1) no_pair (omega arith) in
+    grind (arith, nat_tests, h)
+
+-- a place's index counts the pairs of the list up to it
+index_of_list : (xs : List ℕ) (i : ℕ) → i ≤ length xs → index (differing 0 xs) i ≡ length (differing 0 (take i xs))
+index_of_list xs i low =
+    sym (length-prefix_len (λ (pair : Pair). nat_lt pair.0 i) (differing 0 xs)) ∙ ap (λ (ps : List Pair). length ps) (split xs 0 i i (omega arith) low).front
+
+-- a number put at a place moves no index up to it
+pub index_stays : (xs : List ℕ) (i j m : ℕ) → i ≤ j → j < length xs → index (differing 0 (slice_set xs j m)) i ≡ index (differing 0 xs) i
+index_stays xs i j m le low =
+    let len = length-set xs j m in
+    index_of_list (slice_set xs j m) i (omega (arith, len)) ∙ ap (λ (ys : List ℕ). length (differing 0 ys)) (take-set-le i xs j m le) ∙ sym (index_of_list xs i (omega arith))
+
+-- ---- pairs that are inserted
+
+others_none : (rest : List Pair) (place : ℕ) → (0 < length rest → (slice_index_or rest 0 no_pair).0 ≢ place) → others rest place ≡ rest
+others_none [] place other = refl
+others_none (pair ∷ rest) place other = rw (is_other pair.0 place (other (omega arith))) refl
+
+-- a number put at a place that has no pair
+pub put_new : (pairs : List Pair) (at place member : ℕ) → at ≡ index pairs place → (at < length pairs → (slice_index_or pairs at no_pair).0 ≢ place) → member ≢ place → insert pairs at (place, member) ≡ put pairs place member
+put_new pairs at place member is new other =
+    let len = length-drop at pairs in
+    let first = get_or-drop at pairs 0 no_pair in
+    let e : at + 0 ≡ at = omega arith in
+    let rest : others (drop at pairs) place ≡ drop at pairs = others_none (drop at pairs) place (λ some. rw (first, e) (new (omega (arith, len)))) in
+    rw (← is, is_other member place other, rest) refl
+
+-- a list whose elements from an index on were moved by one, with an element set there
+pub inserted : (old moved : List Pair) (at : ℕ) (pair : Pair) → at ≤ length old → length moved ≡ length old + 1
+    → ((k : ℕ) → k < at → slice_index_or moved k no_pair ≡ slice_index_or (old ++ pair ∷ []) k no_pair)
+    → ((k : ℕ) → at ≤ k → k < length old → slice_index_or moved (k + 1) no_pair ≡ slice_index_or (old ++ pair ∷ []) k no_pair)
+    → slice_set moved at pair ≡ insert old at pair
+inserted old moved at pair low len before after =
+    let set_len = length-set moved at pair in
+    let put_len = length-insert old at pair low in
+    ext_get_or no_pair (slice_set moved at pair) (insert old at pair) (omega (arith, set_len, put_len, len)) (λ k h.
+    (let either : ((k < at) ⊎ (k ≡ at)) ⊎ (at < k) = grind arith in
+    elim either [
+      | inl (inl less) ↦
+          get_or-set_other moved at k pair no_pair (λ e. omega arith) ∙ before k less ∙ get_or-append old (pair ∷ []) no_pair k (omega arith) ∙ sym (get_or-insert_below old at pair no_pair k less low)
+      | inl (inr same) ↦ rw same (get_or-set_same moved at pair no_pair (omega (arith, len)) ∙ sym (get_or-insert_at old at pair no_pair low))
+      | inr more ↦
+          let e : k ≡ (k - 1) + 1 = omega arith in
+          let low_k : k - 1 < length old = omega (arith, h, set_len, len) in
+          get_or-set_other moved at k pair no_pair (λ e. omega arith) ∙ ap (λ (n : ℕ). slice_index_or moved n no_pair) e ∙ after (k - 1) (omega arith) low_k ∙ get_or-append old (pair ∷ []) no_pair (k - 1) low_k
+          ∙ sym (ap (λ (n : ℕ). slice_index_or (insert old at pair) n no_pair) e ∙ get_or-insert_above old at pair no_pair (k - 1) (omega arith) low)
+    ]))
+
+-- ---- an exchange of two places, the higher one first
+
+swap_sym : (xs : List ℕ) (i j : ℕ) → i < length xs → j < length xs → i ≢ j → swap xs j i ≡ swap xs i j
+swap_sym xs i j li lj other =
+    swap_puts xs j i lj li ∙ set_comm xs j i (slice_index xs i) (slice_index xs j) (λ e. other (sym e)) ∙ sym (swap_puts xs i j li lj)
+
+-- an exchange of a place with itself
+pub swap_same : (xs : List ℕ) (i : ℕ) → i < length xs → swap xs i i ≡ xs
+swap_same xs i low =
+    let once = set-get_or xs i 0 in
+    swap_puts xs i i low low ∙ ap (λ (ys : List ℕ). slice_set ys i (slice_index xs i)) once ∙ once
+
+-- the pairs after the higher place j got its number, and after the place i got its own
+pub exchanged_down : (xs : List ℕ) (pairs one two : List Pair) (i j : ℕ) → i < j → j < length xs → pairs ≡ differing 0 xs → one ≡ put pairs j (member_at pairs i) → two ≡ put one i (member_at pairs j)
+    → (one ≡ differing 0 (slice_set xs j (slice_index xs i))) × (two ≡ differing 0 (swap xs i j))
+exchanged_down xs pairs one two i j less lj is first second =
+    let li : i < length xs = omega arith in
+    let done = exchanged xs pairs one two j i lj li is first second in
+    (done.0, done.1 ∙ ap (λ (ys : List ℕ). differing 0 ys) (swap_sym xs i j li lj (λ e. omega arith)))
+
+-- ---- the first exchange
+
+-- the place 0 and its partner
+pub first_pairs : (id : ItemId) (size x q : ℕ) → q ≡ partner id size x 0 → q < size → q ≢ 0 → differing 0 (after_swaps id size x (min 1 (size - 1))) ≡ (0, q) ∷ (q, 0) ∷ []
+first_pairs id size x q is low other =
+    let xs = range_with_len 0 size in
+    let len = length-range_with_len 0 size in
+    let one : min 1 (size - 1) ≡ 1 = omega arith in
+    let once : ((0, q) ∷ []) ≡ put [] 0 (member_at [] q) = rw (is_other q 0 other) refl in
+    let twice : ((0, q) ∷ (q, 0) ∷ []) ≡ put ((0, q) ∷ []) q (member_at [] 0) = rw (is_lower 0 q (omega arith), is_other 0 q (λ e. omega arith)) refl in
+    let done = exchanged xs [] ((0, q) ∷ []) ((0, q) ∷ (q, 0) ∷ []) 0 q (omega (arith, len)) (omega (arith, len)) (sym (differing_range 0 size)) once twice in
+    rw (one, ← is) (sym done.1)
+
+-- none, where it is its own partner
+pub no_pairs : (id : ItemId) (size x q n : ℕ) → q ≡ partner id size x 0 → q ≡ 0 → 0 < size → n ≤ 1 → differing 0 (after_swaps id size x n) ≡ []
+no_pairs id size x q n is own some low =
+    let xs = range_with_len 0 size in
+    let len = length-range_with_len 0 size in
+    let itself : partner id size x 0 ≡ 0 = sym is ∙ own in
+    let either : (n ≡ 0) ⊎ (n ≡ 1) = grind arith in
+    elim either [
+      | inl e ↦ rw e (differing_range 0 size)
+      | inr e ↦ rw (e, itself) (ap (λ (ys : List ℕ). differing 0 ys) (swap_same xs 0 (omega (arith, len))) ∙ differing_range 0 size)
+    ]

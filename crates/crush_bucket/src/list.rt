@@ -1,7 +1,8 @@
 //! List buckets.
 
 ghost use Rattle.std.specs.Prelude.{◌≡◌, ℕ, ◌<◌, ◌≤◌, ◌+◌, ◌*◌, ◌/◌, ◌%◌, ◌^◌, nat_lt, MatchOption, IfOk, IfSome, length, slice_index};
-ghost use Rattle.crush_bucket.specs.Bucket.{CanBeAsked, item_at, word, total_weight};
+ghost use Rattle.crush_bucket.specs.Bucket.{CanBeAsked, IsItemOf, item_at, word, total_weight};
+ghost use Rattle.crush_bucket.specs.Pick.{pick};
 ghost use Rattle.crush_bucket.specs.Kinds.{list_place, greatest, takes};
 ghost use Rattle.crush_bucket.specs.Private.Kept.{AreSums};
 
@@ -75,15 +76,24 @@ impl ListBucket {
     {
         self.entries.len()
     }
+
+    /// The item that is picked.
+    #[tactic(auto, unfolding(crate::specs::Kinds::list_pick, crate::specs::Pick::pick))]
+    pub(crate) fn item_for(&self, x: u32, r: u32) -> ItemId
+        ensures picked { result ≡ pick self.now x r }
+        ensures item { IsItemOf self.now.entries result }
+    {
+        let place = place_of(self.id, &self.entries, &self.sums, x, r);
+        self.entries[place].0
+    }
 }
 
 impl Picker for ListBucket {
     ghost bucket = { λ b. b };
 
-    #[tactic(auto, unfolding(crate::specs::Kinds::list_pick, crate::specs::Pick::pick))]
     fn pick(&self, _perm: &mut Perm, x: u32, r: u32) -> ItemId {
-        let place = place_of(self.id, &self.entries, &self.sums, x, r);
-        self.entries[place].0
+        let _id = self.id;
+        self.item_for(x, r)
     }
 }
 

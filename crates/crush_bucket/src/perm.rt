@@ -1,40 +1,39 @@
 //! The scratch of a uniform bucket.
 
-ghost use Rattle.std.specs.Prelude.{◌≡◌, ◌<◌, ◌≤◌, ◌+◌, ◌-◌, ◌==◌, ◌^◌, if◌then◌else◌, [], IfOk, length, slice_index, vec_capacity};
+ghost use Rattle.std.specs.Prelude.{◌≡◌, ◌<◌, ◌≤◌, ◌+◌, ◌-◌, ◌%◌, ◌==◌, ◌^◌, if◌then◌else◌, [], min, IfOk, length, slice_index, vec_capacity};
+ghost use Rattle.crush_hash.specs.Hash.{hash3};
+ghost use Rattle.crush_bucket.specs.Bucket.{word};
 ghost use Rattle.crush_bucket.specs.Permutation.{permutation, after_swaps, partner, asked, differing, kept};
-ghost use Rattle.crush_bucket.specs.Pairs.{AreFirstHashes};
 
-use crate::pairs::{Pair, member_at, put};
-use crush_hash::{hash3, hash3_lanes};
+use crate::pairs::{Pair, index_from, index_of, member_at, member_by, put};
+use crate::place_hashes::PlaceHashes;
+use crush_hash::hash3;
 use crush_map::ItemId;
 use std::alloc::{AllocError, Global};
 use std::marker::Model;
 
-/// The permutation of a bucket's places for the input that was asked last, as far as it was needed (`crush_work_bucket` of `mapper.c`): the places at which it differs from the identity. The hashes of the first four places are made at once, when the input is new.
+/// The permutation of a bucket's places for the input that was asked last, as far as it was needed (`crush_work_bucket` of `mapper.c`): the places at which it differs from the identity.
 ///
 /// A contract sees the bucket's id and size, that input, and how many exchanges were made for it.
 #[derive(Drop)]
 pub struct Perm {
-    id: ItemId,
     size: usize,
     x: u32,
     swaps: usize,
-    hashes: [u32; 4],
+    hashes: PlaceHashes,
     pairs: Vec<Pair>,
 }
 
 impl Model for Perm {
     ghost use Rattle.std.specs.Prelude.{◌≡◌, ◌<◌, ◌≤◌, ◌^◌, vec_capacity};
     ghost use Rattle.crush_bucket.specs.Permutation.{Remembered, after_swaps, differing};
-    ghost use Rattle.crush_bucket.specs.Pairs.{AreFirstHashes};
 
     ghost Value = { Remembered };
 
-    ghost view = { λ a. record { of = record { id = a.id; size = a.size }; x = a.x; swaps = a.swaps } };
+    ghost view = { λ a. record { of = record { id = a.hashes; size = a.size }; x = a.x; swaps = a.swaps } };
 
     ghost invariant = { λ a. record {
-      pairs : a.pairs.items ≡ differing 0 (after_swaps a.id a.size a.x a.swaps);
-      hashes : AreFirstHashes a.id a.x a.hashes;
+      pairs : a.pairs.items ≡ differing 0 (after_swaps a.hashes a.size a.x a.swaps);
       made : a.swaps ≤ a.size;
       room : a.size ≤ vec_capacity a.pairs;
       small : a.size < 2 ^ 32;
@@ -49,11 +48,10 @@ impl Perm {
     {
         let pairs = Vec::with_capacity(alloc, size)?;
         Ok(Perm {
-            id,
             size,
             x: 0,
             swaps: 0,
-            hashes: first_hashes(id, 0),
+            hashes: PlaceHashes::new(id),
             pairs,
         })
     }
@@ -65,20 +63,23 @@ impl Perm {
         ensures within { result < self.old.of.size }
         ensures asked { self.new ≡ asked self.old x place }
     {
+        if x != self.x && place == 0 {
+            let first = first_member(self.hashes.id(), self.size, x, &mut self.pairs);
+            self.x = x;
+            self.swaps = 1.min(self.size - 1);
+            return first;
+        }
         let made = begin(&mut self.pairs, self.x, self.swaps, x);
         let wanted = (place + 1).min(self.size - 1).max(made);
-        let hashes = hashes_for(self.id, x, self.x, self.hashes);
         exchange_all(
-            self.id,
+            &mut self.hashes,
             self.size,
             x,
-            &hashes,
             &mut self.pairs,
             made,
             wanted,
         );
         self.x = x;
-        self.hashes = hashes;
         self.swaps = wanted;
         member_at(&self.pairs, place as u32) as usize
     }
@@ -91,42 +92,36 @@ impl Perm {
     }
 }
 
-/// The hashes of the first four places for x.
-fn first_hashes(id: ItemId, x: u32) -> [u32; 4]
-    ensures { AreFirstHashes id x result }
-{
-    hash3_lanes(x, id.word(), &[0, 1, 2, 3])
-}
-
-/// The same, where those for the input that was asked last are there.
+/// The place with which a place changes contents, by its hash.
 #[inline]
-fn hashes_for(id: ItemId, x: u32, last: u32, hashes: [u32; 4]) -> [u32; 4]
-    requires { AreFirstHashes id last hashes }
-    ensures { AreFirstHashes id x result }
-{
-    if last == x {
-        hashes
-    } else {
-        first_hashes(id, x)
-    }
-}
-
-/// The place with which a place changes contents.
-#[inline]
-fn partner(id: ItemId, size: usize, x: u32, hashes: &[u32; 4], place: usize) -> usize
-    requires hashes { AreFirstHashes id x hashes.now }
+fn partner(hash: u32, size: usize, place: usize) -> usize
     requires within { place < size }
     requires small { size < 2 ^ 32 }
-    ensures value { result ≡ partner id size x place }
+    ensures value { result ≡ place + hash % (size - place) }
     ensures within { result < size }
+    ensures above { place ≤ result }
 {
     let places = (size - place) as u32;
-    let hash = if place < 4 {
-        hashes[place]
-    } else {
-        hash3(x, id.word(), place as u32)
-    };
     place + (hash % places) as usize
+}
+
+/// The member at place 0 for a new x. One exchange gives it, so that one hash is made and no vector of them.
+#[inline]
+fn first_member(id: ItemId, size: usize, x: u32, pairs: &mut Vec<Pair>) -> usize
+    requires some { 0 < size }
+    requires small { size < 2 ^ 32 }
+    requires room { size ≤ vec_capacity pairs.old }
+    ensures value { result ≡ partner id size x 0 }
+    ensures pairs { pairs.new.items ≡ differing 0 (after_swaps id size x (min 1 (size - 1))) }
+    ensures capacity { vec_capacity pairs.new ≡ vec_capacity pairs.old }
+{
+    let first = partner(hash3(x, id.word(), 0), size, 0);
+    pairs.clear();
+    if first != 0 {
+        pairs.push_reserved((0, first as u32));
+        pairs.push_reserved((first as u32, 0));
+    }
+    first
 }
 
 /// Empties the pairs where x is new; answers how many exchanges are made for it.
@@ -145,40 +140,47 @@ fn begin(pairs: &mut Vec<Pair>, last: u32, swaps: usize, x: u32) -> usize
 
 /// Makes the exchanges from one on up to another.
 fn exchange_all(
-    id: ItemId,
+    hashes: &mut PlaceHashes,
     size: usize,
     x: u32,
-    hashes: &[u32; 4],
     pairs: &mut Vec<Pair>,
     made: usize,
     wanted: usize,
 )
-    requires hashes { AreFirstHashes id x hashes.now }
     requires more { made ≤ wanted }
     requires few { wanted ≤ size }
     requires small { size < 2 ^ 32 }
     requires room { size ≤ vec_capacity pairs.old }
-    requires pairs { pairs.old.items ≡ differing 0 (after_swaps id size x made) }
-    ensures pairs { pairs.new.items ≡ differing 0 (after_swaps id size x wanted) }
+    requires pairs { pairs.old.items ≡ differing 0 (after_swaps hashes.old size x made) }
+    ensures pairs { pairs.new.items ≡ differing 0 (after_swaps hashes.old size x wanted) }
     ensures capacity { vec_capacity pairs.new ≡ vec_capacity pairs.old }
+    ensures same { hashes.new ≡ hashes.old }
 {
     for n in made..wanted {
-        exchange(id, size, x, hashes, pairs, n);
+        let other = partner(hashes.hash(x, n as u32), size, n);
+        exchange(hashes.id(), size, x, pairs, n, other);
     }
 }
 
 /// Makes one exchange more.
-fn exchange(id: ItemId, size: usize, x: u32, hashes: &[u32; 4], pairs: &mut Vec<Pair>, n: usize)
-    requires hashes { AreFirstHashes id x hashes.now }
-    requires within { n < size }
+#[inline]
+fn exchange(id: ItemId, size: usize, x: u32, pairs: &mut Vec<Pair>, n: usize, other: usize)
+    requires partner { other ≡ partner id size x n }
+    requires above { n ≤ other }
+    requires within { other < size }
     requires small { size < 2 ^ 32 }
     requires room { size ≤ vec_capacity pairs.old }
     requires pairs { pairs.old.items ≡ differing 0 (after_swaps id size x n) }
     ensures pairs { pairs.new.items ≡ differing 0 (after_swaps id size x (n + 1)) }
     ensures capacity { vec_capacity pairs.new ≡ vec_capacity pairs.old }
 {
-    let (place, other) = (n as u32, partner(id, size, x, hashes, n) as u32);
-    let (first, second) = (member_at(pairs, place), member_at(pairs, other));
-    put(pairs, place, second);
-    put(pairs, other, first);
+    if other == n {
+        return;
+    }
+    let (low, high) = (n as u32, other as u32);
+    let at = index_of(pairs, low);
+    let to = index_from(pairs, at, low, high);
+    let (first, second) = (member_by(pairs, at, low), member_by(pairs, to, high));
+    put(pairs, at, to, high, first);
+    put(pairs, at, at, low, second);
 }

@@ -1,5 +1,5 @@
 use Rattle.std.proofs.Common.{ℕ, ◌<◌, ◌≤◌, length, slice_index_or}
-use Rattle.crush_bucket.specs.Pairs.{no_pair}
+use Rattle.crush_bucket.specs.Private.Pairs.{no_pair}
 use Rattle.crush_bucket.proofs.pairs.index_of.Given as goal
 
 abbrev pub invariant-loop-at : goal.invariant-loop-at

@@ -7,7 +7,6 @@ invariant_of-result c =
     let new = c.in_ok-pairs.ensures {u = tt} in
     record {
       pairs = new.items ∙ sym (differing_range 0 c.args.size);
-      hashes = c.first_hashes.ensures;
       made = omega arith;
       room = grind (arith, new.capacity);
       small = omega arith;

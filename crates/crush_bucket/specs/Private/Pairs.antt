@@ -1,5 +1,5 @@
 -- Pairs of a place and the number at it, in order of place: at each other place stands the place's own number.
-use Rattle.std.specs.Prelude.{◌≡◌, ℕ, ◌<◌, slice_index, slice_index_or, length, ◌==◌, nat_lt, if◌then◌else◌, List, [], ◌∷◌, ◌++◌, take, drop}
+use Rattle.std.specs.Prelude.{◌≡◌, ℕ, ◌<◌, ◌+◌, ◌*◌, slice_index, slice_index_or, length, ◌==◌, nat_lt, if◌then◌else◌, List, [], ◌∷◌, ◌++◌, take, drop}
 use Rattle.std.specs.List.{prefix_len}
 use Rattle.crush_hash.specs.Hash.{hash3}
 use Rattle.crush_map.specs.declared.ItemId.{ItemId}
@@ -44,6 +44,6 @@ abbrev pub put : List Pair → ℕ → ℕ → List Pair
 put pairs place member =
     take (index pairs place) pairs ++ (pair_of place member ++ others (drop (index pairs place) pairs) place)
 
--- the hashes by which the first four places find their partners
-abbrev pub AreFirstHashes : ItemId → ℕ → List ℕ → Type 0
-AreFirstHashes id x hashes = (place : ℕ) → place < 4 → slice_index hashes place ≡ hash3 x (word id) place
+-- the hashes of four places from 4 * block on
+abbrev pub AreHashes : ItemId → ℕ → ℕ → List ℕ → Type 0
+AreHashes id x block hashes = (n : ℕ) → n < 4 → slice_index hashes n ≡ hash3 x (word id) (4 * block + n)
