@@ -7,7 +7,7 @@ use std::alloc::{AllocError, Global};
 use std::process::Abort;
 
 /// So many items of one weight, the first of them `first`.
-fn even_entries(
+pub(crate) fn even_entries(
     alloc: Global,
     first: i32,
     size: u32,
@@ -21,7 +21,7 @@ fn even_entries(
 }
 
 /// The next of a row of numbers that look random, and a number of it.
-fn next(seed: &mut u64) -> u32 {
+pub(crate) fn next(seed: &mut u64) -> u32 {
     *seed = seed
         .wrapping_mul(6_364_136_223_846_793_005)
         .wrapping_add(1_442_695_040_888_963_407);

@@ -6,4 +6,6 @@ mod lanes;
 #[cfg(test)]
 mod plain;
 #[cfg(test)]
+mod sparse;
+#[cfg(test)]
 mod tests;

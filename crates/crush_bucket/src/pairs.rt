@@ -1,13 +1,13 @@
-//! A list of numbers, kept as the places at which a number stands that isn't the place's own.
+//! A permutation of 0, 1, .. as pairs of a place and its member, in order of place, for the places whose member is another number than the place.
 
 ghost use Rattle.std.specs.Prelude.{◌≡◌, ◌≤◌, ◌<◌, ◌-◌, ◌==◌, ◌&&◌, nat_lt, vec_capacity, length, slice_index_or, drop, IsTrue};
 ghost use Rattle.std.specs.List.{insert};
 ghost use Rattle.crush_bucket.specs.Private.Pairs.{index, member_at, first_at, put, IsRising, no_pair};
 
-/// A place, and the number at it.
+/// A place and its member.
 pub(crate) type Pair = (u32, u32);
 
-/// How many pairs are of lower places. They are at most as many as there are such places, so the search begins there and goes down.
+/// How many pairs are of lower places than this one. The search goes down from the place itself, since there are at most as many.
 #[inline]
 pub(crate) fn index_of(pairs: &[Pair], place: u32) -> usize
     requires { IsRising pairs.now }
@@ -21,7 +21,7 @@ pub(crate) fn index_of(pairs: &[Pair], place: u32) -> usize
     at
 }
 
-/// The same, of a place above that of the pairs before `from`: all pairs from there on are compared, since a loop of a known length takes less time than a search that ends anywhere.
+/// The same for a place above `lower`, whose index is `from`. Compares all pairs from there on: a processor predicts a loop of a known length better than a search that may end anywhere.
 #[inline]
 pub(crate) fn index_from(pairs: &[Pair], from: usize, lower: u32, place: u32) -> usize
     requires rising { IsRising pairs.now }
@@ -35,13 +35,13 @@ pub(crate) fn index_from(pairs: &[Pair], from: usize, lower: u32, place: u32) ->
     let mut at = from;
     for i in from..pairs.len() {
         if pairs[i].0 < place {
-            at += 1;
+            at = i + 1;
         }
     }
     at
 }
 
-/// The number at a place, by the index of its pair.
+/// The member at a place, by the place's index among the pairs.
 #[inline]
 pub(crate) fn member_by(pairs: &[Pair], at: usize, place: u32) -> u32
     requires { at ≡ index pairs.now place }
@@ -54,7 +54,7 @@ pub(crate) fn member_by(pairs: &[Pair], at: usize, place: u32) -> u32
     }
 }
 
-/// The number at a place.
+/// The member at a place.
 #[inline]
 pub(crate) fn member_at(pairs: &[Pair], place: u32) -> u32
     requires { IsRising pairs.now }
@@ -63,7 +63,7 @@ pub(crate) fn member_at(pairs: &[Pair], place: u32) -> u32
     member_by(pairs, index_of(pairs, place), place)
 }
 
-/// Puts a number at a place, by the index of its pair. The pairs from `from` on are gone through.
+/// Gives a place another member, by the place's index among the pairs. Where a pair is inserted, the pairs from `from` on are rewritten.
 #[inline]
 pub(crate) fn put(pairs: &mut Vec<Pair>, from: usize, at: usize, place: u32, member: u32)
     requires index { at ≡ index pairs.old.items place }
@@ -85,7 +85,7 @@ pub(crate) fn put(pairs: &mut Vec<Pair>, from: usize, at: usize, place: u32, mem
     }
 }
 
-/// Inserts a pair. Each pair from `from` on is written, to its own place or the next, since a loop of a known length takes less time than one that ends anywhere.
+/// Inserts a pair. Rewrites all pairs from `from` on, those below `at` unchanged: a processor predicts a loop of a known length better than one that may end anywhere.
 #[inline]
 fn insert(pairs: &mut Vec<Pair>, from: usize, at: usize, pair: Pair)
     requires within { at ≤ length pairs.old.items }

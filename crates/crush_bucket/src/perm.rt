@@ -12,9 +12,9 @@ use crush_map::ItemId;
 use std::alloc::{AllocError, Global};
 use std::marker::Model;
 
-/// The permutation of a bucket's places for the input that was asked last, as far as it was needed (`crush_work_bucket` of `mapper.c`): the places at which it differs from the identity.
+/// The permutation of a bucket's places for the input that was asked last, as far as it was needed (`crush_work_bucket` of `mapper.c`). Only the places at which it differs from the identity are kept, as pairs of a place and its member, in order of place.
 ///
-/// A contract sees the bucket's id and size, that input, and how many exchanges were made for it.
+/// Contracts see the bucket's id and size, that input, and how many exchanges were made for it.
 #[derive(Drop)]
 pub struct Perm {
     size: usize,

@@ -9,7 +9,7 @@ use crush_hash::hash3_lanes;
 use crush_map::ItemId;
 use std::marker::Model;
 
-/// The hashes of four places, from a multiple of four on, for one input. A contract sees the bucket's id alone.
+/// The hashes of four places, from a multiple of four on, for one input. Contracts see the bucket's id alone.
 #[derive(Drop)]
 pub(crate) struct PlaceHashes {
     id: ItemId,

@@ -24,7 +24,7 @@ pub(crate) enum Picking {
     Tree(TreeBucket),
 }
 
-/// A bucket and its type. A contract sees both.
+/// A bucket and its type. Contracts see both.
 #[derive(Drop)]
 pub(crate) struct Row {
     of_type: u32,

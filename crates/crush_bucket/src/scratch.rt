@@ -12,7 +12,7 @@ use crush_map::{ItemId, Kind};
 use std::alloc::{AllocError, Global};
 use std::marker::Model;
 
-/// A permutation for each uniform bucket of tables, by its number. A contract sees of what each is, so that what is picked never depends on earlier questions.
+/// A permutation for each uniform bucket of tables, by the bucket's number. Contracts see each bucket's id and size, never which input was asked last.
 #[derive(Drop)]
 pub struct Scratch {
     perms: Vec<Option<Perm>>,

@@ -14,7 +14,7 @@ use crush_map::{ItemId, Kind, Weight};
 use std::alloc::{AllocError, Global};
 use std::marker::Model;
 
-/// A bucket that goes down a binary tree over its places. A contract sees the bucket.
+/// A bucket that picks by a walk down a binary tree over its places. Contracts see the bucket.
 #[derive(Drop)]
 pub struct TreeBucket {
     id: ItemId,

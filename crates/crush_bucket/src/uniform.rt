@@ -10,7 +10,7 @@ use crush_map::{ItemId, Kind, Weight};
 use std::alloc::{AllocError, Global};
 use std::marker::Model;
 
-/// A bucket whose items weigh the same: it picks by a permutation of its places. A contract sees the bucket.
+/// A bucket whose items weigh the same: it picks by a permutation of its places. Contracts see the bucket.
 #[derive(Drop)]
 pub struct UniformBucket {
     id: ItemId,
