@@ -1,3 +1,4 @@
+pub mod Differing
 pub mod Eight
 pub mod Greatest
 pub mod Heights

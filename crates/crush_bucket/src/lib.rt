@@ -1,6 +1,6 @@
 //! Buckets of a CRUSH map, and what each picks.
 //!
-//! Sources: Weil et al., 'CRUSH: Controlled, Scalable, Decentralized Placement of Replicated Data' (SC 2006), and Ceph's `src/crush/mapper.c` and `src/crush/builder.c`. Its tests are in the crate `kernel_tests`.
+//! Sources: Weil et al., 'CRUSH: Controlled, Scalable, Decentralized Placement of Replicated Data' (SC 2006), and Ceph's `src/crush/mapper.c` and `src/crush/builder.c`. Its tests are the crate `bucket_tests`.
 #![tactic(auto)]
 
 mod descent;
@@ -8,9 +8,10 @@ mod index;
 pub mod laws;
 mod list;
 mod number;
+mod pairs;
 mod perm;
 mod picker;
-mod reach;
+mod place_hashes;
 mod row;
 mod scratch;
 mod sums;

@@ -1,6 +1,6 @@
 use Rattle.std.proofs.Common.{◌≡◌, ◌+◌, ◌*◌, ◌%◌, length}
 use Rattle.crush_bucket.specs.Kinds.{greatest, takes}
-use Rattle.crush_bucket.proofs.list.place_of.Given as goal
+use Rattle.crush_bucket.proofs.list.list_place.Given as goal
 
 abbrev pub invariant-loop-block : goal.invariant-loop-block
 invariant-loop-block l =
