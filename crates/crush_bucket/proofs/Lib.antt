@@ -1,4 +1,3 @@
-pub mod Differing
 pub mod Eight
 pub mod Greatest
 pub mod Heights

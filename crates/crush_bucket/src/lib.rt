@@ -4,14 +4,13 @@
 #![tactic(auto)]
 
 mod descent;
+mod extent;
 mod index;
 pub mod laws;
 mod list;
 mod number;
-mod pairs;
 mod perm;
 mod picker;
-mod place_hashes;
 mod row;
 mod scratch;
 mod sums;

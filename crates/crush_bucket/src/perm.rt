@@ -1,42 +1,40 @@
 //! The scratch of a uniform bucket.
 
-ghost use Rattle.std.specs.Prelude.{◌≡◌, ◌<◌, ◌≤◌, ◌+◌, ◌-◌, ◌%◌, ◌==◌, ◌^◌, if◌then◌else◌, [], min, IfOk, length, slice_index, vec_capacity};
-ghost use Rattle.crush_hash.specs.Hash.{hash3};
-ghost use Rattle.crush_bucket.specs.Bucket.{word};
-ghost use Rattle.crush_bucket.specs.Permutation.{permutation, after_swaps, partner, asked, differing, kept};
+ghost use Rattle.std.specs.Prelude.{◌≡◌, ◌<◌, ◌≤◌, ◌+◌, ◌-◌, ◌^◌, IfOk, length, slice_index};
+ghost use Rattle.std.specs.List.{range_with_len};
+ghost use Rattle.crush_bucket.specs.Permutation.{permutation, after_swaps, partner};
+ghost use Rattle.crush_bucket.specs.Private.Reached.{IsReached};
 
-use crate::pairs::{Pair, index_from, index_of, member_at, member_by, put};
-use crate::place_hashes::PlaceHashes;
+use crate::extent::Extent;
 use crush_hash::hash3;
 use crush_map::ItemId;
 use std::alloc::{AllocError, Global};
 use std::marker::Model;
 
-/// The permutation of a bucket's places for the input that was asked last, as far as it was needed (`crush_work_bucket` of `mapper.c`). Only the places at which it differs from the identity are kept, as pairs of a place and its member, in order of place.
+/// The permutation of a bucket's places for the input that was asked last, as far as it was needed (`crush_work_bucket` of `mapper.c`).
 ///
-/// Contracts see the bucket's id and size, that input, and how many exchanges were made for it.
+/// Contracts see the bucket's id and size alone, never which input was asked last.
 #[derive(Drop)]
 pub struct Perm {
-    size: usize,
+    id: ItemId,
     x: u32,
-    swaps: usize,
-    hashes: PlaceHashes,
-    pairs: Vec<Pair>,
+    extent: Extent,
+    members: Vec<u32>,
 }
 
 impl Model for Perm {
-    ghost use Rattle.std.specs.Prelude.{◌≡◌, ◌<◌, ◌≤◌, ◌^◌, vec_capacity};
-    ghost use Rattle.crush_bucket.specs.Permutation.{Remembered, after_swaps, differing};
+    ghost use Rattle.std.specs.Prelude.{◌<◌, ◌^◌, length};
+    ghost use Rattle.crush_bucket.specs.Permutation.{PermView};
 
-    ghost Value = { Remembered };
+    ghost Value = { PermView };
 
-    ghost view = { λ a. record { of = record { id = a.hashes; size = a.size }; x = a.x; swaps = a.swaps } };
+    ghost use Rattle.crush_bucket.specs.Private.Reached.{IsReached};
+
+    ghost view = { λ a. record { id = a.id; size = length a.members.items } };
 
     ghost invariant = { λ a. record {
-      pairs : a.pairs.items ≡ differing 0 (after_swaps a.hashes a.size a.x a.swaps);
-      made : a.swaps ≤ a.size;
-      room : a.size ≤ vec_capacity a.pairs;
-      small : a.size < 2 ^ 32;
+      reached : IsReached a.id a.x a.members.items a.extent;
+      small : length a.members.items < 2 ^ 32;
     } };
 }
 
@@ -44,143 +42,133 @@ impl Perm {
     /// The scratch of a bucket with this id and so many items.
     pub fn build(alloc: Global, id: ItemId, size: usize) -> Result<Self, AllocError>
         requires { size < 2 ^ 32 }
-        ensures { IfOk result (λ p. p ≡ record { of = record { id = id; size = size }; x = 0; swaps = 0 }) }
+        ensures { IfOk result (λ p. p ≡ record { id = id; size = size }) }
     {
-        let pairs = Vec::with_capacity(alloc, size)?;
+        let mut members = Vec::with_capacity(alloc, size)?;
+        for place in 0..size {
+            members.push(place as u32)?;
+        }
         Ok(Perm {
-            size,
+            id,
             x: 0,
-            swaps: 0,
-            hashes: PlaceHashes::new(id),
-            pairs,
+            extent: Extent::Swaps(0),
+            members,
         })
     }
 
     /// The member of the permutation for x at a place (`bucket_perm_choose` of `mapper.c`). Takes no memory.
     pub fn member(&mut self, x: u32, place: usize) -> usize
-        requires { place < self.old.of.size }
-        ensures member { result ≡ slice_index (permutation self.old.of.id self.old.of.size x) place }
-        ensures within { result < self.old.of.size }
-        ensures asked { self.new ≡ asked self.old x place }
+        requires { place < self.old.size }
+        ensures member { result ≡ slice_index (permutation self.old.id self.old.size x) place }
+        ensures within { result < self.old.size }
+        ensures same { self.new ≡ self.old }
     {
         if x != self.x && place == 0 {
-            let first = first_member(self.hashes.id(), self.size, x, &mut self.pairs);
             self.x = x;
-            self.swaps = 1.min(self.size - 1);
-            return first;
+            self.extent = Extent::First;
+            return first_member(self.id, x, &mut self.members);
         }
-        let made = begin(&mut self.pairs, self.x, self.swaps, x);
-        let wanted = (place + 1).min(self.size - 1).max(made);
-        exchange_all(
-            &mut self.hashes,
-            self.size,
-            x,
-            &mut self.pairs,
-            made,
-            wanted,
-        );
+        let members = self.members.as_mut_slice();
+        let extent = kept_for(self.id, x, members, self.x, self.extent);
+        let swaps = exchange_up_to(self.id, x, members, extent, place);
+        let member = members[place] as usize;
         self.x = x;
-        self.swaps = wanted;
-        member_at(&self.pairs, place as u32) as usize
-    }
-
-    /// At how many places the permutation's list differs from the identity, after the exchanges made for the input that was asked last. No other place is kept.
-    pub fn kept(&self) -> usize
-        ensures { result ≡ kept self.now }
-    {
-        self.pairs.len()
+        self.extent = Extent::Swaps(swaps);
+        member
     }
 }
 
-/// The place with which a place changes contents, by its hash.
-#[inline]
-fn partner(hash: u32, size: usize, place: usize) -> usize
+/// The place with which a place changes contents.
+fn partner(id: ItemId, size: usize, x: u32, place: usize) -> usize
     requires within { place < size }
     requires small { size < 2 ^ 32 }
-    ensures value { result ≡ place + hash % (size - place) }
+    ensures value { result ≡ partner id size x place }
     ensures within { result < size }
-    ensures above { place ≤ result }
 {
     let places = (size - place) as u32;
-    place + (hash % places) as usize
+    place + (hash3(x, id.word(), place as u32) % places) as usize
 }
 
-/// The member at place 0 for a new x. One exchange gives it, so that one hash is made and no vector of them.
-#[inline]
-fn first_member(id: ItemId, size: usize, x: u32, pairs: &mut Vec<Pair>) -> usize
-    requires some { 0 < size }
-    requires small { size < 2 ^ 32 }
-    requires room { size ≤ vec_capacity pairs.old }
-    ensures value { result ≡ partner id size x 0 }
-    ensures pairs { pairs.new.items ≡ differing 0 (after_swaps id size x (min 1 (size - 1))) }
-    ensures capacity { vec_capacity pairs.new ≡ vec_capacity pairs.old }
+/// Computes the first member of the permutation for x, and no other.
+fn first_member(id: ItemId, x: u32, members: &mut [u32]) -> usize
+    requires some { 0 < length members.old }
+    requires small { length members.old < 2 ^ 32 }
+    ensures value { result ≡ partner id (length members.old) x 0 }
+    ensures kept { slice_index members.new 0 ≡ result }
 {
-    let first = partner(hash3(x, id.word(), 0), size, 0);
-    pairs.clear();
-    if first != 0 {
-        pairs.push_reserved((0, first as u32));
-        pairs.push_reserved((first as u32, 0));
-    }
+    let first = partner(id, members.len(), x, 0);
+    members[0] = first as u32;
     first
 }
 
-/// Empties the pairs where x is new; answers how many exchanges are made for it.
-fn begin(pairs: &mut Vec<Pair>, last: u32, swaps: usize, x: u32) -> usize
-    ensures made { result ≡ (if last == x then swaps else 0) }
-    ensures pairs { pairs.new.items ≡ (if last == x then pairs.old.items else []) }
-    ensures capacity { vec_capacity pairs.new ≡ vec_capacity pairs.old }
+/// Puts each place's own number at it.
+fn reset(members: &mut [u32])
+    requires { length members.old < 2 ^ 32 }
+    ensures { members.new ≡ range_with_len 0 (length members.old) }
 {
-    if last == x {
-        swaps
+    for place in 0..members.len() {
+        members[place] = place as u32;
+    }
+}
+
+/// Restores the permutation after the place-0 short cut: one exchange was made.
+fn repair(id: ItemId, x: u32, members: &mut [u32])
+    requires some { 0 < length members.old }
+    requires small { length members.old < 2 ^ 32 }
+    requires first { slice_index members.old 0 ≡ partner id (length members.old) x 0 }
+    ensures { members.new ≡ after_swaps id (length members.old) x 1 }
+{
+    let first = members[0] as usize;
+    reset(members);
+    members.swap(0, first);
+}
+
+/// Keeps the members where x is still the input that they are of, and begins anew where it isn't.
+fn kept_for(id: ItemId, x: u32, members: &mut [u32], kept: u32, extent: Extent) -> Extent
+    requires small { length members.old < 2 ^ 32 }
+    requires reached { IsReached id kept members.old extent }
+    ensures { IsReached id x members.new result }
+{
+    if kept == x {
+        extent
     } else {
-        pairs.clear();
-        0
+        reset(members);
+        Extent::Swaps(0)
     }
 }
 
-/// Makes the exchanges from one on up to another.
-fn exchange_all(
-    hashes: &mut PlaceHashes,
-    size: usize,
-    x: u32,
-    pairs: &mut Vec<Pair>,
-    made: usize,
-    wanted: usize,
-)
-    requires more { made ≤ wanted }
-    requires few { wanted ≤ size }
-    requires small { size < 2 ^ 32 }
-    requires room { size ≤ vec_capacity pairs.old }
-    requires pairs { pairs.old.items ≡ differing 0 (after_swaps hashes.old size x made) }
-    ensures pairs { pairs.new.items ≡ differing 0 (after_swaps hashes.old size x wanted) }
-    ensures capacity { vec_capacity pairs.new ≡ vec_capacity pairs.old }
-    ensures same { hashes.new ≡ hashes.old }
+/// Restores the permutation where the short cut was taken; answers how many exchanges are made.
+fn settled(id: ItemId, x: u32, members: &mut [u32], extent: Extent) -> usize
+    requires small { length members.old < 2 ^ 32 }
+    requires some { 0 < length members.old }
+    requires reached { IsReached id x members.old extent }
+    ensures members { members.new ≡ after_swaps id (length members.old) x result }
+    ensures within { result ≤ length members.old }
 {
+    match extent {
+        Extent::First => {
+            repair(id, x, members);
+            1
+        }
+        Extent::Swaps(made) => made,
+    }
+}
+
+/// Makes the exchanges that the member at a place needs; answers how many are made.
+fn exchange_up_to(id: ItemId, x: u32, members: &mut [u32], extent: Extent, place: usize) -> usize
+    requires within { place < length members.old }
+    requires small { length members.old < 2 ^ 32 }
+    requires reached { IsReached id x members.old extent }
+    ensures reached { members.new ≡ after_swaps id (length members.old) x result }
+    ensures within { result ≤ length members.old }
+    ensures member { slice_index members.new place ≡ slice_index (permutation id (length members.old) x) place }
+{
+    let size = members.len();
+    let made = settled(id, x, members, extent);
+    let wanted = (place + 1).min(size - 1).max(made);
     for n in made..wanted {
-        let other = partner(hashes.hash(x, n as u32), size, n);
-        exchange(hashes.id(), size, x, pairs, n, other);
+        let other = partner(id, size, x, n);
+        members.swap(n, other);
     }
-}
-
-/// Makes one exchange more.
-#[inline]
-fn exchange(id: ItemId, size: usize, x: u32, pairs: &mut Vec<Pair>, n: usize, other: usize)
-    requires partner { other ≡ partner id size x n }
-    requires above { n ≤ other }
-    requires within { other < size }
-    requires small { size < 2 ^ 32 }
-    requires room { size ≤ vec_capacity pairs.old }
-    requires pairs { pairs.old.items ≡ differing 0 (after_swaps id size x n) }
-    ensures pairs { pairs.new.items ≡ differing 0 (after_swaps id size x (n + 1)) }
-    ensures capacity { vec_capacity pairs.new ≡ vec_capacity pairs.old }
-{
-    if other == n {
-        return;
-    }
-    let (low, high) = (n as u32, other as u32);
-    let at = index_of(pairs, low);
-    let to = index_from(pairs, at, low, high);
-    let (first, second) = (member_by(pairs, at, low), member_by(pairs, to, high));
-    put(pairs, at, to, high, first);
-    put(pairs, at, at, low, second);
+    wanted
 }

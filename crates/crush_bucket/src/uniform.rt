@@ -2,7 +2,7 @@
 
 ghost use Rattle.std.specs.Prelude.{◌≡◌, ◌<◌, ◌^◌, IfOk, length};
 ghost use Rattle.crush_bucket.specs.Bucket.{HasEqualWeights, IsItemOf, total_weight};
-ghost use Rattle.crush_bucket.specs.Pick.{pick, perm_for, of_each};
+ghost use Rattle.crush_bucket.specs.Pick.{pick, perm_for};
 
 use crate::perm::Perm;
 use crate::picker::Picker;
@@ -74,10 +74,10 @@ impl UniformBucket {
 
     /// The item that is picked with the bucket's permutation.
     pub(crate) fn item_for(&self, perm: &mut Option<Perm>, x: u32, r: u32) -> ItemId
-        requires fits { of_each perm.old ≡ perm_for self.now }
+        requires fits { perm.old ≡ perm_for self.now }
         ensures picked { result ≡ pick self.now x r }
         ensures item { IsItemOf self.now.entries result }
-        ensures same { of_each perm.new ≡ of_each perm.old }
+        ensures same { perm.new ≡ perm.old }
     {
         let _id = self.id;
         match perm {
