@@ -20,6 +20,4 @@ mod plain;
 #[cfg(test)]
 mod rules;
 #[cfg(test)]
-mod sparse;
-#[cfg(test)]
 mod weights;
