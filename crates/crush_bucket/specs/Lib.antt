@@ -1,5 +1,6 @@
 pub mod Descent
 pub mod Bucket
+pub mod Appended
 pub mod Kept
 pub mod Kinds
 pub mod Laid

@@ -7,6 +7,7 @@ mod descent;
 mod index;
 pub mod laws;
 mod list;
+pub mod list_laws;
 mod number;
 mod perm;
 mod picker;
