@@ -16,3 +16,4 @@ pub mod Devices
 pub mod Keeping
 pub mod Lowering
 pub mod Staying
+pub mod OneTrace

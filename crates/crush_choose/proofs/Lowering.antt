@@ -1,5 +1,5 @@
 -- One call of a chooser stays where reweights fall of devices that it doesn't put out.
-use Rattle.std.proofs.Common.{◌≡◌, ℕ, zero, suc, ◌+◌, ◌<◌, ◌≤◌, ◌==◌, ◌&&◌, ◌||◌, ◌%◌, nat_lt, nat_le, ℤ, pos, negsuc, List, [], ◌∷◌, length, take, Bool, true, false, not, if◌then◌else◌, Option, Some, None, slice_index_or, refl, ap, sym, ◌∙◌, arith}
+use Rattle.std.proofs.Common.{◌≡◌, ℕ, zero, suc, ◌+◌, ◌≤◌, ◌==◌, ◌&&◌, ◌||◌, ◌%◌, nat_lt, nat_le, ℤ, pos, negsuc, List, [], ◌∷◌, length, take, Bool, true, false, not, if◌then◌else◌, Option, Some, None, slice_index_or, refl, sym, ◌∙◌, arith}
 use Rattle.std.specs.Bool.{then_some}
 use Rattle.std.proofs.lemmas.Bool.Decides.{nat_tests}
 use Rattle.crush_hash.specs.Hash.{hash2}
@@ -9,7 +9,6 @@ use Rattle.crush_choose.specs.declared.walk.Reached.{Reached}
 use Rattle.crush_choose.specs.declared.walk.Reached.TheVariants.{Empty, Wrong, Found}
 use Rattle.crush_choose.specs.declared.firstn.FirstnCall.{FirstnCall}
 use Rattle.crush_choose.specs.declared.indep.IndepCall.{IndepCall}
-use Rattle.crush_choose.specs.declared.mark.Spot.{Spot}
 use Rattle.crush_choose.specs.declared.mark.Mark.{Mark}
 use Rattle.crush_choose.specs.declared.mark.Mark.TheVariants.{Skipped, Placed}
 use Rattle.crush_choose.specs.Weights.{weight_at, is_in, id_is_in, is_device_in}

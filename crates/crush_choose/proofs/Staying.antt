@@ -1,10 +1,9 @@
 -- A run of a rule stays where reweights fall outside its trace.
-use Rattle.std.proofs.Common.{◌≡◌, ℕ, ◌-◌, ◌<◌, ◌≤◌, ◌≢◌, ◌==◌, ◌||◌, ℤ, pos, negsuc, List, [], ◌∷◌, ◌++◌, length, map, take, Bool, true, false, if◌then◌else◌, Option, Some, None, refl, ap, sym, ◌∙◌, arith, ◌⊎◌, inl, inr}
+use Rattle.std.proofs.Common.{◌≡◌, ℕ, ◌-◌, ◌<◌, ◌≢◌, ◌==◌, ◌||◌, ℤ, pos, negsuc, List, [], ◌∷◌, ◌++◌, length, map, Bool, true, false, if◌then◌else◌, Option, Some, None, refl, ap, sym, ◌∙◌, arith, ◌⊎◌, inl, inr}
 use Rattle.std.proofs.Math.Nat.{eq-or-lt_of_le}
 use Rattle.std.proofs.lemmas.Bool.Decides.{nat_tests}
 use Rattle.std.proofs.lemmas.List.Folds.{list_any-append}
 use Rattle.crush_map.specs.Faults.{has_number}
-use Rattle.crush_map.specs.declared.word.ItemId.{ItemId}
 use Rattle.crush_map.specs.declared.draft.Step.{Step}
 use Rattle.crush_map.specs.declared.draft.Step.TheVariants.{Take, SetChooseTries, SetLeafTries, SetVaryR, SetStable, Choose, Emit}
 use Rattle.crush_bucket.specs.Tables.{TablesView, bucket_numbered}
@@ -84,7 +83,7 @@ put_by none by_firstn leaf in_order by_position =
 put_stays : (t : TablesView) (w v : List ℕ) (c : ChooseCall) (none by_firstn : Bool) (room bucket : ℕ) → IsLower w v → PutsOut c.leaf c.leaf_tries
     → SlotsStay w v c.x (put_by none by_firstn c.leaf (firstn t w (firstn_call c room bucket)) (indep t w (indep_call c room bucket)))
     → put_by none by_firstn c.leaf (firstn t v (firstn_call c room bucket)) (indep t v (indep_call c room bucket))
-      ≡ put_by none by_firstn c.leaf (firstn t w (firstn_call c room bucket)) (indep t w (indep_call c room bucket))
+    ≡ put_by none by_firstn c.leaf (firstn t w (firstn_call c room bucket)) (indep t w (indep_call c room bucket))
 put_stays t w v c true by_firstn room bucket lower out stay = refl
 put_stays t w v c false true room bucket lower out stay = rw (firstn_out t w v c c.leaf room bucket lower out stay) refl
 put_stays t w v c false false room bucket lower out stay = rw (indep_out t w v c c.leaf room bucket lower out stay) refl
@@ -120,7 +119,7 @@ in_same w v x device same = rw same refl
 abbrev AreSame : List ℕ → List ℕ → List ℕ → Type 0
 AreSame w v devices = (device : ℕ) → has_number devices device ≡ true → weight_at v device ≡ weight_at w device
 
-or_left : (a b : Bool) → a ≡ true → (a || b) ≡ true
+pub or_left : (a b : Bool) → a ≡ true → (a || b) ≡ true
 or_left true b e = refl
 or_left false b e = absurd cc
 
@@ -134,7 +133,7 @@ same_before w v a b same device has = same device (list_any-append (λ n. n == d
 same_after : (w v a b : List ℕ) → AreSame w v (a ++ b) → AreSame w v b
 same_after w v a b same device has = same device (list_any-append (λ n. n == device) a b ∙ or_right (has_number a device) _ has)
 
-is_itself : (n : ℕ) → (n == n) ≡ true
+pub is_itself : (n : ℕ) → (n == n) ≡ true
 is_itself n = grind (arith, nat_tests)
 
 id_stays : (w v : List ℕ) (x : ℕ) (id : ℤ) (devices : List ℕ) → AreSame w v (devices_before id devices) → id_is_in v x id ≡ id_is_in w x id
@@ -225,10 +224,10 @@ trace_stays t w v steps x size trace is outside =
 
 -- ---- a device that was lowered
 
-eq_of : (a b : ℕ) → (a == b) ≡ true → a ≡ b
+pub eq_of : (a b : ℕ) → (a == b) ≡ true → a ≡ b
 eq_of a b e = grind (arith, nat_tests)
 
-either_holds : (a b : Bool) → (a || b) ≡ true → (a ≡ true) ⊎ (b ≡ true)
+pub either_holds : (a b : Bool) → (a || b) ≡ true → (a ≡ true) ⊎ (b ≡ true)
 either_holds true b e = inl refl
 either_holds false b e = inr e
 

@@ -317,6 +317,8 @@ impl Out {
 }
 
 /// Runs a rule for an input: sets `out` to its answer, at most `size` slots, and to the trace of the run (`crush_do_rule` of Ceph's `mapper.c`).
+///
+/// Lower reweights of devices outside the trace, of any number of them at once, leave the answer and the trace as they are.
 pub fn run_rule(
     tables: &Tables,
     scratch: &mut Scratch,

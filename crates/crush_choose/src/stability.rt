@@ -19,3 +19,8 @@ pub fn lowering_outside_the_trace_changes_nothing()
 pub fn a_changed_answer_has_a_lowered_device_in_its_trace()
     ensures { (t : TablesView) (w lowered : List ℕ) (steps : List Step) (x size : ℕ) (trace : List ℕ) → IsTrace t w steps x size trace → ((device : ℕ) → weight_at lowered device ≤ weight_at w device) → rule_answer t lowered steps x size ≢ rule_answer t w steps x size → (device : ℕ) × (has_number trace device ≡ true) × (weight_at lowered device < weight_at w device) }
 {}
+
+/// Exactly one list is the trace of a run.
+pub fn a_run_has_one_trace()
+    ensures { (t : TablesView) (w : List ℕ) (steps : List Step) (x size : ℕ) (trace other : List ℕ) → IsTrace t w steps x size trace → IsTrace t w steps x size other → other ≡ trace }
+{}
