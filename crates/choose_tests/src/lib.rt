@@ -8,4 +8,6 @@ mod limits;
 #[cfg(test)]
 mod plain;
 #[cfg(test)]
+mod stability;
+#[cfg(test)]
 mod tests;
