@@ -8,6 +8,7 @@ mod extent;
 mod index;
 pub mod laws;
 mod list;
+pub mod list_laws;
 mod number;
 mod perm;
 mod picker;

@@ -20,4 +20,6 @@ mod plain;
 #[cfg(test)]
 mod rules;
 #[cfg(test)]
+mod stability;
+#[cfg(test)]
 mod weights;
