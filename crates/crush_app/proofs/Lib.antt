@@ -1,3 +1,4 @@
+pub mod Checking
 pub mod Inputs
 pub mod Kept
 pub mod LineLemmas

@@ -4,6 +4,8 @@
 #[cfg(test)]
 mod form;
 #[cfg(test)]
+mod jewel;
+#[cfg(test)]
 mod maps;
 #[cfg(test)]
 mod words;
