@@ -1,4 +1,3 @@
-pub mod Checking
 pub mod Inputs
 pub mod Kept
 pub mod LineLemmas

@@ -1,4 +1,3 @@
 pub mod Script
 pub mod Play
 pub mod End
-pub mod Check

@@ -1,7 +1,6 @@
 //! The service of all tenants, and scripts that are played on it.
 #![tactic(auto)]
 
-mod check;
 mod input;
 mod memory_store;
 mod play;
@@ -9,7 +8,6 @@ mod script;
 mod service;
 mod wire;
 
-pub use check::{CheckEnd, check_run};
 pub use memory_store::MemoryStore;
 pub use play::{ScriptEnd, script_run};
 pub use service::Service;

@@ -10,7 +10,7 @@ use std::io::Write;
 use tenant_core::Reply;
 
 /// Writes all of the bytes, or a front of them. The first error ends it, and so does a write that takes no byte.
-pub(crate) fn write_whole<W: Write>(writer: &mut W, bytes: &[u8]) -> bool
+fn write_whole<W: Write>(writer: &mut W, bytes: &[u8]) -> bool
     ensures whole { IsTrue result → Appends (W.contents writer.old) (W.contents writer.new) bytes.now }
     ensures part { IsFalse result → AppendsPart (W.contents writer.old) (W.contents writer.new) bytes.now }
 {

@@ -19,8 +19,6 @@ pub enum Work {
     },
     /// The check of the greatest draft.
     Check,
-    /// The canonical text of a text.
-    Text,
 }
 
 /// What is asked for, the program's own name being the first word.
@@ -63,7 +61,6 @@ fn plain_work(word: &str) -> Option<Work>
     match word {
         "small" => Some(Work::Small),
         "check" => Some(Work::Check),
-        "text" => Some(Work::Text),
         _ => None,
     }
 }

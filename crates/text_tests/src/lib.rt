@@ -4,8 +4,6 @@
 #[cfg(test)]
 mod form;
 #[cfg(test)]
-mod jewel;
-#[cfg(test)]
 mod maps;
 #[cfg(test)]
 mod words;
