@@ -4,7 +4,9 @@
 #![tactic(auto)]
 
 mod lookup;
+mod name;
 mod write;
 
 pub use crush_grammar::{TextCode, TextFault};
+pub use name::code_text;
 pub use write::write_map;
