@@ -1,4 +1,4 @@
-//! Map texts: reading them, with the first fault by name and line, and writing a map as its one canonical text.
+//! Map texts: what a text means as a map, by definitions and laws, and writing a map as its one canonical text.
 //!
 //! Source: Ceph's CRUSH map manual, which shows the text that `crushtool -d` writes.
 #![tactic(auto)]
