@@ -16,7 +16,15 @@ use std::test::Fail;
 const TWO_DEVICES: Short<'static> = Short {
     devices: &[(0, "osd.0"), (1, "osd.1")],
     buckets: &[(-1, "root", 10, Kind::List, &[(0, ONE), (1, ONE)])],
-    rules: &[(0, "rule", &[Step::Take(ItemId(-1)), choose!(true, false, 1, 0), Step::Emit])],
+    rules: &[(
+        0,
+        "rule",
+        &[
+            Step::Take(ItemId(-1)),
+            choose!(true, false, 1, 0),
+            Step::Emit,
+        ],
+    )],
     ..SOUND
 };
 
