@@ -99,7 +99,7 @@ static void declare_step(char **word) {
 }
 
 static void declare(char **word) {
-  if (room) refuse("the map was asked before this was said of it");
+  if (room) refuse("the map can't be changed after a run");
   if (is(word[0], "tunables")) declare_tunables(word);
   else if (is(word[0], "devices")) devices = (int)value(word[1], 0, DEVICES);
   else if (is(word[0], "bucket")) declare_bucket(word);

@@ -1,4 +1,4 @@
-"""The library that refuses a program one of its growths of memory (refuse.c)."""
+"""Runs of a program with one of its growths of memory refused, by the library that refuse.c is compiled to."""
 import functools
 import os
 import pathlib
@@ -26,3 +26,10 @@ def refuser():
         raise Unfit(f"{compiler} doesn't compile tests/refuse.c (are the packages gcc and libc6-dev installed?): {compiled.stderr.decode(errors='replace').strip()[:200]}")
     os.replace(top / made, top / library)
     return top, library
+
+
+def refused_run(command, growth, mark, seconds, stdin=None):
+    """Runs a command with this growth refused, if it comes to it: a zero byte then goes to the file descriptor `mark`."""
+    top, library = refuser()
+    env = {**os.environ, "LD_PRELOAD": library, "REFUSE_AT": str(growth), "REFUSE_FD": str(mark)}
+    return subprocess.run(command, stdin=stdin, stdout=subprocess.PIPE, stderr=subprocess.PIPE, cwd=top, env=env, timeout=seconds)

@@ -1,3 +1,4 @@
 pub mod Script
 pub mod Play
 pub mod End
+pub mod Private

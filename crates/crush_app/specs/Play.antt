@@ -1,4 +1,4 @@
--- What playing a script does to the states of tenants and to the bytes that were written.
+-- A script that was played: the states of tenants after it, and the bytes that were written.
 use Rattle.std.specs.Prelude.{ℕ, ◌≡◌, ◌<◌, List, [], ◌∷◌, ◌++◌, length, Option}
 use Rattle.std.specs.Io.KnownBytes.{Appends}
 use Rattle.tenant_core.specs.States.{States, Headline, MeetsDefinition}
@@ -8,17 +8,11 @@ use Rattle.crush_app.specs.Script.{calls_in, output}
 
 -- ---- bytes
 
--- of the bytes those before the rest were written
+-- of these bytes all but the rest were written
 pub record AppendsUpTo (rest : List ℕ) (old new : Option (List ℕ)) (bytes : List ℕ) : Type 0 where
   pub front : List ℕ
   pub all : front ++ rest ≡ bytes
   pub written : Appends old new front
-
--- the bytes were written up to a rest that isn't empty
-pub record AppendsPart (old new : Option (List ℕ)) (bytes : List ℕ) : Type 0 where
-  pub rest : List ℕ
-  pub some : 0 < length rest
-  pub front : AppendsUpTo rest old new bytes
 
 -- ---- messages
 
@@ -45,8 +39,8 @@ pub record PlaysUpTo (old new : States) (ms : List (Option Call)) (from to : Opt
   pub part : line ++ rest ≡ output (cut ∷ []) last
   pub written : Appends from to (output before replies ++ line)
 
--- the headline of what was written: it is a front of the lines of the first messages with the replies to their calls,
--- and of these replies, for every tenant, those other than 503 are the definition's
+-- the headline: what was written is a first part of the lines for the first messages and the replies to their calls,
+-- and for every tenant those of these replies other than 503 are the definition's
 pub record WritesHeadline (old : States) (ms : List (Option Call)) (from to : Option (List ℕ)) : Type 0 where
   pub answered : List (Option Call)
   pub later : List (Option Call)

@@ -27,11 +27,11 @@ call_of line =
 abbrev pub is_nonempty : List ℕ → Bool
 is_nonempty line = nat_lt 0 (length line)
 
--- what some lines ask: for each that is not empty a call, or none where it isn't of the form
+-- the messages of some lines: for each that isn't empty its call, or none where it doesn't have the form of one
 abbrev pub messages_in : List (List ℕ) → List (Option Call)
 messages_in ls = map call_of (filter is_nonempty ls)
 
--- what an input asks. Its lines are ended by LF, one CR before an LF is dropped, and the last LF may be missing
+-- the messages of an input. Its lines end with LF, one CR before an LF is dropped, and the last LF may be missing
 abbrev pub messages : List ℕ → List (Option Call)
 messages input = messages_in (lines input)
 
@@ -42,7 +42,7 @@ calls_in (Some call ∷ ms) = call ∷ calls_in ms
 
 -- ---- from replies to bytes
 
--- the body as it is written: a reply for want of memory has none of its own
+-- the body as it is written: the text of a reply for want of memory is put in here
 abbrev pub shown_body : List ℕ → List ℕ
 shown_body [] = codes "{\"error\":\"no_memory\"}"
 shown_body (b ∷ body) = b ∷ body
@@ -51,7 +51,7 @@ shown_body (b ∷ body) = b ∷ body
 abbrev pub wire : Reply → List ℕ
 wire replied = (decimal replied.status ++ 32 ∷ []) ++ (shown_body replied.body ++ 10 ∷ [])
 
--- the reply to a line that isn't of the form
+-- the reply to a line that doesn't have the form of a call
 abbrev pub bad_line : Reply
 bad_line = reply (refused BadRequest)
 
@@ -62,6 +62,6 @@ output (None ∷ ms) replies = wire bad_line ++ output ms replies
 output (Some call ∷ ms) [] = []
 output (Some call ∷ ms) (replied ∷ replies) = wire replied ++ output ms replies
 
--- the greatest input, in bytes
+-- the longest input, in bytes
 abbrev pub input_limit : ℕ
 input_limit = 67108864

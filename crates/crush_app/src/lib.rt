@@ -1,4 +1,4 @@
-//! The service of all tenants, and scripts that are played on it.
+//! The service of all tenants, and scripts of requests to it.
 #![tactic(auto)]
 
 mod input;

@@ -1,4 +1,4 @@
-//! The store that keeps states in memory.
+//! A store of states in memory.
 
 ghost use Rattle.std.specs.Prelude.{◌≡◌, ℕ, List, Some, None, OnOk, OnErr, if◌then◌else◌, option_map};
 ghost use Rattle.std.specs.Str.{bytes_eq};
@@ -11,7 +11,7 @@ use tenant_core::{Change, StoreFault, TenantState, TenantStore};
 
 type States = BTreeMap<String, Rc<TenantState>>;
 
-/// Gives a name a state. A refused call changes none.
+/// Sets the state of a name. A refused call changes nothing.
 fn put(alloc: Global, states: &mut States, name: &str, state: TenantState) -> Result<(), AllocError>
     ensures ok { OnOk result ((u : List ℕ) → option_map (λ r. r.value) (get_by_text states.new u)
         ≡ (if bytes_eq name.now u then Some state else option_map (λ r. r.value) (get_by_text states.old u))) }
@@ -23,7 +23,7 @@ fn put(alloc: Global, states: &mut States, name: &str, state: TenantState) -> Re
     Ok(())
 }
 
-/// Leaves a name with no state.
+/// Removes the state of a name.
 fn take_out(states: &mut States, name: &str)
     ensures { (u : List ℕ) → get_by_text states.new u
         ≡ (if bytes_eq name.now u then None else get_by_text states.old u) }
@@ -31,7 +31,7 @@ fn take_out(states: &mut States, name: &str)
     let _state = states.remove(name);
 }
 
-/// The states of all tenants, in memory. Nothing outlives it.
+/// The states of all tenants in memory; they end with it.
 #[derive(Drop)]
 pub struct MemoryStore {
     alloc: Global,
@@ -43,7 +43,7 @@ impl MemoryStore {
     ghost use Rattle.tenant_core.specs.declared.state.TenantState.{TenantState};
     ghost use Rattle.crush_app.specs.declared.memory_store.MemoryStore.{MemoryStore};
 
-    /// A store with no tenant. Takes no memory.
+    /// A store with no tenant. Allocates nothing.
     ///
     /// Every store of this type is honest, and in every one each name has exactly one state.
     pub fn new(alloc: Global) -> Self

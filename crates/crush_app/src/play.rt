@@ -1,4 +1,4 @@
-//! Playing a script.
+//! Scripts: each line of an input is answered by the service, and its reply written.
 
 ghost use Rattle.std.specs.Prelude.{◌≡◌, ◌≤◌, ◌<◌, ◌∷◌, [], length, IsTrue, IfSome, option_map};
 ghost use Rattle.std.specs.Bool.{IsFalse};
@@ -20,13 +20,13 @@ use tenant_core::{CallParts, Problem, Reply, TenantStore, refused};
 /// How a script ended.
 #[derive(Clone, Copy, Debug, PartialEq, Eq)]
 pub enum ScriptEnd {
-    /// Every line was served, and its reply written.
+    /// Every line was answered, and its reply written.
     Done,
-    /// The input is over 67,108,864 bytes. No line was served.
+    /// The input is over 67,108,864 bytes. No line was answered.
     TooLong,
-    /// The input couldn't be read. No line was served.
+    /// The input couldn't be read. No line was answered.
     ReadFault,
-    /// A reply couldn't be written. No line after it was served.
+    /// A reply couldn't be written. No later line was answered.
     WriteFault,
 }
 
@@ -91,32 +91,32 @@ fn play<T: TenantStore, W: Write>(
     true
 }
 
-/// Reads a script whole, answers its lines and writes a line for each reply. An empty line has no reply.
-/// Want of memory for the script itself is the only `Err`: no line was answered.
+/// Reads a whole script, answers its lines in order and writes a line for each reply. An empty line has no reply.
+/// The only `Err` is want of memory for the script itself: then no line was answered.
 pub fn script_run<T: TenantStore, R: Read, W: Write>(
     alloc: Global,
     service: &mut Service<T>,
     reader: &mut R,
     writer: &mut W,
 ) -> Result<ScriptEnd, AllocError>
-    // Where all was done: the lines of what was read were answered, and what was written is their replies and nothing else.
+    // `Done`: all lines of the input were answered; their replies were written, and nothing else.
     ensures done { T.is_honest service.new → result ≡ Ok ScriptEnd.Done → IfSome (R.remaining reader.old)
         (λ input. Plays (T.has_state service.old) (T.has_state service.new) (messages input) (W.contents writer.old) (W.contents writer.new)) }
 
-    // Where a write failed: the replies before that one stand written whole, that one in part, and no later line was answered.
+    // `WriteFault`: the replies before the failed one were written whole, that one in part, and no later line was answered.
     ensures cut { T.is_honest service.new → result ≡ Ok ScriptEnd.WriteFault → IfSome (R.remaining reader.old)
         (λ input. PlaysUpTo (T.has_state service.old) (T.has_state service.new) (messages input) (W.contents writer.old) (W.contents writer.new)) }
 
-    // The headline of what was written: for every tenant, its replies other than 503 are those of the definition run over
-    // just the calls so answered, from the state that it had.
+    // The headline: for every tenant, the written replies other than 503 are those of the definition, run over just the calls
+    // that have such a reply, from the state that the tenant had.
     ensures headline { T.is_honest service.new → AnswersLines result → IfSome (R.remaining reader.old)
         (λ input. WritesHeadline (T.has_state service.old) (messages input) (W.contents writer.old) (W.contents writer.new)) }
 
-    // The input decides whether it is too long.
+    // An input is too long exactly by its length.
     ensures short { AnswersLines result → IfSome (R.remaining reader.old) (λ input. length input ≤ input_limit) }
     ensures long { result ≡ Ok ScriptEnd.TooLong → IfSome (R.remaining reader.old) (λ input. input_limit < length input) }
 
-    // Otherwise nothing is done, and nothing is written.
+    // Otherwise no state changed, and nothing was written.
     ensures none { T.is_honest service.new → AnswersNone result → Same (T.has_state service.old) (T.has_state service.new) }
     ensures silent { AnswersNone result → KeepsBytes (W.contents writer.old) (W.contents writer.new) }
     ensures honest { T.is_honest service.new → T.is_honest service.old }

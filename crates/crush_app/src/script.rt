@@ -1,4 +1,4 @@
-//! The lines of a script, and the calls that they are.
+//! The lines of a script, and their calls.
 
 ghost use Rattle.std.specs.Prelude.{◌≡◌, ◌==◌, ◌<◌, ◌∷◌, position, length, option_map};
 ghost use Rattle.std.specs.List.{before_first, after_first, list_any};
@@ -8,20 +8,20 @@ ghost use Rattle.crush_app.specs.Script as spec;
 
 use tenant_core::CallParts;
 
-/// The first place of a byte.
-fn place_of(bytes: &[u8], byte: u8) -> Option<usize>
+/// The index of the first such byte.
+fn index_of(bytes: &[u8], byte: u8) -> Option<usize>
     ensures { result ≡ position (λ b. b == byte) bytes.now }
 {
     bytes.iter().position(|found| *found == byte)
 }
 
-/// What stands before the first space, and what stands after it; without one all, and nothing.
+/// The bytes before the first space and those after it; without a space all of them, and none.
 fn at_space(bytes: &[u8]) -> (&[u8], &[u8])
     ensures before { result.0.now ≡ before_first spec.is_space bytes.now }
     ensures after { result.1.now ≡ after_first spec.is_space bytes.now }
 {
-    match place_of(bytes, b' ') {
-        Some(place) => (&bytes[..place], &bytes[place + 1..]),
+    match index_of(bytes, b' ') {
+        Some(index) => (&bytes[..index], &bytes[index + 1..]),
         None => (bytes, &[]),
     }
 }
@@ -38,7 +38,7 @@ fn as_text(bytes: &[u8]) -> Option<&str>
     str::from_utf8(bytes).ok()
 }
 
-/// The call of a line, if it is of the form.
+/// The call of a line, if the line has the form of one.
 pub(crate) fn call_of(line: &[u8]) -> Option<CallParts<'_>>
     ensures { option_map call_of result ≡ spec.call_of line.now }
 {
@@ -51,7 +51,7 @@ pub(crate) fn call_of(line: &[u8]) -> Option<CallParts<'_>>
     Some(CallParts { method, path, body })
 }
 
-/// A line without the CR at its end.
+/// A line without a CR at its end.
 fn without_return(line: &[u8]) -> &[u8]
     ensures { result.now ≡ strip_carriage_return line.now }
 {
@@ -61,14 +61,14 @@ fn without_return(line: &[u8]) -> &[u8]
     }
 }
 
-/// The first line of an input, and what follows it.
+/// The first line of an input, and the rest after it.
 pub(crate) fn first_line(input: &[u8]) -> (&[u8], &[u8])
     requires { 0 < length input.now }
     ensures lines { lines input.now ≡ result.0.now ∷ lines result.1.now }
     ensures shorter { length result.1.now < length input.now }
 {
-    match place_of(input, b'\n') {
-        Some(place) => (without_return(&input[..place]), &input[place + 1..]),
+    match index_of(input, b'\n') {
+        Some(index) => (without_return(&input[..index]), &input[index + 1..]),
         None => (input, &[]),
     }
 }

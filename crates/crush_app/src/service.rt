@@ -2,9 +2,9 @@
 
 ghost use Rattle.std.specs.Prelude.{◌≡◌, ◌≢◌, ◌↔◌, ℕ, List, Option, IfOk, OnOk, OnErr};
 ghost use Rattle.tenant_core.specs.CallParts.{call_of};
-ghost use Rattle.tenant_core.specs.Performs.{Performs};
+ghost use Rattle.tenant_core.specs.Private.Performing.{Performs};
 ghost use Rattle.tenant_core.specs.States.{IsDamaged, Same, Follows};
-ghost use Rattle.tenant_core.specs.Step.{Fits, after_effect};
+ghost use Rattle.tenant_core.specs.Effects.{Fits, after_effect};
 ghost use Rattle.tenant_core.specs.StoreReply.{store_damaged};
 ghost use Rattle.tenant_core.specs.declared.state.TenantState.{TenantState};
 
@@ -47,13 +47,13 @@ fn perform<T: TenantStore>(
     let tenant = request.tenant.as_str();
     let state = store.load(tenant)?;
     let decision = decide(alloc, tenant, state.as_deref(), &request.action)?;
-    // the lent state is given up before the store changes it
+    // drops the shared state first, so that the store may change it in place
     drop(state);
     carry_out(store, tenant, &decision.effect)?;
     Ok(decision.reply)
 }
 
-/// The reply to a call, or the fault that the store met.
+/// The reply to a call, or the fault of the store.
 fn reply_or_fault<T: TenantStore>(
     alloc: Global,
     routes: &Routes,
@@ -93,7 +93,7 @@ impl Service<MemoryStore> {
     ghost use Rattle.crush_app.specs.declared.memory_store.MemoryStore.{MemoryStore};
 
     /// A service over a store in memory, with no tenant. Such a store is always honest, and each name has exactly one state
-    /// in it, so the headline holds of this service with no premise.
+    /// in it, so the headline holds of this service without a premise.
     pub fn over_map(alloc: Global) -> Result<Self, AllocError>
         ensures empty { IfOk result (λ service. (name : List ℕ) → ⟦<MemoryStore as TenantStore>⟧.has_state service name None) }
         ensures honest { (store : MemoryStore) → ⟦<MemoryStore as TenantStore>⟧.is_honest store }
@@ -137,7 +137,7 @@ impl<T: TenantStore> Service<T> {
         }
     }
 
-    /// Answers the calls, in order, and adds their replies. There is room for these.
+    /// Answers the calls in order and appends their replies. `replies` has the capacity for them.
     fn answer_all(&mut self, calls: &[Call], replies: &mut Vec<Reply>)
         requires empty { replies.old.items ≡ [] }
         requires room { length calls.now ≤ vec_capacity replies.old }
@@ -153,10 +153,10 @@ impl<T: TenantStore> Service<T> {
         }
     }
 
-    /// Answers the calls, in order. Where there is no memory for the list of replies, no call is made.
+    /// Answers the calls in order. Where there is no memory for the list of replies, no call is made.
     ///
-    /// The headline: for every list of calls and every tenant, that tenant's replies other than 503 are those of the
-    /// definition run over just the calls so answered, from the state that it had: from nothing, where it was absent.
+    /// The headline: for every list of calls and every tenant, the replies to that tenant other than 503 are those of the
+    /// definition, run over just the calls that have such a reply, from the state that the tenant had (`None`: it was absent).
     pub fn run(&mut self, calls: &[Call]) -> Result<Vec<Reply>, AllocError>
         ensures count { IfOk result (λ replies. length replies.items ≡ length calls.now) }
         ensures headline { T.is_honest self.new → IfOk result (λ replies. Headline (T.has_state self.old) calls.now replies.items) }

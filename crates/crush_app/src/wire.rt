@@ -1,15 +1,15 @@
-//! Replies as lines.
+//! Replies, written as lines.
 
 ghost use Rattle.std.specs.Prelude.{◌≡◌, ◌++◌, IsTrue};
 ghost use Rattle.std.specs.Bool.{IsFalse};
 ghost use Rattle.std.specs.Io.KnownBytes.{Appends};
-ghost use Rattle.crush_app.specs.Play.{AppendsPart};
+ghost use Rattle.crush_app.specs.Private.Writing.{AppendsPart};
 ghost use Rattle.crush_app.specs.Script as spec;
 
 use std::io::Write;
 use tenant_core::Reply;
 
-/// Writes all of the bytes, or a front of them. The first error ends it, and so does a write that takes no byte.
+/// Writes the bytes, all or a first part: it ends at the first error, or where a write accepts no byte.
 fn write_whole<W: Write>(writer: &mut W, bytes: &[u8]) -> bool
     ensures whole { IsTrue result → Appends (W.contents writer.old) (W.contents writer.new) bytes.now }
     ensures part { IsFalse result → AppendsPart (W.contents writer.old) (W.contents writer.new) bytes.now }
@@ -34,7 +34,7 @@ fn write_both<W: Write>(writer: &mut W, first: &[u8], second: &[u8]) -> bool
     write_whole(writer, second)
 }
 
-/// The body as it is written: a reply for want of memory has none of its own.
+/// The body as it is written: the text of a reply for want of memory is put in here.
 fn shown_body(body: &str) -> &[u8]
     ensures { result.now ≡ spec.shown_body body.now }
 {
@@ -45,7 +45,7 @@ fn shown_body(body: &str) -> &[u8]
     }
 }
 
-/// Writes a reply as a line, or a front of it. Takes no memory.
+/// Writes a reply as a line, all or a first part. Allocates nothing.
 pub(crate) fn write_line<W: Write>(writer: &mut W, reply: &Reply) -> bool
     ensures whole { IsTrue result → Appends (W.contents writer.old) (W.contents writer.new) (spec.wire reply.now) }
     ensures part { IsFalse result → AppendsPart (W.contents writer.old) (W.contents writer.new) (spec.wire reply.now) }

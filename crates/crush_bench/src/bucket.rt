@@ -1,4 +1,4 @@
-//! Picks from one bucket.
+//! Timing picks from one bucket.
 
 ghost use Rattle.std.specs.Prelude.{◌≡◌};
 ghost use Rattle.crush_bucket.specs.Pick.{perm_of};
@@ -10,10 +10,11 @@ use std::io;
 use std::rt::Clock;
 use std::time::{Duration, Instant};
 
+/// 1.0 in 16.16 fixed point.
 const ONE: u32 = 65_536;
 
-/// The id of the bucket that is asked.
-const ASKED: ItemId = ItemId(-1);
+/// The id of the bucket.
+const ID: ItemId = ItemId(-1);
 
 /// The checksum of some picks, and how long they took.
 #[derive(Clone, Copy)]
@@ -22,14 +23,14 @@ pub struct Measured {
     pub took: Duration,
 }
 
-/// The inputs 0, 1, .. and the attempts 0, 1, .. of each.
+/// Which picks to make: for each of the inputs 0, 1, .. the attempts 0, 1, ..
 #[derive(Clone, Copy)]
 pub struct Questions {
     pub inputs: u32,
     pub tries: u32,
 }
 
-/// Picks from the bucket of a kind with so many items; none where no bucket holds that.
+/// Times the picks from a bucket of this kind with `size` items; none if there is no such bucket.
 pub(crate) fn measure<R: AllocGlobal + Clock>(
     rt: &R,
     kind: Kind,
@@ -41,27 +42,27 @@ pub(crate) fn measure<R: AllocGlobal + Clock>(
     if !can_be_asked(&entries) {
         return Ok(None);
     }
-    let perm = Perm::build(alloc, ASKED, entries.len())?;
+    let perm = Perm::build(alloc, ID, entries.len())?;
     match kind {
         Kind::Uniform => {
             if !has_equal_weights(&entries) {
                 return Ok(None);
             }
-            let bucket = UniformBucket::build(alloc, ASKED, &entries)?;
+            let bucket = UniformBucket::build(alloc, ID, &entries)?;
             measure_bucket(rt, &bucket, perm, questions)
         }
         Kind::List => {
-            let bucket = ListBucket::build(alloc, ASKED, &entries)?;
+            let bucket = ListBucket::build(alloc, ID, &entries)?;
             measure_bucket(rt, &bucket, perm, questions)
         }
         Kind::Tree => {
-            let bucket = TreeBucket::build(alloc, ASKED, &entries)?;
+            let bucket = TreeBucket::build(alloc, ID, &entries)?;
             measure_bucket(rt, &bucket, perm, questions)
         }
     }
 }
 
-/// The items 0, 1, .. and their weights.
+/// The devices 0, 1, .. with weights.
 fn entries_of(alloc: Global, kind: Kind, size: u32) -> Result<Vec<(ItemId, Weight)>, AllocError> {
     let mut entries = Vec::new(alloc);
     for n in 0..size.min(65_535) {
@@ -74,14 +75,14 @@ fn entries_of(alloc: Global, kind: Kind, size: u32) -> Result<Vec<(ItemId, Weigh
     Ok(entries)
 }
 
-/// Takes the time of the picks alone.
+/// Times the picks alone, without building the bucket.
 fn measure_bucket<P: Picker, R: Clock>(
     rt: &R,
     bucket: &P,
     mut perm: Perm,
     questions: Questions,
 ) -> io::Result<Option<Measured>>
-    requires { perm ≡ perm_of (P.bucket bucket.now) }
+    requires { perm.of ≡ perm_of (P.bucket bucket.now) }
 {
     let start = Instant::now(rt)?;
     let checksum = pick_all(bucket, &mut perm, questions);
@@ -91,7 +92,7 @@ fn measure_bucket<P: Picker, R: Clock>(
 
 /// The checksum of all picks.
 fn pick_all<P: Picker>(bucket: &P, perm: &mut Perm, questions: Questions) -> u64
-    requires { perm.old ≡ perm_of (P.bucket bucket.now) }
+    requires { perm.old.of ≡ perm_of (P.bucket bucket.now) }
 {
     let mut checksum = 0;
     'inputs: for x in 0..questions.inputs {
@@ -100,11 +101,11 @@ fn pick_all<P: Picker>(bucket: &P, perm: &mut Perm, questions: Questions) -> u64
     checksum
 }
 
-/// A checksum, and behind it the picks for one input.
+/// Adds the picks for one input to a checksum.
 #[inline]
 fn pick_tries<P: Picker>(bucket: &P, perm: &mut Perm, x: u32, tries: u32, before: u64) -> u64
-    requires { perm.old ≡ perm_of (P.bucket bucket.now) }
-    ensures { perm.new ≡ perm.old }
+    requires { perm.old.of ≡ perm_of (P.bucket bucket.now) }
+    ensures { perm.new.of ≡ perm.old.of }
 {
     let mut checksum = before;
     'tries: for r in 0..tries {

@@ -1,5 +1,6 @@
-//! The check of a draft at every limit.
+//! Timing the check of the greatest draft: one that reaches every limit.
 
+use crush_map::limits::{BUCKET_LIMIT, DEVICE_LIMIT, RULE_LIMIT, STEP_LIMIT, TYPE_LIMIT};
 use crush_map::{
     Bucket, CrushMap, Device, ItemId, Kind, Listed, MapDraft, MapFault, Rule, Step, Text, Tunables,
     TypeName, Weight,
@@ -9,20 +10,18 @@ use std::io;
 use std::rt::Clock;
 use std::time::{Duration, Instant};
 
-const TYPES: u32 = 32;
+const TYPES: u32 = TYPE_LIMIT as u32;
 
-const DEVICES: u32 = 1_024;
+const DEVICES: u32 = DEVICE_LIMIT as u32;
 
-const BUCKETS: u32 = 1_024;
+const BUCKETS: u32 = BUCKET_LIMIT as u32;
 
-const RULES: u32 = 64;
+const RULES: u32 = RULE_LIMIT as u32;
 
-const STEPS: u32 = 32;
-
-/// 1,024 times this is below 2^32, and one more isn't.
+/// The greatest weight of which 1,024 items fit into a bucket: their sum is below 2^32.
 const HEAVIEST: u32 = 4_194_303;
 
-/// A draft's first fault, and how long it took to seek.
+/// A draft's first fault, and how long the check took.
 #[derive(Clone, Copy)]
 pub struct Checked {
     pub fault: Option<MapFault>,
@@ -40,7 +39,7 @@ pub(crate) fn check<R: AllocGlobal + Clock>(rt: &R) -> io::Result<Checked> {
     Ok(Checked { fault, took })
 }
 
-/// 1,024 devices, 1,024 buckets that hold each of them, and 64 rules of 32 steps, with names as long as they may be.
+/// The greatest number of types, of devices, of buckets that have all devices as items, and of rules with all steps, each with a name of 64 bytes.
 fn fullest(alloc: Global) -> Result<MapDraft, AllocError> {
     Ok(MapDraft {
         types: types(alloc)?,
@@ -81,7 +80,7 @@ fn devices(alloc: Global) -> Result<Listed<Device>, AllocError> {
     Ok(Listed::new(devices))
 }
 
-/// All devices, each of the same weight.
+/// All devices, each with the same weight.
 fn items(alloc: Global) -> Result<Listed<(ItemId, Weight)>, AllocError> {
     let mut items = Vec::new(alloc);
     for id in 0..DEVICES {
@@ -104,7 +103,7 @@ fn buckets(alloc: Global) -> Result<Listed<Bucket>, AllocError> {
     Ok(Listed::new(buckets))
 }
 
-/// Each kind in turn.
+/// The kinds by turns.
 fn kind_at(number: u32) -> Kind {
     match number % 3 {
         0 => Kind::Uniform,
@@ -126,11 +125,11 @@ fn rules(alloc: Global) -> Result<Listed<Rule>, AllocError> {
     Ok(Listed::new(rules))
 }
 
-/// A step that takes the last bucket, then steps that choose devices below it.
+/// A take step of the last bucket, then steps that choose devices.
 fn steps(alloc: Global) -> Result<Listed<Step>, AllocError> {
     let mut steps = Vec::new(alloc);
     steps.push(Step::Take(ItemId(-(BUCKETS as i32))))?;
-    for _ in 1..STEPS {
+    for _ in 1..STEP_LIMIT {
         steps.push(Step::Choose {
             firstn: true,
             leaf: false,

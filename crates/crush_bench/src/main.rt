@@ -1,4 +1,4 @@
-//! `crush_bench`, this repository's side of the work that bench/README.md defines.
+//! `crush_bench` does this repository's part of the measurements that bench/README.md defines.
 #![tactic(auto)]
 
 mod bucket;
@@ -15,19 +15,19 @@ use words::{Work, work_of};
 const USAGE: &str =
     "usage: crush_bench [small] | pick KIND N COUNT [TRIES] | check     (KIND: 1 uniform, 2 list, 3 tree)";
 
-/// What each bucket is asked in the small run.
+/// The picks from each bucket in the small run.
 const FEW: Questions = Questions {
     inputs: 1_000,
     tries: 1,
 };
 
-/// Says what is wrong, and ends as a program that failed.
+/// Prints what is wrong, and ends with status 1.
 fn fault<R: Eprint>(rt: &R, what: &str) -> io::Result<ExitCode> {
     eprintln!(rt; "crush_bench: {what}")?;
     Ok(ExitCode::from(1))
 }
 
-/// The picks of one bucket: the checksum, and the nanoseconds of one.
+/// Prints the checksum of picks from one bucket, and on standard error the nanoseconds of one pick.
 fn pick<R: AllocGlobal + Clock + Print + Eprint>(
     rt: &R,
     kind: Kind,
@@ -35,7 +35,7 @@ fn pick<R: AllocGlobal + Clock + Print + Eprint>(
     questions: Questions,
 ) -> io::Result<ExitCode> {
     let Some(picks) = bucket::measure(rt, kind, size, questions)? else {
-        return fault(rt, "no bucket holds that");
+        return fault(rt, "there is no such bucket");
     };
     let asked = f64::from(questions.inputs) * f64::from(questions.tries);
     let each = picks.took.as_secs_f64() * 1e9 / asked;
@@ -44,7 +44,7 @@ fn pick<R: AllocGlobal + Clock + Print + Eprint>(
     Ok(ExitCode::SUCCESS)
 }
 
-/// A line for a bucket of each of these sizes: the kind, the size, and the checksum of few picks.
+/// Prints a line for a bucket of each size: the kind, the size, and the checksum of a few picks.
 fn list_small<R: AllocGlobal + Clock + Print>(
     rt: &R,
     name: &str,
@@ -61,7 +61,7 @@ fn list_small<R: AllocGlobal + Clock + Print>(
     Ok(())
 }
 
-/// Each kind of bucket at the sizes that are measured, and no times.
+/// Prints the checksums of each kind of bucket at the measured sizes, without times.
 fn small<R: AllocGlobal + Clock + Print>(rt: &R) -> io::Result<ExitCode> {
     list_small(rt, "uniform", Kind::Uniform, &[8, 32, 128, 1_024])?;
     list_small(rt, "list", Kind::List, &[8, 32, 128, 1_024])?;
@@ -69,7 +69,7 @@ fn small<R: AllocGlobal + Clock + Print>(rt: &R) -> io::Result<ExitCode> {
     Ok(ExitCode::SUCCESS)
 }
 
-/// Whether the greatest draft is a map, and the seconds that finding out takes.
+/// Prints whether the greatest draft is a map, and on standard error the seconds of the check.
 fn check<R: AllocGlobal + Clock + Print + Eprint>(rt: &R) -> io::Result<ExitCode> {
     let checked = fullest::check(rt)?;
     let took = checked.took.as_secs_f64();

@@ -1,4 +1,4 @@
-//! The program's words.
+//! The program's arguments.
 
 ghost use Rattle.std.specs.Prelude.{◌≤◌, IfSome};
 ghost use Rattle.crush_bench.specs.Words.{IsInRange};
@@ -6,12 +6,12 @@ ghost use Rattle.crush_bench.specs.Words.{IsInRange};
 use crate::bucket::Questions;
 use crush_map::Kind;
 
-/// What the program is asked for.
+/// What to measure.
 #[derive(Clone, Copy)]
 pub enum Work {
-    /// Each kind of bucket with few inputs.
+    /// A few picks from each kind of bucket.
     Small,
-    /// Picks of one bucket.
+    /// Picks from one bucket.
     Pick {
         kind: Kind,
         size: u32,
@@ -21,7 +21,7 @@ pub enum Work {
     Check,
 }
 
-/// What is asked for, the program's own name being the first word.
+/// What the arguments ask for; the first of them is the program's own name.
 pub(crate) fn work_of(words: &[String]) -> Option<Work>
     ensures { IfSome result IsInRange }
 {

@@ -4,7 +4,7 @@ use Rattle.std.proofs.Math.Nat.{pow-succ'}
 use Rattle.crush_hash.specs.Hash.{hash4}
 use Rattle.crush_map.specs.declared.ItemId.{ItemId}
 use Rattle.crush_bucket.specs.Bucket.{word}
-use Rattle.crush_bucket.specs.Descent.{is_left, child, lane_below, labels, down_by}
+use Rattle.crush_bucket.specs.Private.Descent.{is_left, child, lane_below, labels, down_by}
 
 -- a node has its label at a lane
 record InLane (node quarter lane below : ℕ) : Type 0 where

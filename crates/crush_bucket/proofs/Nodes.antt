@@ -9,8 +9,8 @@ use Rattle.crush_hash.specs.Hash.{hash4}
 use Rattle.crush_map.specs.declared.ItemId.{ItemId}
 use Rattle.crush_bucket.specs.Bucket.{Entry, word, weight_within}
 use Rattle.crush_bucket.specs.Kinds.{label, tree_draw, place_within}
-use Rattle.crush_bucket.specs.Kept.{HasNodes, node_weights}
-use Rattle.crush_bucket.specs.Descent.{is_left, child, down_by}
+use Rattle.crush_bucket.specs.Private.Kept.{HasNodes, node_weights}
+use Rattle.crush_bucket.specs.Private.Descent.{is_left, child, down_by}
 
 pub length-node_weights : (entries : List Entry) (from h : ℕ) → length (node_weights entries from h) + 1 ≡ 2 ^ suc h
 length-node_weights entries from zero = refl

@@ -8,7 +8,7 @@ use Rattle.std.proofs.lemmas.Bool.Decides.{Decides-int_eq}
 use Rattle.std.proofs.lemmas.Bool.{false_from_ne_true}
 use Rattle.crush_map.specs.declared.word.ItemId.{ItemId}
 use Rattle.crush_bucket.specs.Tables.{TypedBucket, TablesView, no_bucket, bucket_at, bucket_numbered}
-use Rattle.crush_bucket.specs.Laid.{HasNegativeIds}
+use Rattle.crush_bucket.specs.Private.Laid.{HasNegativeIds}
 
 -- whether a bucket has this id
 abbrev pub has_that_id : ℤ → TypedBucket → Bool

@@ -14,7 +14,7 @@ use Rattle.crush_bucket.specs.Bucket.{BucketView, Entry, item_at, IsItemOf}
 use Rattle.crush_bucket.specs.Kinds.{uniform_pick, takes, greatest, list_pick, place_within, height_of, tree_pick}
 use Rattle.crush_bucket.specs.Permutation.{permutation}
 use Rattle.crush_bucket.specs.Pick.{pick, pick_as}
-use Rattle.crush_bucket.specs.Laid.{IsLaid}
+use Rattle.crush_bucket.specs.Private.Laid.{IsLaid}
 use Rattle.crush_bucket.specs.Laws.{IsGreatest, NonePasses, PicksBelow, HasNoDeviceBucket}
 use Rattle.crush_bucket.specs.Tables.{TypedBucket, TablesView, tables_of, typed_bucket, no_bucket, bucket_at, type_at, pick_at}
 use Rattle.crush_bucket.proofs.Greatest.{greatest_is}

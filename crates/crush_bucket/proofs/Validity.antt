@@ -17,7 +17,7 @@ use Rattle.crush_map.specs.Map.{Map}
 use Rattle.crush_map.specs.Sound as sound
 use Rattle.crush_bucket.specs.Bucket.{BucketView, Entry, item_at, no_entry, HasEqualWeights}
 use Rattle.crush_bucket.specs.Tables.{TypedBucket, tables_of, typed_bucket, no_bucket, bucket_at, IsBelow}
-use Rattle.crush_bucket.specs.Laid.{IsFit, IsLaid, HasNegativeIds}
+use Rattle.crush_bucket.specs.Private.Laid.{IsFit, IsLaid, HasNegativeIds}
 use Rattle.crush_bucket.proofs.Numbered.{has_that_id, position_some, same_id, none_of_device}
 
 -- what the law says of a map

@@ -1,11 +1,8 @@
-pub mod Descent
 pub mod Bucket
-pub mod Kept
 pub mod Kinds
-pub mod Laid
 pub mod Laws
 pub mod Permutation
+pub mod Appended
 pub mod Pick
-pub mod Reached
-pub mod Rows
+pub mod Private
 pub mod Tables

@@ -1,7 +1,7 @@
 //! The way down a tree: two or three levels by one vector of hashes, since the labels below a node are known before its draw.
 
 ghost use Rattle.std.specs.Prelude.{◌≡◌, ◌<◌, ◌≤◌, ◌+◌, ◌-◌, ◌*◌, ◌^◌, min, length, slice_index};
-ghost use Rattle.crush_bucket.specs.Descent.{child, lane_below, down_by, labels};
+ghost use Rattle.crush_bucket.specs.Private.Descent.{child, lane_below, down_by, labels};
 
 use crush_hash::{hash4, hash4_lanes};
 use crush_map::ItemId;

@@ -36,9 +36,9 @@ unfolding indep
 indep_only t w c marks is =
     settled_once (indep_try t w c) (indep_orderly t w c) c.n c.tries marks (record { long = is.one_each; each = is.each })
 
--- ---- what is made of the one
+-- ---- what is made of the one answer
 
--- rows that are made of the marks of all reps are those of each answer
+-- rows made of the marks of all reps are those of each answer
 pub firstn_rows : {A : Type 0} (rows : Marks → A) (row : A) (t : TablesView) (w : List ℕ) (c : FirstnCall) (rep : ℕ) (marks : Marks)
     → row ≡ rows (grown (mark_of t w c) rep) → rep ≡ c.numrep → IsFirstnAnswer t w c marks → row ≡ rows marks
 unfolding firstn

@@ -13,13 +13,13 @@ use Rattle.crush_choose.specs.Growing.{grown}
 use Rattle.crush_choose.specs.Least.{least, or_else}
 use Rattle.crush_choose.specs.Weights.{is_device_in}
 use Rattle.crush_choose.specs.Marks.{Marks, Slot, placed_by, items_of, leaves_of}
-use Rattle.crush_choose.specs.Firstn.{has, leaf_of, judged, attempt, decided, mark_of, firstn}
+use Rattle.crush_choose.specs.Firstn.{has, leaf_of, firstn_outcome, firstn_try, decided, mark_of, firstn}
 use Rattle.crush_choose.specs.Rules.{ChooseCall, firstn_call, put_out, bucket_out, slot_out, step_out}
 use Rattle.crush_bucket.specs.Laws.{HasNoDeviceBucket}
 use Rattle.crush_choose.proofs.Least.{least_same}
 use Rattle.crush_choose.proofs.Placing.{slots_append}
 
--- a walk ended at a device, if it found an item
+-- if the walk found an item, it is a device
 abbrev FindsDevice : TablesView → Reached → Type 0
 FindsDevice t o = (item : ItemId) (r : ℕ) → o ≡ Found item r → bucket_numbered t item ≡ None
 
@@ -54,18 +54,18 @@ reach_finds t x rr b typed = below_finds t x rr (suc b) b typed
 abbrev leafless_call : FirstnCall → FirstnCall
 leafless_call c = record c { leaf_tries = 0 }
 
-judged-leafless : (t : TablesView) (w : List ℕ) (c : FirstnCall) (items leaves : List Slot) (f : ℕ) (o : Reached) → FindsDevice t o
-    → judged t w c items leaves f o ≡ judged t w (leafless_call c) items leaves f o
-judged-leafless t w c items leaves f Empty finds = refl
-judged-leafless t w c items leaves f Wrong finds = refl
-judged-leafless t w c items leaves f (Found item r) finds = rw (finds item r refl) refl
+firstn_outcome-leafless : (t : TablesView) (w : List ℕ) (c : FirstnCall) (items leaves : List Slot) (f : ℕ) (o : Reached) → FindsDevice t o
+    → firstn_outcome t w c items leaves f o ≡ firstn_outcome t w (leafless_call c) items leaves f o
+firstn_outcome-leafless t w c items leaves f Empty finds = refl
+firstn_outcome-leafless t w c items leaves f Wrong finds = refl
+firstn_outcome-leafless t w c items leaves f (Found item r) finds = rw (finds item r refl) refl
 
 decided-leafless : (t : TablesView) (w : List ℕ) (c : FirstnCall) (items leaves : List Slot) (rep : ℕ) → HasNoDeviceBucket t → c.wanted ≡ 0
     → decided t w c items leaves rep ≡ decided t w (leafless_call c) items leaves rep
-unfolding decided attempt
+unfolding decided firstn_try
 decided-leafless t w c items leaves rep typed e =
     least_same _ _ c.tries (λ f lt.
-    judged-leafless t w c items leaves f (reach t c.x (λ b. rep + f) c.wanted c.bucket) (rw e (reach_finds t c.x (λ b. rep + f) c.bucket typed)))
+    firstn_outcome-leafless t w c items leaves f (reach t c.x (λ b. rep + f) c.wanted c.bucket) (rw e (reach_finds t c.x (λ b. rep + f) c.bucket typed)))
 
 grown-leafless : (t : TablesView) (w : List ℕ) (c : FirstnCall) → HasNoDeviceBucket t → c.wanted ≡ 0 → (n : ℕ) → grown (mark_of t w c) n ≡ grown (mark_of t w (leafless_call c)) n
 grown-leafless t w c typed e zero = refl
@@ -80,7 +80,7 @@ pub leafless : (t : TablesView) (w : List ℕ) (c : FirstnCall) → HasNoDeviceB
 unfolding firstn
 leafless t w c typed e = grown-leafless t w c typed e c.numrep
 
--- ---- leaves where none is wanted
+-- ---- leaves if none is wanted
 
 append_same : {a b d e : List Slot} → a ≡ b → d ≡ e → a ++ d ≡ b ++ e
 append_same p q = rw (p, q) refl
@@ -106,10 +106,10 @@ either_owns : (b : Bool) (mark : Option Mark) → OwnsLeaf mark → OwnsLeaf (if
 either_owns true mark own = refl
 either_owns false mark own = own
 
-judged_owns : (t : TablesView) (w : List ℕ) (c : FirstnCall) (items leaves : List Slot) (f : ℕ) (o : Reached) → OwnsLeaf (judged t w (leafless_call c) items leaves f o)
-judged_owns t w c items leaves f Empty = refl
-judged_owns t w c items leaves f Wrong = refl
-judged_owns t w c items leaves f (Found item r) =
+outcome_owns : (t : TablesView) (w : List ℕ) (c : FirstnCall) (items leaves : List Slot) (f : ℕ) (o : Reached) → OwnsLeaf (firstn_outcome t w (leafless_call c) items leaves f o)
+outcome_owns t w c items leaves f Empty = refl
+outcome_owns t w c items leaves f Wrong = refl
+outcome_owns t w c items leaves f (Found item r) =
     either_owns (has items item) _ (placed_owns f item (leaf_of t w (leafless_call c) leaves (length items) item r (bucket_numbered t item)) (λ l e.
     leaf_owns t w c leaves (length items) item r (bucket_numbered t item) l e))
 
@@ -122,9 +122,9 @@ least_owns tries zero own = refl
 least_owns tries (suc n) own = or_else_owns (least tries n) (tries n) (least_owns tries n own) (own n)
 
 decided_owns : (t : TablesView) (w : List ℕ) (c : FirstnCall) (items leaves : List Slot) (rep : ℕ) → OwnsLeaf (decided t w (leafless_call c) items leaves rep)
-unfolding decided attempt
+unfolding decided firstn_try
 decided_owns t w c items leaves rep =
-    least_owns _ c.tries (λ f. judged_owns t w c items leaves f (reach t c.x (λ b. rep + f) c.wanted c.bucket))
+    least_owns _ c.tries (λ f. outcome_owns t w c items leaves f (reach t c.x (λ b. rep + f) c.wanted c.bucket))
 
 room_owns : (b : Bool) (mark : Option Mark) → OwnsLeaf mark → OwnsLeaf (if b then mark else None)
 room_owns true mark own = own
@@ -138,14 +138,14 @@ grown_owns t w c (suc n) =
     let own = room_owns (nat_lt (length (items_of ms)) c.room) (decided t w (leafless_call c) (items_of ms) (leaves_of ms) n) (decided_owns t w c (items_of ms) (leaves_of ms) n) in
     slots_append (λ s. Some s.leaf) ms (next ms n ∷ []) ∙ (append_same (grown_owns t w c n) own ∙ sym (slots_append (λ s. Some s.item) ms (next ms n ∷ [])))
 
--- where no leaf is wanted, the leaves are the items
+-- if no leaf is wanted, the leaves are the items
 firstn_owns : (t : TablesView) (w : List ℕ) (c : FirstnCall) → leaves_of (firstn t w (leafless_call c)) ≡ items_of (firstn t w (leafless_call c))
 unfolding firstn
 firstn_owns t w c = grown_owns t w c c.numrep
 
 -- ---- a choose step
 
--- a choose step by firstn for devices, with so many tries for a leaf
+-- a choose firstn step for devices, with this number of tries for a leaf
 abbrev for_devices : ChooseCall → ℕ → ChooseCall
 for_devices c leaf_tries = record c { firstn = true; wanted = 0; leaf_tries = leaf_tries }
 

@@ -1,4 +1,4 @@
--- The one list of entries that is an answer: the entries of the marks that are one.
+-- Exactly one list of entries is an answer: the entries of the answer's marks.
 use Rattle.std.proofs.Common.{◌≡◌, ℕ, zero, suc, ◌+◌, ◌<◌, ◌≤◌, nat_lt, true, false, List, length, take, Option, Some, None, inl, inr, refl, ap, sym, ◌∙◌, arith}
 use Rattle.std.proofs.lemmas.Bool.{cases_lt}
 use Rattle.std.proofs.lemmas.Bool.Decides.{nat_tests}
@@ -13,7 +13,7 @@ use Rattle.crush_choose.specs.declared.mark.Mark.TheVariants.{Skipped, Placed}
 use Rattle.crush_choose.specs.Least.{least}
 use Rattle.crush_choose.specs.Growing.{grown}
 use Rattle.crush_choose.specs.Marks.{Marks, Slot, items_of, leaves_of}
-use Rattle.crush_choose.specs.Firstn.{has, leaf_of, judged, attempt, decided, mark_beside, mark_of, IsFirstnAnswer, firstn}
+use Rattle.crush_choose.specs.Firstn.{has, leaf_of, firstn_outcome, firstn_try, decided, mark_beside, mark_of, IsFirstnAnswer, firstn}
 use Rattle.crush_choose.specs.Entries.{Entry, entry_items, entry_leaves, before, spot_of, IsLeastTry, IsDecided, tries_of, AreFirstnEntries, entries}
 use Rattle.crush_choose.proofs.Least.{least_some, least_none, least_found, least_silent}
 use Rattle.crush_choose.proofs.Growing.{length_grown}
@@ -22,23 +22,23 @@ use Rattle.crush_choose.proofs.Entries.{items_are, leaves_are, rises_of, before_
 
 -- ---- a try places with its own number
 
-judged_is : (t : TablesView) (w : List ℕ) (c : FirstnCall) (items leaves : List Slot) (f : ℕ) (end : Reached) → IsNumbered f (judged t w c items leaves f end)
-judged_is t w c items leaves f Empty s e = cc
-judged_is t w c items leaves f Wrong s e = cc
-judged_is t w c items leaves f (Found item r) s e =
+outcome_is : (t : TablesView) (w : List ℕ) (c : FirstnCall) (items leaves : List Slot) (f : ℕ) (end : Reached) → IsNumbered f (firstn_outcome t w c items leaves f end)
+outcome_is t w c items leaves f Empty s e = cc
+outcome_is t w c items leaves f Wrong s e = cc
+outcome_is t w c items leaves f (Found item r) s e =
     untaken_is f (has items item) _ (placed_is f item (leaf_of t w c leaves (length items) item r (bucket_numbered t item))) s e
 
-attempt_is : (t : TablesView) (w : List ℕ) (c : FirstnCall) (items leaves : List Slot) (rep f : ℕ) → IsNumbered f (attempt t w c items leaves rep f)
-unfolding attempt
-attempt_is t w c items leaves rep f s e = judged_is t w c items leaves f _ s e
+try_is : (t : TablesView) (w : List ℕ) (c : FirstnCall) (items leaves : List Slot) (rep f : ℕ) → IsNumbered f (firstn_try t w c items leaves rep f)
+unfolding firstn_try
+try_is t w c items leaves rep f s e = outcome_is t w c items leaves f _ s e
 
--- ---- what decides a rep
+-- ---- the outcome of a rep
 
 least_at : (tries : ℕ → Option Mark) (n f : ℕ) (mark : Mark) → IsLeastTry tries n f mark → least tries n ≡ Some mark
 least_at tries n f mark is =
     sym (least_found tries f n (Some mark) (least_silent tries f is.no_earlier) is.below (sym is.comes_to) refl)
 
--- what is decided is what the least try places
+-- the first try that doesn't fail places what is decided
 decided_is : (tries : ℕ → Option Mark) (n : ℕ) (spot : Option Spot) → IsDecided tries n spot → spot ≡ placed_at (least tries n)
 decided_is tries n (Some spot) is = rw (least_at tries n spot.round (Placed spot) is) refl
 decided_is tries n None (inl (f, is)) = rw (least_at tries n f Skipped is) refl
@@ -59,9 +59,9 @@ is_decided tries n (Some (Placed s)) numbered e =
 
 -- ---- from marks to entries
 
--- the mark of a rep, where there is room and where there isn't
+-- the mark of a rep, with room and without
 mark_with_room : (t : TablesView) (w : List ℕ) (c : FirstnCall) (items leaves : List Slot) (rep : ℕ) → length items < c.room
-    → mark_beside t w c items leaves rep ≡ least (attempt t w c items leaves rep) c.tries
+    → mark_beside t w c items leaves rep ≡ least (firstn_try t w c items leaves rep) c.tries
 unfolding decided
 mark_with_room t w c items leaves rep lt = let room : nat_lt (length items) c.room ≡ true = grind (arith, nat_tests) in rw room refl
 
@@ -69,7 +69,7 @@ mark_without_room : (t : TablesView) (w : List ℕ) (c : FirstnCall) (items leav
     → mark_beside t w c items leaves rep ≡ None
 mark_without_room t w c items leaves rep le = let room : nat_lt (length items) c.room ≡ false = grind (arith, nat_tests) in rw room refl
 
--- a rep of an answer, beside the entries of smaller reps
+-- a rep of an answer, given the entries of smaller reps
 module _ (t : TablesView) (w : List ℕ) (c : FirstnCall) (marks : Marks) (is : IsFirstnAnswer t w c marks) (rep : ℕ) (lt : rep < c.numrep) where
   smaller : before rep (entries marks) ≡ entries (take rep marks)
   smaller = before_entries 0 rep rep marks (omega arith)
@@ -96,8 +96,8 @@ module _ (t : TablesView) (w : List ℕ) (c : FirstnCall) (marks : Marks) (is : 
       let room : length (items_of (take rep marks)) < c.room = rw (← how_many) less in
       let mark = mark_with_room t w c (items_of (take rep marks)) (leaves_of (take rep marks)) rep room in
       rw (items_beside, leaves_beside, its_spot)
-      (is_decided (attempt t w c (items_of (take rep marks)) (leaves_of (take rep marks)) rep) c.tries (mark_of t w c (take rep marks) rep)
-      (λ f. attempt_is t w c (items_of (take rep marks)) (leaves_of (take rep marks)) rep f) (sym mark))
+      (is_decided (firstn_try t w c (items_of (take rep marks)) (leaves_of (take rep marks)) rep) c.tries (mark_of t w c (take rep marks) rep)
+      (λ f. try_is t w c (items_of (take rep marks)) (leaves_of (take rep marks)) rep f) (sym mark))
 
 pub are_firstn_entries : (t : TablesView) (w : List ℕ) (c : FirstnCall) (marks : Marks) → IsFirstnAnswer t w c marks → AreFirstnEntries t w c (entries marks)
 are_firstn_entries t w c marks is = record {
@@ -124,7 +124,7 @@ module _ (t : TablesView) (w : List ℕ) (c : FirstnCall) (found : List Entry) (
       elim (cases_lt (length (before k found)) c.room) [
         | inl less ↦
             let room : length (items_of ms) < c.room = rw (← many) less in
-            let of_tries : spot_of k found ≡ placed_at (least (attempt t w c (items_of ms) (leaves_of ms) k) c.tries) =
+            let of_tries : spot_of k found ≡ placed_at (least (firstn_try t w c (items_of ms) (leaves_of ms) k) c.tries) =
             rw (items, leaves) at (decided_is (tries_of t w c (before k found) k) c.tries (spot_of k found) (are.decided k lt less)) in
             of_tries ∙ ap placed_at (sym (mark_with_room t w c (items_of ms) (leaves_of ms) k room))
         | inr le ↦

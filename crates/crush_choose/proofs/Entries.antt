@@ -57,9 +57,9 @@ leaves_are rep (None ∷ marks) = leaves_are (suc rep) marks
 leaves_are rep (Some Skipped ∷ marks) = leaves_are (suc rep) marks
 leaves_are rep (Some (Placed s) ∷ marks) = ap (λ (xs : List Slot). Some s.leaf ∷ xs) (leaves_are (suc rep) marks)
 
--- ---- entries whose reps rise
+-- ---- entries in ascending order of rep
 
--- reps rise from this one on
+-- the reps ascend, and the first is at least this one
 abbrev pub Rises : ℕ → List Entry → Type 0
 Rises low [] = Unit {0}
 Rises low (e ∷ found) = (low ≤ e.rep) × Rises (suc e.rep) found
@@ -117,7 +117,7 @@ abbrev pub one : ℕ → Option Spot → List Entry
 one rep None = []
 one rep (Some spot) = record { rep = rep; spot = spot } ∷ []
 
--- one rep more
+-- one more rep
 pub before_more : (low k : ℕ) (found : List Entry) → Rises low found → before (suc k) found ≡ before k found ++ one k (spot_of k found)
 before_more low k [] is = refl
 before_more low k (e ∷ found) is =
@@ -139,7 +139,7 @@ all_before n (e ∷ found) low =
     let first : e.rep < n = low 0 e (omega arith) in
     rw (below e.rep n first) (ap (λ (xs : List Entry). e ∷ xs) (all_before n found (λ k d lt. low (suc k) d (omega arith))))
 
--- an entry of the list is that of its rep
+-- an entry of the list is the one that its rep has
 at_least : (low : ℕ) (found : List Entry) (k : ℕ) (d : Entry) → Rises low found → k < length found → low ≤ (slice_index_or found k d).rep
 at_least low [] k d is lt = absurd (omega arith)
 at_least low (e ∷ found) zero d is lt = is.0
@@ -185,7 +185,7 @@ before_entries rep n (suc i) (Some Skipped ∷ marks) e = before_entries (suc re
 before_entries rep n (suc i) (Some (Placed s) ∷ marks) e =
     rw (below rep n (omega arith)) (ap (λ (xs : List Entry). record { rep = rep; spot = s } ∷ xs) (before_entries (suc rep) n i marks (omega arith)))
 
--- one mark more
+-- one more mark
 pub entries_more : (rep n : ℕ) (marks : Marks) (mark : Option Mark) → n ≡ rep + length marks
     → entries_from rep (marks ++ mark ∷ []) ≡ entries_from rep marks ++ one n (placed_at mark)
 entries_more rep n [] None e = refl

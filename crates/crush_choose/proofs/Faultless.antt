@@ -31,7 +31,7 @@ not_false : (b : Bool) → not b ≡ false → b ≡ true
 not_false true h = refl
 not_false false h = cc
 
--- some declarations beside which a rule has no fault
+-- some declarations given which a rule has no fault
 record Passes (rule : Rule) : Type 0 where
   known : Known
   faultless : rule_fault known rule ≡ None

@@ -1,11 +1,11 @@
--- Exactly one list grows by a rule.
+-- Exactly one list is computed element by element from the elements before.
 use Rattle.std.proofs.Common.{◌≡◌, ℕ, zero, suc, ◌<◌, ◌≤◌, List, [], ◌∷◌, ◌++◌, length, take, slice_index_or, refl, ap, sym, ◌∙◌, arith, length-append}
 use Rattle.std.proofs.Math.Seq.{take-suc, take-length, get_or-append_seam}
 use Rattle.std.proofs.lemmas.List.{take-append-le, get_or-take}
 use Rattle.crush_choose.specs.Growing.{grown}
 use Rattle.crush_choose.proofs.Least.{holds_from}
 
--- n elements, each made of those before it; past the end stands d
+-- n elements, each a function of those before it; d after the end
 pub record Grows {A : Type 0} (next : List A → ℕ → A) (n : ℕ) (d : A) (xs : List A) : Type 0 where
   pub long : length xs ≡ n
   pub each : (i : ℕ) → i < n → slice_index_or xs i d ≡ next (take i xs) i
@@ -17,7 +17,7 @@ length_grown next (suc n) = rw length-append (rw (length_grown next n) (omega ar
 take_all : {A : Type 0} (xs : List A) (n : ℕ) → length xs ≡ n → take n xs ≡ xs
 take_all xs n e = rw e at (take-length xs)
 
--- further elements leave those before them
+-- adding elements doesn't change earlier ones
 take_grown : {A : Type 0} (next : List A → ℕ → A) (k n : ℕ) → k ≤ n → take k (grown next n) ≡ grown next k
 take_grown next k n le =
     holds_from (λ m. take k (grown next m) ≡ grown next k) k n le (take_all (grown next k) k (length_grown next k)) (λ m low same.
@@ -36,7 +36,7 @@ grown_grows next n d = record {
       ∙ (last ∙ ap (λ xs. next xs i) (sym (take_grown next i n (omega arith)))));
 }
 
--- a list that grows by the rule begins as the grown one
+-- a list that follows the rule begins with the elements of `grown`
 begins_grown : {A : Type 0} (next : List A → ℕ → A) (n : ℕ) (d : A) (xs : List A) → Grows next n d xs → (k : ℕ) → k ≤ n → take k xs ≡ grown next k
 begins_grown next n d xs is zero le = refl
 begins_grown next n d xs is (suc k) le =

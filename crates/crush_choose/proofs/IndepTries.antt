@@ -1,4 +1,4 @@
--- Tries of choose indep see what is placed before them alone, and place with their own number.
+-- A try of choose indep depends only on what is placed before it, and places with its own number.
 use Rattle.std.proofs.Common.{◌≡◌, ℕ, List, length, Bool, true, false, if◌then◌else◌, Option, Some, None, option_map, refl, ap, ◌∙◌}
 use Rattle.crush_map.specs.declared.word.ItemId.{ItemId}
 use Rattle.crush_bucket.specs.Tables.{TablesView, bucket_numbered}
@@ -9,7 +9,7 @@ use Rattle.crush_choose.specs.declared.mark.Mark.{Mark}
 use Rattle.crush_choose.specs.declared.mark.Mark.TheVariants.{Placed}
 use Rattle.crush_choose.specs.declared.indep.IndepCall.{IndepCall}
 use Rattle.crush_choose.specs.Marks.{Marks, placed_by}
-use Rattle.crush_choose.specs.Indep.{earlier, is_of, some_below, taken, indep_leaf_of, weighed, indep_try}
+use Rattle.crush_choose.specs.Indep.{earlier, is_of, some_below, taken, indep_leaf_of, indep_outcome, indep_try}
 use Rattle.crush_choose.proofs.Least.{some_below_same}
 use Rattle.crush_choose.proofs.Rounds.{at, PlaceAlike, IsOrderly}
 
@@ -22,7 +22,7 @@ taken_alike a b f pos item alike =
     ∙ ap (some_below (λ (q : ℕ). is_of item (earlier f pos q (at b q)))) alike.long
 
 weighed_alike : (t : TablesView) (w : List ℕ) (c : IndepCall) (a b : Marks) (f pos : ℕ) (end : Reached) → PlaceAlike f pos a b
-    → weighed t w c a pos f end ≡ weighed t w c b pos f end
+    → indep_outcome t w c a pos f end ≡ indep_outcome t w c b pos f end
 weighed_alike t w c a b f pos Empty alike = refl
 weighed_alike t w c a b f pos Wrong alike = refl
 weighed_alike t w c a b f pos (Found item r) alike = rw (taken_alike a b f pos item alike) refl
@@ -41,15 +41,15 @@ pub untaken_is : (f : ℕ) (taken : Bool) (mark : Option Mark) → IsNumbered f 
 untaken_is f true mark numbered s e = cc
 untaken_is f false mark numbered s e = numbered s e
 
-weighed_is : (t : TablesView) (w : List ℕ) (c : IndepCall) (marks : Marks) (f pos : ℕ) (end : Reached) → IsNumbered f (weighed t w c marks pos f end)
-weighed_is t w c marks f pos Empty s e = cc
-weighed_is t w c marks f pos Wrong s e = cc
-weighed_is t w c marks f pos (Found item r) s e =
+outcome_is : (t : TablesView) (w : List ℕ) (c : IndepCall) (marks : Marks) (f pos : ℕ) (end : Reached) → IsNumbered f (indep_outcome t w c marks pos f end)
+outcome_is t w c marks f pos Empty s e = cc
+outcome_is t w c marks f pos Wrong s e = cc
+outcome_is t w c marks f pos (Found item r) s e =
     untaken_is f (taken marks f pos item) _ (placed_is f item (indep_leaf_of t w c pos item r (bucket_numbered t item))) s e
 
 pub indep_orderly : (t : TablesView) (w : List ℕ) (c : IndepCall) → IsOrderly (indep_try t w c)
 unfolding indep_try
 indep_orderly t w c = record {
   alike = λ a b f pos same. weighed_alike t w c a b f pos _ same;
-  numbered = λ marks f pos. weighed_is t w c marks f pos _;
+  numbered = λ marks f pos. outcome_is t w c marks f pos _;
 }

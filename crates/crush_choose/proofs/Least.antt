@@ -1,11 +1,11 @@
--- What is said first in a row of tries.
+-- The first success in a sequence of tries.
 use Rattle.std.proofs.Common.{◌≡◌, ℕ, zero, suc, ◌<◌, ◌≤◌, Option, Some, None, inl, inr, refl, ap, sym, arith, is_some, Bool, true, false, ◌||◌}
 use Rattle.std.proofs.Math.Nat.{eq-or-lt_of_le}
 use Rattle.std.proofs.Math.Path.{fun_ext}
 use Rattle.crush_choose.specs.Least.{or_else, least}
 use Rattle.crush_choose.specs.Indep.{some_below}
 
--- what holds at a number, and of the next wherever it holds of one from there on, holds at each number from there on
+-- induction from a number on
 pub holds_from : (P : ℕ → Type 0) (low n : ℕ) → low ≤ n → P low → ((k : ℕ) → low ≤ k → P k → P (suc k)) → P n
 holds_from P low zero le start step = let e : low ≡ 0 = omega arith in rw e at start
 holds_from P low (suc n) le start step = elim (eq-or-lt_of_le le) [
@@ -13,9 +13,9 @@ holds_from P low (suc n) le start step = elim (eq-or-lt_of_le le) [
   | inr later ↦ step n (omega arith) (holds_from P low n (omega arith) start step)
 ]
 
--- ---- where it is said
+-- ---- the place of the first success
 
--- an answer for the tries below n: the first of them that says something says it, or none says anything
+-- the first of the tries below n that has a value has this one, or none has a value
 abbrev IsFirst : {A : Type 0} → (ℕ → Option A) → ℕ → Option A → Type 0
 IsFirst said n None = (j : ℕ) → j < n → said j ≡ None
 IsFirst said n (Some a) = (i : ℕ) × (i < n) × (said i ≡ Some a) × ((j : ℕ) → j < i → said j ≡ None)
@@ -39,25 +39,25 @@ least_some said n a e = rw e at (least_is_first said n)
 pub least_none : {A : Type 0} (said : ℕ → Option A) (n : ℕ) → least said n ≡ None → (j : ℕ) → j < n → said j ≡ None
 least_none said n e = rw e at (least_is_first said n)
 
--- where nothing is said below n, nothing is least
+-- if no try below n has a value, `least` has none
 pub least_silent : {A : Type 0} (said : ℕ → Option A) (n : ℕ) → ((j : ℕ) → j < n → said j ≡ None) → least said n ≡ None
 least_silent said zero silent = refl
 least_silent said (suc n) silent = rw (least_silent said n (λ j lt. silent j (omega arith)), silent n (omega arith)) refl
 
 -- ---- bounds
 
--- what is said below a bound is said below each greater one
+-- a value below a bound is that below each greater bound
 pub least_stays : {A : Type 0} (said : ℕ → Option A) (n m : ℕ) (a : A) → n ≤ m → least said n ≡ Some a → least said m ≡ Some a
 least_stays said n m a le e = holds_from (λ k. least said k ≡ Some a) n m le e (λ k low stays. rw stays refl)
 
--- the first try that says something ends a search
+-- a search ends at the first try that has a value
 pub least_found : {A : Type 0} (said : ℕ → Option A) (n m : ℕ) (found : Option A) → least said n ≡ None → n < m → found ≡ said n → is_some found ≡ true
     → found ≡ least said m
 least_found said n m None silent lt e some = cc
 least_found said n m (Some a) silent lt e some =
     let here : least said (suc n) ≡ Some a = rw silent (sym e) in sym (least_stays said (suc n) m a (omega arith) here)
 
--- rows of tries that say the same below a bound
+-- sequences of tries that are equal below a bound
 pub least_same : {A : Type 0} (said other : ℕ → Option A) (n : ℕ) → ((i : ℕ) → i < n → said i ≡ other i) → least said n ≡ least other n
 least_same said other zero same = refl
 least_same said other (suc n) same = rw (least_same said other n (λ i lt. same i (omega arith)), same n (omega arith)) refl
@@ -68,7 +68,7 @@ passes_next : (before now : Bool) → now ≡ true → (before || now) ≡ true
 passes_next true now e = refl
 passes_next false now e = e
 
--- a number that passes is among those below each greater bound
+-- a number below a bound for which p holds is below each greater bound
 pub some_below_found : (passes : ℕ → Bool) (n m : ℕ) → n < m → passes n ≡ true → some_below passes m ≡ true
 some_below_found passes n m lt e =
     holds_from (λ k. some_below passes k ≡ true) (suc n) m lt (passes_next (some_below passes n) (passes n) e) (λ k low found. rw found refl)

@@ -1,11 +1,12 @@
--- The reweights of all ids, of which a table has the first.
+-- The reweights of all ids, from a table that has those of the first ids.
 use Rattle.std.proofs.Common.{◌≡◌, ℕ, ◌-◌, ◌<◌, ◌≤◌, ◌==◌, List, ◌∷◌, length, replicate, slice_index_or, true, false, nat_lt, refl, sym, ◌∙◌, arith, inl, inr, length-append}
 use Rattle.std.proofs.Math.ListN.{get_or-append}
 use Rattle.std.proofs.lemmas.Bool.{cases_lt}
 use Rattle.std.proofs.lemmas.Bool.Decides.{nat_tests}
 use Rattle.std.proofs.lemmas.List.{ext_get_or, get_or_past, length-replicate, get_or-replicate, get_or-append_right}
 use Rattle.std.proofs.lemmas.List.FromFn.{length-map-range_with_len, get_or-map-range_with_len}
-use Rattle.crush_choose.specs.Weights.{first_given, reweight_of, weights_of, weight_at, full, ids, padded}
+use Rattle.crush_choose.specs.Weights.{first_given, reweight_of, weights_of, weight_at, full, ids}
+use Rattle.crush_choose.specs.Private.Weights.{padded}
 
 -- ---- ids of devices
 
@@ -15,7 +16,7 @@ below_ids given id lt = let test : nat_lt id ids ≡ true = grind (arith, nat_te
 above_ids : (given : List (ℕ × ℕ)) (id : ℕ) → ids ≤ id → reweight_of given id ≡ full
 above_ids given id le = let test : nat_lt id ids ≡ false = grind (arith, nat_tests) in rw test refl
 
--- a pair for another id is passed over
+-- a pair for another id is skipped
 pub passed_over : (given : ℕ × ℕ) (rest : List (ℕ × ℕ)) (id : ℕ) → (given.0 ≡ id → ⊥) → first_given (given ∷ rest) id ≡ first_given rest id
 passed_over given rest id other = let test : (given.0 == id) ≡ false = grind (arith, nat_tests, other) in rw test refl
 
@@ -58,7 +59,7 @@ length-padded : (table : List ℕ) → length table ≤ ids → length (padded t
 unfolding padded
 length-padded table few = omega (arith, few, length-append table (replicate (ids - length table) full), length-replicate (ids - length table) full)
 
--- a table with the reweights that are given, above which none is given
+-- a table with the given reweights; no id after its end is given one
 pub padded_is : (given : List (ℕ × ℕ)) (bound : ℕ) (table : List ℕ) → bound ≤ ids → length table ≡ bound
     → ((id : ℕ) → id < bound → slice_index_or table id full ≡ first_given given id) → ((id : ℕ) → bound ≤ id → id < ids → first_given given id ≡ full)
     → padded table ≡ weights_of given

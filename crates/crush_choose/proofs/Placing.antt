@@ -1,4 +1,4 @@
--- What is placed for reps, closed up, rep by rep.
+-- The items and leaves of reps, rep by rep.
 use Rattle.std.proofs.Common.{◌≡◌, ℕ, ◌+◌, List, [], ◌∷◌, ◌++◌, map, Option, Some, None, refl, ap, sym, ◌∙◌, add-one}
 use Rattle.std.proofs.lemmas.List.{map-append}
 use Rattle.crush_bucket.specs.Tables.{TablesView}
@@ -23,13 +23,13 @@ slots slot marks = map slot (spots marks)
 pub slots_append : (slot : Spot → Slot) (before after : Marks) → slots slot (before ++ after) ≡ slots slot before ++ slots slot after
 slots_append slot before after = rw (spots_append before after) (map-append slot (spots before) (spots after))
 
--- the slots of the marks so far and of one more are those of the list that grew by it
+-- the slots of a list of marks with one more mark
 pub slots_more : (slot : Spot → Slot) (next : Marks → ℕ → Option Mark) (n : ℕ) (old new : List Slot) (mark : Option Mark)
     → old ≡ slots slot (grown next n) → mark ≡ next (grown next n) n → new ≡ old ++ slots slot (mark ∷ []) → new ≡ slots slot (grown next (n + 1))
 slots_more slot next n old new mark so_far is put =
     rw add-one (put ∙ rw (so_far, is) (sym (slots_append slot (grown next n) (next (grown next n) n ∷ []))))
 
--- a mark beside the items and leaves so far is that of the rep
+-- the mark given the items and leaves so far is that of the rep
 pub mark_is : (t : TablesView) (w : List ℕ) (c : FirstnCall) (rep : ℕ) (items leaves : List Slot) (mark : Option Mark)
     → items ≡ items_of (grown (mark_of t w c) rep) → leaves ≡ leaves_of (grown (mark_of t w c) rep) → mark ≡ mark_beside t w c items leaves rep
     → mark ≡ mark_of t w c (grown (mark_of t w c) rep) rep

@@ -1,4 +1,4 @@
--- A walk down, one bucket further.
+-- The loop of a walk, one bucket at a time.
 use Rattle.std.proofs.Common.{◌≡◌, ℕ, zero, suc, ◌+◌, ◌*◌, ◌<◌, ◌≤◌, Bool, true, false, Some, None, refl, ◌∙◌, arith, if◌then◌else◌, ◌==◌, eq-eqb}
 use Rattle.std.proofs.lemmas.Bool.Decides.{nat_tests}
 use Rattle.crush_map.specs.declared.word.ItemId.{ItemId}
@@ -6,7 +6,7 @@ use Rattle.crush_bucket.specs.Tables.{TablesView, pick_at, type_at, size_at, buc
 use Rattle.crush_choose.specs.declared.walk.Reached.TheVariants.{Empty, Wrong, Found}
 use Rattle.crush_choose.specs.Reach.{at_item, reach_below, reach}
 
--- a walk that began at one bucket ends where it ends from another on, whose number is below n
+-- a walk from one bucket ends where the walk from a later one ends, whose number is below n
 pub record GoesOn (t : TablesView) (x : ℕ) (rr : ℕ → ℕ) (wanted from bucket : ℕ) : Type 0 where
   pub n : ℕ
   pub below : bucket < n
@@ -24,7 +24,7 @@ ends_empty t x rr wanted from bucket (suc n) lt same e = same ∙ rw e refl
 pub walk-empty : (t : TablesView) (x : ℕ) (rr : ℕ → ℕ) (wanted from bucket : ℕ) → GoesOn t x rr wanted from bucket → (size_at t bucket == 0) ≡ true → reach t x rr wanted from ≡ Empty
 walk-empty t x rr wanted from bucket on e = ends_empty t x rr wanted from bucket on.n on.below on.same e
 
--- what the rest of a walk is after a pick
+-- the rest of a walk after a pick
 pub record Picks (t : TablesView) (x : ℕ) (rr : ℕ → ℕ) (wanted from bucket : ℕ) (item : ItemId) (r : ℕ) : Type 0 where
   pub n : ℕ
   pub below : bucket ≤ n
@@ -67,11 +67,11 @@ through t x rr wanted from bucket item r k picks numbered ne lt =
     let least : bucket ≤ picks.n = picks.below in
     record { n = picks.n; below = omega arith; same = picks.same ∙ rw numbered (rw e refl) }
 
--- a bucket that was picked has a smaller number
+-- a picked bucket has a smaller number
 pub below_of : (t : TablesView) (bucket : ℕ) (item : ItemId) (k : ℕ) → bucket_numbered t item ≡ Some k → IsBelow t bucket item → k < bucket
 below_of t bucket item k numbered below = rw numbered at below
 
--- no step in round 0
+-- nothing is added in round 0
 pub steady : (e : Bool) (r : ℕ) → r + (if e then (1 + 1) * 0 else 1 * 0) ≡ r
 steady true r = omega arith
 steady false r = omega arith

@@ -8,7 +8,7 @@ use Rattle.crush_map.specs.declared.draft.Step.TheVariants.{Take, SetChooseTries
 use Rattle.crush_map.specs.declared.draft.Rule.{Rule}
 use Rattle.crush_map.specs.Faults.{Known, ◌when◌, or_else, first_of, has_number, is_count, choose_fault, step_fault, steps_fault, rule_checks, rule_fault}
 use Rattle.crush_choose.specs.Rules.{reps}
-use Rattle.crush_choose.specs.Runs.{IsChoose, IsStep, no_step}
+use Rattle.crush_choose.specs.Private.Runs.{IsChoose, IsStep, no_step}
 
 passes_first : (a b : Option FaultCode) → or_else a b ≡ None → a ≡ None
 passes_first None b h = refl
@@ -22,7 +22,7 @@ test_fails : (code : FaultCode) (test : Bool) → (code when test) ≡ None → 
 test_fails code true h = cc
 test_fails code false h = refl
 
--- no check of a row has a fault
+-- no check of a list finds a fault
 passes : (checks : List (Option FaultCode)) → first_of checks ≡ None → (i : ℕ) → slice_index_or checks i None ≡ None
 passes [] h i = refl
 passes (check ∷ checks) h zero = passes_first check _ h
@@ -38,7 +38,7 @@ not_false : (b : Bool) → not b ≡ false → b ≡ true
 not_false true h = refl
 not_false false h = cc
 
--- a number of a choose step in range gives a number of reps in range
+-- a count in range gives a number of reps in range
 reps_few : (n : ℤ) (size : ℕ) → size ≤ 32 → is_count n ≡ true → reps n size ≤ 64
 reps_few (pos zero) size le h = omega arith
 reps_few (pos (suc n)) size le h = let k : nat_le (suc n) 64 ≡ true = h in grind (arith, nat_tests)

@@ -1,4 +1,4 @@
--- What sorting and leaving out equals keeps.
+-- Sorting a list and dropping duplicates keeps its numbers.
 use Rattle.std.proofs.Common.{◌≡◌, ℕ, List, [], ◌∷◌, Bool, true, false, ◌||◌, ◌==◌, if◌then◌else◌, eqb, refl, ap, sym, ◌∙◌, arith}
 use Rattle.std.specs.List.{dedup, dedup_from}
 use Rattle.std.specs.List.Sorted.{IsPermutation}
@@ -27,6 +27,6 @@ has_dedup : (d : ℕ) (xs : List ℕ) → has_number (dedup eqb xs) d ≡ has_nu
 has_dedup d [] = refl
 has_dedup d (x ∷ xs) = has_dedup_from d x xs
 
--- a sorted list without equals has the numbers of the list
+-- a sorted list without duplicates has the numbers of the list
 pub has_sorted : (xs sorted left : List ℕ) → IsPermutation xs sorted → left ≡ dedup eqb sorted → (d : ℕ) → has_number left d ≡ has_number xs d
 has_sorted xs sorted left permutation e d = rw e (has_dedup d sorted ∙ sym (list_any-IsPermutation (λ n. n == d) xs sorted permutation))

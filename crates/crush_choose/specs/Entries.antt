@@ -1,7 +1,7 @@
--- The entries of choose firstn: its answer as a list of what is placed, with the reps, which rise.
+-- The answer of choose firstn as a list of entries, in ascending order of rep.
 --
--- An entry is a rep, a try, an item and a leaf. Here the answer is said of the entries alone; the marks of `Firstn.antt`
--- join them with the reps that were given up.
+-- An entry is a rep, a try, an item and a leaf. The condition here is on the entries alone; the marks of `Firstn.antt` have
+-- the reps that were given up too.
 use Rattle.std.specs.Prelude.{◌≡◌, ℕ, suc, ◌<◌, ◌≤◌, ◌==◌, nat_lt, List, [], ◌∷◌, length, map, slice_index_or, Option, Some, None, if◌then◌else◌, ◌⊎◌, All, Contains}
 use Rattle.std.specs.List.{filter}
 use Rattle.std.specs.List.Sorted.{IsStrictlyIncreasing}
@@ -11,7 +11,7 @@ use Rattle.crush_choose.specs.declared.mark.Spot.{Spot}
 use Rattle.crush_choose.specs.declared.mark.Mark.{Mark}
 use Rattle.crush_choose.specs.declared.mark.Mark.TheVariants.{Skipped, Placed}
 use Rattle.crush_choose.specs.Marks.{Marks, Slot, items_of, leaves_of}
-use Rattle.crush_choose.specs.Firstn.{attempt}
+use Rattle.crush_choose.specs.Firstn.{firstn_try}
 
 -- a rep, and what is placed for it: its try, an item and a leaf
 pub record Entry : Type 0 where
@@ -35,24 +35,24 @@ spot_of rep (e ∷ found) = if e.rep == rep then Some e.spot else spot_of rep fo
 
 -- ---- the answer
 
--- of the tries below n, f is the least that doesn't fail, and it comes to this
+-- f is the first of the tries below n that doesn't fail, and this is its outcome
 pub record IsLeastTry (tries : ℕ → Option Mark) (n f : ℕ) (mark : Mark) : Type 0 where
   pub below : f < n
   pub comes_to : tries f ≡ Some mark
   pub no_earlier : (g : ℕ) → g < f → tries g ≡ None
 
--- where there is an entry, the least try that doesn't fail is that of the entry and places it; where there is none, the least ends at a
--- wrong device, or all fail
+-- if there is an entry, the first try that doesn't fail is that of the entry and places it; if there is none, the first try that doesn't fail
+-- ends at a wrong device, or all fail
 abbrev pub IsDecided : (ℕ → Option Mark) → ℕ → Option Spot → Type 0
 IsDecided tries n (Some spot) = IsLeastTry tries n spot.round (Placed spot)
 IsDecided tries n None = ((f : ℕ) × IsLeastTry tries n f Skipped) ⊎ ((f : ℕ) → f < n → tries f ≡ None)
 
--- the tries of a rep, beside the entries of smaller reps
+-- the tries of a rep, given the entries of smaller reps
 abbrev pub tries_of : TablesView → List ℕ → FirstnCall → List Entry → ℕ → ℕ → Option Mark
-tries_of t w c smaller rep = attempt t w c (entry_items smaller) (entry_leaves smaller) rep
+tries_of t w c smaller rep = firstn_try t w c (entry_items smaller) (entry_leaves smaller) rep
 
--- the entries are an answer: reps rise and are below numrep; a rep has no entry where those of smaller reps leave no room, and else what its
--- tries beside those come to
+-- the entries are an answer: their reps ascend and are below numrep; a rep has no entry if those of smaller reps leave no room, and else what its
+-- tries, given those entries, decide
 pub record AreFirstnEntries (t : TablesView) (w : List ℕ) (c : FirstnCall) (found : List Entry) : Type 0 where
   pub rising : IsStrictlyIncreasing (map (λ e. e.rep) found)
   pub low : All (λ e. e.rep < c.numrep) found
@@ -61,7 +61,7 @@ pub record AreFirstnEntries (t : TablesView) (w : List ℕ) (c : FirstnCall) (fo
 
 -- ---- the entries of marks
 
--- the entries of marks, the first of which is that of this rep
+-- the entries of marks, the first of which is the mark of this rep
 abbrev pub entries_from : ℕ → Marks → List Entry
 entries_from rep [] = []
 entries_from rep (None ∷ marks) = entries_from (suc rep) marks
@@ -71,7 +71,7 @@ entries_from rep (Some (Placed spot) ∷ marks) = record { rep = rep; spot = spo
 abbrev pub entries : Marks → List Entry
 entries marks = entries_from 0 marks
 
--- the entries are what the marks place, with reps rising: each that is placed has an entry, and each entry is placed
+-- the entries are what the marks place, in ascending order of rep: each placed item has an entry, and each entry is placed
 pub record AreEntries (marks : Marks) (found : List Entry) : Type 0 where
   pub rising : IsStrictlyIncreasing (map (λ e. e.rep) found)
   pub there : (rep : ℕ) (spot : Spot) → slice_index_or marks rep None ≡ Some (Placed spot) → Contains found (record { rep = rep; spot = spot })

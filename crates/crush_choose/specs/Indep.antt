@@ -1,7 +1,7 @@
 -- The answer of choose indep (`crush_choose_indep` of Ceph's `mapper.c`).
 --
--- There rounds go over the positions that are left, and the leaf is sought by a call of itself; here it is a condition on
--- a finished list: of the tries of each position, the least that is acceptable or ends at a wrong device decides.
+-- There each round tries the undecided positions, and the leaf is found by a recursive call; here the answer is a condition on
+-- a finished list: each position has the outcome of its first try that doesn't fail.
 use Rattle.std.specs.Prelude.{◌≡◌, ℕ, zero, suc, ◌+◌, ◌<◌, ◌≤◌, ◌&&◌, ◌||◌, List, length, Bool, false, nat_lt, ◌==◌, if◌then◌else◌, Option, Some, None, option_map, slice_index_or, slice_set, replicate}
 use Rattle.std.specs.Bool.{then_some}
 use Rattle.std.specs.Ordering.{int_eq}
@@ -18,7 +18,7 @@ use Rattle.crush_choose.specs.Reach.{reach, step}
 use Rattle.crush_choose.specs.Least.{least, or_else}
 use Rattle.crush_choose.specs.Marks.{Marks, placed_by}
 
--- what a call may ask for: a leaf is wanted below a bucket alone, and where there are leaf tries (else `recurse_to_leaf` is 0)
+-- a call in range; 0 leaf tries mean that no leaf is wanted (`recurse_to_leaf` 0), as is always so where devices are wanted
 pub record IsIndepCall (t : TablesView) (c : IndepCall) : Type 0 where
   pub bucket : c.bucket < length t.buckets
   pub positions : c.n ≤ 32
@@ -36,7 +36,7 @@ pub record IsIndepCall (t : TablesView) (c : IndepCall) : Type 0 where
 abbrev pub comes_before : ℕ → ℕ → ℕ → ℕ → Bool
 comes_before g q f pos = nat_lt g f || (g == f && nat_lt q pos)
 
--- what stands at position q, if it was placed before try f of position pos
+-- what position q got, if it got it before try f of position pos
 abbrev pub earlier : ℕ → ℕ → ℕ → Option Mark → Option Spot
 earlier f pos q None = None
 earlier f pos q (Some Skipped) = None
@@ -46,12 +46,12 @@ abbrev pub is_of : ItemId → Option Spot → Bool
 is_of item None = false
 is_of item (Some s) = int_eq s.item.0 item.0
 
--- whether a number below n passes
+-- whether p holds for a number below n
 abbrev pub some_below : (ℕ → Bool) → ℕ → Bool
 some_below p zero = false
 some_below p (suc n) = some_below p n || p n
 
--- whether the item is placed at a position before try f of position pos
+-- whether a position got the item before try f of position pos
 unfoldable pub taken : Marks → ℕ → ℕ → ItemId → Bool
 taken marks f pos item = some_below (λ q. is_of item (earlier f pos q (slice_index_or marks q None))) (length marks)
 
@@ -63,15 +63,15 @@ leaf_in w x (Found item r) = then_some (is_device_in w x item) item
 leaf_in w x Empty = None
 leaf_in w x Wrong = None
 
--- the leaf that round g finds below a bucket
+-- the leaf that round g finds below a bucket, if it finds one
 unfoldable pub indep_leaf_by : TablesView → List ℕ → IndepCall → ℕ → ℕ → ℕ → Option ItemId
 indep_leaf_by t w c bucket start g = leaf_in w c.x (reach t c.x (λ k. start + step t c.numrep g k) 0 bucket)
 
--- the leaf of the least round that finds one
+-- the leaf of the first round that finds one
 unfoldable pub indep_leaf : TablesView → List ℕ → IndepCall → ℕ → ℕ → Option ItemId
 indep_leaf t w c bucket start = least (indep_leaf_by t w c bucket start) c.leaf_tries
 
--- the leaf of an item that was found, a device or a bucket: itself, if it is a device that is in or no leaf is wanted, else one below it
+-- the leaf of an item: a device that is in is its own leaf; a bucket too, if no leaf is wanted, else it is a leaf below the bucket
 abbrev pub indep_leaf_of : TablesView → List ℕ → IndepCall → ℕ → ItemId → ℕ → Option ℕ → Option ItemId
 indep_leaf_of t w c pos item r None = then_some (is_device_in w c.x item) item
 indep_leaf_of t w c pos item r (Some bucket) =
@@ -79,35 +79,35 @@ indep_leaf_of t w c pos item r (Some bucket) =
 
 -- ---- a try
 
--- what try f comes to, by where its walk ended: an item that isn't taken is placed where it has a leaf
-abbrev pub weighed : TablesView → List ℕ → IndepCall → Marks → ℕ → ℕ → Reached → Option Mark
-weighed t w c marks pos f (Found item r) =
+-- the outcome of try f, by where its walk ended: an item that isn't taken is placed if it has a leaf
+abbrev pub indep_outcome : TablesView → List ℕ → IndepCall → Marks → ℕ → ℕ → Reached → Option Mark
+indep_outcome t w c marks pos f (Found item r) =
     if taken marks f pos item then None
     else option_map (placed_by f item) (indep_leaf_of t w c pos item r (bucket_numbered t item))
-weighed t w c marks pos f Empty = None
-weighed t w c marks pos f Wrong = Some Skipped
+indep_outcome t w c marks pos f Empty = None
+indep_outcome t w c marks pos f Wrong = Some Skipped
 
--- try f of a position, beside the marks of a finished list: none where it fails
+-- the outcome of try f of a position, given the marks of a finished list; none if it fails
 unfoldable pub indep_try : TablesView → List ℕ → IndepCall → Marks → ℕ → ℕ → Option Mark
-indep_try t w c marks pos f = weighed t w c marks pos f (reach t c.x (λ k. pos + step t c.numrep f k) c.wanted c.bucket)
+indep_try t w c marks pos f = indep_outcome t w c marks pos f (reach t c.x (λ k. pos + step t c.numrep f k) c.wanted c.bucket)
 
 -- ---- the answer
 
--- the marks are an answer: each position has what its least try that doesn't fail comes to
+-- the marks are an answer: each position has the outcome of its first try that doesn't fail
 pub record IsIndepAnswer (t : TablesView) (w : List ℕ) (c : IndepCall) (marks : Marks) : Type 0 where
   pub one_each : length marks ≡ c.n
   pub each : (pos : ℕ) → pos < c.n → slice_index_or marks pos None ≡ least (indep_try t w c marks pos) c.tries
 
--- the marks after the turn of a position in round f: a try beside them, where nothing is decided yet
-abbrev pub after_turn : (Marks → ℕ → ℕ → Option Mark) → ℕ → ℕ → Marks → Marks
-after_turn tries f pos marks = slice_set marks pos (or_else (slice_index_or marks pos None) (tries marks pos f))
+-- the marks after a position was tried in round f: unless it is decided already, it has the outcome of the try
+abbrev pub after_try : (Marks → ℕ → ℕ → Option Mark) → ℕ → ℕ → Marks → Marks
+after_try tries f pos marks = slice_set marks pos (or_else (slice_index_or marks pos None) (tries marks pos f))
 
--- the marks after the turns of the first positions in round f
+-- the marks after the first positions were tried in round f
 abbrev pub in_round : (Marks → ℕ → ℕ → Option Mark) → ℕ → ℕ → Marks → Marks
 in_round tries f zero marks = marks
-in_round tries f (suc pos) marks = after_turn tries f pos (in_round tries f pos marks)
+in_round tries f (suc pos) marks = after_try tries f pos (in_round tries f pos marks)
 
--- the marks of n positions after so many rounds
+-- the marks of n positions after a number of rounds
 abbrev pub after_rounds : (Marks → ℕ → ℕ → Option Mark) → ℕ → ℕ → Marks
 after_rounds tries n zero = replicate n None
 after_rounds tries n (suc rounds) = in_round tries rounds n (after_rounds tries n rounds)

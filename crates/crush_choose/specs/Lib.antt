@@ -6,8 +6,8 @@ pub mod Marks
 pub mod Firstn
 pub mod Entries
 pub mod Indep
-pub mod Walks
 pub mod Laws
 pub mod Outs
 pub mod Rules
-pub mod Runs
+pub mod Stability
+pub mod Private

@@ -1,7 +1,6 @@
--- What is decided for a rep of choose firstn or a position of choose indep.
+-- The outcome for each rep of choose firstn or each position of choose indep.
 --
--- An answer is a list of marks, one for each rep or position: it joins the entries (rep, try, item, leaf), which are the
--- places where something is placed, with the reps that were given up.
+-- An answer is a list of marks, one for each rep or position: an item with its try and leaf, or given up, or none.
 use Rattle.std.specs.Prelude.{ℕ, List, [], ◌∷◌, map, Option, Some, None}
 use Rattle.crush_map.specs.declared.word.ItemId.{ItemId}
 use Rattle.crush_choose.specs.declared.mark.Spot.{Spot}
@@ -19,14 +18,14 @@ Slot = Option ItemId
 abbrev pub placed_by : ℕ → ItemId → ItemId → Mark
 placed_by round item leaf = Placed (record { round = round; item = item; leaf = leaf })
 
--- what is placed, in order
+-- what the marks place, in order
 abbrev pub spots : Marks → List Spot
 spots [] = []
 spots (None ∷ marks) = spots marks
 spots (Some Skipped ∷ marks) = spots marks
 spots (Some (Placed spot) ∷ marks) = spot ∷ spots marks
 
--- the items that are placed, closed up
+-- the items that marks place, without gaps
 abbrev pub items_of : Marks → List Slot
 items_of marks = map (λ s. Some s.item) (spots marks)
 

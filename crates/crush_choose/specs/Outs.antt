@@ -1,4 +1,4 @@
--- What a run of a rule leaves.
+-- The result of running a rule.
 use Rattle.std.specs.Prelude.{ℕ, List}
 use Rattle.crush_choose.specs.Marks.{Slot}
 

@@ -1,7 +1,7 @@
 -- The answer of a rule and its trace (`crush_do_rule` of Ceph's `mapper.c`).
 --
--- There the steps work on arrays that change places; here they are folded over what they have set, a working list and the
--- answer so far.
+-- There the steps work on two arrays that are swapped; here they are folded over the settings, a working list and the answer so
+-- far.
 use Rattle.std.specs.Prelude.{◌≡◌, ℕ, ℤ, pos, negsuc, zero, suc, ◌+◌, ◌-◌, ◌==◌, nat_lt, List, [], ◌∷◌, ◌++◌, length, map, take, min, Bool, true, if◌then◌else◌, Option, Some, None}
 use Rattle.std.specs.List.Sorted.{IsStrictlyIncreasing}
 use Rattle.crush_map.specs.declared.draft.Rule.{Rule}
@@ -16,16 +16,16 @@ use Rattle.crush_choose.specs.Marks.{Slot, items_of, leaves_of, item_at, leaf_at
 use Rattle.crush_choose.specs.Firstn.{firstn}
 use Rattle.crush_choose.specs.Indep.{indep}
 
--- a rule of a map without a fault, and the map's tunables
+-- the rule has no fault given some declarations, and the tunables are in range, as for every rule of a map
 pub record CanRun (t : TablesView) (rule : Rule) : Type 0 where
   pub known : Known
   pub faultless : rule_fault known rule ≡ None
   pub tunables : are_in_range t.tunables ≡ true
 
--- ---- what a choose step puts out
+-- ---- the output of a choose step
 
--- what a choose step asks of each bucket of the working list: whether by firstn, else by indep; whether for leaves, and then with so many
--- tries for each; for the input x so many items of a type, and the numbers that are set
+-- the parameters of a choose step, the same for each bucket of the working list: firstn or else indep; chooseleaf or else choose; the input x; how
+-- many items, of which type; and the settings
 pub record ChooseCall : Type 0 where
   pub firstn : Bool
   pub leaf : Bool
@@ -37,7 +37,7 @@ pub record ChooseCall : Type 0 where
   pub vary_r : ℕ
   pub stable : ℕ
 
--- the call for a bucket, with room for so many
+-- the call for a bucket, with room for a number of items
 abbrev pub firstn_call : ChooseCall → ℕ → ℕ → FirstnCall
 firstn_call c room bucket =
     record { bucket = bucket; x = c.x; numrep = c.numrep; room = room; wanted = c.wanted; tries = c.tries; leaf_tries = c.leaf_tries; vary_r = c.vary_r; stable = c.stable }
@@ -46,7 +46,7 @@ abbrev pub indep_call : ChooseCall → ℕ → ℕ → IndepCall
 indep_call c room bucket =
     record { bucket = bucket; x = c.x; n = min c.numrep room; numrep = c.numrep; wanted = c.wanted; tries = c.tries; leaf_tries = c.leaf_tries }
 
--- what one bucket puts out, with room for so many: items, or for chooseleaf their leaves
+-- the output of one bucket, with room for a number of items: the items, or for chooseleaf their leaves
 unfoldable pub put_out : TablesView → List ℕ → ChooseCall → ℕ → ℕ → List Slot
 put_out t w c room bucket =
     if c.numrep == 0 then []
@@ -59,45 +59,44 @@ abbrev pub bucket_out : TablesView → List ℕ → ChooseCall → ℕ → Optio
 bucket_out t w c room None = []
 bucket_out t w c room (Some bucket) = put_out t w c room bucket
 
--- what one slot of the working list puts out: devices and none are passed over
+-- the output of one slot of the working list: nothing for a device or an empty slot
 abbrev pub slot_out : TablesView → List ℕ → ChooseCall → ℕ → Slot → List Slot
 slot_out t w c room None = []
 slot_out t w c room (Some item) = bucket_out t w c room (bucket_numbered t item)
 
--- what a working list puts out, in order: each bucket has the room that those before it left
+-- the output of a working list, in order: each bucket has the room that those before it left
 abbrev pub step_out : TablesView → List ℕ → ChooseCall → ℕ → List Slot → List Slot
 step_out t w c room [] = []
 step_out t w c room (slot ∷ slots) =
     let out = slot_out t w c room slot in
     out ++ step_out t w c (room - length out) slots
 
--- ---- what is set
+-- ---- settings
 
--- the numbers that hold for the steps to come; leaf tries are 0 as long as no step sets them
+-- the settings for the steps to come; leaf tries are 0 until a step sets them
 pub record Settings : Type 0 where
   pub tries : ℕ
   pub leaf_tries : ℕ
   pub vary_r : ℕ
   pub stable : ℕ
 
--- the numbers that hold where no step sets others, of the map's tunables; total_tries counts tries again, so there is one more; no number of
--- leaf tries is set
+-- the settings before the first step, from the map's tunables; choose_total_tries counts the tries after the first, so there is one more
 abbrev pub settings_of : Tunables → Settings
 settings_of t = record { tries = t.total_tries + 1; leaf_tries = 0; vary_r = t.vary_r; stable = t.stable }
 
--- tries for a leaf: those that are set, or else one, or as many as for an item where firstn doesn't descend once
+-- tries for a leaf: those that a step set; else one, or for firstn that doesn't descend once as many as for an item
 abbrev pub leaf_tries : Tunables → Settings → Bool → ℕ
 leaf_tries t s by_firstn =
     if nat_lt 0 s.leaf_tries then s.leaf_tries
     else (if by_firstn then (if t.descend_once == 1 then 1 else s.tries) else 1)
 
--- how many are chosen for a number n of a choose step: n itself above 0, else size + n, or 0 where that is below 0
+-- how many items a choose step with count n asks for: n if it is above 0, else size + n, or 0 if that is below 0
 abbrev pub reps : ℤ → ℕ → ℕ
 reps (pos zero) size = size
 reps (pos (suc n)) size = suc n
 reps (negsuc n) size = size - suc n
 
--- what a choose step asks of each bucket
+-- the parameters of a choose step
 abbrev pub choose_call : Tunables → Settings → ℕ → ℕ → Bool → Bool → ℤ → ℕ → ChooseCall
 choose_call t s x size by_firstn leaf n wanted =
     record { firstn = by_firstn; leaf = leaf; x = x; numrep = reps n size; wanted = wanted; tries = s.tries; leaf_tries = if leaf then leaf_tries t s by_firstn else 0; vary_r = s.vary_r; stable = s.stable }
@@ -114,7 +113,7 @@ devices_of [] = []
 devices_of (None ∷ slots) = devices_of slots
 devices_of (Some item ∷ slots) = devices_before item.0 (devices_of slots)
 
--- where a rule stands: what is set, the working list, what was emitted, and the devices of working lists that choose steps made
+-- the state of a rule that runs: the settings, the working list, the answer so far, and the devices in the outputs of choose steps
 pub record Running : Type 0 where
   pub settings : Settings
   pub working : List Slot
@@ -152,7 +151,7 @@ after_rule t w steps x size = after_steps t w x size (start t.tunables) steps
 abbrev pub rule_answer : TablesView → List ℕ → List Step → ℕ → ℕ → List Slot
 rule_answer t w steps x size = (after_rule t w steps x size).emitted
 
--- the trace of a rule's run: each device that stood in a working list made by a choose step, once and in order
+-- the trace of a rule's run: each device in the output of a choose step, once and in ascending order
 pub record IsTrace (t : TablesView) (w : List ℕ) (steps : List Step) (x size : ℕ) (trace : List ℕ) : Type 0 where
   pub rising : IsStrictlyIncreasing trace
   pub each : (device : ℕ) → has_number trace device ≡ has_number (after_rule t w steps x size).made device

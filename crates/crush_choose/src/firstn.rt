@@ -1,4 +1,4 @@
-//! Choosing without gaps: choose firstn.
+//! choose firstn: items in order, without gaps.
 
 ghost use Rattle.std.specs.Prelude.{◌≡◌, ◌<◌, ◌≤◌, ◌+◌, ◌++◌, ◌∷◌, [], ◌^◌, length};
 ghost use Rattle.crush_bucket.specs.Tables.{perms_of, bucket_numbered};
@@ -13,12 +13,12 @@ use crate::weights::{Weights, is_device_in};
 use crush_bucket::{BucketNo, Scratch, Tables};
 use crush_map::ItemId;
 
-/// What choose firstn is asked for.
+/// The parameters of a choose firstn call.
 #[derive(Clone, Copy)]
 pub struct FirstnCall {
-    /// Where walks begin.
+    /// The bucket in which walks begin.
     pub bucket: BucketNo,
-    /// The input of the draws.
+    /// The input.
     pub x: u32,
     /// How many reps, 1..64.
     pub numrep: u32,
@@ -51,7 +51,7 @@ fn has(slots: &[Slot], item: ItemId) -> bool
     slots.iter().any(|slot| slot_has(*slot, item))
 }
 
-/// The leaf that one attempt finds below a bucket.
+/// The leaf that one attempt finds below a bucket, if it finds one.
 #[tactic(auto, unfolding(crate::specs::Firstn::leaf_by))]
 fn leaf_by(
     tables: &Tables,
@@ -76,7 +76,7 @@ fn leaf_by(
     }
 }
 
-/// The least attempt for a leaf, by the number of items so far and the attempt that found the bucket.
+/// The first attempt for a leaf, from the number of items so far and the attempt that found the bucket.
 fn leaf_start(call: &FirstnCall, count: u32, r: u32) -> u32
     requires low { r < 2 ^ 16 }
     requires few { count ≤ 32 }
@@ -93,7 +93,7 @@ fn leaf_start(call: &FirstnCall, count: u32, r: u32) -> u32
     base + sub
 }
 
-/// The leaf of the least attempt that finds one.
+/// The leaf of the first attempt that finds one.
 #[tactic(auto, unfolding(crate::specs::Firstn::leaf_below))]
 fn leaf_below(
     tables: &Tables,
@@ -120,7 +120,7 @@ fn leaf_below(
     None
 }
 
-/// The leaf of an item that the attempt r found, where so many items were chosen before.
+/// The leaf of an item that attempt r found, after `count` items were chosen.
 fn leaf_of(
     tables: &Tables,
     scratch: &mut Scratch,
@@ -148,9 +148,9 @@ fn leaf_of(
     }
 }
 
-/// One try of a rep, beside the items and leaves of smaller reps.
-#[tactic(auto, unfolding(crate::specs::Firstn::attempt))]
-fn attempt(
+/// One try of a rep, given the items and leaves of smaller reps; none if it fails.
+#[tactic(auto, unfolding(crate::specs::Firstn::firstn_try))]
+fn firstn_try(
     tables: &Tables,
     scratch: &mut Scratch,
     weights: &Weights,
@@ -165,7 +165,7 @@ fn attempt(
     requires few { length items.now ≤ 32 }
     requires rep { rep ≤ 64 }
     requires round { round ≤ 1000 }
-    ensures value { result ≡ spec.attempt tables.now weights.now call.now items.now leaves.now rep round }
+    ensures value { result ≡ spec.firstn_try tables.now weights.now call.now items.now leaves.now rep round }
     ensures fits { scratch.new ≡ perms_of tables.now }
 {
     let end = reach_by(
@@ -189,7 +189,7 @@ fn attempt(
     Some(Mark::Placed(Spot { round, item, leaf }))
 }
 
-/// What decides a rep: its least try that doesn't fail.
+/// The mark of a rep: that of its first try that doesn't fail.
 #[tactic(auto, unfolding(crate::specs::Firstn::decided))]
 fn decide(
     tables: &Tables,
@@ -208,7 +208,7 @@ fn decide(
     ensures fits { scratch.new ≡ perms_of tables.now }
 {
     for round in 0..call.tries {
-        let mark = attempt(tables, scratch, weights, call, items, leaves, rep, round);
+        let mark = firstn_try(tables, scratch, weights, call, items, leaves, rep, round);
         if mark.is_some() {
             return mark;
         }
@@ -216,7 +216,7 @@ fn decide(
     None
 }
 
-/// The mark of a rep, none where no room is left.
+/// The mark of a rep; none if no room is left.
 fn mark_beside(
     tables: &Tables,
     scratch: &mut Scratch,
@@ -241,7 +241,7 @@ fn mark_beside(
     }
 }
 
-/// Puts what a mark places behind the items and the leaves.
+/// Appends the item and the leaf of a mark, if it places one.
 fn add(items: &mut Row, leaves: &mut Row, mark: Option<Mark>)
     requires room { length items.old + length (items_of (mark ∷ [])) ≤ 32 }
     requires even { length leaves.old ≡ length items.old }
@@ -258,7 +258,7 @@ fn add(items: &mut Row, leaves: &mut Row, mark: Option<Mark>)
     }
 }
 
-/// Chooses items of a type below a bucket, closed up, and a leaf for each.
+/// Chooses items of a type below a bucket, without gaps, and a leaf for each (`crush_choose_firstn` of Ceph's `mapper.c`).
 ///
 /// Where no leaf is wanted, or where an item is a device, the leaf is the item itself.
 #[tactic(auto, unfolding(crate::specs::Firstn::firstn))]

@@ -1,4 +1,4 @@
-//! Choosing at positions: choose indep.
+//! choose indep: items at fixed positions, where one that can't be filled stays empty.
 
 ghost use Rattle.std.specs.Prelude.{◌≡◌, ◌<◌, ◌≤◌, ◌+◌, ◌++◌, ◌^◌, length, map, None, is_some, replicate};
 ghost use Rattle.std.specs.List.{list_all};
@@ -9,31 +9,31 @@ ghost use Rattle.crush_choose.specs.Indep.{IsIndepCall, IsIndepAnswer};
 
 use crate::mark::{Mark, Spot};
 use crate::row::{Row, Slot};
-use crate::walk::{Reached, Turn, reach};
+use crate::walk::{Attempts, Reached, reach};
 use crate::weights::{Weights, is_device_in};
 use crush_bucket::{BucketNo, Scratch, Tables};
 use crush_map::ItemId;
 
-/// What choose indep is asked for.
+/// The parameters of a choose indep call.
 #[derive(Clone, Copy)]
 pub struct IndepCall {
-    /// Where walks begin.
+    /// The bucket in which walks begin.
     pub bucket: BucketNo,
-    /// The input of the draws.
+    /// The input.
     pub x: u32,
-    /// How many positions, at most 32 and `numrep`.
+    /// How many positions, at most 32 and at most `numrep`.
     pub n: u32,
-    /// By how much a round moves attempts, 1..64.
+    /// What each round adds to an attempt, 1..64; one more at some uniform buckets.
     pub numrep: u32,
     /// The number of the wanted type.
     pub wanted: u32,
-    /// Rounds, 1..1000.
+    /// How many rounds, 1..1000.
     pub tries: u32,
-    /// Rounds for a leaf, 0..1000; with 0 no leaf is wanted.
+    /// How many rounds for a leaf, 0..1000; with 0 no leaf is wanted.
     pub leaf_tries: u32,
 }
 
-/// Whether a mark at position q places the item before a try of another position.
+/// Whether the mark of position q placed the item before the try of position `pos` in this round.
 fn is_taken_at(mark: Option<Mark>, q: u32, round: u32, pos: u32, item: ItemId) -> bool
     ensures { result ≡ spec.is_of item (spec.earlier round pos q mark) }
 {
@@ -49,7 +49,7 @@ fn is_taken_at(mark: Option<Mark>, q: u32, round: u32, pos: u32, item: ItemId) -
     }
 }
 
-/// Whether the item is placed at a position before a try of this one.
+/// Whether some position got the item before the try of position `pos` in this round.
 #[tactic(auto, unfolding(crate::specs::Indep::taken))]
 fn taken(marks: &[Option<Mark>], round: u32, pos: u32, item: ItemId) -> bool
     requires { length marks.now ≤ 32 }
@@ -63,7 +63,7 @@ fn taken(marks: &[Option<Mark>], round: u32, pos: u32, item: ItemId) -> bool
     false
 }
 
-/// The leaf that one round finds below a bucket.
+/// The leaf that one round finds below a bucket, if it finds one.
 #[tactic(auto, unfolding(crate::specs::Indep::indep_leaf_by))]
 fn leaf_by(
     tables: &Tables,
@@ -82,19 +82,19 @@ fn leaf_by(
     ensures value { result ≡ spec.indep_leaf_by tables.now weights.now call.now bucket start round }
     ensures fits { scratch.new ≡ perms_of tables.now }
 {
-    let turn = Turn {
+    let attempts = Attempts {
         start,
         numrep: call.numrep,
         round,
     };
-    match reach(tables, scratch, call.x, turn, 0, bucket) {
+    match reach(tables, scratch, call.x, attempts, 0, bucket) {
         Reached::Found(item, _) => is_device_in(weights, call.x, item).then_some(item),
         Reached::Empty => None,
         Reached::Wrong => None,
     }
 }
 
-/// The leaf of the least round that finds one.
+/// The leaf of the first round that finds one.
 #[tactic(auto, unfolding(crate::specs::Indep::indep_leaf))]
 fn leaf_below(
     tables: &Tables,
@@ -120,7 +120,7 @@ fn leaf_below(
     None
 }
 
-/// The leaf of an item that the attempt r found for a position.
+/// The leaf of an item that attempt r found for a position.
 fn leaf_of(
     tables: &Tables,
     scratch: &mut Scratch,
@@ -144,9 +144,9 @@ fn leaf_of(
     }
 }
 
-/// One try of a position, beside all marks.
+/// One try of a position, given the marks of all positions; none if it fails.
 #[tactic(auto, unfolding(crate::specs::Indep::indep_try))]
-fn attempt(
+fn indep_try(
     tables: &Tables,
     scratch: &mut Scratch,
     weights: &Weights,
@@ -163,12 +163,12 @@ fn attempt(
     ensures value { result ≡ spec.indep_try tables.now weights.now call.now marks.now pos round }
     ensures fits { scratch.new ≡ perms_of tables.now }
 {
-    let turn = Turn {
+    let attempts = Attempts {
         start: pos,
         numrep: call.numrep,
         round,
     };
-    let (item, r) = match reach(tables, scratch, call.x, turn, call.wanted, call.bucket) {
+    let (item, r) = match reach(tables, scratch, call.x, attempts, call.wanted, call.bucket) {
         Reached::Found(item, r) => (item, r),
         Reached::Empty => return None,
         Reached::Wrong => return Some(Mark::Skipped),
@@ -180,8 +180,8 @@ fn attempt(
     Some(Mark::Placed(Spot { round, item, leaf }))
 }
 
-/// The turn of a position in a round: a try where nothing is decided yet.
-fn take_turn(
+/// Tries a position in a round, unless it is decided already.
+fn try_position(
     tables: &Tables,
     scratch: &mut Scratch,
     weights: &Weights,
@@ -195,16 +195,16 @@ fn take_turn(
     requires few { length marks.old ≤ 32 }
     requires pos { pos < length marks.old }
     requires soon { round ≤ 1000 }
-    ensures value { marks.new ≡ spec.after_turn (spec.indep_try tables.now weights.now call.now) round pos marks.old }
+    ensures value { marks.new ≡ spec.after_try (spec.indep_try tables.now weights.now call.now) round pos marks.old }
     ensures fits { scratch.new ≡ perms_of tables.now }
 {
     if marks[pos as usize].is_none() {
-        marks[pos as usize] = attempt(tables, scratch, weights, call, marks, pos, round);
+        marks[pos as usize] = indep_try(tables, scratch, weights, call, marks, pos, round);
     }
 }
 
-/// One round: the turns of the positions in order.
-fn play_round(
+/// One round: a try of each undecided position, in order.
+fn run_round(
     tables: &Tables,
     scratch: &mut Scratch,
     weights: &Weights,
@@ -221,7 +221,7 @@ fn play_round(
     ensures fits { scratch.new ≡ perms_of tables.now }
 {
     for pos in 0..call.n {
-        take_turn(tables, scratch, weights, call, marks, pos, round);
+        try_position(tables, scratch, weights, call, marks, pos, round);
     }
 }
 
@@ -231,9 +231,9 @@ fn all_decided(marks: &[Option<Mark>]) -> bool
     marks.iter().all(|mark| mark.is_some())
 }
 
-/// All rounds, as long as a position is undecided.
+/// The rounds, until each position is decided or there is none left.
 #[tactic(auto, unfolding(crate::specs::Indep::indep))]
-fn play(
+fn run_rounds(
     tables: &Tables,
     scratch: &mut Scratch,
     weights: &Weights,
@@ -251,7 +251,7 @@ fn play(
         if all_decided(marks) {
             return;
         }
-        play_round(tables, scratch, weights, call, marks, round);
+        run_round(tables, scratch, weights, call, marks, round);
     }
 }
 
@@ -275,7 +275,7 @@ fn leaf_at(mark: Option<Mark>) -> Slot
     }
 }
 
-/// Fills rows with the items and the leaves of marks.
+/// Puts the items and the leaves of marks into rows.
 fn fill(items: &mut Row, leaves: &mut Row, marks: &[Option<Mark>])
     requires { length marks.now ≤ 32 }
     ensures items { items.new ≡ map item_at marks.now }
@@ -289,7 +289,8 @@ fn fill(items: &mut Row, leaves: &mut Row, marks: &[Option<Mark>])
     }
 }
 
-/// Chooses items of a type below a bucket, each at its position, and a leaf for each; none where a position finds none.
+/// Chooses items of a type below a bucket, each at its position, and a leaf for each; a position for which no try succeeds is left empty
+/// (`crush_choose_indep` of Ceph's `mapper.c`).
 ///
 /// Where no leaf is wanted, or where an item is a device, the leaf is the item itself.
 pub fn choose_indep(
@@ -312,6 +313,6 @@ pub fn choose_indep(
 {
     let mut row = [None; 32];
     let marks = &mut row[..call.n as usize];
-    play(tables, scratch, weights, call, marks);
+    run_rounds(tables, scratch, weights, call, marks);
     fill(items, leaves, marks);
 }

@@ -1,6 +1,6 @@
-//! Choosing items of a CRUSH map, and the rules that say what is chosen.
+//! Choosing items of a CRUSH map, and running its rules.
 //!
-//! Sources: Weil et al., 'CRUSH: Controlled, Scalable, Decentralized Placement of Replicated Data' (SC 2006), and Ceph's `src/crush/mapper.c`. Choosing takes no memory and never fails. Its tests are the crate `choose_tests`.
+//! Sources: Weil et al., 'CRUSH: Controlled, Scalable, Decentralized Placement of Replicated Data' (SC 2006), and Ceph's `src/crush/mapper.c`. Choosing takes no memory and never fails. Its tests are in the crate `kernel_tests`.
 #![tactic(auto)]
 
 mod firstn;
@@ -10,6 +10,7 @@ mod mark;
 mod plan;
 mod row;
 mod rule;
+pub mod stability;
 mod walk;
 mod weights;
 

@@ -1,9 +1,9 @@
-//! What one choose step puts out.
+//! The output of a choose step.
 
 ghost use Rattle.std.specs.Prelude.{◌≡◌, ◌<◌, ◌≤◌, ◌+◌, ◌++◌, [], length, map};
 ghost use Rattle.crush_bucket.specs.Tables.{perms_of};
 ghost use Rattle.crush_choose.specs.Rules.{put_out, slot_out, step_out};
-ghost use Rattle.crush_choose.specs.Runs.{IsPlan, call_of};
+ghost use Rattle.crush_choose.specs.Private.Runs.{IsPlan, call_of};
 
 use crate::firstn::{FirstnCall, choose_firstn};
 use crate::indep::{IndepCall, choose_indep};
@@ -11,7 +11,7 @@ use crate::row::{Row, Slot};
 use crate::weights::Weights;
 use crush_bucket::{BucketNo, Scratch, Tables};
 
-/// What a choose step asks of each bucket of the working list.
+/// The parameters of a choose step, the same for each bucket of the working list.
 #[derive(Clone, Copy)]
 pub(crate) struct Plan {
     pub firstn: bool,
@@ -25,7 +25,7 @@ pub(crate) struct Plan {
     pub stable: u32,
 }
 
-/// Puts slots behind those of a row.
+/// Appends slots to a row.
 pub(crate) fn append(row: &mut Row, slots: &[Slot])
     requires { length row.old + length slots.now ≤ 32 }
     ensures { row.new ≡ row.old ++ slots.now }
@@ -35,7 +35,7 @@ pub(crate) fn append(row: &mut Row, slots: &[Slot])
     }
 }
 
-/// Puts out what one bucket gives, with room for so many.
+/// Appends the output of one bucket, at most `room` slots.
 #[tactic(auto, unfolding(crate::specs::Rules::put_out))]
 fn put_out(
     tables: &Tables,
@@ -94,7 +94,7 @@ fn put_out(
     );
 }
 
-/// Puts out what one slot of the working list gives; devices and none are passed over.
+/// Appends the output of one slot of the working list: nothing for a device or an empty slot.
 fn slot_out(
     tables: &Tables,
     scratch: &mut Scratch,
@@ -120,7 +120,7 @@ fn slot_out(
     }
 }
 
-/// Puts out what a working list gives, in order.
+/// Fills a row with the output of a working list, in order.
 pub(crate) fn step_out(
     tables: &Tables,
     scratch: &mut Scratch,

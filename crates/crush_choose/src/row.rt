@@ -1,4 +1,4 @@
-//! Rows of slots.
+//! Lists of at most 32 slots.
 
 ghost use Rattle.std.specs.Prelude.{◌≡◌, ◌<◌, ◌≤◌, [], ◌∷◌, ◌++◌, length};
 
@@ -9,7 +9,7 @@ use std::marker::Model;
 /// An item, or none.
 pub type Slot = Option<ItemId>;
 
-/// At most 32 slots, kept in place. A contract sees them as a list.
+/// At most 32 slots, in an array of its own, so that no memory is taken. Contracts see a list.
 #[derive(Drop)]
 pub struct Row {
     slots: ArrayVec<Slot, 32>,

@@ -1,12 +1,13 @@
-//! Rules.
+//! Running rules.
 
-ghost use Rattle.std.specs.Prelude.{◌≡◌, ◌<◌, ◌≤◌, ◌+◌, ◌-◌, ◌*◌, ◌++◌, [], ◌∷◌, take, length, vec_len, vec_capacity, slice_index_or, IfOk, Some, true, ℕ};
+ghost use Rattle.std.specs.Prelude.{◌≡◌, ◌<◌, ◌≤◌, ◌+◌, ◌-◌, ◌*◌, ◌++◌, [], ◌∷◌, take, length, vec_len, vec_capacity, slice_index_or, IfOk, Some, true, ℕ, List};
 ghost use Rattle.std.specs.List.Sorted.{IsStrictlyIncreasing};
 ghost use Rattle.crush_map.specs.Faults.{are_in_range, has_number};
 ghost use Rattle.crush_bucket.specs.Tables.{perms_of};
 ghost use Rattle.crush_choose.specs.Rules as spec;
 ghost use Rattle.crush_choose.specs.Rules.{CanRun, IsTrace, rule_answer, with_chosen};
-ghost use Rattle.crush_choose.specs.Runs.{AreSettings, IsPlan, IsRun, IsStep, call_of, no_step, settings_in, state_of};
+ghost use Rattle.crush_choose.specs.Stability.{AreLoweredOutside};
+ghost use Rattle.crush_choose.specs.Private.Runs.{AreSettings, IsPlan, IsRun, IsStep, call_of, no_step, settings_in, state_of};
 
 use crate::plan::{Plan, append, step_out};
 use crate::row::{Row, Slot};
@@ -16,27 +17,27 @@ use crush_map::{ItemId, Rule, Step, Tunables};
 use std::alloc::{AllocError, Global};
 use std::marker::Model;
 
-/// What the steps of a rule have set.
+/// The settings that the steps of a rule change.
 #[derive(Clone, Copy)]
 pub(crate) struct Settings {
     pub tries: u32,
-    /// 0 as long as no step sets it.
+    /// 0 until a step sets it.
     pub leaf_tries: u32,
     pub vary_r: u32,
     pub stable: u32,
 }
 
-/// Where a rule stands.
+/// The state of a rule that runs.
 #[derive(Drop)]
 pub(crate) struct Run {
     pub settings: Settings,
     pub working: Row,
     pub emitted: Row,
-    /// Devices of working lists that choose steps made.
+    /// The devices in the outputs of choose steps.
     pub made: Vec<u32>,
 }
 
-/// How many are chosen for the number of a choose step.
+/// How many items a choose step with count n asks for, in an answer of this size.
 fn reps(n: i32, size: u32) -> u32
     ensures { result ≡ spec.reps n size }
 {
@@ -47,7 +48,7 @@ fn reps(n: i32, size: u32) -> u32
     }
 }
 
-/// Tries for a leaf.
+/// How many tries for a leaf.
 fn leaf_tries(tunables: Tunables, settings: Settings, firstn: bool) -> u32
     ensures { result ≡ spec.leaf_tries tunables (settings_in settings) firstn }
 {
@@ -64,7 +65,7 @@ fn leaf_tries(tunables: Tunables, settings: Settings, firstn: bool) -> u32
     }
 }
 
-/// Notes the devices among slots.
+/// Appends the devices among slots.
 fn note_devices(made: &mut Vec<u32>, slots: &[Slot])
     requires { vec_len made.old + length slots.now ≤ vec_capacity made.old }
     ensures value { made.new.items ≡ made.old.items ++ spec.devices_of slots.now }
@@ -78,7 +79,7 @@ fn note_devices(made: &mut Vec<u32>, slots: &[Slot])
     }
 }
 
-/// Notes an item if it is a device.
+/// Appends an item if it is a device.
 fn note_device(made: &mut Vec<u32>, item: ItemId)
     requires { vec_len made.old < vec_capacity made.old }
     ensures value { made.new.items ≡ made.old.items ++ spec.devices_before item.0 [] }
@@ -90,7 +91,7 @@ fn note_device(made: &mut Vec<u32>, item: ItemId)
     }
 }
 
-/// Puts slots behind what was emitted, as long as that is shorter than size.
+/// Appends slots to the answer until it has `size` slots.
 fn emit(emitted: &mut Row, working: &[Slot], size: u32)
     requires size { size ≤ 32 }
     requires room { length emitted.old ≤ size }
@@ -101,7 +102,7 @@ fn emit(emitted: &mut Row, working: &[Slot], size: u32)
     append(emitted, &working[..room.min(working.len())]);
 }
 
-/// A choose step.
+/// One choose step, after k steps.
 fn choose(
     tables: &Tables,
     scratch: &mut Scratch,
@@ -202,7 +203,7 @@ fn after_step(
     }
 }
 
-/// A run before its first step.
+/// Makes a run ready for its first step.
 fn start(tunables: Tunables, run: &mut Run)
     requires tunables { are_in_range tunables ≡ true }
     requires capacity { 1024 ≤ vec_capacity run.old.made }
@@ -220,7 +221,7 @@ fn start(tunables: Tunables, run: &mut Run)
     run.made.clear();
 }
 
-/// What was noted, in order and each once.
+/// Makes the trace: the devices in ascending order, each once.
 fn finish(made: &mut Vec<u32>)
     ensures rising { IsStrictlyIncreasing made.new.items }
     ensures same { (d : ℕ) → has_number made.new.items d ≡ has_number made.old.items d }
@@ -230,7 +231,7 @@ fn finish(made: &mut Vec<u32>)
     made.dedup();
 }
 
-/// Takes the steps of a rule in order, and leaves the trace in place of what was noted.
+/// Runs the steps of a rule in order, then makes the trace.
 #[tactic(auto, unfolding(crate::specs::Rules::after_rule))]
 fn take_steps(
     tables: &Tables,
@@ -260,7 +261,7 @@ fn take_steps(
     finish(&mut run.made);
 }
 
-/// What a run of a rule leaves: an answer and a trace. A contract sees both as lists.
+/// The answer of a rule and the trace of its run, with the memory for both. Contracts see both as lists.
 #[derive(Drop)]
 pub struct Out {
     run: Run,
@@ -278,7 +279,7 @@ impl Model for Out {
 }
 
 impl Out {
-    /// An empty one, with memory for any rule.
+    /// An empty answer and trace, with enough memory for any rule.
     pub fn build(alloc: Global) -> Result<Out, AllocError>
         ensures items { IfOk result (λ out. out.items ≡ []) }
         ensures trace { IfOk result (λ out. out.trace ≡ []) }
@@ -299,7 +300,7 @@ impl Out {
         })
     }
 
-    /// The answer: items and none, in order.
+    /// The answer, in order; a slot of an indep step may be empty.
     pub fn items(&self) -> &[Slot]
         ensures value { result.now ≡ self.now.items }
         ensures fits { length result.now ≤ 32 }
@@ -307,7 +308,7 @@ impl Out {
         self.run.emitted.items()
     }
 
-    /// The trace: the devices that stood in a working list made by a choose step, ascending, each once.
+    /// The trace: the devices in the outputs of choose steps, ascending, each once.
     pub fn trace(&self) -> &[u32]
         ensures { result.now ≡ self.now.trace }
     {
@@ -315,7 +316,9 @@ impl Out {
     }
 }
 
-/// Runs a rule: leaves its answer for an input, of at most `size` slots, and the trace of the run (`crush_do_rule` of Ceph's `mapper.c`).
+/// Runs a rule for an input: sets `out` to its answer, at most `size` slots, and to the trace of the run (`crush_do_rule` of Ceph's `mapper.c`).
+///
+/// Lower reweights of devices outside the trace, of any number of them at once, leave the answer and the trace as they are.
 pub fn run_rule(
     tables: &Tables,
     scratch: &mut Scratch,
@@ -332,6 +335,8 @@ pub fn run_rule(
     ensures items { out.new.items ≡ rule_answer tables.now weights.now rule.now.steps x size }
     ensures room { length out.new.items ≤ size }
     ensures trace { IsTrace tables.now weights.now rule.now.steps x size out.new.trace }
+    ensures stays { (lowered : List ℕ) → AreLoweredOutside out.new.trace weights.now lowered → rule_answer tables.now lowered rule.now.steps x size ≡ out.new.items }
+    ensures trace_stays { (lowered : List ℕ) → AreLoweredOutside out.new.trace weights.now lowered → IsTrace tables.now lowered rule.now.steps x size out.new.trace }
     ensures fits { scratch.new ≡ perms_of tables.now }
 {
     let steps = rule.steps.as_slice();

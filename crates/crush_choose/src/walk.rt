@@ -3,14 +3,14 @@
 ghost use Rattle.std.specs.Prelude.{◌≡◌, ◌+◌, ◌*◌, ◌<◌, ◌≤◌, ◌^◌, length};
 ghost use Rattle.crush_bucket.specs.Tables.{perms_of};
 ghost use Rattle.crush_choose.specs.Reach.{reach, step};
-ghost use Rattle.crush_choose.specs.Walks.{IsTurn, IsUpTo};
+ghost use Rattle.crush_choose.specs.Private.Walks.{AreAttempts, IsUpTo};
 
 use crush_bucket::{BucketNo, Scratch, Tables};
 use crush_map::{ItemId, Kind};
 
-/// What sets the attempts of a walk: from a start on, each bucket moves them in each round by a step of its own.
+/// The attempts of a walk: at each bucket, `start` and what the bucket adds for the round.
 #[derive(Clone, Copy)]
-pub(crate) struct Turn {
+pub(crate) struct Attempts {
     pub start: u32,
     pub numrep: u32,
     pub round: u32,
@@ -28,19 +28,19 @@ pub enum Reached {
 }
 
 /// The attempt at a bucket.
-fn attempt_at(tables: &Tables, turn: Turn, bucket: BucketNo) -> u32
+fn attempt_at(tables: &Tables, attempts: Attempts, bucket: BucketNo) -> u32
     requires bucket { bucket < length tables.now.buckets }
-    requires turn { IsTurn turn }
-    ensures value { result ≡ turn.start + step tables.now turn.numrep turn.round bucket }
-    ensures low { result ≤ turn.start + 65 * turn.round }
+    requires attempts { AreAttempts attempts }
+    ensures value { result ≡ attempts.start + step tables.now attempts.numrep attempts.round bucket }
+    ensures low { result ≤ attempts.start + 65 * attempts.round }
 {
     let uniform = matches!(tables.kind(bucket), Kind::Uniform);
-    let extra = if uniform && tables.size(bucket) % turn.numrep as usize == 0 {
+    let extra = if uniform && tables.size(bucket) % attempts.numrep as usize == 0 {
         1
     } else {
         0
     };
-    turn.start + (turn.numrep + extra) * turn.round
+    attempts.start + (attempts.numrep + extra) * attempts.round
 }
 
 /// Picks from a bucket on down until an item has the wanted type.
@@ -48,15 +48,15 @@ pub(crate) fn reach(
     tables: &Tables,
     scratch: &mut Scratch,
     x: u32,
-    turn: Turn,
+    attempts: Attempts,
     wanted: u32,
     from: BucketNo,
 ) -> Reached
     requires from { from < length tables.now.buckets }
     requires fits { scratch.old ≡ perms_of tables.now }
-    requires turn { IsTurn turn }
-    ensures value { result ≡ reach tables.now x (λ b. turn.start + step tables.now turn.numrep turn.round b) wanted from }
-    ensures up_to { IsUpTo (turn.start + 65 * turn.round) result }
+    requires attempts { AreAttempts attempts }
+    ensures value { result ≡ reach tables.now x (λ b. attempts.start + step tables.now attempts.numrep attempts.round b) wanted from }
+    ensures up_to { IsUpTo (attempts.start + 65 * attempts.round) result }
     ensures fits { scratch.new ≡ perms_of tables.now }
 {
     let mut bucket = from;
@@ -64,7 +64,7 @@ pub(crate) fn reach(
         if tables.is_empty(bucket) {
             return Reached::Empty;
         }
-        let r = attempt_at(tables, turn, bucket);
+        let r = attempt_at(tables, attempts, bucket);
         let item = tables.pick(bucket, scratch, x, r);
         match tables.bucket_of(item) {
             None => {
@@ -100,10 +100,10 @@ pub(crate) fn reach_by(
     ensures up_to { IsUpTo r result }
     ensures fits { scratch.new ≡ perms_of tables.now }
 {
-    let turn = Turn {
+    let attempts = Attempts {
         start: r,
         numrep: 1,
         round: 0,
     };
-    reach(tables, scratch, x, turn, wanted, from)
+    reach(tables, scratch, x, attempts, wanted, from)
 }

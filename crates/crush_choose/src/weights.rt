@@ -9,13 +9,13 @@ use crush_map::{CrushMap, ItemId};
 use std::alloc::{AllocError, Global};
 use std::marker::Model;
 
-/// The reweight of a device that is given none, and from which on a device is always in.
+/// 1.0: a device with this reweight or more is always in, and so is one that is given none.
 const FULL: u32 = 65_536;
 
 /// How many ids a device can have.
 const IDS: usize = 65_536;
 
-/// Reweights of devices in 16.16 fixed point. A contract sees those of all ids, 0 to 65535, in order.
+/// Reweights of devices in 16.16 fixed point. Contracts see those of all ids from 0 to 65535, in order.
 #[derive(Drop)]
 pub struct Weights {
     table: Vec<u32>,
@@ -23,7 +23,8 @@ pub struct Weights {
 
 impl Model for Weights {
     ghost use Rattle.std.specs.Prelude.{List, ℕ, ◌≤◌, length};
-    ghost use Rattle.crush_choose.specs.Weights.{ids, padded};
+    ghost use Rattle.crush_choose.specs.Weights.{ids};
+    ghost use Rattle.crush_choose.specs.Private.Weights.{padded};
 
     ghost Value = { List ℕ };
 
@@ -33,9 +34,10 @@ impl Model for Weights {
 }
 
 impl Weights {
-    /// The reweights that pairs of id and reweight give, with memory for the devices of a map and for each id that is given.
+    /// The reweights in `given`, pairs of id and reweight, with memory up to the greatest id of a device of the map or of a pair.
     ///
-    /// Of several pairs for one id the first counts, and an id without a pair has 65536; so has each id above 65535. An id needs no device in the map.
+    /// Of several pairs for one id the first counts. An id without a pair has 65536 (1.0), and so has each id above 65535. The map need not have a
+    /// device with the id.
     pub fn build(alloc: Global, map: &CrushMap, given: &[(u32, u32)]) -> Result<Weights, AllocError>
         ensures all { IfOk result (λ w. w ≡ weights_of given.now) }
         ensures each { IfOk result (λ w. (id : ℕ) → weight_at w id ≡ reweight_of given.now id) }
@@ -60,7 +62,7 @@ impl Weights {
     }
 }
 
-/// The least number, from a first one on, above each id that is given and that a device can have.
+/// A length for the table: at least `first`, and above each given id up to 65535.
 fn bound_of(first: usize, given: &[(u32, u32)]) -> usize
     ensures few { result ≤ spec.ids }
     ensures above { (id : ℕ) → result ≤ id → id < spec.ids → first_given given.now id ≡ spec.full }
@@ -74,7 +76,7 @@ fn bound_of(first: usize, given: &[(u32, u32)]) -> usize
     bound
 }
 
-/// The reweights of the ids below a bound.
+/// The reweights of the ids below a bound, in order.
 fn table_of(alloc: Global, bound: usize, given: &[(u32, u32)]) -> Result<Vec<u32>, AllocError>
     ensures len { IfOk result (λ table. length table.items ≡ bound) }
     ensures each { IfOk result (λ table. (id : ℕ) → id < bound → slice_index_or table.items id spec.full ≡ first_given given.now id) }
@@ -89,9 +91,10 @@ fn table_of(alloc: Global, bound: usize, given: &[(u32, u32)]) -> Result<Vec<u32
     Ok(table)
 }
 
-/// Whether a device is in for an input.
+/// Whether a device is in for an input (`is_out` of Ceph's `mapper.c` answers the opposite).
 ///
-/// With a reweight of 65536 or more it always is, with 0 it never is, and else by a draw of its own for the input (`is_out` of Ceph's `mapper.c`).
+/// With a reweight of 65536 or more it always is, with 0 it never is, and else if a draw, the lower 16 bits of the hash of input and device, is
+/// below its reweight.
 #[tactic(auto, unfolding(crate::specs::Weights::is_in))]
 pub fn is_in(weights: &Weights, x: u32, device: u32) -> bool
     ensures { result ≡ spec.is_in weights.now x device }

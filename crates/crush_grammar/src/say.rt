@@ -202,15 +202,7 @@ pub(crate) fn tunable(word: &Word<'_>) -> Result<TunableName, ReadError>
 pub(crate) fn alg_of(word: &Word<'_>) -> Option<Kind>
     ensures { result ≡ spec.alg_of word.now.text }
 {
-    if is(b"uniform", word) {
-        Some(Kind::Uniform)
-    } else if is(b"list", word) {
-        Some(Kind::List)
-    } else if is(b"tree", word) {
-        Some(Kind::Tree)
-    } else {
-        None
-    }
+    Kind::named(word.text())
 }
 
 /// The type of a rule that a word names.

@@ -42,22 +42,12 @@ fn up(bits: u32, x: u32x8, y: u32x8, z: u32x8) -> u32x8
     (x - y - z) ^ (z << u32x8::splat(bits))
 }
 
-/// The nine lines of `crush_hashmix`.
+/// Three words of each lane, mixed.
 #[inline(always)]
 fn mix(words: Lanes) -> Lanes
     ensures { (n : ℕ) → n < 8 → lane n result ≡ mix (lane n words) }
 {
-    let (a0, b0, c0) = words;
-    let a1 = down(13, a0, b0, c0);
-    let b1 = up(8, b0, c0, a1);
-    let c1 = down(13, c0, a1, b1);
-    let a2 = down(12, a1, b1, c1);
-    let b2 = up(16, b1, c1, a2);
-    let c2 = down(5, c1, a2, b2);
-    let a3 = down(3, a2, b2, c2);
-    let b3 = up(10, b2, c2, a3);
-    let c3 = down(15, c2, a3, b3);
-    (a3, b3, c3)
+    mixed!(words)
 }
 
 /// The hashes of four words, of which the second is another in each lane (`crush_hash32_4`).

@@ -38,21 +38,29 @@ fn up(bits: u32, x: u32, y: u32, z: u32) -> u32
     x.wrapping_sub(y).wrapping_sub(z) ^ (z << bits)
 }
 
-/// The nine lines of `crush_hashmix`.
+/// The nine lines of `crush_hashmix`, over words or over vectors of them.
+macro_rules! mixed {
+    ($words:expr) => {{
+        let (a0, b0, c0) = $words;
+        let a1 = down(13, a0, b0, c0);
+        let b1 = up(8, b0, c0, a1);
+        let c1 = down(13, c0, a1, b1);
+        let a2 = down(12, a1, b1, c1);
+        let b2 = up(16, b1, c1, a2);
+        let c2 = down(5, c1, a2, b2);
+        let a3 = down(3, a2, b2, c2);
+        let b3 = up(10, b2, c2, a3);
+        let c3 = down(15, c2, a3, b3);
+        (a3, b3, c3)
+    }};
+}
+
+/// Three words, mixed.
 #[tactic(auto, unfolding(crate::specs::Hash::mix))]
 fn mix(a: u32, b: u32, c: u32) -> Words
     ensures { result ≡ mix (a, b, c) }
 {
-    let a = down(13, a, b, c);
-    let b = up(8, b, c, a);
-    let c = down(13, c, a, b);
-    let a = down(12, a, b, c);
-    let b = up(16, b, c, a);
-    let c = down(5, c, a, b);
-    let a = down(3, a, b, c);
-    let b = up(10, b, c, a);
-    let c = down(15, c, a, b);
-    (a, b, c)
+    mixed!((a, b, c))
 }
 
 /// Mixes two words with the hash; answers what the two become.

@@ -1,4 +1,4 @@
--- What is known, in two orders.
+-- What is declared, in two orders: the checks of a next element answer the same.
 use Rattle.std.proofs.Common.{◌≡◌, ◌==◌, ◌+◌, Option, List, [], ◌∷◌, ℕ, ℤ, pos, negsuc, refl, map, fold}
 use Rattle.std.specs.Str.{bytes_eq}
 use Rattle.std.specs.List.Sorted.{IsPermutation}
@@ -52,7 +52,7 @@ id_alike : (i j : Ids) → AlikeIds i j → (id : ℤ) → has_id i id ≡ has_i
 id_alike i j a (pos n) = number_alike i.devices j.devices a.devices n
 id_alike i j a (negsuc n) = number_alike i.buckets j.buckets a.buckets n
 
--- ---- the checks answer alike
+-- ---- the checks answer the same
 
 pub type_alike : (k l : Known) → Alike k l → (t : TypeName) → type_fault k t ≡ type_fault l t
 unfolding type_fault
@@ -97,7 +97,7 @@ pub end_alike : (k l : Known) → Alike k l → (t : Tunables) (m n : ℕ) → e
 unfolding end_fault
 end_alike k l a t m n = rw (number_alike k.types l.types a.types 0) refl
 
--- ---- what is declared next is known alike
+-- ---- adding an element to both
 
 with_id_alike : (i j : Ids) → AlikeIds i j → (id : ℤ) → AlikeIds (with_id i id) (with_id j id)
 with_id_alike i j a (pos n) = record { devices = IsPermutation-append_left (n ∷ []) i.devices j.devices a.devices; buckets = a.buckets }

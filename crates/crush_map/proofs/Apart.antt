@@ -1,4 +1,4 @@
--- Lists whose elements differ, one element on.
+-- Lists whose elements differ, with one more element.
 use Rattle.std.proofs.Common.{◌≡◌, Bool, true, false, ◌||◌, List, [], ◌∷◌, ◌++◌, refl}
 use Rattle.std.specs.List.{list_any, AllByRecursion, IsDistinct}
 use Rattle.std.proofs.lemmas.Map.Keys.{IsDistinct-head, IsDistinct-tail, IsDistinct-cons}
@@ -19,7 +19,7 @@ neither_right : (a b : Bool) → (a || b) ≡ false → b ≡ false
 neither_right true b h = cc
 neither_right false b h = h
 
--- one more element, which is none of these
+-- adding an element that is none of the list
 pub distinct_push : {K : Type 0} (e : K → K → Bool) (xs : List K) (y : K) → IsDistinct e xs → list_any (λ x. e x y) xs ≡ false → IsDistinct e (xs ++ y ∷ [])
 distinct_push e [] y h new = IsDistinct-cons e y [] tt h
 distinct_push e (x ∷ xs) y h new =
@@ -27,7 +27,7 @@ distinct_push e (x ∷ xs) y h new =
     (all_push (λ z. e x z ≡ false) xs y (IsDistinct-head e x xs h) (neither_left (e x y) _ new))
     (distinct_push e xs y (IsDistinct-tail e x xs h) (neither_right (e x y) _ new))
 
--- an element of such a list is none of those before it
+-- an element of such a list is none of the earlier ones
 pub new_at : {K : Type 0} (e : K → K → Bool) (xs : List K) (y : K) (ys : List K) → IsDistinct e (xs ++ y ∷ ys) → list_any (λ x. e x y) xs ≡ false
 new_at e [] y ys h = refl
 new_at e (x ∷ xs) y ys h =

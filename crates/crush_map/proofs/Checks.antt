@@ -1,4 +1,4 @@
--- The checks of elements, one step on.
+-- Steps of the checks of elements.
 use Rattle.std.proofs.Common.{◌≡◌, ◌∙◌, ◌<◌, ◌+◌, true, false, Option, Some, None, List, [], ◌∷◌, ◌++◌, ℕ, refl, ap, length, drop, get_or, drop-cons, add-one}
 use Rattle.crush_map.specs.declared.word.ItemId.{ItemId}
 use Rattle.crush_map.specs.declared.word.Weight.{Weight}
@@ -15,7 +15,7 @@ passed : (known : Known) (before : Ids) (item : ItemId × Weight) (items : List 
 unfolding items_fault
 passed known before item items here new = rw (here, new) (or_else-none (items_fault known (with_id before item.0.0) items))
 
--- an item that passes goes to those before
+-- after an item that passes, the check goes on with the item added to the earlier ones
 pub items-more : (known : Known) (before : Ids) (items : List (ItemId × Weight)) (i : ℕ) (d : ItemId × Weight) → i < length items →
     has_id known.items (get_or items i d).0.0 ≡ true → has_id before (get_or items i d).0.0 ≡ false →
     items_fault known before (drop i items) ≡ items_fault known (with_id before (get_or items i d).0.0) (drop (i + 1) items)
@@ -27,7 +27,7 @@ last_of [] check = or_else-none check
 last_of (Some code ∷ checks) check = refl
 last_of (None ∷ checks) check = last_of checks check
 
--- what stands before the steps of a rule, or else its steps
+-- the fault of a rule is that of its head, else that of its steps
 pub rule_fault_by_parts : (known : Known) (r : Rule) → rule_fault known r ≡ or_else (rule_head_fault known r) (steps_fault known r.steps)
 unfolding rule_fault rule_head_fault
 rule_fault_by_parts known r = last_of (rule_head_checks known r) (steps_fault known r.steps)

@@ -1,4 +1,4 @@
--- Numbers that digits write.
+-- The numbers that digits write.
 use Rattle.std.proofs.Common.{◌≡◌, ◌∙◌, ℕ, zero, suc, ◌+◌, ◌-◌, ◌*◌, ◌^◌, ◌<◌, ◌≤◌, ◌&&◌, ◌++◌, List, [], ◌∷◌, length, take, Bool, true, false, refl, sym, ap, arith, get_or}
 use Rattle.std.proofs.lemmas.Bool.Decides.{nat_tests}
 use Rattle.std.proofs.Math.Nat.{pow-le-pow_right, mul_assoc, add-mul, mul-le-mul_right}
@@ -14,7 +14,7 @@ both true true h = (refl, refl)
 both true false h = cc
 both false b h = cc
 
--- digits behind digits
+-- the number of two groups of digits
 pub number-append : (xs ys : List ℕ) → number (xs ++ ys) ≡ number xs * 10 ^ length ys + number ys
 number-append [] ys = omega arith
 number-append (x ∷ xs) ys =
@@ -41,7 +41,7 @@ digit_to d h = grind (arith, nat_tests)
 pub below_more : (n d i : ℕ) → n < 10 ^ i → d ≤ 9 → n * 10 + d < 10 ^ (i + 1)
 below_more n d i h k = rw (pow_more 10 i) (omega arith)
 
--- ten digits before a point and twenty behind it
+-- ten digits before a point and twenty after it: no overflow
 pub below_thirty : (a b i j : ℕ) → a < 10 ^ i → i ≤ 10 → b < 10 ^ j → j ≤ 20 → a * 10 ^ j + b < 10 ^ 30
 below_thirty a b i j front few back few_too =
     let x : 10 ^ i ≤ 10 ^ 10 = pow-le-pow_right (omega arith) few in

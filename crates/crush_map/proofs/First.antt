@@ -1,4 +1,4 @@
--- The first fault of a list stands at its place.
+-- The first fault of a draft is at the place that it names, and nothing before it has one.
 use Rattle.std.proofs.Common.{arith, ◌≡◌, ◌∙◌, ◌<◌, ◌+◌, Option, Some, None, List, [], ◌∷◌, ℕ, zero, suc, refl, sym, ap, take, fold, slice_get, IfSome, ◌⊎◌, inl, inr}
 use Rattle.crush_map.specs.declared.fault.FaultCode.{FaultCode}
 use Rattle.crush_map.specs.declared.fault.Element.{Element}
@@ -6,7 +6,7 @@ use Rattle.crush_map.specs.declared.fault.Element.TheVariants.{Types, Devices, B
 use Rattle.crush_map.specs.declared.fault.MapFault.{MapFault}
 use Rattle.crush_map.specs.declared.draft.MapDraft.{MapDraft}
 use Rattle.crush_map.specs.Faults.{Known, nothing, or_else, at, at_place, first_in, first_fault, element_fault, type_fault, device_fault, bucket_fault, rule_fault, end_fault, with_type, with_device, with_bucket, with_rule, known_types, known_devices, known_buckets, known_rules}
-use Rattle.crush_map.specs.Laws.{Pass, FailsFirst, StandsFirst, HasNoFault, HasNoElementFault, TypesPass, DevicesPass, BucketsPass}
+use Rattle.crush_map.specs.Laws.{Pass, FailsFirst, IsFirstFault, HasNoFault, HasNoElementFault, TypesPass, DevicesPass, BucketsPass}
 use Rattle.crush_map.proofs.Passing.{first_none, second_none}
 use Rattle.crush_map.proofs.Reordered.{not_placed}
 use Rattle.crush_map.proofs.Valid.{parts}
@@ -64,7 +64,7 @@ found element check with n k [] f h = cc
 found element check with n k (x ∷ xs) f h =
     found_by element check with n k x xs f (check k x) refl h (λ later. found element check with (n + 1) (with k x) xs f later)
 
--- the fault of a list is of its element, and stands at its index
+-- the first fault of a list has the list's name and is at its index
 record FirstOf {X : Type 0} (element : Element) (check : Known → X → Option FaultCode) (with : Known → X → Known) (k : Known) (xs : List X) (f : MapFault) : Type 0 where
   pub element_is : f.element ≡ element
   pub first : FailsFirst check with k xs f.index f.code
@@ -91,13 +91,13 @@ none_stands d h =
       f.end,
     )
 
--- a fault is of the first, or else of the second
+-- a value of `or_else` is the first's, or the first has none and it is the second's
 either : {X : Type 0} (first second : Option X) (f : X) → or_else first second ≡ Some f → (first ≡ Some f) ⊎ ((first ≡ None) × (second ≡ Some f))
 either None second f h = inr (refl, h)
 either (Some x) second f h = inl h
 
 at_end : (d : MapDraft) (f : MapFault) (o : Option FaultCode) → end_fault (known_rules d) d.tunables d.local_tries d.local_fallback_tries ≡ o →
-    HasNoElementFault d → at_place End 0 o ≡ Some f → StandsFirst d f.element f.index f.code
+    HasNoElementFault d → at_place End 0 o ≡ Some f → IsFirstFault d f.element f.index f.code
 at_end d f None e none h = cc
 at_end d f (Some code) e none h =
     let s = some_is (at End 0 code) f h in
@@ -106,22 +106,22 @@ at_end d f (Some code) e none h =
     let c : code ≡ f.code = ap (λ g. g.code) s in
     rw element (none, index, e ∙ ap (λ v. Some v) c)
 
-rules_stand : (d : MapDraft) (f : MapFault) → TypesPass d → DevicesPass d → BucketsPass d → first_in Rules rule_fault with_rule 0 (known_buckets d) d.rules ≡ Some f → StandsFirst d f.element f.index f.code
+rules_stand : (d : MapDraft) (f : MapFault) → TypesPass d → DevicesPass d → BucketsPass d → first_in Rules rule_fault with_rule 0 (known_buckets d) d.rules ≡ Some f → IsFirstFault d f.element f.index f.code
 rules_stand d f ts ds bs h =
     let r = first_of_list Rules rule_fault with_rule (known_buckets d) d.rules f h in
     rw r.element_is (ts, ds, bs, r.first)
 
-buckets_stand : (d : MapDraft) (f : MapFault) → TypesPass d → DevicesPass d → first_in Buckets bucket_fault with_bucket 0 (known_devices d) d.buckets ≡ Some f → StandsFirst d f.element f.index f.code
+buckets_stand : (d : MapDraft) (f : MapFault) → TypesPass d → DevicesPass d → first_in Buckets bucket_fault with_bucket 0 (known_devices d) d.buckets ≡ Some f → IsFirstFault d f.element f.index f.code
 buckets_stand d f ts ds h =
     let r = first_of_list Buckets bucket_fault with_bucket (known_devices d) d.buckets f h in
     rw r.element_is (ts, ds, r.first)
 
-devices_stand : (d : MapDraft) (f : MapFault) → TypesPass d → first_in Devices device_fault with_device 0 (known_types d) d.devices ≡ Some f → StandsFirst d f.element f.index f.code
+devices_stand : (d : MapDraft) (f : MapFault) → TypesPass d → first_in Devices device_fault with_device 0 (known_types d) d.devices ≡ Some f → IsFirstFault d f.element f.index f.code
 devices_stand d f ts h =
     let r = first_of_list Devices device_fault with_device (known_types d) d.devices f h in
     rw r.element_is (ts, r.first)
 
-types_stand : (d : MapDraft) (f : MapFault) → first_in Types type_fault with_type 0 nothing d.types ≡ Some f → StandsFirst d f.element f.index f.code
+types_stand : (d : MapDraft) (f : MapFault) → first_in Types type_fault with_type 0 nothing d.types ≡ Some f → IsFirstFault d f.element f.index f.code
 types_stand d f h =
     let r = first_of_list Types type_fault with_type nothing d.types f h in
     rw r.element_is r.first
@@ -138,18 +138,18 @@ buckets_in d = first_in Buckets bucket_fault with_bucket 0 (known_devices d) d.b
 abbrev rules_in : MapDraft → Option MapFault
 rules_in d = first_in Rules rule_fault with_rule 0 (known_buckets d) d.rules
 
-element_stands : (d : MapDraft) (f : MapFault) → element_fault d ≡ Some f → StandsFirst d f.element f.index f.code
+element_stands : (d : MapDraft) (f : MapFault) → element_fault d ≡ Some f → IsFirstFault d f.element f.index f.code
 unfolding element_fault
 element_stands d f h =
-    elim (either (types_in d) (or_else (devices_in d) (or_else (buckets_in d) (rules_in d))) f h) as (λ _. StandsFirst d f.element f.index f.code) [
+    elim (either (types_in d) (or_else (devices_in d) (or_else (buckets_in d) (rules_in d))) f h) as (λ _. IsFirstFault d f.element f.index f.code) [
       | inl e ↦ types_stand d f e
       | inr p ↦
           let ts = pass Types type_fault with_type 0 nothing d.types p.0 in
-          elim (either (devices_in d) (or_else (buckets_in d) (rules_in d)) f p.1) as (λ _. StandsFirst d f.element f.index f.code) [
+          elim (either (devices_in d) (or_else (buckets_in d) (rules_in d)) f p.1) as (λ _. IsFirstFault d f.element f.index f.code) [
             | inl e ↦ devices_stand d f ts e
             | inr q ↦
                 let ds = pass Devices device_fault with_device 0 (known_types d) d.devices q.0 in
-                elim (either (buckets_in d) (rules_in d) f q.1) as (λ _. StandsFirst d f.element f.index f.code) [
+                elim (either (buckets_in d) (rules_in d) f q.1) as (λ _. IsFirstFault d f.element f.index f.code) [
                   | inl e ↦ buckets_stand d f ts ds e
                   | inr r ↦ rules_stand d f ts ds (pass Buckets bucket_fault with_bucket 0 (known_devices d) d.buckets r.0) r.1
                 ]
@@ -167,10 +167,10 @@ no_element d h =
       pass Rules rule_fault with_rule 0 (known_buckets d) d.rules (second_none _ _ behind_devices),
     )
 
-pub fault_stands : (d : MapDraft) (f : MapFault) → first_fault d ≡ Some f → StandsFirst d f.element f.index f.code
+pub fault_stands : (d : MapDraft) (f : MapFault) → first_fault d ≡ Some f → IsFirstFault d f.element f.index f.code
 unfolding first_fault
 fault_stands d f h =
-    elim (either (element_fault d) (at_place End 0 (end_fault (known_rules d) d.tunables d.local_tries d.local_fallback_tries)) f h) as (λ _. StandsFirst d f.element f.index f.code) [
+    elim (either (element_fault d) (at_place End 0 (end_fault (known_rules d) d.tunables d.local_tries d.local_fallback_tries)) f h) as (λ _. IsFirstFault d f.element f.index f.code) [
       | inl e ↦ element_stands d f e
       | inr p ↦ at_end d f _ refl (no_element d p.0) p.1
     ]

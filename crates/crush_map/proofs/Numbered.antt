@@ -1,4 +1,4 @@
--- Types, devices and rules as kinds of elements with a number and a name.
+-- Types, devices and rules are elements with a number and a name.
 use Rattle.std.proofs.Common.{arith, ◌≡◌, ◌∙◌, ◌<◌, false, not, ◌||◌, ◌==◌, None, List, [], ◌∷◌, ℕ, refl, sym, length, nat_lt, nat_le}
 use Rattle.std.proofs.lemmas.Bool.Decides.{nat_tests}
 use Rattle.crush_map.specs.declared.fault.FaultCode.TheVariants.{M1, M2, M3, M12, M15}
@@ -117,7 +117,7 @@ pub rule_joins : (k : Known) (r : Rule) → Passes OwnRule 64 (λ r. r.id) (λ r
 unfolding rule_fault
 rule_joins k r p = rw (not_above 64 (length k.rules) p.room, p.own.in_range, p.new_number, p.own.form, p.new_name, p.own.count, p.own.steps) refl
 
--- a step is judged by types and items alone
+-- the fault of a step depends on the declared types and items alone
 step_behind : (k : Known) (r : Rule) (s : Step) → step_fault (with_rule k r) s ≡ step_fault k s
 unfolding step_fault choose_fault
 step_behind k r (Take id) = refl

@@ -1,4 +1,4 @@
--- No number and no name of a map is at two places.
+-- No number and no name occurs twice in a map.
 use Rattle.std.proofs.Common.{◌≡◌, ◌∙◌, ◌+◌, not, Bool, true, false, Some, None, List, [], ◌∷◌, ◌++◌, ℕ, zero, suc, ℤ, pos, negsuc, refl, sym, ap, map, slice_get, option_map, nat_eq}
 use Rattle.std.specs.List.{list_any, AllByRecursion, IsDistinct}
 use Rattle.std.specs.Str.{bytes_eq}
@@ -25,13 +25,13 @@ use Rattle.crush_map.proofs.Sound.{is_so, no_buckets}
 some_is : {X : Type 0} (x y : X) → Some x ≡ Some y → x ≡ y
 some_is x y h = cc
 
--- what is behind an element that differs from all behind it isn't that element
+-- an element that differs from all after it is none of them
 differs : {K : Type 0} (e : K → K → Bool) (y : K) (ys : List K) → AllByRecursion (λ z. e y z ≡ false) ys → (x : K) (j : ℕ) → slice_get ys j ≡ Some x → e y x ≡ false
 differs e y [] h x j at = cc
 differs e y (z ∷ ys) h x zero at = ap (e y) (sym (some_is z x at)) ∙ h.0
 differs e y (z ∷ ys) h x (suc j) at = differs e y ys h.1 x j at
 
--- the first is not behind itself
+-- the first element doesn't occur again
 not_again : {K : Type 0} (e : K → K → Bool) → ((x : K) → e x x ≡ true) → (y : K) (ys : List K) → IsDistinct e (y ∷ ys) → (x : K) (j : ℕ) → Some y ≡ Some x → slice_get ys j ≡ Some x → ⊥
 not_again e same y ys h x j first at =
     let other : e y x ≡ false = differs e y ys (IsDistinct-head e y ys h) x j at in
@@ -51,11 +51,11 @@ numbers_once = once nat_eq nat_eq_equiv.refl
 names_once : (xs : List (List ℕ)) → IsDistinct bytes_eq xs → IsEachOnce xs
 names_once = once bytes_eq nat_list_eq_equiv.refl
 
--- where an element is, a function of it is
+-- a function of an element is at the element's place
 image_at : {X Y K : Type 0} (f : Y → K) (g : X → Y) (xs : List X) (y : Y) (i : ℕ) → slice_get (map g xs) i ≡ Some y → slice_get (map (λ x. f (g x)) xs) i ≡ Some (f y)
 image_at f g xs y i at = sym (ap (λ l. slice_get l i) (map-map f g xs)) ∙ (slice_get-map f (map g xs) i ∙ ap (option_map f) at)
 
--- elements of which a function is once are once
+-- elements differ if a function of them does
 once_by : {X Y K : Type 0} (f : Y → K) (g : X → Y) (xs : List X) → IsEachOnce (map (λ x. f (g x)) xs) → IsEachOnce (map g xs)
 once_by f g xs h y i j a b = h (f y) i j (image_at f g xs y i a) (image_at f g xs y j b)
 
@@ -91,7 +91,7 @@ rule_names_once m is = names_once (map (λ r. r.name) m.rules) (rw (rule_names_b
 
 -- ---- buckets
 
--- keys of buckets that are known stay apart where each new one is none of them
+-- keys of declared buckets differ, if each new key is none of the earlier ones
 keys_apart : {K : Type 0} (e : K → K → Bool) (keys : Known → List K) (key : Bucket → K) →
     ((k : Known) (b : Bucket) → bucket_fault k b ≡ None → keys (with_bucket k b) ≡ keys k ++ key b ∷ []) →
     ((k : Known) (b : Bucket) → bucket_fault k b ≡ None → list_any (λ x. e x (key b)) (keys k) ≡ false) →
@@ -104,16 +104,16 @@ keys_apart e keys key more new n k (b ∷ bs) apart h =
     let rest = keys_apart e keys key more new (n + 1) (with_bucket k b) bs next (second_none (at_place Buckets n (bucket_fault k b)) _ h) in
     rw (append_assoc (keys k) (key b ∷ []) (map key bs)) at (rw (more k b passed) at rest)
 
--- a bucket's id as the number that is known of it
-abbrev number_of : ℤ → ℕ
-number_of (pos n) = 0
-number_of (negsuc n) = n
+-- the number that is kept of a bucket's id
+abbrev kept_number : ℤ → ℕ
+kept_number (pos n) = 0
+kept_number (negsuc n) = n
 
-id_more : (ids : Ids) (id : ℤ) → is_bucket_id id ≡ true → (with_id ids id).buckets ≡ ids.buckets ++ number_of id ∷ []
+id_more : (ids : Ids) (id : ℤ) → is_bucket_id id ≡ true → (with_id ids id).buckets ≡ ids.buckets ++ kept_number id ∷ []
 id_more ids (pos n) h = cc
 id_more ids (negsuc n) h = refl
 
-id_new : (ids : Ids) (id : ℤ) → is_bucket_id id ≡ true → has_id ids id ≡ false → list_any (λ x. nat_eq x (number_of id)) ids.buckets ≡ false
+id_new : (ids : Ids) (id : ℤ) → is_bucket_id id ≡ true → has_id ids id ≡ false → list_any (λ x. nat_eq x (kept_number id)) ids.buckets ≡ false
 id_new ids (pos n) is h = cc
 id_new ids (negsuc n) is h = h
 
@@ -132,12 +132,12 @@ bucket_name_new k b h = fails M3 _ (passes (bucket_checks k b) 4 (M3 when has_na
 pub bucket_ids_once : (m : Map) → IsMap m → IsEachOnce (map (λ b. b.id) m.buckets)
 bucket_ids_once m is =
     let k = known_devices (draft_of m) in
-    let apart : IsDistinct nat_eq (k.items.buckets ++ map (λ b. number_of b.id.0) m.buckets) =
-    keys_apart nat_eq (λ k. k.items.buckets) (λ b. number_of b.id.0)
+    let apart : IsDistinct nat_eq (k.items.buckets ++ map (λ b. kept_number b.id.0) m.buckets) =
+    keys_apart nat_eq (λ k. k.items.buckets) (λ b. kept_number b.id.0)
     (λ k b h. id_more k.items b.id.0 (bucket_id k b h))
     (λ k b h. id_new k.items b.id.0 (bucket_id k b h) (bucket_new k b h))
     0 k m.buckets (rw (no_buckets m) (none_distinct nat_eq)) (parts (draft_of m) is.faultless).buckets in
-    once_by (λ id. number_of id.0) (λ b. b.id) m.buckets (numbers_once (map (λ b. number_of b.id.0) m.buckets) (rw (no_buckets m) at apart))
+    once_by (λ id. kept_number id.0) (λ b. b.id) m.buckets (numbers_once (map (λ b. kept_number b.id.0) m.buckets) (rw (no_buckets m) at apart))
 
 device_names : (m : Map) → (known_devices (draft_of m)).item_names ≡ map (λ d. d.name) m.devices
 device_names m = rw (devices_behind (known_types (draft_of m)) m.devices, types_behind nothing m.types) refl

@@ -1,4 +1,4 @@
--- What is known of elements without a fault.
+-- What holds for elements without a fault.
 use Rattle.std.proofs.Common.{rules, ◌≡◌, ◌∙◌, Bool, true, false, not, Option, Some, None, List, [], ◌∷◌, ℕ, zero, suc, ℤ, pos, negsuc, refl, sym, IsTrue, slice_get, nat_lt}
 use Rattle.crush_map.specs.declared.fault.FaultCode.{FaultCode}
 use Rattle.crush_map.specs.declared.fault.FaultCode.TheVariants.{M12}
@@ -6,7 +6,8 @@ use Rattle.crush_map.specs.declared.draft.TypeName.{TypeName}
 use Rattle.crush_map.specs.declared.draft.Device.{Device}
 use Rattle.crush_map.specs.declared.draft.Bucket.{Bucket}
 use Rattle.crush_map.specs.declared.draft.Rule.{Rule}
-use Rattle.crush_map.specs.Faults.{Known, first_of, or_else, ◌when◌, type_fault, device_fault, bucket_fault, rule_fault, type_checks, device_checks, bucket_checks, rule_checks, is_bucket_id, is_id}
+use Rattle.crush_map.specs.Faults.{Known, first_of, or_else, ◌when◌, type_fault, device_fault, bucket_fault, rule_fault, type_checks, device_checks, bucket_checks, rule_checks, is_bucket_id}
+use Rattle.crush_map.specs.Private.Tables.{is_id}
 
 -- ---- checks
 
@@ -18,13 +19,13 @@ pub second_none : {X : Type 0} (x y : Option X) → or_else x y ≡ None → y �
 second_none None y h = h
 second_none (Some x) y h = cc
 
--- each check of those that answer nothing answers nothing
+-- if a list of checks finds no fault, each check of it finds none
 pub passes : (checks : List (Option FaultCode)) (i : ℕ) (check : Option FaultCode) → slice_get checks i ≡ Some check → first_of checks ≡ None → check ≡ None
 passes [] i check at h = cc
 passes (c ∷ checks) zero check at h = let e : c ≡ check = cc in sym e ∙ first_none c (first_of checks) h
 passes (c ∷ checks) (suc i) check at h = passes checks i check at (second_none c (first_of checks) h)
 
--- a test that answers nothing fails
+-- if a check finds no fault, its test is false
 pub fails : (code : FaultCode) (test : Bool) → (code when test) ≡ None → test ≡ false
 fails code true h = cc
 fails code false h = refl

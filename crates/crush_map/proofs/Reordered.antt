@@ -1,4 +1,4 @@
--- Elements without a fault have none in another order.
+-- A list of elements without a fault has none in another order either.
 use Rattle.std.proofs.Common.{arith, ◌≡◌, ◌∙◌, ◌+◌, ◌<◌, false, Option, Some, None, List, [], ◌∷◌, ◌++◌, ℕ, zero, suc, refl, ap, length, map, nat_eq}
 use Rattle.std.specs.List.{AllByRecursion, IsDistinct}
 use Rattle.std.specs.Str.{bytes_eq}
@@ -14,14 +14,14 @@ use Rattle.crush_map.specs.Faults.{Known, has_number, has_name, at_place, first_
 use Rattle.crush_map.proofs.Apart.{distinct_push, new_at}
 use Rattle.crush_map.proofs.Passing.{first_none, second_none}
 
--- where an element has no fault: there is room, it is right by itself, and its number and name are new
+-- an element without a fault: there is room, it is right by itself, and its number and name are new
 pub record Passes {X : Type 0} (Own : Known → X → Type 0) (limit : ℕ) (number : X → ℕ) (name : X → List ℕ) (numbers : List ℕ) (names : List (List ℕ)) (known : Known) (x : X) : Type 0 where
   pub room : length numbers < limit
   pub own : Own known x
   pub new_number : has_number numbers (number x) ≡ false
   pub new_name : has_name names (name x) ≡ false
 
--- elements of a kind that have a number and a name each
+-- a kind of elements that have a number and a name
 pub record Kind {X : Type 0} (check : Known → X → Option FaultCode) (with : Known → X → Known) (Own : Known → X → Type 0) : Type 0 where
   pub limit : ℕ
   pub number : X → ℕ
@@ -35,7 +35,7 @@ pub record Kind {X : Type 0} (check : Known → X → Option FaultCode) (with : 
   pub splits : (k : Known) (x : X) → check k x ≡ None → Passes Own limit number name (numbers k) (names k) k x
   pub joins : (k : Known) (x : X) → Passes Own limit number name (numbers k) (names k) k x → check k x ≡ None
 
--- what holds of a whole list of them without a fault
+-- what holds for a list of such elements without a fault
 pub record Good {X : Type 0} (Own : Known → X → Type 0) (limit : ℕ) (number : X → ℕ) (name : X → List ℕ) (numbers : List ℕ) (names : List (List ℕ)) (known : Known) (xs : List X) : Type 0 where
   pub room : (i : ℕ) → i < length xs → length numbers + i < limit
   pub own : AllByRecursion (Own known) xs
@@ -97,7 +97,7 @@ from_good check with Own kind element n k (x ∷ xs) g =
       distinct_names = rw (kind.names_with k x, append_assoc (kind.names k) (kind.name x ∷ []) (map kind.name xs)) g.distinct_names;
     }))
 
--- in another order there is no fault either
+-- another order of a list without a fault has none
 pub reordered : {X : Type 0} (check : Known → X → Option FaultCode) (with : Known → X → Known) (Own : Known → X → Type 0) (kind : Kind check with Own) (element : Element) (k : Known) (xs ys : List X) →
     IsPermutation xs ys → IsDistinct nat_eq (kind.numbers k) → IsDistinct bytes_eq (kind.names k) → first_in element check with 0 k xs ≡ None →
     first_in element check with 0 k ys ≡ None

@@ -1,4 +1,4 @@
--- Each part of a map is sound.
+-- What `Sound` says holds for each part of a map.
 use Rattle.std.proofs.Common.{arith, ◌≡◌, ◌∙◌, ◌<◌, ◌≤◌, ◌+◌, ◌==◌, ◌||◌, ◌&&◌, Bool, true, false, not, Option, Some, None, List, [], ◌∷◌, ◌++◌, ℕ, zero, suc, ℤ, pos, negsuc, refl, sym, ap, length, take, map, fold, slice_get, IfSome, nat_lt, nat_le}
 use Rattle.std.specs.List.{list_any}
 use Rattle.std.proofs.lemmas.Bool.Decides.{nat_tests}
@@ -99,13 +99,13 @@ items_pass known before (x ∷ xs) h (suc j) =
     behind_one known before x (take j xs) (slice_get xs j)
     (items_pass known (with_id before x.0.0) xs (passes checks 2 (items_fault known (with_id before x.0.0) xs) refl h) j)
 
--- ---- what is known behind buckets
+-- ---- what is declared after buckets
 
 types_stay : (k : Known) (xs : List Bucket) → (fold with_bucket k xs).types ≡ k.types
 types_stay k [] = refl
 types_stay k (x ∷ xs) = types_stay (with_bucket k x) xs
 
--- each is a bucket by its id
+-- each id is a bucket's
 AllBuckets : List Bucket → Type 0
 AllBuckets xs = (j : ℕ) → IfSome (slice_get xs j) (λ b. is_bucket_id b.id.0 ≡ true)
 
@@ -141,7 +141,7 @@ bucket_count k (x ∷ xs) h =
     let one : length (with_bucket k x).items.buckets ≡ length k.items.buckets + 1 = one_more k.items x.id.0 (h 0) in
     omega (arith, more, one)
 
--- ---- what is known behind a map's types and devices
+-- ---- what is declared after a map's types and devices
 
 types_of : (m : Map) → (known_devices (draft_of m)).types ≡ map (λ t. t.number) m.types
 types_of m = rw (devices_behind (known_types (draft_of m)) m.devices, types_behind nothing m.types) refl
@@ -152,7 +152,7 @@ devices_of m = rw (devices_behind (known_types (draft_of m)) m.devices, types_be
 pub no_buckets : (m : Map) → (known_devices (draft_of m)).items.buckets ≡ []
 no_buckets m = rw (devices_behind (known_types (draft_of m)) m.devices, types_behind nothing m.types) refl
 
--- what is known behind a map's first buckets
+-- what is declared after a map's first buckets
 abbrev known_at : Map → List Bucket → Known
 known_at m before = fold with_bucket (known_devices (draft_of m)) before
 
@@ -299,7 +299,7 @@ steps_pass m k ids types [] h j = tt
 steps_pass m k ids types (s ∷ steps) h zero = step_passes m k ids types s (first_none (step_fault k s) _ h)
 steps_pass m k ids types (s ∷ steps) h (suc j) = steps_pass m k ids types steps (second_none (step_fault k s) _ h) j
 
--- what is known behind a map's first rules
+-- what is declared after a map's first rules
 abbrev rules_at : Map → List Rule → Known
 rules_at m before = fold with_rule (known_buckets (draft_of m)) before
 

@@ -21,7 +21,7 @@ use Rattle.crush_map.proofs.Alike.{Alike, alike_refl, device_alike, bucket_alike
 use Rattle.crush_map.proofs.Reordered.{not_placed, good, reordered}
 use Rattle.crush_map.proofs.Numbered.{OwnType, OwnDevice, OwnRule, type_kind, device_kind, rule_kind}
 
--- ---- what is known behind whole lists
+-- ---- what is declared after whole lists
 
 pub types_behind : (k : Known) (xs : List TypeName) → fold with_type k xs ≡ record k { types = k.types ++ map (λ t. t.number) xs; type_names = k.type_names ++ map (λ t. t.name) xs }
 types_behind k [] = rw (append-nil k.types, append-nil k.type_names) refl
@@ -149,7 +149,7 @@ ids_before d = rw (types_behind nothing d.types) refl
 pub names_before : (d : MapDraft) → (known_types d).item_names ≡ []
 names_before d = rw (types_behind nothing d.types) refl
 
--- what is known behind the lists of a draft and of its map
+-- what is declared after the lists of a draft and of its map
 record Behind (d e : MapDraft) : Type 0 where
   pub types : Alike (known_types d) (known_types e)
   pub devices : Alike (known_devices d) (known_devices e)
@@ -175,7 +175,7 @@ behind d m is =
           (fold_alike with_rule with_rule_alike (known_buckets d) (known_buckets e) buckets m.rules);
     }
 
--- local tries of 0 are no fault
+-- local tries of 0 aren't a fault
 end_without : (k : Known) (t : Tunables) (m n : ℕ) → end_fault k t m n ≡ None → end_fault k t 0 0 ≡ None
 unfolding end_fault
 end_without k t m n h =
@@ -207,7 +207,7 @@ stays d m is f =
 rises : (numbers : List ℕ) → IsNonDecreasing numbers → IsDistinct nat_eq numbers → IsStrictlyIncreasing numbers
 rises numbers h apart = IsStrictlyIncreasing-from_distinct numbers h apart
 
--- the map of a draft without a fault, its types, devices and rules sorted, is one
+-- a draft without a fault gives a valid map, once its types, devices and rules are sorted
 pub is_map : (d : MapDraft) (m : Map) → IsMapOf d m → IsNonDecreasingBy (λ t. t.number) m.types → IsNonDecreasingBy (λ d. d.id) m.devices → IsNonDecreasingBy (λ r. r.id) m.rules →
     first_fault d ≡ None → IsMap m
 is_map d m is types devices rules h =

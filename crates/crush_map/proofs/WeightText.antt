@@ -14,12 +14,12 @@ use Rattle.crush_map.specs.Faults.{is_name, is_name_byte}
 use Rattle.crush_map.specs.WeightText.{is_digit, is_point, are_digits, number, without_point, in_65536ths, weight_below_2_to_32, weight_cut_at, weight_of, Writes, hundred_thousandths, five_digits, with_five_decimals, text_of}
 use Rattle.crush_map.proofs.Digits.{both, number-push}
 
--- ---- the pieces of a text that is written
+-- ---- the pieces of the text of a weight
 
 pub written_is : (n : ℕ) → decimal (n / 100000) ++ 46 ∷ (decimal (n / 10000 % 10) ++ (decimal (n / 1000 % 10) ++ (decimal (n / 100 % 10) ++ (decimal (n / 10 % 10) ++ decimal (n % 10))))) ≡ with_five_decimals n
 written_is n = rw (decimal_digit (n / 10000 % 10) (omega arith), decimal_digit (n / 1000 % 10) (omega arith), decimal_digit (n / 100 % 10) (omega arith), decimal_digit (n / 10 % 10) (omega arith), decimal_digit (n % 10) (omega arith)) refl
 
--- ---- where a text is cut
+-- ---- the first point of a text
 
 no_point : (d : ℕ) → is_digit d ≡ true → is_point d ≡ false
 no_point d h = grind (arith, nat_tests)
@@ -63,7 +63,7 @@ drop_behind ds y ys =
 is_46 : (d : ℕ) → is_point d ≡ true → d ≡ 46
 is_46 d h = grind (arith, nat_tests)
 
--- the text is put together again
+-- the parts before and after the point make up the text
 cut_there : (text : List ℕ) (i : ℕ) → position is_point text ≡ Some i → text ≡ take i text ++ 46 ∷ drop (i + 1) text
 cut_there text i e =
     let p = position-Some is_point text i 0 e in
@@ -107,9 +107,9 @@ bounds_floor n d w some low high =
 some_power : (fraction : List ℕ) → 0 < 10 ^ length fraction
 some_power fraction = one-le-pow (length fraction) 10 (omega arith)
 
--- ---- what a text writes is read
+-- ---- the weight that a text writes is read from it
 
--- what follows where a test has to hold
+-- what follows if a conditional has a value: its test is true
 passed : (b : Bool) (o : Option Weight) (w : Weight) → cond b o None ≡ Some w → (b ≡ true) × (o ≡ Some w)
 passed true o w h = (refl, h)
 passed false o w h = cc
@@ -151,7 +151,7 @@ reading-from_Writes text w h = elim h.form [
   | inr f ↦ rw (f.0) (reads_cut h.whole h.fraction w h.digits f.1 h.reached h.not_more h.fits)
 ]
 
--- ---- what is written is read again
+-- ---- a weight is read from its own text
 
 -- digits that write a number
 record WritesNumber (n : ℕ) (ds : List ℕ) : Type 0 where
@@ -215,7 +215,7 @@ Writes-text_of w lt =
 pub comes_back : (w : Weight) → w.0 < 2 ^ 32 → weight_of (text_of w) ≡ Some w
 comes_back w lt = reading-from_Writes (text_of w) w (Writes-text_of w lt)
 
--- ---- what is written is one word of a map's text
+-- ---- the text of a weight has the form of a name
 
 digit_in_name : (d : ℕ) → is_digit d ≡ true → is_name_byte d ≡ true
 digit_in_name d h = grind (arith, nat_tests)

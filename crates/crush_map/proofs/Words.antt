@@ -1,4 +1,4 @@
--- Words that a text is none of.
+-- Texts that differ from each reserved word.
 use Rattle.std.proofs.Common.{◌≡◌, false, List, ℕ, sym}
 use Rattle.std.specs.Str.{bytes_eq}
 use Rattle.std.proofs.lemmas.Bool.{false_from_ne_true}

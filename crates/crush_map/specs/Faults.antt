@@ -1,6 +1,6 @@
--- Which drafts of a map are refused, and for what.
+-- Which drafts are refused, and with which fault.
 --
--- The limits are those of Ceph's map where it has any, and otherwise this program's own.
+-- The limits are those of Ceph's maps where it has any, and otherwise this program's own.
 use Rattle.std.specs.Prelude.{ℕ, ℤ, pos, negsuc, int_le, ◌+◌, nat_lt, nat_le, ◌==◌, ◌&&◌, ◌||◌, not, Bool, true, false, List, [], ◌∷◌, ◌++◌, length, map, fold, codes, bytes_eq, Option, Some, None, if◌then◌else◌}
 use Rattle.std.specs.List.{list_any, list_all}
 use Rattle.crush_map.specs.declared.fault.FaultCode.{FaultCode}
@@ -22,26 +22,71 @@ use Rattle.crush_map.specs.declared.word.Kind.{Kind}
 use Rattle.crush_map.specs.declared.word.Kind.TheVariants.{Uniform, List as ListKind, Tree}
 use Rattle.crush_map.specs.Weights.{has_equal_weights, total_weight}
 
+-- ---- limits; each is itself allowed
+
+abbrev pub type_limit : ℕ
+type_limit = 32
+
+abbrev pub device_limit : ℕ
+device_limit = 1024
+
+abbrev pub bucket_limit : ℕ
+bucket_limit = 1024
+
+-- items of a bucket
+abbrev pub item_limit : ℕ
+item_limit = 1024
+
+-- the sum of a bucket's weights, in 16.16 fixed point
+abbrev pub total_weight_limit : ℕ
+total_weight_limit = 4294967295
+
+abbrev pub rule_limit : ℕ
+rule_limit = 64
+
+-- steps of a rule
+abbrev pub step_limit : ℕ
+step_limit = 32
+
+-- bytes of a name
+abbrev pub name_limit : ℕ
+name_limit = 64
+
+-- the number of a type, the id of a device, and n for the id -1 - n of a bucket
+abbrev pub number_limit : ℕ
+number_limit = 65535
+
+abbrev pub rule_id_limit : ℕ
+rule_id_limit = 255
+
+-- tries that a step sets
+abbrev pub tries_limit : ℕ
+tries_limit = 1000
+
+-- chooseleaf_vary_r
+abbrev pub vary_r_limit : ℕ
+vary_r_limit = 8
+
 -- ---- checks in order
 
--- a fault where the test holds
+-- this fault if the test is true
 infix 5 ◌when◌
 abbrev pub ◌when◌ : FaultCode → Bool → Option FaultCode
 code when test = if test then Some code else None
 
--- the first, or else the second
+-- the first value if there is one, else the second
 abbrev pub or_else : {X : Type 0} → Option X → Option X → Option X
 or_else (Some x) other = Some x
 or_else None other = other
 
--- the first fault of these
+-- the first fault of a list of checks
 abbrev pub first_of : List (Option FaultCode) → Option FaultCode
 first_of [] = None
 first_of (check ∷ checks) = or_else check (first_of checks)
 
 -- ---- what was declared before
 
--- ids of devices, and of buckets, of which -1 - n stands as n
+-- ids of devices, and of buckets, where the id -1 - n is kept as n
 pub record Ids : Type 0 where
   pub devices : List ℕ
   pub buckets : List ℕ
@@ -50,26 +95,21 @@ pub record Ids : Type 0 where
 abbrev pub no_ids : Ids
 no_ids = record { devices = []; buckets = [] }
 
--- -65536 to 65535
-abbrev pub is_id : ℤ → Bool
-is_id (pos n) = nat_le n 65535
-is_id (negsuc n) = nat_le n 65535
-
--- one more id
+-- adds an id
 abbrev pub with_id : Ids → ℤ → Ids
 with_id ids (pos n) = record ids { devices = ids.devices ++ n ∷ [] }
 with_id ids (negsuc n) = record ids { buckets = ids.buckets ++ n ∷ [] }
 
--- a number is among these
+-- whether a number is in the list
 abbrev pub has_number : List ℕ → ℕ → Bool
 has_number numbers number = list_any (λ n. n == number) numbers
 
--- an id is among these
+-- whether an id is among the ids
 abbrev pub has_id : Ids → ℤ → Bool
 has_id ids (pos n) = has_number ids.devices n
 has_id ids (negsuc n) = has_number ids.buckets n
 
--- numbers of types, ids of items, numbers of rules, and names; devices and buckets share theirs
+-- what is declared so far: numbers of types, ids of items and of rules, and names; devices and buckets share one list of names
 pub record Known : Type 0 where
   pub types : List ℕ
   pub type_names : List (List ℕ)
@@ -82,61 +122,61 @@ pub record Known : Type 0 where
 abbrev pub nothing : Known
 nothing = record { types = []; type_names = []; items = no_ids; item_names = []; rules = []; rule_names = [] }
 
--- a name is among these
+-- whether a name is in the list
 abbrev pub has_name : List (List ℕ) → List ℕ → Bool
 has_name names name = list_any (λ n. bytes_eq n name) names
 
 -- ---- names
 
--- an ASCII letter or digit, or one of - _ .
+-- an ASCII letter or digit, `-`, `_` or `.`
 abbrev pub is_name_byte : ℕ → Bool
 is_name_byte b = (nat_le 97 b && nat_le b 122) || (nat_le 65 b && nat_le b 90) || (nat_le 48 b && nat_le b 57) || (b == 45) || (b == 95) || (b == 46)
 
--- 1 to 64 of these
+-- 1 to 64 such bytes
 abbrev pub is_name : List ℕ → Bool
-is_name name = nat_le 1 (length name) && nat_le (length name) 64 && list_all is_name_byte name
+is_name name = nat_le 1 (length name) && nat_le (length name) name_limit && list_all is_name_byte name
 
--- the words that begin a declaration, and the one behind which a class stands
+-- the words that begin a declaration, and `class`: no type has such a name
 abbrev pub is_reserved : List ℕ → Bool
 is_reserved name = list_any (λ word. bytes_eq word name) (codes "tunable" ∷ codes "device" ∷ codes "type" ∷ codes "rule" ∷ codes "choose_args" ∷ codes "class" ∷ [])
 
 -- ---- types
 
--- of a type: there are 32; its number is out of range, or known; its name is not of the form, or known
+-- of a type: there are 32 already; its number is out of range, or declared already; its name isn't of the form, or is reserved, or declared already
 abbrev pub type_checks : Known → TypeName → List (Option FaultCode)
 type_checks known t =
-    (M1 when nat_le 32 (length known.types))
-    ∷ (M12 when nat_lt 65535 t.number)
+    (M1 when nat_le type_limit (length known.types))
+    ∷ (M12 when nat_lt number_limit t.number)
     ∷ (M2 when has_number known.types t.number)
     ∷ (M15 when (not (is_name t.name) || is_reserved t.name))
     ∷ (M3 when has_name known.type_names t.name)
     ∷ []
 
--- the fault of a type behind what is known
+-- the fault of a type that is declared next
 unfoldable pub type_fault : Known → TypeName → Option FaultCode
 type_fault known t = first_of (type_checks known t)
 
--- a type is known
+-- adds a type
 abbrev pub with_type : Known → TypeName → Known
 with_type known t = record known { types = known.types ++ t.number ∷ []; type_names = known.type_names ++ t.name ∷ [] }
 
 -- ---- devices
 
--- of a device: there are 1,024; its id is out of range, or known; its name is not of the form, or known
+-- of a device: there are 1,024 already; its id is out of range, or declared already; its name isn't of the form, or is declared already
 abbrev pub device_checks : Known → Device → List (Option FaultCode)
 device_checks known d =
-    (M1 when nat_le 1024 (length known.items.devices))
-    ∷ (M12 when nat_lt 65535 d.id)
+    (M1 when nat_le device_limit (length known.items.devices))
+    ∷ (M12 when nat_lt number_limit d.id)
     ∷ (M2 when has_number known.items.devices d.id)
     ∷ (M15 when not (is_name d.name))
     ∷ (M3 when has_name known.item_names d.name)
     ∷ []
 
--- the fault of a device behind what is known
+-- the fault of a device that is declared next
 unfoldable pub device_fault : Known → Device → Option FaultCode
 device_fault known d = first_of (device_checks known d)
 
--- a device is known
+-- adds a device
 abbrev pub with_device : Known → Device → Known
 with_device known d = record known { items = with_id known.items (pos d.id); item_names = known.item_names ++ d.name ∷ [] }
 
@@ -145,9 +185,9 @@ with_device known d = record known { items = with_id known.items (pos d.id); ite
 -- -1 to -65536
 abbrev pub is_bucket_id : ℤ → Bool
 is_bucket_id (pos id) = false
-is_bucket_id (negsuc n) = nat_le n 65535
+is_bucket_id (negsuc n) = nat_le n number_limit
 
--- the first fault of a bucket's items, behind those of it that come before
+-- the first fault of a bucket's items from here on; `before` has the ids of the bucket's earlier items
 unfoldable pub items_fault : Known → Ids → List (ItemId × Weight) → Option FaultCode
 items_fault known before [] = None
 items_fault known before (item ∷ items) = first_of (
@@ -156,39 +196,40 @@ items_fault known before (item ∷ items) = first_of (
     ∷ items_fault known (with_id before item.0.0) items
     ∷ [])
 
--- a bucket of this kind has one weight for all items
+-- whether all items of a bucket of this kind must have the same weight
 abbrev pub is_uniform : Kind → Bool
 is_uniform Uniform = true
 is_uniform ListKind = false
 is_uniform Tree = false
 
--- the first fault of what a bucket of this kind holds
+-- the first fault of the items and weights of a bucket of this kind
 unfoldable pub contents_fault : Known → Kind → List (ItemId × Weight) → Option FaultCode
 contents_fault known alg items = first_of (
     items_fault known no_ids items
     ∷ (M8 when (is_uniform alg && not (has_equal_weights items)))
-    ∷ (M7 when nat_lt 4294967295 (total_weight items))
+    ∷ (M7 when nat_lt total_weight_limit (total_weight items))
     ∷ [])
 
--- of a bucket: there are 1,024; its id is out of range, or known; its name is not of the form, or known; its type is unknown, or that of devices; it has over 1,024 items; what it holds
+-- of a bucket: there are 1,024 already; its id is out of range, or declared already; its name isn't of the form, or is declared already; its type
+-- isn't declared, or is that of devices; it has over 1,024 items; its items and weights
 abbrev pub bucket_checks : Known → Bucket → List (Option FaultCode)
 bucket_checks known b =
-    (M1 when nat_le 1024 (length known.items.buckets))
+    (M1 when nat_le bucket_limit (length known.items.buckets))
     ∷ (M12 when not (is_bucket_id b.id.0))
     ∷ (M2 when has_id known.items b.id.0)
     ∷ (M15 when not (is_name b.name))
     ∷ (M3 when has_name known.item_names b.name)
     ∷ (M4 when not (has_number known.types b.kind_of))
     ∷ (M9 when (b.kind_of == 0))
-    ∷ (M1 when nat_lt 1024 (length b.items))
+    ∷ (M1 when nat_lt item_limit (length b.items))
     ∷ contents_fault known b.alg b.items
     ∷ []
 
--- the fault of a bucket behind what is known
+-- the fault of a bucket that is declared next
 unfoldable pub bucket_fault : Known → Bucket → Option FaultCode
 bucket_fault known b = first_of (bucket_checks known b)
 
--- a bucket is known
+-- adds a bucket
 abbrev pub with_bucket : Known → Bucket → Known
 with_bucket known b = record known { items = with_id known.items b.id.0; item_names = known.item_names ++ b.name ∷ [] }
 
@@ -198,7 +239,7 @@ with_bucket known b = record known { items = with_id known.items b.id.0; item_na
 abbrev pub is_count : ℤ → Bool
 is_count n = int_le (negsuc 63) n && int_le n (pos 64)
 
--- of a choose step: its type is unknown; its count is out of range; it is chooseleaf indep of type 0
+-- of a choose step: its type isn't declared; its count is out of range; it is chooseleaf indep of type 0
 unfoldable pub choose_fault : Known → Bool → Bool → ℤ → ℕ → Option FaultCode
 choose_fault known firstn leaf n wanted = first_of (
     (M11 when not (has_number known.types wanted))
@@ -206,12 +247,12 @@ choose_fault known firstn leaf n wanted = first_of (
     ∷ (M14 when (leaf && not firstn && (wanted == 0)))
     ∷ [])
 
--- the fault of a step: an unknown item, or a number out of range
+-- the fault of a step: an item that isn't declared, or a number out of range
 unfoldable pub step_fault : Known → Step → Option FaultCode
 step_fault known (Take id) = M10 when not (has_id known.items id.0)
-step_fault known (SetChooseTries tries) = M12 when nat_lt 1000 tries
-step_fault known (SetLeafTries tries) = M12 when nat_lt 1000 tries
-step_fault known (SetVaryR value) = M12 when nat_lt 8 value
+step_fault known (SetChooseTries tries) = M12 when nat_lt tries_limit tries
+step_fault known (SetLeafTries tries) = M12 when nat_lt tries_limit tries
+step_fault known (SetVaryR value) = M12 when nat_lt vary_r_limit value
 step_fault known (SetStable value) = M12 when nat_lt 1 value
 step_fault known (Choose firstn leaf n wanted) = choose_fault known firstn leaf n wanted
 step_fault known Emit = None
@@ -220,38 +261,39 @@ step_fault known Emit = None
 abbrev pub steps_fault : Known → List Step → Option FaultCode
 steps_fault known steps = first_of (map (step_fault known) steps)
 
--- of a rule before its steps: there are 64; its id is out of range, or known; its name is not of the form, or known; it has no step, or over 32
+-- of a rule apart from its steps: there are 64 already; its id is out of range, or declared already; its name isn't of the form, or is declared
+-- already; it has no step, or over 32
 abbrev pub rule_head_checks : Known → Rule → List (Option FaultCode)
 rule_head_checks known r =
-    (M1 when nat_le 64 (length known.rules))
-    ∷ (M12 when nat_lt 255 r.id)
+    (M1 when nat_le rule_limit (length known.rules))
+    ∷ (M12 when nat_lt rule_id_limit r.id)
     ∷ (M2 when has_number known.rules r.id)
     ∷ (M15 when not (is_name r.name))
     ∷ (M3 when has_name known.rule_names r.name)
-    ∷ (M1 when ((length r.steps == 0) || nat_lt 32 (length r.steps)))
+    ∷ (M1 when ((length r.steps == 0) || nat_lt step_limit (length r.steps)))
     ∷ []
 
--- the fault of a rule before its steps are judged
+-- the fault of a rule that is declared next, apart from the faults of its steps
 unfoldable pub rule_head_fault : Known → Rule → Option FaultCode
 rule_head_fault known r = first_of (rule_head_checks known r)
 
--- of a rule: what stands before its steps, and then its steps
+-- of a rule: the checks apart from its steps, and then its steps
 abbrev pub rule_checks : Known → Rule → List (Option FaultCode)
 rule_checks known r = rule_head_checks known r ++ steps_fault known r.steps ∷ []
 
--- the fault of a rule behind what is known
+-- the fault of a rule that is declared next
 unfoldable pub rule_fault : Known → Rule → Option FaultCode
 rule_fault known r = first_of (rule_checks known r)
 
--- a rule is known
+-- adds a rule
 abbrev pub with_rule : Known → Rule → Known
 with_rule known r = record known { rules = known.rules ++ r.id ∷ []; rule_names = known.rule_names ++ r.name ∷ [] }
 
 -- ---- the end
 
--- choose_total_tries to 999, chooseleaf_descend_once to 1, chooseleaf_vary_r to 8, chooseleaf_stable to 1
+-- choose_total_tries up to 999, chooseleaf_descend_once up to 1, chooseleaf_vary_r up to 8, chooseleaf_stable up to 1
 abbrev pub are_in_range : Tunables → Bool
-are_in_range t = nat_le t.total_tries 999 && nat_le t.descend_once 1 && nat_le t.vary_r 8 && nat_le t.stable 1
+are_in_range t = nat_le t.total_tries 999 && nat_le t.descend_once 1 && nat_le t.vary_r vary_r_limit && nat_le t.stable 1
 
 -- at the end: there is no type 0; a tunable is out of range; local tries or local fallback tries are not 0
 abbrev pub end_checks : Known → Tunables → ℕ → ℕ → List (Option FaultCode)
@@ -276,12 +318,12 @@ abbrev pub at_place : Element → ℕ → Option FaultCode → Option MapFault
 at_place element place None = None
 at_place element place (Some code) = Some (at element place code)
 
--- the first fault of elements from this place on, by a check of each behind those before it, which are known by then
+-- the first fault of a list whose first element has this place: each element is checked against what is declared before it, and then added
 unfoldable pub first_in : {X : Type 0} → Element → (Known → X → Option FaultCode) → (Known → X → Known) → ℕ → Known → List X → Option MapFault
 first_in element check with place known [] = None
 first_in element check with place known (x ∷ xs) = or_else (at_place element place (check known x)) (first_in element check with (place + 1) (with known x) xs)
 
--- what is known behind the types of a draft, behind its devices too, behind its buckets too, and behind its rules too
+-- what is declared after the types of a draft, after its devices too, after its buckets too, and after its rules too
 abbrev pub known_types : MapDraft → Known
 known_types d = fold with_type nothing d.types
 
@@ -302,6 +344,6 @@ element_fault d =
     (or_else (first_in Buckets bucket_fault with_bucket 0 (known_devices d) d.buckets)
     (first_in Rules rule_fault with_rule 0 (known_buckets d) d.rules)))
 
--- the first fault of a draft: that of its elements, or else the one at its end
+-- the first fault of a draft: that of its elements, else the one at its end
 unfoldable pub first_fault : MapDraft → Option MapFault
 first_fault d = or_else (element_fault d) (at_place End 0 (end_fault (known_rules d) d.tunables d.local_tries d.local_fallback_tries))

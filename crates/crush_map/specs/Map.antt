@@ -9,7 +9,7 @@ use Rattle.crush_map.specs.declared.draft.Tunables.{Tunables}
 use Rattle.crush_map.specs.declared.draft.MapDraft.{MapDraft}
 use Rattle.crush_map.specs.Faults.{first_fault}
 
--- types, devices, buckets, rules and tunables
+-- the parts of a map
 pub record Map : Type 0 where
   pub types : List TypeName
   pub devices : List Device
@@ -17,18 +17,18 @@ pub record Map : Type 0 where
   pub rules : List Rule
   pub tunables : Tunables
 
--- a map, declared anew
+-- the draft that declares a map
 abbrev pub draft_of : Map → MapDraft
 draft_of m = record { types = m.types; devices = m.devices; buckets = m.buckets; rules = m.rules; local_tries = 0; local_fallback_tries = 0; tunables = m.tunables }
 
--- declared anew it has no fault; its types, devices and rules are in order of number
+-- a map: its draft has no fault, and its types, devices and rules are in ascending order of number
 pub record IsMap (m : Map) : Type 0 where
   pub faultless : first_fault (draft_of m) ≡ None
   pub types : IsStrictlyIncreasing (map (λ t. t.number) m.types)
   pub devices : IsStrictlyIncreasing (map (λ d. d.id) m.devices)
   pub rules : IsStrictlyIncreasing (map (λ r. r.id) m.rules)
 
--- the map has what the draft declares: types, devices and rules in an order of its own, buckets in that of the draft
+-- the map of a draft has the draft's elements: buckets in the same order, the others in any order
 pub record IsMapOf (d : MapDraft) (m : Map) : Type 0 where
   pub types : IsPermutation d.types m.types
   pub devices : IsPermutation d.devices m.devices

@@ -1,4 +1,4 @@
--- What holds of each part of a map.
+-- What holds for each part of a map.
 use Rattle.std.specs.Prelude.{◌≡◌, ℕ, ℤ, pos, negsuc, ◌<◌, ◌≤◌, ◌^◌, ◌==◌, Bool, true, false, List, length, take, slice_get, Some, IfSome, ⊤}
 use Rattle.std.specs.List.{list_any}
 use Rattle.crush_map.specs.declared.draft.TypeName.{TypeName}
@@ -9,11 +9,11 @@ use Rattle.crush_map.specs.declared.draft.Step.{Step}
 use Rattle.crush_map.specs.declared.draft.Step.TheVariants.{Take, SetChooseTries, SetLeafTries, SetVaryR, SetStable, Choose, Emit}
 use Rattle.crush_map.specs.declared.word.ItemId.{ItemId}
 use Rattle.crush_map.specs.declared.word.Weight.{Weight}
-use Rattle.crush_map.specs.Faults.{is_bucket_id, is_uniform, is_count, is_name, is_reserved}
+use Rattle.crush_map.specs.Faults.{type_limit, device_limit, bucket_limit, item_limit, rule_limit, step_limit, number_limit, rule_id_limit, tries_limit, vary_r_limit, is_bucket_id, is_uniform, is_count, is_name, is_reserved}
 use Rattle.crush_map.specs.Weights.{has_equal_weights, total_weight}
 use Rattle.crush_map.specs.Map.{Map}
 
--- nothing is at two places of a list
+-- no value is at two places of a list
 abbrev pub IsEachOnce : {X : Type 0} → List X → Type 0
 IsEachOnce {X} xs = (x : X) (i j : ℕ) → slice_get xs i ≡ Some x → slice_get xs j ≡ Some x → i ≡ j
 
@@ -32,25 +32,25 @@ has_device devices id = list_any (λ d. d.id == id) devices
 abbrev pub has_type : List TypeName → ℕ → Bool
 has_type types number = list_any (λ t. t.number == number) types
 
--- a device of these, or a bucket of these
+-- whether an id is that of a device or of a bucket in these lists
 abbrev pub has_item : List Device → List Bucket → ℤ → Bool
 has_item devices buckets (pos n) = has_device devices n
 has_item devices buckets (negsuc n) = has_bucket buckets (negsuc n)
 
--- the item at place j of the bucket at place i is a device, or a bucket before that one, and not among the items before it
+-- the item at place j of the bucket at place i: a device, or a bucket before that one; and none of the items before it
 pub record IsItemAt (m : Map) (i j : ℕ) (items : List (ItemId × Weight)) (id : ℤ) : Type 0 where
   pub declared : has_item m.devices (take i m.buckets) id ≡ true
   pub once : list_any (λ item. same_id item.0.0 id) (take j items) ≡ false
 
 -- the bucket at place i
 pub record IsBucketAt (m : Map) (i : ℕ) (b : Bucket) : Type 0 where
-  pub place : i < 1024
+  pub place : i < bucket_limit
   pub id : is_bucket_id b.id.0 ≡ true
   pub new : has_bucket (take i m.buckets) b.id.0 ≡ false
   pub name : is_name b.name ≡ true
   pub typed : has_type m.types b.kind_of ≡ true
   pub no_device : (b.kind_of == 0) ≡ false
-  pub few : length b.items ≤ 1024
+  pub few : length b.items ≤ item_limit
   pub items : (j : ℕ) → IfSome (slice_get b.items j) (λ item. IsItemAt m i j b.items item.0.0)
   pub even : is_uniform b.alg ≡ true → has_equal_weights b.items ≡ true
   pub light : total_weight b.items < 2 ^ 32
@@ -63,31 +63,31 @@ pub record IsChoose (m : Map) (firstn leaf : Bool) (n : ℤ) (wanted : ℕ) : Ty
 
 abbrev pub IsStep : Map → Step → Type 0
 IsStep m (Take id) = has_item m.devices m.buckets id.0 ≡ true
-IsStep m (SetChooseTries tries) = tries ≤ 1000
-IsStep m (SetLeafTries tries) = tries ≤ 1000
-IsStep m (SetVaryR value) = value ≤ 8
+IsStep m (SetChooseTries tries) = tries ≤ tries_limit
+IsStep m (SetLeafTries tries) = tries ≤ tries_limit
+IsStep m (SetVaryR value) = value ≤ vary_r_limit
 IsStep m (SetStable value) = value ≤ 1
 IsStep m (Choose firstn leaf n wanted) = IsChoose m firstn leaf n wanted
 IsStep m Emit = ⊤
 
 -- the rule at place i
 pub record IsRuleAt (m : Map) (i : ℕ) (r : Rule) : Type 0 where
-  pub place : i < 64
-  pub id : r.id ≤ 255
+  pub place : i < rule_limit
+  pub id : r.id ≤ rule_id_limit
   pub name : is_name r.name ≡ true
   pub some : 1 ≤ length r.steps
-  pub few : length r.steps ≤ 32
+  pub few : length r.steps ≤ step_limit
   pub steps : (j : ℕ) → IfSome (slice_get r.steps j) (IsStep m)
 
 -- the type at place i
 pub record IsTypeAt (i : ℕ) (t : TypeName) : Type 0 where
-  pub place : i < 32
-  pub number : t.number ≤ 65535
+  pub place : i < type_limit
+  pub number : t.number ≤ number_limit
   pub name : is_name t.name ≡ true
   pub not_reserved : is_reserved t.name ≡ false
 
 -- the device at place i
 pub record IsDeviceAt (i : ℕ) (d : Device) : Type 0 where
-  pub place : i < 1024
-  pub id : d.id ≤ 65535
+  pub place : i < device_limit
+  pub id : d.id ≤ number_limit
   pub name : is_name d.name ≡ true

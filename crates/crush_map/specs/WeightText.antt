@@ -1,4 +1,4 @@
--- Weights as text: decimal on paper, 65536ths of 1.0 in a map (Ceph's `CrushCompiler`).
+-- Weights as text: decimal in a text, 65536ths of 1.0 in a map (Ceph's `CrushCompiler`).
 use Rattle.std.specs.Prelude.{◌≡◌, ℕ, ◌+◌, ◌-◌, ◌*◌, ◌/◌, ◌%◌, ◌^◌, ◌<◌, ◌≤◌, nat_le, nat_lt, ◌==◌, ◌&&◌, ◌⊎◌, Bool, true, List, [], ◌∷◌, ◌++◌, length, take, drop, position, Option, Some, None, if◌then◌else◌, decimal}
 use Rattle.std.specs.List.{list_all}
 use Rattle.crush_map.specs.declared.word.Weight.{Weight}
@@ -11,18 +11,18 @@ is_digit byte = nat_le 48 byte && nat_le byte 57
 abbrev pub is_point : ℕ → Bool
 is_point byte = byte == 46
 
--- from low to high digits, and nothing else
+-- whether a text is low to high digits and nothing else
 abbrev pub are_digits : ℕ → ℕ → List ℕ → Bool
 are_digits low high text = nat_le low (length text) && nat_le (length text) high && list_all is_digit text
 
--- the number that digits write: each counts ten times as much as the one behind it, the last one once
+-- the number that digits write: each counts ten times as much as the one after it, the last one once
 abbrev pub number : List ℕ → ℕ
 number [] = 0
 number (digit ∷ digits) = (digit - 48) * 10 ^ length digits + number digits
 
 -- ---- reading
 
--- `whole.fraction` without its point: what it says is so many of 10 ^ length fraction parts
+-- `whole.fraction` as an integer, without its point: its value times 10 ^ length fraction
 abbrev pub without_point : List ℕ → List ℕ → ℕ
 without_point whole fraction = number whole * 10 ^ length fraction + number fraction
 
@@ -30,11 +30,11 @@ without_point whole fraction = number whole * 10 ^ length fraction + number frac
 abbrev pub in_65536ths : List ℕ → List ℕ → ℕ
 in_65536ths whole fraction = without_point whole fraction * 65536 / 10 ^ length fraction
 
--- the weight of so many 65536ths, if they fit
+-- the weight of n 65536ths, if n is below 2^32
 abbrev pub weight_below_2_to_32 : ℕ → Option Weight
 weight_below_2_to_32 n = if nat_lt n (2 ^ 32) then Some (record { 0 = n }) else None
 
--- a text that is cut at its first point, or has none
+-- the weight that a text writes, by the place of its first point or none
 abbrev pub weight_cut_at : List ℕ → Option ℕ → Option Weight
 weight_cut_at text None =
     if are_digits 1 10 text then weight_below_2_to_32 (in_65536ths text []) else None
@@ -46,7 +46,7 @@ weight_cut_at text (Some place) =
 unfoldable pub weight_of : List ℕ → Option Weight
 weight_of text = weight_cut_at text (position is_point text)
 
--- a text writes this weight: 1 to 10 digits, alone or with a point and 1 to 20 digits behind them, whose value rounded down is the weight
+-- a text writes this weight: it is 1 to 10 digits, alone or followed by a point and 1 to 20 digits, and their value rounded down is the weight
 pub record Writes (text : List ℕ) (weight : Weight) : Type 0 where
   pub whole : List ℕ
   pub fraction : List ℕ
@@ -66,7 +66,7 @@ hundred_thousandths weight = (weight.0 * 100000 + 65535) / 65536
 abbrev pub five_digits : ℕ → List ℕ
 five_digits n = (48 + n / 10000 % 10) ∷ (48 + n / 1000 % 10) ∷ (48 + n / 100 % 10) ∷ (48 + n / 10 % 10) ∷ (48 + n % 10) ∷ []
 
--- so many hundred-thousandths, with five decimals
+-- n hundred-thousandths as text, with five decimals
 abbrev pub with_five_decimals : ℕ → List ℕ
 with_five_decimals n = decimal (n / 100000) ++ 46 ∷ five_digits n
 

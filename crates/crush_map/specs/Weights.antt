@@ -1,4 +1,4 @@
--- Weights of what a bucket holds, in 16.16 fixed point.
+-- Weights of a bucket's items, in 16.16 fixed point.
 use Rattle.std.specs.Prelude.{ℕ, ◌==◌, Bool, true, List, [], ◌∷◌, sum_by}
 use Rattle.std.specs.List.{list_all}
 use Rattle.crush_map.specs.declared.word.ItemId.{ItemId}
@@ -8,7 +8,7 @@ use Rattle.crush_map.specs.declared.word.Weight.{Weight}
 abbrev pub total_weight : List (ItemId × Weight) → ℕ
 total_weight items = sum_by (λ item. item.1.0) items
 
--- each weight is that of the first item
+-- whether each weight is that of the first item
 abbrev pub has_equal_weights : List (ItemId × Weight) → Bool
 has_equal_weights [] = true
 has_equal_weights (item ∷ items) = list_all (λ other. other.1.0 == item.1.0) items

@@ -1,4 +1,4 @@
-//! Weights as text.
+//! Weights as decimal text.
 
 ghost use Rattle.std.specs.Prelude.{◌≡◌, true, ◌<◌, ◌≤◌, ◌^◌, ◌*◌, ◌↔◌, ℕ, List, length, position, IfOk, Some, string_bytes};
 ghost use Rattle.std.specs.List.{list_all};
@@ -16,7 +16,7 @@ fn all_are_digits(text: &[u8]) -> bool
     text.iter().all(|byte| byte.is_ascii_digit())
 }
 
-/// Whether a text is of so many digits, and of nothing else.
+/// Whether a text is `low` to `high` digits and nothing else.
 fn are_digits(low: usize, high: usize, text: &[u8]) -> bool
     ensures { result ≡ spec.are_digits low high text.now }
 {
@@ -37,7 +37,7 @@ fn number(digits: &[u8]) -> u128
     number
 }
 
-/// The weight of digits before a point and behind it, rounded down.
+/// The weight of the digits before and after a point, rounded down.
 fn weight_of_parts(whole: &[u8], fraction: &[u8]) -> Option<Weight>
     requires whole { list_all spec.is_digit whole.now ≡ true }
     requires fraction { list_all spec.is_digit fraction.now ≡ true }
@@ -51,15 +51,16 @@ fn weight_of_parts(whole: &[u8], fraction: &[u8]) -> Option<Weight>
     u32::try_from(weight).ok().map(Weight)
 }
 
-/// Where the first point stands.
+/// The place of the first point.
 fn first_point(text: &[u8]) -> Option<usize>
     ensures { result ≡ position spec.is_point text.now }
 {
     text.iter().position(|byte| *byte == b'.')
 }
 
-/// The weight that a text writes, rounded down, if it is 1 to 10 digits, or these with a point and 1 to 20 digits behind them,
-/// and the weight is below 65536.0.
+/// Reads a weight: 1 to 10 digits, or 1 to 10 digits, a point and 1 to 20 digits, rounded down to 16.16 fixed point.
+///
+/// None if the text has another form, or if its value is 65536 or more.
 #[tactic(auto, unfolding(crate::specs::WeightText::weight_of))]
 pub fn weight_from_text(text: &[u8]) -> Option<Weight>
     ensures { result ≡ spec.weight_of text.now }
@@ -78,7 +79,7 @@ pub fn weight_from_text(text: &[u8]) -> Option<Weight>
     }
 }
 
-/// A weight in hundred-thousandths, rounded up.
+/// A weight in hundred-thousandths of 1.0, rounded up.
 fn hundred_thousandths(weight: Weight) -> u64
     ensures value { result ≡ spec.hundred_thousandths weight }
     ensures bound { result < 10 ^ 10 }
@@ -86,7 +87,7 @@ fn hundred_thousandths(weight: Weight) -> u64
     (u64::from(weight.0) * 100_000).div_ceil(65_536)
 }
 
-/// The text of a weight: with five decimals, rounded up.
+/// The decimal text of a weight, with five decimals, rounded up: `weight_from_text` reads the same weight from it.
 pub fn weight_text(alloc: Global, weight: Weight) -> Result<String, AllocError>
     ensures { IfOk result (λ text. string_bytes text ≡ spec.text_of weight) }
 {
@@ -102,13 +103,13 @@ pub fn weight_text(alloc: Global, weight: Weight) -> Result<String, AllocError>
     )
 }
 
-/// What a text writes as a weight is what is read from it, and nothing else is read.
+/// A weight is read from a text exactly if the text writes that weight.
 pub fn weight_texts_are_read()
     ensures { (text : List ℕ) (weight : Weight) → spec.weight_of text ≡ Some weight ↔ spec.Writes text weight }
 {}
 
-/// A weight is rounded up to the least number of hundred-thousandths that reaches it; its text has the form of a name, and the weight
-/// comes back from it.
+/// The text of a weight has the least number of hundred-thousandths that is at least the weight; it has the form of a name, and the same weight
+/// is read from it.
 pub fn weight_comes_back()
     ensures least { (weight : Weight) (n : ℕ) → spec.hundred_thousandths weight ≤ n ↔ weight.0 * 100000 ≤ n * 65536 }
     ensures word { (weight : Weight) → weight.0 < 2 ^ 32 → is_name (spec.text_of weight) ≡ true }

@@ -1,13 +1,13 @@
-//! What a map is declared of, before anything of it is judged.
+//! What a map is declared from, before it is checked.
 //!
-//! Source: Ceph's CRUSH map manual. A number that may be out of its range stands in a type that can hold it, so that a
-//! draft can be refused for it.
+//! Source: Ceph's CRUSH map manual. Each number has a type that can hold values out of its range, so that a draft can be
+//! refused for them.
 
 use crate::list::Listed;
 use crate::text::Text;
 use crate::word::{ItemId, Kind, Weight};
 
-/// A type of buckets, or of devices, which are of the type 0.
+/// A type of buckets; type 0 is that of devices.
 #[derive(Drop)]
 pub struct TypeName {
     /// 0..65535 in a map.
@@ -23,7 +23,7 @@ pub struct Device {
     pub name: Text,
 }
 
-/// Items and their weights, in order of place.
+/// Items and their weights, in order.
 pub type Items = Listed<(ItemId, Weight)>;
 
 /// A bucket.
@@ -34,7 +34,7 @@ pub struct Bucket {
     pub name: Text,
     /// The number of its type.
     pub kind_of: u32,
-    /// The algorithm by which it picks.
+    /// The algorithm by which it picks an item.
     pub alg: Kind,
     pub items: Items,
 }
@@ -42,32 +42,32 @@ pub struct Bucket {
 /// A step of a rule.
 #[derive(Clone, Copy, Debug, PartialEq, Eq)]
 pub enum Step {
-    /// Choosing begins at this item.
+    /// The working list becomes this item alone.
     Take(ItemId),
-    /// Tries of the choose steps that follow, 0..1000 in a map; 0 has no effect.
+    /// Sets the tries of the choose steps that follow, 0..1000 in a map; 0 has no effect.
     SetChooseTries(u32),
-    /// Tries below the items of the chooseleaf steps that follow, 0..1000 in a map; 0 has no effect.
+    /// Sets the tries for a leaf in the chooseleaf steps that follow, 0..1000 in a map; 0 has no effect.
     SetLeafTries(u32),
-    /// `chooseleaf_vary_r` of the steps that follow, 0..8 in a map.
+    /// Sets `chooseleaf_vary_r` for the steps that follow, 0..8 in a map.
     SetVaryR(u32),
-    /// `chooseleaf_stable` of the steps that follow, 0..1 in a map.
+    /// Sets `chooseleaf_stable` for the steps that follow, 0..1 in a map.
     SetStable(u32),
-    /// Chooses items below those at hand.
+    /// Chooses items below each bucket of the working list.
     Choose {
-        /// firstn, else indep.
+        /// Whether the mode is firstn; else it is indep.
         firstn: bool,
-        /// chooseleaf, else choose.
+        /// Whether it is a chooseleaf step; else it is a choose step.
         leaf: bool,
-        /// How many; 0 and below count from the number that the pool wants. -64..64 in a map.
+        /// How many items; a number of 0 or below is added to the size of the answer. -64..64 in a map.
         n: i32,
         /// The number of the wanted type.
         wanted: u32,
     },
-    /// What was chosen goes to the end of the answer.
+    /// Appends the working list to the answer, and empties it.
     Emit,
 }
 
-/// Steps, in the order in which they are taken.
+/// Steps, in order.
 pub type Steps = Listed<Step>;
 
 /// A rule.
@@ -76,7 +76,7 @@ pub struct Rule {
     /// 0..255 in a map.
     pub id: u32,
     pub name: Text,
-    /// For erasure coded pools, else for replicated ones.
+    /// Whether it is for erasure coded pools; else it is for replicated ones.
     pub erasure: bool,
     pub steps: Steps,
 }

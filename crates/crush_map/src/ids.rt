@@ -1,14 +1,15 @@
-//! Ids of devices and buckets that were seen.
+//! The ids of the devices and buckets declared so far.
 
 ghost use Rattle.std.specs.Prelude.{◌≡◌, ◌≤◌, pos, IfOk, IsTrue, length};
 ghost use Rattle.crush_map.specs.Faults as spec;
+ghost use Rattle.crush_map.specs.Private.Tables as tables;
 
 use crate::numbers::Numbers;
 use crate::word::ItemId;
 use std::alloc::{AllocError, Global};
 use std::marker::Model;
 
-/// Ids of devices, and of buckets, of which `-1 - n` is kept as `n`, each in the order in which they came.
+/// Ids of devices and ids of buckets, each in the order in which they were added. The id `-1 - n` of a bucket is kept as `n`.
 #[derive(Drop)]
 pub struct Ids {
     devices: Numbers,
@@ -24,7 +25,7 @@ impl Model for Ids {
 }
 
 impl Ids {
-    /// No id.
+    /// No ids.
     pub(crate) fn new(alloc: Global) -> Result<Self, AllocError>
         ensures { IfOk result (λ ids. ids ≡ spec.no_ids) }
     {
@@ -34,28 +35,28 @@ impl Ids {
         })
     }
 
-    /// How many devices came.
+    /// How many ids of devices there are.
     pub(crate) fn devices(&self) -> usize
         ensures { result ≡ length self.now.devices }
     {
         self.devices.len()
     }
 
-    /// How many buckets came.
+    /// How many ids of buckets there are.
     pub(crate) fn buckets(&self) -> usize
         ensures { result ≡ length self.now.buckets }
     {
         self.buckets.len()
     }
 
-    /// Whether a device came.
+    /// Whether there is this id of a device.
     pub(crate) fn has_device(&self, id: u32) -> bool
         ensures { result ≡ spec.has_number self.now.devices id }
     {
         self.devices.has(id)
     }
 
-    /// With one more device.
+    /// Adds the id of a device.
     pub(crate) fn with_device(self, id: u32) -> Result<Self, AllocError>
         requires { id ≤ 65535 }
         ensures { IfOk result (λ ids. ids ≡ spec.with_id self (pos id)) }
@@ -67,10 +68,10 @@ impl Ids {
         })
     }
 
-    /// Whether an id came.
+    /// Whether there is this id.
     pub(crate) fn has(&self, id: ItemId) -> bool
         ensures value { result ≡ spec.has_id self.now id.0 }
-        ensures known { IsTrue result → IsTrue (spec.is_id id.0) }
+        ensures known { IsTrue result → IsTrue (tables.is_id id.0) }
     {
         if id.0 < 0 {
             self.buckets.has(id.0.unsigned_abs() - 1)
@@ -79,9 +80,9 @@ impl Ids {
         }
     }
 
-    /// With one more id.
+    /// Adds an id.
     pub(crate) fn with(self, id: ItemId) -> Result<Self, AllocError>
-        requires { IsTrue (spec.is_id id.0) }
+        requires { IsTrue (tables.is_id id.0) }
         ensures { IfOk result (λ ids. ids ≡ spec.with_id self id.0) }
     {
         let Ids {

@@ -10,7 +10,7 @@ use crate::fault::{Element, MapFault};
 use crate::known::Known;
 use std::alloc::{AllocError, Global};
 
-/// The first fault of types behind what is known, or what is known behind them.
+/// Checks types in order; returns the updated `Known` or the first fault.
 #[tactic(auto, unfolding(crate::specs::Faults::first_in))]
 fn judge_types(
     alloc: Global,
@@ -34,7 +34,7 @@ fn judge_types(
     Ok(Ok(known))
 }
 
-/// The first fault of devices behind what is known, or what is known behind them.
+/// Checks devices in order; returns the updated `Known` or the first fault.
 #[tactic(auto, unfolding(crate::specs::Faults::first_in))]
 fn judge_devices(
     alloc: Global,
@@ -58,7 +58,7 @@ fn judge_devices(
     Ok(Ok(known))
 }
 
-/// The first fault of buckets behind what is known, or what is known behind them.
+/// Checks buckets in order; returns the updated `Known` or the first fault.
 #[tactic(auto, unfolding(crate::specs::Faults::first_in))]
 fn judge_buckets(
     alloc: Global,
@@ -82,7 +82,7 @@ fn judge_buckets(
     Ok(Ok(known))
 }
 
-/// The first fault of rules behind what is known, or what is known behind them.
+/// Checks rules in order; returns the updated `Known` or the first fault.
 #[tactic(auto, unfolding(crate::specs::Faults::first_in))]
 fn judge_rules(
     alloc: Global,
@@ -106,7 +106,7 @@ fn judge_rules(
     Ok(Ok(known))
 }
 
-/// What is known behind the elements of a draft, or their first fault.
+/// Checks a draft's types, devices, buckets and rules; returns the `Known` of all of them or the first fault.
 #[tactic(auto, unfolding(crate::specs::Faults::element_fault))]
 fn judge_elements(alloc: Global, draft: &MapDraft) -> Result<Result<Known, MapFault>, AllocError>
     ensures fault { IfOk result (λ r. result_err r ≡ spec.element_fault draft.now) }
@@ -127,7 +127,7 @@ fn judge_elements(alloc: Global, draft: &MapDraft) -> Result<Result<Known, MapFa
     judge_rules(alloc, known, draft.rules.as_slice())
 }
 
-/// The first fault of a draft.
+/// The first fault of a draft, if it has one: of its elements, else the one at its end.
 #[tactic(auto, unfolding(crate::specs::Faults::first_fault))]
 pub(crate) fn first_fault(alloc: Global, draft: &MapDraft) -> Result<Option<MapFault>, AllocError>
     ensures { IfOk result (λ fault. fault ≡ spec.first_fault draft.now) }

@@ -1,4 +1,4 @@
-//! What was declared, and the faults of what is declared behind it.
+//! The numbers, ids and names declared so far, and the checks of the next element against them.
 
 ghost use Rattle.std.specs.Prelude.{◌≡◌, ◌≤◌, IfOk, if◌then◌else◌, length, None};
 ghost use Rattle.crush_map.specs.Faults as spec;
@@ -7,6 +7,11 @@ use crate::draft::{Bucket, Device, Rule, Step, Tunables, TypeName};
 use crate::fault::FaultCode;
 use crate::form::{is_name, is_reserved};
 use crate::ids::Ids;
+use crate::limits::{
+    BUCKET_ID_LIMIT, BUCKET_LIMIT, COUNT_LIMIT, DEVICE_LIMIT, ITEM_LIMIT, NUMBER_LIMIT,
+    RULE_ID_LIMIT, RULE_LIMIT, STEP_LIMIT, TOTAL_TRIES_LIMIT, TOTAL_WEIGHT_LIMIT, TRIES_LIMIT,
+    TYPE_LIMIT, VARY_R_LIMIT,
+};
 use crate::names::Names;
 use crate::numbers::Numbers;
 use crate::weights::{has_equal_weights, total_weight};
@@ -14,7 +19,7 @@ use crate::word::{ItemId, Kind, Weight};
 use std::alloc::{AllocError, Global};
 use std::marker::Model;
 
-/// What was declared so far. A contract sees its numbers, ids and names.
+/// The numbers, ids and names declared so far. Contracts see them as lists, in order of declaration.
 #[derive(Drop)]
 pub struct Known {
     types: Numbers,
@@ -34,7 +39,7 @@ impl Model for Known {
 }
 
 impl Known {
-    /// Nothing, as before the first declaration.
+    /// Nothing declared yet.
     pub fn new(alloc: Global) -> Result<Self, AllocError>
         ensures { IfOk result (λ known. known ≡ spec.nothing) }
     {
@@ -48,15 +53,15 @@ impl Known {
         })
     }
 
-    /// The fault of a type that is declared next.
+    /// The fault of a type, if it is declared next.
     #[tactic(auto, unfolding(crate::specs::Faults::type_fault))]
     pub fn type_fault(&self, declared: &TypeName) -> Option<FaultCode>
         ensures { result ≡ spec.type_fault self.now declared.now }
     {
         let name = declared.name.as_str();
-        if self.types.len() >= 32 {
+        if self.types.len() >= TYPE_LIMIT {
             Some(FaultCode::M1)
-        } else if declared.number > 65_535 {
+        } else if declared.number > NUMBER_LIMIT {
             Some(FaultCode::M12)
         } else if self.types.has(declared.number) {
             Some(FaultCode::M2)
@@ -69,7 +74,7 @@ impl Known {
         }
     }
 
-    /// With a type that has no fault.
+    /// Adds a type that has no fault.
     pub fn with_type(mut self, alloc: Global, declared: &TypeName) -> Result<Self, AllocError>
         requires { spec.type_fault self declared.now ≡ None }
         ensures { IfOk result (λ known. known ≡ spec.with_type self declared.now) }
@@ -79,15 +84,15 @@ impl Known {
         Ok(self)
     }
 
-    /// The fault of a device that is declared next.
+    /// The fault of a device, if it is declared next.
     #[tactic(auto, unfolding(crate::specs::Faults::device_fault))]
     pub fn device_fault(&self, declared: &Device) -> Option<FaultCode>
         ensures { result ≡ spec.device_fault self.now declared.now }
     {
         let name = declared.name.as_str();
-        if self.items.devices() >= 1_024 {
+        if self.items.devices() >= DEVICE_LIMIT {
             Some(FaultCode::M1)
-        } else if declared.id > 65_535 {
+        } else if declared.id > NUMBER_LIMIT {
             Some(FaultCode::M12)
         } else if self.items.has_device(declared.id) {
             Some(FaultCode::M2)
@@ -100,7 +105,7 @@ impl Known {
         }
     }
 
-    /// With a device that has no fault.
+    /// Adds a device that has no fault.
     pub fn with_device(mut self, alloc: Global, declared: &Device) -> Result<Self, AllocError>
         requires { spec.device_fault self declared.now ≡ None }
         ensures { IfOk result (λ known. known ≡ spec.with_device self declared.now) }
@@ -110,7 +115,7 @@ impl Known {
         Ok(self)
     }
 
-    /// The fault of a bucket that is declared next.
+    /// The fault of a bucket, if it is declared next. Memory is needed to find an item that is listed twice.
     #[tactic(auto, unfolding(crate::specs::Faults::bucket_fault))]
     pub fn bucket_fault(
         &self,
@@ -120,7 +125,7 @@ impl Known {
         ensures { IfOk result (λ fault. fault ≡ spec.bucket_fault self.now declared.now) }
     {
         let name = declared.name.as_str();
-        let fault = if self.items.buckets() >= 1_024 {
+        let fault = if self.items.buckets() >= BUCKET_LIMIT {
             FaultCode::M1
         } else if !is_bucket_id(declared.id) {
             FaultCode::M12
@@ -134,7 +139,7 @@ impl Known {
             FaultCode::M4
         } else if declared.kind_of == 0 {
             FaultCode::M9
-        } else if declared.items.as_slice().len() > 1_024 {
+        } else if declared.items.as_slice().len() > ITEM_LIMIT {
             FaultCode::M1
         } else {
             return self.contents_fault(alloc, declared.alg, declared.items.as_slice());
@@ -142,7 +147,7 @@ impl Known {
         Ok(Some(fault))
     }
 
-    /// The fault of what a bucket holds.
+    /// The fault of a bucket's items and weights.
     #[tactic(auto, unfolding(crate::specs::Faults::contents_fault))]
     fn contents_fault(
         &self,
@@ -150,7 +155,7 @@ impl Known {
         alg: Kind,
         items: &[(ItemId, Weight)],
     ) -> Result<Option<FaultCode>, AllocError>
-        requires { length items.now ≤ 1024 }
+        requires { length items.now ≤ spec.item_limit }
         ensures { IfOk result (λ fault. fault ≡ spec.contents_fault self.now alg items.now) }
     {
         if let Some(fault) = self.items_fault(alloc, items)? {
@@ -159,7 +164,7 @@ impl Known {
         if is_uniform(alg) && !has_equal_weights(items) {
             return Ok(Some(FaultCode::M8));
         }
-        if total_weight(items) > 4_294_967_295 {
+        if total_weight(items) > TOTAL_WEIGHT_LIMIT {
             return Ok(Some(FaultCode::M7));
         }
         Ok(None)
@@ -187,7 +192,7 @@ impl Known {
         Ok(None)
     }
 
-    /// With a bucket that has no fault.
+    /// Adds a bucket that has no fault.
     pub fn with_bucket(mut self, alloc: Global, declared: &Bucket) -> Result<Self, AllocError>
         requires { spec.bucket_fault self declared.now ≡ None }
         ensures { IfOk result (λ known. known ≡ spec.with_bucket self declared.now) }
@@ -204,7 +209,7 @@ impl Known {
     {
         if !self.types.has(wanted) {
             Some(FaultCode::M11)
-        } else if n < -64 || n > 64 {
+        } else if n < -COUNT_LIMIT || n > COUNT_LIMIT {
             Some(FaultCode::M12)
         } else if leaf && !firstn && wanted == 0 {
             Some(FaultCode::M14)
@@ -220,9 +225,9 @@ impl Known {
     {
         match step {
             Step::Take(id) => fault_if(!self.items.has(id), FaultCode::M10),
-            Step::SetChooseTries(tries) => fault_if(tries > 1_000, FaultCode::M12),
-            Step::SetLeafTries(tries) => fault_if(tries > 1_000, FaultCode::M12),
-            Step::SetVaryR(value) => fault_if(value > 8, FaultCode::M12),
+            Step::SetChooseTries(tries) => fault_if(tries > TRIES_LIMIT, FaultCode::M12),
+            Step::SetLeafTries(tries) => fault_if(tries > TRIES_LIMIT, FaultCode::M12),
+            Step::SetVaryR(value) => fault_if(value > VARY_R_LIMIT, FaultCode::M12),
             Step::SetStable(value) => fault_if(value > 1, FaultCode::M12),
             Step::Choose {
                 firstn,
@@ -246,16 +251,16 @@ impl Known {
         None
     }
 
-    /// The fault of a rule that is declared next, before its steps are judged.
+    /// The fault of a rule, if it is declared next, apart from the faults of its steps.
     #[tactic(auto, unfolding(crate::specs::Faults::rule_head_fault))]
     pub fn rule_head_fault(&self, declared: &Rule) -> Option<FaultCode>
         ensures { result ≡ spec.rule_head_fault self.now declared.now }
     {
         let name = declared.name.as_str();
         let steps = declared.steps.as_slice();
-        if self.rules.len() >= 64 {
+        if self.rules.len() >= RULE_LIMIT {
             Some(FaultCode::M1)
-        } else if declared.id > 255 {
+        } else if declared.id > RULE_ID_LIMIT {
             Some(FaultCode::M12)
         } else if self.rules.has(declared.id) {
             Some(FaultCode::M2)
@@ -263,14 +268,14 @@ impl Known {
             Some(FaultCode::M15)
         } else if self.rule_names.has(name) {
             Some(FaultCode::M3)
-        } else if steps.is_empty() || steps.len() > 32 {
+        } else if steps.is_empty() || steps.len() > STEP_LIMIT {
             Some(FaultCode::M1)
         } else {
             None
         }
     }
 
-    /// The fault of a rule that is declared next.
+    /// The fault of a rule, if it is declared next.
     #[tactic(auto, using(crate::proofs::Checks::rule_fault_by_parts))]
     pub fn rule_fault(&self, declared: &Rule) -> Option<FaultCode>
         ensures { result ≡ spec.rule_fault self.now declared.now }
@@ -281,7 +286,7 @@ impl Known {
         }
     }
 
-    /// With a rule that has no fault.
+    /// Adds a rule that has no fault.
     pub fn with_rule(mut self, alloc: Global, declared: &Rule) -> Result<Self, AllocError>
         requires { spec.rule_fault self declared.now ≡ None }
         ensures { IfOk result (λ known. known ≡ spec.with_rule self declared.now) }
@@ -291,7 +296,7 @@ impl Known {
         Ok(self)
     }
 
-    /// The fault at the end, when all is declared.
+    /// The fault of a whole draft whose elements have none: no type 0, a tunable out of range, or local tries.
     #[tactic(auto, unfolding(crate::specs::Faults::end_fault))]
     pub fn end_fault(
         &self,
@@ -313,16 +318,16 @@ impl Known {
     }
 }
 
-fn fault_if(stands: bool, code: FaultCode) -> Option<FaultCode>
-    ensures { result ≡ (if stands then Some code else None) }
+fn fault_if(broken: bool, code: FaultCode) -> Option<FaultCode>
+    ensures { result ≡ (if broken then Some code else None) }
 {
-    if stands { Some(code) } else { None }
+    if broken { Some(code) } else { None }
 }
 
 fn is_bucket_id(id: ItemId) -> bool
     ensures { result ≡ spec.is_bucket_id id.0 }
 {
-    -65_536 <= id.0 && id.0 <= -1
+    BUCKET_ID_LIMIT <= id.0 && id.0 <= -1
 }
 
 fn is_uniform(alg: Kind) -> bool
@@ -335,8 +340,8 @@ fn is_uniform(alg: Kind) -> bool
 pub fn are_in_range(tunables: Tunables) -> bool
     ensures { result ≡ spec.are_in_range tunables }
 {
-    tunables.total_tries <= 999
+    tunables.total_tries <= TOTAL_TRIES_LIMIT
         && tunables.descend_once <= 1
-        && tunables.vary_r <= 8
+        && tunables.vary_r <= VARY_R_LIMIT
         && tunables.stable <= 1
 }

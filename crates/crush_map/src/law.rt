@@ -1,4 +1,4 @@
-//! What holds of every draft and of every map. A call does nothing: its caller learns the law.
+//! Laws: statements that hold for every draft or every map. A call does nothing; its contract is the law.
 
 ghost use Rattle.std.specs.Prelude.{◌≡◌, ℕ, true, ◌++◌, map, Some, None, slice_get, IfSome};
 ghost use Rattle.crush_map.specs.declared.draft.MapDraft.{MapDraft};
@@ -6,25 +6,25 @@ ghost use Rattle.crush_map.specs.declared.fault.MapFault.{MapFault};
 ghost use Rattle.crush_map.specs.Faults as spec;
 ghost use Rattle.crush_map.specs.Map.{Map, IsMap};
 ghost use Rattle.crush_map.specs.Sound.{IsBucketAt, IsRuleAt, IsTypeAt, IsDeviceAt, IsEachOnce, has_type};
-ghost use Rattle.crush_map.specs.Laws.{StandsFirst, HasNoFault};
+ghost use Rattle.crush_map.specs.Laws.{IsFirstFault, HasNoFault};
 
-/// The first fault of a draft stands where it says, and nothing before it has one; where there is none, nothing has one.
+/// The element that a draft's first fault names has that fault, and nothing before it has one; a draft without a first fault has none at all.
 pub fn first_fault_is_first()
-    ensures fault { (d : MapDraft) (f : MapFault) → spec.first_fault d ≡ Some f → StandsFirst d f.element f.index f.code }
+    ensures fault { (d : MapDraft) (f : MapFault) → spec.first_fault d ≡ Some f → IsFirstFault d f.element f.index f.code }
     ensures none { (d : MapDraft) → spec.first_fault d ≡ None → HasNoFault d }
 {}
 
-/// What each bucket of a map is.
+/// What holds for each bucket of a map.
 pub fn buckets_are_sound()
     ensures { (m : Map) (i : ℕ) → IsMap m → IfSome (slice_get m.buckets i) (λ b. IsBucketAt m i b) }
 {}
 
-/// What each rule of a map is.
+/// What holds for each rule of a map.
 pub fn rules_are_sound()
     ensures { (m : Map) (i : ℕ) → IsMap m → IfSome (slice_get m.rules i) (λ r. IsRuleAt m i r) }
 {}
 
-/// What the types, the devices and the tunables of a map are.
+/// What holds for the types, the devices and the tunables of a map.
 pub fn numbers_are_sound()
     ensures types { (m : Map) (i : ℕ) → IsMap m → IfSome (slice_get m.types i) (λ t. IsTypeAt i t) }
     ensures devices { (m : Map) (i : ℕ) → IsMap m → IfSome (slice_get m.devices i) (λ d. IsDeviceAt i d) }
@@ -32,7 +32,7 @@ pub fn numbers_are_sound()
     ensures tunables { (m : Map) → IsMap m → spec.are_in_range m.tunables ≡ true }
 {}
 
-/// No number, no id and no name is twice in a map. Devices and buckets share their names.
+/// No number, id or name occurs twice in a map. Names of devices and buckets together differ.
 pub fn numbers_and_names_are_once()
     ensures type_numbers { (m : Map) → IsMap m → IsEachOnce (map (λ t. t.number) m.types) }
     ensures type_names { (m : Map) → IsMap m → IsEachOnce (map (λ t. t.name) m.types) }

@@ -1,6 +1,6 @@
-//! CRUSH maps: their words, their texts, what they are declared of, and which drafts are maps.
+//! CRUSH maps: what a map is declared from, which drafts are maps, and weights as text.
 //!
-//! Its tests are the crate `map_tests`.
+//! Its tests are in the crate `kernel_tests`.
 #![tactic(auto)]
 
 mod decimal;
@@ -11,6 +11,7 @@ mod ids;
 mod judge;
 mod known;
 mod law;
+pub mod limits;
 mod list;
 mod map;
 mod names;

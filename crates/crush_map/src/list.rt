@@ -1,10 +1,10 @@
-//! A list that a contract sees as its elements.
+//! Lists that are equal when their elements are.
 
 ghost use Rattle.std.specs.Prelude.{◌≡◌};
 
 use std::marker::Model;
 
-/// A list. A contract sees its elements, so that two lists with the same elements are one value.
+/// A list. Contracts see its elements, so lists with the same elements are equal, whatever their capacity.
 #[derive(Drop)]
 pub struct Listed<T> {
     elements: Vec<T>,
@@ -26,7 +26,7 @@ impl<T> Listed<T> {
         Listed { elements }
     }
 
-    /// The elements as they are read.
+    /// The elements, for reading.
     pub fn as_slice(&self) -> &[T]
         ensures { result.now ≡ self.now }
     {

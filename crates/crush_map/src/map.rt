@@ -1,4 +1,4 @@
-//! Maps that are valid by their type.
+//! CRUSH maps: each value of the type is a valid map.
 
 ghost use Rattle.std.specs.Prelude.{◌≡◌, IfOk, IfErr, option_map, None};
 ghost use Rattle.std.specs.Result.{result_err};
@@ -12,8 +12,8 @@ use crate::judge::first_fault;
 use std::alloc::{AllocError, Global};
 use std::marker::Model;
 
-/// A map without a fault. A contract sees its lists and its tunables; its types, devices and rules are in order of
-/// number, its buckets in order of declaration.
+/// A map without a fault. Contracts see its lists and its tunables. Types, devices and rules are in ascending order of
+/// number, buckets in order of declaration.
 #[derive(Drop)]
 pub struct CrushMap {
     types: Vec<TypeName>,
@@ -34,10 +34,10 @@ impl Model for CrushMap {
 }
 
 impl CrushMap {
-    /// The map that a draft declares, or else the draft and its first fault.
+    /// The map that a draft declares, or the draft and its first fault.
     ///
-    /// Faults are sought among the types, then the devices, the buckets and the rules, each list in order, and then at
-    /// the end. `AllocError` comes where memory was refused.
+    /// Types are checked first, then devices, buckets and rules, each list in order, and last what concerns the whole draft.
+    /// `AllocError`: memory was refused, and the draft is gone.
     pub fn check(
         alloc: Global,
         draft: MapDraft,

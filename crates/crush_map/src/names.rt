@@ -1,4 +1,4 @@
-//! Names that were seen, with an index by which one is looked up.
+//! A list of names, with an index by which one is looked up.
 
 ghost use Rattle.std.specs.Prelude.{◌≡◌, ◌++◌, ◌∷◌, [], IfOk};
 ghost use Rattle.crush_map.specs.Faults as spec;
@@ -8,7 +8,7 @@ use std::alloc::{AllocError, Global};
 use std::collections::BTreeSet;
 use std::marker::Model;
 
-/// Names in the order in which they came.
+/// Names in the order in which they were added.
 #[derive(Drop)]
 pub struct Names {
     order: Vec<Text>,
@@ -28,7 +28,7 @@ impl Model for Names {
 }
 
 impl Names {
-    /// No name.
+    /// The empty list.
     pub(crate) fn new(alloc: Global) -> Self
         ensures { result ≡ [] }
     {
@@ -38,14 +38,14 @@ impl Names {
         }
     }
 
-    /// Whether a name came.
+    /// Whether a name is in the list.
     pub(crate) fn has(&self, name: &str) -> bool
         ensures { result ≡ spec.has_name self.now name.now }
     {
         self.index.contains(name)
     }
 
-    /// With one more name.
+    /// Adds a name at the end.
     pub(crate) fn with(self, alloc: Global, name: &str) -> Result<Self, AllocError>
         ensures { IfOk result (λ names. names ≡ self ++ name.now ∷ []) }
     {

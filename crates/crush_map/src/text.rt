@@ -1,13 +1,13 @@
-//! Texts that are compared by what they say.
+//! Texts that are equal when their bytes are.
 //!
-//! To a contract a `String` has a place in memory; a text is its bytes, wherever they lie.
+//! A contract sees of a `String` where it lies in memory too; of a `Text` it sees the bytes alone.
 
 ghost use Rattle.std.specs.Prelude.{string_bytes, ◌≡◌, IfOk};
 
 use std::alloc::{AllocError, Global};
 use std::marker::Model;
 
-/// A text, such as a name. A contract sees the list of its bytes.
+/// A text, such as a name. Contracts see the list of its bytes.
 #[derive(Drop)]
 pub struct Text {
     string: String,
@@ -22,14 +22,14 @@ impl Model for Text {
 }
 
 impl Text {
-    /// What a string says. The string itself is kept, so this takes no memory.
+    /// The text of a string. The string itself is kept, so this takes no memory.
     pub fn new(string: String) -> Self
         ensures { result ≡ string_bytes string }
     {
         Text { string }
     }
 
-    /// The same text again, in memory of its own.
+    /// A copy, in memory of its own.
     pub fn copy(alloc: Global, original: &str) -> Result<Self, AllocError>
         ensures { IfOk result (λ again. again ≡ original.now) }
     {
@@ -37,14 +37,14 @@ impl Text {
         Ok(Text { string })
     }
 
-    /// Lends the text for reading.
+    /// The text, for reading.
     pub fn as_str(&self) -> &str
         ensures { result.now ≡ self.now }
     {
         self.string.as_str()
     }
 
-    /// Hands back the string that was kept. Takes no memory.
+    /// The string that was kept. Takes no memory.
     pub fn into_string(self) -> String
         ensures { string_bytes result ≡ self }
     {

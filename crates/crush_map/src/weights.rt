@@ -1,4 +1,4 @@
-//! Weights of what a bucket holds.
+//! Weights of a bucket's items.
 
 ghost use Rattle.std.specs.Prelude.{◌≡◌, ◌==◌, ◌<◌, ◌^◌, length};
 ghost use Rattle.std.specs.List.{list_all};
@@ -14,7 +14,7 @@ pub fn total_weight(items: &[(ItemId, Weight)]) -> u64
     items.iter().map(|item| u64::from(item.1.0)).sum()
 }
 
-/// Each item weighs what the first one does, as in a uniform bucket.
+/// Whether all items have the same weight, as they must in a uniform bucket.
 pub fn has_equal_weights(items: &[(ItemId, Weight)]) -> bool
     ensures { result ≡ spec.has_equal_weights items.now }
 {

@@ -1,10 +1,10 @@
-//! A map, as its lines declare it.
+//! A map as its lines declare it.
 
 use crate::line::Declaration;
 use crush_map::{Bucket, Device, Listed, MapDraft, Rule, Step, Text, Tunables, TypeName};
 use std::alloc::{AllocError, Global};
 
-/// The types that each map has.
+/// The types of every map: number and name.
 const TYPES: [(u32, &str); 4] = [(0, "osd"), (1, "host"), (3, "rack"), (10, "root")];
 
 /// What was declared of a map so far.
@@ -20,7 +20,7 @@ pub struct Description {
 }
 
 impl Description {
-    /// A map of which nothing is declared; it has the tunables of Ceph's jewel.
+    /// A map without declarations; it has the tunables of Ceph's profile jewel.
     pub(crate) fn new(alloc: Global) -> Self {
         Description {
             alloc,
@@ -37,7 +37,7 @@ impl Description {
         }
     }
 
-    /// With one more declaration.
+    /// Adds a declaration.
     pub(crate) fn with(mut self, declaration: Declaration) -> Result<Self, AllocError> {
         match declaration {
             Declaration::Tunables(tunables) => self.tunables = tunables,

@@ -1,28 +1,28 @@
-//! What a line says.
+//! Reading lines.
 
 use crate::fault::Fault;
 use crate::words::{Size, at_most, entry, kind, signed, size_of_answer, unsigned};
 use crush_map::{Bucket, ItemId, Items, Listed, Step, Text, Tunables};
 use std::alloc::Global;
 
-/// The greatest number of devices that a line may say; a map has fewer.
+/// The greatest number of devices in a line; a map's limit is lower.
 const MOST_DEVICES: u32 = 65_536;
 
-/// What a line says.
+/// A line that was read.
 #[derive(Drop)]
 pub enum Line<'a> {
     Blank,
-    /// A map of this name begins.
+    /// Begins a map with this name.
     Map(&'a str),
-    /// Something of the map is declared.
+    /// Declares a part of the map.
     Declared(Declaration),
-    /// The answers for the inputs from `first` to below `end` are wanted.
+    /// Writes the answers for the inputs from `first` to below `end`.
     Run { size: Size, first: u32, end: u32 },
-    /// The checksum over the answers for so many inputs is wanted, and the time.
+    /// Writes the checksum of the answers for the inputs below `count`, and the time.
     Time { size: Size, count: u32 },
 }
 
-/// What a line declares of a map.
+/// A part of a map that a line declares.
 #[derive(Drop)]
 pub enum Declaration {
     Tunables(Tunables),
@@ -33,7 +33,7 @@ pub enum Declaration {
     Step(Step),
 }
 
-/// What the words of a line say.
+/// Reads a line from its words.
 pub(crate) fn line_of<'a>(alloc: Global, words: &[&'a str]) -> Result<Line<'a>, Fault> {
     let [word, rest @ ..] = words else {
         return Ok(Line::Blank);
@@ -46,7 +46,7 @@ pub(crate) fn line_of<'a>(alloc: Global, words: &[&'a str]) -> Result<Line<'a>, 
     }
 }
 
-/// The only word.
+/// The word, if there is exactly one.
 fn alone<'a>(words: &[&'a str]) -> Result<&'a str, Fault> {
     match words {
         [word] => Ok(*word),

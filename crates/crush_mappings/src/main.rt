@@ -1,12 +1,12 @@
-//! `crush_mappings` reads descriptions of CRUSH maps on standard input and writes what their rules answer.
+//! `crush_mappings` reads descriptions of CRUSH maps on standard input and writes the answers of their rules.
 //!
-//! It is there to be compared with Ceph's own code. `tests/ceph/README.md` says what lines it reads and writes.
+//! Its output is compared with that of Ceph's own code. `tests/ceph/README.md` defines the lines that it reads and writes.
 #![tactic(auto)]
 
+mod answers;
 mod description;
 mod fault;
 mod line;
-mod played;
 mod ready;
 mod session;
 mod words;
@@ -19,7 +19,7 @@ use std::io::{BufWriter, Write};
 use std::process::ExitCode;
 use std::rt::Clock;
 
-fn play<R: AllocGlobal + Input + Print + Eprint + Clock>(
+fn carry_out<R: AllocGlobal + Input + Print + Eprint + Clock>(
     rt: &R,
     number: &mut u64,
 ) -> Result<(), Fault> {
@@ -39,7 +39,7 @@ fn play<R: AllocGlobal + Input + Print + Eprint + Clock>(
 
 fn main(rt: HostRuntime) -> io::Result<ExitCode> {
     let mut number = 0;
-    match play(&rt, &mut number) {
+    match carry_out(&rt, &mut number) {
         Ok(()) => Ok(ExitCode::SUCCESS),
         Err(fault) => {
             eprintln!(&rt; "crush_mappings: line {number}: {fault}")?;

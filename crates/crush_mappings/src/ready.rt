@@ -1,4 +1,4 @@
-//! A map that can be asked.
+//! A map that is ready to answer.
 
 ghost use Rattle.std.specs.Prelude.{◌≡◌};
 ghost use Rattle.crush_map.specs.Map.{IsMap};
@@ -13,7 +13,7 @@ use crush_choose::{Out, Slot, Weights, run_rule};
 use crush_map::CrushMap;
 use std::alloc::Global;
 
-/// A map with one rule, and all that its runs need.
+/// A map with one rule, and all that running it needs.
 #[derive(Drop)]
 pub struct Ready {
     map: CrushMap,
@@ -47,7 +47,7 @@ impl Ready {
         })
     }
 
-    /// What the rule answers for an input.
+    /// The answer of the rule for an input.
     pub(crate) fn answer(&mut self, x: u32, size: Size) -> &[Slot] {
         rules_of_a_map_can_run();
         match self.map.rules().first() {

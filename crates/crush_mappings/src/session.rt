@@ -1,28 +1,28 @@
-//! The lines of an input, one after the other.
+//! Carrying out the lines of an input, one after the other.
 
+use crate::answers::{run, time};
 use crate::description::Description;
 use crate::fault::Fault;
 use crate::line::{Declaration, Line};
-use crate::played::{run, time};
 use crate::ready::Ready;
 use std::alloc::Global;
 use std::io::Write;
 use std::rt::Clock;
 
-/// The map at hand: while it is declared, and once it was asked.
+/// The current map: being declared, or ready to answer.
 #[derive(Drop)]
 pub enum Session {
     Declared(Description),
-    Asked(Ready),
+    Ready(Ready),
 }
 
 impl Session {
-    /// Before the first line.
+    /// The session before the first line.
     pub(crate) fn new(alloc: Global) -> Self {
         Session::Declared(Description::new(alloc))
     }
 
-    /// After one more line, with its answers written.
+    /// Carries out one line, and writes its answers.
     pub(crate) fn after<R: Eprint + Clock, W: Write>(
         self,
         rt: &R,
@@ -38,14 +38,14 @@ impl Session {
             }
             Line::Declared(declaration) => self.with(declaration),
             Line::Run { size, first, end } => {
-                let mut ready = self.asked(alloc)?;
+                let mut ready = self.ready(alloc)?;
                 run(writer, &mut ready, size, first, end)?;
-                Ok(Session::Asked(ready))
+                Ok(Session::Ready(ready))
             }
             Line::Time { size, count } => {
-                let mut ready = self.asked(alloc)?;
+                let mut ready = self.ready(alloc)?;
                 time(rt, writer, &mut ready, size, count)?;
-                Ok(Session::Asked(ready))
+                Ok(Session::Ready(ready))
             }
         }
     }
@@ -55,14 +55,14 @@ impl Session {
             Session::Declared(description) => {
                 Ok(Session::Declared(description.with(declaration)?))
             }
-            Session::Asked(_) => Err(Fault::Late),
+            Session::Ready(_) => Err(Fault::Late),
         }
     }
 
-    fn asked(self, alloc: Global) -> Result<Ready, Fault> {
+    fn ready(self, alloc: Global) -> Result<Ready, Fault> {
         match self {
             Session::Declared(description) => Ready::build(alloc, description),
-            Session::Asked(ready) => Ok(ready),
+            Session::Ready(ready) => Ok(ready),
         }
     }
 }

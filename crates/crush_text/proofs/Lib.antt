@@ -1,7 +1,1 @@
 pub mod Joins
-pub mod Checks
-pub mod Kept
-pub mod Arranged
-pub mod Found
-pub mod Faultless
-pub mod Texts

@@ -1,5 +1,6 @@
 pub mod Places
 pub mod Judging
 pub mod MapText
+pub mod Codes
 pub mod Canonical
 pub mod Private

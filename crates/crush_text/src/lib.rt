@@ -3,16 +3,10 @@
 //! Source: Ceph's CRUSH map manual, which shows the text that `crushtool -d` writes.
 #![tactic(auto)]
 
-mod fit;
-mod judge;
-mod law;
 mod lookup;
-mod places;
-mod read;
-mod tables;
+mod name;
 mod write;
 
 pub use crush_grammar::{TextCode, TextFault};
-pub use law::texts_of_maps_have_no_fault;
-pub use read::{read_map, read_stored};
+pub use name::code_text;
 pub use write::write_map;

@@ -1,4 +1,4 @@
--- The word that comes first.
+-- The first word of bytes.
 use Rattle.std.proofs.Common.{◌≡◌, ℕ, ◌<◌, ◌==◌, List, [], ◌∷◌, take, drop, Bool, true, false, if◌then◌else◌, refl, ap, arith}
 use Rattle.std.proofs.lemmas.Bool.Decides.{nat_tests}
 use Rattle.crush_map.specs.Faults.{is_name_byte}
@@ -12,7 +12,7 @@ other : {A : Type 0} (k : Bool) (x y : A) → k ≡ false → (if k then x else 
 other true x y e = cc
 other false x y e = refl
 
--- the word of so many bytes comes first
+-- the first word has n bytes
 abbrev IsFirst : ℕ → ℕ → List ℕ → Type 0
 IsFirst line n bytes = words_from false line bytes ≡ record { line = line; text = take n bytes } ∷ words_from false line (drop n bytes)
 

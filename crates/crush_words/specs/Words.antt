@@ -1,10 +1,10 @@
--- The words of a map text, and the lines on which they stand.
+-- The words of a map text, and their lines.
 --
 -- Source: Ceph's CRUSH map manual and its compiler of map texts.
 use Rattle.std.specs.Prelude.{ℕ, ◌+◌, ◌==◌, ◌||◌, Bool, true, false, List, [], ◌∷◌, if◌then◌else◌}
 use Rattle.crush_map.specs.Faults.{is_name_byte}
 
--- a word: a run of the bytes of names, or one other byte, as a brace; and its line
+-- a word: a run of bytes that are allowed in names, or one other byte, such as a brace; and the number of its line
 pub record Word : Type 0 where
   pub line : ℕ
   pub text : List ℕ
@@ -13,21 +13,21 @@ pub record Word : Type 0 where
 abbrev pub is_blank : ℕ → Bool
 is_blank b = b == 32 || b == 9 || b == 13
 
--- a byte of a name comes first
+-- whether the first byte is allowed in names
 abbrev pub starts_name : List ℕ → Bool
 starts_name [] = false
 starts_name (b ∷ bytes) = is_name_byte b
 
--- a byte in front of the first word
+-- puts a byte in front of the first word
 abbrev pub onto : ℕ → List Word → List Word
 onto b [] = []
 onto b (w ∷ ws) = record { line = w.line; text = b ∷ w.text } ∷ ws
 
--- a word of one byte in front of others
+-- puts a word of one byte in front of the others
 abbrev pub alone : ℕ → ℕ → List Word → List Word
 alone line b ws = record { line = line; text = b ∷ [] } ∷ ws
 
--- the words of bytes from this line on, inside a comment or not; a comment goes from # to the end of its line
+-- the words of bytes whose first line has this number; whether they begin inside a comment, which goes from # to the end of its line
 abbrev pub words_from : Bool → ℕ → List ℕ → List Word
 words_from comment line [] = []
 words_from true line (b ∷ bytes) = if b == 10 then words_from false (line + 1) bytes else words_from true line bytes
@@ -42,7 +42,7 @@ words_from false line (b ∷ bytes) =
 abbrev pub words : List ℕ → List Word
 words bytes = words_from false 1 bytes
 
--- what is left of a text: its words, and the line of the word before them
+-- the rest of a text: the words that are left, and the line of the last word read
 pub record Rest : Type 0 where
   pub line : ℕ
   pub words : List Word

@@ -1,4 +1,4 @@
-//! Where the reading of a text has come.
+//! A place in a text that is read word by word.
 
 ghost use Rattle.std.specs.Prelude.{◌≡◌, ◌<◌, ◌∷◌, [], length, MatchOption, IfSome};
 ghost use Rattle.crush_words.specs.Words as spec;
@@ -7,7 +7,7 @@ use crate::lex::first_word;
 use crate::word::Word;
 use std::marker::Model;
 
-/// What is left of a text. A contract sees the words that are left, and the line of the word before them.
+/// The rest of a text that is read word by word. Contracts see the words that are left, and the line of the last word read.
 #[derive(Drop)]
 pub struct Cursor<'a> {
     line: usize,
@@ -26,7 +26,7 @@ impl<'a> Model for Cursor<'a> {
 }
 
 impl<'a> Cursor<'a> {
-    /// Before a text.
+    /// The start of a text.
     pub fn new(text: &'a [u8]) -> Self
         ensures { result ≡ record { line = 1; words = spec.words text.now } }
     {
@@ -36,14 +36,14 @@ impl<'a> Cursor<'a> {
         }
     }
 
-    /// The line of the word before, or 1.
+    /// The line of the last word read, or 1.
     pub fn line(&self) -> usize
         ensures { result ≡ self.now.line }
     {
         self.line
     }
 
-    /// The next word, and what is left behind it.
+    /// The next word and the rest after it, or none at the end of the text.
     pub fn next(&self) -> Option<(Word<'a>, Cursor<'a>)>
         ensures { MatchOption result (self.now.words ≡ []) (λ r. (self.now.words ≡ r.0 ∷ r.1.words) × (r.1.line ≡ r.0.line)) }
     {

@@ -1,4 +1,4 @@
-//! The first word of bytes.
+//! Finding the first word in bytes.
 
 ghost use Rattle.std.specs.Prelude.{◌≡◌, ◌≤◌, ◌<◌, ◌+◌, ◌^◌, ℕ, [], ◌∷◌, length, take, drop, IfSome, MatchOption, true, false};
 ghost use Rattle.crush_map.specs.Faults.{is_name_byte};
@@ -13,7 +13,7 @@ fn is_name_byte(byte: u8) -> bool
     matches!(byte, b'a'..=b'z' | b'A'..=b'Z' | b'0'..=b'9' | b'-' | b'_' | b'.')
 }
 
-/// How many bytes of names come first.
+/// How many bytes at the front are allowed in names.
 fn run_len(bytes: &[u8]) -> usize
     ensures value { result ≡ scan.run_len bytes.now }
     ensures bound { result ≤ length bytes.now }
@@ -34,7 +34,7 @@ fn is_blank(byte: u8) -> bool
     matches!(byte, b' ' | b'\t' | b'\r')
 }
 
-/// How many bytes the word has that comes first.
+/// The length of the word at the front, in bytes.
 fn word_len(bytes: &[u8]) -> usize
     requires { scan.starts_word bytes.now ≡ true }
     ensures bound { result ≤ length bytes.now }
@@ -45,7 +45,7 @@ fn word_len(bytes: &[u8]) -> usize
     if len == 0 { 1 } else { len }
 }
 
-/// The first word of bytes from this line on, and what follows it.
+/// The first word of bytes whose first line has this number, and what follows the word.
 pub(crate) fn first_word<'a>(line: usize, text: &'a [u8]) -> Option<(Word<'a>, &'a [u8])>
     requires { line + length text.now < 2 ^ 64 }
     ensures value { MatchOption result (spec.words_from false line text.now ≡ []) (λ r. spec.words_from false line text.now ≡ r.0 ∷ spec.words_from false r.0.line r.1.now) }

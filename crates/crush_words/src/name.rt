@@ -1,10 +1,10 @@
-//! Names as they stand in a text.
+//! Names in a text.
 
 ghost use Rattle.std.specs.Prelude.{◌≡◌};
 
 use std::marker::Model;
 
-/// A name that lies in a text. A contract sees its bytes.
+/// A name, borrowed from a text. Contracts see its bytes.
 #[derive(Drop)]
 pub struct Name<'a> {
     text: &'a str,

@@ -1,4 +1,4 @@
-//! Numbers as words say them.
+//! Numbers in decimal.
 
 ghost use Rattle.std.specs.Prelude.{◌≡◌, ◌<◌, ◌≤◌, ◌^◌, ◌-◌, length, true, IfSome};
 ghost use Rattle.std.specs.List.{list_all};
@@ -24,7 +24,7 @@ fn digit(byte: u8) -> u64
     u64::from(byte - b'0')
 }
 
-/// The number that digits say.
+/// The number that digits write.
 #[tactic(auto, using(crate::proofs::Digits::more_below, crate::proofs::Digits::first_is, crate::proofs::Digits::others_are))]
 fn number(text: &[u8]) -> u64
     requires digits { list_all spec.is_digit text.now ≡ true }
@@ -39,7 +39,7 @@ fn number(text: &[u8]) -> u64
     number
 }
 
-/// The number that 1 to 10 digits say.
+/// The number that 1 to 10 digits write; none for any other text.
 #[tactic(auto, using(crate::proofs::Digits::below_ten), unfolding(crate::specs::Numbers::number_of))]
 pub fn number_from_text(text: &[u8]) -> Option<u64>
     ensures value { result ≡ spec.number_of text.now }
@@ -52,7 +52,7 @@ pub fn number_from_text(text: &[u8]) -> Option<u64>
     }
 }
 
-/// The integer that 1 to 10 digits say, with or without a minus before them.
+/// The integer that 1 to 10 digits write, with or without a minus before them; none for any other text.
 #[tactic(auto, unfolding(crate::specs::Numbers::integer_of))]
 pub fn integer_from_text(text: &[u8]) -> Option<i64>
     ensures { result ≡ spec.integer_of text.now }

@@ -4,7 +4,7 @@ ghost use Rattle.std.specs.Prelude.{◌≡◌};
 
 use std::marker::Model;
 
-/// A run of bytes that names may have, or one other byte, as a brace. A contract sees its bytes and its line.
+/// A run of bytes that are allowed in names, or one other byte, such as a brace. Contracts see its bytes and its line.
 #[derive(Drop)]
 pub struct Word<'a> {
     line: usize,
@@ -26,7 +26,7 @@ impl<'a> Word<'a> {
         Word { line, text }
     }
 
-    /// The line on which it stands; the first one is 1.
+    /// The number of its line; the first line is 1.
     pub fn line(&self) -> usize
         ensures { result ≡ self.now.line }
     {

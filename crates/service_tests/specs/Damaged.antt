@@ -1,6 +1,6 @@
 -- The names of a store of the tests.
 use Rattle.std.specs.Prelude.{ℕ, ◌==◌, List, [], ◌∷◌, Bool, false, if◌then◌else◌, Option, Some, None}
-use Rattle.tenant_core.specs.Step.{fresh}
+use Rattle.tenant_core.specs.Effects.{fresh}
 use Rattle.tenant_core.specs.declared.state.TenantState.{TenantState}
 
 -- a name begins with this byte

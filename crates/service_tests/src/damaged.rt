@@ -1,7 +1,7 @@
 //! What a service answers where the data of some names is damaged.
 
 ghost use Rattle.std.specs.Prelude.{◌≡◌, IfOk};
-ghost use Rattle.tenant_core.specs.Step.{fresh};
+ghost use Rattle.tenant_core.specs.Effects.{fresh};
 ghost use Rattle.service_tests.specs.Damaged.{begins_with};
 
 use crush_app::Service;

@@ -1,4 +1,4 @@
--- What the body of a pick says is found exactly where the body is of the form.
+-- A pick is read from a body exactly where the body has the form of one.
 use Rattle.std.proofs.Common.{◌≡◌, ◌≢◌, ℕ, zero, suc, ◌^◌, ◌&&◌, ◌||◌, ◌==◌, ◌<◌, ◌≤◌, ℤ, pos, negsuc, List, [], ◌∷◌, length, Bool, true, false, not, nat_lt, nat_le, int_le, if◌then◌else◌, Option, Some, None, option_and_then, bytes_eq, refl, sym, ap, ◌∙◌, arith}
 use Rattle.std.specs.Bool.{Decides}
 use Rattle.std.specs.List.{All, AllPairs, list_any, list_all}
@@ -16,9 +16,9 @@ use Rattle.crush_map.specs.declared.ItemId.{ItemId}
 use Rattle.crush_map.specs.declared.Kind.{Kind}
 use Rattle.crush_map.specs.declared.Kind.TheVariants.{Uniform, List as ListKind, Tree}
 use Rattle.tenant_core.proofs.Finding.{Finds, finds_as, finds_both, finds_integer, finds_list, finds_natural, finds_object, finds_tested, finds_text, finds_three, finds_under, is_there}
-use Rattle.tenant_core.specs.Body.{weighed, entry_of, is_of_item, are_distinct, kind_named, kind_of, may_be, bucket_of, pick_of}
+use Rattle.tenant_core.specs.Picks.{weighed, entry_of, is_of_item, are_distinct, kind_of, is_valid, bucket_of, pick_of, IsItem, IsBucket, IsPickBody}
+use Rattle.crush_map.specs.Kinds.{kind_name, kind_named}
 use Rattle.tenant_core.specs.Forms.{IsText}
-use Rattle.tenant_core.specs.PickForm.{IsItem, kind_name, IsBucket, IsPickBody}
 
 -- ---- an item
 
@@ -53,7 +53,7 @@ finds_kind = record {
   found = λ d k is. rw (finds_text.found d (kind_name k) is) (named k);
 }
 
--- ---- what may be asked
+-- ---- valid buckets
 
 Decides-same : (z y : ℤ) → Decides (int_le z y && int_le y z) (y ≡ z)
 Decides-same z y = (λ h. grind (arith, ints), λ h. grind (arith, ints))
@@ -106,7 +106,7 @@ Decides-if_uniform Uniform b P h = (λ yes same. h.0 yes, λ holds. h.1 (holds r
 Decides-if_uniform ListKind b P h = (λ yes same. cc, λ holds. refl)
 Decides-if_uniform Tree b P h = (λ yes same. cc, λ holds. refl)
 
-record MayBe (b : BucketView) : Type 0 where
+record IsValid (b : BucketView) : Type 0 where
   some : 1 ≤ length b.entries
   few : length b.entries ≤ 1024
   distinct : AllPairs Differ b.entries
@@ -114,9 +114,9 @@ record MayBe (b : BucketView) : Type 0 where
   light : total_weight b.entries ≤ 4294967295
   equal : b.kind ≡ Uniform → HasEqualWeights b.entries
 
-Decides-may_be : (b : BucketView) → Decides (may_be b) (MayBe b)
-Decides-may_be b =
-    Decides-like (may_be b)
+Decides-is_valid : (b : BucketView) → Decides (is_valid b) (IsValid b)
+Decides-is_valid b =
+    Decides-like (is_valid b)
     (λ is. record { some = is.0.0.0.0.0; few = is.0.0.0.0.1; light = less is.0.0.0.1; others = is.0.0.1; distinct = is.0.1; equal = is.1 })
     (λ is. (((((is.some, is.few), let light = is.light in omega arith), is.others), is.distinct), is.equal))
     (Decides-and _ (not (is_uniform b.kind) || has_equal_weights b.entries)
@@ -157,7 +157,7 @@ finds_bucket = finds_as
     ))
     (finds_object (codes "id" ∷ codes "items" ∷ codes "kind" ∷ []) refl
     (λ d b is. (is_there (codes "id") d b.id.0 is.0.1, (is_there (codes "items") d b.entries is.0.2, (is_there (codes "kind") d b.kind is.0.0, tt))))
-    (finds_tested may_be MayBe (λ b. (Decides-may_be b).0) (λ b. (Decides-may_be b).1)
+    (finds_tested is_valid IsValid (λ b. (Decides-is_valid b).0) (λ b. (Decides-is_valid b).1)
     (finds_three (λ kind id es. record { id = record { 0 = id }; kind = kind; entries = es }) (λ b. b.kind) (λ b. b.id.0) (λ b. b.entries)
     (λ a b c. refl) (λ a b c. refl) (λ a b c. refl) (λ b. refl)
     (finds_under (codes "kind") finds_kind) (finds_under (codes "id") (finds_integer (negsuc 65535) (negsuc 0) refl)) (finds_under (codes "items") (finds_list finds_entry)))))

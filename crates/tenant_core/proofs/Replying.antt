@@ -6,7 +6,7 @@ use Rattle.tenant_core.specs.declared.reply.Problem.{Problem}
 use Rattle.tenant_core.specs.declared.reply.Problem.TheVariants.{BadRequest, NoPath, NoTenant, Method, Exists, TooLarge}
 use Rattle.tenant_core.specs.declared.state.TenantState.{TenantState}
 use Rattle.tenant_core.specs.Alone.{is_answered}
-use Rattle.tenant_core.specs.Reply.{Answer, refused, created, summary, dropped, picked, problem_status, reply}
+use Rattle.tenant_core.specs.Reply.{Answer, refused, success, created, problem_status, reply}
 use Rattle.tenant_core.specs.Request.{request_of}
 use Rattle.tenant_core.specs.Step.{step, decision_or_refusal}
 use Rattle.tenant_core.specs.StoreReply.{IsUnavailable, store_failed, store_damaged}
@@ -27,10 +27,8 @@ problem TooLarge = record { no_500 = refl; no_503 = refl }
 of_answer : (a : Answer) → IsOfAnswer (reply a).status
 unfolding reply
 of_answer (refused p) = problem p
-of_answer (created t) = record { no_500 = refl; no_503 = refl }
-of_answer (summary t n) = record { no_500 = refl; no_503 = refl }
-of_answer (dropped t) = record { no_500 = refl; no_503 = refl }
-of_answer (picked i) = record { no_500 = refl; no_503 = refl }
+of_answer (success body) = record { no_500 = refl; no_503 = refl }
+of_answer (created body) = record { no_500 = refl; no_503 = refl }
 
 pub reply-answered : (a : Answer) → is_answered (reply a) ≡ true
 reply-answered a = ap not (of_answer a).no_503

@@ -1,7 +1,6 @@
--- What calls are answered, and how an answer is replied: a status and compact JSON, keys in the order of their bytes.
-use Rattle.std.specs.Prelude.{ℕ, List, [], ◌∷◌, ℤ, codes}
+-- Answers to calls, and the replies that say them: a status and compact JSON, keys in the order of their bytes.
+use Rattle.std.specs.Prelude.{ℕ, List, [], ◌∷◌, codes}
 use Rattle.serde_json.specs.Data.{Data, Members, number, unsigned, string, object, no_members, member}
-use Rattle.serde_json.specs.Find.{of_integer}
 use Rattle.serde_json.specs.Written.{compact_text}
 use Rattle.tenant_core.specs.declared.reply.Reply.{Reply}
 use Rattle.tenant_core.specs.declared.reply.Problem.{Problem}
@@ -9,13 +8,11 @@ use Rattle.tenant_core.specs.declared.reply.Problem.TheVariants.{BadRequest, NoP
 
 -- ---- answers
 
--- what a call is answered; 500 and 503 are no answers
+-- the answer to a call; 500 and 503 are no answers
 pub data Answer : Type 0 where
-  refused : Problem → Answer  -- why it isn't done
-  created : List ℕ → Answer  -- the tenant of this name was made
-  summary : List ℕ → ℕ → Answer  -- what the tenant of this name has, at this epoch
-  dropped : List ℕ → Answer  -- the tenant of this name was removed
-  picked : ℤ → Answer  -- the item that was picked
+  refused : Problem → Answer  -- why nothing is done
+  success : Data → Answer  -- 200, with this body
+  created : Data → Answer  -- 201: something was created, with this body
 
 -- ---- replies
 
@@ -24,7 +21,7 @@ abbrev pub members_of : List (List ℕ × Data) → Members
 members_of [] = no_members
 members_of (m ∷ ms) = member m.0 m.1 (members_of ms)
 
-abbrev natural : ℕ → Data
+abbrev pub natural : ℕ → Data
 natural n = number (unsigned n)
 
 abbrev pub problem_status : Problem → ℕ
@@ -46,10 +43,8 @@ problem_code TooLarge = codes "too_large"
 -- the HTTP status
 abbrev pub status_of : Answer → ℕ
 status_of (refused problem) = problem_status problem
-status_of (created tenant) = 201
-status_of (summary tenant epoch) = 200
-status_of (dropped tenant) = 200
-status_of (picked item) = 200
+status_of (success body) = 200
+status_of (created body) = 201
 
 -- {"error": code}
 abbrev pub error : List ℕ → Data
@@ -58,12 +53,8 @@ error code = object (members_of ((codes "error", string code) ∷ []))
 -- the body
 abbrev pub json_of : Answer → Data
 json_of (refused problem) = error (problem_code problem)
-json_of (created tenant) = object (members_of ((codes "epoch", natural 0) ∷ (codes "tenant", string tenant) ∷ []))
-json_of (summary tenant epoch) =
-    object (members_of ((codes "devices", natural 0) ∷ (codes "epoch", natural epoch) ∷ (codes "pools", natural 0)
-    ∷ (codes "tenant", string tenant) ∷ (codes "versions", natural 0) ∷ []))
-json_of (dropped tenant) = object (members_of ((codes "dropped", string tenant) ∷ []))
-json_of (picked item) = object (members_of ((codes "item", number (of_integer item)) ∷ []))
+json_of (success body) = body
+json_of (created body) = body
 
 abbrev pub written : ℕ → Data → Reply
 written status d = record { status = status; body = compact_text d }
@@ -73,6 +64,6 @@ reply answer = written (status_of answer) (json_of answer)
 
 -- ---- where there is no answer
 
--- the reply where there is no memory for one: its text is left to whoever writes it out
+-- the reply for want of memory: its text is added where it is written out
 abbrev pub no_memory : Reply
 no_memory = record { status = 503; body = [] }

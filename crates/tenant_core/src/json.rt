@@ -1,13 +1,46 @@
-//! Reading a JSON value that has to be of some form.
+//! Reading bodies: bytes as a JSON value, and that value as one of a given form.
 
 ghost use Rattle.std.specs.Prelude.{◌≡◌, option_map};
 ghost use Rattle.serde_json.specs.Find.{as_str};
 ghost use Rattle.serde_json.specs.View.{view};
 ghost use Rattle.tenant_core.specs.Json as spec;
+ghost use Rattle.tenant_core.specs.Private.Reading.{Reads};
 
 use serde_json::Value;
+use std::alloc::{AllocError, Global};
 
-/// Whether the value is an object of so many keys.
+/// Why a request wasn't read.
+#[derive(Clone, Copy, Debug, PartialEq, Eq)]
+pub(crate) enum ReadError {
+    /// A name in the path or the body isn't of its form.
+    Malformed,
+    /// A growth was refused.
+    NoMemory,
+}
+
+impl From<AllocError> for ReadError {
+    ghost use Rattle.std.specs.Prelude.{◌≡◌};
+    ghost use Rattle.tenant_core.specs.declared.json.ReadError.TheVariants.{NoMemory};
+
+    ghost from_gives = { λ _ error. error ≡ NoMemory };
+
+    fn from(_error: AllocError) -> ReadError {
+        ReadError::NoMemory
+    }
+}
+
+/// The JSON value of a body.
+pub(crate) fn read_value(alloc: Global, body: &[u8]) -> Result<Value, ReadError>
+    ensures { Reads view result (spec.value_of body.now) }
+{
+    match Value::from_slice(alloc, body) {
+        Ok(value) => Ok(value),
+        Err(error) if error.is_memory() => Err(ReadError::NoMemory),
+        Err(_) => Err(ReadError::Malformed),
+    }
+}
+
+/// Whether the value is an object with this number of keys.
 pub(crate) fn has_keys(value: &Value, count: usize) -> bool
     ensures { result ≡ spec.has_keys count (view value.now) }
 {
@@ -17,7 +50,7 @@ pub(crate) fn has_keys(value: &Value, count: usize) -> bool
     members.len() == count
 }
 
-/// The whole number under a key, where it is at most the greatest.
+/// The whole number under a key, from 0 to `greatest`.
 pub(crate) fn natural(value: &Value, key: &str, greatest: u32) -> Option<u32>
     ensures { result ≡ spec.under key.now (spec.natural_of greatest) (view value.now) }
 {
@@ -29,7 +62,7 @@ pub(crate) fn natural(value: &Value, key: &str, greatest: u32) -> Option<u32>
     }
 }
 
-/// The whole number under a key, where it is between the bounds, or one of them.
+/// The whole number under a key, from `least` to `greatest`.
 pub(crate) fn integer(value: &Value, key: &str, least: i32, greatest: i32) -> Option<i32>
     ensures { result ≡ spec.under key.now (spec.integer_of least greatest) (view value.now) }
 {

@@ -2,27 +2,26 @@
 
 ghost use Rattle.std.specs.Prelude.{◌≡◌, ◌≢◌, ◌↔◌, ℕ, List, Option, Some, None};
 ghost use Rattle.serde_json.specs.Data.{Data};
-ghost use Rattle.tenant_core.specs.Body.{pick_of, pick_request_of};
 ghost use Rattle.tenant_core.specs.Forms.{IsJson};
-ghost use Rattle.tenant_core.specs.PickForm.{IsPickBody};
+ghost use Rattle.tenant_core.specs.Picks.{IsPickBody, pick_of, pick_request_of};
 ghost use Rattle.tenant_core.specs.Step.{step, tenant_of};
 ghost use Rattle.tenant_core.specs.declared.call.Call.{Call};
-ghost use Rattle.tenant_core.specs.declared.pick.PickRequest.{PickRequest};
+ghost use Rattle.tenant_core.specs.declared.picks.PickRequest.{PickRequest};
 ghost use Rattle.tenant_core.specs.declared.state.TenantState.{TenantState};
 
-/// No step answers 500 or 503: these stand for a store that can't serve, and for want of memory.
+/// No step has the status 500 or 503: these are for a store that fails, and for want of memory.
 pub fn no_step_answers_500_or_503()
     ensures no_500 { (call : Call) (s : Option TenantState) → (step call s).reply.status ≢ 500 }
     ensures no_503 { (call : Call) (s : Option TenantState) → (step call s).reply.status ≢ 503 }
 {}
 
-/// A call of no tenant has the same reply whatever state it is made on, and leaves that state.
+/// A call of no tenant has one reply on every state, and leaves the state as it is.
 pub fn a_call_of_no_tenant_stands_alone()
     ensures reply { (call : Call) (s : Option TenantState) → tenant_of call ≡ None → (step call s).reply ≡ (step call None).reply }
     ensures state { (call : Call) (s : Option TenantState) → tenant_of call ≡ None → (step call s).state ≡ s }
 {}
 
-/// A pick is read of a body exactly where the body is of its form, and says that pick; any other body is refused.
+/// A pick is read from a body exactly where the body has its form and says that pick; any other body is refused.
 pub fn picks_are_of_the_form()
     ensures value { (d : Data) (p : PickRequest) → (pick_of d ≡ Some p) ↔ IsPickBody d p }
     ensures body { (body : List ℕ) (p : PickRequest) → (pick_request_of body ≡ Some p) ↔ IsJson IsPickBody body p }

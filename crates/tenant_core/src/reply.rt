@@ -1,11 +1,11 @@
-//! Replies.
+//! Replies: a status, and a body of compact JSON.
 
 ghost use Rattle.std.specs.Prelude.{◌≡◌, false, IfOk};
 ghost use Rattle.serde_json.specs.View.{view};
 ghost use Rattle.serde_json.specs.Written.{has_float};
 ghost use Rattle.tenant_core.specs.Reply as spec;
 
-use crush_map::{ItemId, Text};
+use crush_map::Text;
 use serde_json::{Value, json};
 use std::alloc::{AllocError, Global};
 
@@ -92,69 +92,25 @@ pub fn refused(alloc: Global, problem: Problem) -> Result<Reply, AllocError>
 
 // ---- answers
 
-fn creation(alloc: Global, tenant: &str) -> Result<Value, AllocError>
-    ensures { IfOk result (λ v. view v ≡ spec.json_of (spec.created tenant.now)) }
-{
-    json!(in alloc; {"epoch": 0u64, "tenant": tenant})
-}
-
-/// The reply to the creation of a tenant.
+/// The reply 200: the request is answered by this value.
 #[tactic(auto, unfolding(crate::specs::Reply::reply))]
-pub(crate) fn created(alloc: Global, tenant: &str) -> Result<Reply, AllocError>
-    ensures { IfOk result (λ r. r ≡ spec.reply (spec.created tenant.now)) }
+pub(crate) fn success(alloc: Global, value: &Value) -> Result<Reply, AllocError>
+    requires { has_float (view value.now) ≡ false }
+    ensures { IfOk result (λ r. r ≡ spec.reply (spec.success (view value.now))) }
 {
-    written(alloc, 201, &creation(alloc, tenant)?)
+    written(alloc, 200, value)
 }
 
-fn contents(alloc: Global, tenant: &str, epoch: u64) -> Result<Value, AllocError>
-    ensures { IfOk result (λ v. view v ≡ spec.json_of (spec.summary tenant.now epoch)) }
-{
-    json!(in alloc; {
-        "devices": 0u64,
-        "epoch": epoch,
-        "pools": 0u64,
-        "tenant": tenant,
-        "versions": 0u64
-    })
-}
-
-/// The reply to the question what a tenant has.
+/// The reply 201: something was created, as this value says.
 #[tactic(auto, unfolding(crate::specs::Reply::reply))]
-pub(crate) fn summary(alloc: Global, tenant: &str, epoch: u64) -> Result<Reply, AllocError>
-    ensures { IfOk result (λ r. r ≡ spec.reply (spec.summary tenant.now epoch)) }
+pub(crate) fn created(alloc: Global, value: &Value) -> Result<Reply, AllocError>
+    requires { has_float (view value.now) ≡ false }
+    ensures { IfOk result (λ r. r ≡ spec.reply (spec.created (view value.now))) }
 {
-    written(alloc, 200, &contents(alloc, tenant, epoch)?)
+    written(alloc, 201, value)
 }
 
-fn removal(alloc: Global, tenant: &str) -> Result<Value, AllocError>
-    ensures { IfOk result (λ v. view v ≡ spec.json_of (spec.dropped tenant.now)) }
-{
-    json!(in alloc; {"dropped": tenant})
-}
-
-/// The reply to the removal of a tenant.
-#[tactic(auto, unfolding(crate::specs::Reply::reply))]
-pub(crate) fn dropped(alloc: Global, tenant: &str) -> Result<Reply, AllocError>
-    ensures { IfOk result (λ r. r ≡ spec.reply (spec.dropped tenant.now)) }
-{
-    written(alloc, 200, &removal(alloc, tenant)?)
-}
-
-fn choice(alloc: Global, item: ItemId) -> Result<Value, AllocError>
-    ensures { IfOk result (λ v. view v ≡ spec.json_of (spec.picked item.0)) }
-{
-    json!(in alloc; {"item": i64::from(item.0)})
-}
-
-/// The reply to a pick.
-#[tactic(auto, unfolding(crate::specs::Reply::reply))]
-pub(crate) fn picked(alloc: Global, item: ItemId) -> Result<Reply, AllocError>
-    ensures { IfOk result (λ r. r ≡ spec.reply (spec.picked item.0)) }
-{
-    written(alloc, 200, &choice(alloc, item)?)
-}
-
-/// The reply where there is no memory: 503. Takes none.
+/// The reply where there is no memory: 503. Allocates nothing.
 pub fn no_memory(alloc: Global) -> Reply
     ensures { result ≡ spec.no_memory }
 {

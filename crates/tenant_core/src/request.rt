@@ -1,49 +1,30 @@
-//! What a call asks.
+//! Reading a call as a request: its checks in their order, and the tables of operations and actions.
 
-ghost use Rattle.std.specs.Prelude.{◌≡◌, IfOk};
-ghost use Rattle.std.specs.List.{before_first, after_first};
+ghost use Rattle.std.specs.Prelude.{◌≡◌, IfOk, option_map};
 ghost use Rattle.tenant_core.specs.CallParts.{call_of};
-ghost use Rattle.tenant_core.specs.Reads.{Reads};
+ghost use Rattle.tenant_core.specs.Private.Reading.{Reads};
 ghost use Rattle.tenant_core.specs.Request as spec;
 
-use crate::body::{Unread, read_pick};
 use crate::call::CallParts;
-use crate::pick::PickRequest;
+use crate::json::ReadError;
+use crate::picks::{self, PickRequest};
 use crate::reply::Problem;
-use crate::route::{Route, Routes};
+use crate::route::{Route, Routes, Target};
+use crate::tenants::{self, TenantOperation};
 use crush_map::{Text, is_name};
 use std::alloc::{AllocError, Global};
 
-/// What a method means on a route.
+/// The operations: what the methods mean on the routes.
 #[derive(Clone, Copy, Debug, PartialEq, Eq)]
 pub enum Operation {
-    /// PUT `/t/{t}`
-    MakeTenant,
-    /// GET `/t/{t}`
-    TellTenant,
-    /// DELETE `/t/{t}`
-    RemoveTenant,
-    /// POST `/t/{t}/pick`
-    PickItem,
+    Tenant(TenantOperation),
+    Pick,
 }
 
-/// What a request asks of its tenant.
+/// The actions: an operation with what its body says.
 #[derive(Drop)]
 pub enum Action {
-    /// The tenant is made.
-    Create,
-    /// The tenant is removed with everything of it.
-    Remove,
-    /// The tenant is asked, and stays as it is.
-    Ask(Query),
-}
-
-/// A question to a tenant that is there.
-#[derive(Drop)]
-pub enum Query {
-    /// What the tenant has.
-    Summary,
-    /// What a bucket picks.
+    Tenant(TenantOperation),
     Pick(PickRequest),
 }
 
@@ -55,24 +36,13 @@ pub struct Request {
     pub action: Action,
 }
 
-// ---- the path
+// ---- the tenant
 
-fn at_slash(path: &str) -> (&str, &str)
-    ensures before { result.0.now ≡ before_first spec.is_slash path.now }
-    ensures after { result.1.now ≡ after_first spec.is_slash path.now }
+fn tenant_in<'p>(target: &Target<'_, 'p>) -> Option<&'p str>
+    ensures { option_map (λ name. name.now) result ≡ spec.tenant_in target.now }
 {
-    path.split_once('/').unwrap_or((path, ""))
-}
-
-/// A part of a path between slashes; part 0 is what stands before the first slash.
-pub fn part(path: &str, number: usize) -> &str
-    ensures { result.now ≡ spec.part number path.now }
-{
-    let (first, others) = at_slash(path);
-    match number {
-        0 => first,
-        _ => part(others, number - 1),
-    }
+    let name = target.parameter("t")?;
+    if is_name(name) { Some(name) } else { None }
 }
 
 // ---- the method
@@ -81,57 +51,43 @@ fn operation_on(route: Route, method: &[u8]) -> Option<Operation>
     ensures { result ≡ spec.operation_of route method.now }
 {
     match route {
-        Route::Tenant => on_a_tenant(method),
-        Route::Pick => (method == b"POST".as_slice()).then_some(Operation::PickItem),
-    }
-}
-
-fn on_a_tenant(method: &[u8]) -> Option<Operation>
-    ensures { result ≡ spec.operation_of Route.Tenant method.now }
-{
-    if method == b"PUT".as_slice() {
-        Some(Operation::MakeTenant)
-    } else if method == b"GET".as_slice() {
-        Some(Operation::TellTenant)
-    } else if method == b"DELETE".as_slice() {
-        Some(Operation::RemoveTenant)
-    } else {
-        None
+        Route::Tenant => Some(Operation::Tenant(tenants::operation_of(method)?)),
+        Route::Pick => picks::has_method(method).then_some(Operation::Pick),
     }
 }
 
 // ---- the body
 
-fn if_empty(body: &[u8], action: Action) -> Result<Action, Unread>
+fn if_empty(body: &[u8], action: Action) -> Result<Action, ReadError>
     ensures { Reads (λ a. a) result (spec.if_empty body.now action) }
 {
     if body.is_empty() {
         Ok(action)
     } else {
-        Err(Unread::Form)
+        Err(ReadError::Malformed)
     }
 }
 
-fn read_action(alloc: Global, operation: Operation, body: &[u8]) -> Result<Action, Unread>
+fn read_action(alloc: Global, operation: Operation, body: &[u8]) -> Result<Action, ReadError>
     ensures { Reads (λ a. a) result (spec.action_of operation body.now) }
 {
     match operation {
-        Operation::MakeTenant => if_empty(body, Action::Create),
-        Operation::TellTenant => if_empty(body, Action::Ask(Query::Summary)),
-        Operation::RemoveTenant => if_empty(body, Action::Remove),
-        Operation::PickItem => Ok(Action::Ask(Query::Pick(read_pick(alloc, body)?))),
+        Operation::Tenant(operation) => if_empty(body, Action::Tenant(operation)),
+        Operation::Pick => Ok(Action::Pick(picks::read_pick(alloc, body)?)),
     }
 }
 
 // ---- all of it
 
-fn in_form(alloc: Global, path: &str, body: &[u8], operation: Operation) -> Result<Request, Unread>
-    ensures { Reads (λ r. r) result (spec.in_form path.now body.now operation) }
+fn in_form(
+    alloc: Global,
+    target: &Target<'_, '_>,
+    body: &[u8],
+    operation: Operation,
+) -> Result<Request, ReadError>
+    ensures { Reads (λ r. r) result (spec.in_form target.now body.now operation) }
 {
-    let name = part(path, 2);
-    if !is_name(name) {
-        return Err(Unread::Form);
-    }
+    let name = tenant_in(target).ok_or(ReadError::Malformed)?;
     let action = read_action(alloc, operation, body)?;
     Ok(Request {
         tenant: Text::copy(alloc, name)?,
@@ -139,11 +95,11 @@ fn in_form(alloc: Global, path: &str, body: &[u8], operation: Operation) -> Resu
     })
 }
 
-/// The greatest body, in bytes.
+/// The longest body, in bytes.
 const BODY_LIMIT: usize = 1_048_576;
 
-/// What a call asks of which tenant, or why it is refused: the first of its checks that fails, in the order length of the
-/// body, route, method, the tenant's name and the body's form.
+/// The request of a call, or the problem of its first check that fails, in the order: length of the body, route, method,
+/// the tenant's name, form of the body.
 #[tactic(auto, unfolding(crate::specs::Request::request_of))]
 pub fn read_request(
     alloc: Global,
@@ -155,15 +111,15 @@ pub fn read_request(
     if call.body.len() > BODY_LIMIT {
         return Ok(Err(Problem::TooLarge));
     }
-    let Some(route) = routes.find(call.path) else {
+    let Some(target) = routes.find(call.path) else {
         return Ok(Err(Problem::NoPath));
     };
-    let Some(operation) = operation_on(route, call.method) else {
+    let Some(operation) = operation_on(target.route(), call.method) else {
         return Ok(Err(Problem::Method));
     };
-    match in_form(alloc, call.path, call.body, operation) {
+    match in_form(alloc, &target, call.body, operation) {
         Ok(request) => Ok(Ok(request)),
-        Err(Unread::Form) => Ok(Err(Problem::BadRequest)),
-        Err(Unread::Memory) => Err(AllocError),
+        Err(ReadError::Malformed) => Ok(Err(Problem::BadRequest)),
+        Err(ReadError::NoMemory) => Err(AllocError),
     }
 }

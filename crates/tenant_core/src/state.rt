@@ -1,15 +1,17 @@
-//! The state of one tenant, and what a request does to it.
+//! The state of one tenant, and the decision what an action does to it.
 
 ghost use Rattle.std.specs.Prelude.{◌≡◌, IfOk, option_map};
-ghost use Rattle.tenant_core.specs.Step as spec;
-ghost use Rattle.tenant_core.specs.Step.{Fits, decision_on};
+ghost use Rattle.tenant_core.specs.Effects as spec;
+ghost use Rattle.tenant_core.specs.Effects.{Fits};
 ghost use Rattle.tenant_core.specs.Reply.{reply};
+ghost use Rattle.tenant_core.specs.Step.{decision_on};
 
-use crate::reply::{self, Problem, Reply, refused};
-use crate::request::{Action, Query};
+use crate::reply::{Problem, Reply, refused};
+use crate::request::Action;
+use crate::{picks, tenants};
 use std::alloc::{AllocError, Global};
 
-/// What a tenant that is there keeps. Its epoch counts the changes that were accepted.
+/// The state of a tenant that exists. Its epoch counts the changes that were accepted.
 #[derive(Drop)]
 pub struct TenantState {
     pub epoch: u64,
@@ -22,7 +24,7 @@ pub struct Change {
 }
 
 impl TenantState {
-    /// The state of a tenant that was just made.
+    /// The state of a tenant that was just created.
     pub fn fresh() -> TenantState
         ensures { result ≡ spec.fresh }
     {
@@ -39,12 +41,12 @@ impl TenantState {
     }
 }
 
-/// What an answered request does to its tenant.
+/// What a request does to its tenant.
 #[derive(Drop)]
 pub enum Effect {
     /// The tenant keeps its state, or stays absent.
     Keep,
-    /// The tenant, which is absent, is made.
+    /// The tenant, which is absent, is created.
     Create,
     /// The tenant's state is changed.
     Change(Change),
@@ -59,7 +61,7 @@ pub struct Decision {
     pub reply: Reply,
 }
 
-/// Decides what a request on a tenant does, from the tenant's state, or from its absence.
+/// Decides what an action does to a tenant, from the tenant's state, or from its absence (`None`): the table of all actions.
 pub fn decide(
     alloc: Global,
     tenant: &str,
@@ -70,69 +72,14 @@ pub fn decide(
     ensures reply { IfOk result (λ d. d.reply ≡ reply (decision_on tenant.now action.now (option_map (λ s. s.now) state.entry)).answer) }
     ensures fits { IfOk result (λ d. Fits d.effect (option_map (λ s. s.now) state.entry)) }
 {
-    match state {
-        None => decide_absent(alloc, tenant, action),
-        Some(state) => decide_present(alloc, tenant, state, action),
-    }
-}
-
-fn decide_absent(alloc: Global, tenant: &str, action: &Action) -> Result<Decision, AllocError>
-    ensures effect { IfOk result (λ d. d.effect ≡ (spec.on_absent tenant.now action.now).effect) }
-    ensures reply { IfOk result (λ d. d.reply ≡ reply (spec.on_absent tenant.now action.now).answer) }
-    ensures fits { IfOk result (λ d. Fits d.effect None) }
-{
-    Ok(match action {
-        Action::Create => Decision {
-            effect: Effect::Create,
-            reply: reply::created(alloc, tenant)?,
-        },
-        Action::Remove | Action::Ask(_) => Decision {
+    match action {
+        Action::Tenant(operation) => tenants::decide(alloc, tenant, state, *operation),
+        Action::Pick(pick) => Ok(Decision {
             effect: Effect::Keep,
-            reply: refused(alloc, Problem::NoTenant)?,
-        },
-    })
-}
-
-fn decide_present(
-    alloc: Global,
-    tenant: &str,
-    state: &TenantState,
-    action: &Action,
-) -> Result<Decision, AllocError>
-    ensures effect { IfOk result (λ d. d.effect ≡ (spec.on_present tenant.now state.now action.now).effect) }
-    ensures reply { IfOk result (λ d. d.reply ≡ reply (spec.on_present tenant.now state.now action.now).answer) }
-    ensures fits { IfOk result (λ d. Fits d.effect (Some state.now)) }
-{
-    Ok(match action {
-        Action::Create => Decision {
-            effect: Effect::Keep,
-            reply: refused(alloc, Problem::Exists)?,
-        },
-        Action::Remove => Decision {
-            effect: Effect::Remove,
-            reply: reply::dropped(alloc, tenant)?,
-        },
-        Action::Ask(query) => Decision {
-            effect: Effect::Keep,
-            reply: answer(alloc, tenant, state, query)?,
-        },
-    })
-}
-
-/// The reply to a question, which changes nothing.
-pub fn answer(
-    alloc: Global,
-    tenant: &str,
-    state: &TenantState,
-    query: &Query,
-) -> Result<Reply, AllocError>
-    ensures { IfOk result (λ r. r ≡ reply (spec.answer tenant.now state.now query.now)) }
-{
-    match query {
-        Query::Summary => reply::summary(alloc, tenant, state.epoch),
-        Query::Pick(pick) => {
-            let item = pick.bucket.pick(alloc, pick.x, pick.r)?;
-            reply::picked(alloc, item)
-        }
+            reply: match state {
+                None => refused(alloc, Problem::NoTenant)?,
+                Some(_) => picks::answer(alloc, pick)?,
+            },
+        }),
     }
 }

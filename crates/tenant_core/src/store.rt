@@ -1,9 +1,9 @@
-//! Where the states of tenants are kept.
+//! The store of tenants' states: what one has to do, and the replies where it fails.
 
 ghost use Rattle.std.specs.Prelude.{◌≡◌, ◌≢◌, ◌⊎◌, ◌↔◌, ℕ, List, Option, Some, None, IfOk, OnOk, OnErr, option_map};
 ghost use Rattle.tenant_core.specs.declared.state.TenantState.{TenantState};
 ghost use Rattle.tenant_core.specs.States.{IsDamaged, Same};
-ghost use Rattle.tenant_core.specs.Step.{fresh, after};
+ghost use Rattle.tenant_core.specs.Effects.{fresh, after};
 ghost use Rattle.tenant_core.specs.StoreReply as spec;
 
 use crate::reply::{Reply, error, no_memory, written};
@@ -11,16 +11,16 @@ use crate::state::{Change, TenantState};
 use std::alloc::{AllocError, Global};
 use std::rc::Rc;
 
-/// Why a store couldn't serve.
+/// Why a call of a store failed.
 #[derive(Clone, Copy, Debug, PartialEq, Eq)]
 pub enum StoreFault {
     /// A growth was refused.
     NoMemory,
-    /// The store has no room.
+    /// The store is full.
     Full,
-    /// What the store has of this tenant is no state.
+    /// The tenant's data isn't that of any state.
     Damaged,
-    /// Another fault of what the store stands on.
+    /// Another fault, as of the disk below the store.
     Failed,
 }
 
@@ -35,16 +35,16 @@ impl From<AllocError> for StoreFault {
     }
 }
 
-/// A store of tenants' states, one for each name. It keeps the allocator that its constructor was given.
+/// A store of tenants' states by name. It keeps the allocator that its constructor was given.
 ///
-/// Two relations say what a store means. Where it is honest, what it reads is what was written by it, and each name has one
-/// state, or is absent, or its data is damaged. Each call says what holds where the store is honest afterwards; it then was
-/// before. A refused call changes nothing, and no call changes another name.
+/// Two relations give a store its meaning. `is_honest`: what it reads is what it wrote. `has_state`: the state of a name. In an
+/// honest store each name has one state, or is absent, or has damaged data. Every clause of a call has the premise that the
+/// store is honest after the call; it then was honest before. A refused call changes nothing, and no call changes another name.
 pub trait TenantStore {
     /// What is read is what was written.
     ghost is_honest: { Self → Type 0 };
 
-    /// The name has this state, or is absent (`None`). A name whose data is damaged has neither.
+    /// The name has this state, or is absent (`None`). Neither holds of a name whose data is damaged.
     ghost has_state: { Self → List ℕ → Option TenantState → Type 0 };
 
     /// The state of a tenant, shared and not copied, or `None` where it is absent.
@@ -54,7 +54,7 @@ pub trait TenantStore {
         ensures same { is_honest self.new → Same (has_state self.old) (has_state self.new) }
         ensures honest { is_honest self.new → is_honest self.old };
 
-    /// Makes a tenant, which is absent.
+    /// Creates a tenant, which is absent.
     fn create(&mut self, name: &str) -> Result<(), StoreFault>
         requires { is_honest self.old → has_state self.old name.now None }
         ensures made { is_honest self.new → OnOk result (has_state self.new name.now (Some fresh)) }
@@ -63,7 +63,7 @@ pub trait TenantStore {
         ensures damaged { is_honest self.new → result ≢ Err StoreFault.Damaged }
         ensures honest { is_honest self.new → is_honest self.old };
 
-    /// Makes an accepted change of a tenant, which is there.
+    /// Makes an accepted change of a tenant, which exists.
     fn commit(&mut self, name: &str, change: &Change) -> Result<(), StoreFault>
         requires { is_honest self.old → (s : TenantState) × has_state self.old name.now (Some s) }
         ensures made { is_honest self.new → (s : TenantState) → has_state self.old name.now (Some s) → OnOk result (has_state self.new name.now (Some (after change.now s))) }
@@ -72,7 +72,7 @@ pub trait TenantStore {
         ensures damaged { is_honest self.new → result ≢ Err StoreFault.Damaged }
         ensures honest { is_honest self.new → is_honest self.old };
 
-    /// Removes a tenant, which is there, with everything of it.
+    /// Removes a tenant, which exists, with everything of it.
     fn remove(&mut self, name: &str) -> Result<(), StoreFault>
         requires { is_honest self.old → (s : TenantState) × has_state self.old name.now (Some s) }
         ensures made { is_honest self.new → OnOk result (has_state self.new name.now None) }
@@ -109,8 +109,8 @@ fn store_failed(alloc: Global) -> Result<Reply, AllocError>
     written(alloc, 503, &error(alloc, "store_failed")?)
 }
 
-/// The reply where the store couldn't serve: 500 `store_damaged`, 503 `store_failed`, or 503 for want of memory,
-/// which may also stand in place of the others.
+/// The reply where a call of the store failed: 500 `store_damaged`, 503 `store_failed`, or 503 for want of memory,
+/// which may also come in place of the others.
 pub fn store_fault(alloc: Global, fault: StoreFault) -> Reply
     ensures { (result ≡ spec.store_fault fault) ⊎ (result ≡ spec.no_memory) }
 {

@@ -1,7 +1,7 @@
 use Rattle.std.proofs.Common.{◌≡◌, ◌*◌, suc, ◌+◌, ◌-◌, ◌<◌, ◌^◌, ◌++◌, [], ◌∷◌, List, ℕ, arith, ap, sym, ◌∙◌}
 use Rattle.std.proofs.Math.Nat.{pow-succ'}
 use Rattle.crush_bucket.specs.Bucket.{weight_within}
-use Rattle.crush_bucket.specs.Kept.{node_weights}
+use Rattle.crush_bucket.specs.Private.Kept.{node_weights}
 use Rattle.crush_bucket.proofs.Nodes.{nodes_split, joined}
 use Rattle.crush_bucket.proofs.tree.+push_nodes.Goals as goal
 

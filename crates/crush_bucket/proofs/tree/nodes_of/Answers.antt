@@ -1,7 +1,7 @@
 use Rattle.std.proofs.Common.{◌≡◌, suc, ◌++◌, [], ◌∷◌, List, ℕ, length, arith, ap, sym, ◌∙◌}
 use Rattle.std.proofs.lemmas.List.{append-nil}
 use Rattle.crush_bucket.proofs.Nodes.{nodes_within, length-node_weights}
-use Rattle.crush_bucket.specs.Kept.{node_weights, HasNodes}
+use Rattle.crush_bucket.specs.Private.Kept.{node_weights, HasNodes}
 use Rattle.crush_bucket.proofs.tree.nodes_of.Goals as goal
 
 pub returns : goal.returns

@@ -4,14 +4,14 @@ use Rattle.crush_choose.specs.Marks.{item_at, leaf_at}
 use Rattle.crush_choose.proofs.Answering.{indep_is, indep_rows}
 use Rattle.crush_choose.proofs.indep.choose_indep.Goals as goal
 
-pub play-requires-clause-places : goal.play-requires-clause-places
-play-requires-clause-places c = take-replicate c.args.call.now.n 32 None (omega arith)
+pub run_rounds-requires-clause-places : goal.run_rounds-requires-clause-places
+run_rounds-requires-clause-places c = take-replicate c.args.call.now.n 32 None (omega arith)
 
 pub returns-clause-there : goal.returns-clause-there
 returns-clause-there c = indep_is c.args.tables.now c.args.weights.now c.args.call.now
 
 pub returns-clause-only : goal.returns-clause-only
 returns-clause-only c = λ marks is. (
-  indep_rows (λ ms. map item_at ms) c.fill.new.items c.args.tables.now c.args.weights.now c.args.call.now c.play.new.marks marks c.fill.ensures.items c.play.ensures.value is,
-  indep_rows (λ ms. map leaf_at ms) c.fill.new.leaves c.args.tables.now c.args.weights.now c.args.call.now c.play.new.marks marks c.fill.ensures.leaves c.play.ensures.value is,
+  indep_rows (λ ms. map item_at ms) c.fill.new.items c.args.tables.now c.args.weights.now c.args.call.now c.run_rounds.new.marks marks c.fill.ensures.items c.run_rounds.ensures.value is,
+  indep_rows (λ ms. map leaf_at ms) c.fill.new.leaves c.args.tables.now c.args.weights.now c.args.call.now c.run_rounds.new.marks marks c.fill.ensures.leaves c.run_rounds.ensures.value is,
 )

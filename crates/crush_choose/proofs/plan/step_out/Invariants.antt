@@ -1,7 +1,7 @@
 use Rattle.std.proofs.Common.{◌≡◌, ◌≤◌, ◌-◌, ◌++◌, length, drop}
 use Rattle.crush_bucket.specs.Tables.{perms_of}
 use Rattle.crush_choose.specs.Rules.{step_out}
-use Rattle.crush_choose.specs.Runs.{call_of}
+use Rattle.crush_choose.specs.Private.Runs.{call_of}
 use Rattle.crush_choose.proofs.plan.step_out.Given as goal
 
 abbrev pub invariant-loop-slot : goal.invariant-loop-slot

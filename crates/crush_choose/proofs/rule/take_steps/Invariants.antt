@@ -1,7 +1,7 @@
 use Rattle.std.proofs.Common.{◌≡◌, drop}
 use Rattle.crush_bucket.specs.Tables.{perms_of}
 use Rattle.crush_choose.specs.Rules.{after_steps, start}
-use Rattle.crush_choose.specs.Runs.{state_of, IsRun}
+use Rattle.crush_choose.specs.Private.Runs.{state_of, IsRun}
 use Rattle.crush_choose.proofs.rule.take_steps.Given as goal
 
 abbrev pub invariant-loop-k : goal.invariant-loop-k

@@ -8,30 +8,30 @@ pub down-init : goal.down-init
 down-init c = record {
   in_range = c.requires.from;
   fits = c.requires.fits;
-  on = walk-start c.args.tables.now c.args.x (λ (b : ℕ). c.args.turn.start + step c.args.tables.now c.args.turn.numrep c.args.turn.round b) c.args.wanted c.args.from;
+  on = walk-start c.args.tables.now c.args.x (λ (b : ℕ). c.args.attempts.start + step c.args.tables.now c.args.attempts.numrep c.args.attempts.round b) c.args.wanted c.args.from;
 }
 
 pub returns-then-wanted-eq0-clause-value : goal.returns-then-wanted-eq0-clause-value
 returns-then-wanted-eq0-clause-value c =
-    let rr : ℕ → ℕ = λ b. c.args.turn.start + step c.args.tables.now c.args.turn.numrep c.args.turn.round b in
+    let rr : ℕ → ℕ = λ b. c.args.attempts.start + step c.args.tables.now c.args.attempts.numrep c.args.attempts.round b in
     let picks = walk-picks c.args.tables.now c.args.x rr c.args.wanted c.args.from c.down.bucket c.pick-item.result c.attempt_at-r.result c.down.invariant.on (sym c.is_empty.ensures ∙ c.if-is_empty.false) c.attempt_at-r.ensures.value c.pick-item.ensures.picked in
     sym (to_device c.args.tables.now c.args.x rr c.args.wanted c.args.from c.down.bucket c.pick-item.result c.attempt_at-r.result picks (sym c.in-None.ensures.value) c.if-wanted-eq0.true)
 
 pub returns-else-wanted-eq0-clause-value : goal.returns-else-wanted-eq0-clause-value
 returns-else-wanted-eq0-clause-value c =
-    let rr : ℕ → ℕ = λ b. c.args.turn.start + step c.args.tables.now c.args.turn.numrep c.args.turn.round b in
+    let rr : ℕ → ℕ = λ b. c.args.attempts.start + step c.args.tables.now c.args.attempts.numrep c.args.attempts.round b in
     let picks = walk-picks c.args.tables.now c.args.x rr c.args.wanted c.args.from c.down.bucket c.pick-item.result c.attempt_at-r.result c.down.invariant.on (sym c.is_empty.ensures ∙ c.if-is_empty.false) c.attempt_at-r.ensures.value c.pick-item.ensures.picked in
     sym (to_other c.args.tables.now c.args.x rr c.args.wanted c.args.from c.down.bucket c.pick-item.result c.attempt_at-r.result picks (sym c.in-None.ensures.value) c.if-wanted-eq0.false)
 
 pub returns-then-type_of-wanted-clause-value : goal.returns-then-type_of-wanted-clause-value
 returns-then-type_of-wanted-clause-value c =
-    let rr : ℕ → ℕ = λ b. c.args.turn.start + step c.args.tables.now c.args.turn.numrep c.args.turn.round b in
+    let rr : ℕ → ℕ = λ b. c.args.attempts.start + step c.args.tables.now c.args.attempts.numrep c.args.attempts.round b in
     let picks = walk-picks c.args.tables.now c.args.x rr c.args.wanted c.args.from c.down.bucket c.pick-item.result c.attempt_at-r.result c.down.invariant.on (sym c.is_empty.ensures ∙ c.if-is_empty.false) c.attempt_at-r.ensures.value c.pick-item.ensures.picked in
     sym (to_bucket c.args.tables.now c.args.x rr c.args.wanted c.args.from c.down.bucket c.pick-item.result c.attempt_at-r.result c.in-Some.below picks (sym c.in-Some.ensures.value) (sym c.type_of.ensures ∙ c.if-type_of-wanted.true))
 
 pub down-preserved : goal.down-preserved
 down-preserved c =
-    let rr : ℕ → ℕ = λ b. c.args.turn.start + step c.args.tables.now c.args.turn.numrep c.args.turn.round b in
+    let rr : ℕ → ℕ = λ b. c.args.attempts.start + step c.args.tables.now c.args.attempts.numrep c.args.attempts.round b in
     let picks = walk-picks c.args.tables.now c.args.x rr c.args.wanted c.args.from c.down.bucket c.pick-item.result c.attempt_at-r.result c.down.invariant.on (sym c.is_empty.ensures ∙ c.if-is_empty.false) c.attempt_at-r.ensures.value c.pick-item.ensures.picked in
     let numbered : bucket_numbered c.args.tables.now c.pick-item.result ≡ _ = sym c.in-Some.ensures.value in
     record {

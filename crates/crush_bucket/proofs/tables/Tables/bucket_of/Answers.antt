@@ -1,5 +1,5 @@
 use Rattle.std.proofs.Common.{◌≡◌, sym, ◌∙◌, rules}
-use Rattle.crush_bucket.specs.Laid.{IsLaid}
+use Rattle.crush_bucket.specs.Private.Laid.{IsLaid}
 use Rattle.crush_bucket.specs.Tables.{bucket_numbered}
 use Rattle.crush_bucket.proofs.Numbered.{numbered_within, none_of_device}
 use Rattle.crush_bucket.proofs.tables.Tables.bucket_of.Goals as goal

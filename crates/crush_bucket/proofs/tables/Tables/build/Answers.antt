@@ -1,6 +1,6 @@
 use Rattle.std.proofs.Common.{◌≡◌, refl, ◌∙◌}
 use Rattle.crush_bucket.specs.Tables.{tables_of}
-use Rattle.crush_bucket.specs.Laid.{IsLaid}
+use Rattle.crush_bucket.specs.Private.Laid.{IsLaid}
 use Rattle.crush_bucket.proofs.Validity.{HasSoundBuckets, all_fit, is_laid}
 use Rattle.crush_bucket.proofs.tables.Tables.build.Goals as goal
 

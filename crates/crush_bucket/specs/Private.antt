@@ -1,0 +1,6 @@
+-- What private clauses alone cite: how the code goes about it. No public clause rests on it.
+pub mod Descent
+pub mod Kept
+pub mod Laid
+pub mod Reached
+pub mod Rows

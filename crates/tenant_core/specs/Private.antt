@@ -1,0 +1,5 @@
+-- What private clauses and proofs alone cite: how the code goes about it. No public clause rests on it.
+pub mod Inserting
+pub mod Optional
+pub mod Performing
+pub mod Reading

@@ -1,0 +1,21 @@
+-- A request that was carried out on a store.
+use Rattle.std.specs.Prelude.{ℕ, ◌≡◌, ◌≢◌, ◌↔◌, List, Option}
+use Rattle.tenant_core.specs.Reply.{reply}
+use Rattle.tenant_core.specs.States.{States}
+use Rattle.tenant_core.specs.Effects.{after_effect}
+use Rattle.tenant_core.specs.Step.{decision}
+use Rattle.tenant_core.specs.declared.reply.Reply.{Reply}
+use Rattle.tenant_core.specs.declared.request.Request.{Request}
+use Rattle.tenant_core.specs.declared.state.TenantState.{TenantState}
+
+-- the state that was found decided the reply, and the state that the tenant has since; every other tenant keeps its own
+pub record Performs (r : Request) (old new : States) (replied : Reply) : Type 0 where
+  pub state : Option TenantState
+  pub found : old r.tenant state
+  pub reply : replied ≡ reply (decision r state).answer
+  pub left : new r.tenant (after_effect (decision r state).effect state)
+  pub others : (t : List ℕ) (s : Option TenantState) → t ≢ r.tenant → (old t s ↔ new t s)
+
+-- a name has one state at most
+abbrev pub HasOneState : States → Type 0
+HasOneState states = (t : List ℕ) (s u : Option TenantState) → states t s → states t u → s ≡ u

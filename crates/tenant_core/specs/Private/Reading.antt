@@ -1,0 +1,10 @@
+-- What was read from a body, or why nothing was.
+use Rattle.std.specs.Prelude.{◌≡◌, Option, Some, None, Result, Ok, Err, ⊤}
+use Rattle.tenant_core.specs.declared.json.ReadError.{ReadError}
+use Rattle.tenant_core.specs.declared.json.ReadError.TheVariants.{Malformed, NoMemory}
+
+-- a value is the one that the definition finds, a malformed body is one where it finds none, and want of memory says nothing of it
+abbrev pub Reads : {A B : Type 0} → (A → B) → Result A ReadError → Option B → Type 0
+Reads view (Ok a) found = found ≡ Some (view a)
+Reads view (Err Malformed) found = found ≡ None
+Reads view (Err NoMemory) found = ⊤
