@@ -1,19 +1,20 @@
 -- What is known of a bucket and of a rule that have no fault.
-use Rattle.std.proofs.Common.{◌≡◌, ◌∙◌, ◌≤◌, Bool, true, false, Option, Some, None, List, [], ◌∷◌, ◌++◌, ℕ, refl, ap, map, length, nat_lt, arith}
+use Rattle.std.proofs.Common.{◌≡◌, ◌∙◌, ◌≤◌, false, Option, Some, None, List, [], ◌∷◌, ℕ, refl, map, length, nat_lt, arith}
 use Rattle.std.proofs.lemmas.Bool.Decides.{nat_tests}
 use Rattle.std.specs.List.{filter_map, cons_option}
+use Rattle.crush_map.specs.declared.fault.FaultCode.{FaultCode}
 use Rattle.crush_map.specs.declared.fault.FaultCode.TheVariants.{M1, M7, M12}
 use Rattle.crush_map.specs.declared.draft.Device.{Device}
 use Rattle.crush_map.specs.declared.draft.Bucket.{Bucket}
 use Rattle.crush_map.specs.declared.draft.Step.{Step}
 use Rattle.crush_map.specs.Weights.{total_weight}
-use Rattle.crush_map.specs.Faults.{Known, first_of, or_else, ◌when◌, device_fault, device_checks, bucket_fault, bucket_checks, contents_fault, items_fault, no_ids, is_uniform, rule_fault, rule_head_fault, rule_head_checks, step_fault, steps_fault}
-use Rattle.crush_map.specs.Weights.{has_equal_weights}
+use Rattle.crush_map.specs.Faults.{Known, first_of, ◌when◌, device_fault, device_checks, bucket_fault, bucket_checks, contents_fault, items_fault, no_ids, rule_fault, rule_head_fault, rule_head_checks, steps_fault}
 use Rattle.crush_grammar.specs.declared.declaration.Setting.TheVariants as settings
 use Rattle.crush_grammar.specs.declared.declaration.DeclaredRule.{DeclaredRule}
 use Rattle.crush_grammar.specs.declared.declaration.DeclaredStep.{DeclaredStep}
 use Rattle.crush_grammar.specs.declared.declaration.DeclaredStep.TheVariants as steps
-use Rattle.crush_text.specs.Judging.{Declared, declared_step_fault, declared_rule_fault, kept_step_fault, step_of, rule_of}
+use Rattle.crush_grammar.specs.declared.declaration.DeclaredBucket.{DeclaredBucket}
+use Rattle.crush_text.specs.Judging.{Declared, at_line, declared_step_fault, declared_rule_fault, declared_bucket_fault, kept_step_fault, step_of, rule_of, bucket_of}
 use Rattle.crush_text.proofs.Checks.{first_none, second_none, both_none, passes, fails, last_of}
 
 at_most : (n m : ℕ) → nat_lt m n ≡ false → n ≤ m
@@ -36,6 +37,15 @@ light_by known b h =
 pub is_light : (known : Known) (b : Bucket) → bucket_fault known b ≡ None → total_weight b.items ≤ 4294967295
 unfolding bucket_fault
 is_light known b h = light_by known b (passes (bucket_checks known b) 8 (contents_fault known b.alg b.items) refl h)
+
+pub no_fault : (line : ℕ) (o : Option FaultCode) → at_line line o ≡ None → o ≡ None
+no_fault line None h = refl
+no_fault line (Some code) h = cc
+
+-- a bucket without a fault is one of the draft without one
+pub bucket_passes : (s : Declared) (b : DeclaredBucket) → declared_bucket_fault s b ≡ None → bucket_fault s.known (bucket_of s.draft b) ≡ None
+unfolding declared_bucket_fault
+bucket_passes s b h = no_fault b.head.line (bucket_fault s.known (bucket_of s.draft b)) (second_none _ _ h)
 
 -- ---- rules
 

@@ -1,1 +1,6 @@
 pub mod Joins
+pub mod Checks
+pub mod Kept
+pub mod Arranged
+pub mod Found
+pub mod Named

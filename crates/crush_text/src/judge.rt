@@ -11,7 +11,7 @@ ghost use Rattle.crush_grammar.specs.declared.declaration.DeclaredStep.TheVarian
 ghost use Rattle.crush_grammar.specs.declared.code.TextCode.TheVariants as codes;
 
 use crate::fit::{fitted, fitted_integer};
-use crate::places::{arranged, free_places, wrong_place};
+use crate::places::{arranged, free_places, with_item, wrong_place};
 use crate::tables::{BucketTable, DeviceTable, type_number};
 use crush_grammar::{
     Declaration, DeclaredBucket, DeclaredDevice, DeclaredItem, DeclaredRule, DeclaredStep,
@@ -137,11 +137,7 @@ impl Judge {
     {
         if is_named(self.named.as_slice(), declared.name) {
             Some(FaultCode::M3)
-        } else if !are_in_range(with_value(
-            self.tunables,
-            declared.name,
-            fitted(declared.value),
-        )) {
+        } else if !are_in_range(with_value(self.tunables, declared.name, fitted(declared.value))) {
             Some(FaultCode::M12)
         } else if is_local(declared.name) && declared.value != 0 {
             Some(FaultCode::M13)
@@ -246,7 +242,6 @@ impl Judge {
     }
 
     /// For each place the first item that names it.
-    #[tactic(none)]
     fn named_places(
         &self,
         alloc: Global,
@@ -257,14 +252,7 @@ impl Judge {
     {
         let mut named = free_places(alloc, items.len())?;
         for item in items {
-            if let Some(place) = item.place {
-                if place.number < named.len() as u64 {
-                    let number = place.number as usize;
-                    if named[number].is_none() {
-                        named[number] = Some(self.item_of(item));
-                    }
-                }
-            }
+            named = with_item(named, item.place, self.item_of(item));
         }
         Ok(named)
     }
@@ -287,7 +275,6 @@ impl Judge {
     }
 
     /// The items of a bucket in order of place.
-    #[tactic(none)]
     fn items_of(
         &self,
         alloc: Global,
@@ -297,53 +284,73 @@ impl Judge {
     {
         let named = self.named_places(alloc, items)?;
         let others = self.other_items(alloc, items)?;
-        arranged(alloc, named.as_slice(), others.as_slice())
+        let places = named.as_slice();
+        let rest = others.as_slice();
+        arranged(alloc, places, rest)
     }
 
     /// The bucket that is declared.
-    fn bucket_of(
-        &self,
-        alloc: Global,
-        declared: &DeclaredBucket<'_>,
-    ) -> Result<Bucket, AllocError>
+    fn bucket_of(&self, alloc: Global, declared: &DeclaredBucket<'_>) -> Result<Bucket, AllocError>
         ensures { IfOk result (λ bucket. bucket ≡ spec.bucket_of self.now.draft declared.now) }
     {
         let items = self.items_of(alloc, declared.items.as_slice())?;
         Ok(Bucket {
             id: ItemId(fitted_integer(declared.id)),
             name: Text::copy(alloc, declared.head.name.as_str())?,
-            kind_of: type_number(
-                self.types.as_slice(),
-                declared.head.type_name.as_str(),
-            ),
+            kind_of: type_number(self.types.as_slice(), declared.head.type_name.as_str()),
             alg: declared.alg,
             items: Listed::new(items),
         })
     }
 
+    /// The fault of a bucket, which makes this one of the draft.
+    #[tactic(auto, unfolding(crate::specs::Judging::declared_bucket_fault))]
+    fn bucket_fault(
+        &self,
+        alloc: Global,
+        declared: &DeclaredBucket<'_>,
+        bucket: &Bucket,
+    ) -> Result<Option<TextFault>, AllocError>
+        requires { bucket.now ≡ spec.bucket_of self.now.draft declared.now }
+        ensures { IfOk result (λ fault. fault ≡ spec.declared_bucket_fault self.now declared.now) }
+    {
+        if let Some(line) = wrong_place(alloc, declared.items.as_slice())? {
+            return Ok(Some(TextFault {
+                line,
+                code: TextCode::X5,
+            }));
+        }
+        match self.known.bucket_fault(alloc, bucket)? {
+            Some(code) => Ok(Some(at_line(declared.head.line, code))),
+            None => Ok(None),
+        }
+    }
+
+    /// With a bucket that has no fault.
+    fn with_bucket(mut self, alloc: Global, bucket: Bucket) -> Result<Self, AllocError>
+        requires { faults.bucket_fault self.known bucket ≡ None }
+        ensures { IfOk result (λ judge. judge ≡ record self { draft = record self.draft { buckets = self.draft.buckets ++ bucket ∷ [] }; known = faults.with_bucket self.known bucket }) }
+    {
+        self.known = self.known.with_bucket(alloc, &bucket)?;
+        self.buckets = self.buckets.with(alloc, bucket)?;
+        Ok(self)
+    }
+
     /// With a bucket, or its fault.
-    #[tactic(auto, using(crate::proofs::Kept::is_few, crate::proofs::Kept::is_light), unfolding(crate::specs::Judging::declared_bucket_fault))]
     fn declare_bucket(
-        mut self,
+        self,
         alloc: Global,
         declared: &DeclaredBucket<'_>,
     ) -> Result<Result<Self, TextFault>, AllocError>
         ensures fault { IfOk result (λ r. result_err r ≡ spec.declaration_fault self (kinds.Bucket declared.now)) }
         ensures declared { IfOk result (λ r. IfOk r (λ judge. judge ≡ spec.declare self (kinds.Bucket declared.now))) }
     {
-        if let Some(line) = wrong_place(alloc, declared.items.as_slice())? {
-            return Ok(Err(TextFault {
-                line,
-                code: TextCode::X5,
-            }));
-        }
         let bucket = self.bucket_of(alloc, declared)?;
-        if let Some(code) = self.known.bucket_fault(alloc, &bucket)? {
-            return Ok(Err(at_line(declared.head.line, code)));
+        let fault = self.bucket_fault(alloc, declared, &bucket)?;
+        match fault {
+            Some(fault) => Ok(Err(fault)),
+            None => Ok(Ok(self.with_bucket(alloc, bucket)?)),
         }
-        self.known = self.known.with_bucket(alloc, &bucket)?;
-        self.buckets = self.buckets.with(alloc, bucket)?;
-        Ok(Ok(self))
     }
 
     /// The step that is declared; steps that set local tries are dropped.
@@ -373,11 +380,7 @@ impl Judge {
         ensures { result ≡ spec.declared_step_fault self.now step.now }
     {
         if let DeclaredStep::Set(Setting::LocalTries | Setting::LocalFallbackTries, n) = step {
-            return if *n != 0 {
-                Some(FaultCode::M13)
-            } else {
-                None
-            };
+            return if *n != 0 { Some(FaultCode::M13) } else { None };
         }
         match self.step_of(step) {
             Some(kept) => self.known.step_fault(kept),
@@ -398,11 +401,7 @@ impl Judge {
     }
 
     /// The steps that are declared.
-    fn steps_of(
-        &self,
-        alloc: Global,
-        steps: &[DeclaredStep<'_>],
-    ) -> Result<Vec<Step>, AllocError>
+    fn steps_of(&self, alloc: Global, steps: &[DeclaredStep<'_>]) -> Result<Vec<Step>, AllocError>
         ensures { IfOk result (λ v. v.items ≡ filter_map (spec.step_of self.now.draft) steps.now) }
     {
         let mut kept = Vec::new(alloc);
@@ -412,6 +411,19 @@ impl Judge {
             }
         }
         Ok(kept)
+    }
+
+    /// The rule that is declared.
+    fn rule_of(&self, alloc: Global, declared: &DeclaredRule<'_>) -> Result<Rule, AllocError>
+        ensures { IfOk result (λ rule. rule ≡ spec.rule_of self.now.draft declared.now) }
+    {
+        let steps = self.steps_of(alloc, declared.steps.as_slice())?;
+        Ok(Rule {
+            id: fitted(declared.id),
+            name: Text::copy(alloc, declared.name.as_str())?,
+            erasure: declared.erasure,
+            steps: Listed::new(steps),
+        })
     }
 
     /// The fault of a rule, which makes this one of the draft.
@@ -426,29 +438,30 @@ impl Judge {
         }
     }
 
+    /// With a rule that has no fault.
+    fn with_rule(mut self, alloc: Global, rule: Rule) -> Result<Self, AllocError>
+        requires { faults.rule_fault self.known rule ≡ None }
+        ensures { IfOk result (λ judge. judge ≡ record self { draft = record self.draft { rules = self.draft.rules ++ rule ∷ [] }; known = faults.with_rule self.known rule }) }
+    {
+        self.known = self.known.with_rule(alloc, &rule)?;
+        self.rules.push(rule)?;
+        Ok(self)
+    }
+
     /// With a rule, or its fault.
-    #[tactic(auto, using(crate::proofs::Kept::rule_passes))]
     fn declare_rule(
-        mut self,
+        self,
         alloc: Global,
         declared: &DeclaredRule<'_>,
     ) -> Result<Result<Self, TextFault>, AllocError>
         ensures fault { IfOk result (λ r. result_err r ≡ spec.declaration_fault self (kinds.Rule declared.now)) }
         ensures declared { IfOk result (λ r. IfOk r (λ judge. judge ≡ spec.declare self (kinds.Rule declared.now))) }
     {
-        let steps = self.steps_of(alloc, declared.steps.as_slice())?;
-        let rule = Rule {
-            id: fitted(declared.id),
-            name: Text::copy(alloc, declared.name.as_str())?,
-            erasure: declared.erasure,
-            steps: Listed::new(steps),
-        };
-        if let Some(code) = self.rule_fault(declared, &rule) {
-            return Ok(Err(at_line(declared.line, code)));
+        let rule = self.rule_of(alloc, declared)?;
+        match self.rule_fault(declared, &rule) {
+            Some(code) => Ok(Err(at_line(declared.line, code))),
+            None => Ok(Ok(self.with_rule(alloc, rule)?)),
         }
-        self.known = self.known.with_rule(alloc, &rule)?;
-        self.rules.push(rule)?;
-        Ok(Ok(self))
     }
 
     /// With one declaration more, or its fault.

@@ -3,8 +3,12 @@
 //! Source: Ceph's CRUSH map manual, which shows the text that `crushtool -d` writes.
 #![tactic(auto)]
 
+mod fit;
+mod judge;
 mod lookup;
 mod name;
+mod places;
+mod tables;
 mod write;
 
 pub use crush_grammar::{TextCode, TextFault};

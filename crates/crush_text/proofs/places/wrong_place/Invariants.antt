@@ -1,4 +1,4 @@
-use Rattle.std.proofs.Common.{◌≡◌, ◌<◌, ℕ, length, take, drop, slice_index_or, false}
+use Rattle.std.proofs.Common.{◌≡◌, ℕ, length, take, drop, slice_index_or, false}
 use Rattle.std.specs.List.{list_any}
 use Rattle.crush_text.specs.Places.{names_place, wrong_place_from}
 use Rattle.crush_text.proofs.places.wrong_place.Given as goal
