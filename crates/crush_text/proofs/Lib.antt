@@ -4,3 +4,5 @@ pub mod Kept
 pub mod Arranged
 pub mod Found
 pub mod Named
+pub mod Faultless
+pub mod Texts
