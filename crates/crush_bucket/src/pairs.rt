@@ -1,8 +1,8 @@
 //! A permutation of 0, 1, .. as pairs of a place and its member, in order of place, for the places whose member is another number than the place.
 
-ghost use Rattle.std.specs.Prelude.{◌≡◌, ◌≤◌, ◌<◌, ◌-◌, ◌==◌, ◌&&◌, nat_lt, vec_capacity, length, slice_index_or, drop, IsTrue};
+ghost use Rattle.std.specs.Prelude.{◌≡◌, ◌≤◌, ◌<◌, vec_capacity, length};
 ghost use Rattle.std.specs.List.{insert};
-ghost use Rattle.crush_bucket.specs.Private.Pairs.{index, member_at, first_at, put, IsRising, no_pair};
+ghost use Rattle.crush_bucket.specs.Private.Pairs.{index, member_at, put, IsRising};
 
 /// A place and its member.
 pub(crate) type Pair = (u32, u32);

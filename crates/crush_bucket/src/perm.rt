@@ -1,8 +1,6 @@
 //! The scratch of a uniform bucket.
 
 ghost use Rattle.std.specs.Prelude.{◌≡◌, ◌<◌, ◌≤◌, ◌+◌, ◌-◌, ◌%◌, ◌==◌, ◌^◌, if◌then◌else◌, [], min, IfOk, length, slice_index, vec_capacity};
-ghost use Rattle.crush_hash.specs.Hash.{hash3};
-ghost use Rattle.crush_bucket.specs.Bucket.{word};
 ghost use Rattle.crush_bucket.specs.Permutation.{permutation, after_swaps, partner, asked, differing, kept};
 
 use crate::pairs::{Pair, index_from, index_of, member_at, member_by, put};

@@ -1,4 +1,4 @@
-use Rattle.std.proofs.Common.{◌≡◌, ◌∷◌, [], ◌++◌, ◌+◌, length, slice_index_or, List, ap, arith, ◌∙◌}
+use Rattle.std.proofs.Common.{slice_index_or, List, ap, arith, ◌∙◌}
 use Rattle.crush_bucket.specs.Private.Pairs.{Pair, no_pair}
 use Rattle.crush_bucket.proofs.Differing.{inserted}
 use Rattle.crush_bucket.proofs.pairs.insert.Goals as goal

@@ -1,4 +1,4 @@
-use Rattle.std.proofs.Common.{◌≡◌, ◌≢◌, ◌<◌, ◌+◌, List, ℕ, slice_index, slice_set, length, refl, arith, ap, sym, ◌∙◌}
+use Rattle.std.proofs.Common.{◌≡◌, ◌<◌, ◌+◌, List, ℕ, slice_index, slice_set, length, refl, arith, ap, sym, ◌∙◌}
 use Rattle.std.specs.List.{swap}
 use Rattle.std.proofs.lemmas.List.{length-set}
 use Rattle.crush_bucket.specs.Permutation.{after_swaps, differing}
