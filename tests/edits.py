@@ -3,7 +3,7 @@
 crates/NAME/must-fail/WHAT_IT_DOES.edit is a wrong body: the prover must refuse the crate with that edit. Trying one takes 10 to 40
 seconds, so a crate's edits are tried when the crate changed. REFUSED.md beside them records the last time: a digest of all that the
 outcome rests on in the crate, with the toolchain's version, and for each edit the goal that refused it. A record counts only
-while its digest fits; it is written by tests/wrong (make wrong), never by hand.
+while its digest fits; it is written by tests/wrong (make wrong), never by hand, from a run of its own or from the gate's last run.
 """
 import hashlib
 import os
@@ -81,15 +81,20 @@ def refusal(crate, said):
     return where, f"`{goal.group(1)}`" if goal else said[:120].replace("|", "/")
 
 
+def refusals(crate, said):
+    """Of each edit of the crate what refused it, as rt said it, or None."""
+    found = {p.stem: None for p in edits(crate)}
+    for line in said.splitlines():
+        match = REFUSED.match(line)
+        if match and match.group(1) == crate and match.group(2) in found:
+            found[match.group(2)] = refusal(crate, match.group(3))
+    return found
+
+
 def attempt(crate):
     """Tries the crate's edits: what refused each, or None; and all that was said."""
     ran = subprocess.run([RT, "must-fail", crate], cwd=TOP, stdout=subprocess.PIPE, stderr=subprocess.STDOUT, text=True)
-    found = {p.stem: None for p in edits(crate)}
-    for line in ran.stdout.splitlines():
-        match = REFUSED.match(line)
-        if match and match.group(2) in found:
-            found[match.group(2)] = refusal(crate, match.group(3))
-    return found, ran.stdout, ran.returncode
+    return refusals(crate, ran.stdout), ran.stdout, ran.returncode
 
 
 def write_record(crate, found, before):

@@ -1,5 +1,6 @@
 pub mod Eight
 pub mod Greatest
+pub mod Appended
 pub mod Heights
 pub mod Lanes
 pub mod Members

@@ -13,11 +13,12 @@ uniform_pick id entries x r =
 
 -- ---- list: the item at the greatest place that takes the input
 
--- whether a place takes the input: a draw below 2^16, scaled by the sum of the weights up to the place, is below its weight
+-- whether a place takes the input: its draw, the lower 16 bits of a hash scaled by the sum of the weights up to the place, is below its weight
 abbrev pub takes : ItemId → List Entry → ℕ → ℕ → ℕ → Bool
 takes id entries x r place =
-    let draw = hash4 x (word (item_at entries place)) r (word id) % 65536 in
-    nat_lt (draw * weight_within entries 0 (place + 1) / 65536) (weight_at entries place)
+    let hash = hash4 x (word (item_at entries place)) r (word id) in
+    let draw = hash % 65536 * weight_within entries 0 (place + 1) / 65536 in
+    nat_lt draw (weight_at entries place)
 
 -- the greatest number below n that passes
 abbrev pub greatest : (ℕ → Bool) → ℕ → Option ℕ

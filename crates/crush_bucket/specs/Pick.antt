@@ -1,5 +1,5 @@
 -- The pick of a bucket.
-use Rattle.std.specs.Prelude.{ℕ, length}
+use Rattle.std.specs.Prelude.{ℕ, length, Option, None, Some}
 use Rattle.crush_map.specs.declared.ItemId.{ItemId}
 use Rattle.crush_map.specs.declared.Kind.{Kind}
 use Rattle.crush_map.specs.declared.Kind.TheVariants.{Uniform, List, Tree}
@@ -20,3 +20,14 @@ pick b x r = pick_as b.kind b x r
 -- the permutation by which a bucket picks, if it is uniform
 abbrev pub perm_of : BucketView → PermView
 perm_of b = record { id = b.id; size = length b.entries }
+
+-- ---- the scratch of a bucket among others
+
+abbrev pub perm_as : Kind → BucketView → Option PermView
+perm_as Uniform b = Some (perm_of b)
+perm_as List b = None
+perm_as Tree b = None
+
+-- the permutation that a bucket needs: none where it isn't uniform
+abbrev pub perm_for : BucketView → Option PermView
+perm_for b = perm_as b.kind b

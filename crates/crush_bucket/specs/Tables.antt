@@ -10,7 +10,7 @@ use Rattle.crush_map.specs.declared.draft.Tunables.{Tunables}
 use Rattle.crush_map.specs.Map.{Map}
 use Rattle.crush_bucket.specs.Bucket.{BucketView}
 use Rattle.crush_bucket.specs.Permutation.{PermView}
-use Rattle.crush_bucket.specs.Pick.{pick, perm_of}
+use Rattle.crush_bucket.specs.Pick.{pick, perm_for}
 
 -- a bucket and the number of its type
 pub record TypedBucket : Type 0 where
@@ -73,6 +73,6 @@ IsBelow t number item = MatchOption (bucket_numbered t item) (IsDevice t item) (
 
 -- ---- the scratch
 
--- a permutation for each bucket, by its number
-abbrev pub perms_of : TablesView → List PermView
-perms_of t = map (λ b. perm_of b.bucket) t.buckets
+-- for each bucket, by its number, the permutation that it needs
+abbrev pub perms_of : TablesView → List (Option PermView)
+perms_of t = map (λ b. perm_for b.bucket) t.buckets

@@ -1,28 +1,28 @@
-//! Where the bucket with an id stands.
+//! The index from the id of a bucket to its number.
 
 ghost use Rattle.std.specs.Prelude.{◌≡◌, ◌<◌, ℕ, negsuc, Option, None, Some, IfOk, length, slice_index_or, slice_set};
 ghost use Rattle.crush_bucket.specs.Private.Laid.{IsIndexOf};
 ghost use Rattle.crush_bucket.specs.Tables.{no_bucket};
 
-use crate::number::{BucketNo, number_of};
+use crate::number::{BucketNo, index_place};
 use crate::row::Row;
 use std::alloc::{AllocError, Global};
 
-/// A table of bucket numbers: that of the bucket -1 - n stands at n.
+/// Entry n holds the `BucketNo` of the bucket with the id -1 - n.
 pub(crate) fn index_of(alloc: Global, rows: &[Row]) -> Result<Vec<Option<BucketNo>>, AllocError>
     ensures { IfOk result (λ index. IsIndexOf rows.now index.items) }
 {
     let mut index = empty_index(alloc, index_size(rows))?;
     for place in (0..rows.len()).rev() {
         let row = &rows[place];
-        if let Some(n) = number_of(row.id()) {
+        if let Some(n) = index_place(row.id()) {
             put(&mut index, n, place);
         }
     }
     Ok(index)
 }
 
-/// Puts a bucket's place at an n, whatever stood there.
+/// Sets entry n to the bucket at a place, whatever it held.
 fn put(index: &mut Vec<Option<BucketNo>>, n: usize, place: usize)
     requires { n < length index.old.items }
     ensures { index.new.items ≡ slice_set index.old.items n (Some place) }
@@ -30,7 +30,7 @@ fn put(index: &mut Vec<Option<BucketNo>>, n: usize, place: usize)
     index[n] = Some(BucketNo::new(place));
 }
 
-/// A table with no number.
+/// An index with no bucket.
 fn empty_index(alloc: Global, size: usize) -> Result<Vec<Option<BucketNo>>, AllocError>
     ensures len { IfOk result (λ index. length index.items ≡ size) }
     ensures none { IfOk result (λ index. (n : ℕ) → slice_index_or index.items n None ≡ None) }
@@ -38,13 +38,13 @@ fn empty_index(alloc: Global, size: usize) -> Result<Vec<Option<BucketNo>>, Allo
     Ok(vec![in alloc; None; size]?)
 }
 
-/// A size that is above the n of each bucket -1 - n.
+/// How many entries the index needs: more than the n of each bucket with an id -1 - n.
 fn index_size(rows: &[Row]) -> usize
     ensures { (place n : ℕ) → place < length rows.now → (slice_index_or rows.now place no_bucket).bucket.id.0 ≡ negsuc n → n < result }
 {
     let mut size = 0;
     for row in rows {
-        if let Some(n) = number_of(row.id()) {
+        if let Some(n) = index_place(row.id()) {
             size = size.max(n + 1);
         }
     }

@@ -1,16 +1,17 @@
 //! Buckets of a CRUSH map, and what each picks.
 //!
-//! Sources: Weil et al., 'CRUSH: Controlled, Scalable, Decentralized Placement of Replicated Data' (SC 2006), and Ceph's `src/crush/mapper.c` and `src/crush/builder.c`. Its tests are the crate `bucket_tests`.
+//! Sources: Weil et al., 'CRUSH: Controlled, Scalable, Decentralized Placement of Replicated Data' (SC 2006), and Ceph's `src/crush/mapper.c` and `src/crush/builder.c`. Its tests are the crate `kernel_tests`.
 #![tactic(auto)]
 
 mod descent;
+mod extent;
 mod index;
 pub mod laws;
 mod list;
+pub mod list_laws;
 mod number;
 mod perm;
 mod picker;
-mod reach;
 mod row;
 mod scratch;
 mod sums;

@@ -1,7 +1,8 @@
 //! List buckets.
 
 ghost use Rattle.std.specs.Prelude.{◌≡◌, ℕ, ◌<◌, ◌≤◌, ◌+◌, ◌*◌, ◌/◌, ◌%◌, ◌^◌, nat_lt, MatchOption, IfOk, IfSome, length, slice_index};
-ghost use Rattle.crush_bucket.specs.Bucket.{CanBeAsked, item_at, word, total_weight};
+ghost use Rattle.crush_bucket.specs.Bucket.{CanBeAsked, IsItemOf, item_at, word, total_weight};
+ghost use Rattle.crush_bucket.specs.Pick.{pick};
 ghost use Rattle.crush_bucket.specs.Kinds.{list_place, greatest, takes};
 ghost use Rattle.crush_bucket.specs.Private.Kept.{AreSums};
 
@@ -12,7 +13,7 @@ use crush_map::{ItemId, Kind, Weight};
 use std::alloc::{AllocError, Global};
 use std::marker::Model;
 
-/// A bucket that asks its items from the last one on. A contract sees the bucket.
+/// A bucket that picks the last of its items that takes the input. Contracts see the bucket.
 #[derive(Drop)]
 pub struct ListBucket {
     id: ItemId,
@@ -75,15 +76,24 @@ impl ListBucket {
     {
         self.entries.len()
     }
+
+    /// The item that is picked.
+    #[tactic(auto, unfolding(crate::specs::Kinds::list_pick, crate::specs::Pick::pick))]
+    pub(crate) fn item_for(&self, x: u32, r: u32) -> ItemId
+        ensures picked { result ≡ pick self.now x r }
+        ensures item { IsItemOf self.now.entries result }
+    {
+        let place = list_place(self.id, &self.entries, &self.sums, x, r);
+        self.entries[place].0
+    }
 }
 
 impl Picker for ListBucket {
     ghost bucket = { λ b. b };
 
-    #[tactic(auto, unfolding(crate::specs::Kinds::list_pick, crate::specs::Pick::pick))]
     fn pick(&self, _perm: &mut Perm, x: u32, r: u32) -> ItemId {
-        let place = place_of(self.id, &self.entries, &self.sums, x, r);
-        self.entries[place].0
+        let _id = self.id;
+        self.item_for(x, r)
     }
 }
 
@@ -101,8 +111,8 @@ fn sums_of(alloc: Global, entries: &[(ItemId, Weight)]) -> Result<Vec<u32>, Allo
     Ok(sums)
 }
 
-/// The greatest place that takes the input, or the first. The places are asked from the last one on, eight at a time, and the first `size mod 8` one by one.
-fn place_of(id: ItemId, entries: &[(ItemId, Weight)], sums: &[u32], x: u32, r: u32) -> usize
+/// The greatest place that takes the input, or the first where none does. Goes from the last place down, eight places at a time, and then through the first `size mod 8` one by one.
+fn list_place(id: ItemId, entries: &[(ItemId, Weight)], sums: &[u32], x: u32, r: u32) -> usize
     requires asked { CanBeAsked entries.now }
     requires sums { AreSums entries.now sums.now }
     ensures value { result ≡ list_place id entries.now x r }
@@ -149,7 +159,7 @@ fn last_of_eight(
     last
 }
 
-/// The words of eight items.
+/// The words by which eight items enter a hash.
 #[inline]
 fn words(entries: &[(ItemId, Weight)], from: usize) -> [u32; 8]
     requires within { from + 8 ≤ length entries.now }
@@ -185,7 +195,7 @@ fn takes(
     is_below(hash, sums[place], entries[place].1.0)
 }
 
-/// Whether a draw, scaled by the sum up to its place, is below the weight there.
+/// Whether the draw that a hash makes, its lower 16 bits scaled by the sum of the weights up to a place, is below the weight there.
 #[inline]
 fn is_below(hash: u32, sum: u32, weight: u32) -> bool
     ensures { result ≡ nat_lt (hash % 65536 * sum / 65536) weight }

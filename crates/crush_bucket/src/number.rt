@@ -5,7 +5,7 @@ ghost use Rattle.std.specs.Prelude.{◌≡◌, ℕ, pos, negsuc, MatchOption};
 use crush_map::ItemId;
 use std::marker::Model;
 
-/// A bucket's place in the order of declaration. A contract sees the number.
+/// The number of a bucket: its place in the order of declaration. Contracts see the number.
 #[derive(Clone, Copy, Debug, PartialEq, Eq)]
 pub struct BucketNo {
     place: usize,
@@ -36,8 +36,8 @@ impl BucketNo {
     }
 }
 
-/// The n of a bucket's id -1 - n; none of a device's id.
-pub(crate) fn number_of(id: ItemId) -> Option<usize>
+/// The place of a bucket's id in an index: n for the id -1 - n, and none for the id of a device.
+pub(crate) fn index_place(id: ItemId) -> Option<usize>
     ensures { MatchOption result ((d : ℕ) × (id.0 ≡ pos d)) (λ n. id.0 ≡ negsuc n) }
 {
     if id.0 < 0 {

@@ -5,7 +5,7 @@ ghost use Rattle.std.specs.List.{range_with_len};
 ghost use Rattle.crush_bucket.specs.Permutation.{permutation, after_swaps, partner};
 ghost use Rattle.crush_bucket.specs.Private.Reached.{IsReached};
 
-use crate::reach::Reach;
+use crate::extent::Extent;
 use crush_hash::hash3;
 use crush_map::ItemId;
 use std::alloc::{AllocError, Global};
@@ -13,12 +13,12 @@ use std::marker::Model;
 
 /// The permutation of a bucket's places for the input that was asked last, as far as it was needed (`crush_work_bucket` of `mapper.c`).
 ///
-/// A contract sees the bucket's id and size alone: what is answered never depends on earlier questions.
+/// Contracts see the bucket's id and size alone, never which input was asked last.
 #[derive(Drop)]
 pub struct Perm {
     id: ItemId,
     x: u32,
-    reach: Reach,
+    extent: Extent,
     members: Vec<u32>,
 }
 
@@ -33,7 +33,7 @@ impl Model for Perm {
     ghost view = { λ a. record { id = a.id; size = length a.members.items } };
 
     ghost invariant = { λ a. record {
-      reached : IsReached a.id a.x a.members.items a.reach;
+      reached : IsReached a.id a.x a.members.items a.extent;
       small : length a.members.items < 2 ^ 32;
     } };
 }
@@ -51,7 +51,7 @@ impl Perm {
         Ok(Perm {
             id,
             x: 0,
-            reach: Reach::Swaps(0),
+            extent: Extent::Swaps(0),
             members,
         })
     }
@@ -65,15 +65,15 @@ impl Perm {
     {
         if x != self.x && place == 0 {
             self.x = x;
-            self.reach = Reach::First;
+            self.extent = Extent::First;
             return first_member(self.id, x, &mut self.members);
         }
         let members = self.members.as_mut_slice();
-        let reach = kept_for(self.id, x, members, self.x, self.reach);
-        let swaps = reach_place(self.id, x, members, reach, place);
+        let extent = kept_for(self.id, x, members, self.x, self.extent);
+        let swaps = exchange_up_to(self.id, x, members, extent, place);
         let member = members[place] as usize;
         self.x = x;
-        self.reach = Reach::Swaps(swaps);
+        self.extent = Extent::Swaps(swaps);
         member
     }
 }
@@ -89,7 +89,7 @@ fn partner(id: ItemId, size: usize, x: u32, place: usize) -> usize
     place + (hash3(x, id.word(), place as u32) % places) as usize
 }
 
-/// Keeps the first member of the permutation for x, and no other.
+/// Computes the first member of the permutation for x, and no other.
 fn first_member(id: ItemId, x: u32, members: &mut [u32]) -> usize
     requires some { 0 < length members.old }
     requires small { length members.old < 2 ^ 32 }
@@ -111,7 +111,7 @@ fn reset(members: &mut [u32])
     }
 }
 
-/// Makes good the short cut: the members after one exchange.
+/// Restores the permutation after the place-0 short cut: one exchange was made.
 fn repair(id: ItemId, x: u32, members: &mut [u32])
     requires some { 0 < length members.old }
     requires small { length members.old < 2 ^ 32 }
@@ -124,47 +124,47 @@ fn repair(id: ItemId, x: u32, members: &mut [u32])
 }
 
 /// Keeps the members where x is still the input that they are of, and begins anew where it isn't.
-fn kept_for(id: ItemId, x: u32, members: &mut [u32], kept: u32, reach: Reach) -> Reach
+fn kept_for(id: ItemId, x: u32, members: &mut [u32], kept: u32, extent: Extent) -> Extent
     requires small { length members.old < 2 ^ 32 }
-    requires reached { IsReached id kept members.old reach }
+    requires reached { IsReached id kept members.old extent }
     ensures { IsReached id x members.new result }
 {
     if kept == x {
-        reach
+        extent
     } else {
         reset(members);
-        Reach::Swaps(0)
+        Extent::Swaps(0)
     }
 }
 
-/// Makes good the short cut where it was taken; answers how many exchanges are made.
-fn settled(id: ItemId, x: u32, members: &mut [u32], reach: Reach) -> usize
+/// Restores the permutation where the short cut was taken; answers how many exchanges are made.
+fn settled(id: ItemId, x: u32, members: &mut [u32], extent: Extent) -> usize
     requires small { length members.old < 2 ^ 32 }
     requires some { 0 < length members.old }
-    requires reached { IsReached id x members.old reach }
+    requires reached { IsReached id x members.old extent }
     ensures members { members.new ≡ after_swaps id (length members.old) x result }
     ensures within { result ≤ length members.old }
 {
-    match reach {
-        Reach::First => {
+    match extent {
+        Extent::First => {
             repair(id, x, members);
             1
         }
-        Reach::Swaps(made) => made,
+        Extent::Swaps(made) => made,
     }
 }
 
 /// Makes the exchanges that the member at a place needs; answers how many are made.
-fn reach_place(id: ItemId, x: u32, members: &mut [u32], reach: Reach, place: usize) -> usize
+fn exchange_up_to(id: ItemId, x: u32, members: &mut [u32], extent: Extent, place: usize) -> usize
     requires within { place < length members.old }
     requires small { length members.old < 2 ^ 32 }
-    requires reached { IsReached id x members.old reach }
+    requires reached { IsReached id x members.old extent }
     ensures reached { members.new ≡ after_swaps id (length members.old) x result }
     ensures within { result ≤ length members.old }
     ensures member { slice_index members.new place ≡ slice_index (permutation id (length members.old) x) place }
 {
     let size = members.len();
-    let made = settled(id, x, members, reach);
+    let made = settled(id, x, members, extent);
     let wanted = (place + 1).min(size - 1).max(made);
     for n in made..wanted {
         let other = partner(id, size, x, n);

@@ -2,14 +2,13 @@
 
 ghost use Rattle.std.specs.Prelude.{◌≡◌, ◌<◌, ◌^◌, IfOk, length};
 ghost use Rattle.crush_bucket.specs.Bucket.{IsItemOf};
-ghost use Rattle.crush_bucket.specs.Pick.{pick, perm_of};
+ghost use Rattle.crush_bucket.specs.Pick.{pick, perm_for};
 ghost use Rattle.crush_bucket.specs.Tables.{typed_bucket};
 ghost use Rattle.crush_bucket.specs.Private.Laid.{IsFit};
 ghost use Rattle.crush_bucket.specs.Private.Rows.{bucket_of};
 
 use crate::list::ListBucket;
 use crate::perm::Perm;
-use crate::picker::Picker;
 use crate::tree::TreeBucket;
 use crate::uniform::UniformBucket;
 use crush_map::{Bucket, ItemId, Kind};
@@ -25,7 +24,7 @@ pub(crate) enum Picking {
     Tree(TreeBucket),
 }
 
-/// A bucket and its type. A contract sees both.
+/// A bucket and its type. Contracts see both.
 #[derive(Drop)]
 pub(crate) struct Row {
     of_type: u32,
@@ -100,18 +99,18 @@ impl Row {
     }
 
     /// The item that the bucket picks.
-    pub(crate) fn pick(&self, perm: &mut Perm, x: u32, r: u32) -> ItemId
+    pub(crate) fn pick(&self, perm: &mut Option<Perm>, x: u32, r: u32) -> ItemId
         requires some { 0 < length self.now.bucket.entries }
-        requires fits { perm.old ≡ perm_of self.now.bucket }
+        requires fits { perm.old ≡ perm_for self.now.bucket }
         ensures picked { result ≡ pick self.now.bucket x r }
         ensures item { IsItemOf self.now.bucket.entries result }
         ensures same { perm.new ≡ perm.old }
     {
         match &self.picking {
             Picking::Empty { id: _, kind: _ } => unreachable!(),
-            Picking::Uniform(bucket) => bucket.pick(perm, x, r),
-            Picking::List(bucket) => bucket.pick(perm, x, r),
-            Picking::Tree(bucket) => bucket.pick(perm, x, r),
+            Picking::Uniform(bucket) => bucket.item_for(perm, x, r),
+            Picking::List(bucket) => bucket.item_for(x, r),
+            Picking::Tree(bucket) => bucket.item_for(x, r),
         }
     }
 }

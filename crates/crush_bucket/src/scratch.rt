@@ -2,27 +2,27 @@
 
 ghost use Rattle.std.specs.Prelude.{◌≡◌, ◌<◌, IfOk, length, slice_index_or, slice_get, Some};
 ghost use Rattle.crush_bucket.specs.Bucket.{IsItemOf};
-ghost use Rattle.crush_bucket.specs.Pick.{pick, perm_of};
+ghost use Rattle.crush_bucket.specs.Pick.{pick, perm_for};
 ghost use Rattle.crush_bucket.specs.Tables.{perms_of};
 
 use crate::perm::Perm;
 use crate::row::Row;
 use crate::tables::Tables;
-use crush_map::ItemId;
+use crush_map::{ItemId, Kind};
 use std::alloc::{AllocError, Global};
 use std::marker::Model;
 
-/// A permutation for each bucket of tables, by its number. A contract sees of what each is, so that what is picked never depends on earlier questions.
+/// A permutation for each uniform bucket of tables, by the bucket's number. Contracts see each bucket's id and size, never which input was asked last.
 #[derive(Drop)]
 pub struct Scratch {
-    perms: Vec<Perm>,
+    perms: Vec<Option<Perm>>,
 }
 
 impl Model for Scratch {
-    ghost use Rattle.std.specs.Prelude.{List};
+    ghost use Rattle.std.specs.Prelude.{List, Option};
     ghost use Rattle.crush_bucket.specs.Permutation.{PermView};
 
-    ghost Value = { List PermView };
+    ghost Value = { List (Option PermView) };
 
     ghost view = { λ a. a.perms.items };
 }
@@ -35,7 +35,7 @@ impl Scratch {
         let rows = tables.rows();
         let mut perms = Vec::with_capacity(alloc, rows.len())?;
         for row in rows {
-            perms.push(Perm::build(alloc, row.id(), row.size())?)?;
+            perms.push(perm_for(alloc, row)?)?;
         }
         Ok(Scratch { perms })
     }
@@ -43,12 +43,22 @@ impl Scratch {
     /// The item that a row picks with the permutation at a place.
     pub(crate) fn pick(&mut self, row: &Row, place: usize, x: u32, r: u32) -> ItemId
         requires some { 0 < length row.now.bucket.entries }
-        requires fits { slice_get self.old place ≡ Some (perm_of row.now.bucket) }
+        requires fits { slice_get self.old place ≡ Some (perm_for row.now.bucket) }
         ensures picked { result ≡ pick row.now.bucket x r }
         ensures item { IsItemOf row.now.bucket.entries result }
         ensures same { self.new ≡ self.old }
     {
         let perm = &mut self.perms[place];
         row.pick(perm, x, r)
+    }
+}
+
+/// The permutation of a uniform bucket; the others need none.
+fn perm_for(alloc: Global, row: &Row) -> Result<Option<Perm>, AllocError>
+    ensures { IfOk result (λ perm. perm ≡ perm_for row.now.bucket) }
+{
+    match row.kind() {
+        Kind::Uniform => Ok(Some(Perm::build(alloc, row.id(), row.size())?)),
+        Kind::List | Kind::Tree => Ok(None),
     }
 }

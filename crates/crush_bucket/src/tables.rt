@@ -6,14 +6,14 @@ ghost use Rattle.crush_bucket.specs.Private.Laid.{IsFit};
 ghost use Rattle.crush_bucket.specs.Tables.{tables_of, typed_bucket, bucket_numbered, bucket_at, type_at, kind_at, size_at, pick_at, has_device, perms_of, IsBelow};
 
 use crate::index::index_of;
-use crate::number::{BucketNo, number_of};
+use crate::number::{BucketNo, index_place};
 use crate::row::Row;
 use crate::scratch::Scratch;
 use crush_map::{Bucket, CrushMap, Device, ItemId, Kind, Tunables, buckets_are_sound};
 use std::alloc::{AllocError, Global};
 use std::marker::Model;
 
-/// The buckets of a map in order of declaration, its devices and its tunables. A contract sees them as lists.
+/// The buckets of a map in order of declaration, its devices and its tunables. Contracts see them as lists.
 #[derive(Drop)]
 pub struct Tables {
     rows: Vec<Row>,
@@ -69,7 +69,7 @@ impl Tables {
         ensures negative { OnSome result (item.0 <ℤ pos 0) }
     {
         let index = self.index.as_slice();
-        let n = number_of(item)?;
+        let n = index_place(item)?;
         match index.get(n) {
             Some(found) => *found,
             None => None,

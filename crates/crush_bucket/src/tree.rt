@@ -1,7 +1,8 @@
 //! Tree buckets.
 
 ghost use Rattle.std.specs.Prelude.{◌≡◌, ◌<◌, ◌≤◌, ◌+◌, ◌*◌, ◌^◌, ◌++◌, IfOk, length};
-ghost use Rattle.crush_bucket.specs.Bucket.{CanBeAsked, total_weight};
+ghost use Rattle.crush_bucket.specs.Bucket.{CanBeAsked, IsItemOf, total_weight};
+ghost use Rattle.crush_bucket.specs.Pick.{pick};
 ghost use Rattle.crush_bucket.specs.Kinds.{height_of, place_within};
 ghost use Rattle.crush_bucket.specs.Private.Kept.{AreNodes, HasNodes, node_weights};
 
@@ -13,7 +14,7 @@ use crush_map::{ItemId, Kind, Weight};
 use std::alloc::{AllocError, Global};
 use std::marker::Model;
 
-/// A bucket that goes down a binary tree over its places. A contract sees the bucket.
+/// A bucket that picks by a walk down a binary tree over its places. Contracts see the bucket.
 #[derive(Drop)]
 pub struct TreeBucket {
     id: ItemId,
@@ -83,15 +84,24 @@ impl TreeBucket {
     {
         self.entries.len()
     }
+
+    /// The item that is picked.
+    #[tactic(auto, unfolding(crate::specs::Kinds::tree_pick, crate::specs::Pick::pick))]
+    pub(crate) fn item_for(&self, x: u32, r: u32) -> ItemId
+        ensures picked { result ≡ pick self.now x r }
+        ensures item { IsItemOf self.now.entries result }
+    {
+        let place = walk(self.id, &self.entries, &self.nodes, self.height, x, r);
+        self.entries[place.min(self.entries.len() - 1)].0
+    }
 }
 
 impl Picker for TreeBucket {
     ghost bucket = { λ b. b };
 
-    #[tactic(auto, unfolding(crate::specs::Kinds::tree_pick, crate::specs::Pick::pick))]
     fn pick(&self, _perm: &mut Perm, x: u32, r: u32) -> ItemId {
-        let place = walk(self.id, &self.entries, &self.nodes, self.height, x, r);
-        self.entries[place.min(self.entries.len() - 1)].0
+        let _id = self.id;
+        self.item_for(x, r)
     }
 }
 

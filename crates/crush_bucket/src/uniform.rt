@@ -1,8 +1,8 @@
 //! Uniform buckets.
 
 ghost use Rattle.std.specs.Prelude.{◌≡◌, ◌<◌, ◌^◌, IfOk, length};
-ghost use Rattle.crush_bucket.specs.Bucket.{HasEqualWeights, total_weight};
-ghost use Rattle.crush_bucket.specs.Pick.{pick};
+ghost use Rattle.crush_bucket.specs.Bucket.{HasEqualWeights, IsItemOf, total_weight};
+ghost use Rattle.crush_bucket.specs.Pick.{pick, perm_for};
 
 use crate::perm::Perm;
 use crate::picker::Picker;
@@ -10,7 +10,7 @@ use crush_map::{ItemId, Kind, Weight};
 use std::alloc::{AllocError, Global};
 use std::marker::Model;
 
-/// A bucket whose items weigh the same: it picks by a permutation of its places. A contract sees the bucket.
+/// A bucket whose items weigh the same: it picks by a permutation of its places. Contracts see the bucket.
 #[derive(Drop)]
 pub struct UniformBucket {
     id: ItemId,
@@ -70,6 +70,20 @@ impl UniformBucket {
         ensures few { result < 2 ^ 16 }
     {
         self.entries.len()
+    }
+
+    /// The item that is picked with the bucket's permutation.
+    pub(crate) fn item_for(&self, perm: &mut Option<Perm>, x: u32, r: u32) -> ItemId
+        requires fits { perm.old ≡ perm_for self.now }
+        ensures picked { result ≡ pick self.now x r }
+        ensures item { IsItemOf self.now.entries result }
+        ensures same { perm.new ≡ perm.old }
+    {
+        let _id = self.id;
+        match perm {
+            Some(perm) => self.pick(perm, x, r),
+            None => unreachable!(),
+        }
     }
 }
 

@@ -13,3 +13,7 @@ pub mod Tracing
 pub mod Running
 pub mod Faultless
 pub mod Devices
+pub mod Keeping
+pub mod Lowering
+pub mod Staying
+pub mod OneTrace

@@ -9,4 +9,5 @@ pub mod Indep
 pub mod Laws
 pub mod Outs
 pub mod Rules
+pub mod Stability
 pub mod Private

@@ -10,6 +10,7 @@ mod mark;
 mod plan;
 mod row;
 mod rule;
+pub mod stability;
 mod walk;
 mod weights;
 

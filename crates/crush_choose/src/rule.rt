@@ -1,11 +1,12 @@
 //! Running rules.
 
-ghost use Rattle.std.specs.Prelude.{◌≡◌, ◌<◌, ◌≤◌, ◌+◌, ◌-◌, ◌*◌, ◌++◌, [], ◌∷◌, take, length, vec_len, vec_capacity, slice_index_or, IfOk, Some, true, ℕ};
+ghost use Rattle.std.specs.Prelude.{◌≡◌, ◌<◌, ◌≤◌, ◌+◌, ◌-◌, ◌*◌, ◌++◌, [], ◌∷◌, take, length, vec_len, vec_capacity, slice_index_or, IfOk, Some, true, ℕ, List};
 ghost use Rattle.std.specs.List.Sorted.{IsStrictlyIncreasing};
 ghost use Rattle.crush_map.specs.Faults.{are_in_range, has_number};
 ghost use Rattle.crush_bucket.specs.Tables.{perms_of};
 ghost use Rattle.crush_choose.specs.Rules as spec;
 ghost use Rattle.crush_choose.specs.Rules.{CanRun, IsTrace, rule_answer, with_chosen};
+ghost use Rattle.crush_choose.specs.Stability.{AreLoweredOutside};
 ghost use Rattle.crush_choose.specs.Private.Runs.{AreSettings, IsPlan, IsRun, IsStep, call_of, no_step, settings_in, state_of};
 
 use crate::plan::{Plan, append, step_out};
@@ -316,6 +317,8 @@ impl Out {
 }
 
 /// Runs a rule for an input: sets `out` to its answer, at most `size` slots, and to the trace of the run (`crush_do_rule` of Ceph's `mapper.c`).
+///
+/// Lower reweights of devices outside the trace, of any number of them at once, leave the answer and the trace as they are.
 pub fn run_rule(
     tables: &Tables,
     scratch: &mut Scratch,
@@ -332,6 +335,8 @@ pub fn run_rule(
     ensures items { out.new.items ≡ rule_answer tables.now weights.now rule.now.steps x size }
     ensures room { length out.new.items ≤ size }
     ensures trace { IsTrace tables.now weights.now rule.now.steps x size out.new.trace }
+    ensures stays { (lowered : List ℕ) → AreLoweredOutside out.new.trace weights.now lowered → rule_answer tables.now lowered rule.now.steps x size ≡ out.new.items }
+    ensures trace_stays { (lowered : List ℕ) → AreLoweredOutside out.new.trace weights.now lowered → IsTrace tables.now lowered rule.now.steps x size out.new.trace }
     ensures fits { scratch.new ≡ perms_of tables.now }
 {
     let steps = rule.steps.as_slice();

@@ -12,7 +12,7 @@ use Rattle.crush_grammar.specs.declared.declaration.DeclaredStep.TheVariants.{Ta
 use Rattle.crush_grammar.specs.declared.declaration.Declaration.{Declaration}
 use Rattle.crush_grammar.specs.declared.declaration.Declaration.TheVariants.{Rule}
 
--- the words are the front of a text: with some words behind them they are a text
+-- the words are the front of a text: with some words after them they are a text
 abbrev pub IsFront : List Word → Type 0
 IsFront ws = (more : List Word) × (ds : List Declaration) × Declares (ws ++ more) ds
 
@@ -24,7 +24,7 @@ IsWhole ws = (ds : List Declaration) × Declares ws ds
 abbrev pub LeavesAt : List Word → ℕ → Type 0
 LeavesAt ws i = (i < length ws) × IsFront (take i ws) × ¬ (IsFront (take (suc i) ws))
 
--- ---- what is wrong with a word behind a front
+-- ---- what is wrong with a word after a front
 
 abbrev pub is : List ℕ → Word → Bool
 is text w = bytes_eq w.text text
@@ -33,7 +33,7 @@ is text w = bytes_eq w.text text
 abbrev pub is_token : Word → Bool
 is_token w = is_some (name_of w.text) || is (codes "{") w || is (codes "}") w
 
--- a word with this text may stand behind the front
+-- a word with this text may stand after the front
 abbrev pub MayStand : List Word → List ℕ → Type 0
 MayStand front text = IsFront (front ++ record { line = 0; text = text } ∷ [])
 
@@ -45,7 +45,7 @@ Wants front text = MayStand front text × ¬ (MayStand front (codes "a"))
 abbrev pub IsStraw : List Word → Word → Type 0
 IsStraw front w = ((is (codes "straw") w || is (codes "straw2") w) ≡ true) × Wants front (codes "tree")
 
--- class behind a take step: with a brace behind it, the front is a text that ends with a rule whose last step is that take
+-- class after a take step: with a brace after it, the front is a text that ends with a rule whose last step is that take
 abbrev pub IsClassOfTake : List Word → Word → Type 0
 IsClassOfTake front w =
     (is (codes "class") w ≡ true)
@@ -60,7 +60,7 @@ IsChooseArgs front w = (is (codes "choose_args") w ≡ true) × IsWhole front
 abbrev pub IsNoWeight : List Word → Word → Type 0
 IsNoWeight front w = (is_token w ≡ true) × Wants front (codes "0.5")
 
--- the code of a word that leaves the grammar behind a front
+-- the code of a word that leaves the grammar after a front
 abbrev pub HasCode : List Word → Word → TextCode → Type 0
 HasCode front w X2 = IsStraw front w
 HasCode front w X3 = IsClassOfTake front w
@@ -71,11 +71,11 @@ HasCode front w other = ⊥
 
 -- ---- what is declared before a fault
 
--- the words xs are whole, and the words ys behind them begin one more declaration
+-- the words xs are whole, and the words ys after them begin one more declaration
 abbrev pub IsCut : List Word → List Word → Type 0
 IsCut xs ys = (more : List Word) × (d : Declaration) × Declares (ys ++ more) (d ∷ [])
 
--- what a front declares: all, if it is whole; else what stands before the declaration that it breaks off.
+-- what a front declares: all, if it is whole; else all declarations before the one that it breaks off.
 -- So a word that does not continue a device that is whole belongs to the next declaration.
 abbrev pub FrontDeclares : List Word → List Declaration → Type 0
 FrontDeclares front ds = Declares front ds ⊎ (¬ (IsWhole front) × ((xs : List Word) × (ys : List Word) × (front ≡ xs ++ ys) × Declares xs ds × IsCut xs ys))

@@ -2,7 +2,7 @@
 use Rattle.std.specs.Prelude.{ℕ, nat_lt, ◌&&◌, ◌||◌, Bool, true, false, List, length, Option, Some, None, if◌then◌else◌, codes, bytes_eq}
 use Rattle.std.specs.List.{list_all}
 use Rattle.crush_map.specs.declared.word.Kind.{Kind}
-use Rattle.crush_map.specs.declared.word.Kind.TheVariants.{Uniform, List as ListKind, Tree}
+use Rattle.crush_map.specs.Kinds.{kind_named}
 use Rattle.crush_map.specs.Faults.{is_name_byte, is_reserved}
 use Rattle.crush_grammar.specs.declared.declaration.TunableName.{TunableName}
 use Rattle.crush_grammar.specs.declared.declaration.TunableName.TheVariants as tunables
@@ -29,10 +29,7 @@ tunable_of text =
     else (if bytes_eq text (codes "allowed_bucket_algs") then Some tunables.AllowedBucketAlgs else None)))))))
 
 unfoldable pub alg_of : List ℕ → Option Kind
-alg_of text =
-    if bytes_eq text (codes "uniform") then Some Uniform
-    else (if bytes_eq text (codes "list") then Some ListKind
-    else (if bytes_eq text (codes "tree") then Some Tree else None))
+alg_of text = kind_named text
 
 -- the hash: 0 or rjenkins1, which are the same
 unfoldable pub hash_of : List ℕ → Option ℕ

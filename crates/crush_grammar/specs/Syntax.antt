@@ -37,7 +37,7 @@ Integer = Saying integer_of
 abbrev pub Name : Type 0
 Name = Saying name_of
 
--- a keyword and the value behind it
+-- a keyword and the value after it
 pub record Clause {V : Type 0} (text : List ℕ) (read : List ℕ → Option V) : Type 0 where
   pub key : Keyword text
   pub value : Saying read

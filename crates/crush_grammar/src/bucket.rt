@@ -90,7 +90,7 @@ fn id_class<'a>(
     }
 }
 
-/// An id line, behind its first word: the id without a class so far.
+/// An id line, after its first word: the id without a class so far.
 fn id_line<'a>(
     head: &BucketHead<'a>,
     before: Option<i64>,
@@ -199,7 +199,7 @@ fn item_name<'a>(cursor: &Cursor<'a>) -> Result<(Name<'a>, Cursor<'a>), ReadErro
     Ok((name, rest))
 }
 
-/// The weight of an item, if one is said.
+/// The weight of an item, if one is given.
 #[tactic(auto, using(crate::proofs::States::dead, crate::proofs::States::no_weight), unfolding(crate::specs::Private::Automaton::step))]
 fn item_weight<'a>(cursor: Cursor<'a>) -> Result<(Option<Weight>, Cursor<'a>), ReadError>
     ensures value { (b : DeclaredBucket) (name : List ℕ) → Leads (ahead (State.ItemName b (named name)) cursor.entry) result (λ x. ahead (State.ItemWeight b (record { name = name; weight = x.0; place = None })) x.1) }
@@ -222,7 +222,7 @@ fn item_weight<'a>(cursor: Cursor<'a>) -> Result<(Option<Weight>, Cursor<'a>), R
     }
 }
 
-/// The place of an item, if one is said.
+/// The place of an item, if one is given.
 #[tactic(auto, using(crate::proofs::States::dead, crate::proofs::States::no_place), unfolding(crate::specs::Private::Automaton::step))]
 fn item_place<'a>(cursor: Cursor<'a>) -> Result<(Option<Place>, Cursor<'a>), ReadError>
     ensures value { (b : DeclaredBucket) (name : List ℕ) (weight : Option Weight) → Leads (ahead (State.ItemWeight b (record { name = name; weight = weight; place = None })) cursor.entry) result (λ x. ahead (State.Items (with_item b (record { name = name; weight = weight; place = x.0 }))) x.1) }
@@ -242,7 +242,7 @@ fn item_place<'a>(cursor: Cursor<'a>) -> Result<(Option<Place>, Cursor<'a>), Rea
     Ok((Some(place), rest))
 }
 
-/// An item, behind its first word.
+/// An item, after its first word.
 fn item<'a>(cursor: &Cursor<'a>) -> Result<(DeclaredItem<'a>, Cursor<'a>), ReadError>
     ensures value { (b : DeclaredBucket) → Leads (ahead (State.ItemWord b) cursor.now) result (λ x. ahead (State.Items (with_item b x.0)) x.1) }
     ensures less { IfOk result (λ x. length x.1.words ≤ length cursor.now.words) }
@@ -291,7 +291,7 @@ fn items<'a>(
     Err(out_of_grammar(cursor.line()))
 }
 
-/// A bucket, behind the name of its type.
+/// A bucket, after the name of its type.
 pub(crate) fn declared_bucket<'a>(
     alloc: Global,
     line: usize,

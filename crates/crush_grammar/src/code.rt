@@ -9,7 +9,7 @@ pub enum TextCode {
     X1,
     /// A straw or straw2 bucket.
     X2,
-    /// A class behind the item of a take step.
+    /// A class after the item of a take step.
     X3,
     /// `choose_args`.
     X4,

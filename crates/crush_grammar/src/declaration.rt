@@ -40,7 +40,7 @@ pub struct DeclaredType<'a> {
     pub name: Name<'a>,
 }
 
-/// Where an item wants to stand, and the line that says so.
+/// The `pos` of an item, and its line.
 #[derive(Clone, Copy)]
 pub struct Place {
     pub line: usize,
@@ -55,7 +55,7 @@ pub struct DeclaredItem<'a> {
     pub place: Option<Place>,
 }
 
-/// What stands before the brace of a bucket, and the line of its first word.
+/// The header of a bucket, and the line of its first word.
 #[derive(Drop)]
 pub struct BucketHead<'a> {
     pub line: usize,

@@ -24,7 +24,7 @@ fn tunable_name<'a>(
     Ok((name, rest))
 }
 
-/// A tunable, behind its first word.
+/// A tunable, after its first word.
 #[tactic(auto, using(crate::proofs::States::dead), unfolding(crate::specs::Private::Automaton::step))]
 pub(crate) fn declared_tunable<'a>(
     line: usize,
@@ -85,7 +85,7 @@ fn device_class<'a>(
     Ok((device, rest))
 }
 
-/// A device, behind its first word.
+/// A device, after its first word.
 pub(crate) fn declared_device<'a>(
     line: usize,
     cursor: &Cursor<'a>,
@@ -109,7 +109,7 @@ fn type_number<'a>(line: usize, cursor: &Cursor<'a>) -> Result<(u64, Cursor<'a>)
     Ok((number, rest))
 }
 
-/// A type, behind its first word.
+/// A type, after its first word.
 #[tactic(auto, using(crate::proofs::States::dead), unfolding(crate::specs::Private::Automaton::step))]
 pub(crate) fn declared_type<'a>(
     line: usize,

@@ -77,7 +77,7 @@ fn rule_erasure<'a>(
     Ok((erasure, rest))
 }
 
-/// The least size, if one is said; it is dropped.
+/// The least size, if one is given; it is dropped.
 #[tactic(auto, using(crate::proofs::States::dead, crate::proofs::States::no_min), unfolding(crate::specs::Private::Automaton::step))]
 fn min_size<'a>(cursor: Cursor<'a>) -> Result<Cursor<'a>, ReadError>
     ensures value { (r : DeclaredRule) → Leads (ahead (State.RuleKind r) cursor.entry) result (λ c. ahead (State.RuleMin r) c) }
@@ -94,7 +94,7 @@ fn min_size<'a>(cursor: Cursor<'a>) -> Result<Cursor<'a>, ReadError>
     Ok(rest)
 }
 
-/// The greatest size, if one is said; it is dropped.
+/// The greatest size, if one is given; it is dropped.
 #[tactic(auto, using(crate::proofs::States::dead, crate::proofs::States::no_max), unfolding(crate::specs::Private::Automaton::step))]
 fn max_size<'a>(cursor: Cursor<'a>) -> Result<Cursor<'a>, ReadError>
     ensures value { (r : DeclaredRule) → Leads (ahead (State.RuleMin r) cursor.entry) result (λ c. ahead (State.RuleMax r) c) }
@@ -111,7 +111,7 @@ fn max_size<'a>(cursor: Cursor<'a>) -> Result<Cursor<'a>, ReadError>
     Ok(rest)
 }
 
-/// The name behind take, behind which no class may stand.
+/// The name after take, which no class may follow.
 #[tactic(auto, using(crate::proofs::States::dead, crate::proofs::States::taken_end), unfolding(crate::specs::Private::Automaton::step))]
 fn take_step<'a>(cursor: &Cursor<'a>) -> Result<(DeclaredStep<'a>, Cursor<'a>), ReadError>
     ensures value { (r : DeclaredRule) → Leads (ahead (State.TakeWord r) cursor.now) result (λ x. ahead (State.Steps (with_step r x.0)) x.1) }
@@ -170,7 +170,7 @@ fn choose_type<'a>(
     Ok((step, rest))
 }
 
-/// A choose step, behind its first word.
+/// A choose step, after its first word.
 fn choose_step<'a>(
     leaf: bool,
     cursor: &Cursor<'a>,
@@ -196,7 +196,7 @@ fn set_value<'a>(
     Ok((DeclaredStep::Set(setting, value), rest))
 }
 
-/// A step, behind the word step.
+/// A step, after the word step.
 #[tactic(auto, using(crate::proofs::States::dead), unfolding(crate::specs::Private::Automaton::step))]
 fn step<'a>(cursor: &Cursor<'a>) -> Result<(DeclaredStep<'a>, Cursor<'a>), ReadError>
     ensures value { (r : DeclaredRule) → Leads (ahead (State.StepWord r) cursor.now) result (λ x. ahead (State.Steps (with_step r x.0)) x.1) }
@@ -265,7 +265,7 @@ fn steps<'a>(
     Err(out_of_grammar(cursor.line()))
 }
 
-/// A rule, behind its first word.
+/// A rule, after its first word.
 pub(crate) fn declared_rule<'a>(
     alloc: Global,
     line: usize,

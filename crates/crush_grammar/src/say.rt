@@ -1,4 +1,4 @@
-//! What single words say.
+//! The values of single words.
 
 ghost use Rattle.std.specs.Prelude.{◌≡◌, ◌∷◌, [], ◌<◌, Ok, Err, length, MatchResult, Some, None, true, false, bytes_eq};
 ghost use Rattle.std.specs.List.{list_all};
@@ -25,7 +25,7 @@ pub(crate) fn out_of_grammar(line: usize) -> ReadError
     })
 }
 
-/// The next word, and what is left behind it.
+/// The next word, and what is left after it.
 pub(crate) fn next<'a>(cursor: &Cursor<'a>) -> Result<(Word<'a>, Cursor<'a>), ReadError>
     ensures value { MatchResult result (λ r. (cursor.now.words ≡ r.0 ∷ r.1.words) × (r.1.line ≡ r.0.line)) (λ e. (cursor.now.words ≡ []) × (e ≡ out_of_grammar cursor.now.line)) }
 {
@@ -53,7 +53,7 @@ pub(crate) fn keyword(text: &[u8], word: &Word<'_>) -> Result<(), ReadError>
     }
 }
 
-/// The number that a word says.
+/// The number that a word writes.
 pub(crate) fn number(word: &Word<'_>) -> Result<u64, ReadError>
     ensures { result ≡ said word.now (numbers.number_of word.now.text) }
 {
@@ -63,7 +63,7 @@ pub(crate) fn number(word: &Word<'_>) -> Result<u64, ReadError>
     }
 }
 
-/// The integer that a word says.
+/// The integer that a word writes.
 pub(crate) fn integer(word: &Word<'_>) -> Result<i64, ReadError>
     ensures { result ≡ said word.now (numbers.integer_of word.now.text) }
 {
@@ -127,7 +127,7 @@ fn has_text(text: &[u8], word: &Word<'_>) -> bool
     text == word.text()
 }
 
-/// A word that begins a declaration, or behind which a class stands.
+/// A word that begins a declaration, or that a class follows.
 fn is_reserved(word: &Word<'_>) -> bool
     ensures { result ≡ is_reserved word.now.text }
 {
@@ -202,15 +202,7 @@ pub(crate) fn tunable(word: &Word<'_>) -> Result<TunableName, ReadError>
 pub(crate) fn alg_of(word: &Word<'_>) -> Option<Kind>
     ensures { result ≡ spec.alg_of word.now.text }
 {
-    if is(b"uniform", word) {
-        Some(Kind::Uniform)
-    } else if is(b"list", word) {
-        Some(Kind::List)
-    } else if is(b"tree", word) {
-        Some(Kind::Tree)
-    } else {
-        None
-    }
+    Kind::named(word.text())
 }
 
 /// The type of a rule that a word names.

@@ -336,7 +336,8 @@ fn is_uniform(alg: Kind) -> bool
     matches!(alg, Kind::Uniform)
 }
 
-fn are_in_range(tunables: Tunables) -> bool
+/// Whether each tunable is in its range.
+pub fn are_in_range(tunables: Tunables) -> bool
     ensures { result ≡ spec.are_in_range tunables }
 {
     tunables.total_tries <= TOTAL_TRIES_LIMIT

@@ -24,7 +24,7 @@ pub use decimal::{weight_comes_back, weight_from_text, weight_text, weight_texts
 pub use draft::{Bucket, Device, Items, MapDraft, Rule, Step, Steps, Tunables, TypeName};
 pub use fault::{Element, FaultCode, MapFault};
 pub use form::is_name;
-pub use known::Known;
+pub use known::{Known, are_in_range};
 pub use law::{
     buckets_are_sound, first_fault_is_first, numbers_and_names_are_once, numbers_are_sound,
     rules_are_sound,

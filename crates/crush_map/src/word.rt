@@ -2,6 +2,7 @@
 
 ghost use Rattle.std.specs.Prelude.{◌≡◌};
 ghost use Rattle.std.specs.Int.{cast_unsigned, w32};
+ghost use Rattle.crush_map.specs.Kinds.{kind_named};
 
 /// A weight or reweight in 16.16 fixed point: 65536 is 1.0.
 #[derive(Clone, Copy, Debug, PartialEq, Eq)]
@@ -26,4 +27,21 @@ pub enum Kind {
     Uniform,
     List,
     Tree,
+}
+
+impl Kind {
+    /// The kind with a name: `uniform`, `list` or `tree`.
+    pub fn named(name: &[u8]) -> Option<Kind>
+        ensures { result ≡ kind_named name.now }
+    {
+        if name == b"uniform".as_slice() {
+            Some(Kind::Uniform)
+        } else if name == b"list".as_slice() {
+            Some(Kind::List)
+        } else if name == b"tree".as_slice() {
+            Some(Kind::Tree)
+        } else {
+            None
+        }
+    }
 }

@@ -1,10 +1,8 @@
 -- What single words mean.
-use Rattle.std.specs.Prelude.{ℕ, ◌<◌, ◌≤◌, ◌==◌, ◌^◌, Bool, FitsSigned, List, Option, Some, None, codes, bytes_eq, if◌then◌else◌}
+use Rattle.std.specs.Prelude.{ℕ, ◌<◌, ◌≤◌, ◌==◌, ◌^◌, Bool, FitsSigned, List}
 use Rattle.std.specs.Int.{w32}
 use Rattle.std.specs.List.{after_first, before_first}
 use Rattle.std.specs.Str.Parse.{IsNumeral, digits_value, signed_digits_value, without_leading_plus, without_leading_sign}
-use Rattle.crush_map.specs.declared.word.Kind.{Kind}
-use Rattle.crush_map.specs.declared.word.Kind.TheVariants.{Uniform, List as ListKind, Tree}
 
 -- a word of decimal digits, with a + in front or not
 abbrev pub IsNumber : List ℕ → Type 0
@@ -29,11 +27,3 @@ IsEntry word =
     × FitsSigned w32 (signed_digits_value 10 (before_first is_colon word))
     × IsNumber (after_first is_colon word)
     × (number (after_first is_colon word) < 2 ^ 32)
-
--- the kind of bucket that a word names, if it names one
-abbrev pub kind_of : List ℕ → Option Kind
-kind_of word =
-    if bytes_eq word (codes "uniform") then Some Uniform
-    else if bytes_eq word (codes "list") then Some ListKind
-    else if bytes_eq word (codes "tree") then Some Tree
-    else None

@@ -5,6 +5,7 @@ ghost use Rattle.std.specs.Int.{w32};
 ghost use Rattle.std.specs.List.{after_first, before_first};
 ghost use Rattle.std.specs.Result.{result_ok};
 ghost use Rattle.std.specs.Str.Parse.{ParsesSigned, signed_digits_value};
+ghost use Rattle.crush_map.specs.Kinds.{kind_named};
 ghost use Rattle.crush_mappings.specs.Words as spec;
 
 use crate::fault::Fault;
@@ -78,12 +79,7 @@ pub(crate) fn entry(word: &str) -> Result<(ItemId, Weight), Fault>
 
 /// The algorithm of a bucket.
 pub(crate) fn kind(word: &str) -> Result<Kind, Fault>
-    ensures { result_ok result ≡ spec.kind_of word.now }
+    ensures { result_ok result ≡ kind_named word.now }
 {
-    match word {
-        "uniform" => Ok(Kind::Uniform),
-        "list" => Ok(Kind::List),
-        "tree" => Ok(Kind::Tree),
-        _ => Err(Fault::Unread),
-    }
+    Kind::named(word.as_bytes()).ok_or(Fault::Unread)
 }

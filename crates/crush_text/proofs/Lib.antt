@@ -1,1 +1,13 @@
 pub mod Joins
+mod Spelt
+mod Numerals
+mod Found
+mod Names
+mod Trees
+mod Going
+mod Back
+mod States
+mod SoundMap
+mod Judged
+mod Round
+mod Only

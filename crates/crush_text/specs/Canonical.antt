@@ -1,6 +1,6 @@
 -- The canonical text of a map: the one text that is written of it.
 --
--- Source: what `crushtool -d` writes, without its remarks and with five decimals in a weight.
+-- Source: what `crushtool -d` writes, with its headings and no other remark and with five decimals in a weight.
 use Rattle.std.specs.Prelude.{ℕ, ℤ, pos, negsuc, ◌==◌, Bool, true, false, List, [], ◌∷◌, ◌++◌, codes, flat_map, if◌then◌else◌}
 use Rattle.std.specs.Ordering.{int_eq}
 use Rattle.std.specs.Fmt.{decimal, signed_decimal}
@@ -25,7 +25,7 @@ abbrev pub spaced : List (List ℕ) → List ℕ
 spaced [] = []
 spaced (word ∷ words) = word ++ flat_map (λ other. 32 ∷ other) words
 
--- words, and an LF behind them
+-- words, and a final LF
 abbrev pub line : List (List ℕ) → List ℕ
 line words = spaced words ++ 10 ∷ []
 

@@ -1,4 +1,5 @@
 pub mod Places
 pub mod Judging
 pub mod MapText
+pub mod Codes
 pub mod Canonical

@@ -11,7 +11,7 @@ use crush_map::{
 };
 use std::alloc::{AllocError, Global};
 
-/// Each word, behind a space.
+/// Each word, with a space before it.
 fn write_others(out: &mut Vec<u8>, words: &[&[u8]]) -> Result<(), AllocError>
     ensures { OnOk result (out.new.items ≡ out.old.items ++ flat_map (λ word. 32 ∷ word.now) words.now) }
 {

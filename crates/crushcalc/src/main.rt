@@ -1,4 +1,4 @@
-//! `crushcalc`, a calculator of CRUSH placements: reads the program's words, and serves.
+//! `crushcalc`, a calculator of CRUSH placements: reads the program's arguments and runs a command.
 #![tactic(auto)]
 
 use clap::error::ErrorKind;
@@ -9,75 +9,80 @@ use std::process::ExitCode;
 use std::rt::Env;
 use std::{env, io};
 
-/// Why the program ends without having served all that it was given.
-enum Failure {
-    /// The words name no command of it, or ask for help.
-    Words(Error),
+/// The program's version, and the line of `rt version` of the toolchain that proves and builds it (`tests/run` compares it).
+const VERSION: &str = "0.1.0\nrattle-kit-13b logic dac8208d650f15bf";
+
+/// Why the program ends before it has answered its whole input.
+enum Stop {
+    /// The arguments name no command, or ask for help or the version.
+    Arguments(Error),
     NoMemory,
     TooLong,
     ReadFault,
     WriteFault,
 }
 
-/// Reads the program's words; there is one command.
-fn read_words(alloc: Global, words: &[String]) -> Result<(), Failure> {
-    match script_asked(alloc, words) {
-        Ok(()) => Ok(()),
-        Err(error) if error.kind() == ErrorKind::OutOfMemory => Err(Failure::NoMemory),
-        Err(error) => Err(Failure::Words(error)),
+impl From<AllocError> for Stop {
+    fn from(_error: AllocError) -> Stop {
+        Stop::NoMemory
     }
 }
 
-fn script_asked(alloc: Global, words: &[String]) -> Result<(), Error> {
+impl From<Error> for Stop {
+    fn from(error: Error) -> Stop {
+        match error.kind() {
+            ErrorKind::OutOfMemory => Stop::NoMemory,
+            _ => Stop::Arguments(error),
+        }
+    }
+}
+
+/// Reads the program's arguments: the command `script`, which is the only one.
+fn read_arguments(alloc: Global, arguments: &[String]) -> Result<(), Stop> {
     let script = Command::new(alloc, "script").about(
-        "Serves the lines of standard input, and writes a line for each reply",
+        "Answers the lines of standard input, and writes a line for each reply",
     );
     Command::new(alloc, "crushcalc")
         .about("A proved calculator of CRUSH placements")
+        .version(VERSION)
         .subcommand_required(true)
         .subcommand(script)?
-        .try_get_matches_from(words)?;
+        .try_get_matches_from(arguments)?;
     Ok(())
 }
 
-/// Serves standard input, with no tenant at first.
-fn serve_script<R: AllocGlobal + Input + Print>(rt: &R) -> Result<(), Failure> {
+/// Answers the lines of standard input, with no tenant at first.
+fn run_script<R: AllocGlobal + Input + Print>(rt: &R) -> Result<(), Stop> {
     let alloc = rt.alloc();
-    let Ok(mut service) = Service::over_map(alloc) else {
-        return Err(Failure::NoMemory);
-    };
-    let ended = script_run(alloc, &mut service, &mut rt.reader(), &mut io::writer(rt));
-    match ended {
-        Ok(ScriptEnd::Done) => Ok(()),
-        Ok(ScriptEnd::TooLong) => Err(Failure::TooLong),
-        Ok(ScriptEnd::ReadFault) => Err(Failure::ReadFault),
-        Ok(ScriptEnd::WriteFault) => Err(Failure::WriteFault),
-        Err(AllocError) => Err(Failure::NoMemory),
+    let mut service = Service::over_map(alloc)?;
+    match script_run(alloc, &mut service, &mut rt.reader(), &mut io::writer(rt))? {
+        ScriptEnd::Done => Ok(()),
+        ScriptEnd::TooLong => Err(Stop::TooLong),
+        ScriptEnd::ReadFault => Err(Stop::ReadFault),
+        ScriptEnd::WriteFault => Err(Stop::WriteFault),
     }
 }
 
-fn run<R: AllocGlobal + Input + Print + Env>(rt: &R) -> Result<(), Failure> {
+fn run<R: AllocGlobal + Input + Print + Env>(rt: &R) -> Result<(), Stop> {
     let Ok(given) = env::args(rt) else {
-        return Err(Failure::NoMemory);
+        return Err(Stop::NoMemory);
     };
-    let Ok(words) = given.collect::<Vec<String>>(rt.alloc()) else {
-        return Err(Failure::NoMemory);
-    };
-    read_words(rt.alloc(), words.as_slice())?;
-    serve_script(rt)
+    let arguments = given.collect::<Vec<String>>(rt.alloc())?;
+    read_arguments(rt.alloc(), arguments.as_slice())?;
+    run_script(rt)
 }
 
-/// Says why on standard error, or help on standard output, and gives the status.
-fn tell<R: Print + Eprint>(rt: &R, failure: Failure) -> io::Result<ExitCode> {
-    let why = match failure {
-        Failure::Words(error) => {
+/// Writes help or the version to standard output, or why it stops to standard error, and gives the exit status.
+fn report<R: Print + Eprint>(rt: &R, stop: Stop) -> io::Result<ExitCode> {
+    let why = match stop {
+        Stop::Arguments(error) => {
             error.print(rt)?;
             return Ok(ExitCode::from(error.exit_code() as u8));
         }
-        Failure::NoMemory => "no memory",
-        Failure::TooLong => "input too long",
-        Failure::ReadFault => "read fault",
-        Failure::WriteFault => "write fault",
+        Stop::NoMemory => "no memory",
+        Stop::TooLong => "input too long",
+        Stop::ReadFault => "read fault",
+        Stop::WriteFault => "write fault",
     };
     eprintln!(rt; "crushcalc: {why}")?;
     Ok(ExitCode::from(1))
@@ -86,6 +91,6 @@ fn tell<R: Print + Eprint>(rt: &R, failure: Failure) -> io::Result<ExitCode> {
 fn main(rt: HostRuntime) -> io::Result<ExitCode> {
     match run(&rt) {
         Ok(()) => Ok(ExitCode::SUCCESS),
-        Err(failure) => tell(&rt, failure),
+        Err(stop) => report(&rt, stop),
     }
 }

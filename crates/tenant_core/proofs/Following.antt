@@ -1,9 +1,8 @@
--- From what a call asks to what its reply says of all tenants.
-use Rattle.std.proofs.Common.{◌≡◌, ◌≢◌, ◌⊎◌, inl, inr, ℕ, ◌&&◌, List, Bool, true, false, if◌then◌else◌, Option, Some, None, option_map, Result, Ok, Err, IfOk, refl, ap, sym, subst, ◌∙◌, is_some, arith, length, nat_lt}
+-- A reply follows the step of its call, for the states of all tenants.
+use Rattle.std.proofs.Common.{◌≡◌, ◌≢◌, ◌⊎◌, inl, inr, ℕ, List, Bool, true, false, if◌then◌else◌, Option, Some, None, option_map, Result, Ok, Err, IfOk, option_and_then, refl, ap, sym, subst, ◌∙◌, arith, length, nat_lt}
 use Rattle.std.proofs.lemmas.Slice.Eq.{bytes_eq-Decides}
 use Rattle.std.specs.Option.{ok_or}
 use Rattle.std.specs.Str.{bytes_eq}
-use Rattle.crush_map.specs.Faults.{is_name}
 use Rattle.tenant_core.specs.declared.call.Call.{Call}
 use Rattle.tenant_core.specs.declared.reply.Reply.{Reply}
 use Rattle.tenant_core.specs.declared.reply.Problem.{Problem}
@@ -11,13 +10,12 @@ use Rattle.tenant_core.specs.declared.reply.Problem.TheVariants.{BadRequest, Too
 use Rattle.tenant_core.specs.declared.request.Action.{Action}
 use Rattle.tenant_core.specs.declared.request.Operation.{Operation}
 use Rattle.tenant_core.specs.declared.request.Request.{Request}
-use Rattle.tenant_core.specs.declared.route.Route.{Route}
 use Rattle.tenant_core.specs.declared.state.TenantState.{TenantState}
 use Rattle.tenant_core.specs.declared.store.StoreFault.{StoreFault}
 use Rattle.tenant_core.specs.declared.store.StoreFault.TheVariants.{NoMemory, Full, Damaged, Failed}
-use Rattle.tenant_core.specs.Request.{name_in, action_of, on_operation, on_route, operation_of, request_of, body_limit}
+use Rattle.tenant_core.specs.Request.{tenant_in, action_of, on_operation, on_target, operation_of, request_of, body_limit}
 use Rattle.tenant_core.specs.Reply.{refused, reply}
-use Rattle.tenant_core.specs.Route.{route_of}
+use Rattle.tenant_core.specs.Route.{Target, target_of, route_in}
 use Rattle.tenant_core.specs.States.{States, IsDamaged, Same, Follows, Answers}
 use Rattle.tenant_core.specs.Step.{decision, decision_or_refusal, step_of, step, tenant_of, is_of}
 use Rattle.tenant_core.specs.StoreReply.{no_memory, store_damaged, store_fault, refused_or_damaged}
@@ -27,24 +25,23 @@ use Rattle.tenant_core.proofs.Replying.{reply-answered, damaged-answered}
 -- ---- whose call it is
 
 -- a request is of the name that the path has
-named-by : (name : List ℕ) (a : Option Action) (b : Bool) (r : Request)
-    → ok_or (if b then option_map (λ a. record { tenant = name; action = a }) a else None) BadRequest ≡ Ok r → (if b then Some name else None) ≡ Some r.tenant
-named-by name (Some a) true r h = let same : record { tenant = name; action = a } ≡ r = cc in ap (λ (q : Request). Some q.tenant) same
-named-by name None true r h = cc
-named-by name a false r h = cc
+named-by : (tenant : Option (List ℕ)) (a : Option Action) (r : Request)
+    → ok_or (option_and_then (λ t. option_map (λ a. record { tenant = t; action = a }) a) tenant) BadRequest ≡ Ok r → tenant ≡ Some r.tenant
+named-by (Some t) (Some a) r h = let same : record { tenant = t; action = a } ≡ r = cc in ap (λ (q : Request). Some q.tenant) same
+named-by (Some t) None r h = cc
+named-by None a r h = cc
 
-named : (path method body : List ℕ) (found : Option Route) (r : Request) → on_route method path body found ≡ Ok r
-    → (if is_some found && is_name (name_in path) then Some (name_in path) else None) ≡ Some r.tenant
-named path method body None r h = cc
-named path method body (Some route) r h = named-at (operation_of route method) h
+named : (method body : List ℕ) (found : Option Target) (r : Request) → on_target method body found ≡ Ok r → option_and_then tenant_in found ≡ Some r.tenant
+named method body None r h = cc
+named method body (Some target) r h = named-at (operation_of (route_in target) method) h
   where
-    named-at : (o : Option Operation) → on_operation path body o ≡ Ok r → (if is_name (name_in path) then Some (name_in path) else None) ≡ Some r.tenant
+    named-at : (o : Option Operation) → on_operation target body o ≡ Ok r → tenant_in target ≡ Some r.tenant
     named-at None h = cc
-    named-at (Some o) h = named-by (name_in path) (action_of o body) (is_name (name_in path)) r h
+    named-at (Some o) h = named-by (tenant_in target) (action_of o body) r h
 
-named-small : (call : Call) (r : Request) (large : Bool) → (if large then Err TooLarge else on_route call.method call.path call.body (route_of call.path)) ≡ Ok r → tenant_of call ≡ Some r.tenant
+named-small : (call : Call) (r : Request) (large : Bool) → (if large then Err TooLarge else on_target call.method call.body (target_of call.path)) ≡ Ok r → tenant_of call ≡ Some r.tenant
 named-small call r true h = cc
-named-small call r false h = named call.path call.method call.body (route_of call.path) r h
+named-small call r false h = named call.method call.body (target_of call.path) r h
 
 tenant_of-request : (call : Call) (r : Request) → request_of call ≡ Ok r → tenant_of call ≡ Some r.tenant
 unfolding request_of

@@ -6,3 +6,4 @@ pub mod OptionalKeys
 pub mod PickForms
 pub mod Replying
 pub mod Running
+pub mod Targets

@@ -112,7 +112,7 @@ alone-state : (s : Option TenantState) (cs ds : List Call) → (alone s (cs ++ d
 alone-state s [] ds = refl
 alone-state s (c ∷ cs) ds = alone-state (step c s).state cs ds
 
--- lists of one length are paired, and so are those behind them
+-- two pairs of lists of equal lengths are zipped one after the other
 zip-append : {A B : Type 0} (xs zs : List A) (ys ws : List B) → length ys ≡ length xs → zip (xs ++ zs) (ys ++ ws) ≡ zip xs ys ++ zip zs ws
 zip-append [] zs [] ws h = refl
 zip-append [] zs (y ∷ ys) ws h = absurd (omega arith)

@@ -9,8 +9,9 @@ use Rattle.crush_bucket.specs.Pick.{pick}
 use Rattle.crush_map.specs.Faults.{is_uniform}
 use Rattle.crush_map.specs.Weights.{has_equal_weights}
 use Rattle.crush_map.specs.declared.ItemId.{ItemId}
+use Rattle.crush_map.specs.Kinds.{kind_name, kind_named}
 use Rattle.crush_map.specs.declared.Kind.{Kind}
-use Rattle.crush_map.specs.declared.Kind.TheVariants.{Uniform, List as ListKind, Tree}
+use Rattle.crush_map.specs.declared.Kind.TheVariants.{Uniform}
 use Rattle.tenant_core.specs.Forms.{IsNatural, IsInteger, IsText, IsListOf, HasExactly, IsUnder}
 use Rattle.tenant_core.specs.Json.{value_of, natural_of, integer_of, both, all_three, list_of, has_keys, under}
 use Rattle.tenant_core.specs.Reply.{Answer, success, members_of}
@@ -32,11 +33,6 @@ pub record IsItem (d : Data) (e : Entry) : Type 0 where
   pub keys : HasExactly (codes "item" ∷ codes "weight" ∷ []) d
   pub item : IsUnder (codes "item") (IsInteger (negsuc 65535) (pos 65535)) d e.0.0
   pub weight : IsUnder (codes "weight") (IsNatural 4294967295) d e.1.0
-
-abbrev pub kind_name : Kind → List ℕ
-kind_name Uniform = codes "uniform"
-kind_name ListKind = codes "list"
-kind_name Tree = codes "tree"
 
 -- {"id": -65536..-1, "items": [ITEM, ..], "kind": "uniform", "list" or "tree"}: 1 to 1,024 distinct items other than the bucket,
 -- whose weights have a sum of at most 2^32 - 1, and are equal in a uniform bucket
@@ -79,12 +75,6 @@ are_distinct [] = true
 are_distinct (e ∷ es) = not (list_any (is_of_item e.0.0) es) && are_distinct es
 
 -- ---- a bucket
-
-abbrev pub kind_named : List ℕ → Option Kind
-kind_named name =
-    if bytes_eq name (codes "uniform") then Some Uniform
-    else (if bytes_eq name (codes "list") then Some ListKind
-    else (if bytes_eq name (codes "tree") then Some Tree else None))
 
 abbrev pub kind_of : Data → Option Kind
 kind_of d = option_and_then kind_named (as_str d)

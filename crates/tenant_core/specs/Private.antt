@@ -1,4 +1,4 @@
--- What private clauses and proofs alone cite: how the code goes about it. No public clause rests on it.
+-- What private clauses and proofs alone cite: how the code works. No public clause rests on it.
 pub mod Inserting
 pub mod Optional
 pub mod Performing

@@ -1,10 +1,9 @@
 -- The request of a call, or the problem of its first check that fails, with the tables of operations and actions.
-use Rattle.std.specs.Prelude.{ℕ, zero, suc, ◌==◌, List, length, Bool, nat_lt, if◌then◌else◌, Option, Some, None, option_map, Result, Err}
+use Rattle.std.specs.Prelude.{ℕ, ◌==◌, List, length, nat_lt, if◌then◌else◌, Option, Some, None, option_map, option_and_then, Result, Err, codes}
 use Rattle.std.specs.Option.{ok_or}
-use Rattle.std.specs.List.{before_first, after_first}
 use Rattle.crush_map.specs.Faults.{is_name}
 use Rattle.tenant_core.specs.Picks as picks
-use Rattle.tenant_core.specs.Route.{route_of}
+use Rattle.tenant_core.specs.Route.{Target, target_of, route_in, parameter}
 use Rattle.tenant_core.specs.Tenants as tenants
 use Rattle.tenant_core.specs.declared.call.Call.{Call}
 use Rattle.tenant_core.specs.declared.route.Route.{Route}
@@ -17,19 +16,14 @@ use Rattle.tenant_core.specs.declared.request.Operation.{Operation}
 use Rattle.tenant_core.specs.declared.request.Operation.TheVariants as operation
 use Rattle.tenant_core.specs.declared.request.Request.{Request}
 
--- ---- the path
+-- ---- the tenant
 
-abbrev pub is_slash : ℕ → Bool
-is_slash b = b == 47
+abbrev pub if_name : List ℕ → Option (List ℕ)
+if_name text = if is_name text then Some text else None
 
--- a part of a path between slashes; part 0 is the text before the first slash
-abbrev pub part : ℕ → List ℕ → List ℕ
-part zero path = before_first is_slash path
-part (suc n) path = part n (after_first is_slash path)
-
--- in `/t/NAME..` the name is part 2
-abbrev pub name_in : List ℕ → List ℕ
-name_in path = part 2 path
+-- the name of the tenant: the parameter `t` of every route
+abbrev pub tenant_in : Target → Option (List ℕ)
+tenant_in target = option_and_then if_name (parameter (codes "t") target)
 
 -- ---- the method
 
@@ -49,18 +43,18 @@ action_of operation.Pick body = option_map (λ p. action.Pick p) (picks.pick_req
 
 -- ---- all of it: the checks in their order
 
--- the name in the path, and then the body
-abbrev pub in_form : List ℕ → List ℕ → Operation → Option Request
-in_form path body o =
-    if is_name (name_in path) then option_map (λ a. record { tenant = name_in path; action = a }) (action_of o body) else None
+-- the tenant's name, and then the body
+abbrev pub in_form : Target → List ℕ → Operation → Option Request
+in_form target body o =
+    option_and_then (λ tenant. option_map (λ a. record { tenant = tenant; action = a }) (action_of o body)) (tenant_in target)
 
-abbrev pub on_operation : List ℕ → List ℕ → Option Operation → Result Request Problem
-on_operation path body None = Err Method
-on_operation path body (Some o) = ok_or (in_form path body o) BadRequest
+abbrev pub on_operation : Target → List ℕ → Option Operation → Result Request Problem
+on_operation target body None = Err Method
+on_operation target body (Some o) = ok_or (in_form target body o) BadRequest
 
-abbrev pub on_route : List ℕ → List ℕ → List ℕ → Option Route → Result Request Problem
-on_route method path body None = Err NoPath
-on_route method path body (Some route) = on_operation path body (operation_of route method)
+abbrev pub on_target : List ℕ → List ℕ → Option Target → Result Request Problem
+on_target method body None = Err NoPath
+on_target method body (Some target) = on_operation target body (operation_of (route_in target) method)
 
 -- the longest body, in bytes
 abbrev pub body_limit : ℕ
@@ -70,4 +64,4 @@ body_limit = 1048576
 unfoldable pub request_of : Call → Result Request Problem
 request_of call =
     if nat_lt body_limit (length call.body) then Err TooLarge
-    else on_route call.method call.path call.body (route_of call.path)
+    else on_target call.method call.body (target_of call.path)

@@ -1,9 +1,12 @@
 -- The table of all routes, and the route of a path: by `matchit`'s rule, literal text goes before a parameter in braces.
-use Rattle.std.specs.Prelude.{ℕ, List, [], ◌∷◌, fold, Option, option_map, Result, Ok, Err}
+use Rattle.std.specs.Prelude.{ℕ, List, [], ◌∷◌, fold, if◌then◌else◌, Option, None, option_map, Result, Ok, Err}
+use Rattle.std.specs.Char.{is_ascii}
+use Rattle.std.specs.List.{list_all}
 use Rattle.matchit.specs.Rows.{RowsOf}
 use Rattle.matchit.specs.Order.{placed}
 use Rattle.matchit.specs.Router.{RouteOf, route_from}
 use Rattle.matchit.specs.Route.{Scan, parse_route}
+use Rattle.matchit.specs.Params.{walk, named}
 use Rattle.matchit.specs.Seek.{first}
 use Rattle.matchit.specs.declared.error.InsertError.{InsertError}
 use Rattle.tenant_core.specs.Picks as picks
@@ -34,6 +37,21 @@ with_route rows route = with_read (parse_route route.0) route.1 rows
 unfoldable pub table : Table
 table = fold with_route [] routes
 
--- the route of a path
-abbrev pub route_of : List ℕ → Option Route
-route_of path = option_map (λ row. row.value) (first table path)
+-- ---- what a path names
+
+-- a path with the row of its route
+pub record Target : Type 0 where
+  pub row : RouteOf Route
+  pub path : List ℕ
+
+abbrev pub route_in : Target → Route
+route_in target = target.row.value
+
+abbrev pub target_of : List ℕ → Option Target
+target_of path = option_map (λ row. record { row = row; path = path }) (first table path)
+
+-- the part of the path that a parameter of the route took, as the router says. A path with a byte that isn't ASCII has no
+-- parameters: a name and a number are ASCII, and what the routes write out is too
+abbrev pub parameter : List ℕ → Target → Option (List ℕ)
+parameter key target =
+    if list_all is_ascii target.path then named key (walk target.row.pattern target.row.text target.path target.row.names 0 0) else None

@@ -1,13 +1,12 @@
 -- The service as one tenant sees it: one call on the state of that tenant. No other tenant, store or table is in it.
-use Rattle.std.specs.Prelude.{ℕ, ◌&&◌, List, Bool, false, if◌then◌else◌, Option, Some, None, is_some, Result, Ok, Err}
+use Rattle.std.specs.Prelude.{ℕ, List, Bool, false, Option, Some, None, option_and_then, Result, Ok, Err}
 use Rattle.std.specs.Option.{option_map_or}
 use Rattle.std.specs.Str.{bytes_eq}
-use Rattle.crush_map.specs.Faults.{is_name}
 use Rattle.tenant_core.specs.Effects.{Decided, decided, after_effect, if_present}
 use Rattle.tenant_core.specs.Picks as picks
 use Rattle.tenant_core.specs.Reply.{refused, reply}
-use Rattle.tenant_core.specs.Request.{name_in, request_of}
-use Rattle.tenant_core.specs.Route.{route_of}
+use Rattle.tenant_core.specs.Request.{tenant_in, request_of}
+use Rattle.tenant_core.specs.Route.{target_of}
 use Rattle.tenant_core.specs.Tenants as tenants
 use Rattle.tenant_core.specs.declared.call.Call.{Call}
 use Rattle.tenant_core.specs.declared.reply.Reply.{Reply}
@@ -48,9 +47,9 @@ step call state = step_of (decision_or_refusal (request_of call) state) state
 
 -- ---- whose call it is
 
--- the tenant of a call: the name in a path that has a route
+-- the tenant of a call: the name in its path, where the path has a route
 abbrev pub tenant_of : Call → Option (List ℕ)
-tenant_of call = if is_some (route_of call.path) && is_name (name_in call.path) then Some (name_in call.path) else None
+tenant_of call = option_and_then tenant_in (target_of call.path)
 
 abbrev pub is_of : List ℕ → Call → Bool
 is_of tenant call = option_map_or (λ name. bytes_eq name tenant) (tenant_of call) false

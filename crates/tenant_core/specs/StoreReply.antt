@@ -1,4 +1,4 @@
--- What is replied where a store can't serve.
+-- The replies where a call of the store fails.
 use Rattle.std.specs.Prelude.{◌≡◌, ◌⊎◌, Result, Ok, Err, codes}
 use Rattle.tenant_core.specs.Reply.{written, error, refused, reply, no_memory as out_of_memory}
 use Rattle.tenant_core.specs.Request.{request_of}
@@ -16,7 +16,7 @@ no_memory = out_of_memory
 unfoldable pub store_failed : Reply
 store_failed = written 503 (error (codes "store_failed"))
 
--- 500: what the store has of the tenant is no state
+-- 500: the tenant's data isn't that of any state
 unfoldable pub store_damaged : Reply
 store_damaged = written 500 (error (codes "store_damaged"))
 
@@ -26,11 +26,11 @@ store_fault Full = store_failed
 store_fault Failed = store_failed
 store_fault Damaged = store_damaged
 
--- the replies 503: want of memory, or a store that can't serve; there is no other
+-- the replies 503: want of memory, or a store that is full or failed; there is no other
 abbrev pub IsUnavailable : Reply → Type 0
 IsUnavailable replied = (replied ≡ no_memory) ⊎ (replied ≡ store_failed)
 
--- the reply to a call where the data of its tenant is damaged: a call that is refused by itself is refused as ever
+-- the reply to a call where the data of its tenant is damaged: a call that fails a check has the same reply as always
 abbrev pub refused_or_damaged : Result Request Problem → Reply
 refused_or_damaged (Ok request) = store_damaged
 refused_or_damaged (Err problem) = reply (refused problem)

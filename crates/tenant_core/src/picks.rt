@@ -159,17 +159,6 @@ fn are_distinct(entries: &[(ItemId, Weight)]) -> bool
 
 // ---- a bucket
 
-fn kind_named(name: &str) -> Option<Kind>
-    ensures { result ≡ spec.kind_named name.now }
-{
-    match name {
-        "uniform" => Some(Kind::Uniform),
-        "list" => Some(Kind::List),
-        "tree" => Some(Kind::Tree),
-        _ => None,
-    }
-}
-
 fn is_valid(id: ItemId, kind: Kind, entries: &[(ItemId, Weight)]) -> bool
     ensures { result ≡ spec.is_valid (record { id = id; kind = kind; entries = entries.now }) }
 {
@@ -184,7 +173,7 @@ fn is_valid(id: ItemId, kind: Kind, entries: &[(ItemId, Weight)]) -> bool
 fn kind_in(value: &Value) -> Option<Kind>
     ensures { result ≡ json.under (codes "kind") spec.kind_of (view value.now) }
 {
-    kind_named(text(value, "kind")?)
+    Kind::named(text(value, "kind")?.as_bytes())
 }
 
 fn bucket(alloc: Global, value: &Value) -> Result<AskedBucket, ReadError>

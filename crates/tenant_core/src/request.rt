@@ -1,7 +1,6 @@
 //! Reading a call as a request: its checks in their order, and the tables of operations and actions.
 
-ghost use Rattle.std.specs.Prelude.{◌≡◌, IfOk};
-ghost use Rattle.std.specs.List.{before_first, after_first};
+ghost use Rattle.std.specs.Prelude.{◌≡◌, IfOk, option_map};
 ghost use Rattle.tenant_core.specs.CallParts.{call_of};
 ghost use Rattle.tenant_core.specs.Private.Reading.{Reads};
 ghost use Rattle.tenant_core.specs.Request as spec;
@@ -10,7 +9,7 @@ use crate::call::CallParts;
 use crate::json::ReadError;
 use crate::picks::{self, PickRequest};
 use crate::reply::Problem;
-use crate::route::{Route, Routes};
+use crate::route::{Route, Routes, Target};
 use crate::tenants::{self, TenantOperation};
 use crush_map::{Text, is_name};
 use std::alloc::{AllocError, Global};
@@ -37,24 +36,13 @@ pub struct Request {
     pub action: Action,
 }
 
-// ---- the path
+// ---- the tenant
 
-fn at_slash(path: &str) -> (&str, &str)
-    ensures before { result.0.now ≡ before_first spec.is_slash path.now }
-    ensures after { result.1.now ≡ after_first spec.is_slash path.now }
+fn tenant_in<'p>(target: &Target<'_, 'p>) -> Option<&'p str>
+    ensures { option_map (λ name. name.now) result ≡ spec.tenant_in target.now }
 {
-    path.split_once('/').unwrap_or((path, ""))
-}
-
-/// A part of a path between slashes; part 0 is the text before the first slash.
-pub fn part(path: &str, number: usize) -> &str
-    ensures { result.now ≡ spec.part number path.now }
-{
-    let (first, others) = at_slash(path);
-    match number {
-        0 => first,
-        _ => part(others, number - 1),
-    }
+    let name = target.parameter("t")?;
+    if is_name(name) { Some(name) } else { None }
 }
 
 // ---- the method
@@ -93,16 +81,13 @@ fn read_action(alloc: Global, operation: Operation, body: &[u8]) -> Result<Actio
 
 fn in_form(
     alloc: Global,
-    path: &str,
+    target: &Target<'_, '_>,
     body: &[u8],
     operation: Operation,
 ) -> Result<Request, ReadError>
-    ensures { Reads (λ r. r) result (spec.in_form path.now body.now operation) }
+    ensures { Reads (λ r. r) result (spec.in_form target.now body.now operation) }
 {
-    let name = part(path, 2);
-    if !is_name(name) {
-        return Err(ReadError::Malformed);
-    }
+    let name = tenant_in(target).ok_or(ReadError::Malformed)?;
     let action = read_action(alloc, operation, body)?;
     Ok(Request {
         tenant: Text::copy(alloc, name)?,
@@ -126,13 +111,13 @@ pub fn read_request(
     if call.body.len() > BODY_LIMIT {
         return Ok(Err(Problem::TooLarge));
     }
-    let Some(route) = routes.find(call.path) else {
+    let Some(target) = routes.find(call.path) else {
         return Ok(Err(Problem::NoPath));
     };
-    let Some(operation) = operation_on(route, call.method) else {
+    let Some(operation) = operation_on(target.route(), call.method) else {
         return Ok(Err(Problem::Method));
     };
-    match in_form(alloc, call.path, call.body, operation) {
+    match in_form(alloc, &target, call.body, operation) {
         Ok(request) => Ok(Ok(request)),
         Err(ReadError::Malformed) => Ok(Err(Problem::BadRequest)),
         Err(ReadError::NoMemory) => Err(AllocError),

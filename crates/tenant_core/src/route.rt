@@ -1,13 +1,16 @@
 //! The table of all routes, and the route of a path.
 
 ghost use Rattle.std.specs.Prelude.{◌≡◌, true, is_ok, OnOk};
+ghost use Rattle.std.specs.Char.{is_ascii};
+ghost use Rattle.std.specs.List.{list_all};
 ghost use Rattle.matchit.specs.Route.{parse_route};
 ghost use Rattle.tenant_core.specs.Private.Inserting.{is_new};
 ghost use Rattle.tenant_core.specs.Route.{table, with_route};
 
 use crate::{picks, tenants};
-use matchit::{InsertError, Router};
+use matchit::{InsertError, Params, Router};
 use std::alloc::{AllocError, Global};
+use std::marker::Model;
 
 /// The routes: one for each thing that a path can name.
 #[derive(Clone, Copy, Debug, PartialEq, Eq)]
@@ -27,7 +30,7 @@ pub struct Routes {
 
 impl Routes {
     ghost use Rattle.std.specs.Prelude.{◌≡◌};
-    ghost use Rattle.tenant_core.specs.Route.{route_of};
+    ghost use Rattle.tenant_core.specs.Route.{target_of};
 
     /// The table of all routes.
     pub fn build(alloc: Global) -> Result<Self, AllocError> {
@@ -37,13 +40,73 @@ impl Routes {
         Ok(Routes { router })
     }
 
-    /// The route of a path, if it has one.
-    pub fn find(&self, path: &str) -> Option<Route>
-        ensures { result ≡ route_of path.now }
+    /// The route of a path with its parameters, if the path has a route.
+    pub fn find<'p>(&self, path: &'p str) -> Option<Target<'_, 'p>>
+        ensures { result ≡ target_of path.now }
     {
         let found = self.router.at(path).ok()?;
-        Some(*found.value)
+        Some(Target {
+            route: *found.value,
+            path,
+            params: found.params,
+        })
     }
+}
+
+/// What a path names: a route, and the parts of the path that the route's parameters took.
+#[derive(Drop)]
+pub struct Target<'r, 'p> {
+    route: Route,
+    path: &'p str,
+    params: Params<'r, 'p>,
+}
+
+impl<'r, 'p> Model for Target<'r, 'p> {
+    ghost use Rattle.std.specs.Prelude.{◌≡◌, true};
+    ghost use Rattle.std.specs.Char.{is_ascii};
+    ghost use Rattle.std.specs.List.{list_all};
+    ghost use Rattle.tenant_core.specs.Route.{Target};
+
+    ghost Value = { Target };
+
+    ghost view = { λ a. record {
+      row = record { pattern = a.params.pattern.now; text = a.params.text.now; names = a.params.names.now; value = a.route };
+      path = a.path.now;
+    } };
+
+    ghost invariant = { λ a. record {
+      path : a.params.path.now ≡ a.path.now;
+      text : list_all is_ascii a.params.text.now ≡ true;
+    } };
+}
+
+impl<'r, 'p> Target<'r, 'p> {
+    ghost use Rattle.std.specs.Prelude.{◌≡◌, option_map};
+    ghost use Rattle.tenant_core.specs.Route.{route_in, parameter};
+
+    /// The route.
+    pub fn route(&self) -> Route
+        ensures { result ≡ route_in self.now }
+    {
+        self.route
+    }
+
+    /// The part of the path that a parameter took. A path with a byte that isn't ASCII has no parameters.
+    pub fn parameter(&self, key: &str) -> Option<&'p str>
+        ensures { option_map (λ text. text.now) result ≡ parameter key.now self.now }
+    {
+        if is_ascii_text(self.path) {
+            self.params.get(key)
+        } else {
+            None
+        }
+    }
+}
+
+fn is_ascii_text(text: &str) -> bool
+    ensures { result ≡ list_all is_ascii text.now }
+{
+    text.as_bytes().iter().all(|byte| byte.is_ascii())
 }
 
 /// Adds a route, which is well formed and conflicts with none in the router.

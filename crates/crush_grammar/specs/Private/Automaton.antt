@@ -89,7 +89,7 @@ pub record Move : Type 0 where
 abbrev pub to : State → Move
 to s = record { done = None; state = s }
 
--- behind a word that says a value
+-- after a word that says a value
 abbrev pub on : {V : Type 0} → TextCode → Word → Option V → (V → Move) → Move
 on c w (Some v) next = next v
 on c w None next = to (wrong c w)
@@ -126,7 +126,7 @@ abbrev pub in_lines : BucketHead → Option ℤ → Word → Move
 in_lines h (Some i) w = if is (codes "id") w then to (IdWord h (Some i)) else (if is (codes "alg") w then to (AlgWord h i) else to (wrong X1 w))
 in_lines h None w = if is (codes "id") w then to (IdWord h None) else to (wrong X1 w)
 
--- behind an id that has no class
+-- after an id that has no class
 abbrev pub plain : BucketHead → Option ℤ → ℤ → Word → Move
 plain h None i w = in_lines h (Some i) w
 plain h (Some j) i w = to (wrong X1 w)

@@ -1,5 +1,0 @@
-use Rattle.std.proofs.Common.{◌≡◌, length}
-use Rattle.bucket_tests.proofs.tests.a_list_picks_as_its_plain_form.Given as goal
-
-abbrev pub invariant-questions : goal.invariant-questions
-invariant-questions g l = l.perm ≡ record { id = l.bucket-inside.id; size = length l.bucket-inside.entries.items }

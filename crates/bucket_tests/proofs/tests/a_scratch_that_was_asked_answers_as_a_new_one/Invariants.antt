@@ -1,5 +1,0 @@
-use Rattle.std.proofs.Common.{◌≡◌}
-use Rattle.bucket_tests.proofs.tests.a_scratch_that_was_asked_answers_as_a_new_one.Given as goal
-
-abbrev pub invariant-questions : goal.invariant-questions
-invariant-questions g l = l.asked.size ≡ l.size

@@ -1,6 +1,0 @@
-use Rattle.std.proofs.Common.{◌≡◌}
-use Rattle.crush_bucket.specs.Tables.{perms_of}
-use Rattle.choose_tests.proofs.tests.ask_all.Given as goal
-
-abbrev pub invariant-inputs : goal.invariant-inputs
-invariant-inputs g l = l.scratch ≡ perms_of l.tables

@@ -1,0 +1,152 @@
+-- The canonical text of a map is a text of that map.
+use Rattle.std.proofs.Common.{◌≡◌, ◌∙◌, ℕ, ◌+◌, ◌<◌, ◌≤◌, ◌^◌, List, [], ◌∷◌, ◌++◌, map, sum_by, false, refl, sym, ap, subst, arith, codes, append_assoc, Option, Some, None, IfSome, slice_get}
+use Rattle.std.proofs.lemmas.List.{append-nil}
+use Rattle.std.proofs.lemmas.List.Concat.{flat_map-append}
+use Rattle.std.proofs.lemmas.List.Sorted.{IsPermutation-refl}
+use Rattle.std.specs.List.{flat_map, AllByRecursion}
+use Rattle.crush_map.specs.declared.draft.TypeName.{TypeName}
+use Rattle.crush_map.specs.declared.draft.Device.{Device}
+use Rattle.crush_map.specs.declared.draft.Bucket.{Bucket}
+use Rattle.crush_map.specs.declared.draft.Rule.{Rule}
+use Rattle.crush_map.specs.Map.{Map, draft_of, IsMap, IsMapOf}
+use Rattle.crush_map.specs.Sound.{IsTypeAt, IsDeviceAt, IsBucketAt, IsRuleAt}
+use Rattle.crush_words.specs.Words.{Word, words, words_from}
+use Rattle.crush_grammar.specs.Syntax.{Early, early_words, early_declares, Late, late_words, late_declares, Text, text_words, text_declares, Declares}
+use Rattle.crush_grammar.specs.Fronts.{last_line}
+use Rattle.crush_grammar.specs.declared.declaration.Declaration.{Declaration}
+use Rattle.crush_text.specs.Canonical.{tunable_lines, device_line, type_line, bucket_lines, rule_lines, canonical}
+use Rattle.crush_text.specs.Judging.{declared, declared_fault, last_fault, at_line}
+use Rattle.crush_text.specs.MapText.{SaysMap, IsTextOf}
+use Rattle.crush_text.proofs.Spelt.{Reads, joined, ends, Spells, numbered, all_spell}
+use Rattle.crush_text.proofs.Trees.{tunables_of, tunable_declared, tunables_spell, device_declared, device_spells, type_declared, type_spells, bucket_declared, bucket_height, bucket_spells, rule_declared, rule_height, rule_spells}
+use Rattle.crush_text.proofs.SoundMap.{Sound, all_by, bucket_is_written, rule_is_written}
+use Rattle.crush_text.proofs.States.{with_rules}
+use Rattle.crush_text.proofs.Judged.{ranges, declarations_of, map_goes}
+
+-- ---- remarks
+
+begins : Reads 1 (codes "# begin crush map\n") (1 + 1) []
+begins = record { reads = λ rest. refl }
+
+devices_follow : (n : ℕ) → Reads n (codes "\n# devices\n") (n + 1 + 1) []
+devices_follow n = record { reads = λ rest. refl }
+
+types_follow : (n : ℕ) → Reads n (codes "\n# types\n") (n + 1 + 1) []
+types_follow n = record { reads = λ rest. refl }
+
+buckets_follow : (n : ℕ) → Reads n (codes "\n# buckets\n") (n + 1 + 1) []
+buckets_follow n = record { reads = λ rest. refl }
+
+rules_follow : (n : ℕ) → Reads n (codes "\n# rules\n") (n + 1 + 1) []
+rules_follow n = record { reads = λ rest. refl }
+
+end_follows : (n : ℕ) → Reads n (codes "\n# end crush map\n") (n + 1 + 1) []
+end_follows n = record { reads = λ rest. refl }
+
+-- ---- lists of elements
+
+if_mapped : {X : Type 0} (P Q : X → Type 0) (o : Option X) → ((x : X) → P x → Q x) → IfSome o P → IfSome o Q
+if_mapped P Q None h p = tt
+if_mapped P Q (Some x) h p = h x p
+
+devices_spell : (m : Map) → Sound m → (n : ℕ) → Spells (flat_map early_words) (map early_declares) n (flat_map device_line m.devices) (n + sum_by (λ x. 1) m.devices) (numbered device_declared (λ x. 1) n m.devices)
+devices_spell m s = all_spell early_words early_declares device_line device_declared (λ x. 1) m.devices
+    (all_by (λ d. (n : ℕ) → Spells early_words early_declares n (device_line d) (n + 1) (device_declared n d)) m.devices
+    (λ i. if_mapped (IsDeviceAt i) (λ d. (n : ℕ) → Spells early_words early_declares n (device_line d) (n + 1) (device_declared n d)) (slice_get m.devices i) (λ d is. device_spells d is.id is.name) (s.devices i)))
+
+types_spell : (m : Map) → Sound m → (n : ℕ) → Spells (flat_map early_words) (map early_declares) n (flat_map type_line m.types) (n + sum_by (λ x. 1) m.types) (numbered type_declared (λ x. 1) n m.types)
+types_spell m s = all_spell early_words early_declares type_line type_declared (λ x. 1) m.types
+    (all_by (λ t. (n : ℕ) → Spells early_words early_declares n (type_line t) (n + 1) (type_declared n t)) m.types
+    (λ i. if_mapped (IsTypeAt i) (λ t. (n : ℕ) → Spells early_words early_declares n (type_line t) (n + 1) (type_declared n t)) (slice_get m.types i) (λ t is. type_spells t is.number is.name) (s.types i)))
+
+buckets_spell : (m : Map) → Sound m → (n : ℕ) → Spells (flat_map late_words) (map late_declares) n (flat_map (bucket_lines m) m.buckets) (n + sum_by bucket_height m.buckets) (numbered (bucket_declared m) bucket_height n m.buckets)
+buckets_spell m s = all_spell late_words late_declares (bucket_lines m) (bucket_declared m) bucket_height m.buckets
+    (all_by (λ b. (n : ℕ) → Spells late_words late_declares n (bucket_lines m b) (n + bucket_height b) (bucket_declared m n b)) m.buckets
+    (λ i. if_mapped (IsBucketAt m i) (λ b. (n : ℕ) → Spells late_words late_declares n (bucket_lines m b) (n + bucket_height b) (bucket_declared m n b)) (slice_get m.buckets i) (λ b is. bucket_spells m b (bucket_is_written m s i b is)) (s.buckets i)))
+
+rules_spell : (m : Map) → Sound m → (n : ℕ) → Spells (flat_map late_words) (map late_declares) n (flat_map (rule_lines m) m.rules) (n + sum_by rule_height m.rules) (numbered (rule_declared m) rule_height n m.rules)
+rules_spell m s = all_spell late_words late_declares (rule_lines m) (rule_declared m) rule_height m.rules
+    (all_by (λ r. (n : ℕ) → Spells late_words late_declares n (rule_lines m r) (n + rule_height r) (rule_declared m n r)) m.rules
+    (λ i. if_mapped (IsRuleAt m i) (λ r. (n : ℕ) → Spells late_words late_declares n (rule_lines m r) (n + rule_height r) (rule_declared m n r)) (slice_get m.rules i) (λ r is. rule_spells m r is.some (rule_is_written m s i r is)) (s.rules i)))
+
+-- ---- the whole text
+
+without_remarks : (t d y b r : List Word) → (((((((((([] ++ t) ++ []) ++ d) ++ []) ++ y) ++ []) ++ b) ++ []) ++ r) ++ []) ≡ (t ++ (d ++ y)) ++ (b ++ r)
+without_remarks t d y b r = simp (append_assoc, append-nil)
+
+mapped_parts : {X Y : Type 0} (f : X → Y) (xs ys : List X) → map f (xs ++ ys) ≡ map f xs ++ map f ys
+mapped_parts f [] ys = refl
+mapped_parts f (x ∷ xs) ys = ap (λ zs. f x ∷ zs) (mapped_parts f xs ys)
+
+-- the canonical text is the words of a tree, which declares the map
+record Spelt (m : Map) : Type 0 where
+  pub tree : Text
+  pub i : ℕ
+  pub j : ℕ
+  pub k : ℕ
+  pub l : ℕ
+  pub n : ℕ
+  pub declares : text_declares tree ≡ declarations_of m i j k l n
+  pub last : ℕ
+  pub reads : Reads 1 (canonical m) last (text_words tree)
+
+spelt : (m : Map) → Sound m → Spelt m
+unfolding canonical
+spelt m s =
+    let r = ranges m.tunables s.tunables in
+    let (ts, dt, rt) = tunables_spell m.tunables (let low = r.total_tries in omega arith) (let low = r.descend_once in omega arith) (let low = r.vary_r in omega arith) (let low = r.stable in omega arith) (1 + 1) in
+    let j = 1 + 1 + sum_by (λ x. 1) (tunables_of m.tunables) + 1 + 1 in
+    let (ds, dd, rd) = devices_spell m s j in
+    let k = j + sum_by (λ x. 1) m.devices + 1 + 1 in
+    let (ys, dy, ry) = types_spell m s k in
+    let l = k + sum_by (λ x. 1) m.types + 1 + 1 in
+    let (bs, db, rb) = buckets_spell m s l in
+    let n = l + sum_by bucket_height m.buckets + 1 + 1 in
+    let (rs, dr, rr) = rules_spell m s n in
+    let tree : Text = record { early = ts ++ (ds ++ ys); late = bs ++ rs } in
+    let early_parts : flat_map early_words (ts ++ (ds ++ ys)) ≡ flat_map early_words ts ++ (flat_map early_words ds ++ flat_map early_words ys) =
+    flat_map-append early_words ts (ds ++ ys) ∙ ap (λ ws. flat_map early_words ts ++ ws) (flat_map-append early_words ds ys) in
+    let late_parts : flat_map late_words (bs ++ rs) ≡ flat_map late_words bs ++ flat_map late_words rs = flat_map-append late_words bs rs in
+    let early_all : map early_declares (ts ++ (ds ++ ys)) ≡ numbered tunable_declared (λ x. 1) (1 + 1) (tunables_of m.tunables) ++ (numbered device_declared (λ x. 1) j m.devices ++ numbered type_declared (λ x. 1) k m.types) =
+    mapped_parts early_declares ts (ds ++ ys) ∙ (ap (λ ws. map early_declares ts ++ ws) (mapped_parts early_declares ds ys) ∙ cc) in
+    let late_all : map late_declares (bs ++ rs) ≡ numbered (bucket_declared m) bucket_height l m.buckets ++ numbered (rule_declared m) rule_height n m.rules =
+    mapped_parts late_declares bs rs ∙ cc in
+    let reads = joined (joined (joined (joined (joined (joined (joined (joined (joined (joined begins rt) (devices_follow (1 + 1 + sum_by (λ x. 1) (tunables_of m.tunables)))) rd) (types_follow (j + sum_by (λ x. 1) m.devices))) ry)
+    (buckets_follow (k + sum_by (λ x. 1) m.types))) rb) (rules_follow (l + sum_by bucket_height m.buckets))) rr) (end_follows (n + sum_by rule_height m.rules)) in
+    let same = without_remarks (flat_map early_words ts) (flat_map early_words ds) (flat_map early_words ys) (flat_map late_words bs) (flat_map late_words rs) in
+    record {
+      tree = tree;
+      i = 1 + 1;
+      j = j;
+      k = k;
+      l = l;
+      n = n;
+      declares = ap (λ xs. xs ++ map late_declares (bs ++ rs)) early_all ∙ ap (λ xs. (numbered tunable_declared (λ x. 1) (1 + 1) (tunables_of m.tunables) ++ (numbered device_declared (λ x. 1) j m.devices ++ numbered type_declared (λ x. 1) k m.types)) ++ xs) late_all;
+      last = n + sum_by rule_height m.rules + 1 + 1;
+      reads = ends (n + sum_by rule_height m.rules + 1 + 1) (text_words tree) reads refl
+          (same ∙ (ap (λ ws. ws ++ (flat_map late_words bs ++ flat_map late_words rs)) (sym early_parts) ∙ ap (λ ws. flat_map early_words (ts ++ (ds ++ ys)) ++ ws) (sym late_parts)));
+    }
+
+spelt_words : (m : Map) → (p : Spelt m) → words (canonical m) ≡ text_words p.tree
+spelt_words m p =
+    ap (words_from false 1) (sym (append-nil (canonical m))) ∙ (p.reads.reads [] ∙ append-nil (text_words p.tree))
+
+pub is_text_of : (m : Map) → Sound m → IsMap m → IsTextOf (canonical m) m
+is_text_of m s is =
+    let p = spelt m s in
+    let ds = declarations_of m p.i p.j p.k p.l p.n in
+    let goes = map_goes m s p.i p.j p.k p.l p.n in
+    record {
+      declarations = ds;
+      form = (p.tree, spelt_words m p, sym p.declares);
+      each = goes.faultless;
+      end = ap (last_fault (last_line 1 (words (canonical m)))) goes.makes ∙ ap (at_line (last_line 1 (words (canonical m)))) s.faultless.1;
+      draft = subst (λ x. IsMapOf x.draft m) (sym goes.makes) (record {
+        types = IsPermutation-refl m.types;
+        devices = IsPermutation-refl m.devices;
+        buckets = refl;
+        rules = IsPermutation-refl m.rules;
+        tunables = refl;
+      });
+      map = is;
+    }

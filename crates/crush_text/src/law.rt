@@ -1,0 +1,33 @@
+//! What holds of every text of a map. A call does nothing: its caller learns the law.
+
+ghost use Rattle.std.specs.Prelude.{◌≡◌, ℕ, List};
+ghost use Rattle.crush_map.specs.Map.{Map, IsMap};
+ghost use Rattle.crush_text.specs.Canonical.{canonical};
+ghost use Rattle.crush_text.specs.MapText.{IsTextOf};
+
+use crush_grammar::words_declare_once;
+use crush_map::{
+    buckets_are_sound, first_fault_is_first, numbers_and_names_are_once, numbers_are_sound,
+    rules_are_sound, weight_comes_back,
+};
+
+/// A text is that of one map at most.
+pub fn texts_say_one_map()
+    ensures { (text : List ℕ) (m n : Map) → IsTextOf text m → IsTextOf text n → m ≡ n }
+{
+    words_declare_once();
+}
+
+/// The canonical text of a map is a text of that map, and of no other.
+pub fn canonical_texts_are_read()
+    ensures own { (m : Map) → IsMap m → IsTextOf (canonical m) m }
+    ensures alone { (m n : Map) → IsMap m → IsTextOf (canonical m) n → n ≡ m }
+{
+    buckets_are_sound();
+    first_fault_is_first();
+    numbers_and_names_are_once();
+    numbers_are_sound();
+    rules_are_sound();
+    weight_comes_back();
+    texts_say_one_map();
+}

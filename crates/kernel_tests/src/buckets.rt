@@ -1,0 +1,322 @@
+//! Worked rows, picks beside their plain forms, tables and scratches of a map.
+
+ghost use Rattle.std.specs.Prelude.{◌≡◌, ◌<◌, ◌^◌};
+ghost use Rattle.crush_bucket.specs.Pick.{perm_of};
+
+use crate::drafts::{ONE, SOUND, Short, draft, entries};
+use crate::plain;
+use Kind::{List, Tree, Uniform};
+use crush_bucket::{
+    ListBucket, Perm, Picker, Scratch, Tables, TreeBucket, UniformBucket, can_be_asked,
+};
+use crush_map::{CrushMap, ItemId, Kind, Weight, has_equal_weights};
+use std::alloc::{AllocError, Global};
+use std::process::Abort;
+
+/// The next of a row of numbers that look random, and a number of it.
+pub(crate) fn next(seed: &mut u64) -> u32 {
+    *seed = seed
+        .wrapping_mul(6_364_136_223_846_793_005)
+        .wrapping_add(1_442_695_040_888_963_407);
+    (*seed >> 33) as u32
+}
+
+/// What a bucket of this id and size picks for inputs and attempts, asked in turn with one scratch.
+fn ask<P: Picker>(
+    alloc: Global,
+    bucket: &P,
+    id: ItemId,
+    size: usize,
+    questions: &[(u32, u32)],
+) -> Result<Vec<ItemId>, AllocError>
+    requires few { size < 2 ^ 32 }
+    requires its { perm_of (P.bucket bucket.now) ≡ record { id = id; size = size } }
+{
+    let mut perm = Perm::build(alloc, id, size)?;
+    let mut picks = Vec::new(alloc);
+    'questions: for (x, r) in questions {
+        picks.push(bucket.pick(&mut perm, *x, *r))?;
+    }
+    Ok(picks)
+}
+
+/// What the bucket of a kind picks for inputs and attempts.
+fn picked(
+    rt: &impl Abort,
+    alloc: Global,
+    kind: Kind,
+    id: ItemId,
+    entries: &[(ItemId, Weight)],
+    questions: &[(u32, u32)],
+) -> Result<Vec<ItemId>, AllocError> {
+    assert!(rt; can_be_asked(entries));
+    let picks = match kind {
+        Uniform => {
+            assert!(rt; has_equal_weights(entries));
+            let bucket = UniformBucket::build(alloc, id, entries)?;
+            ask(alloc, &bucket, id, entries.len(), questions)?
+        }
+        List => {
+            let bucket = ListBucket::build(alloc, id, entries)?;
+            ask(alloc, &bucket, id, entries.len(), questions)?
+        }
+        Tree => {
+            let bucket = TreeBucket::build(alloc, id, entries)?;
+            ask(alloc, &bucket, id, entries.len(), questions)?
+        }
+    };
+    assert_eq!(rt; picks.len(), questions.len());
+    Ok(picks)
+}
+
+/// The kind and the items of a bucket -1, and the item that it picks for the input 0 at the attempt 0.
+const FIRST: &[(Kind, &[(i32, u32)], i32)] = &[
+    (Uniform, &[(5, ONE), (6, ONE), (7, ONE)], 7),
+    (List, &[(0, ONE), (1, ONE)], 0),
+    (List, &[(0, ONE), (1, 22 * ONE)], 0),
+    (List, &[(0, ONE), (1, 23 * ONE)], 1),
+];
+
+/// The kind and the items of a bucket -1, and the item that it picks for every input at every attempt: a list without weight
+/// has 1, 7, 8, 9, 16 and 17 items, below, at and above full eights.
+const ALWAYS: &[(Kind, &[(i32, u32)], i32)] = &[
+    (List, &[(4, ONE), (9, 0)], 4),
+    (List, &[(4, 0), (9, ONE)], 9),
+    (List, &[(4, 0), (9, 0)], 4),
+    (Tree, &[(10, 0), (11, 0), (12, 0)], 12),
+    (Tree, &[(10, 0), (11, ONE), (12, 0)], 11),
+    (List, &[(3, 0); 1], 3),
+    (
+        List,
+        &[(3, 0), (4, 0), (5, 0), (6, 0), (7, 0), (8, 0), (9, 0)],
+        3,
+    ),
+    (
+        List,
+        &[
+            (3, 0),
+            (4, 0),
+            (5, 0),
+            (6, 0),
+            (7, 0),
+            (8, 0),
+            (9, 0),
+            (10, 0),
+        ],
+        3,
+    ),
+    (
+        List,
+        &[
+            (3, 0),
+            (4, 0),
+            (5, 0),
+            (6, 0),
+            (7, 0),
+            (8, 0),
+            (9, 0),
+            (10, 0),
+            (11, 0),
+        ],
+        3,
+    ),
+    (
+        List,
+        &[
+            (3, 0),
+            (4, 0),
+            (5, 0),
+            (6, 0),
+            (7, 0),
+            (8, 0),
+            (9, 0),
+            (10, 0),
+            (11, 0),
+            (12, 0),
+            (13, 0),
+            (14, 0),
+            (15, 0),
+            (16, 0),
+            (17, 0),
+            (18, 0),
+        ],
+        3,
+    ),
+    (
+        List,
+        &[
+            (3, 0),
+            (4, 0),
+            (5, 0),
+            (6, 0),
+            (7, 0),
+            (8, 0),
+            (9, 0),
+            (10, 0),
+            (11, 0),
+            (12, 0),
+            (13, 0),
+            (14, 0),
+            (15, 0),
+            (16, 0),
+            (17, 0),
+            (18, 0),
+            (19, 0),
+        ],
+        3,
+    ),
+];
+
+#[test]
+fn buckets_answer_the_worked_rows(rt: HostRuntime) -> Result<(), AllocError> {
+    let alloc = rt.alloc();
+    let mut many = Vec::new(alloc);
+    for x in 0..50 {
+        many.push((x, x / 3))?;
+        many.push((x, x % 7))?;
+    }
+    let first = [(0, 0)];
+    for (rows, questions) in [(FIRST, &first[..]), (ALWAYS, many.as_slice())] {
+        for (case, (kind, items, want)) in rows.iter().enumerate() {
+            let entries = entries(alloc, items)?;
+            for pick in picked(&rt, alloc, *kind, ItemId(-1), &entries, questions)? {
+                assert_eq!(rt; pick, ItemId(*want), "case {case}");
+            }
+        }
+    }
+    Ok(())
+}
+
+/// The short cut is taken and left, and x changes and comes back.
+#[test]
+fn a_scratch_that_was_asked_answers_as_a_new_one(rt: HostRuntime) -> Result<(), AllocError> {
+    let alloc = rt.alloc();
+    let id = ItemId(-7);
+    for size in 1..10 {
+        let mut asked = Perm::build(alloc, id, size)?;
+        'questions: for (x, r) in [(0, 0), (0, 2), (1, 0), (0, 1), (1, 0), (1, 8)] {
+            let mut new = Perm::build(alloc, id, size)?;
+            let place = r % size;
+            assert_eq!(rt;
+                asked.member(x, place),
+                new.member(x, place),
+                "{size} {x} {r}"
+            );
+        }
+    }
+    Ok(())
+}
+
+/// How many items the bucket of a round has: around powers of two that are past 64, else 1 to 200.
+fn random_size(seed: &mut u64, round: u32) -> u16 {
+    match round {
+        0 => 65,
+        1 => 127,
+        2 => 128,
+        3 => 129,
+        _ => 1 + (next(seed) % 200) as u16,
+    }
+}
+
+/// Items of random weights, whose sum is below 2^32, or of one weight.
+fn random_entries(
+    alloc: Global,
+    seed: &mut u64,
+    round: u32,
+    even: bool,
+) -> Result<Vec<(ItemId, Weight)>, AllocError> {
+    let size = random_size(seed, round);
+    let mut entries = Vec::new(alloc);
+    for place in 0..size {
+        let weight = if even { ONE } else { next(seed) % 16_777_216 };
+        entries.push((ItemId(i32::from(place)), Weight(weight)))?;
+    }
+    Ok(entries)
+}
+
+fn random_id(seed: &mut u64) -> ItemId {
+    ItemId(-1 - (next(seed) % 1_000) as i32)
+}
+
+/// 200 buckets of each kind, of up to 200 items, each asked ten times for few inputs.
+#[test]
+fn buckets_pick_as_their_plain_forms(rt: HostRuntime) -> Result<(), AllocError> {
+    let alloc = rt.alloc();
+    let mut seed = 2_026;
+    for round in 0..200 {
+        for kind in [Uniform, List, Tree] {
+            let id = random_id(&mut seed);
+            let entries = random_entries(alloc, &mut seed, round, kind == Uniform)?;
+            let mut questions = Vec::new(alloc);
+            for _ in 0..10 {
+                questions.push((next(&mut seed) % 3, next(&mut seed)))?;
+            }
+            let picks = picked(&rt, alloc, kind, id, &entries, &questions)?;
+            for ((x, r), pick) in questions.iter().zip(picks) {
+                let want = plain::pick(alloc, kind, id, &entries, *x, *r)?;
+                assert_eq!(rt; pick, want, "round {round}");
+            }
+        }
+    }
+    Ok(())
+}
+
+/// Devices 0 to 2 in buckets -2 and -3, which are in -1; -4 is empty.
+const SMALL: Short<'static> = Short {
+    types: &[(0, "osd"), (1, "host")],
+    devices: &[(0, "osd.0"), (1, "osd.1"), (2, "osd.2")],
+    buckets: &[
+        (-2, "b-2", 1, List, &[(0, ONE), (1, ONE)]),
+        (-3, "b-3", 1, Tree, &[(2, ONE)]),
+        (-1, "b-1", 1, Uniform, &[(-2, ONE), (-3, ONE)]),
+        (-4, "b-4", 1, List, &[]),
+    ],
+    ..SOUND
+};
+
+/// Tables of the small map, and a scratch of them, are what its draft says and pick what the plain forms pick.
+fn assert_tables(rt: &impl Abort, alloc: Global) -> Result<(), AllocError> {
+    let Ok(map) = CrushMap::check(alloc, draft(alloc, SMALL)?)? else {
+        return rt.abort();
+    };
+    let tables = Tables::build(alloc, &map)?;
+    let mut scratch = Scratch::build(alloc, &tables)?;
+    assert!(rt; tables.has_device(2) && !tables.has_device(3));
+    assert!(rt; tables.bucket_of(ItemId(-5)).is_none() && tables.bucket_of(ItemId(2)).is_none());
+    assert_eq!(rt; tables.tunables().total_tries, 50);
+    let (Some(root), Some(list), Some(empty)) = (
+        tables.bucket_of(ItemId(-1)),
+        tables.bucket_of(ItemId(-2)),
+        tables.bucket_of(ItemId(-4)),
+    ) else {
+        return rt.abort();
+    };
+    assert!(rt; tables.is_empty(empty) && empty.place() == 3);
+    assert_eq!(rt;
+        (tables.type_of(root), tables.size(root), root.place()),
+        (1, 2, 2)
+    );
+    assert!(rt; tables.kind(root) == Uniform && !tables.is_empty(root));
+    assert!(rt; list.place() == 0 && !tables.is_empty(list));
+    let hosts = [(ItemId(-2), Weight(ONE)), (ItemId(-3), Weight(ONE))];
+    let host = tables.pick(root, &mut scratch, 7, 3);
+    assert_eq!(rt; host, plain::uniform(alloc, ItemId(-1), &hosts, 7, 3)?);
+    let devices = [(ItemId(0), Weight(ONE)), (ItemId(1), Weight(ONE))];
+    let device = tables.pick(list, &mut scratch, 7, 3);
+    assert_eq!(rt; device, plain::list(ItemId(-2), &devices, 7, 3));
+    let Some(below) = tables.bucket_of(host) else {
+        return rt.abort();
+    };
+    assert!(rt; below.place() < 2 && !tables.is_empty(below));
+    let device = tables.pick(below, &mut scratch, 7, 3);
+    assert!(rt; 0 <= device.0 && device.0 < 3);
+    Ok(())
+}
+
+/// Where memory is refused once, at whichever growth, the next try has it and answers as ever.
+#[test]
+fn tables_of_a_map_are_asked_and_built_at_the_next_try(rt: HostRuntime) {
+    let alloc = rt.alloc();
+    let first = assert_tables(&rt, alloc);
+    assert!(rt; first.is_ok() || assert_tables(&rt, alloc).is_ok());
+}

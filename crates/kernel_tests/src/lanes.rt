@@ -1,0 +1,26 @@
+//! Eight hashes at a time.
+
+use crate::buckets::next;
+use crush_hash::{hash4, hash4_lanes};
+use std::process::Abort;
+
+/// What Ceph 16's `crush_hash32_4` answers stands in the third lane; each lane is the hash of its item.
+#[test]
+fn lanes_hash_as_one_by_one(rt: HostRuntime) {
+    assert_eq!(rt;
+        hash4_lanes(1, &[0, 1, 2, 3, 4, 5, 6, 7], 3, 4)[2],
+        1_768_759_062
+    );
+    let mut seed = 2_026;
+    for _ in 0..1_000 {
+        let (x, r, id) = (next(&mut seed), next(&mut seed), next(&mut seed));
+        let mut items = [0; 8];
+        for lane in 0..8 {
+            items[lane] = next(&mut seed).wrapping_mul(next(&mut seed));
+        }
+        let hashes = hash4_lanes(x, &items, r, id);
+        for lane in 0..8 {
+            assert_eq!(rt; hashes[lane], hash4(x, items[lane], r, id));
+        }
+    }
+}

@@ -1,0 +1,120 @@
+//! A map at the limits of its numbers, with 1,024 devices and 1,024 buckets: what is built of it answers.
+
+use crate::drafts::{ONE, SOUND, Short, bucket, choose, generated};
+use crate::rules::{TAKE, ask};
+use crush_map::{Bucket, ItemId, Kind, Listed, Step};
+use std::alloc::{AllocError, Global};
+use std::test::Fail;
+
+/// A bucket of items whose ids fall from the first on, all of whose weight is at one place.
+fn spread(
+    alloc: Global,
+    (id, kind_of, alg): (i32, u32, Kind),
+    first: i32,
+    count: i32,
+    heavy: i32,
+) -> Result<Bucket, AllocError> {
+    let mut items = Vec::new(alloc);
+    for place in 0..count {
+        let weight = if place == heavy { ONE } else { 0 };
+        items.push((first.wrapping_sub(place), weight))?;
+    }
+    bucket(alloc, id, kind_of, alg, &items)
+}
+
+/// The host of a device: uniform with that device alone, or, for the first 32, a list that has a further device without weight behind it.
+fn host(alloc: Global, device: i32) -> Result<Bucket, AllocError> {
+    let id = (-2i32).wrapping_sub(device);
+    let both = [(device, ONE), (device.wrapping_add(992), 0)];
+    if device < 32 {
+        bucket(alloc, id, 1, Kind::List, &both)
+    } else {
+        bucket(alloc, id, 1, Kind::Uniform, &both[..1])
+    }
+}
+
+/// 992 hosts -2 - device. 31 racks -994 - k, trees of 32 hosts: rack k has those of the devices from 32 k on, and all its weight
+/// is in that of device 33 k. A root of the racks, all of whose weight is in rack 17.
+fn all_buckets(alloc: Global) -> Result<Listed<Bucket>, AllocError> {
+    let mut all = Vec::new(alloc);
+    for device in 0..992i32 {
+        all.push(host(alloc, device)?)?;
+    }
+    for k in 0..31i32 {
+        let rack = ((-994i32).wrapping_sub(k), 3, Kind::Tree);
+        let first = (-2i32).wrapping_sub(k.wrapping_mul(32));
+        all.push(spread(alloc, rack, first, 32, k)?)?;
+    }
+    let root = (-1, 10, Kind::List);
+    all.push(spread(alloc, root, -994, 31, 17)?)?;
+    Ok(Listed::new(all))
+}
+
+const ONE_DEVICE: Step = choose!(true, false, 1, 0);
+
+/// A device from the root, and then one from each of nine racks, each third one.
+const STEPS: &[Step] = &[
+    TAKE,
+    ONE_DEVICE,
+    Step::Emit,
+    Step::Take(ItemId(-994)),
+    ONE_DEVICE,
+    Step::Emit,
+    Step::Take(ItemId(-997)),
+    ONE_DEVICE,
+    Step::Emit,
+    Step::Take(ItemId(-1000)),
+    ONE_DEVICE,
+    Step::Emit,
+    Step::Take(ItemId(-1003)),
+    ONE_DEVICE,
+    Step::Emit,
+    Step::Take(ItemId(-1006)),
+    ONE_DEVICE,
+    Step::Emit,
+    Step::Take(ItemId(-1009)),
+    ONE_DEVICE,
+    Step::Emit,
+    Step::Take(ItemId(-1012)),
+    ONE_DEVICE,
+    Step::Emit,
+    Step::Take(ItemId(-1015)),
+    ONE_DEVICE,
+    Step::Emit,
+    Step::Take(ItemId(-1018)),
+    ONE_DEVICE,
+    Step::Emit,
+];
+
+/// Devices with an even number are out, the others are in.
+fn reweights(alloc: Global) -> Result<Vec<(u32, u32)>, AllocError> {
+    let mut given = Vec::new(alloc);
+    for device in 0..1024u32 {
+        given.push((device, if device % 2 == 0 { 0 } else { ONE }))?;
+    }
+    Ok(given)
+}
+
+/// The root holds device 561, rack 3 k holds device 99 k, and those with an even number are out.
+#[test]
+fn a_map_of_1024_devices_and_1024_buckets_is_built_and_answers(
+    rt: HostRuntime,
+) -> Result<(), Fail> {
+    let alloc = rt.alloc();
+    let short = Short {
+        rules: &[(0, "rule", STEPS)],
+        ..SOUND
+    };
+    let draft = generated(alloc, short, 1024, all_buckets(alloc)?)?;
+    let given = reweights(alloc)?;
+    let items = [
+        Some(ItemId(561)),
+        Some(ItemId(99)),
+        Some(ItemId(297)),
+        Some(ItemId(495)),
+        Some(ItemId(693)),
+    ];
+    let trace = [99, 297, 495, 561, 693];
+    ask(&rt, alloc, draft, &given, 10, 4, Some((&items, &trace)))?;
+    Ok(())
+}

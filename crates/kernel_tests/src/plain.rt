@@ -1,0 +1,108 @@
+//! What each kind picks, worked out plainly on the whole list: slow, and written apart from the buckets.
+
+use crush_hash::{hash3, hash4};
+use crush_map::{ItemId, Kind, Weight};
+use std::alloc::{AllocError, Global};
+
+/// A device that no test declares.
+const NOTHING: ItemId = ItemId(65_535);
+
+fn item_at(entries: &[(ItemId, Weight)], place: usize) -> ItemId {
+    match entries.get(place) {
+        Some(entry) => entry.0,
+        None => NOTHING,
+    }
+}
+
+fn weight_within(entries: &[(ItemId, Weight)], from: usize, to: usize) -> u64 {
+    let mut sum = 0u64;
+    for (place, entry) in entries.iter().enumerate() {
+        if from <= place && place < to {
+            sum = sum.wrapping_add(u64::from(entry.1.0));
+        }
+    }
+    sum
+}
+
+/// What the bucket of a kind picks.
+pub(crate) fn pick(
+    alloc: Global,
+    kind: Kind,
+    id: ItemId,
+    entries: &[(ItemId, Weight)],
+    x: u32,
+    r: u32,
+) -> Result<ItemId, AllocError> {
+    match kind {
+        Kind::Uniform => uniform(alloc, id, entries, x, r),
+        Kind::List => Ok(list(id, entries, x, r)),
+        Kind::Tree => Ok(tree(id, entries, x, r)),
+    }
+}
+
+/// The whole permutation is made for each question.
+pub(crate) fn uniform(
+    alloc: Global,
+    id: ItemId,
+    entries: &[(ItemId, Weight)],
+    x: u32,
+    r: u32,
+) -> Result<ItemId, AllocError> {
+    let size = entries.len();
+    if size == 0 {
+        return Ok(NOTHING);
+    }
+    let mut places = Vec::new(alloc);
+    for place in 0..size {
+        places.push(place)?;
+    }
+    for place in 0..size {
+        let word = (place % 65_536) as u32;
+        let i = hash3(x, id.word(), word) as usize % (size - place);
+        if place + i < places.len() && place < places.len() {
+            places.swap(place, place + i);
+        }
+    }
+    Ok(match places.as_slice().get(r as usize % size) {
+        Some(place) => item_at(entries, *place),
+        None => NOTHING,
+    })
+}
+
+/// Each place is tried from the first on, and the last that passes stays.
+pub(crate) fn list(id: ItemId, entries: &[(ItemId, Weight)], x: u32, r: u32) -> ItemId {
+    let mut picked = item_at(entries, 0);
+    for (place, entry) in entries.iter().enumerate() {
+        let sum = weight_within(entries, 0, place.wrapping_add(1));
+        let draw = u64::from(hash4(x, entry.0.word(), r, id.word())) % 65_536;
+        if draw.wrapping_mul(sum) / 65_536 < u64::from(entry.1.0) {
+            picked = entry.0;
+        }
+    }
+    picked
+}
+
+/// The range of places is halved until one is left.
+fn tree(id: ItemId, entries: &[(ItemId, Weight)], x: u32, r: u32) -> ItemId {
+    let mut width = 1usize;
+    for _ in 0..32 {
+        if width < entries.len() {
+            width = width.wrapping_mul(2);
+        }
+    }
+    let mut from = 0usize;
+    for _ in 0..32 {
+        if width > 1 {
+            let middle = from.wrapping_add(width / 2);
+            let end = from.wrapping_add(width);
+            let label = (from.wrapping_mul(2).wrapping_add(width) % 4_294_967_296) as u32;
+            let draw = u64::from(hash4(x, label, r, id.word()));
+            let drawn = draw.wrapping_mul(weight_within(entries, from, end)) / 4_294_967_296;
+            if drawn >= weight_within(entries, from, middle) {
+                from = middle;
+            }
+            width /= 2;
+        }
+    }
+    item_at(entries, from.min(entries.len().saturating_sub(1)))
+}

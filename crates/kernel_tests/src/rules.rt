@@ -1,0 +1,506 @@
+//! Rules that run on maps of drafts: worked examples, and what Ceph 16's `crush_do_rule` answers.
+
+ghost use Rattle.std.specs.Prelude.{◌≡◌, ◌≤◌};
+ghost use Rattle.crush_bucket.specs.Tables.{perms_of};
+ghost use Rattle.crush_choose.specs.Rules.{CanRun};
+
+use crate::drafts::{JEWEL, ONE, SOUND, Short, ShortBucket, bucket, choose, draft, generated};
+use Kind::{List, Tree, Uniform};
+use crush_bucket::{Scratch, Tables};
+use crush_choose::{Out, Slot, Weights, is_in, laws, run_rule};
+use crush_map::{Bucket, CrushMap, ItemId, Kind, Listed, MapDraft, Rule, Step, Tunables};
+use std::alloc::{AllocError, Global};
+use std::process::Abort;
+use std::test::Fail;
+
+const LEGACY: Tunables = Tunables {
+    total_tries: 19,
+    descend_once: 0,
+    vary_r: 0,
+    stable: 0,
+};
+
+pub(crate) const TAKE: Step = Step::Take(ItemId(-1));
+
+/// The wanted answer and trace of each input, where they are the same.
+pub(crate) type Wanted<'a> = Option<(&'a [Slot], &'a [u32])>;
+
+/// Runs a rule for inputs from 0 on, and folds all answers.
+fn ask_all(
+    rt: &impl Abort,
+    tables: &Tables,
+    scratch: &mut Scratch,
+    rule: &Rule,
+    size: u32,
+    weights: &Weights,
+    out: &mut Out,
+    inputs: u32,
+    want: Wanted<'_>,
+) -> u64
+    requires rule { CanRun tables.now rule.now }
+    requires fits { scratch.old ≡ perms_of tables.now }
+    requires some { 1 ≤ size }
+    requires few { size ≤ 32 }
+{
+    let mut sum: u64 = 0;
+    'inputs: for x in 0..inputs {
+        run_rule(tables, scratch, rule, x, size, weights, out);
+        sum = folded(sum, out.items());
+        if let Some((items, trace)) = want {
+            assert_eq!(rt; out.items(), items, "the answer at {x}");
+            assert_eq!(rt; out.trace(), trace, "the trace at {x}");
+        }
+    }
+    sum
+}
+
+/// The folded answers of the rule of a map.
+pub(crate) fn ask(
+    rt: &impl Abort,
+    alloc: Global,
+    draft: MapDraft,
+    given: &[(u32, u32)],
+    size: u32,
+    inputs: u32,
+    want: Wanted<'_>,
+) -> Result<u64, Fail> {
+    assert!(rt; 1 <= size && size <= 32);
+    let answer = CrushMap::check(alloc, draft)?;
+    assert!(rt; answer.is_ok());
+    let map = answer.ok().unwrap();
+    let tables = Tables::build(alloc, &map)?;
+    let mut scratch = Scratch::build(alloc, &tables)?;
+    let weights = Weights::build(alloc, &map, given)?;
+    let mut out = Out::build(alloc)?;
+    let rules = map.rules();
+    assert_eq!(rt; rules.len(), 1);
+    laws::rules_of_a_map_can_run();
+    let rule = &rules[0];
+    Ok(ask_all(
+        rt,
+        &tables,
+        &mut scratch,
+        rule,
+        size,
+        &weights,
+        &mut out,
+        inputs,
+        want,
+    ))
+}
+
+fn folded(sum: u64, items: &[Slot]) -> u64 {
+    let mut sum = sum.wrapping_mul(31).wrapping_add(items.len() as u64);
+    for slot in items {
+        let number = match *slot {
+            Some(item) => item.word(),
+            None => 0x7fff_ffff,
+        };
+        sum = sum.wrapping_mul(31).wrapping_add(u64::from(number));
+    }
+    sum
+}
+
+/// A rule on a map of seven devices, and what it answers for each of so many inputs.
+#[derive(Clone, Copy)]
+struct Example<'a> {
+    buckets: &'a [ShortBucket<'a>],
+    tunables: Tunables,
+    steps: &'a [Step],
+    reweights: &'a [(u32, u32)],
+    size: u32,
+    inputs: u32,
+    items: &'a [Slot],
+    trace: &'a [u32],
+}
+
+const NOTHING: Example<'static> = Example {
+    buckets: &[],
+    tunables: JEWEL,
+    steps: &[],
+    reweights: &[],
+    size: 1,
+    inputs: 1_000,
+    items: &[],
+    trace: &[],
+};
+
+const ONE_DEVICE: Example<'static> = Example {
+    buckets: &[(-1, "root", 10, Uniform, &[(3, ONE)])],
+    ..NOTHING
+};
+
+const EMPTY_HOST: Example<'static> = Example {
+    buckets: &[
+        (-2, "host", 1, List, &[]),
+        (-1, "root", 10, List, &[(-2, 0)]),
+    ],
+    ..NOTHING
+};
+
+/// A host of no weight, which is never chosen.
+const LIGHT_HOST: Example<'static> = Example {
+    buckets: &[
+        (-2, "host", 1, List, &[(0, ONE)]),
+        (-3, "light", 1, List, &[(1, ONE)]),
+        (-1, "root", 10, List, &[(-2, ONE), (-3, 0)]),
+    ],
+    steps: &[TAKE, choose!(true, true, 2, 1), Step::Emit],
+    size: 2,
+    items: &[Some(ItemId(0))],
+    trace: &[0],
+    ..NOTHING
+};
+
+/// A leaf of indep starts from the attempt of its bucket: an even attempt for the leaf picks device 1, which is out, and an odd one device 0.
+const LEAVES: Example<'static> = Example {
+    buckets: &[
+        (-1, "host", 1, Uniform, &[(0, ONE), (1, ONE)]),
+        (-2, "root", 10, List, &[(-1, ONE)]),
+    ],
+    steps: &[
+        Step::Take(ItemId(-2)),
+        choose!(false, true, 0, 1),
+        Step::Emit,
+    ],
+    reweights: &[(1, 0)],
+    inputs: 1,
+    ..NOTHING
+};
+
+const EXAMPLES: &[Example] = &[
+    Example {
+        buckets: &[(-1, "root", 10, Uniform, &[(0, ONE), (1, ONE)])],
+        steps: &[TAKE, choose!(true, false, 0, 0), Step::Emit],
+        reweights: &[(0, 0)],
+        size: 2,
+        items: &[Some(ItemId(1))],
+        trace: &[1],
+        ..NOTHING
+    },
+    Example {
+        steps: &[TAKE, choose!(false, false, 2, 0), Step::Emit],
+        size: 2,
+        items: &[Some(ItemId(3)), None],
+        trace: &[3],
+        ..ONE_DEVICE
+    },
+    Example {
+        steps: &[TAKE, choose!(true, false, 1, 3), Step::Emit],
+        ..ONE_DEVICE
+    },
+    Example {
+        steps: &[TAKE, choose!(false, false, 1, 3), Step::Emit],
+        items: &[None],
+        ..ONE_DEVICE
+    },
+    Example {
+        steps: &[TAKE, choose!(true, false, 1, 0), Step::Emit],
+        ..EMPTY_HOST
+    },
+    Example {
+        steps: &[TAKE, choose!(false, false, 1, 0), Step::Emit],
+        items: &[None],
+        ..EMPTY_HOST
+    },
+    LIGHT_HOST,
+    Example {
+        tunables: LEGACY,
+        ..LIGHT_HOST
+    },
+    // devices that are taken are emitted without a trace
+    Example {
+        steps: &[Step::Take(ItemId(5)), Step::Emit],
+        items: &[Some(ItemId(5))],
+        ..NOTHING
+    },
+    Example {
+        steps: &[
+            Step::Take(ItemId(5)),
+            Step::Emit,
+            Step::Take(ItemId(6)),
+            Step::Emit,
+        ],
+        items: &[Some(ItemId(5))],
+        ..NOTHING
+    },
+    Example {
+        size: 3,
+        items: &[Some(ItemId(0)), None, None],
+        trace: &[0],
+        ..LEAVES
+    },
+    Example {
+        size: 2,
+        items: &[None, None],
+        ..LEAVES
+    },
+    Example {
+        steps: &[
+            Step::SetLeafTries(2),
+            Step::Take(ItemId(-2)),
+            choose!(false, true, 0, 1),
+            Step::Emit,
+        ],
+        size: 2,
+        items: &[Some(ItemId(0)), None],
+        trace: &[0],
+        ..LEAVES
+    },
+];
+
+const SEVEN: &[(u32, &str)] = &[
+    (0, "osd.0"),
+    (1, "osd.1"),
+    (2, "osd.2"),
+    (3, "osd.3"),
+    (4, "osd.4"),
+    (5, "osd.5"),
+    (6, "osd.6"),
+];
+
+#[test]
+fn rules_answer_the_worked_examples(rt: HostRuntime) -> Result<(), Fail> {
+    let alloc = rt.alloc();
+    for example in EXAMPLES {
+        let short = Short {
+            devices: SEVEN,
+            buckets: example.buckets,
+            rules: &[(0, "rule", example.steps)],
+            tunables: example.tunables,
+            ..SOUND
+        };
+        ask(
+            &rt,
+            alloc,
+            draft(alloc, short)?,
+            example.reweights,
+            example.size,
+            example.inputs,
+            Some((example.items, example.trace)),
+        )?;
+    }
+    Ok(())
+}
+
+/// The reweights that are given to a map of the devices 0 and 3.
+fn weights(rt: &impl Abort, alloc: Global, given: &[(u32, u32)]) -> Result<Weights, Fail> {
+    match CrushMap::check(alloc, draft(alloc, SOUND)?)? {
+        Ok(map) => Ok(Weights::build(alloc, &map, given)?),
+        Err(_) => rt.abort(),
+    }
+}
+
+#[test]
+fn a_device_is_in_from_above_its_draw(rt: HostRuntime) -> Result<(), Fail> {
+    for (reweight, want) in &[(0, false), (55_335, false), (55_336, true), (ONE, true)] {
+        let weights = weights(&rt, rt.alloc(), &[(1, *reweight), (1, ONE)])?;
+        assert_eq!(rt;
+            (weights.get(0), weights.get(1), weights.get(2)),
+            (ONE, *reweight, ONE)
+        );
+        assert_eq!(rt; is_in(&weights, 0, 1), *want, "with {reweight}");
+    }
+    Ok(())
+}
+
+#[test]
+fn a_reweight_counts_for_an_id_that_is_no_device_of_the_map(rt: HostRuntime) -> Result<(), Fail> {
+    let given = [(7, 1_000), (65_535, 5), (65_536, 9), (7, 3)];
+    let weights = weights(&rt, rt.alloc(), &given)?;
+    for (id, want) in &[
+        (0, ONE),
+        (7, 1_000),
+        (8, ONE),
+        (65_535, 5),
+        (65_536, ONE),
+        (u32::MAX, ONE),
+    ] {
+        assert_eq!(rt; weights.get(*id), *want, "the reweight of {id}");
+    }
+    Ok(())
+}
+
+/// The items of a bucket, of one weight, in order of a number that grows or falls.
+fn row(first: i32, step: i32, weight: u32) -> [(i32, u32); 4] {
+    let second = first.wrapping_add(step);
+    let third = second.wrapping_add(step);
+    let fourth = third.wrapping_add(step);
+    [
+        (first, weight),
+        (second, weight),
+        (third, weight),
+        (fourth, weight),
+    ]
+}
+
+/// A root of 3 racks of 4 hosts of 3 devices, with a kind for each level; ids fall from -2 on, and the root has -1.
+fn three_levels(alloc: Global, kinds: [Kind; 3]) -> Result<Listed<Bucket>, AllocError> {
+    let [of_root, of_racks, of_hosts] = kinds;
+    let mut all = Vec::new(alloc);
+    let mut device = 0;
+    for (rack, first) in [(-6, -2), (-11, -7), (-16, -12)] {
+        let hosts = row(first, -1, 3 * ONE);
+        for (host, _) in hosts {
+            all.push(bucket(alloc, host, 1, of_hosts, &row(device, 1, ONE)[..3])?)?;
+            device = device.wrapping_add(3);
+        }
+        all.push(bucket(alloc, rack, 3, of_racks, &hosts)?)?;
+    }
+    let racks = row(-6, -5, 12 * ONE);
+    all.push(bucket(alloc, -1, 10, of_root, &racks[..3])?)?;
+    Ok(Listed::new(all))
+}
+
+/// The maps that Ceph was asked with: the kinds of their levels, and tunables.
+const MAPS: [([Kind; 3], Tunables); 4] = [
+    ([Uniform, Uniform, Uniform], JEWEL),
+    ([List, Tree, Uniform], JEWEL),
+    ([Tree, Uniform, List], LEGACY),
+    ([Uniform, List, Tree], JEWEL),
+];
+
+/// Rules, the size of their answers, and for each map the answers of Ceph 16's `crush_do_rule` for the inputs 0 to 255, folded:
+/// each answer's length, then its items.
+const CEPH: &[(&[Step], u32, [u64; 4])] = &[
+    (
+        &[TAKE, choose!(true, true, 0, 1), Step::Emit],
+        3,
+        [
+            3_807_371_863_845_160_906,
+            18_048_420_480_162_125_570,
+            17_536_999_028_562_930_735,
+            10_816_615_174_515_526_027,
+        ],
+    ),
+    (
+        &[TAKE, choose!(false, true, 0, 1), Step::Emit],
+        5,
+        [
+            10_637_802_400_301_965_476,
+            16_721_794_470_335_731_706,
+            5_483_228_420_429_574_797,
+            8_327_422_269_455_782_072,
+        ],
+    ),
+    (
+        &[
+            TAKE,
+            choose!(true, false, 2, 3),
+            choose!(true, true, 2, 1),
+            Step::Emit,
+        ],
+        4,
+        [
+            1_276_963_096_394_967_040,
+            1_014_626_217_314_726_295,
+            9_402_257_624_218_875_910,
+            17_757_232_518_577_059_376,
+        ],
+    ),
+    (
+        &[
+            Step::SetLeafTries(5),
+            TAKE,
+            choose!(false, false, 2, 3),
+            choose!(false, true, 2, 1),
+            Step::Emit,
+        ],
+        4,
+        [
+            15_739_421_992_901_152_913,
+            11_002_362_456_765_460_424,
+            2_348_716_031_292_611_665,
+            15_084_550_848_256_080_900,
+        ],
+    ),
+    (
+        &[
+            Step::SetChooseTries(7),
+            TAKE,
+            choose!(false, false, -1, 0),
+            Step::Emit,
+        ],
+        6,
+        [
+            9_855_389_870_581_490_286,
+            8_311_613_070_073_344_042,
+            15_204_746_254_507_233_706,
+            13_979_105_725_287_320_028,
+        ],
+    ),
+    (
+        &[
+            Step::SetStable(0),
+            Step::SetVaryR(3),
+            Step::SetLeafTries(2),
+            Step::SetChooseTries(9),
+            TAKE,
+            choose!(true, true, -1, 1),
+            Step::Emit,
+        ],
+        7,
+        [
+            9_907_566_081_974_016_214,
+            16_726_343_070_574_783_190,
+            3_670_159_996_726_261_018,
+            8_270_607_647_852_297_127,
+        ],
+    ),
+    (
+        &[
+            Step::Take(ItemId(-2)),
+            choose!(true, false, 1, 0),
+            Step::Emit,
+            TAKE,
+            choose!(true, false, -1, 0),
+            Step::Emit,
+        ],
+        4,
+        [
+            5_113_308_959_600_421_241,
+            2_499_802_041_352_248_513,
+            15_521_425_309_525_994_889,
+            17_432_411_674_119_360_449,
+        ],
+    ),
+];
+
+/// Every fifth device is out, and the one behind it half in.
+const GIVEN: &[(u32, u32)] = &[
+    (0, 0),
+    (1, ONE / 2),
+    (5, 0),
+    (6, ONE / 2),
+    (10, 0),
+    (11, ONE / 2),
+    (15, 0),
+    (16, ONE / 2),
+    (20, 0),
+    (21, ONE / 2),
+    (25, 0),
+    (26, ONE / 2),
+    (30, 0),
+    (31, ONE / 2),
+    (35, 0),
+    (36, ONE / 2),
+];
+
+#[test]
+fn rules_answer_as_those_of_ceph(rt: HostRuntime) -> Result<(), Fail> {
+    let alloc = rt.alloc();
+    for (steps, size, sums) in CEPH {
+        for ((kinds, tunables), sum) in MAPS.iter().zip(sums) {
+            let short = Short {
+                rules: &[(0, "rule", steps)],
+                tunables: *tunables,
+                ..SOUND
+            };
+            let buckets = three_levels(alloc, *kinds)?;
+            let draft = generated(alloc, short, 36, buckets)?;
+            let answered = ask(&rt, alloc, draft, GIVEN, *size, 256, None)?;
+            assert_eq!(rt; answered, *sum);
+        }
+    }
+    Ok(())
+}

@@ -1,0 +1,83 @@
+//! Runs of a rule before and after a reweight is lowered.
+
+ghost use Rattle.std.specs.Prelude.{◌≡◌};
+ghost use Rattle.crush_bucket.specs.Tables.{perms_of};
+ghost use Rattle.crush_choose.specs.Rules.{CanRun};
+
+use crate::drafts::{ONE, SOUND, Short, choose, draft};
+use crush_bucket::{Scratch, Tables};
+use crush_choose::{Out, Weights, laws, run_rule};
+use crush_map::{CrushMap, ItemId, Kind, Rule, Step};
+use std::alloc::{AllocError, Global};
+use std::process::Abort;
+use std::test::Fail;
+
+/// A list bucket of the devices 0 and 1, and a rule that chooses one of them.
+const TWO_DEVICES: Short<'static> = Short {
+    devices: &[(0, "osd.0"), (1, "osd.1")],
+    buckets: &[(-1, "root", 10, Kind::List, &[(0, ONE), (1, ONE)])],
+    rules: &[(0, "rule", &[Step::Take(ItemId(-1)), choose!(true, false, 1, 0), Step::Emit])],
+    ..SOUND
+};
+
+/// Each of 64 inputs has one device in its trace, and each device is in some. With the device 0 out its inputs move to the device 1, and no other changes.
+fn assert_all_move_from_0(
+    rt: &impl Abort,
+    tables: &Tables,
+    scratch: &mut Scratch,
+    rule: &Rule,
+    full: &Weights,
+    lowered: &Weights,
+    out: &mut Out,
+)
+    requires rule { CanRun tables.now rule.now }
+    requires fits { scratch.old ≡ perms_of tables.now }
+{
+    let mut moved: u32 = 0;
+    'inputs: for x in 0..64 {
+        run_rule(tables, scratch, rule, x, 1, full, out);
+        let on_0 = out.trace() == &[0][..];
+        let on_1 = out.trace() == &[1][..];
+        assert!(rt; on_0 != on_1, "one device is in the trace at {x}");
+        let device = if on_0 { 0 } else { 1 };
+        assert_eq!(rt;
+            out.items(),
+            &[Some(ItemId(device))][..],
+            "the answer at {x}"
+        );
+        run_rule(tables, scratch, rule, x, 1, lowered, out);
+        assert_eq!(rt;
+            out.items(),
+            &[Some(ItemId(1))][..],
+            "the answer without the device 0 at {x}"
+        );
+        assert_eq!(rt;
+            out.trace(),
+            &[1][..],
+            "the trace without the device 0 at {x}"
+        );
+        if on_0 {
+            moved = moved.wrapping_add(1);
+        }
+    }
+    assert!(rt; 0 < moved && moved < 64, "each device holds some inputs");
+}
+
+#[test]
+fn what_does_not_have_a_lowered_device_in_its_trace_stays(rt: HostRuntime) -> Result<(), Fail> {
+    let alloc = rt.alloc();
+    let answer = CrushMap::check(alloc, draft(alloc, TWO_DEVICES)?)?;
+    assert!(rt; answer.is_ok());
+    let map = answer.ok().unwrap();
+    let tables = Tables::build(alloc, &map)?;
+    let mut scratch = Scratch::build(alloc, &tables)?;
+    let full = Weights::build(alloc, &map, &[])?;
+    let lowered = Weights::build(alloc, &map, &[(0, 0)])?;
+    let mut out = Out::build(alloc)?;
+    let rules = map.rules();
+    assert_eq!(rt; rules.len(), 1);
+    laws::rules_of_a_map_can_run();
+    let rule = &rules[0];
+    assert_all_move_from_0(&rt, &tables, &mut scratch, rule, &full, &lowered, &mut out);
+    Ok(())
+}
