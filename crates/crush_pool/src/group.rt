@@ -10,7 +10,7 @@ pub fn mask_of(b: u32) -> u32
     ensures { result ≡ spec.mask_of b }
 {
     height_is_least();
-    let mut height = 0;
+    let mut height: u32 = 0;
     let mut width: u64 = 1;
     while width < b as u64 {
         width *= 2;

@@ -86,6 +86,7 @@ fn copied(alloc: Global, slots: &[Slot]) -> Result<Vec<Slot>, AllocError>
 /// The placement of a group, or `P2` where the pool has no such group; the rule's answer and trace are left in `out`.
 ///
 /// Tables and weights are those of the pool's map and of the states' reweights, and the rule is the map's rule that the pool names.
+#[tactic(auto, unfolding(crate::specs::Placements::placed))]
 pub fn place_with(
     alloc: Global,
     tables: &Tables,
