@@ -13,3 +13,6 @@ pub use group::{mask_of, stable_mod};
 pub use placing::{Placement, place, place_with};
 pub use pool::{Pool, PoolFault, PoolParts};
 pub use states::{DeviceState, DeviceStates};
+
+#[cfg(test)]
+mod tests;
