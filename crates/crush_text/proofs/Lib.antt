@@ -11,3 +11,10 @@ mod SoundMap
 mod Judged
 mod Round
 mod Only
+pub mod Checks
+pub mod Kept
+pub mod Arranged
+pub mod FirstOfName
+pub mod Named
+pub mod Faultless
+pub mod Texts

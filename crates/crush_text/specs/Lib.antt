@@ -3,3 +3,4 @@ pub mod Judging
 pub mod MapText
 pub mod Codes
 pub mod Canonical
+pub mod Private

@@ -1,11 +1,12 @@
 //! What holds of every text of a map. A call does nothing: its caller learns the law.
 
 ghost use Rattle.std.specs.Prelude.{◌≡◌, ℕ, List};
+ghost use Rattle.crush_grammar.specs.declared.code.TextFault.{TextFault};
 ghost use Rattle.crush_map.specs.Map.{Map, IsMap};
 ghost use Rattle.crush_text.specs.Canonical.{canonical};
-ghost use Rattle.crush_text.specs.MapText.{IsTextOf};
+ghost use Rattle.crush_text.specs.MapText.{HasFirstFault, IsTextOf};
 
-use crush_grammar::words_declare_once;
+use crush_grammar::{words_are_whole_or_break, words_declare_once};
 use crush_map::{
     buckets_are_sound, first_fault_is_first, numbers_and_names_are_once, numbers_are_sound,
     rules_are_sound, weight_comes_back,
@@ -30,4 +31,12 @@ pub fn canonical_texts_are_read()
     rules_are_sound();
     weight_comes_back();
     texts_say_one_map();
+}
+
+/// The text of a map has no first fault.
+pub fn texts_of_maps_have_no_fault()
+    ensures { (text : List ℕ) (m : Map) (f : TextFault) → IsTextOf text m → ¬ (HasFirstFault text f) }
+{
+    words_declare_once();
+    words_are_whole_or_break();
 }

@@ -1,14 +1,20 @@
-//! Map texts: what a text means as a map, by definitions and laws, and writing a map as its one canonical text.
+//! Map texts: reading a text as a map, or its first fault by line and code, and writing a map as its one canonical text.
 //!
 //! Source: Ceph's CRUSH map manual, which shows the text that `crushtool -d` writes.
 #![tactic(auto)]
 
+mod fit;
+mod judge;
 mod law;
 mod lookup;
 mod name;
+mod places;
+mod read;
+mod tables;
 mod write;
 
 pub use crush_grammar::{TextCode, TextFault};
-pub use law::{canonical_texts_are_read, texts_say_one_map};
+pub use law::{canonical_texts_are_read, texts_of_maps_have_no_fault, texts_say_one_map};
 pub use name::code_text;
+pub use read::{read_map, read_stored};
 pub use write::write_map;

@@ -6,6 +6,8 @@ mod form;
 #[cfg(test)]
 mod maps;
 #[cfg(test)]
+mod read;
+#[cfg(test)]
 mod words;
 #[cfg(test)]
 mod write;

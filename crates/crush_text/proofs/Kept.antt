@@ -1,0 +1,80 @@
+-- What is known of a bucket and of a rule that have no fault.
+use Rattle.std.proofs.Common.{◌≡◌, ◌∙◌, ◌≤◌, false, Option, Some, None, List, [], ◌∷◌, ℕ, refl, map, length, nat_lt, arith}
+use Rattle.std.proofs.lemmas.Bool.Decides.{nat_tests}
+use Rattle.std.specs.List.{filter_map, cons_option}
+use Rattle.crush_map.specs.declared.fault.FaultCode.{FaultCode}
+use Rattle.crush_map.specs.declared.fault.FaultCode.TheVariants.{M1, M7, M12}
+use Rattle.crush_map.specs.declared.draft.Device.{Device}
+use Rattle.crush_map.specs.declared.draft.Bucket.{Bucket}
+use Rattle.crush_map.specs.declared.draft.Step.{Step}
+use Rattle.crush_map.specs.Weights.{total_weight}
+use Rattle.crush_map.specs.Faults.{Known, first_of, ◌when◌, device_fault, device_checks, bucket_fault, bucket_checks, contents_fault, items_fault, no_ids, rule_fault, rule_head_fault, rule_head_checks, steps_fault}
+use Rattle.crush_grammar.specs.declared.declaration.Setting.TheVariants as settings
+use Rattle.crush_grammar.specs.declared.declaration.DeclaredRule.{DeclaredRule}
+use Rattle.crush_grammar.specs.declared.declaration.DeclaredStep.{DeclaredStep}
+use Rattle.crush_grammar.specs.declared.declaration.DeclaredStep.TheVariants as steps
+use Rattle.crush_grammar.specs.declared.declaration.DeclaredBucket.{DeclaredBucket}
+use Rattle.crush_text.specs.Judging.{Declared, at_line, declared_step_fault, declared_rule_fault, declared_bucket_fault, kept_step_fault, step_of, rule_of, bucket_of}
+use Rattle.crush_text.proofs.Checks.{first_none, second_none, both_none, passes, fails, last_of}
+
+at_most : (n m : ℕ) → nat_lt m n ≡ false → n ≤ m
+at_most n m h = grind (arith, nat_tests)
+
+-- the id of a device without a fault
+pub is_small : (known : Known) (d : Device) → device_fault known d ≡ None → d.id ≤ 65535
+unfolding device_fault
+is_small known d h = at_most _ _ (fails M12 _ (passes (device_checks known d) 1 (M12 when nat_lt 65535 d.id) refl h))
+
+pub is_few : (known : Known) (b : Bucket) → bucket_fault known b ≡ None → length b.items ≤ 1024
+unfolding bucket_fault
+is_few known b h = at_most _ _ (fails M1 _ (passes (bucket_checks known b) 7 (M1 when nat_lt 1024 (length b.items)) refl h))
+
+light_by : (known : Known) (b : Bucket) → contents_fault known b.alg b.items ≡ None → total_weight b.items ≤ 4294967295
+unfolding contents_fault
+light_by known b h =
+    at_most _ _ (fails M7 _ (first_none (M7 when nat_lt 4294967295 (total_weight b.items)) None (second_none _ _ (second_none (items_fault known no_ids b.items) _ h))))
+
+pub is_light : (known : Known) (b : Bucket) → bucket_fault known b ≡ None → total_weight b.items ≤ 4294967295
+unfolding bucket_fault
+is_light known b h = light_by known b (passes (bucket_checks known b) 8 (contents_fault known b.alg b.items) refl h)
+
+pub no_fault : (line : ℕ) (o : Option FaultCode) → at_line line o ≡ None → o ≡ None
+no_fault line None h = refl
+no_fault line (Some code) h = cc
+
+-- a bucket without a fault is one of the draft without one
+pub bucket_passes : (s : Declared) (b : DeclaredBucket) → declared_bucket_fault s b ≡ None → bucket_fault s.known (bucket_of s.draft b) ≡ None
+unfolding declared_bucket_fault
+bucket_passes s b h = no_fault b.head.line (bucket_fault s.known (bucket_of s.draft b)) (second_none _ _ h)
+
+-- ---- rules
+
+kept_step : (s : Declared) (step : DeclaredStep) → declared_step_fault s step ≡ None → kept_step_fault s.known (step_of s.draft step) ≡ None
+kept_step s (steps.Set settings.LocalTries n) h = refl
+kept_step s (steps.Set settings.LocalFallbackTries n) h = refl
+kept_step s (steps.Set settings.ChooseTries n) h = h
+kept_step s (steps.Set settings.LeafTries n) h = h
+kept_step s (steps.Set settings.VaryR n) h = h
+kept_step s (steps.Set settings.Stable n) h = h
+kept_step s (steps.Take name) h = h
+kept_step s (steps.Choose firstn leaf n wanted) h = h
+kept_step s steps.Emit h = h
+
+one_more : (known : Known) (o : Option Step) (kept : List Step) → kept_step_fault known o ≡ None → steps_fault known kept ≡ None → steps_fault known (cons_option o kept) ≡ None
+one_more known None kept h k = k
+one_more known (Some step) kept h k = both_none _ _ h k
+
+kept_steps : (s : Declared) (xs : List DeclaredStep) → first_of (map (declared_step_fault s) xs) ≡ None → steps_fault s.known (filter_map (step_of s.draft) xs) ≡ None
+kept_steps s [] h = refl
+kept_steps s (x ∷ xs) h =
+    one_more s.known (step_of s.draft x) (filter_map (step_of s.draft) xs)
+    (kept_step s x (first_none (declared_step_fault s x) _ h))
+    (kept_steps s xs (second_none (declared_step_fault s x) _ h))
+
+-- a rule without a fault is one of the draft without one
+pub rule_passes : (s : Declared) (r : DeclaredRule) → declared_rule_fault s r ≡ None → rule_fault s.known (rule_of s.draft r) ≡ None
+unfolding declared_rule_fault rule_fault rule_head_fault
+rule_passes s r h =
+    let head : first_of (rule_head_checks s.known (rule_of s.draft r)) ≡ None = first_none _ _ h in
+    let kept = kept_steps s r.steps (second_none (first_of (rule_head_checks s.known (rule_of s.draft r))) _ h) in
+    last_of (rule_head_checks s.known (rule_of s.draft r)) (steps_fault s.known (rule_of s.draft r).steps) ∙ both_none _ _ head kept

@@ -1,0 +1,549 @@
+//! Judging what a text declares, in order.
+
+ghost use Rattle.std.specs.Prelude.{◌≡◌, ◌++◌, ◌∷◌, [], ◌<◌, ℕ, List, IfOk, length, map, filter, filter_map, find, option_map, is_none, slice_index_or, None};
+ghost use Rattle.std.specs.Result.{result_err};
+ghost use Rattle.crush_map.specs.Faults as faults;
+ghost use Rattle.crush_map.specs.declared.draft.MapDraft.{MapDraft};
+ghost use Rattle.crush_text.specs.Judging as spec;
+ghost use Rattle.crush_text.specs.Places as places;
+ghost use Rattle.crush_grammar.specs.declared.declaration.Declaration.TheVariants as kinds;
+ghost use Rattle.crush_grammar.specs.declared.declaration.DeclaredStep.TheVariants as step_kinds;
+ghost use Rattle.crush_grammar.specs.declared.code.TextCode.TheVariants as codes;
+
+use crate::fit::{fitted, fitted_integer};
+use crate::places::{arranged, free_places, with_item, wrong_place};
+use crate::tables::{BucketTable, DeviceTable, type_number};
+use crush_grammar::{
+    Declaration, DeclaredBucket, DeclaredDevice, DeclaredItem, DeclaredRule, DeclaredStep,
+    DeclaredTunable, DeclaredType, Setting, TextCode, TextFault, TunableName,
+};
+use crush_map::{
+    Bucket, Device, FaultCode, ItemId, Known, Listed, MapDraft, Rule, Step, Text, Tunables,
+    TypeName, Weight, are_in_range,
+};
+use std::alloc::{AllocError, Global};
+use std::marker::Model;
+
+/// What was declared so far. A contract sees the draft of the map, what is known by then, and the tunables that were named.
+#[derive(Drop)]
+pub(crate) struct Judge {
+    known: Known,
+    types: Vec<TypeName>,
+    devices: DeviceTable,
+    buckets: BucketTable,
+    rules: Vec<Rule>,
+    local_tries: u32,
+    local_fallback_tries: u32,
+    tunables: Tunables,
+    named: Vec<TunableName>,
+}
+
+impl Model for Judge {
+    ghost use Rattle.crush_text.specs.Judging as spec;
+
+    ghost Value = { spec.Declared };
+
+    ghost view = { λ a. record { draft = record { types = a.types.items; devices = a.devices; buckets = a.buckets; rules = a.rules.items; local_tries = a.local_tries; local_fallback_tries = a.local_fallback_tries; tunables = a.tunables }; known = a.known; tunables = a.named.items } };
+}
+
+/// A fault of what is declared, on this line.
+pub(crate) fn at_line(line: usize, code: FaultCode) -> TextFault
+    ensures { result ≡ record { line = line; code = codes.Map code } }
+{
+    TextFault {
+        line,
+        code: TextCode::Map(code),
+    }
+}
+
+fn tunable_number(name: TunableName) -> u32
+    ensures { result ≡ spec.tunable_number name }
+{
+    match name {
+        TunableName::LocalTries => 0,
+        TunableName::LocalFallbackTries => 1,
+        TunableName::TotalTries => 2,
+        TunableName::DescendOnce => 3,
+        TunableName::VaryR => 4,
+        TunableName::Stable => 5,
+        TunableName::StrawCalcVersion => 6,
+        TunableName::AllowedBucketAlgs => 7,
+    }
+}
+
+/// Whether a tunable is among these.
+fn is_named(names: &[TunableName], name: TunableName) -> bool
+    ensures { result ≡ spec.is_named names.now name }
+{
+    for other in names {
+        if tunable_number(*other) == tunable_number(name) {
+            return true;
+        }
+    }
+    false
+}
+
+fn is_local(name: TunableName) -> bool
+    ensures { result ≡ spec.is_local name }
+{
+    matches!(
+        name,
+        TunableName::LocalTries | TunableName::LocalFallbackTries
+    )
+}
+
+/// The tunables that choosing reads, with this value of one; the others stay.
+fn with_value(tunables: Tunables, name: TunableName, value: u32) -> Tunables
+    ensures { (d : MapDraft) → d.tunables ≡ tunables → (spec.with_tunable d name value).tunables ≡ result }
+{
+    let mut tunables = tunables;
+    match name {
+        TunableName::TotalTries => tunables.total_tries = value,
+        TunableName::DescendOnce => tunables.descend_once = value,
+        TunableName::VaryR => tunables.vary_r = value,
+        TunableName::Stable => tunables.stable = value,
+        _ => {}
+    }
+    tunables
+}
+
+impl Judge {
+    /// Before the first declaration.
+    pub(crate) fn new(alloc: Global) -> Result<Self, AllocError>
+        ensures { IfOk result (λ judge. judge ≡ spec.nothing_declared) }
+    {
+        Ok(Judge {
+            known: Known::new(alloc)?,
+            types: Vec::new(alloc),
+            devices: DeviceTable::new(alloc),
+            buckets: BucketTable::new(alloc),
+            rules: Vec::new(alloc),
+            local_tries: 2,
+            local_fallback_tries: 5,
+            tunables: Tunables {
+                total_tries: 19,
+                descend_once: 0,
+                vary_r: 0,
+                stable: 0,
+            },
+            named: Vec::new(alloc),
+        })
+    }
+
+    /// The fault of a tunable that is declared next.
+    #[tactic(auto, unfolding(crate::specs::Judging::tunable_fault))]
+    fn tunable_fault(&self, declared: &DeclaredTunable) -> Option<FaultCode>
+        ensures { result ≡ spec.tunable_fault self.now declared.now }
+    {
+        if is_named(self.named.as_slice(), declared.name) {
+            Some(FaultCode::M3)
+        } else if !are_in_range(with_value(self.tunables, declared.name, fitted(declared.value))) {
+            Some(FaultCode::M12)
+        } else if is_local(declared.name) && declared.value != 0 {
+            Some(FaultCode::M13)
+        } else {
+            None
+        }
+    }
+
+    /// With a value of a tunable.
+    fn with_tunable(mut self, name: TunableName, value: u32) -> Self
+        ensures { result ≡ record self { draft = spec.with_tunable self.draft name value } }
+    {
+        match name {
+            TunableName::LocalTries => self.local_tries = value,
+            TunableName::LocalFallbackTries => self.local_fallback_tries = value,
+            TunableName::TotalTries => self.tunables.total_tries = value,
+            TunableName::DescendOnce => self.tunables.descend_once = value,
+            TunableName::VaryR => self.tunables.vary_r = value,
+            TunableName::Stable => self.tunables.stable = value,
+            TunableName::StrawCalcVersion | TunableName::AllowedBucketAlgs => {}
+        }
+        self
+    }
+
+    /// With a tunable, or its fault.
+    fn declare_tunable(
+        mut self,
+        declared: &DeclaredTunable,
+    ) -> Result<Result<Self, TextFault>, AllocError>
+        ensures fault { IfOk result (λ r. result_err r ≡ spec.declaration_fault self (kinds.Tunable declared.now)) }
+        ensures declared { IfOk result (λ r. IfOk r (λ judge. judge ≡ spec.declare self (kinds.Tunable declared.now))) }
+    {
+        if let Some(code) = self.tunable_fault(declared) {
+            return Ok(Err(at_line(declared.line, code)));
+        }
+        self.named.push(declared.name)?;
+        Ok(Ok(self.with_tunable(declared.name, fitted(declared.value))))
+    }
+
+    /// With a device, or its fault.
+    #[tactic(auto, using(crate::proofs::Kept::is_small))]
+    fn declare_device(
+        mut self,
+        alloc: Global,
+        declared: &DeclaredDevice<'_>,
+    ) -> Result<Result<Self, TextFault>, AllocError>
+        ensures fault { IfOk result (λ r. result_err r ≡ spec.declaration_fault self (kinds.Device declared.now)) }
+        ensures declared { IfOk result (λ r. IfOk r (λ judge. judge ≡ spec.declare self (kinds.Device declared.now))) }
+    {
+        let device = Device {
+            id: fitted(declared.id),
+            name: Text::copy(alloc, declared.name.as_str())?,
+        };
+        if let Some(code) = self.known.device_fault(&device) {
+            return Ok(Err(at_line(declared.line, code)));
+        }
+        self.known = self.known.with_device(alloc, &device)?;
+        self.devices = self.devices.with(alloc, device)?;
+        Ok(Ok(self))
+    }
+
+    /// With a type, or its fault.
+    fn declare_type(
+        mut self,
+        alloc: Global,
+        declared: &DeclaredType<'_>,
+    ) -> Result<Result<Self, TextFault>, AllocError>
+        ensures fault { IfOk result (λ r. result_err r ≡ spec.declaration_fault self (kinds.TypeName declared.now)) }
+        ensures declared { IfOk result (λ r. IfOk r (λ judge. judge ≡ spec.declare self (kinds.TypeName declared.now))) }
+    {
+        let named = TypeName {
+            number: fitted(declared.number),
+            name: Text::copy(alloc, declared.name.as_str())?,
+        };
+        if let Some(code) = self.known.type_fault(&named) {
+            return Ok(Err(at_line(declared.line, code)));
+        }
+        self.known = self.known.with_type(alloc, &named)?;
+        self.types.push(named)?;
+        Ok(Ok(self))
+    }
+
+    /// The id of an item, and its weight where none is said.
+    fn item_named(&self, name: &str) -> (ItemId, Weight)
+        ensures { result ≡ spec.item_named self.now.draft name.now }
+    {
+        match self.devices.item(name) {
+            Some(item) => item,
+            None => match self.buckets.item(name) {
+                Some(item) => item,
+                None => (ItemId(65_536), Weight(65_536)),
+            },
+        }
+    }
+
+    /// An item with its weight.
+    fn item_of(&self, item: &DeclaredItem<'_>) -> (ItemId, Weight)
+        ensures { result ≡ spec.item_of self.now.draft item.now }
+    {
+        let (id, weight) = self.item_named(item.name.as_str());
+        (id, item.weight.unwrap_or(weight))
+    }
+
+    /// For each place the first item that names it.
+    fn named_places(
+        &self,
+        alloc: Global,
+        items: &[DeclaredItem<'_>],
+    ) -> Result<Vec<Option<(ItemId, Weight)>>, AllocError>
+        ensures len { IfOk result (λ t. length t.items ≡ length items.now) }
+        ensures each { IfOk result (λ t. (k : ℕ) → k < length items.now → slice_index_or t.items k None ≡ option_map (spec.item_of self.now.draft) (find (places.names_place k) items.now)) }
+    {
+        let mut named = free_places(alloc, items.len())?;
+        for item in items {
+            named = with_item(named, item.place, self.item_of(item));
+        }
+        Ok(named)
+    }
+
+    /// The items that name no place.
+    fn other_items(
+        &self,
+        alloc: Global,
+        items: &[DeclaredItem<'_>],
+    ) -> Result<Vec<(ItemId, Weight)>, AllocError>
+        ensures { IfOk result (λ v. v.items ≡ map (spec.item_of self.now.draft) (filter (λ item. is_none item.place) items.now)) }
+    {
+        let mut others = Vec::new(alloc);
+        for item in items {
+            if item.place.is_none() {
+                others.push(self.item_of(item))?;
+            }
+        }
+        Ok(others)
+    }
+
+    /// The items of a bucket in order of place.
+    fn items_of(
+        &self,
+        alloc: Global,
+        items: &[DeclaredItem<'_>],
+    ) -> Result<Vec<(ItemId, Weight)>, AllocError>
+        ensures { IfOk result (λ v. v.items ≡ map (spec.item_of self.now.draft) (places.in_place items.now)) }
+    {
+        let named = self.named_places(alloc, items)?;
+        let others = self.other_items(alloc, items)?;
+        let places = named.as_slice();
+        let rest = others.as_slice();
+        arranged(alloc, places, rest)
+    }
+
+    /// The bucket that is declared.
+    fn bucket_of(&self, alloc: Global, declared: &DeclaredBucket<'_>) -> Result<Bucket, AllocError>
+        ensures { IfOk result (λ bucket. bucket ≡ spec.bucket_of self.now.draft declared.now) }
+    {
+        let items = self.items_of(alloc, declared.items.as_slice())?;
+        Ok(Bucket {
+            id: ItemId(fitted_integer(declared.id)),
+            name: Text::copy(alloc, declared.head.name.as_str())?,
+            kind_of: type_number(self.types.as_slice(), declared.head.type_name.as_str()),
+            alg: declared.alg,
+            items: Listed::new(items),
+        })
+    }
+
+    /// The fault of a bucket, which makes this one of the draft.
+    #[tactic(auto, unfolding(crate::specs::Judging::declared_bucket_fault))]
+    fn bucket_fault(
+        &self,
+        alloc: Global,
+        declared: &DeclaredBucket<'_>,
+        bucket: &Bucket,
+    ) -> Result<Option<TextFault>, AllocError>
+        requires { bucket.now ≡ spec.bucket_of self.now.draft declared.now }
+        ensures { IfOk result (λ fault. fault ≡ spec.declared_bucket_fault self.now declared.now) }
+    {
+        if let Some(line) = wrong_place(alloc, declared.items.as_slice())? {
+            return Ok(Some(TextFault {
+                line,
+                code: TextCode::X5,
+            }));
+        }
+        match self.known.bucket_fault(alloc, bucket)? {
+            Some(code) => Ok(Some(at_line(declared.head.line, code))),
+            None => Ok(None),
+        }
+    }
+
+    /// With a bucket that has no fault.
+    fn with_bucket(mut self, alloc: Global, bucket: Bucket) -> Result<Self, AllocError>
+        requires { faults.bucket_fault self.known bucket ≡ None }
+        ensures { IfOk result (λ judge. judge ≡ record self { draft = record self.draft { buckets = self.draft.buckets ++ bucket ∷ [] }; known = faults.with_bucket self.known bucket }) }
+    {
+        self.known = self.known.with_bucket(alloc, &bucket)?;
+        self.buckets = self.buckets.with(alloc, bucket)?;
+        Ok(self)
+    }
+
+    /// With a bucket, or its fault.
+    fn declare_bucket(
+        self,
+        alloc: Global,
+        declared: &DeclaredBucket<'_>,
+    ) -> Result<Result<Self, TextFault>, AllocError>
+        ensures fault { IfOk result (λ r. result_err r ≡ spec.declaration_fault self (kinds.Bucket declared.now)) }
+        ensures declared { IfOk result (λ r. IfOk r (λ judge. judge ≡ spec.declare self (kinds.Bucket declared.now))) }
+    {
+        let bucket = self.bucket_of(alloc, declared)?;
+        let fault = self.bucket_fault(alloc, declared, &bucket)?;
+        match fault {
+            Some(fault) => Ok(Err(fault)),
+            None => Ok(Ok(self.with_bucket(alloc, bucket)?)),
+        }
+    }
+
+    /// The step that is declared; steps that set local tries are dropped.
+    fn step_of(&self, step: &DeclaredStep<'_>) -> Option<Step>
+        ensures { result ≡ spec.step_of self.now.draft step.now }
+    {
+        match step {
+            DeclaredStep::Take(name) => Some(Step::Take(self.item_named(name.as_str()).0)),
+            DeclaredStep::Set(setting, n) => set_step(*setting, fitted(*n)),
+            DeclaredStep::Choose {
+                firstn,
+                leaf,
+                n,
+                wanted,
+            } => Some(Step::Choose {
+                firstn: *firstn,
+                leaf: *leaf,
+                n: fitted_integer(*n),
+                wanted: type_number(self.types.as_slice(), wanted.as_str()),
+            }),
+            DeclaredStep::Emit => Some(Step::Emit),
+        }
+    }
+
+    /// The fault of a step.
+    fn step_fault(&self, step: &DeclaredStep<'_>) -> Option<FaultCode>
+        ensures { result ≡ spec.declared_step_fault self.now step.now }
+    {
+        if let DeclaredStep::Set(Setting::LocalTries | Setting::LocalFallbackTries, n) = step {
+            return if *n != 0 { Some(FaultCode::M13) } else { None };
+        }
+        match self.step_of(step) {
+            Some(kept) => self.known.step_fault(kept),
+            None => None,
+        }
+    }
+
+    /// The first fault of steps.
+    fn steps_fault(&self, steps: &[DeclaredStep<'_>]) -> Option<FaultCode>
+        ensures { result ≡ faults.first_of (map (spec.declared_step_fault self.now) steps.now) }
+    {
+        for step in steps {
+            if let Some(fault) = self.step_fault(step) {
+                return Some(fault);
+            }
+        }
+        None
+    }
+
+    /// The steps that are declared.
+    fn steps_of(&self, alloc: Global, steps: &[DeclaredStep<'_>]) -> Result<Vec<Step>, AllocError>
+        ensures { IfOk result (λ v. v.items ≡ filter_map (spec.step_of self.now.draft) steps.now) }
+    {
+        let mut kept = Vec::new(alloc);
+        for step in steps {
+            if let Some(found) = self.step_of(step) {
+                kept.push(found)?;
+            }
+        }
+        Ok(kept)
+    }
+
+    /// The rule that is declared.
+    fn rule_of(&self, alloc: Global, declared: &DeclaredRule<'_>) -> Result<Rule, AllocError>
+        ensures { IfOk result (λ rule. rule ≡ spec.rule_of self.now.draft declared.now) }
+    {
+        let steps = self.steps_of(alloc, declared.steps.as_slice())?;
+        Ok(Rule {
+            id: fitted(declared.id),
+            name: Text::copy(alloc, declared.name.as_str())?,
+            erasure: declared.erasure,
+            steps: Listed::new(steps),
+        })
+    }
+
+    /// The fault of a rule, which makes this one of the draft.
+    #[tactic(auto, unfolding(crate::specs::Judging::declared_rule_fault))]
+    fn rule_fault(&self, declared: &DeclaredRule<'_>, rule: &Rule) -> Option<FaultCode>
+        requires { rule.now ≡ spec.rule_of self.now.draft declared.now }
+        ensures { result ≡ spec.declared_rule_fault self.now declared.now }
+    {
+        match self.known.rule_head_fault(rule) {
+            Some(fault) => Some(fault),
+            None => self.steps_fault(declared.steps.as_slice()),
+        }
+    }
+
+    /// With a rule that has no fault.
+    fn with_rule(mut self, alloc: Global, rule: Rule) -> Result<Self, AllocError>
+        requires { faults.rule_fault self.known rule ≡ None }
+        ensures { IfOk result (λ judge. judge ≡ record self { draft = record self.draft { rules = self.draft.rules ++ rule ∷ [] }; known = faults.with_rule self.known rule }) }
+    {
+        self.known = self.known.with_rule(alloc, &rule)?;
+        self.rules.push(rule)?;
+        Ok(self)
+    }
+
+    /// With a rule, or its fault.
+    fn declare_rule(
+        self,
+        alloc: Global,
+        declared: &DeclaredRule<'_>,
+    ) -> Result<Result<Self, TextFault>, AllocError>
+        ensures fault { IfOk result (λ r. result_err r ≡ spec.declaration_fault self (kinds.Rule declared.now)) }
+        ensures declared { IfOk result (λ r. IfOk r (λ judge. judge ≡ spec.declare self (kinds.Rule declared.now))) }
+    {
+        let rule = self.rule_of(alloc, declared)?;
+        match self.rule_fault(declared, &rule) {
+            Some(code) => Ok(Err(at_line(declared.line, code))),
+            None => Ok(Ok(self.with_rule(alloc, rule)?)),
+        }
+    }
+
+    /// With one declaration more, or its fault.
+    fn declare(
+        self,
+        alloc: Global,
+        declaration: &Declaration<'_>,
+    ) -> Result<Result<Self, TextFault>, AllocError>
+        ensures fault { IfOk result (λ r. result_err r ≡ spec.declaration_fault self declaration.now) }
+        ensures declared { IfOk result (λ r. IfOk r (λ judge. judge ≡ spec.declare self declaration.now)) }
+    {
+        match declaration {
+            Declaration::Tunable(tunable) => self.declare_tunable(tunable),
+            Declaration::Device(device) => self.declare_device(alloc, device),
+            Declaration::TypeName(named) => self.declare_type(alloc, named),
+            Declaration::Bucket(bucket) => self.declare_bucket(alloc, bucket),
+            Declaration::Rule(rule) => self.declare_rule(alloc, rule),
+        }
+    }
+
+    /// The fault at the end, when all is declared.
+    pub(crate) fn end_fault(&self) -> Option<FaultCode>
+        ensures { result ≡ faults.end_fault self.now.known self.now.draft.tunables self.now.draft.local_tries self.now.draft.local_fallback_tries }
+    {
+        self.known
+            .end_fault(self.tunables, self.local_tries, self.local_fallback_tries)
+    }
+
+    /// The draft of the map. Takes no memory.
+    pub(crate) fn into_draft(self) -> MapDraft
+        ensures { result ≡ self.draft }
+    {
+        let Judge {
+            types,
+            devices,
+            buckets,
+            rules,
+            local_tries,
+            local_fallback_tries,
+            tunables,
+            ..
+        } = self;
+        MapDraft {
+            types: Listed::new(types),
+            devices: Listed::new(devices.into_vec()),
+            buckets: Listed::new(buckets.into_vec()),
+            rules: Listed::new(rules),
+            local_tries,
+            local_fallback_tries,
+            tunables,
+        }
+    }
+}
+
+/// The step that sets one of the settings that are kept.
+fn set_step(setting: Setting, n: u32) -> Option<Step>
+    ensures { (d : MapDraft) (m : ℕ) → spec.fitted m ≡ n → result ≡ spec.step_of d (step_kinds.Set setting m) }
+{
+    match setting {
+        Setting::ChooseTries => Some(Step::SetChooseTries(n)),
+        Setting::LeafTries => Some(Step::SetLeafTries(n)),
+        Setting::VaryR => Some(Step::SetVaryR(n)),
+        Setting::Stable => Some(Step::SetStable(n)),
+        Setting::LocalTries | Setting::LocalFallbackTries => None,
+    }
+}
+
+/// What all declarations make, or the first fault of one.
+#[tactic(auto, unfolding(crate::specs::Judging::fault_from))]
+pub(crate) fn judge_all(
+    alloc: Global,
+    declarations: &[Declaration<'_>],
+) -> Result<Result<Judge, TextFault>, AllocError>
+    ensures fault { IfOk result (λ r. result_err r ≡ spec.declared_fault declarations.now) }
+    ensures declared { IfOk result (λ r. IfOk r (λ judge. judge ≡ spec.declared declarations.now)) }
+{
+    let mut judge = Judge::new(alloc)?;
+    for declaration in declarations {
+        match judge.declare(alloc, declaration)? {
+            Ok(next) => judge = next,
+            Err(fault) => return Ok(Err(fault)),
+        }
+    }
+    Ok(Ok(judge))
+}

@@ -1,0 +1,73 @@
+//! Reading a text as a map.
+
+ghost use Rattle.std.specs.Prelude.{IfOk, IfErr};
+ghost use Rattle.crush_words.specs.Words.{words};
+ghost use Rattle.crush_text.specs.MapText.{IsTextOf, HasFirstFault, IsShort, IsRefusedFor};
+ghost use Rattle.crush_text.specs.Private.Clean.{IsClean};
+
+use crate::judge::{Judge, at_line, judge_all};
+use crush_grammar::{TextCode, TextFault, last_line, read_declarations};
+use crush_map::CrushMap;
+use std::alloc::{AllocError, Global};
+
+/// The map of a text whose declarations have no fault, or else the fault at the end.
+fn map_of(
+    alloc: Global,
+    text: &[u8],
+    judge: Judge,
+) -> Result<Result<CrushMap, TextFault>, AllocError>
+    requires { IsClean (words text.now) judge }
+    ensures map { IfOk result (λ answer. IfOk answer (λ m. IsTextOf text.now m)) }
+    ensures refused { IfOk result (λ answer. IfErr answer (λ f. HasFirstFault text.now f)) }
+{
+    let found = judge.end_fault();
+    match found {
+        Some(code) => {
+            let line = last_line(text);
+            Ok(Err(at_line(line, code)))
+        }
+        None => {
+            let draft = judge.into_draft();
+            let checked = CrushMap::check(alloc, draft)?;
+            match checked {
+                Ok(map) => Ok(Ok(map)),
+                Err(_) => unreachable!(),
+            }
+        }
+    }
+}
+
+/// The map of a stored text, whatever its length, or else its first fault, by line and code.
+///
+/// Declarations are judged in the order of the text, each behind those before it; a word out of the grammar is a fault
+/// behind what is declared before it. `AllocError` comes where memory was refused.
+pub fn read_stored(alloc: Global, text: &[u8]) -> Result<Result<CrushMap, TextFault>, AllocError>
+    ensures map { IfOk result (λ answer. IfOk answer (λ m. IsTextOf text.now m)) }
+    ensures refused { IfOk result (λ answer. IfErr answer (λ f. HasFirstFault text.now f)) }
+{
+    let read = read_declarations(alloc, text)?;
+    let judged = judge_all(alloc, read.declarations.as_slice())?;
+    match judged {
+        Err(fault) => Ok(Err(fault)),
+        Ok(judge) => match read.fault {
+            Some(fault) => Ok(Err(fault)),
+            None => map_of(alloc, text, judge),
+        },
+    }
+}
+
+/// The map of a text that may be imported, or else its first fault, by line and code.
+///
+/// A text of over 524,288 bytes is refused (X7 on line 1) before it is read. `AllocError` comes where memory was refused.
+pub fn read_map(alloc: Global, text: &[u8]) -> Result<Result<CrushMap, TextFault>, AllocError>
+    ensures map { IfOk result (λ answer. IfOk answer (λ m. IsShort text.now × IsTextOf text.now m)) }
+    ensures refused { IfOk result (λ answer. IfErr answer (λ f. IsRefusedFor text.now f)) }
+{
+    if text.len() > 524_288 {
+        return Ok(Err(TextFault {
+            line: 1,
+            code: TextCode::X7,
+        }));
+    }
+    read_stored(alloc, text)
+}

@@ -1,0 +1,186 @@
+//! What is declared, with an index by which a name is looked up.
+
+ghost use Rattle.std.specs.Prelude.{◌≡◌, ◌≤◌, ◌++◌, ◌∷◌, [], ℕ, List, IfOk, find, option_map, bytes_eq, length};
+ghost use Rattle.std.specs.BTreeMap.{get_by_text};
+ghost use Rattle.std.specs.Option.{option_map_or};
+ghost use Rattle.crush_map.specs.Weights.{total_weight};
+ghost use Rattle.crush_text.specs.Judging.{of_bucket, of_device};
+ghost use Rattle.crush_text.specs.Private.Tables.{first_value};
+
+use crush_map::{Bucket, Device, ItemId, TypeName, Weight, total_weight};
+use std::alloc::{AllocError, Global};
+use std::collections::BTreeMap;
+use std::marker::Model;
+
+/// The number of the type of a name, or 65536. A map has at most 32 types, so they are looked through.
+pub(crate) fn type_number(types: &[TypeName], name: &str) -> u32
+    ensures { result ≡ option_map_or (λ t. t.number) (find (λ t. bytes_eq t.name name.now) types.now) 65536 }
+{
+    for declared in types {
+        if declared.name.as_str() == name {
+            return declared.number;
+        }
+    }
+    65_536
+}
+
+/// With the item of a name, unless it has one.
+fn with_first(
+    alloc: Global,
+    mut index: BTreeMap<String, (ItemId, Weight)>,
+    name: &str,
+    item: (ItemId, Weight),
+) -> Result<BTreeMap<String, (ItemId, Weight)>, AllocError>
+    ensures { IfOk result (λ m. (key : List ℕ) → get_by_text m key ≡ first_value (get_by_text index) name.now item key) }
+{
+    if index.contains_key(name) {
+        return Ok(index);
+    }
+    index.insert(String::from_str(alloc, name)?, item)?;
+    Ok(index)
+}
+
+/// A device as an item: its id, and the weight 1.0.
+fn device_item(declared: &Device) -> (ItemId, Weight)
+    requires { declared.now.id ≤ 65535 }
+    ensures { result ≡ of_device declared.now }
+{
+    (ItemId(declared.id as i32), Weight(65_536))
+}
+
+/// Devices in the order in which they were declared.
+#[derive(Drop)]
+pub(crate) struct DeviceTable {
+    order: Vec<Device>,
+    index: BTreeMap<String, (ItemId, Weight)>,
+}
+
+impl Model for DeviceTable {
+    ghost use Rattle.std.specs.Prelude.{List, ℕ, ◌≡◌, find, option_map, bytes_eq};
+    ghost use Rattle.std.specs.BTreeMap.{get_by_text};
+    ghost use Rattle.crush_map.specs.declared.draft.Device.{Device};
+    ghost use Rattle.crush_text.specs.Judging.{of_device};
+
+    ghost Value = { List Device };
+
+    ghost view = { λ a. a.order.items };
+
+    ghost invariant = { λ a. (name : List ℕ) → get_by_text a.index name ≡ option_map of_device (find (λ d. bytes_eq d.name name) a.order.items) };
+}
+
+impl DeviceTable {
+    /// No device.
+    pub(crate) fn new(alloc: Global) -> Self
+        ensures { result ≡ [] }
+    {
+        DeviceTable {
+            order: Vec::new(alloc),
+            index: BTreeMap::new(alloc),
+        }
+    }
+
+    /// The id of the device of a name, and the weight 1.0.
+    pub(crate) fn item(&self, name: &str) -> Option<(ItemId, Weight)>
+        ensures { result ≡ option_map of_device (find (λ d. bytes_eq d.name name.now) self.now) }
+    {
+        self.index.get(name).copied()
+    }
+
+    /// With one more device.
+    pub(crate) fn with(self, alloc: Global, declared: Device) -> Result<Self, AllocError>
+        requires { declared.id ≤ 65535 }
+        ensures { IfOk result (λ table. table ≡ self ++ declared ∷ []) }
+    {
+        let DeviceTable {
+            mut order,
+            mut index,
+        } = self;
+        let item = device_item(&declared);
+        index = with_first(alloc, index, declared.name.as_str(), item)?;
+        order.push(declared)?;
+        Ok(DeviceTable { order, index })
+    }
+
+    /// The devices. Takes no memory.
+    pub(crate) fn into_vec(self) -> Vec<Device>
+        ensures { result.items ≡ self }
+    {
+        let DeviceTable { order, .. } = self;
+        order
+    }
+}
+
+/// A bucket as an item: its id, and the sum of its items.
+fn bucket_item(declared: &Bucket) -> (ItemId, Weight)
+    requires few { length declared.now.items ≤ 1024 }
+    requires light { total_weight declared.now.items ≤ 4294967295 }
+    ensures { result ≡ of_bucket declared.now }
+{
+    (
+        declared.id,
+        Weight(total_weight(declared.items.as_slice()) as u32),
+    )
+}
+
+/// Buckets in the order in which they were declared.
+#[derive(Drop)]
+pub(crate) struct BucketTable {
+    order: Vec<Bucket>,
+    index: BTreeMap<String, (ItemId, Weight)>,
+}
+
+impl Model for BucketTable {
+    ghost use Rattle.std.specs.Prelude.{List, ℕ, ◌≡◌, find, option_map, bytes_eq};
+    ghost use Rattle.std.specs.BTreeMap.{get_by_text};
+    ghost use Rattle.crush_map.specs.declared.draft.Bucket.{Bucket};
+    ghost use Rattle.crush_text.specs.Judging.{of_bucket};
+
+    ghost Value = { List Bucket };
+
+    ghost view = { λ a. a.order.items };
+
+    ghost invariant = { λ a. (name : List ℕ) → get_by_text a.index name ≡ option_map of_bucket (find (λ b. bytes_eq b.name name) a.order.items) };
+}
+
+impl BucketTable {
+    /// No bucket.
+    pub(crate) fn new(alloc: Global) -> Self
+        ensures { result ≡ [] }
+    {
+        BucketTable {
+            order: Vec::new(alloc),
+            index: BTreeMap::new(alloc),
+        }
+    }
+
+    /// The id of the bucket of a name, and the sum of its items.
+    pub(crate) fn item(&self, name: &str) -> Option<(ItemId, Weight)>
+        ensures { result ≡ option_map of_bucket (find (λ b. bytes_eq b.name name.now) self.now) }
+    {
+        self.index.get(name).copied()
+    }
+
+    /// With one more bucket.
+    pub(crate) fn with(self, alloc: Global, declared: Bucket) -> Result<Self, AllocError>
+        requires few { length declared.items ≤ 1024 }
+        requires light { total_weight declared.items ≤ 4294967295 }
+        ensures { IfOk result (λ table. table ≡ self ++ declared ∷ []) }
+    {
+        let BucketTable {
+            mut order,
+            mut index,
+        } = self;
+        let item = bucket_item(&declared);
+        index = with_first(alloc, index, declared.name.as_str(), item)?;
+        order.push(declared)?;
+        Ok(BucketTable { order, index })
+    }
+
+    /// The buckets. Takes no memory.
+    pub(crate) fn into_vec(self) -> Vec<Bucket>
+        ensures { result.items ≡ self }
+    {
+        let BucketTable { order, .. } = self;
+        order
+    }
+}
