@@ -18,3 +18,4 @@ pub mod FirstOfName
 pub mod Named
 pub mod Faultless
 pub mod Texts
+pub mod Listed

@@ -245,26 +245,30 @@ fn the_first_of_two_faults_is_named(rt: HostRuntime) -> Result<(), Fail> {
     Ok(())
 }
 
+/// A remark of this many bytes.
+fn remark(alloc: Global, length: usize) -> Result<Vec<u8>, Fail> {
+    Ok(vec![in alloc; b'#'; length]?)
+}
+
 #[test]
 fn a_text_has_524288_bytes_at_most(rt: HostRuntime) -> Result<(), Fail> {
     let alloc = rt.alloc();
-    let text = vec![in alloc; b'#'; 524_289]?;
-    let long = text.as_slice();
-    let short = &long[..524_288];
+    let short = remark(alloc, 524_288)?;
+    let long = remark(alloc, 524_289)?;
     assert_eq!(rt;
-        fault(alloc, short)?,
+        fault(alloc, short.as_slice())?,
         Some((1, TextCode::Map(FaultCode::M4)))
     );
-    assert_eq!(rt; fault(alloc, long)?, Some((1, TextCode::X7)));
+    assert_eq!(rt; fault(alloc, long.as_slice())?, Some((1, TextCode::X7)));
     Ok(())
 }
 
 #[test]
 fn a_stored_text_may_be_longer(rt: HostRuntime) -> Result<(), Fail> {
     let alloc = rt.alloc();
-    let mut text = Vec::new(alloc);
+    let mut text = remark(alloc, 524_288)?;
+    text.push(b'\n')?;
     text.extend_from_slice(CANONICAL.as_bytes())?;
-    text.extend_from_slice(vec![in alloc; b'#'; 524_288]?.as_slice())?;
     assert_eq!(rt; fault(alloc, text.as_slice())?, Some((1, TextCode::X7)));
     assert!(rt; read_stored(alloc, text.as_slice())?.is_ok());
     Ok(())

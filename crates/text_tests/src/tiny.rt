@@ -28,13 +28,17 @@ rule all {
 }
 ";
 
+fn push_line(text: &mut String, line: &str) -> Result<(), AllocError> {
+    text.push_str(line)?;
+    text.push_str("\n")
+}
+
 /// Its lines from the first to the last of these numbers.
 pub fn tiny_lines(alloc: Global, first: usize, last: usize) -> Result<String, AllocError> {
     let mut text = String::new(alloc);
     for (index, line) in TINY.lines().enumerate() {
         if first <= index + 1 && index < last {
-            text.push_str(line)?;
-            text.push_str("\n")?;
+            push_line(&mut text, line)?;
         }
     }
     Ok(text)
@@ -42,9 +46,12 @@ pub fn tiny_lines(alloc: Global, first: usize, last: usize) -> Result<String, Al
 
 /// The text with another line of this number; line 24 is one more.
 pub fn tiny_with_line(alloc: Global, number: usize, line: &str) -> Result<String, AllocError> {
-    let mut text = tiny_lines(alloc, 1, number - 1)?;
-    text.push_str(line)?;
-    text.push_str("\n")?;
-    text.push_str(tiny_lines(alloc, number + 1, 23)?.as_str())?;
+    let mut text = String::new(alloc);
+    for (index, old) in TINY.lines().enumerate() {
+        push_line(&mut text, if index + 1 == number { line } else { old })?;
+    }
+    if number == 24 {
+        push_line(&mut text, line)?;
+    }
     Ok(text)
 }
