@@ -27,20 +27,20 @@ refused_is code f same = rw same refl
 -- ---- long texts
 
 pub long_line : (line : List ℕ) → line ≡ refused_line (record { line = 1; code = X7 }) → (text : List ℕ) → 524288 < length text → IsVerdict false text line
-long_line line is text long = (record { line = 1; code = X7 }, inl (long, refl), is)
+long_line line is text long = record { fault = record { line = 1; code = X7 }; refused = inl (long, refl); is = is }
 
 -- ---- what is written, of what was read
 
 pub accepted_end : (known old new : Option (List ℕ)) (line : List ℕ) (accepted : Bool) → accepted ≡ true → IfSome known (λ input. IsVerdict accepted input line) → Appends old new line
     → IfSome known (λ input. (m : Map) × IsShort input × IsTextOf input m × Appends old new (accepted_line m))
 accepted_end None old new line accepted same says written = tt
-accepted_end (Some input) old new line true same (m, short, text, is) written = (m, short, text, rw is at written)
+accepted_end (Some input) old new line true same says written = (says.map, says.short, says.text, rw says.is at written)
 accepted_end (Some input) old new line false same says written = let both : false ≡ true = same in cc
 
 pub refused_end : (known old new : Option (List ℕ)) (line : List ℕ) (accepted : Bool) → accepted ≡ false → IfSome known (λ input. IsVerdict accepted input line) → Appends old new line
     → IfSome known (λ input. (f : TextFault) × IsRefusedFor input f × Appends old new (refused_line f))
 refused_end None old new line accepted same says written = tt
-refused_end (Some input) old new line false same (f, refused, is) written = (f, refused, rw is at written)
+refused_end (Some input) old new line false same says written = (says.fault, says.refused, rw says.is at written)
 refused_end (Some input) old new line true same says written = let both : true ≡ false = same in cc
 
 line_for : (accepted : Bool) (input line : List ℕ) → IsVerdict accepted input line → IsLineFor input line
@@ -64,25 +64,32 @@ not_refused : NoFault → (input : List ℕ) (m : Map) (f : TextFault) → IsSho
 not_refused none input m f short says (inl (long, is)) = omega (arith, short, long)
 not_refused none input m f short says (inr (also, fault)) = none input m f says fault
 
-pub map_end : OneMap → NoFault → (known old new : Option (List ℕ)) (line : List ℕ) (accepted : Bool) → IfSome known (λ input. IsVerdict accepted input line) → Appends old new line
-    → IfSome known (λ input. (m : Map) → IsShort input → IsTextOf input m → (accepted ≡ true) × Appends old new (accepted_line m))
-map_end one none None old new line accepted says written = tt
-map_end one none (Some input) old new line true (n, short, text, is) written =
-    λ m also says. (refl, subst (λ l. Appends old new l) (is ∙ ap accepted_line (one input n m text says)) written)
-map_end one none (Some input) old new line false (f, refused, is) written = λ m short says. absurd (not_refused none input m f short says refused)
+pub map_accepted : OneMap → NoFault → {A : Type 0} (r : A) (known old new : Option (List ℕ)) (line : List ℕ) (accepted : Bool) → accepted ≡ true → IfSome known (λ input. IsVerdict accepted input line) → Appends old new line
+    → IfSome known (λ input. (m : Map) → IsShort input → IsTextOf input m → (r ≡ r) × Appends old new (accepted_line m))
+map_accepted one none r None old new line accepted same read written = tt
+map_accepted one none r (Some input) old new line true same read written =
+    λ m short says. (refl, subst (λ l. Appends old new l) (read.is ∙ ap accepted_line (one input read.map m read.text says)) written)
+map_accepted one none r (Some input) old new line false same read written = let both : false ≡ true = same in cc
 
-pub fault_end : NoFault → (known : Option (List ℕ)) (line : List ℕ) (accepted : Bool) → IfSome known (λ input. IsVerdict accepted input line)
-    → IfSome known (λ input. (f : TextFault) → IsRefusedFor input f → accepted ≡ false)
-fault_end none None line accepted says = tt
-fault_end none (Some input) line true (m, short, text, is) = λ f refused. absurd (not_refused none input m f short text refused)
-fault_end none (Some input) line false says = λ f refused. refl
+pub map_refused : NoFault → {A : Type 0} (r s : A) (known old new : Option (List ℕ)) (line : List ℕ) (accepted : Bool) → accepted ≡ false → IfSome known (λ input. IsVerdict accepted input line)
+    → IfSome known (λ input. (m : Map) → IsShort input → IsTextOf input m → (r ≡ s) × Appends old new (accepted_line m))
+map_refused none r s None old new line accepted same read = tt
+map_refused none r s (Some input) old new line false same read = λ m short says. absurd (not_refused none input m read.fault short says read.refused)
+map_refused none r s (Some input) old new line true same read = let both : true ≡ false = same in cc
+
+pub fault_accepted : NoFault → {A : Type 0} (r s : A) (known : Option (List ℕ)) (line : List ℕ) (accepted : Bool) → accepted ≡ true → IfSome known (λ input. IsVerdict accepted input line)
+    → IfSome known (λ input. (f : TextFault) → IsRefusedFor input f → r ≡ s)
+fault_accepted none r s None line accepted same read = tt
+fault_accepted none r s (Some input) line true same read = λ f refused. absurd (not_refused none input read.map f read.short read.text refused)
+fault_accepted none r s (Some input) line false same read = let both : false ≡ true = same in cc
 
 too_long : (input : List ℕ) (f : TextFault) → 524288 < length input → IsRefusedFor input f → f ≡ long_fault
 too_long input f long (inl (also, is)) = is
 too_long input f long (inr (short, fault)) = absurd (omega (arith, short, long))
 
-pub long_end : (known old new : Option (List ℕ)) (line : List ℕ) (accepted : Bool) → IfSome known (λ input. IsVerdict accepted input line) → Appends old new line
-    → IfSome known (λ input. 524288 < length input → (accepted ≡ false) × Appends old new (refused_line long_fault))
-long_end None old new line accepted says written = tt
-long_end (Some input) old new line true (m, short, text, is) written = λ long. absurd (omega (arith, short, long))
-long_end (Some input) old new line false (f, refused, is) written = λ long. (refl, subst (λ l. Appends old new l) (is ∙ ap refused_line (too_long input f long refused)) written)
+pub long_refused : {A : Type 0} (r : A) (known old new : Option (List ℕ)) (line : List ℕ) (accepted : Bool) → accepted ≡ false → IfSome known (λ input. IsVerdict accepted input line) → Appends old new line
+    → IfSome known (λ input. 524288 < length input → (r ≡ r) × Appends old new (refused_line long_fault))
+long_refused r None old new line accepted same read written = tt
+long_refused r (Some input) old new line false same read written =
+    λ long. (refl, subst (λ l. Appends old new l) (read.is ∙ ap refused_line (too_long input read.fault long read.refused)) written)
+long_refused r (Some input) old new line true same read written = let both : true ≡ false = same in cc

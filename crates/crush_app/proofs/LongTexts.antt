@@ -58,8 +58,8 @@ no_word front w X7 h x = h
 no_word front w (Map code) h x = h
 
 no_some : (o : Option Word) (P : Word → Type 0) → ((w : Word) → P w → ⊥) → IsSomeAnd o P → ⊥
-no_some None P no h = h
-no_some (Some w) P no h = no w h
+no_some None P never h = h
+no_some (Some w) P never h = never w h
 
 no_form : (ws : List Word) (ds : List Declaration) (f : TextFault) → f.code ≡ X7 → Breaks ws ds f → ⊥
 no_form ws ds f x (inl (i, leaves, at, front)) = no_some (slice_get ws i) _ (λ w h. no_word (take i ws) w f.code h.1 x) at

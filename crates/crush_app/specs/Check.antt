@@ -22,12 +22,17 @@ abbrev pub long_fault : TextFault
 long_fault = record { line = 1; code = X7 }
 
 -- the bytes are a text that may be imported, and this is the line of its map
-abbrev pub IsAcceptedLine : List ℕ → List ℕ → Type 0
-IsAcceptedLine input line = (m : Map) × IsShort input × IsTextOf input m × (line ≡ accepted_line m)
+pub record IsAcceptedLine (input line : List ℕ) : Type 0 where
+  pub map : Map
+  pub short : IsShort input
+  pub text : IsTextOf input map
+  pub is : line ≡ accepted_line map
 
 -- the bytes are refused, and this is the line of the fault for which they are
-abbrev pub IsRefusedLine : List ℕ → List ℕ → Type 0
-IsRefusedLine input line = (f : TextFault) × IsRefusedFor input f × (line ≡ refused_line f)
+pub record IsRefusedLine (input line : List ℕ) : Type 0 where
+  pub fault : TextFault
+  pub refused : IsRefusedFor input fault
+  pub is : line ≡ refused_line fault
 
 -- the line for these bytes
 abbrev pub IsLineFor : List ℕ → List ℕ → Type 0
