@@ -11,6 +11,7 @@ mod SoundMap
 mod Judged
 mod Round
 mod Only
+mod Ascii
 pub mod Checks
 pub mod Kept
 pub mod Arranged

@@ -1,6 +1,7 @@
 //! What holds of every text of a map. A call does nothing: its caller learns the law.
 
 ghost use Rattle.std.specs.Prelude.{◌≡◌, ℕ, List};
+ghost use Rattle.std.specs.Str.{IsAscii, IsUtf8};
 ghost use Rattle.crush_grammar.specs.declared.code.TextFault.{TextFault};
 ghost use Rattle.crush_map.specs.Map.{Map, IsMap};
 ghost use Rattle.crush_text.specs.Canonical.{canonical};
@@ -39,4 +40,17 @@ pub fn texts_of_maps_have_no_fault()
 {
     words_declare_once();
     words_are_whole_or_break();
+}
+
+/// The canonical text of a map is ASCII.
+pub fn canonical_texts_are_ascii()
+    ensures ascii { (m : Map) → IsMap m → IsAscii (canonical m) }
+    ensures utf8 { (m : Map) → IsMap m → IsUtf8 (canonical m) }
+{
+    buckets_are_sound();
+    first_fault_is_first();
+    numbers_and_names_are_once();
+    numbers_are_sound();
+    rules_are_sound();
+    weight_comes_back();
 }
