@@ -1,0 +1,146 @@
+//! Changing requests: each has a request number, and acts once.
+
+ghost use Rattle.std.specs.Prelude.{◌≡◌, ◌<◌, ◌^◌, Ok, Err, None, Some, IfOk, length, nat_le, false};
+ghost use Rattle.tenant_core.specs.Commands as spec;
+ghost use Rattle.tenant_core.specs.Effects.{Fits};
+ghost use Rattle.tenant_core.specs.Refusals.{Gives};
+ghost use Rattle.tenant_core.specs.Reply.{reply};
+
+use crate::call::Bytes;
+use crate::maps;
+use crate::receipts::{Receipt, is_repeat};
+use crate::reply::{Problem, Refusal, SuccessStatus, answered, refused, repeated};
+use crate::state::{Change, Decision, Effect, Made, TenantState, kept};
+use crush_map::Text;
+use serde_json::Value;
+use std::alloc::{AllocError, Global};
+use std::marker::Model;
+use std::rc::Rc;
+
+/// What a changing request asks for.
+#[derive(Drop)]
+pub enum Order {
+    /// A version with the map of this text.
+    ImportMap(Text),
+}
+
+/// A changing request. Its path and body are kept, since a repeat is known by them.
+#[derive(Drop)]
+pub struct Command {
+    /// The request number: 1 to 64 bytes.
+    pub number: Text,
+    pub path: Text,
+    pub body: Bytes,
+    pub order: Order,
+}
+
+/// An order that is accepted: what it makes, and the status and the body of its reply.
+#[derive(Drop)]
+pub(crate) struct Accepted {
+    pub(crate) made: Made,
+    pub(crate) status: SuccessStatus,
+    pub(crate) body: Value,
+}
+
+impl Model for Accepted {
+    ghost use Rattle.std.specs.Prelude.{◌≡◌, false};
+    ghost use Rattle.serde_json.specs.View.{view};
+    ghost use Rattle.serde_json.specs.Written.{has_float};
+    ghost use Rattle.tenant_core.specs.Effects.{Accepted};
+    ghost use Rattle.tenant_core.specs.Made.{made_of};
+
+    ghost Value = { Accepted };
+
+    ghost view = { λ a. record { made = made_of a.made; status = a.status; body = view a.body } };
+
+    ghost invariant = { λ a. has_float (view a.body) ≡ false };
+}
+
+/// What an order makes, or why nothing: the table of all orders.
+fn accept(alloc: Global, order: &Order, state: &TenantState) -> Result<Accepted, Refusal>
+    requires { length state.now.receipts < 2 ^ 32 }
+    ensures { Gives (λ a. a) result (spec.order_on order.now state.now) }
+{
+    match order {
+        Order::ImportMap(text) => maps::import(alloc, text.as_str(), state),
+    }
+}
+
+/// A copy of some bytes.
+pub(crate) fn copied(alloc: Global, bytes: &[u8]) -> Result<Bytes, AllocError>
+    ensures { IfOk result (λ again. again ≡ bytes.now) }
+{
+    let mut again = Vec::new(alloc);
+    again.extend_from_slice(bytes)?;
+    Ok(Bytes::new(again))
+}
+
+/// The change that an accepted order makes, with its receipt.
+fn carry_out(alloc: Global, command: &Command, accepted: Accepted) -> Result<Decision, AllocError>
+    ensures effect { IfOk result (λ d. d.effect ≡ (spec.carried_out command.now (Ok accepted)).effect) }
+    ensures reply { IfOk result (λ d. d.reply ≡ reply (spec.carried_out command.now (Ok accepted)).answer) }
+{
+    let reply = answered(alloc, accepted.status, &accepted.body)?;
+    let receipt = Receipt {
+        path: Text::copy(alloc, command.path.as_str())?,
+        body: copied(alloc, command.body.as_slice())?,
+        status: accepted.status,
+        reply: Text::copy(alloc, reply.body.as_str())?,
+    };
+    let change = Change {
+        number: Text::copy(alloc, command.number.as_str())?,
+        receipt: Rc::new(alloc, receipt)?,
+        made: accepted.made,
+    };
+    Ok(Decision {
+        effect: Effect::Change(change),
+        reply,
+    })
+}
+
+/// The greatest number of receipts of a tenant.
+const RECEIPT_LIMIT: usize = 100_000;
+
+/// Decides on a request number without a receipt.
+fn decide_new(alloc: Global, state: &TenantState, command: &Command) -> Result<Decision, AllocError>
+    ensures effect { IfOk result (λ d. d.effect ≡ (spec.on_receipt command.now state.now None).effect) }
+    ensures reply { IfOk result (λ d. d.reply ≡ reply (spec.on_receipt command.now state.now None).answer) }
+    ensures fits { IfOk result (λ d. Fits d.effect (Some state.now)) }
+{
+    if state.receipts().len() >= RECEIPT_LIMIT {
+        return Ok(kept(refused(alloc, Problem::TenantLimit)?));
+    }
+    match accept(alloc, &command.order, state) {
+        Ok(accepted) => carry_out(alloc, command, accepted),
+        Err(Refusal::Problem(problem)) => Ok(kept(refused(alloc, problem)?)),
+        Err(Refusal::NoMemory) => Err(AllocError),
+    }
+}
+
+/// Decides on a request number with a receipt: its reply again, or a refusal where another request left it.
+fn decide_again(alloc: Global, command: &Command, receipt: &Receipt) -> Result<Decision, AllocError>
+    ensures effect { IfOk result (λ d. d.effect ≡ Effect.Keep) }
+    ensures reply { IfOk result (λ d. d.reply ≡ reply (spec.again command.now receipt.now)) }
+{
+    if is_repeat(command.path.as_str(), command.body.as_slice(), receipt) {
+        Ok(kept(repeated(alloc, receipt)?))
+    } else {
+        Ok(kept(refused(alloc, Problem::RequestReused)?))
+    }
+}
+
+/// Decides what a changing request does: the reply of its receipt again, or a refusal, or a change.
+pub(crate) fn decide(
+    alloc: Global,
+    state: &TenantState,
+    command: &Command,
+) -> Result<Decision, AllocError>
+    ensures effect { IfOk result (λ d. d.effect ≡ (spec.decision command.now state.now).effect) }
+    ensures reply { IfOk result (λ d. d.reply ≡ reply (spec.decision command.now state.now).answer) }
+    ensures fits { IfOk result (λ d. Fits d.effect (Some state.now)) }
+{
+    match state.receipts().get(command.number.as_str()) {
+        Some(receipt) => decide_again(alloc, command, receipt),
+        None => decide_new(alloc, state, command),
+    }
+}
