@@ -4,7 +4,7 @@ use Rattle.tenant_core.specs.declared.call.Call.{Call}
 use Rattle.tenant_core.specs.declared.reply.Reply.{Reply}
 use Rattle.tenant_core.specs.declared.reply.Problem.{Problem}
 use Rattle.tenant_core.specs.declared.reply.Problem.TheVariants.{BadRequest, NoPath, NoTenant, Method, Exists, TooLarge}
-use Rattle.tenant_core.specs.declared.state.TenantState.{TenantState}
+use Rattle.tenant_core.specs.State.{TenantState}
 use Rattle.tenant_core.specs.Alone.{is_answered}
 use Rattle.tenant_core.specs.Reply.{Answer, refused, success, created, problem_status, reply}
 use Rattle.tenant_core.specs.Request.{request_of}

@@ -46,14 +46,17 @@ pub record IsTestBody (d : Data) (t : RuleTest) : Type 0 where
 
 -- ---- reading a body: a test is read exactly where the body has that form (law `tests_are_of_the_form`)
 
+abbrev pub test_with : ℕ → ℕ → ℕ → Option ℕ → RuleTest
+test_with rule size x version = record { rule = rule; size = size; x = x; version = version }
+
 abbrev pub if_some : RuleTest → Option RuleTest
 if_some t = if nat_le 1 t.size then Some t else None
 
 abbrev pub test_of : Data → Option RuleTest
 test_of d =
     if has_keys (present (codes "version") d + 3) d then
-    option_and_then if_some (both (λ f version. f version)
-    (all_three (λ rule size x version. record { rule = rule; size = size; x = x; version = version })
+    option_and_then if_some (both (λ (test : Option ℕ → RuleTest) version. test version)
+    (all_three test_with
     (under (codes "rule") (natural_of 255) d) (under (codes "size") (natural_of 32) d) (under (codes "x") (natural_of 4294967295) d))
     (optional (codes "version") (natural_of 4294967295) d)) else None
 
@@ -72,27 +75,27 @@ list_json values = array (items_of values)
 
 -- {"epoch": E, "items": [..], "trace": [..], "version": V}
 abbrev pub outcome : ℕ → ℕ → List Slot → List ℕ → Data
-outcome epoch number items trace =
-    object (members_of ((codes "epoch", natural epoch) ∷ (codes "items", list_json (map slot_json items))
-    ∷ (codes "trace", list_json (map natural trace)) ∷ (codes "version", natural number) ∷ []))
+outcome e v items trace =
+    object (members_of ((codes "epoch", natural e) ∷ (codes "items", list_json (map slot_json items))
+    ∷ (codes "trace", list_json (map natural trace)) ∷ (codes "version", natural v) ∷ []))
 
 -- what the steps give for an input; every device has the reweight 65536
 abbrev pub tested : ℕ → ℕ → Map → Rule → ℕ → ℕ → Data
-tested epoch number m rule x size =
-    outcome epoch number (rule_answer (tables_of m) (weights_of []) rule.steps x size) (rule_trace (tables_of m) (weights_of []) rule.steps x size)
+tested e v m rule x size =
+    outcome e v (rule_answer (tables_of m) (weights_of []) rule.steps x size) (rule_trace (tables_of m) (weights_of []) rule.steps x size)
 
 -- the rule of a map with this id
 abbrev pub rule_with_id : ℕ → Map → Option Rule
 rule_with_id id m = find (λ r. r.id == id) m.rules
 
 abbrev pub on_rule : RuleTest → ℕ → ℕ → Map → Option Rule → Answer
-on_rule t epoch number m None = refused NoRule
-on_rule t epoch number m (Some rule) = success (tested epoch number m rule t.x t.size)
+on_rule t e v m None = refused NoRule
+on_rule t e v m (Some rule) = success (tested e v m rule t.x t.size)
 
 abbrev pub on_version : RuleTest → ℕ → ℕ → Option Map → Answer
-on_version t epoch number None = refused NoVersion
-on_version t epoch number (Some m) = on_rule t epoch number m (rule_with_id t.rule m)
+on_version t e v None = refused NoVersion
+on_version t e v (Some m) = on_rule t e v m (rule_with_id t.rule m)
 
 -- the version that the body names, or else the newest
 abbrev pub answer : RuleTest → TenantState → Answer
-answer t state = let number = unwrap_or t.version (newest state) in on_version t (epoch state) number (version number state)
+answer t state = let v = unwrap_or t.version (newest state) in on_version t (epoch state) v (version v state)

@@ -1,10 +1,14 @@
 //! Changing requests: each has a request number, and acts once.
 
 ghost use Rattle.std.specs.Prelude.{◌≡◌, ◌<◌, ◌^◌, Ok, Err, None, Some, IfOk, length, nat_le, false};
+ghost use Rattle.serde_json.specs.View.{view};
+ghost use Rattle.serde_json.specs.Written.{has_float};
 ghost use Rattle.tenant_core.specs.Commands as spec;
 ghost use Rattle.tenant_core.specs.Effects.{Fits};
+ghost use Rattle.tenant_core.specs.Private.Accepting.{accepted_of};
 ghost use Rattle.tenant_core.specs.Refusals.{Gives};
 ghost use Rattle.tenant_core.specs.Reply.{reply};
+ghost use Rattle.tenant_core.specs.State.{TenantState};
 
 use crate::call::Bytes;
 use crate::maps;
@@ -14,7 +18,6 @@ use crate::state::{Change, Decision, Effect, Made, TenantState, kept};
 use crush_map::Text;
 use serde_json::Value;
 use std::alloc::{AllocError, Global};
-use std::marker::Model;
 use std::rc::Rc;
 
 /// What a changing request asks for.
@@ -42,24 +45,11 @@ pub(crate) struct Accepted {
     pub(crate) body: Value,
 }
 
-impl Model for Accepted {
-    ghost use Rattle.std.specs.Prelude.{◌≡◌, false};
-    ghost use Rattle.serde_json.specs.View.{view};
-    ghost use Rattle.serde_json.specs.Written.{has_float};
-    ghost use Rattle.tenant_core.specs.Effects.{Accepted};
-    ghost use Rattle.tenant_core.specs.Made.{made_of};
-
-    ghost Value = { Accepted };
-
-    ghost view = { λ a. record { made = made_of a.made; status = a.status; body = view a.body } };
-
-    ghost invariant = { λ a. has_float (view a.body) ≡ false };
-}
-
 /// What an order makes, or why nothing: the table of all orders.
 fn accept(alloc: Global, order: &Order, state: &TenantState) -> Result<Accepted, Refusal>
     requires { length state.now.receipts < 2 ^ 32 }
-    ensures { Gives (λ a. a) result (spec.order_on order.now state.now) }
+    ensures given { Gives accepted_of result (spec.order_on order.now state.now) }
+    ensures plain { IfOk result (λ a. has_float (view a.body) ≡ false) }
 {
     match order {
         Order::ImportMap(text) => maps::import(alloc, text.as_str(), state),
@@ -77,8 +67,10 @@ pub(crate) fn copied(alloc: Global, bytes: &[u8]) -> Result<Bytes, AllocError>
 
 /// The change that an accepted order makes, with its receipt.
 fn carry_out(alloc: Global, command: &Command, accepted: Accepted) -> Result<Decision, AllocError>
-    ensures effect { IfOk result (λ d. d.effect ≡ (spec.carried_out command.now (Ok accepted)).effect) }
-    ensures reply { IfOk result (λ d. d.reply ≡ reply (spec.carried_out command.now (Ok accepted)).answer) }
+    requires { has_float (view accepted.body) ≡ false }
+    ensures effect { IfOk result (λ d. d.effect ≡ (spec.carried_out command.now (Ok (accepted_of accepted))).effect) }
+    ensures reply { IfOk result (λ d. d.reply ≡ reply (spec.carried_out command.now (Ok (accepted_of accepted))).answer) }
+    ensures fits { IfOk result (λ d. (s : TenantState) → Fits d.effect (Some s)) }
 {
     let reply = answered(alloc, accepted.status, &accepted.body)?;
     let receipt = Receipt {

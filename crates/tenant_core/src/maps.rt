@@ -1,8 +1,10 @@
 //! Maps, at `/t/{t}/maps`: POST adds a version of the tenant's map, from a text. At `/t/{t}/maps/{v}` GET reads the version v.
 
-ghost use Rattle.std.specs.Prelude.{◌≡◌, ◌<◌, ◌^◌, IfOk, length};
+ghost use Rattle.std.specs.Prelude.{◌≡◌, ◌<◌, ◌^◌, false, IfOk, length};
 ghost use Rattle.serde_json.specs.View.{view};
+ghost use Rattle.serde_json.specs.Written.{has_float};
 ghost use Rattle.tenant_core.specs.Maps as spec;
+ghost use Rattle.tenant_core.specs.Private.Accepting.{accepted_of};
 ghost use Rattle.tenant_core.specs.Private.Reading.{Reads};
 ghost use Rattle.tenant_core.specs.Refusals.{Gives};
 ghost use Rattle.tenant_core.specs.Reply.{reply};
@@ -73,7 +75,7 @@ fn import_reply(alloc: Global, state: &TenantState) -> Result<Value, AllocError>
 }
 
 fn shared_version(alloc: Global, map: CrushMap) -> Result<Rc<Version>, AllocError>
-    ensures { IfOk result (λ version. version.value ≡ map.entry) }
+    ensures { IfOk result (λ version. version.value ≡ map) }
 {
     let version = Version::build(alloc, map)?;
     Ok(Rc::new(alloc, version)?)
@@ -82,7 +84,8 @@ fn shared_version(alloc: Global, map: CrushMap) -> Result<Rc<Version>, AllocErro
 /// The version of a text, or why there is none.
 pub(crate) fn import(alloc: Global, text: &str, state: &TenantState) -> Result<Accepted, Refusal>
     requires { length state.now.receipts < 2 ^ 32 }
-    ensures { Gives (λ a. a) result (spec.imported text.now state.now) }
+    ensures given { Gives accepted_of result (spec.imported text.now state.now) }
+    ensures plain { IfOk result (λ a. has_float (view a.body) ≡ false) }
 {
     if state.newest() >= VERSION_LIMIT {
         return Err(Refusal::Problem(Problem::TenantLimit));

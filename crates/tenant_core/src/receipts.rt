@@ -74,7 +74,7 @@ impl Receipts {
 
     /// Adds a receipt. Where memory is wanting, nothing is changed.
     pub fn insert(&mut self, number: String, receipt: Rc<Receipt>) -> Result<(), AllocError>
-        ensures ok { OnOk result (self.new ≡ with_receipt (string_bytes number.entry) receipt.entry.value self.old) }
+        ensures ok { OnOk result (self.new ≡ with_receipt (string_bytes number) receipt.value self.old) }
         ensures err { OnErr result (self.new ≡ self.old) }
     {
         self.by_number.insert(number, receipt)?;

@@ -91,7 +91,7 @@ fn command(
     number: Text,
     order: Order,
 ) -> Result<Action, AllocError>
-    ensures { IfOk result (λ a. a ≡ spec.command_of target.now body.now number.entry order.entry) }
+    ensures { IfOk result (λ a. a ≡ spec.command_of target.now body.now number order) }
 {
     Ok(Action::Command(Command {
         number,

@@ -163,13 +163,13 @@ pub struct Decision {
 }
 
 /// A reply that leaves the tenant as it is.
-pub(crate) fn kept(reply: Reply) -> Decision
+pub(crate) fn kept(written: Reply) -> Decision
     ensures effect { result.effect ≡ Effect.Keep }
-    ensures reply { result.reply ≡ reply.entry }
+    ensures reply { result.reply ≡ written }
 {
     Decision {
         effect: Effect::Keep,
-        reply,
+        reply: written,
     }
 }
 

@@ -46,7 +46,7 @@ impl Version {
 
     /// The version with this map.
     pub fn build(alloc: Global, map: CrushMap) -> Result<Self, AllocError>
-        ensures { IfOk result (λ version. version ≡ map.entry) }
+        ensures { IfOk result (λ version. version ≡ map) }
     {
         let text = canonical_text(alloc, &map)?;
         let tables = Tables::build(alloc, &map)?;
