@@ -17,9 +17,9 @@ help:
 	@echo 'make wrong     tries the edits of the crates that changed, or of CRATES="NAME..", and records what refused them;'
 	@echo '               CRATES="--from build" records what the last make test or make gate tried'
 	@echo 'make install   builds, and installs PREFIX/bin/crushcalc (PREFIX=/usr/local)'
-	@echo 'make ceph-check   compares 176,000 mappings and 93 name hashes with those of Ceph'"'"'s own library'
+	@echo 'make ceph-check   compares 176,000 mappings and 93 name hashes with those of Ceph'"'"'s own library, and map texts with its crushtool'
 	@echo 'make bench     builds and measures; beside Ceph'"'"'s own library where that is installed'
-	@echo 'make bench-deps   installs what the comparisons with Ceph need (Debian: librados2, gcc)'
+	@echo 'make bench-deps   installs what the comparisons with Ceph need (Debian: librados2, ceph-base, gcc)'
 	@echo 'make serve     the server (not built yet)'
 	@echo 'make clean     removes what was built, the finished proofs too'
 
@@ -90,11 +90,12 @@ install: build
 	@install -m 755 crushcalc '$(DESTDIR)$(PREFIX)/bin/crushcalc'
 
 serve:
-	@echo "The server isn't built yet: crushcalc has the command 'script' only." >&2; exit 1
+	@echo "The server isn't built yet: crushcalc has the commands 'script' and 'check' only." >&2; exit 1
 
-ceph-check: build/crush_mappings bench-deps
+ceph-check: build build/crush_bench build/crush_mappings bench-deps
 	@python3 tests/ceph/check_names
 	@python3 tests/ceph/check build/crush_mappings
+	@python3 tests/ceph/check_texts ./crushcalc build/crush_bench
 
 bench: build build/crush_bench build/crush_mappings
 	@sh bench/all
@@ -103,6 +104,9 @@ bench-deps:
 	@if [ -e "$$(sh bench/libceph)" ] && command -v gcc >/dev/null; then echo 'librados2 and gcc are installed.'; else \
 	  echo 'Installing librados2 and gcc: apt-get install -y librados2 gcc libc6-dev'; \
 	  apt-get update && apt-get install -y librados2 gcc libc6-dev; fi
+	@if command -v crushtool >/dev/null; then echo 'crushtool is installed.'; else \
+	  echo 'Installing crushtool: apt-get install -y --no-install-recommends ceph-base'; \
+	  apt-get update && apt-get install -y --no-install-recommends ceph-base; fi
 
 clean:
 	@echo 'Removing ./crushcalc, build/ and crates/*/out; the next build proves everything anew.'

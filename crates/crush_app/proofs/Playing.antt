@@ -7,8 +7,7 @@ use Rattle.tenant_core.specs.States.{States, Answers}
 use Rattle.tenant_core.specs.declared.call.Call.{Call}
 use Rattle.tenant_core.specs.declared.reply.Reply.{Reply}
 use Rattle.tenant_core.proofs.Running.{run_both, run_one, run_none}
-use Rattle.crush_app.specs.Play.{Plays, PlaysUpTo, WritesHeadline}
-use Rattle.crush_app.specs.Private.Writing.{AppendsPart}
+use Rattle.crush_app.specs.Play.{Plays, PlaysUpTo, WritesHeadline, AppendsPart}
 use Rattle.crush_app.specs.Script.{bad_line, call_of, calls_in, is_nonempty, messages_in, messages, output, wire}
 use Rattle.crush_app.proofs.Writing.{appends_both, appends_none}
 

@@ -2,8 +2,7 @@
 use Rattle.std.proofs.Common.{◌≡◌, ℕ, ◌-◌, ◌<◌, List, [], ◌++◌, length, take, drop, Option, Some, None, refl, ap, sym, ◌∙◌, arith, append_assoc, length-append, length-drop}
 use Rattle.std.proofs.lemmas.List.{take_all, append-nil, take-append-drop}
 use Rattle.std.specs.Io.KnownBytes.{Appends}
-use Rattle.crush_app.specs.Play.{AppendsUpTo}
-use Rattle.crush_app.specs.Private.Writing.{AppendsPart}
+use Rattle.crush_app.specs.Play.{AppendsUpTo, AppendsPart}
 
 -- ---- all of the bytes
 

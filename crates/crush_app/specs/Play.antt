@@ -14,6 +14,12 @@ pub record AppendsUpTo (rest : List ℕ) (old new : Option (List ℕ)) (bytes : 
   pub all : front ++ rest ≡ bytes
   pub written : Appends old new front
 
+-- the bytes were written, all but a rest that isn't empty
+pub record AppendsPart (old new : Option (List ℕ)) (bytes : List ℕ) : Type 0 where
+  pub rest : List ℕ
+  pub some : 0 < length rest
+  pub front : AppendsUpTo rest old new bytes
+
 -- ---- messages
 
 -- the calls among the messages were answered as the definition says, and the lines of all messages were written

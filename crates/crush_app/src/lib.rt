@@ -1,6 +1,7 @@
 //! The service of all tenants, and scripts of requests to it.
 #![tactic(auto)]
 
+mod check;
 mod input;
 mod memory_store;
 mod play;
@@ -8,6 +9,7 @@ mod script;
 mod service;
 mod wire;
 
+pub use check::{CheckEnd, check_run};
 pub use memory_store::MemoryStore;
 pub use play::{ScriptEnd, script_run};
 pub use service::Service;

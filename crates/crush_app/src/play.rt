@@ -17,6 +17,9 @@ use std::alloc::{AllocError, Global};
 use std::io::{Read, Write};
 use tenant_core::{CallParts, Problem, Reply, TenantStore, refused};
 
+/// The longest script, in bytes.
+const SCRIPT_LIMIT: u32 = 67_108_864;
+
 /// How a script ended.
 #[derive(Clone, Copy, Debug, PartialEq, Eq)]
 pub enum ScriptEnd {
@@ -121,7 +124,7 @@ pub fn script_run<T: TenantStore, R: Read, W: Write>(
     ensures silent { AnswersNone result → KeepsBytes (W.contents writer.old) (W.contents writer.new) }
     ensures honest { T.is_honest service.new → T.is_honest service.old }
 {
-    let input = match read_input(alloc, reader) {
+    let input = match read_input(alloc, reader, SCRIPT_LIMIT) {
         Ok(input) => input,
         Err(InputFault::NoMemory) => return Err(AllocError),
         Err(InputFault::Read) => return Ok(ScriptEnd::ReadFault),

@@ -3,14 +3,14 @@
 ghost use Rattle.std.specs.Prelude.{◌≡◌, ◌++◌, IsTrue};
 ghost use Rattle.std.specs.Bool.{IsFalse};
 ghost use Rattle.std.specs.Io.KnownBytes.{Appends};
-ghost use Rattle.crush_app.specs.Private.Writing.{AppendsPart};
+ghost use Rattle.crush_app.specs.Play.{AppendsPart};
 ghost use Rattle.crush_app.specs.Script as spec;
 
 use std::io::Write;
 use tenant_core::Reply;
 
 /// Writes the bytes, all or a first part: it ends at the first error, or where a write accepts no byte.
-fn write_whole<W: Write>(writer: &mut W, bytes: &[u8]) -> bool
+pub(crate) fn write_whole<W: Write>(writer: &mut W, bytes: &[u8]) -> bool
     ensures whole { IsTrue result → Appends (W.contents writer.old) (W.contents writer.new) bytes.now }
     ensures part { IsFalse result → AppendsPart (W.contents writer.old) (W.contents writer.new) bytes.now }
 {

@@ -3,17 +3,19 @@
 
 mod bucket;
 mod fullest;
+mod text;
 mod words;
 
 use bucket::Questions;
 use crush_map::Kind;
+use crush_text::code_text;
 use std::process::ExitCode;
 use std::rt::{Clock, Env};
 use std::{env, io};
 use words::{Work, work_of};
 
 const USAGE: &str =
-    "usage: crush_bench [small] | pick KIND N COUNT [TRIES] | check     (KIND: 1 uniform, 2 list, 3 tree)";
+    "usage: crush_bench [small] | pick KIND N COUNT [TRIES] | check | text     (KIND: 1 uniform, 2 list, 3 tree)";
 
 /// The picks from each bucket in the small run.
 const FEW: Questions = Questions {
@@ -86,7 +88,23 @@ fn check<R: AllocGlobal + Clock + Print + Eprint>(rt: &R) -> io::Result<ExitCode
     }
 }
 
-fn done<R: AllocGlobal + Clock + Print + Eprint>(rt: &R, words: &[String]) -> io::Result<ExitCode> {
+/// The canonical text of the map whose text is on standard input.
+fn rewritten<R: AllocGlobal + Input + Print + Eprint>(rt: &R) -> io::Result<ExitCode> {
+    match text::rewrite(rt)? {
+        None => Ok(ExitCode::SUCCESS),
+        Some(refused) => {
+            let line = refused.line;
+            let code = code_text(refused.code);
+            eprintln!(rt; "refused line {line} code {code}")?;
+            Ok(ExitCode::from(1))
+        }
+    }
+}
+
+fn done<R: AllocGlobal + Clock + Input + Print + Eprint>(
+    rt: &R,
+    words: &[String],
+) -> io::Result<ExitCode> {
     match work_of(words) {
         Some(Work::Small) => small(rt),
         Some(
@@ -97,6 +115,7 @@ fn done<R: AllocGlobal + Clock + Print + Eprint>(rt: &R, words: &[String]) -> io
             },
         ) => pick(rt, kind, size, questions),
         Some(Work::Check) => check(rt),
+        Some(Work::Text) => rewritten(rt),
         None => {
             rt.eprintln(USAGE)?;
             Ok(ExitCode::from(2))
@@ -104,7 +123,7 @@ fn done<R: AllocGlobal + Clock + Print + Eprint>(rt: &R, words: &[String]) -> io
     }
 }
 
-fn run<R: AllocGlobal + Clock + Print + Eprint + Env>(rt: &R) -> io::Result<ExitCode> {
+fn run<R: AllocGlobal + Clock + Input + Print + Eprint + Env>(rt: &R) -> io::Result<ExitCode> {
     let words = env::args(rt)?.collect::<Vec<String>>(rt.alloc())?;
     done(rt, words.as_slice())
 }

@@ -19,6 +19,8 @@ pub enum Work {
     },
     /// The check of the greatest draft.
     Check,
+    /// The canonical text of a text.
+    Text,
 }
 
 /// What the arguments ask for; the first of them is the program's own name.
@@ -61,6 +63,7 @@ fn plain_work(word: &str) -> Option<Work>
     match word {
         "small" => Some(Work::Small),
         "check" => Some(Work::Check),
+        "text" => Some(Work::Text),
         _ => None,
     }
 }

@@ -8,8 +8,8 @@ use Rattle.crush_grammar.proofs.Written.{is_written, declares_from}
 use Rattle.crush_words.specs.Words.{Word}
 use Rattle.crush_grammar.specs.Syntax.{Declares}
 use Rattle.crush_grammar.specs.Fronts.{is, IsWhole, HasCode, IsCut, FrontDeclares, last_line, Breaks}
-use Rattle.crush_grammar.specs.Private.Automaton.{State, reading, step, text, to, begun, at_end, device_at}
-use Rattle.crush_grammar.specs.Private.Automaton.State.{Between, DeviceName, ClassWord}
+use Rattle.crush_grammar.specs.Automaton.{State, reading, step, text, to, begun, at_end, device_at}
+use Rattle.crush_grammar.specs.Automaton.State.{Between, DeviceName, ClassWord}
 use Rattle.crush_grammar.specs.declared.code.TextFault.{TextFault}
 use Rattle.crush_grammar.specs.declared.declaration.Declaration.{Declaration}
 use Rattle.crush_grammar.proofs.Endings.{is_dead, Ends, say, is_open, finish, word, given, ending, run, ends_on, is_device, done_at}

@@ -3,7 +3,7 @@ use Rattle.std.proofs.Common.{◌≡◌, List, Option, Some, None, MatchOption, 
 use Rattle.crush_words.specs.Words.{Word}
 use Rattle.crush_grammar.proofs.Breaking.{breaks}
 use Rattle.crush_grammar.proofs.Written.{is_written}
-use Rattle.crush_grammar.specs.Private.Automaton.{text}
+use Rattle.crush_grammar.specs.Automaton.{text}
 use Rattle.crush_grammar.specs.Fronts.{Breaks}
 use Rattle.crush_grammar.specs.Syntax.{Declares}
 use Rattle.crush_grammar.specs.declared.code.TextFault.{TextFault}

@@ -13,8 +13,8 @@ use Rattle.crush_grammar.specs.Syntax.Early.{ATunable, ADevice, AType}
 use Rattle.crush_grammar.specs.Syntax.Late.{ABucket, ARule}
 use Rattle.crush_grammar.specs.Syntax.Action.{ATake, ASet, AChoose, AChooseLeaf, AnEmit}
 use Rattle.crush_grammar.specs.Fronts.{is}
-use Rattle.crush_grammar.specs.Private.Automaton.{State, Reading, reading, step, text, give, with_item, with_step, named, device_at}
-use Rattle.crush_grammar.specs.Private.Automaton.State.{Between, DeviceName, IdLines, IdNumber, Hashes, Items, ItemName, ItemWeight, RuleKind, RuleMin, RuleMax, StepWord, Steps}
+use Rattle.crush_grammar.specs.Automaton.{State, Reading, reading, step, text, give, with_item, with_step, named, device_at}
+use Rattle.crush_grammar.specs.Automaton.State.{Between, DeviceName, IdLines, IdNumber, Hashes, Items, ItemName, ItemWeight, RuleKind, RuleMin, RuleMax, StepWord, Steps}
 use Rattle.crush_grammar.specs.declared.declaration.Place.{Place}
 use Rattle.crush_grammar.specs.declared.declaration.DeclaredItem.{DeclaredItem}
 use Rattle.crush_grammar.specs.declared.declaration.BucketHead.{BucketHead}

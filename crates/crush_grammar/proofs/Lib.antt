@@ -7,5 +7,6 @@ pub mod Lines
 pub mod Codes
 pub mod Breaking
 pub mod Whole
+pub mod Unique
 pub mod Forms
 pub mod Names

@@ -8,8 +8,8 @@ use Rattle.crush_grammar.proofs.States.{dead}
 use Rattle.crush_words.specs.Words.{Word}
 use Rattle.crush_grammar.specs.Syntax.{Declares}
 use Rattle.crush_grammar.specs.Fronts.{IsFront, MayStand, Wants, last_line}
-use Rattle.crush_grammar.specs.Private.Automaton.{State, reading, step, text, at_end}
-use Rattle.crush_grammar.specs.Private.Automaton.State.{Between, DeviceName, Dead}
+use Rattle.crush_grammar.specs.Automaton.{State, reading, step, text, at_end}
+use Rattle.crush_grammar.specs.Automaton.State.{Between, DeviceName, Dead}
 use Rattle.crush_grammar.specs.declared.code.TextCode.TheVariants.{X1}
 use Rattle.crush_grammar.specs.declared.code.TextFault.{TextFault}
 use Rattle.crush_grammar.specs.declared.declaration.Declaration.{Declaration}

@@ -4,7 +4,7 @@ use Rattle.std.proofs.lemmas.List.{take-append-drop, take-take}
 use Rattle.crush_words.specs.Words.{Word}
 use Rattle.crush_grammar.proofs.Breaking.{breaks}
 use Rattle.crush_grammar.proofs.Written.{is_written}
-use Rattle.crush_grammar.specs.Private.Automaton.{text}
+use Rattle.crush_grammar.specs.Automaton.{text}
 use Rattle.crush_grammar.specs.Fronts.{IsFront, IsWhole, LeavesAt, Breaks}
 use Rattle.crush_grammar.specs.declared.code.TextFault.{TextFault}
 use Rattle.crush_grammar.specs.declared.declaration.Declaration.{Declaration}

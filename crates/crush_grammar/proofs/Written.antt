@@ -14,8 +14,8 @@ use Rattle.crush_grammar.specs.Syntax.Late.{ABucket, ARule}
 use Rattle.crush_grammar.specs.Syntax.Action.{ATake, ASet, AChoose, AChooseLeaf, AnEmit}
 use Rattle.crush_grammar.proofs.IsRead.{bucket_tail, rule_tail}
 use Rattle.crush_grammar.specs.Fronts.{is}
-use Rattle.crush_grammar.specs.Private.Automaton.{State, Move, Reading, reading, step, text, give, with_item, with_step, named, to, wrong, on, first, begun_bucket, begun, in_lines, plain, in_items, in_pos, in_steps, at_step, at_max, action, at_end, tunable_at, device_at, type_at}
-use Rattle.crush_grammar.specs.Private.Automaton.State.{Between, TunableWord, TunableKey, DeviceWord, DeviceNumber, DeviceName, ClassWord, TypeWord, TypeNumber, BucketType, BucketName, IdLines, IdWord, IdNumber, IdClass, AlgWord, Hashes, HashWord, Items, ItemWord, ItemName, WeightWord, ItemWeight, PosWord, RuleWord, RuleName, RuleOpen, RuleId, RuleNumber, RuleType, RuleKind, MinWord, RuleMin, MaxWord, RuleMax, StepWord, TakeWord, Taken, SetWord, ChooseWord, ChooseHow, ChooseNumber, ChooseType, Steps, Dead}
+use Rattle.crush_grammar.specs.Automaton.{State, Move, Reading, reading, step, text, give, with_item, with_step, named, to, wrong, on, first, begun_bucket, begun, in_lines, plain, in_items, in_pos, in_steps, at_step, at_max, action, at_end, tunable_at, device_at, type_at}
+use Rattle.crush_grammar.specs.Automaton.State.{Between, TunableWord, TunableKey, DeviceWord, DeviceNumber, DeviceName, ClassWord, TypeWord, TypeNumber, BucketType, BucketName, IdLines, IdWord, IdNumber, IdClass, AlgWord, Hashes, HashWord, Items, ItemWord, ItemName, WeightWord, ItemWeight, PosWord, RuleWord, RuleName, RuleOpen, RuleId, RuleNumber, RuleType, RuleKind, MinWord, RuleMin, MaxWord, RuleMax, StepWord, TakeWord, Taken, SetWord, ChooseWord, ChooseHow, ChooseNumber, ChooseType, Steps, Dead}
 use Rattle.crush_grammar.specs.declared.code.TextCode.{TextCode}
 use Rattle.crush_grammar.specs.declared.code.TextCode.TheVariants.{X1, X3}
 use Rattle.crush_grammar.specs.declared.declaration.Place.{Place}

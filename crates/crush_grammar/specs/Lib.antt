@@ -1,4 +1,5 @@
 pub mod Sayings
 pub mod Syntax
 pub mod Fronts
+pub mod Automaton
 pub mod Private

@@ -1,3 +1,2 @@
 -- What private clauses alone cite: how the code works. No public clause rests on it.
-pub mod Automaton
 pub mod Leads

@@ -2,7 +2,7 @@
 
 ghost use Rattle.std.specs.Prelude.{◌≡◌, ◌≤◌, ℕ, List, [], Option, Some, None, true, false, length, IfOk};
 ghost use Rattle.crush_map.specs.declared.word.Weight.{Weight};
-ghost use Rattle.crush_grammar.specs.Private.Automaton.{State, give, named, with_item};
+ghost use Rattle.crush_grammar.specs.Automaton.{State, give, named, with_item};
 ghost use Rattle.crush_grammar.specs.Private.Leads.{ahead, Leads};
 ghost use Rattle.crush_grammar.specs.declared.declaration.Declaration.TheVariants as declarations;
 ghost use Rattle.crush_grammar.specs.declared.declaration.DeclaredBucket.{DeclaredBucket};
@@ -19,7 +19,7 @@ use crush_words::{Cursor, Name};
 use std::alloc::Global;
 
 /// The name of a bucket.
-#[tactic(auto, using(crate::proofs::States::dead), unfolding(crate::specs::Private::Automaton::step))]
+#[tactic(auto, using(crate::proofs::States::dead), unfolding(crate::specs::Automaton::step))]
 fn bucket_name<'a>(
     line: usize,
     type_name: Name<'a>,
@@ -39,7 +39,7 @@ fn bucket_name<'a>(
 }
 
 /// The brace that opens a bucket.
-#[tactic(auto, using(crate::proofs::States::dead), unfolding(crate::specs::Private::Automaton::step))]
+#[tactic(auto, using(crate::proofs::States::dead), unfolding(crate::specs::Automaton::step))]
 fn bucket_open<'a>(
     head: BucketHead<'a>,
     cursor: &Cursor<'a>,
@@ -53,7 +53,7 @@ fn bucket_open<'a>(
 }
 
 /// The number of an id line.
-#[tactic(auto, using(crate::proofs::States::dead), unfolding(crate::specs::Private::Automaton::step))]
+#[tactic(auto, using(crate::proofs::States::dead), unfolding(crate::specs::Automaton::step))]
 fn id_number<'a>(
     head: &BucketHead<'a>,
     before: Option<i64>,
@@ -68,7 +68,7 @@ fn id_number<'a>(
 }
 
 /// What follows the number of an id line: a class, with which the line is dropped, or nothing, if no line before has none.
-#[tactic(auto, using(crate::proofs::States::dead), unfolding(crate::specs::Private::Automaton::step))]
+#[tactic(auto, using(crate::proofs::States::dead), unfolding(crate::specs::Automaton::step))]
 fn id_class<'a>(
     head: &BucketHead<'a>,
     before: Option<i64>,
@@ -104,7 +104,7 @@ fn id_line<'a>(
 }
 
 /// The id lines, up to the word alg: the one id without a class.
-#[tactic(auto, using(crate::proofs::States::dead), unfolding(crate::specs::Private::Automaton::step))]
+#[tactic(auto, using(crate::proofs::States::dead), unfolding(crate::specs::Automaton::step))]
 fn bucket_id<'a>(head: &BucketHead<'a>, cursor: Cursor<'a>) -> Result<(i64, Cursor<'a>), ReadError>
     ensures value { Leads (ahead (State.IdLines head.now None) cursor.entry) result (λ x. ahead (State.AlgWord head.now x.0) x.1) }
     ensures less { IfOk result (λ x. length x.1.words ≤ length cursor.entry.words) }
@@ -127,7 +127,7 @@ fn bucket_id<'a>(head: &BucketHead<'a>, cursor: Cursor<'a>) -> Result<(i64, Curs
 }
 
 /// The algorithm of a bucket.
-#[tactic(auto, using(crate::proofs::States::dead), unfolding(crate::specs::Private::Automaton::step))]
+#[tactic(auto, using(crate::proofs::States::dead), unfolding(crate::specs::Automaton::step))]
 fn bucket_alg<'a>(
     head: &BucketHead<'a>,
     id: i64,
@@ -171,7 +171,7 @@ fn bucket_start<'a>(
 }
 
 /// The hash lines.
-#[tactic(auto, using(crate::proofs::States::dead, crate::proofs::States::no_hash), unfolding(crate::specs::Private::Automaton::step))]
+#[tactic(auto, using(crate::proofs::States::dead, crate::proofs::States::no_hash), unfolding(crate::specs::Automaton::step))]
 fn hashes<'a>(cursor: Cursor<'a>) -> Result<Cursor<'a>, ReadError>
     ensures value { (b : DeclaredBucket) → Leads (ahead (State.Hashes b) cursor.entry) result (λ c. ahead (State.Items b) c) }
     ensures less { IfOk result (λ c. length c.words ≤ length cursor.entry.words) }
@@ -189,7 +189,7 @@ fn hashes<'a>(cursor: Cursor<'a>) -> Result<Cursor<'a>, ReadError>
 }
 
 /// The name of an item.
-#[tactic(auto, using(crate::proofs::States::dead), unfolding(crate::specs::Private::Automaton::step))]
+#[tactic(auto, using(crate::proofs::States::dead), unfolding(crate::specs::Automaton::step))]
 fn item_name<'a>(cursor: &Cursor<'a>) -> Result<(Name<'a>, Cursor<'a>), ReadError>
     ensures value { (b : DeclaredBucket) → Leads (ahead (State.ItemWord b) cursor.now) result (λ x. ahead (State.ItemName b (named x.0)) x.1) }
     ensures less { IfOk result (λ x. length x.1.words ≤ length cursor.now.words) }
@@ -200,7 +200,7 @@ fn item_name<'a>(cursor: &Cursor<'a>) -> Result<(Name<'a>, Cursor<'a>), ReadErro
 }
 
 /// The weight of an item, if one is given.
-#[tactic(auto, using(crate::proofs::States::dead, crate::proofs::States::no_weight), unfolding(crate::specs::Private::Automaton::step))]
+#[tactic(auto, using(crate::proofs::States::dead, crate::proofs::States::no_weight), unfolding(crate::specs::Automaton::step))]
 fn item_weight<'a>(cursor: Cursor<'a>) -> Result<(Option<Weight>, Cursor<'a>), ReadError>
     ensures value { (b : DeclaredBucket) (name : List ℕ) → Leads (ahead (State.ItemName b (named name)) cursor.entry) result (λ x. ahead (State.ItemWeight b (record { name = name; weight = x.0; place = None })) x.1) }
     ensures less { IfOk result (λ x. length x.1.words ≤ length cursor.entry.words) }
@@ -223,7 +223,7 @@ fn item_weight<'a>(cursor: Cursor<'a>) -> Result<(Option<Weight>, Cursor<'a>), R
 }
 
 /// The place of an item, if one is given.
-#[tactic(auto, using(crate::proofs::States::dead, crate::proofs::States::no_place), unfolding(crate::specs::Private::Automaton::step))]
+#[tactic(auto, using(crate::proofs::States::dead, crate::proofs::States::no_place), unfolding(crate::specs::Automaton::step))]
 fn item_place<'a>(cursor: Cursor<'a>) -> Result<(Option<Place>, Cursor<'a>), ReadError>
     ensures value { (b : DeclaredBucket) (name : List ℕ) (weight : Option Weight) → Leads (ahead (State.ItemWeight b (record { name = name; weight = weight; place = None })) cursor.entry) result (λ x. ahead (State.Items (with_item b (record { name = name; weight = weight; place = x.0 }))) x.1) }
     ensures less { IfOk result (λ x. length x.1.words ≤ length cursor.entry.words) }
@@ -261,7 +261,7 @@ fn item<'a>(cursor: &Cursor<'a>) -> Result<(DeclaredItem<'a>, Cursor<'a>), ReadE
 }
 
 /// The items of a bucket, and the brace that closes it.
-#[tactic(auto, using(crate::proofs::States::dead), unfolding(crate::specs::Private::Automaton::step))]
+#[tactic(auto, using(crate::proofs::States::dead), unfolding(crate::specs::Automaton::step))]
 fn items<'a>(
     alloc: Global,
     start: BucketStart<'a>,

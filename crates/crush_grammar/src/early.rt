@@ -1,7 +1,7 @@
 //! Reading tunables, devices and types.
 
 ghost use Rattle.std.specs.Prelude.{◌≡◌, ◌≤◌, ℕ, Some, true, length, IfOk};
-ghost use Rattle.crush_grammar.specs.Private.Automaton.{State, give, tunable_at, device_at, type_at};
+ghost use Rattle.crush_grammar.specs.Automaton.{State, give, tunable_at, device_at, type_at};
 ghost use Rattle.crush_grammar.specs.Private.Leads.{ahead, Leads};
 ghost use Rattle.crush_grammar.specs.declared.declaration.Declaration.TheVariants as declarations;
 
@@ -11,7 +11,7 @@ use crate::say::{is, name, next, number, tunable};
 use crush_words::{Cursor, Name};
 
 /// The name of a tunable.
-#[tactic(auto, using(crate::proofs::States::dead), unfolding(crate::specs::Private::Automaton::step))]
+#[tactic(auto, using(crate::proofs::States::dead), unfolding(crate::specs::Automaton::step))]
 fn tunable_name<'a>(
     line: usize,
     cursor: &Cursor<'a>,
@@ -25,7 +25,7 @@ fn tunable_name<'a>(
 }
 
 /// A tunable, after its first word.
-#[tactic(auto, using(crate::proofs::States::dead), unfolding(crate::specs::Private::Automaton::step))]
+#[tactic(auto, using(crate::proofs::States::dead), unfolding(crate::specs::Automaton::step))]
 pub(crate) fn declared_tunable<'a>(
     line: usize,
     cursor: &Cursor<'a>,
@@ -40,7 +40,7 @@ pub(crate) fn declared_tunable<'a>(
 }
 
 /// The id of a device.
-#[tactic(auto, using(crate::proofs::States::dead), unfolding(crate::specs::Private::Automaton::step))]
+#[tactic(auto, using(crate::proofs::States::dead), unfolding(crate::specs::Automaton::step))]
 fn device_id<'a>(line: usize, cursor: &Cursor<'a>) -> Result<(u64, Cursor<'a>), ReadError>
     ensures value { Leads (ahead (State.DeviceWord line) cursor.now) result (λ x. ahead (State.DeviceNumber line x.0) x.1) }
     ensures less { IfOk result (λ x. length x.1.words ≤ length cursor.now.words) }
@@ -51,7 +51,7 @@ fn device_id<'a>(line: usize, cursor: &Cursor<'a>) -> Result<(u64, Cursor<'a>), 
 }
 
 /// The name of a device.
-#[tactic(auto, using(crate::proofs::States::dead), unfolding(crate::specs::Private::Automaton::step))]
+#[tactic(auto, using(crate::proofs::States::dead), unfolding(crate::specs::Automaton::step))]
 fn device_name<'a>(
     line: usize,
     id: u64,
@@ -66,7 +66,7 @@ fn device_name<'a>(
 }
 
 /// What follows the name of a device: its class, which is dropped, or nothing of it.
-#[tactic(auto, using(crate::proofs::States::dead), unfolding(crate::specs::Private::Automaton::step))]
+#[tactic(auto, using(crate::proofs::States::dead), unfolding(crate::specs::Automaton::step))]
 fn device_class<'a>(
     device: DeclaredDevice<'a>,
     cursor: Cursor<'a>,
@@ -99,7 +99,7 @@ pub(crate) fn declared_device<'a>(
 }
 
 /// The number of a type.
-#[tactic(auto, using(crate::proofs::States::dead), unfolding(crate::specs::Private::Automaton::step))]
+#[tactic(auto, using(crate::proofs::States::dead), unfolding(crate::specs::Automaton::step))]
 fn type_number<'a>(line: usize, cursor: &Cursor<'a>) -> Result<(u64, Cursor<'a>), ReadError>
     ensures value { Leads (ahead (State.TypeWord line) cursor.now) result (λ x. ahead (State.TypeNumber line x.0) x.1) }
     ensures less { IfOk result (λ x. length x.1.words ≤ length cursor.now.words) }
@@ -110,7 +110,7 @@ fn type_number<'a>(line: usize, cursor: &Cursor<'a>) -> Result<(u64, Cursor<'a>)
 }
 
 /// A type, after its first word.
-#[tactic(auto, using(crate::proofs::States::dead), unfolding(crate::specs::Private::Automaton::step))]
+#[tactic(auto, using(crate::proofs::States::dead), unfolding(crate::specs::Automaton::step))]
 pub(crate) fn declared_type<'a>(
     line: usize,
     cursor: &Cursor<'a>,

@@ -19,6 +19,8 @@ pub use declaration::{
     BucketHead, Declaration, DeclaredBucket, DeclaredDevice, DeclaredItem, DeclaredRule,
     DeclaredStep, DeclaredTunable, DeclaredType, Place, Setting, TunableName,
 };
-pub use law::{words_are_whole_or_break, words_declare_once};
+pub use law::{
+    words_are_read_as_they_say, words_are_whole_or_break, words_break_once, words_declare_once,
+};
 pub use line::last_line;
 pub use read::{Declarations, read_declarations};

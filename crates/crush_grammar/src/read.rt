@@ -5,7 +5,7 @@ ghost use Rattle.crush_words.specs.Words.{words};
 ghost use Rattle.crush_grammar.specs.Fronts as fronts;
 ghost use Rattle.crush_grammar.specs.Fronts.{Breaks};
 ghost use Rattle.crush_grammar.specs.Syntax.{Declares};
-ghost use Rattle.crush_grammar.specs.Private.Automaton.{State, Reading, begun, begun_late, give, text as read_text};
+ghost use Rattle.crush_grammar.specs.Automaton.{State, Reading, begun, begun_late, give, text as read_text};
 ghost use Rattle.crush_grammar.specs.Private.Leads.{ahead, Leads, behind, is_early, no_more};
 
 use crate::bucket::declared_bucket;
@@ -27,7 +27,7 @@ pub struct Declarations<'a> {
 }
 
 /// A tunable, a device or a type, of which this is the first word.
-#[tactic(auto, using(crate::proofs::States::dead), unfolding(crate::specs::Private::Automaton::step))]
+#[tactic(auto, using(crate::proofs::States::dead), unfolding(crate::specs::Automaton::step))]
 fn early_declaration<'a>(
     word: &Word<'a>,
     cursor: &Cursor<'a>,
@@ -49,7 +49,7 @@ fn early_declaration<'a>(
 }
 
 /// A bucket or a rule, of which this is the first word.
-#[tactic(auto, using(crate::proofs::States::dead), unfolding(crate::specs::Private::Automaton::step))]
+#[tactic(auto, using(crate::proofs::States::dead), unfolding(crate::specs::Automaton::step))]
 fn late_declaration<'a>(
     alloc: Global,
     word: &Word<'a>,
@@ -76,7 +76,7 @@ fn late_declaration<'a>(
 }
 
 /// A declaration, of which this is the first word.
-#[tactic(auto, using(crate::proofs::States::dead), unfolding(crate::specs::Private::Automaton::step))]
+#[tactic(auto, using(crate::proofs::States::dead), unfolding(crate::specs::Automaton::step))]
 fn declaration<'a>(
     alloc: Global,
     early: bool,

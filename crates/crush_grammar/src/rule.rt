@@ -1,7 +1,7 @@
 //! Reading rules.
 
 ghost use Rattle.std.specs.Prelude.{◌≡◌, ◌≤◌, ◌∷◌, ℕ, List, [], Some, None, true, false, length, IfOk};
-ghost use Rattle.crush_grammar.specs.Private.Automaton.{State, give, with_step};
+ghost use Rattle.crush_grammar.specs.Automaton.{State, give, with_step};
 ghost use Rattle.crush_grammar.specs.Private.Leads.{ahead, Leads};
 ghost use Rattle.crush_grammar.specs.declared.declaration.Declaration.TheVariants as declarations;
 ghost use Rattle.crush_grammar.specs.declared.declaration.DeclaredRule.{DeclaredRule};
@@ -17,7 +17,7 @@ use crush_words::{Cursor, Name};
 use std::alloc::Global;
 
 /// The name of a rule.
-#[tactic(auto, using(crate::proofs::States::dead), unfolding(crate::specs::Private::Automaton::step))]
+#[tactic(auto, using(crate::proofs::States::dead), unfolding(crate::specs::Automaton::step))]
 fn rule_name<'a>(line: usize, cursor: &Cursor<'a>) -> Result<(Name<'a>, Cursor<'a>), ReadError>
     ensures value { Leads (ahead (State.RuleWord line) cursor.now) result (λ x. ahead (State.RuleName line x.0) x.1) }
     ensures less { IfOk result (λ x. length x.1.words ≤ length cursor.now.words) }
@@ -28,7 +28,7 @@ fn rule_name<'a>(line: usize, cursor: &Cursor<'a>) -> Result<(Name<'a>, Cursor<'
 }
 
 /// The brace that opens a rule, and the word before its id.
-#[tactic(auto, using(crate::proofs::States::dead), unfolding(crate::specs::Private::Automaton::step))]
+#[tactic(auto, using(crate::proofs::States::dead), unfolding(crate::specs::Automaton::step))]
 fn rule_open<'a>(
     line: usize,
     name: Name<'a>,
@@ -45,7 +45,7 @@ fn rule_open<'a>(
 }
 
 /// The id of a rule, and the word before its type.
-#[tactic(auto, using(crate::proofs::States::dead), unfolding(crate::specs::Private::Automaton::step))]
+#[tactic(auto, using(crate::proofs::States::dead), unfolding(crate::specs::Automaton::step))]
 fn rule_number<'a>(
     line: usize,
     name: &Name<'a>,
@@ -62,7 +62,7 @@ fn rule_number<'a>(
 }
 
 /// The type of a rule.
-#[tactic(auto, using(crate::proofs::States::dead), unfolding(crate::specs::Private::Automaton::step))]
+#[tactic(auto, using(crate::proofs::States::dead), unfolding(crate::specs::Automaton::step))]
 fn rule_erasure<'a>(
     line: usize,
     name: &Name<'a>,
@@ -78,7 +78,7 @@ fn rule_erasure<'a>(
 }
 
 /// The least size, if one is given; it is dropped.
-#[tactic(auto, using(crate::proofs::States::dead, crate::proofs::States::no_min), unfolding(crate::specs::Private::Automaton::step))]
+#[tactic(auto, using(crate::proofs::States::dead, crate::proofs::States::no_min), unfolding(crate::specs::Automaton::step))]
 fn min_size<'a>(cursor: Cursor<'a>) -> Result<Cursor<'a>, ReadError>
     ensures value { (r : DeclaredRule) → Leads (ahead (State.RuleKind r) cursor.entry) result (λ c. ahead (State.RuleMin r) c) }
     ensures less { IfOk result (λ c. length c.words ≤ length cursor.entry.words) }
@@ -95,7 +95,7 @@ fn min_size<'a>(cursor: Cursor<'a>) -> Result<Cursor<'a>, ReadError>
 }
 
 /// The greatest size, if one is given; it is dropped.
-#[tactic(auto, using(crate::proofs::States::dead, crate::proofs::States::no_max), unfolding(crate::specs::Private::Automaton::step))]
+#[tactic(auto, using(crate::proofs::States::dead, crate::proofs::States::no_max), unfolding(crate::specs::Automaton::step))]
 fn max_size<'a>(cursor: Cursor<'a>) -> Result<Cursor<'a>, ReadError>
     ensures value { (r : DeclaredRule) → Leads (ahead (State.RuleMin r) cursor.entry) result (λ c. ahead (State.RuleMax r) c) }
     ensures less { IfOk result (λ c. length c.words ≤ length cursor.entry.words) }
@@ -112,7 +112,7 @@ fn max_size<'a>(cursor: Cursor<'a>) -> Result<Cursor<'a>, ReadError>
 }
 
 /// The name after take, which no class may follow.
-#[tactic(auto, using(crate::proofs::States::dead, crate::proofs::States::taken_end), unfolding(crate::specs::Private::Automaton::step))]
+#[tactic(auto, using(crate::proofs::States::dead, crate::proofs::States::taken_end), unfolding(crate::specs::Automaton::step))]
 fn take_step<'a>(cursor: &Cursor<'a>) -> Result<(DeclaredStep<'a>, Cursor<'a>), ReadError>
     ensures value { (r : DeclaredRule) → Leads (ahead (State.TakeWord r) cursor.now) result (λ x. ahead (State.Steps (with_step r x.0)) x.1) }
     ensures less { IfOk result (λ x. length x.1.words ≤ length cursor.now.words) }
@@ -131,7 +131,7 @@ fn take_step<'a>(cursor: &Cursor<'a>) -> Result<(DeclaredStep<'a>, Cursor<'a>), 
 }
 
 /// How many items a choose step chooses, and how.
-#[tactic(auto, using(crate::proofs::States::dead), unfolding(crate::specs::Private::Automaton::step))]
+#[tactic(auto, using(crate::proofs::States::dead), unfolding(crate::specs::Automaton::step))]
 fn choose_number<'a>(
     leaf: bool,
     cursor: &Cursor<'a>,
@@ -147,7 +147,7 @@ fn choose_number<'a>(
 }
 
 /// The type that a choose step wants.
-#[tactic(auto, using(crate::proofs::States::dead), unfolding(crate::specs::Private::Automaton::step))]
+#[tactic(auto, using(crate::proofs::States::dead), unfolding(crate::specs::Automaton::step))]
 fn choose_type<'a>(
     leaf: bool,
     firstn: bool,
@@ -183,7 +183,7 @@ fn choose_step<'a>(
 }
 
 /// What a set step sets.
-#[tactic(auto, using(crate::proofs::States::dead), unfolding(crate::specs::Private::Automaton::step))]
+#[tactic(auto, using(crate::proofs::States::dead), unfolding(crate::specs::Automaton::step))]
 fn set_value<'a>(
     setting: Setting,
     cursor: &Cursor<'a>,
@@ -197,7 +197,7 @@ fn set_value<'a>(
 }
 
 /// A step, after the word step.
-#[tactic(auto, using(crate::proofs::States::dead), unfolding(crate::specs::Private::Automaton::step))]
+#[tactic(auto, using(crate::proofs::States::dead), unfolding(crate::specs::Automaton::step))]
 fn step<'a>(cursor: &Cursor<'a>) -> Result<(DeclaredStep<'a>, Cursor<'a>), ReadError>
     ensures value { (r : DeclaredRule) → Leads (ahead (State.StepWord r) cursor.now) result (λ x. ahead (State.Steps (with_step r x.0)) x.1) }
     ensures less { IfOk result (λ x. length x.1.words ≤ length cursor.now.words) }
@@ -218,7 +218,7 @@ fn step<'a>(cursor: &Cursor<'a>) -> Result<(DeclaredStep<'a>, Cursor<'a>), ReadE
 }
 
 /// The first step of a rule.
-#[tactic(auto, using(crate::proofs::States::dead), unfolding(crate::specs::Private::Automaton::step))]
+#[tactic(auto, using(crate::proofs::States::dead), unfolding(crate::specs::Automaton::step))]
 fn first_step<'a>(cursor: &Cursor<'a>) -> Result<(DeclaredStep<'a>, Cursor<'a>), ReadError>
     ensures value { (r : DeclaredRule) → Leads (ahead (State.RuleMax r) cursor.now) result (λ x. ahead (State.Steps (with_step r x.0)) x.1) }
     ensures less { IfOk result (λ x. length x.1.words ≤ length cursor.now.words) }
@@ -229,7 +229,7 @@ fn first_step<'a>(cursor: &Cursor<'a>) -> Result<(DeclaredStep<'a>, Cursor<'a>),
 }
 
 /// The steps of a rule, and the brace that closes it.
-#[tactic(auto, using(crate::proofs::States::dead), unfolding(crate::specs::Private::Automaton::step))]
+#[tactic(auto, using(crate::proofs::States::dead), unfolding(crate::specs::Automaton::step))]
 fn steps<'a>(
     alloc: Global,
     line: usize,

@@ -1,10 +1,8 @@
 -- What the declarations of a map make of each of its elements.
-use Rattle.std.proofs.Common.{◌≡◌, ◌∙◌, ℕ, ℤ, pos, negsuc, zero, suc, ◌+◌, ◌<◌, ◌≤◌, ◌==◌, ◌&&◌, min, nat_le, List, [], ◌∷◌, ◌++◌, length, map, take, drop, Bool, true, false, refl, sym, ap, arith, Option, Some, None, is_none, unwrap_or}
+use Rattle.std.proofs.Common.{◌≡◌, ◌∙◌, ℕ, ℤ, pos, negsuc, ◌+◌, ◌≤◌, min, nat_le, List, [], ◌∷◌, ◌++◌, length, map, true, refl, sym, ap, arith, Option, Some, None, is_none}
 use Rattle.std.proofs.lemmas.Bool.Decides.{nat_tests}
-use Rattle.std.proofs.lemmas.List.{append-nil}
 use Rattle.std.specs.List.{find, filter, filter_map, AllByRecursion}
 use Rattle.crush_map.specs.declared.fault.FaultCode.{FaultCode}
-use Rattle.crush_map.specs.declared.draft.TypeName.{TypeName}
 use Rattle.crush_map.specs.declared.draft.Bucket.{Bucket}
 use Rattle.crush_map.specs.declared.draft.Rule.{Rule}
 use Rattle.crush_map.specs.declared.draft.Step.{Step}
@@ -12,13 +10,11 @@ use Rattle.crush_map.specs.declared.draft.Step.TheVariants.{Take, SetChooseTries
 use Rattle.crush_map.specs.declared.draft.MapDraft.{MapDraft}
 use Rattle.crush_map.specs.declared.word.ItemId.{ItemId}
 use Rattle.crush_map.specs.declared.word.Weight.{Weight}
-use Rattle.crush_map.specs.declared.word.Kind.{Kind}
-use Rattle.crush_map.specs.Faults.{Known, first_of, or_else, is_bucket_id, is_count, step_fault, steps_fault, rule_head_fault, rule_head_checks, rule_fault}
+use Rattle.crush_map.specs.Faults.{first_of, or_else, is_bucket_id, is_count, step_fault, steps_fault, rule_head_fault, rule_head_checks, rule_fault}
 use Rattle.crush_map.specs.Map.{Map}
 use Rattle.crush_map.specs.Sound.{IsEachOnce, has_type, has_item, IsStep}
 use Rattle.crush_grammar.specs.declared.declaration.DeclaredItem.{DeclaredItem}
 use Rattle.crush_grammar.specs.declared.declaration.DeclaredBucket.{DeclaredBucket}
-use Rattle.crush_grammar.specs.declared.declaration.DeclaredStep.{DeclaredStep}
 use Rattle.crush_grammar.specs.declared.declaration.DeclaredRule.{DeclaredRule}
 use Rattle.crush_text.specs.Canonical.{type_name, item_name}
 use Rattle.crush_text.specs.Places.{names_place, wrong_place, wrong_place_from, fill, in_place}

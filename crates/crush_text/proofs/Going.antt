@@ -1,8 +1,7 @@
 -- Declarations without a fault, one behind the other.
-use Rattle.std.proofs.Common.{◌≡◌, ◌∙◌, ℕ, ◌+◌, List, [], ◌∷◌, ◌++◌, length, refl, sym, ap, subst, append_assoc, None, Option, Some}
+use Rattle.std.proofs.Common.{◌≡◌, ◌∙◌, ℕ, ◌+◌, List, [], ◌∷◌, ◌++◌, refl, sym, ap, subst, append_assoc, None, Option, Some}
 use Rattle.std.proofs.lemmas.List.{append-nil}
 use Rattle.crush_map.specs.Faults.{or_else}
-use Rattle.crush_grammar.specs.declared.code.TextFault.{TextFault}
 use Rattle.crush_grammar.specs.declared.declaration.Declaration.{Declaration}
 use Rattle.crush_text.specs.Judging.{Declared, declaration_fault, declare, declared_from, fault_from}
 use Rattle.crush_text.proofs.Spelt.{numbered}

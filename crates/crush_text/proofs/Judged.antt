@@ -1,5 +1,5 @@
 -- The declarations of a map have no fault, and make that map.
-use Rattle.std.proofs.Common.{◌≡◌, ◌∙◌, ℕ, zero, suc, ◌+◌, ◌<◌, ◌≤◌, ◌==◌, ◌&&◌, not, nat_le, min, List, [], ◌∷◌, ◌++◌, length, map, take, fold, Bool, true, false, refl, sym, ap, subst, arith, Option, Some, None, IfSome, slice_get}
+use Rattle.std.proofs.Common.{◌≡◌, ◌∙◌, ℕ, ◌+◌, ◌≤◌, ◌==◌, ◌&&◌, not, nat_le, List, [], ◌∷◌, ◌++◌, length, take, fold, Bool, true, false, refl, sym, ap, subst, arith, None}
 use Rattle.std.proofs.lemmas.Bool.Decides.{nat_tests}
 use Rattle.std.proofs.lemmas.List.{append-nil}
 use Rattle.std.specs.List.{AllByRecursion}
@@ -9,17 +9,15 @@ use Rattle.crush_map.specs.declared.draft.Device.{Device}
 use Rattle.crush_map.specs.declared.draft.Bucket.{Bucket}
 use Rattle.crush_map.specs.declared.draft.Rule.{Rule}
 use Rattle.crush_map.specs.declared.draft.Tunables.{Tunables}
-use Rattle.crush_map.specs.declared.draft.MapDraft.{MapDraft}
 use Rattle.crush_map.specs.Faults.{Known, ◌when◌, first_of, nothing, are_in_range, type_fault, device_fault, bucket_fault, rule_fault, with_type, with_device, with_bucket, with_rule, known_types, known_devices, known_buckets}
 use Rattle.crush_map.specs.Map.{Map, draft_of}
 use Rattle.crush_map.specs.Sound.{IsTypeAt, IsDeviceAt, IsBucketAt, IsRuleAt, IsStep, has_item}
-use Rattle.crush_grammar.specs.declared.code.TextFault.{TextFault}
 use Rattle.crush_grammar.specs.declared.declaration.Declaration.{Declaration}
 use Rattle.crush_grammar.specs.declared.declaration.TunableName.{TunableName}
 use Rattle.crush_grammar.specs.declared.declaration.TunableName.TheVariants.{LocalTries, LocalFallbackTries, TotalTries, DescendOnce, VaryR, Stable}
-use Rattle.crush_text.specs.Judging.{Declared, nothing_declared, with_tunable, is_local, is_named, tunable_fault, fitted, declare, declaration_fault, at_line, bucket_of, rule_of, declared_bucket_fault, declared_rule_fault}
+use Rattle.crush_text.specs.Judging.{Declared, nothing_declared, with_tunable, is_local, is_named, tunable_fault, fitted, at_line, bucket_of, rule_of, declared_bucket_fault}
 use Rattle.crush_text.proofs.Spelt.{both, numbered}
-use Rattle.crush_text.proofs.Found.{AtEach, at_each, taken}
+use Rattle.crush_text.proofs.Found.{at_each, taken}
 use Rattle.crush_text.proofs.Trees.{tunables_of, tunable_declared, device_declared, type_declared, bucket_declared, bucket_height, rule_declared, rule_height}
 use Rattle.crush_text.proofs.Going.{Goes, goes_on, one_goes, along}
 use Rattle.crush_text.proofs.Back.{fits, IsPart, bucket_written, bucket_back, no_wrong_place, rule_written, rule_back, rule_passes}

@@ -11,6 +11,11 @@ mod SoundMap
 mod Judged
 mod Round
 mod Only
+mod Ascii
+mod Sorted
+mod Alike
+mod Valid
+mod Reading
 pub mod Checks
 pub mod Kept
 pub mod Arranged
@@ -18,3 +23,4 @@ pub mod FirstOfName
 pub mod Named
 pub mod Faultless
 pub mod Texts
+pub mod Listed

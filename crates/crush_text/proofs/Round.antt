@@ -1,26 +1,20 @@
 -- The canonical text of a map is a text of that map.
-use Rattle.std.proofs.Common.{◌≡◌, ◌∙◌, ℕ, ◌+◌, ◌<◌, ◌≤◌, ◌^◌, List, [], ◌∷◌, ◌++◌, map, sum_by, false, refl, sym, ap, subst, arith, codes, append_assoc, Option, Some, None, IfSome, slice_get}
+use Rattle.std.proofs.Common.{◌≡◌, ◌∙◌, ℕ, ◌+◌, List, [], ◌∷◌, ◌++◌, map, sum_by, false, refl, sym, ap, subst, arith, codes, append_assoc, Option, Some, None, IfSome, slice_get}
 use Rattle.std.proofs.lemmas.List.{append-nil}
 use Rattle.std.proofs.lemmas.List.Concat.{flat_map-append}
 use Rattle.std.proofs.lemmas.List.Sorted.{IsPermutation-refl}
-use Rattle.std.specs.List.{flat_map, AllByRecursion}
-use Rattle.crush_map.specs.declared.draft.TypeName.{TypeName}
-use Rattle.crush_map.specs.declared.draft.Device.{Device}
-use Rattle.crush_map.specs.declared.draft.Bucket.{Bucket}
-use Rattle.crush_map.specs.declared.draft.Rule.{Rule}
-use Rattle.crush_map.specs.Map.{Map, draft_of, IsMap, IsMapOf}
+use Rattle.std.specs.List.{flat_map}
+use Rattle.crush_map.specs.Map.{Map, IsMap, IsMapOf}
 use Rattle.crush_map.specs.Sound.{IsTypeAt, IsDeviceAt, IsBucketAt, IsRuleAt}
 use Rattle.crush_words.specs.Words.{Word, words, words_from}
-use Rattle.crush_grammar.specs.Syntax.{Early, early_words, early_declares, Late, late_words, late_declares, Text, text_words, text_declares, Declares}
+use Rattle.crush_grammar.specs.Syntax.{early_words, early_declares, late_words, late_declares, Text, text_words, text_declares}
 use Rattle.crush_grammar.specs.Fronts.{last_line}
-use Rattle.crush_grammar.specs.declared.declaration.Declaration.{Declaration}
-use Rattle.crush_text.specs.Canonical.{tunable_lines, device_line, type_line, bucket_lines, rule_lines, canonical}
-use Rattle.crush_text.specs.Judging.{declared, declared_fault, last_fault, at_line}
-use Rattle.crush_text.specs.MapText.{SaysMap, IsTextOf}
+use Rattle.crush_text.specs.Canonical.{device_line, type_line, bucket_lines, rule_lines, canonical}
+use Rattle.crush_text.specs.Judging.{last_fault, at_line}
+use Rattle.crush_text.specs.MapText.{IsTextOf}
 use Rattle.crush_text.proofs.Spelt.{Reads, joined, ends, Spells, numbered, all_spell}
 use Rattle.crush_text.proofs.Trees.{tunables_of, tunable_declared, tunables_spell, device_declared, device_spells, type_declared, type_spells, bucket_declared, bucket_height, bucket_spells, rule_declared, rule_height, rule_spells}
 use Rattle.crush_text.proofs.SoundMap.{Sound, all_by, bucket_is_written, rule_is_written}
-use Rattle.crush_text.proofs.States.{with_rules}
 use Rattle.crush_text.proofs.Judged.{ranges, declarations_of, map_goes}
 
 -- ---- remarks

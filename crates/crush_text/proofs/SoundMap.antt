@@ -1,29 +1,25 @@
 -- What is known of a map, as its text needs it.
-use Rattle.std.proofs.Common.{◌≡◌, ◌∙◌, ◌⊎◌, ℕ, ℤ, pos, negsuc, zero, suc, ◌+◌, ◌<◌, ◌≤◌, ◌^◌, ◌==◌, ◌||◌, nat_le, List, [], ◌∷◌, ◌++◌, length, map, take, fold, sum_by, Bool, true, false, refl, sym, ap, subst, arith, codes, append_assoc, Option, Some, None, IfSome, slice_get}
-use Rattle.std.proofs.lemmas.Bool.Decides.{nat_tests}
+use Rattle.std.proofs.Common.{◌≡◌, ◌∙◌, ℕ, ℤ, pos, negsuc, zero, suc, ◌<◌, ◌^◌, ◌==◌, ◌||◌, List, [], ◌∷◌, ◌++◌, map, take, Bool, true, false, refl, sym, ap, subst, arith, Option, Some, None, IfSome, slice_get}
 use Rattle.std.proofs.lemmas.List.{append-nil}
-use Rattle.std.proofs.lemmas.List.Concat.{flat_map-append}
 use Rattle.std.proofs.lemmas.List.Sums.{sum_by-cons}
-use Rattle.std.proofs.lemmas.List.Sorted.{IsPermutation-refl}
 use Rattle.std.specs.Ordering.{int_eq}
-use Rattle.std.specs.List.{flat_map, list_any, AllByRecursion}
+use Rattle.std.specs.List.{list_any, AllByRecursion}
 use Rattle.crush_map.specs.declared.draft.TypeName.{TypeName}
 use Rattle.crush_map.specs.declared.draft.Device.{Device}
 use Rattle.crush_map.specs.declared.draft.Bucket.{Bucket}
 use Rattle.crush_map.specs.declared.draft.Rule.{Rule}
 use Rattle.crush_map.specs.declared.draft.Step.{Step}
 use Rattle.crush_map.specs.declared.draft.Step.TheVariants.{Take, SetChooseTries, SetLeafTries, SetVaryR, SetStable, Choose, Emit}
-use Rattle.crush_map.specs.declared.draft.Tunables.{Tunables}
 use Rattle.crush_map.specs.declared.word.ItemId.{ItemId}
 use Rattle.crush_map.specs.declared.word.Weight.{Weight}
-use Rattle.crush_map.specs.Faults.{is_name, is_reserved, is_bucket_id, are_in_range, type_fault, device_fault, bucket_fault, rule_fault, end_fault, nothing, with_type, with_device, with_bucket, with_rule, known_types, known_devices, known_buckets, known_rules}
-use Rattle.crush_map.specs.Map.{Map, draft_of, IsMap, IsMapOf}
+use Rattle.crush_map.specs.Faults.{is_name, is_reserved, are_in_range}
+use Rattle.crush_map.specs.Map.{Map, draft_of}
 use Rattle.crush_map.specs.Laws.{HasNoFault}
 use Rattle.crush_map.specs.Sound.{IsEachOnce, IsTypeAt, IsDeviceAt, IsBucketAt, IsRuleAt, IsItemAt, IsStep, has_type, has_device, has_bucket, has_item, same_id}
 use Rattle.crush_map.specs.Weights.{total_weight}
 use Rattle.crush_map.specs.WeightText.{text_of, weight_of}
 use Rattle.crush_text.specs.Canonical.{type_name, device_name, bucket_name, item_name}
-use Rattle.crush_text.proofs.Found.{Named, any_named, first_name, AtEach, holds_there}
+use Rattle.crush_text.proofs.Found.{any_named, first_name, holds_there}
 use Rattle.crush_text.proofs.Names.{type_first, device_first, bucket_first, same_eq, any_also}
 use Rattle.crush_text.proofs.Trees.{HasForm, IsWritten, IsWrittenRule, StepForm, all_mapped}
 use Rattle.crush_text.proofs.Back.{bucket_id_within, count_within}

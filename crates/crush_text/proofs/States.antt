@@ -1,13 +1,11 @@
 -- What is declared behind each part of a canonical text.
-use Rattle.std.proofs.Common.{◌≡◌, ◌∙◌, ℕ, ◌+◌, ◌==◌, ◌&&◌, not, nat_le, min, List, [], ◌∷◌, ◌++◌, map, fold, Bool, true, false, refl, sym, ap, Option, Some, None}
-use Rattle.crush_map.specs.declared.fault.FaultCode.{FaultCode}
+use Rattle.std.proofs.Common.{◌≡◌, ◌∙◌, ℕ, List, [], ◌∷◌, fold, refl, sym, ap}
 use Rattle.crush_map.specs.declared.draft.TypeName.{TypeName}
 use Rattle.crush_map.specs.declared.draft.Device.{Device}
 use Rattle.crush_map.specs.declared.draft.Bucket.{Bucket}
 use Rattle.crush_map.specs.declared.draft.Rule.{Rule}
 use Rattle.crush_map.specs.declared.draft.Tunables.{Tunables}
-use Rattle.crush_map.specs.declared.draft.MapDraft.{MapDraft}
-use Rattle.crush_map.specs.Faults.{Known, Ids, nothing, no_ids, type_fault, device_fault, with_type, with_device, with_bucket, with_rule, known_types, known_devices, known_buckets, known_rules, are_in_range}
+use Rattle.crush_map.specs.Faults.{Known, Ids, nothing, type_fault, device_fault, with_type, with_device, with_bucket, with_rule, known_types, known_devices, known_buckets}
 use Rattle.crush_map.specs.Map.{Map, draft_of}
 use Rattle.crush_grammar.specs.declared.declaration.TunableName.{TunableName}
 use Rattle.crush_grammar.specs.declared.declaration.TunableName.TheVariants.{LocalTries, LocalFallbackTries, TotalTries, DescendOnce, VaryR, Stable}

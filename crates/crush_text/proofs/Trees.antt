@@ -1,5 +1,5 @@
 -- The canonical text of each element is the words of a tree, which declares it.
-use Rattle.std.proofs.Common.{◌≡◌, ◌∙◌, ℕ, ℤ, zero, suc, ◌+◌, ◌<◌, ◌≤◌, ◌^◌, ◌==◌, ◌&&◌, nat_lt, nat_le, List, [], ◌∷◌, ◌++◌, length, map, sum_by, Bool, true, false, refl, sym, ap, subst, arith, append_assoc, codes, Option, Some, None}
+use Rattle.std.proofs.Common.{◌≡◌, ◌∙◌, ℕ, ℤ, ◌+◌, ◌<◌, ◌≤◌, ◌^◌, ◌&&◌, nat_lt, nat_le, List, [], ◌∷◌, ◌++◌, length, map, sum_by, Bool, true, false, refl, ap, arith, append_assoc, codes, Option, Some, None}
 use Rattle.std.proofs.lemmas.Bool.Decides.{nat_tests}
 use Rattle.std.proofs.lemmas.List.{append-nil}
 use Rattle.std.proofs.lemmas.List.Sums.{sum_by-cons}
@@ -19,7 +19,6 @@ use Rattle.crush_map.specs.declared.word.Kind.TheVariants.{Uniform, List as List
 use Rattle.crush_map.specs.Faults.{is_name, is_name_byte, is_reserved}
 use Rattle.crush_map.specs.Map.{Map}
 use Rattle.crush_map.specs.WeightText.{text_of, weight_of}
-use Rattle.crush_words.specs.Words.{Word}
 use Rattle.crush_words.specs.Numbers.{number_of, integer_of}
 use Rattle.crush_grammar.specs.Sayings.{name_of, type_of, tunable_of, alg_of, hash_of, rule_id_of, erasure_of, firstn_of, setting_of}
 use Rattle.crush_grammar.specs.Syntax.{Keyword, Saying, Clause, early_words, early_declares, item_words, item_declares, Action, action_declares, step_words, late_words, late_declares}
@@ -36,7 +35,7 @@ use Rattle.crush_grammar.specs.declared.declaration.DeclaredStep.{DeclaredStep}
 use Rattle.crush_grammar.specs.declared.declaration.DeclaredStep.TheVariants as steps
 use Rattle.crush_grammar.specs.declared.declaration.Declaration.{Declaration}
 use Rattle.crush_grammar.specs.declared.declaration.Declaration.TheVariants as declarations
-use Rattle.crush_text.specs.Canonical.{type_name, item_name, tunable_line, tunable_lines, device_line, type_line, alg_text, item_line, bucket_lines, choose_text, firstn_text, step_text, step_line, erasure_text, rule_lines, line, inner_line}
+use Rattle.crush_text.specs.Canonical.{type_name, item_name, tunable_line, tunable_lines, device_line, type_line, alg_text, item_line, bucket_lines, choose_text, firstn_text, step_line, erasure_text, rule_lines, inner_line}
 use Rattle.crush_text.proofs.Spelt.{word_at, IsToken, both, keyword, name_is_token, Reads, joined, ends, line_reads, inner_line_reads, Spells, numbered, numbered-map, all_spell}
 use Rattle.crush_text.proofs.Numerals.{IsWithin, number_comes_back, integer_comes_back, decimal_is_token, signed_is_token}
 

@@ -1,6 +1,7 @@
 pub mod Places
 pub mod Judging
 pub mod MapText
+pub mod Reading
 pub mod Codes
 pub mod Canonical
 pub mod Private

@@ -1,12 +1,14 @@
 //! What holds of every text of a map. A call does nothing: its caller learns the law.
 
-ghost use Rattle.std.specs.Prelude.{◌≡◌, ℕ, List};
+ghost use Rattle.std.specs.Prelude.{◌≡◌, ◌↔◌, ◌⊎◌, ℕ, List, Ok, Err};
+ghost use Rattle.std.specs.Str.{IsAscii, IsUtf8};
 ghost use Rattle.crush_grammar.specs.declared.code.TextFault.{TextFault};
 ghost use Rattle.crush_map.specs.Map.{Map, IsMap};
 ghost use Rattle.crush_text.specs.Canonical.{canonical};
-ghost use Rattle.crush_text.specs.MapText.{HasFirstFault, IsTextOf};
+ghost use Rattle.crush_text.specs.MapText.{HasFirstFault, IsRefusedFor, IsShort, IsTextOf};
+ghost use Rattle.crush_text.specs.Reading.{map_of_stored_text, map_of_text};
 
-use crush_grammar::{words_are_whole_or_break, words_declare_once};
+use crush_grammar::{words_are_read_as_they_say, words_are_whole_or_break, words_declare_once};
 use crush_map::{
     buckets_are_sound, first_fault_is_first, numbers_and_names_are_once, numbers_are_sound,
     rules_are_sound, weight_comes_back,
@@ -39,4 +41,35 @@ pub fn texts_of_maps_have_no_fault()
 {
     words_declare_once();
     words_are_whole_or_break();
+}
+
+/// The canonical text of a map is ASCII.
+pub fn canonical_texts_are_ascii()
+    ensures ascii { (m : Map) → IsMap m → IsAscii (canonical m) }
+    ensures utf8 { (m : Map) → IsMap m → IsUtf8 (canonical m) }
+{
+    buckets_are_sound();
+    first_fault_is_first();
+    numbers_and_names_are_once();
+    numbers_are_sound();
+    rules_are_sound();
+    weight_comes_back();
+}
+
+/// The functions that read texts answer what the texts say: a map, or the first fault.
+pub fn texts_are_read_as_they_say()
+    ensures map { (text : List ℕ) (m : Map) → (map_of_text text ≡ Ok m) ↔ (IsShort text × IsTextOf text m) }
+    ensures refused { (text : List ℕ) (f : TextFault) → (map_of_text text ≡ Err f) ↔ IsRefusedFor text f }
+    ensures stored_map { (text : List ℕ) (m : Map) → (map_of_stored_text text ≡ Ok m) ↔ IsTextOf text m }
+    ensures stored_refused { (text : List ℕ) (f : TextFault) → (map_of_stored_text text ≡ Err f) ↔ HasFirstFault text f }
+{
+    words_are_read_as_they_say();
+}
+
+/// Each text is that of a map or has a first fault, and has one first fault at most.
+pub fn texts_have_a_map_or_one_fault()
+    ensures either { (text : List ℕ) → ((m : Map) × IsTextOf text m) ⊎ ((f : TextFault) × HasFirstFault text f) }
+    ensures one_fault { (text : List ℕ) (f g : TextFault) → HasFirstFault text f → HasFirstFault text g → f ≡ g }
+{
+    texts_are_read_as_they_say();
 }

@@ -14,7 +14,10 @@ mod tables;
 mod write;
 
 pub use crush_grammar::{TextCode, TextFault};
-pub use law::{canonical_texts_are_read, texts_of_maps_have_no_fault, texts_say_one_map};
+pub use law::{
+    canonical_texts_are_ascii, canonical_texts_are_read, texts_are_read_as_they_say,
+    texts_have_a_map_or_one_fault, texts_of_maps_have_no_fault, texts_say_one_map,
+};
 pub use name::code_text;
 pub use read::{read_map, read_stored};
 pub use write::write_map;

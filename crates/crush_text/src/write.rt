@@ -5,7 +5,7 @@ ghost use Rattle.std.specs.Fmt.{decimal, signed_decimal};
 ghost use Rattle.std.specs.List.{flat_map};
 ghost use Rattle.crush_text.specs.Canonical as spec;
 
-use crate::lookup::{item_name, type_name};
+use crate::lookup::Names;
 use crush_map::{
     Bucket, CrushMap, Device, ItemId, Kind, Rule, Step, Tunables, TypeName, Weight, weight_text,
 };
@@ -115,14 +115,14 @@ fn write_types(alloc: Global, out: &mut Vec<u8>, types: &[TypeName]) -> Result<(
 fn write_item(
     alloc: Global,
     out: &mut Vec<u8>,
-    map: &CrushMap,
+    names: &Names<'_>,
     id: ItemId,
     weight: Weight,
 ) -> Result<(), AllocError>
-    ensures { OnOk result (out.new.items ≡ out.old.items ++ spec.item_line map.now (id, weight)) }
+    ensures { OnOk result (out.new.items ≡ out.old.items ++ spec.item_line names.now (id, weight)) }
 {
     let weight = weight_text(alloc, weight)?;
-    let name = item_name(map, id);
+    let name = names.of_item(id);
     write_inner_line(
         out,
         b"item",
@@ -134,13 +134,13 @@ fn write_item(
 fn write_items(
     alloc: Global,
     out: &mut Vec<u8>,
-    map: &CrushMap,
+    names: &Names<'_>,
     items: &[(ItemId, Weight)],
 ) -> Result<(), AllocError>
-    ensures { OnOk result (out.new.items ≡ out.old.items ++ flat_map (spec.item_line map.now) items.now) }
+    ensures { OnOk result (out.new.items ≡ out.old.items ++ flat_map (spec.item_line names.now) items.now) }
 {
     for item in items {
-        write_item(alloc, out, map, item.0, item.1)?;
+        write_item(alloc, out, names, item.0, item.1)?;
     }
     Ok(())
 }
@@ -161,29 +161,29 @@ fn alg_text(alg: Kind) -> &'static str
 fn write_bucket(
     alloc: Global,
     out: &mut Vec<u8>,
-    map: &CrushMap,
+    names: &Names<'_>,
     bucket: &Bucket,
 ) -> Result<(), AllocError>
-    ensures { OnOk result (out.new.items ≡ out.old.items ++ spec.bucket_lines map.now bucket.now) }
+    ensures { OnOk result (out.new.items ≡ out.old.items ++ spec.bucket_lines names.now bucket.now) }
 {
-    let kind = type_name(map.types(), bucket.kind_of);
+    let kind = names.of_type(bucket.kind_of);
     let name = bucket.name.as_str();
     let id = format!(in alloc; "{}", bucket.id.0)?;
     write_line(out, kind.as_bytes(), &[name.as_bytes(), "{".as_bytes()])?;
     write_inner_line(out, b"id", &[id.as_bytes()])?;
     write_inner_line(out, b"alg", &[alg_text(bucket.alg).as_bytes()])?;
     write_inner_line(out, b"hash", &["0".as_bytes()])?;
-    write_items(alloc, out, map, bucket.items.as_slice())?;
+    write_items(alloc, out, names, bucket.items.as_slice())?;
     write_line(out, b"}", &[])
 }
 
 /// The buckets.
-fn write_buckets(alloc: Global, out: &mut Vec<u8>, map: &CrushMap) -> Result<(), AllocError>
-    ensures { OnOk result (out.new.items ≡ out.old.items ++ flat_map (spec.bucket_lines map.now) map.now.buckets) }
+fn write_buckets(alloc: Global, out: &mut Vec<u8>, names: &Names<'_>) -> Result<(), AllocError>
+    ensures { OnOk result (out.new.items ≡ out.old.items ++ flat_map (spec.bucket_lines names.now) names.now.buckets) }
 {
-    let buckets = map.buckets();
+    let buckets = names.map().buckets();
     for bucket in buckets {
-        write_bucket(alloc, out, map, bucket)?;
+        write_bucket(alloc, out, names, bucket)?;
     }
     Ok(())
 }
@@ -231,14 +231,14 @@ fn write_choose_step<'a>(
 fn write_step(
     alloc: Global,
     out: &mut Vec<u8>,
-    map: &CrushMap,
+    names: &Names<'_>,
     step: Step,
 ) -> Result<(), AllocError>
-    ensures { OnOk result (out.new.items ≡ out.old.items ++ spec.step_line map.now step) }
+    ensures { OnOk result (out.new.items ≡ out.old.items ++ spec.step_line names.now step) }
 {
     match step {
         Step::Take(id) => {
-            let name = item_name(map, id);
+            let name = names.of_item(id);
             write_inner_line(out, b"step", &["take".as_bytes(), name.as_bytes()])
         }
         Step::SetChooseTries(tries) => write_set_step(alloc, out, "set_choose_tries", tries),
@@ -253,7 +253,7 @@ fn write_step(
         } => {
             let choose = if leaf { "chooseleaf" } else { "choose" };
             let firstn = if firstn { "firstn" } else { "indep" };
-            let wanted = type_name(map.types(), wanted);
+            let wanted = names.of_type(wanted);
             write_choose_step(alloc, out, choose, firstn, n, wanted)
         }
         Step::Emit => write_inner_line(out, b"step", &["emit".as_bytes()]),
@@ -264,13 +264,13 @@ fn write_step(
 fn write_steps(
     alloc: Global,
     out: &mut Vec<u8>,
-    map: &CrushMap,
+    names: &Names<'_>,
     steps: &[Step],
 ) -> Result<(), AllocError>
-    ensures { OnOk result (out.new.items ≡ out.old.items ++ flat_map (spec.step_line map.now) steps.now) }
+    ensures { OnOk result (out.new.items ≡ out.old.items ++ flat_map (spec.step_line names.now) steps.now) }
 {
     for step in steps {
-        write_step(alloc, out, map, *step)?;
+        write_step(alloc, out, names, *step)?;
     }
     Ok(())
 }
@@ -287,27 +287,27 @@ fn erasure_text(erasure: bool) -> &'static str
 fn write_rule(
     alloc: Global,
     out: &mut Vec<u8>,
-    map: &CrushMap,
+    names: &Names<'_>,
     rule: &Rule,
 ) -> Result<(), AllocError>
-    ensures { OnOk result (out.new.items ≡ out.old.items ++ spec.rule_lines map.now rule.now) }
+    ensures { OnOk result (out.new.items ≡ out.old.items ++ spec.rule_lines names.now rule.now) }
 {
     let id = format!(in alloc; "{}", rule.id)?;
     let name = rule.name.as_str();
     write_line(out, b"rule", &[name.as_bytes(), "{".as_bytes()])?;
     write_inner_line(out, b"id", &[id.as_bytes()])?;
     write_inner_line(out, b"type", &[erasure_text(rule.erasure).as_bytes()])?;
-    write_steps(alloc, out, map, rule.steps.as_slice())?;
+    write_steps(alloc, out, names, rule.steps.as_slice())?;
     write_line(out, b"}", &[])
 }
 
 /// The rules.
-fn write_rules(alloc: Global, out: &mut Vec<u8>, map: &CrushMap) -> Result<(), AllocError>
-    ensures { OnOk result (out.new.items ≡ out.old.items ++ flat_map (spec.rule_lines map.now) map.now.rules) }
+fn write_rules(alloc: Global, out: &mut Vec<u8>, names: &Names<'_>) -> Result<(), AllocError>
+    ensures { OnOk result (out.new.items ≡ out.old.items ++ flat_map (spec.rule_lines names.now) names.now.rules) }
 {
-    let rules = map.rules();
+    let rules = names.map().rules();
     for rule in rules {
-        write_rule(alloc, out, map, rule)?;
+        write_rule(alloc, out, names, rule)?;
     }
     Ok(())
 }
@@ -317,6 +317,7 @@ fn write_rules(alloc: Global, out: &mut Vec<u8>, map: &CrushMap) -> Result<(), A
 pub fn write_map(alloc: Global, map: &CrushMap) -> Result<Vec<u8>, AllocError>
     ensures { IfOk result (λ text. text.items ≡ spec.canonical map.now) }
 {
+    let names = Names::new(alloc, map)?;
     let mut out = Vec::new(alloc);
     out.extend_from_slice(b"# begin crush map\n")?;
     write_tunables(alloc, &mut out, map.tunables())?;
@@ -325,9 +326,9 @@ pub fn write_map(alloc: Global, map: &CrushMap) -> Result<Vec<u8>, AllocError>
     out.extend_from_slice(b"\n# types\n")?;
     write_types(alloc, &mut out, map.types())?;
     out.extend_from_slice(b"\n# buckets\n")?;
-    write_buckets(alloc, &mut out, map)?;
+    write_buckets(alloc, &mut out, &names)?;
     out.extend_from_slice(b"\n# rules\n")?;
-    write_rules(alloc, &mut out, map)?;
+    write_rules(alloc, &mut out, &names)?;
     out.extend_from_slice(b"\n# end crush map\n")?;
     Ok(out)
 }

@@ -2,22 +2,51 @@
 #![tactic(auto)]
 
 use clap::error::ErrorKind;
-use clap::{Command, Error};
-use crush_app::{ScriptEnd, Service, script_run};
+use clap::{Arg, ArgAction, Command, Error};
+use crush_app::{CheckEnd, ScriptEnd, Service, check_run, script_run};
 use std::alloc::{AllocError, Global};
+use std::fs::File;
 use std::process::ExitCode;
-use std::rt::Env;
+use std::rt::{Env, Files};
 use std::{env, io};
 
 /// The program's version, and the line of `rt version` of the toolchain that proves and builds it (`tests/run` compares it).
 const VERSION: &str = "0.1.0\nrattle-kit-13b logic dac8208d650f15bf";
 
-/// Why the program ends before it has answered its whole input.
+/// The end of the help of `check`: its line, and each code in a line of its own (`docs/MAPS.md` has more of each).
+const CODES: &str =
+    "It prints 'ok devices D buckets B rules R', or 'refused line L code C' with the first fault. The codes:
+  X1   a word that can't stand there, or a text that ends too early
+  X2   alg straw or straw2: such buckets aren't computed
+  X3   a class in a take step
+  X4   choose_args
+  X5   a pos that isn't below the number of items, or that an earlier item has
+  X6   no weight where one is wanted
+  X7   more than 524,288 bytes
+  M1   more devices, types, buckets, items, rules or steps than the limit; a rule without steps
+  M2   an id or number that an earlier element has
+  M3   a name that an earlier element has, or a tunable that was named before
+  M4   the type of a bucket isn't declared; at the end: there is no type 0
+  M5   an item that isn't declared earlier
+  M6   an item twice in a bucket
+  M7   the weights of a bucket add up to 65536 or more
+  M8   the weights of a uniform bucket differ
+  M9   a bucket of type 0
+  M10  a take step names what isn't declared
+  M11  the type of a choose step isn't declared
+  M12  a number out of its range
+  M13  local tries or local fallback tries that aren't 0, or aren't named
+  M14  chooseleaf indep of type 0
+  M15  a name over 64 bytes, or a type named by a keyword";
+
+/// Why the program ends without the answers that it was asked for.
 enum Stop {
     /// The arguments name no command, or ask for help or the version.
     Arguments(Error),
     NoMemory,
     TooLong,
+    /// The file to check can't be opened or read.
+    CannotRead,
     ReadFault,
     WriteFault,
 }
@@ -37,18 +66,39 @@ impl From<Error> for Stop {
     }
 }
 
-/// Reads the program's arguments: the command `script`, which is the only one.
-fn read_arguments(alloc: Global, arguments: &[String]) -> Result<(), Stop> {
+/// A command of the program, with its arguments.
+enum Request<'a> {
+    Script,
+    Check { path: &'a str },
+}
+
+/// Reads the program's arguments.
+fn read_arguments(alloc: Global, arguments: &[String]) -> Result<Request<'_>, Stop> {
     let script = Command::new(alloc, "script").about(
         "Answers the lines of standard input, and writes a line for each reply",
     );
-    Command::new(alloc, "crushcalc")
+    let file = Arg::new(alloc, "FILE")
+        .required(true)
+        .action(ArgAction::Set)
+        .help("The text of a map, as 'crushtool -d' writes it");
+    let check = Command::new(alloc, "check")
+        .about("Says whether a text is that of a CRUSH map, or where and why it isn't")
+        .after_help(CODES)
+        .arg(file)?;
+    let matches = Command::new(alloc, "crushcalc")
         .about("A proved calculator of CRUSH placements")
         .version(VERSION)
         .subcommand_required(true)
         .subcommand(script)?
+        .subcommand(check)?
         .try_get_matches_from(arguments)?;
-    Ok(())
+    match matches.subcommand_matches("check") {
+        // clap has refused a check without a FILE; an empty path would name no file
+        Some(check) => Ok(Request::Check {
+            path: check.get_str("FILE").unwrap_or(""),
+        }),
+        None => Ok(Request::Script),
+    }
 }
 
 /// Answers the lines of standard input, with no tenant at first.
@@ -63,13 +113,33 @@ fn run_script<R: AllocGlobal + Input + Print>(rt: &R) -> Result<(), Stop> {
     }
 }
 
-fn run<R: AllocGlobal + Input + Print + Env>(rt: &R) -> Result<(), Stop> {
+/// Checks the text in a file: status 0 where it is a map's, else 1.
+fn check_file<R: AllocGlobal + Files + Print>(rt: &R, path: &str) -> Result<ExitCode, Stop> {
+    let mut file = match File::open(rt, path) {
+        Ok(file) => file,
+        Err(error) if error.kind() == io::ErrorKind::OutOfMemory => return Err(Stop::NoMemory),
+        Err(_) => return Err(Stop::CannotRead),
+    };
+    match check_run(rt.alloc(), &mut file, &mut io::writer(rt))? {
+        CheckEnd::Accepted => Ok(ExitCode::SUCCESS),
+        CheckEnd::Refused => Ok(ExitCode::from(1)),
+        CheckEnd::ReadFault => Err(Stop::CannotRead),
+        CheckEnd::WriteFault => Err(Stop::WriteFault),
+    }
+}
+
+fn run<R: AllocGlobal + Input + Print + Env + Files>(rt: &R) -> Result<ExitCode, Stop> {
     let Ok(given) = env::args(rt) else {
         return Err(Stop::NoMemory);
     };
     let arguments = given.collect::<Vec<String>>(rt.alloc())?;
-    read_arguments(rt.alloc(), arguments.as_slice())?;
-    run_script(rt)
+    match read_arguments(rt.alloc(), arguments.as_slice())? {
+        Request::Script => {
+            run_script(rt)?;
+            Ok(ExitCode::SUCCESS)
+        }
+        Request::Check { path } => check_file(rt, path),
+    }
 }
 
 /// Writes help or the version to standard output, or why it stops to standard error, and gives the exit status.
@@ -81,6 +151,7 @@ fn report<R: Print + Eprint>(rt: &R, stop: Stop) -> io::Result<ExitCode> {
         }
         Stop::NoMemory => "no memory",
         Stop::TooLong => "input too long",
+        Stop::CannotRead => "cannot read",
         Stop::ReadFault => "read fault",
         Stop::WriteFault => "write fault",
     };
@@ -90,7 +161,7 @@ fn report<R: Print + Eprint>(rt: &R, stop: Stop) -> io::Result<ExitCode> {
 
 fn main(rt: HostRuntime) -> io::Result<ExitCode> {
     match run(&rt) {
-        Ok(()) => Ok(ExitCode::SUCCESS),
+        Ok(status) => Ok(status),
         Err(stop) => report(&rt, stop),
     }
 }

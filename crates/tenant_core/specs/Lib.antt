@@ -3,7 +3,6 @@ pub mod Json
 pub mod Forms
 pub mod Reply
 pub mod Refusals
-pub mod Reading
 pub mod Receipts
 pub mod State
 pub mod Made

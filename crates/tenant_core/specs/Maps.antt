@@ -6,7 +6,7 @@ use Rattle.serde_json.specs.Find.{as_str}
 use Rattle.crush_grammar.specs.declared.code.TextFault.{TextFault}
 use Rattle.crush_map.specs.Map.{Map}
 use Rattle.crush_text.specs.Canonical.{canonical}
-use Rattle.tenant_core.specs.Reading.{map_of_text}
+use Rattle.crush_text.specs.Reading.{map_of_text}
 use Rattle.tenant_core.specs.Effects.{Accepted}
 use Rattle.tenant_core.specs.Forms.{IsText, HasExactly, IsUnder}
 use Rattle.tenant_core.specs.Json.{value_of, both, has_keys, under}

@@ -12,7 +12,6 @@ mod reply;
 mod request;
 mod route;
 mod rule_tests;
-mod stand_in;
 mod state;
 mod store;
 mod tenants;

@@ -3,11 +3,10 @@
 ghost use Rattle.std.specs.Prelude.{◌≡◌, IfOk};
 ghost use Rattle.crush_text.specs.Canonical.{canonical};
 
-use crate::stand_in::canonical_texts_are_ascii;
 use crush_bucket::Tables;
 use crush_choose::Weights;
 use crush_map::{CrushMap, Text};
-use crush_text::write_map;
+use crush_text::{canonical_texts_are_ascii, write_map};
 use std::alloc::{AllocError, Global};
 use std::marker::Model;
 

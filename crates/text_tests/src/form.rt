@@ -1,57 +1,9 @@
 //! Texts and their first faults of form, with their lines.
 
+use crate::tiny::{TINY, tiny_lines, tiny_with_line};
 use crush_grammar::{TextCode, read_declarations};
 use std::alloc::Global;
 use std::test::Fail;
-
-/// A small map with one device, of 23 lines.
-const TINY: &str = "tunable choose_local_tries 0
-tunable choose_local_fallback_tries 0
-tunable choose_total_tries 50
-tunable chooseleaf_descend_once 1
-tunable chooseleaf_vary_r 1
-tunable chooseleaf_stable 1
-device 0 osd.0
-type 0 osd
-type 1 host
-type 10 root
-root default {
- id -1
- alg uniform
- hash 0
- item osd.0 weight 1.0
-}
-rule all {
- id 0
- type replicated
- step take default
- step choose firstn 0 type osd
- step emit
-}
-";
-
-/// The small map with another text on one of its lines, or the lines before it alone.
-fn with_line(alloc: Global, number: usize, line: Option<&str>) -> Result<String, Fail> {
-    let mut text = String::new(alloc);
-    for (index, old) in TINY.lines().enumerate() {
-        if index + 1 == number {
-            match line {
-                Some(line) => text.push_str(line)?,
-                None => return Ok(text),
-            }
-        } else {
-            text.push_str(old)?;
-        }
-        text.push_str("\n")?;
-    }
-    if number == 24 {
-        if let Some(line) = line {
-            text.push_str(line)?;
-            text.push_str("\n")?;
-        }
-    }
-    Ok(text)
-}
 
 /// The first fault of form, by line and code.
 fn fault(alloc: Global, text: &str) -> Result<Option<(usize, TextCode)>, Fail> {
@@ -149,7 +101,7 @@ fn one_wrong_line_is_named(rt: HostRuntime) -> Result<(), Fail> {
         (24, "class", (24, TextCode::X1)),
         (8, "type 0 osd class", (8, TextCode::X1)),
     ] {
-        let text = with_line(alloc, number, Some(line))?;
+        let text = tiny_with_line(alloc, number, line)?;
         assert_eq!(rt; fault(alloc, text.as_str())?, Some(want), "{line}");
     }
     Ok(())
@@ -158,7 +110,7 @@ fn one_wrong_line_is_named(rt: HostRuntime) -> Result<(), Fail> {
 #[test]
 fn a_text_that_ends_early_is_named_by_its_last_line(rt: HostRuntime) -> Result<(), Fail> {
     let alloc = rt.alloc();
-    let text = with_line(alloc, 16, None)?;
+    let text = tiny_lines(alloc, 1, 15)?;
     assert_eq!(rt; fault(alloc, text.as_str())?, Some((15, TextCode::X1)));
     for text in [
         "device 0 osd.0 class",

@@ -4,9 +4,13 @@
 #[cfg(test)]
 mod form;
 #[cfg(test)]
+mod jewel;
+#[cfg(test)]
 mod maps;
 #[cfg(test)]
 mod read;
+#[cfg(test)]
+mod tiny;
 #[cfg(test)]
 mod words;
 #[cfg(test)]

@@ -4,6 +4,7 @@ use crush_map::{
     Bucket, CrushMap, Device, ItemId, Kind, Listed, MapDraft, Rule, Step, Text, Tunables, TypeName,
     Weight,
 };
+use crush_text::{read_map, write_map};
 use std::alloc::{AllocError, Global};
 use std::test::Fail;
 
@@ -111,5 +112,13 @@ pub fn map(
     match CrushMap::check(alloc, draft)? {
         Ok(map) => Ok(map),
         Err(_) => Err(Fail::new("the draft has a fault")),
+    }
+}
+
+/// The canonical text of the map that a text says.
+pub fn canonical(alloc: Global, text: &[u8]) -> Result<Vec<u8>, Fail> {
+    match read_map(alloc, text)? {
+        Ok(map) => Ok(write_map(alloc, &map)?),
+        Err(_) => Err(Fail::new("the text is refused")),
     }
 }

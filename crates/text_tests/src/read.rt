@@ -1,12 +1,14 @@
 //! Texts as maps, and their first faults.
 
+use crate::maps::canonical;
+use crate::tiny::{tiny_lines, tiny_with_line};
 use crush_map::FaultCode;
-use crush_text::{TextCode, read_map, read_stored, write_map};
+use crush_text::{TextCode, read_map, read_stored};
 use std::alloc::Global;
 use std::test::Fail;
 
 /// A canonical text.
-const JEWEL: &str = "# begin crush map
+const CANONICAL: &str = "# begin crush map
 tunable choose_local_tries 0
 tunable choose_local_fallback_tries 0
 tunable choose_total_tries 50
@@ -44,26 +46,20 @@ rule data {
 ";
 
 /// The first fault of a text that may be imported, by line and code.
-fn fault(alloc: Global, text: &str) -> Result<Option<(usize, TextCode)>, Fail> {
-    match read_map(alloc, text.as_bytes())? {
+fn fault(alloc: Global, text: &[u8]) -> Result<Option<(usize, TextCode)>, Fail> {
+    match read_map(alloc, text)? {
         Ok(_) => Ok(None),
         Err(fault) => Ok(Some((fault.line, fault.code))),
     }
 }
 
-/// The canonical text of the map of a text.
-fn canonical(alloc: Global, text: &str) -> Result<Vec<u8>, Fail> {
-    match read_map(alloc, text.as_bytes())? {
-        Ok(map) => Ok(write_map(alloc, &map)?),
-        Err(_) => Ok(Vec::new(alloc)),
-    }
-}
-
 #[test]
-fn each_code_is_answered(rt: HostRuntime) -> Result<(), Fail> {
+fn each_fault_of_form_has_its_code(rt: HostRuntime) -> Result<(), Fail> {
     let alloc = rt.alloc();
     for (text, line, code) in [
         ("device 0", 1, TextCode::X1),
+        ("device 0 osd.0 class", 1, TextCode::X1),
+        ("@", 1, TextCode::X1),
         ("root default\n id -1", 2, TextCode::X1),
         ("root default {\n id -1\n alg straw2", 3, TextCode::X2),
         (
@@ -82,112 +78,218 @@ fn each_code_is_answered(rt: HostRuntime) -> Result<(), Fail> {
             4,
             TextCode::X6,
         ),
+    ] {
+        assert_eq!(rt;
+            fault(alloc, text.as_bytes())?,
+            Some((line, code)),
+            "{text}"
+        );
+    }
+    Ok(())
+}
+
+#[test]
+fn each_fault_of_what_is_declared_has_its_code(rt: HostRuntime) -> Result<(), Fail> {
+    let alloc = rt.alloc();
+    for (text, line, code) in [
         (
             "rule data { id 0 type replicated step set_choose_local_tries 0 }",
             1,
-            TextCode::Map(FaultCode::M1),
+            FaultCode::M1,
         ),
-        (
-            "device 0 osd.0\ndevice 0 osd.1",
-            2,
-            TextCode::Map(FaultCode::M2),
-        ),
-        (
-            "device 0 osd.0\ndevice 1 osd.0",
-            2,
-            TextCode::Map(FaultCode::M3),
-        ),
-        (
-            "root default { id -1 alg list }",
-            1,
-            TextCode::Map(FaultCode::M4),
-        ),
-        ("", 1, TextCode::Map(FaultCode::M4)),
+        ("device 0 osd.0\ndevice 0 osd.1", 2, FaultCode::M2),
+        ("device 0 osd.0\ndevice 1 osd.0", 2, FaultCode::M3),
+        ("root default { id -1 alg list }", 1, FaultCode::M4),
+        ("", 1, FaultCode::M4),
         (
             "type 1 host\nhost a { id -1 alg list item osd.0 }",
             2,
-            TextCode::Map(FaultCode::M5),
+            FaultCode::M5,
         ),
         (
             "type 1 host\ndevice 0 osd.0\nhost a { id -1 alg list item osd.0 item osd.0 }",
             3,
-            TextCode::Map(FaultCode::M6),
+            FaultCode::M6,
         ),
         (
             "type 1 host\ndevice 0 osd.0\ndevice 1 osd.1\nhost a { id -1 alg list item osd.0 weight 65535 item osd.1 }",
             4,
-            TextCode::Map(FaultCode::M7),
+            FaultCode::M7,
         ),
         (
             "type 1 host\ndevice 0 osd.0\ndevice 1 osd.1\nhost a { id -1 alg uniform item osd.0 weight 2 item osd.1 }",
             4,
-            TextCode::Map(FaultCode::M8),
+            FaultCode::M8,
         ),
-        (
-            "type 0 osd\nosd a { id -1 alg list }",
-            2,
-            TextCode::Map(FaultCode::M9),
-        ),
+        ("type 0 osd\nosd a { id -1 alg list }", 2, FaultCode::M9),
         (
             "rule data { id 0 type replicated step take default }",
             1,
-            TextCode::Map(FaultCode::M10),
+            FaultCode::M10,
         ),
         (
             "rule data { id 0 type replicated step choose firstn 0 type host }",
             1,
-            TextCode::Map(FaultCode::M11),
+            FaultCode::M11,
         ),
-        ("device 65536 osd.0", 1, TextCode::Map(FaultCode::M12)),
-        (
-            "tunable choose_local_tries 2",
-            1,
-            TextCode::Map(FaultCode::M13),
-        ),
-        ("type 0 osd", 1, TextCode::Map(FaultCode::M13)),
+        ("device 65536 osd.0", 1, FaultCode::M12),
+        ("tunable choose_local_tries 2", 1, FaultCode::M13),
+        ("type 0 osd", 1, FaultCode::M13),
         (
             "type 0 osd\nrule data { id 0 type erasure step chooseleaf indep 0 type osd }",
             2,
-            TextCode::Map(FaultCode::M14),
+            FaultCode::M14,
         ),
-        ("type 0 rule", 1, TextCode::Map(FaultCode::M15)),
+        ("type 0 rule", 1, FaultCode::M15),
+        ("type 0 osd\ntype 1 rule", 2, FaultCode::M15),
     ] {
-        assert_eq!(rt; fault(alloc, text)?, Some((line, code)), "{text}");
+        assert_eq!(rt;
+            fault(alloc, text.as_bytes())?,
+            Some((line, TextCode::Map(code))),
+            "{text}"
+        );
     }
+    Ok(())
+}
+
+#[test]
+fn a_wrong_line_of_a_map_is_named(rt: HostRuntime) -> Result<(), Fail> {
+    let alloc = rt.alloc();
+    for (number, line, want) in [
+        (13, " alg straw2", (13, TextCode::X2)),
+        (14, " hash 1", (14, TextCode::X1)),
+        (15, " item osd.0 weight 65536", (15, TextCode::X6)),
+        (15, " item osd.0 weight 1.0 pos 1", (15, TextCode::X5)),
+        (20, " step take default class ssd", (20, TextCode::X3)),
+        (24, "choose_args 0 {", (24, TextCode::X4)),
+        (11, "rack default {", (11, TextCode::Map(FaultCode::M4))),
+        (
+            21,
+            " step choose firstn 65 type osd",
+            (17, TextCode::Map(FaultCode::M12)),
+        ),
+        (
+            21,
+            " step chooseleaf indep 0 type osd",
+            (17, TextCode::Map(FaultCode::M14)),
+        ),
+    ] {
+        let text = tiny_with_line(alloc, number, line)?;
+        assert_eq!(rt; fault(alloc, text.as_bytes())?, Some(want), "{line}");
+    }
+    let front = tiny_lines(alloc, 1, 15)?;
+    assert_eq!(rt; fault(alloc, front.as_bytes())?, Some((15, TextCode::X1)));
+    let unnamed = tiny_lines(alloc, 3, 23)?;
+    assert_eq!(rt;
+        fault(alloc, unnamed.as_bytes())?,
+        Some((21, TextCode::Map(FaultCode::M13)))
+    );
+    Ok(())
+}
+
+#[test]
+fn the_first_of_two_faults_is_named(rt: HostRuntime) -> Result<(), Fail> {
+    let alloc = rt.alloc();
+    for (text, line, code) in [
+        // a device is whole without a class, so the wrong word is behind it
+        ("device 0 a\ndevice 0 b\n@", 2, TextCode::Map(FaultCode::M2)),
+        // a bucket is read whole before its places are looked at, and these before all else of it
+        (
+            "root r {\n id -1\n alg list\n item a pos 1\n item",
+            5,
+            TextCode::X1,
+        ),
+        (
+            "root r {\n id 0\n alg list\n item a pos 0\n item b pos 0\n}",
+            5,
+            TextCode::X5,
+        ),
+        // items are judged by place: the one at place 0 isn't declared
+        (
+            "type 1 h\ndevice 0 a\nh b {\n id -1 alg list item a pos 1 item a pos 2 item c pos 0 }",
+            3,
+            TextCode::Map(FaultCode::M5),
+        ),
+        // a rule is judged by what is declared before it, type 0 at the end
+        (
+            "rule q { id 0 type erasure step take r }\ntype 0 osd",
+            1,
+            TextCode::Map(FaultCode::M10),
+        ),
+        (
+            "type 1 h rule q {\n id 0 type erasure step take r }\nh r { id -1 alg list }",
+            1,
+            TextCode::Map(FaultCode::M10),
+        ),
+        // steps that set local tries are judged at their places
+        (
+            "rule q { id 0 type erasure step set_choose_local_tries 1 step take r }",
+            1,
+            TextCode::Map(FaultCode::M13),
+        ),
+        (
+            "rule q { id 0 type erasure step take r step set_choose_local_tries 1 }",
+            1,
+            TextCode::Map(FaultCode::M10),
+        ),
+        // tunables that are dropped are named once too
+        (
+            "tunable straw_calc_version 1\ntunable straw_calc_version 1",
+            2,
+            TextCode::Map(FaultCode::M3),
+        ),
+    ] {
+        let want = Some((line, code));
+        assert_eq!(rt; fault(alloc, text.as_bytes())?, want, "{text}");
+    }
+    Ok(())
+}
+
+/// A remark of this many bytes.
+fn remark(alloc: Global, length: usize) -> Result<Vec<u8>, Fail> {
+    Ok(vec![in alloc; b'#'; length]?)
+}
+
+#[test]
+fn a_text_has_524288_bytes_at_most(rt: HostRuntime) -> Result<(), Fail> {
+    let alloc = rt.alloc();
+    let short = remark(alloc, 524_288)?;
+    let long = remark(alloc, 524_289)?;
+    assert_eq!(rt;
+        fault(alloc, short.as_slice())?,
+        Some((1, TextCode::Map(FaultCode::M4)))
+    );
+    assert_eq!(rt; fault(alloc, long.as_slice())?, Some((1, TextCode::X7)));
+    Ok(())
+}
+
+#[test]
+fn a_stored_text_may_be_longer(rt: HostRuntime) -> Result<(), Fail> {
+    let alloc = rt.alloc();
+    let mut text = remark(alloc, 524_288)?;
+    text.push(b'\n')?;
+    text.extend_from_slice(CANONICAL.as_bytes())?;
+    assert_eq!(rt; fault(alloc, text.as_slice())?, Some((1, TextCode::X7)));
+    assert!(rt; read_stored(alloc, text.as_slice())?.is_ok());
     Ok(())
 }
 
 #[test]
 fn a_canonical_text_comes_back(rt: HostRuntime) -> Result<(), Fail> {
-    let alloc = rt.alloc();
-    let text = canonical(alloc, JEWEL)?;
-    assert_eq!(rt; text.as_slice(), JEWEL.as_bytes());
+    let text = canonical(rt.alloc(), CANONICAL.as_bytes())?;
+    assert_eq!(rt; text.as_slice(), CANONICAL.as_bytes());
     Ok(())
 }
 
 #[test]
-fn items_stand_at_the_places_that_they_name(rt: HostRuntime) -> Result<(), Fail> {
-    let alloc = rt.alloc();
+fn what_is_dropped_leaves_the_same_map(rt: HostRuntime) -> Result<(), Fail> {
     let text =
         "tunable choose_local_tries 0 tunable choose_local_fallback_tries 0 tunable choose_total_tries 50
-tunable chooseleaf_descend_once 1 tunable chooseleaf_vary_r 1 tunable chooseleaf_stable 1
-device 0 osd.0 device 1 osd.1 type 0 osd type 1 host
-host a { id -2 alg list item osd.1 weight 2 pos 1 item osd.0 }
-rule data { id 0 type replicated step take a step choose firstn 0 type osd step set_choose_local_tries 0 step emit }";
-    let written = canonical(alloc, text)?;
-    assert_eq!(rt; written.as_slice(), JEWEL.as_bytes());
-    Ok(())
-}
-
-#[test]
-fn a_text_too_long_is_refused_before_it_is_read(rt: HostRuntime) -> Result<(), Fail> {
-    let alloc = rt.alloc();
-    let mut text = String::from_str(alloc, JEWEL)?;
-    for _line in 0..8_192 {
-        text.push_str("# a line of 64 bytes without a word, so that the text is long..\n")?;
-    }
-    assert_eq!(rt; fault(alloc, text.as_str())?, Some((1, TextCode::X7)));
-    let stored = read_stored(alloc, text.as_bytes())?;
-    assert!(rt; stored.is_ok());
+tunable chooseleaf_descend_once 1 tunable chooseleaf_vary_r 1 tunable chooseleaf_stable 1 tunable allowed_bucket_algs 54
+device 1 osd.1 type 1 host device 0 osd.0 class class type 00 osd # device 2
+host a { id -4 class ssd id -2 alg list hash rjenkins1 hash 0 item osd.1 weight 2.000009 pos 1 item osd.0 }
+rule data { ruleset 0 type replicated min_size 1 max_size 10 step take a step choose firstn 0 type osd step set_choose_local_tries 0 step emit }";
+    let written = canonical(rt.alloc(), text.as_bytes())?;
+    assert_eq!(rt; written.as_slice(), CANONICAL.as_bytes());
     Ok(())
 }

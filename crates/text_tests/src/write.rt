@@ -1,12 +1,12 @@
-//! Canonical texts, byte for byte.
+//! Canonical texts, byte for byte, and read again.
 
-use crate::maps::{ShortBucket, ShortRule, map};
+use crate::maps::{ShortBucket, ShortRule, canonical, map};
 use crush_map::{ItemId, Kind, Step};
 use crush_text::write_map;
 use std::test::Fail;
 
 #[test]
-fn a_map_of_jewel_is_written(rt: HostRuntime) -> Result<(), Fail> {
+fn a_map_with_jewels_tunables_is_written(rt: HostRuntime) -> Result<(), Fail> {
     let alloc = rt.alloc();
     let host = ShortBucket {
         id: -2,
@@ -70,6 +70,8 @@ rule data {
 # end crush map
 ";
     assert_eq!(rt; text.as_slice(), want.as_slice());
+    let again = canonical(alloc, want)?;
+    assert_eq!(rt; again.as_slice(), want.as_slice());
     Ok(())
 }
 
@@ -176,5 +178,7 @@ rule q {
 # end crush map
 ";
     assert_eq!(rt; text.as_slice(), want.as_slice());
+    let again = canonical(alloc, want)?;
+    assert_eq!(rt; again.as_slice(), want.as_slice());
     Ok(())
 }

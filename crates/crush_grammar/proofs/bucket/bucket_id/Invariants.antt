@@ -1,5 +1,5 @@
 use Rattle.std.proofs.Common.{◌≡◌, ◌≤◌, length, None}
-use Rattle.crush_grammar.specs.Private.Automaton.{State}
+use Rattle.crush_grammar.specs.Automaton.{State}
 use Rattle.crush_grammar.specs.Private.Leads.{ahead}
 use Rattle.crush_grammar.proofs.bucket.bucket_id.Given as goal
 

@@ -1,5 +1,5 @@
 use Rattle.std.proofs.Common.{◌≡◌, ◌≤◌, length}
-use Rattle.crush_grammar.specs.Private.Automaton.{State}
+use Rattle.crush_grammar.specs.Automaton.{State}
 use Rattle.crush_grammar.specs.Private.Leads.{ahead}
 use Rattle.crush_grammar.specs.declared.declaration.DeclaredBucket.{DeclaredBucket}
 use Rattle.crush_grammar.proofs.bucket.hashes.Given as goal

@@ -1,4 +1,4 @@
-use Rattle.std.proofs.Common.{◌≡◌, ap, subst, sym}
+use Rattle.std.proofs.Common.{◌≡◌, subst}
 use Rattle.crush_map.specs.Map.{IsMapOf}
 use Rattle.crush_words.specs.Words.{words}
 use Rattle.crush_text.specs.Judging.{declared}

@@ -1,0 +1,95 @@
+-- The line for a text, and how a check ends.
+use Rattle.std.proofs.Common.{◌≡◌, ℕ, ◌<◌, ◌⊎◌, List, [], ◌∷◌, ◌++◌, length, codes, decimal, refl, ap, subst, ◌∙◌, inl, inr, arith, Bool, true, false, Option, Some, None, IfSome}
+use Rattle.std.specs.Io.KnownBytes.{Appends}
+use Rattle.crush_map.specs.Map.{Map}
+use Rattle.crush_map.specs.declared.fault.FaultCode.{FaultCode}
+use Rattle.crush_map.specs.Faults.{or_else}
+use Rattle.crush_map.specs.declared.draft.Device.{Device}
+use Rattle.crush_map.specs.declared.draft.Bucket.{Bucket}
+use Rattle.crush_map.specs.declared.draft.Rule.{Rule}
+use Rattle.crush_grammar.specs.declared.code.TextFault.{TextFault}
+use Rattle.crush_grammar.specs.declared.code.TextCode.TheVariants.{X7}
+use Rattle.crush_text.specs.Codes.{code_text}
+use Rattle.crush_text.specs.MapText.{IsShort, IsTextOf, HasFirstFault, IsRefusedFor}
+use Rattle.crush_app.specs.Play.{AppendsPart}
+use Rattle.crush_app.specs.Check.{accepted_line, refused_line, long_fault, IsLineFor}
+use Rattle.crush_app.specs.Private.Verdict.{IsVerdict}
+
+-- ---- lines
+
+pub accepted_is : (devices : List Device) (buckets : List Bucket) (rules : List Rule) (m : Map) → devices ≡ m.devices → buckets ≡ m.buckets → rules ≡ m.rules
+    → codes "ok devices " ++ (decimal (length devices) ++ (codes " buckets " ++ (decimal (length buckets) ++ (codes " rules " ++ (decimal (length rules) ++ 10 ∷ []))))) ≡ accepted_line m
+accepted_is devices buckets rules m same also too = rw (same, also, too) refl
+
+pub refused_is : (code : List ℕ) (f : TextFault) → code ≡ code_text f.code → codes "refused line " ++ (decimal f.line ++ (codes " code " ++ (code ++ 10 ∷ []))) ≡ refused_line f
+refused_is code f same = rw same refl
+
+-- ---- long texts
+
+pub long_line : (line : List ℕ) → line ≡ refused_line (record { line = 1; code = X7 }) → (text : List ℕ) → 524288 < length text → IsVerdict false text line
+long_line line is text long = record { fault = record { line = 1; code = X7 }; refused = inl (long, refl); is = is }
+
+-- ---- what is written, of what was read
+
+pub accepted_end : (known old new : Option (List ℕ)) (line : List ℕ) (accepted : Bool) → accepted ≡ true → IfSome known (λ input. IsVerdict accepted input line) → Appends old new line
+    → IfSome known (λ input. (m : Map) × IsShort input × IsTextOf input m × Appends old new (accepted_line m))
+accepted_end None old new line accepted same says written = tt
+accepted_end (Some input) old new line true same says written = (says.map, says.short, says.text, rw says.is at written)
+accepted_end (Some input) old new line false same says written = let both : false ≡ true = same in cc
+
+pub refused_end : (known old new : Option (List ℕ)) (line : List ℕ) (accepted : Bool) → accepted ≡ false → IfSome known (λ input. IsVerdict accepted input line) → Appends old new line
+    → IfSome known (λ input. (f : TextFault) × IsRefusedFor input f × Appends old new (refused_line f))
+refused_end None old new line accepted same says written = tt
+refused_end (Some input) old new line false same says written = (says.fault, says.refused, rw says.is at written)
+refused_end (Some input) old new line true same says written = let both : true ≡ false = same in cc
+
+line_for : (accepted : Bool) (input line : List ℕ) → IsVerdict accepted input line → IsLineFor input line
+line_for true input line says = inl says
+line_for false input line says = inr says
+
+pub cut_end : (known old new : Option (List ℕ)) (line : List ℕ) (accepted : Bool) → IfSome known (λ input. IsVerdict accepted input line) → AppendsPart old new line
+    → IfSome known (λ input. (l : List ℕ) × IsLineFor input l × AppendsPart old new l)
+cut_end None old new line accepted says part = tt
+cut_end (Some input) old new line accepted says part = (line, line_for accepted input line says, part)
+
+-- ---- conversely, what was read says what is written
+
+abbrev pub OneMap : Type 0
+OneMap = (text : List ℕ) (m n : Map) → IsTextOf text m → IsTextOf text n → m ≡ n
+
+abbrev pub NoFault : Type 0
+NoFault = (text : List ℕ) (m : Map) (f : TextFault) → IsTextOf text m → ¬ (HasFirstFault text f)
+
+not_refused : NoFault → (input : List ℕ) (m : Map) (f : TextFault) → IsShort input → IsTextOf input m → IsRefusedFor input f → ⊥
+not_refused none input m f short says (inl (long, is)) = omega (arith, short, long)
+not_refused none input m f short says (inr (also, fault)) = none input m f says fault
+
+pub map_accepted : OneMap → NoFault → {A : Type 0} (r : A) (known old new : Option (List ℕ)) (line : List ℕ) (accepted : Bool) → accepted ≡ true → IfSome known (λ input. IsVerdict accepted input line) → Appends old new line
+    → IfSome known (λ input. (m : Map) → IsShort input → IsTextOf input m → (r ≡ r) × Appends old new (accepted_line m))
+map_accepted one none r None old new line accepted same read written = tt
+map_accepted one none r (Some input) old new line true same read written =
+    λ m short says. (refl, subst (λ l. Appends old new l) (read.is ∙ ap accepted_line (one input read.map m read.text says)) written)
+map_accepted one none r (Some input) old new line false same read written = let both : false ≡ true = same in cc
+
+pub map_refused : NoFault → {A : Type 0} (r s : A) (known old new : Option (List ℕ)) (line : List ℕ) (accepted : Bool) → accepted ≡ false → IfSome known (λ input. IsVerdict accepted input line)
+    → IfSome known (λ input. (m : Map) → IsShort input → IsTextOf input m → (r ≡ s) × Appends old new (accepted_line m))
+map_refused none r s None old new line accepted same read = tt
+map_refused none r s (Some input) old new line false same read = λ m short says. absurd (not_refused none input m read.fault short says read.refused)
+map_refused none r s (Some input) old new line true same read = let both : true ≡ false = same in cc
+
+pub fault_accepted : NoFault → {A : Type 0} (r s : A) (known : Option (List ℕ)) (line : List ℕ) (accepted : Bool) → accepted ≡ true → IfSome known (λ input. IsVerdict accepted input line)
+    → IfSome known (λ input. (f : TextFault) → IsRefusedFor input f → r ≡ s)
+fault_accepted none r s None line accepted same read = tt
+fault_accepted none r s (Some input) line true same read = λ f refused. absurd (not_refused none input read.map f read.short read.text refused)
+fault_accepted none r s (Some input) line false same read = let both : false ≡ true = same in cc
+
+too_long : (input : List ℕ) (f : TextFault) → 524288 < length input → IsRefusedFor input f → f ≡ long_fault
+too_long input f long (inl (also, is)) = is
+too_long input f long (inr (short, fault)) = absurd (omega (arith, short, long))
+
+pub long_refused : {A : Type 0} (r : A) (known old new : Option (List ℕ)) (line : List ℕ) (accepted : Bool) → accepted ≡ false → IfSome known (λ input. IsVerdict accepted input line) → Appends old new line
+    → IfSome known (λ input. 524288 < length input → (r ≡ r) × Appends old new (refused_line long_fault))
+long_refused r None old new line accepted same read written = tt
+long_refused r (Some input) old new line false same read written =
+    λ long. (refl, subst (λ l. Appends old new l) (read.is ∙ ap refused_line (too_long input read.fault long read.refused)) written)
+long_refused r (Some input) old new line true same read written = let both : true ≡ false = same in cc

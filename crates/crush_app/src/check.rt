@@ -1,0 +1,152 @@
+//! Checks of map texts.
+
+ghost use Rattle.std.specs.Prelude.{◌≡◌, ◌≤◌, ◌<◌, ℕ, List, IfOk, IfSome, string_bytes, length};
+ghost use Rattle.std.specs.Io.KnownBytes.{Keeps as KeepsBytes, Appends};
+ghost use Rattle.crush_map.specs.Map.{Map};
+ghost use Rattle.crush_text.specs.MapText.{IsShort, IsTextOf, IsRefusedFor};
+ghost use Rattle.crush_grammar.specs.declared.code.TextCode.TheVariants.{X7};
+ghost use Rattle.crush_grammar.specs.declared.code.TextFault as spec_fault;
+ghost use Rattle.crush_app.specs.Play.{AppendsPart};
+ghost use Rattle.crush_app.specs.Check.{accepted_line as line_of_map, refused_line as line_of_fault, long_fault, IsLineFor, WritesLine, WritesNothing};
+ghost use Rattle.crush_app.specs.Private.Verdict.{IsVerdict};
+
+use crate::input::{InputFault, read_input};
+use crate::wire::write_whole;
+use crush_map::CrushMap;
+use crush_text::{
+    TextCode, TextFault, code_text, read_map, texts_of_maps_have_no_fault, texts_say_one_map,
+};
+use std::alloc::{AllocError, Global};
+use std::io::{Read, Write};
+
+/// The longest text, in bytes.
+const TEXT_LIMIT: u32 = 524_288;
+
+/// How a check ended.
+#[derive(Clone, Copy, Debug, PartialEq, Eq)]
+pub enum CheckEnd {
+    /// The text is a map's, and its line was written.
+    Accepted,
+    /// The text is refused, and the line of its first fault was written.
+    Refused,
+    /// The text couldn't be read. Nothing was written.
+    ReadFault,
+    /// The line couldn't be written whole.
+    WriteFault,
+}
+
+/// The line for a text, and whether the text is a map's.
+#[derive(Drop)]
+struct Verdict {
+    line: String,
+    accepted: bool,
+}
+
+fn accepted_line(alloc: Global, map: &CrushMap) -> Result<String, AllocError>
+    ensures { IfOk result (λ line. string_bytes line ≡ line_of_map map.now) }
+{
+    let devices = map.devices().len();
+    let buckets = map.buckets().len();
+    let rules = map.rules().len();
+    format!(in alloc; "ok devices {devices} buckets {buckets} rules {rules}\n")
+}
+
+fn refused_line(alloc: Global, fault: TextFault) -> Result<String, AllocError>
+    ensures { IfOk result (λ line. string_bytes line ≡ line_of_fault fault) }
+{
+    let code = code_text(fault.code);
+    let line = fault.line;
+    format!(in alloc; "refused line {line} code {code}\n")
+}
+
+fn verdict_on(alloc: Global, text: &[u8]) -> Result<Verdict, AllocError>
+    ensures { IfOk result (λ v. IsVerdict v.accepted text.now (string_bytes v.line)) }
+{
+    match read_map(alloc, text)? {
+        Ok(map) => Ok(Verdict {
+            line: accepted_line(alloc, &map)?,
+            accepted: true,
+        }),
+        Err(fault) => Ok(Verdict {
+            line: refused_line(alloc, fault)?,
+            accepted: false,
+        }),
+    }
+}
+
+/// The verdict on a text that is too long to be read.
+#[tactic(auto, using(crate::proofs::Checking::long_line))]
+fn too_long(alloc: Global) -> Result<Verdict, AllocError>
+    ensures { IfOk result (λ v. (text : List ℕ) → 524288 < length text → IsVerdict v.accepted text (string_bytes v.line)) }
+{
+    let fault = TextFault {
+        line: 1,
+        code: TextCode::X7,
+    };
+    let line = refused_line(alloc, fault)?;
+    Ok(Verdict {
+        line,
+        accepted: false,
+    })
+}
+
+/// The verdict on what is read; none if it can't be read.
+fn read_verdict<R: Read>(alloc: Global, reader: &mut R) -> Result<Option<Verdict>, AllocError>
+    ensures { IfOk result (λ found. IfSome found (λ v. IfSome (R.remaining reader.old) (λ input. IsVerdict v.accepted input (string_bytes v.line)))) }
+{
+    match read_input(alloc, reader, TEXT_LIMIT) {
+        Ok(text) => Ok(Some(verdict_on(alloc, text.as_slice())?)),
+        Err(InputFault::TooLong) => Ok(Some(too_long(alloc)?)),
+        Err(InputFault::NoMemory) => Err(AllocError),
+        Err(InputFault::Read) => Ok(None),
+    }
+}
+
+/// Reads a whole text and writes one line: `ok devices D buckets B rules R` if it is a map's, else `refused line L code C` with
+/// its first fault. Of a text over 524,288 bytes (X7) it reads one byte more than these.
+/// The only `Err` is want of memory: then nothing was written.
+#[tactic(auto, using(crate::proofs::Checking::accepted_end, crate::proofs::Checking::refused_end, crate::proofs::Checking::cut_end, crate::proofs::LongTexts::only_long_end))]
+pub fn check_run<R: Read, W: Write>(
+    alloc: Global,
+    reader: &mut R,
+    writer: &mut W,
+) -> Result<CheckEnd, AllocError>
+    // `Accepted`: the input is a text of a map that may be imported, and the line of that map was written.
+    ensures accepted { result ≡ Ok CheckEnd.Accepted → IfSome (R.remaining reader.old)
+        (λ input. (m : Map) × IsShort input × IsTextOf input m × Appends (W.contents writer.old) (W.contents writer.new) (line_of_map m)) }
+
+    // `Refused`: the input is refused for a fault, and the line of that fault was written.
+    ensures refused { result ≡ Ok CheckEnd.Refused → IfSome (R.remaining reader.old)
+        (λ input. (f : spec_fault.TextFault) × IsRefusedFor input f × Appends (W.contents writer.old) (W.contents writer.new) (line_of_fault f)) }
+
+    // Conversely, where a line was written: of a text of a map it is that map's line, and an input that is refused for a fault isn't accepted.
+    ensures of_map { WritesLine result → IfSome (R.remaining reader.old)
+        (λ input. (m : Map) → IsShort input → IsTextOf input m → (result ≡ Ok CheckEnd.Accepted) × Appends (W.contents writer.old) (W.contents writer.new) (line_of_map m)) }
+    ensures of_fault { WritesLine result → IfSome (R.remaining reader.old)
+        (λ input. (f : spec_fault.TextFault) → IsRefusedFor input f → result ≡ Ok CheckEnd.Refused) }
+
+    // X7 is the fault of an input exactly if it is over 524,288 bytes.
+    ensures long { WritesLine result → IfSome (R.remaining reader.old) (λ input. 524288 < length input → (result ≡ Ok CheckEnd.Refused) × Appends (W.contents writer.old) (W.contents writer.new) (line_of_fault long_fault)) }
+    ensures only_long { IfSome (R.remaining reader.old) (λ input. (f : spec_fault.TextFault) → IsRefusedFor input f → f.code ≡ X7 → 524288 < length input) }
+
+    // `WriteFault`: the line for the input was written in part.
+    ensures cut { result ≡ Ok CheckEnd.WriteFault → IfSome (R.remaining reader.old)
+        (λ input. (line : List ℕ) × IsLineFor input line × AppendsPart (W.contents writer.old) (W.contents writer.new) line) }
+
+    // Otherwise nothing was written.
+    ensures silent { WritesNothing result → KeepsBytes (W.contents writer.old) (W.contents writer.new) }
+{
+    texts_say_one_map();
+    texts_of_maps_have_no_fault();
+    let Some(verdict) = read_verdict(alloc, reader)? else {
+        return Ok(CheckEnd::ReadFault);
+    };
+    if !write_whole(writer, verdict.line.as_bytes()) {
+        return Ok(CheckEnd::WriteFault);
+    }
+    if verdict.accepted {
+        Ok(CheckEnd::Accepted)
+    } else {
+        Ok(CheckEnd::Refused)
+    }
+}
