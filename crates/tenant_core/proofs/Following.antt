@@ -37,7 +37,7 @@ named method body (Some target) r h = named-at (operation_of (route_in target) m
   where
     named-at : (o : Option Operation) → on_operation target body o ≡ Ok r → tenant_in target ≡ Some r.tenant
     named-at None h = cc
-    named-at (Some o) h = named-by (tenant_in target) (action_of o body) r h
+    named-at (Some o) h = named-by (tenant_in target) (action_of target o body) r h
 
 named-small : (call : Call) (r : Request) (large : Bool) → (if large then Err TooLarge else on_target call.method call.body (target_of call.path)) ≡ Ok r → tenant_of call ≡ Some r.tenant
 named-small call r true h = cc

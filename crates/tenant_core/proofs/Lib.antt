@@ -7,3 +7,5 @@ pub mod PickForms
 pub mod Replying
 pub mod Running
 pub mod Targets
+pub mod Keeping
+pub mod TestForms

@@ -12,7 +12,7 @@ use Rattle.crush_choose.specs.Weights.{weights_of}
 use Rattle.crush_map.specs.Map.{Map}
 use Rattle.crush_map.specs.declared.draft.Rule.{Rule}
 use Rattle.tenant_core.specs.Forms.{IsNatural, IsOptional, if_any, HasExactly, IsUnder}
-use Rattle.tenant_core.specs.Json.{value_of, natural_of, both, all_three, has_keys, under, optional, present}
+use Rattle.tenant_core.specs.Json.{value_of, natural_of, both, has_keys, under, optional, present}
 use Rattle.tenant_core.specs.Reply.{Answer, refused, success, members_of, natural}
 use Rattle.tenant_core.specs.State.{TenantState, epoch, newest, version}
 use Rattle.tenant_core.specs.declared.reply.Problem.TheVariants.{NoVersion, NoRule}
@@ -46,8 +46,8 @@ pub record IsTestBody (d : Data) (t : RuleTest) : Type 0 where
 
 -- ---- reading a body: a test is read exactly where the body has that form (law `tests_are_of_the_form`)
 
-abbrev pub test_with : ℕ → ℕ → ℕ → Option ℕ → RuleTest
-test_with rule size x version = record { rule = rule; size = size; x = x; version = version }
+abbrev pub test_with : ℕ × ℕ → ℕ × Option ℕ → RuleTest
+test_with asked on = record { rule = asked.0; size = asked.1; x = on.0; version = on.1 }
 
 abbrev pub if_some : RuleTest → Option RuleTest
 if_some t = if nat_le 1 t.size then Some t else None
@@ -55,10 +55,9 @@ if_some t = if nat_le 1 t.size then Some t else None
 abbrev pub test_of : Data → Option RuleTest
 test_of d =
     if has_keys (present (codes "version") d + 3) d then
-    option_and_then if_some (both (λ (test : Option ℕ → RuleTest) version. test version)
-    (all_three test_with
-    (under (codes "rule") (natural_of 255) d) (under (codes "size") (natural_of 32) d) (under (codes "x") (natural_of 4294967295) d))
-    (optional (codes "version") (natural_of 4294967295) d)) else None
+    option_and_then if_some (both test_with
+    (both (λ rule size. (rule, size)) (under (codes "rule") (natural_of 255) d) (under (codes "size") (natural_of 32) d))
+    (both (λ x version. (x, version)) (under (codes "x") (natural_of 4294967295) d) (optional (codes "version") (natural_of 4294967295) d))) else None
 
 abbrev pub test_request_of : List ℕ → Option RuleTest
 test_request_of body = option_and_then test_of (value_of body)
