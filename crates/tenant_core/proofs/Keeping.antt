@@ -25,7 +25,6 @@ pair_of e = (string_bytes e.0, e.1.value)
 abbrev pairs_of : List Entry → Receipts
 pairs_of es = map pair_of es
 
-
 -- ---- looking up
 
 found_at : (b c : Bool) (rc : Kept) (o : Option Kept) (later : Option Receipt) → b ≡ c → option_map (λ (r : Kept). r.value) o ≡ later

@@ -9,3 +9,5 @@ pub mod Running
 pub mod Targets
 pub mod Keeping
 pub mod TestForms
+pub mod Accepting
+pub mod Importing

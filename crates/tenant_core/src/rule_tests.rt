@@ -88,15 +88,21 @@ pub(crate) fn read_test(alloc: Global, body: &[u8]) -> Result<RuleTest, ReadErro
 
 // ---- the answer
 
+fn slot_json(slot: &Slot) -> Value
+    ensures { view result ≡ spec.slot_json slot.now }
+{
+    match slot {
+        None => Value::Null,
+        Some(item) => Value::from(i64::from(item.0)),
+    }
+}
+
 fn slots_json(alloc: Global, slots: &[Slot]) -> Result<Value, AllocError>
     ensures { IfOk result (λ v. view v ≡ spec.list_json (map spec.slot_json slots.now)) }
 {
     let mut values = Vec::with_capacity(alloc, slots.len())?;
     for slot in slots {
-        values.push(match slot {
-            None => Value::Null,
-            Some(item) => Value::from(i64::from(item.0)),
-        })?;
+        values.push(slot_json(slot))?;
     }
     Ok(Value::Array(values))
 }

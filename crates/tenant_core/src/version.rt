@@ -91,6 +91,8 @@ impl Version {
 fn canonical_text(alloc: Global, map: &CrushMap) -> Result<Text, AllocError>
     ensures { IfOk result (λ text. text ≡ canonical map.now) }
 {
+    // says that the map is valid
+    let _tunables = map.tunables();
     canonical_texts_are_ascii();
     match String::from_utf8(write_map(alloc, map)?) {
         Ok(text) => Ok(Text::new(text)),
