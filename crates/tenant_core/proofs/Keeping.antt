@@ -9,7 +9,9 @@ use Rattle.std.specs.Ordering.{match_ordering}
 use Rattle.std.specs.Prelude.{String}
 use Rattle.std.specs.declared.alloc.Global.{Global}
 use Rattle.std.specs.declared.rc.Rc.{Rc}
+use Rattle.crush_map.specs.Map.{Map}
 use Rattle.tenant_core.specs.Receipts.{Receipts, receipt_of, with_receipt}
+use Rattle.tenant_core.specs.State.{TenantState}
 use Rattle.tenant_core.specs.declared.receipts.Receipt.{Receipt}
 
 abbrev Kept : Type 0
@@ -65,3 +67,15 @@ copied_in [] [] h = refl
 copied_in [] (f ∷ fs) h = absurd h
 copied_in (e ∷ es) [] h = absurd h
 copied_in (e ∷ es) (f ∷ fs) h = let head = h.0 in let tail : pairs_of fs ≡ pairs_of es = copied_in es fs h.1 in rw (head.0, head.1, tail) refl
+
+-- ---- states
+
+same_versions : (vs ws : List (Rc Map Global)) → AllZip (λ (p q : Rc Map Global). q.value ≡ p.value) vs ws → map (λ (v : Rc Map Global). v.value) ws ≡ map (λ (v : Rc Map Global). v.value) vs
+same_versions [] [] h = refl
+same_versions [] (w ∷ ws) h = absurd h
+same_versions (v ∷ vs) [] h = absurd h
+same_versions (v ∷ vs) (w ∷ ws) h = let head = h.0 in let tail = same_versions vs ws h.1 in rw (head, tail) refl
+
+pub same_state : (vs ws : List (Rc Map Global)) (receipts again : Receipts) → AllZip (λ (p q : Rc Map Global). q.value ≡ p.value) vs ws → again ≡ receipts
+    → ◌≡◌ {A = TenantState} (record { versions = map (λ (v : Rc Map Global). v.value) ws; receipts = again }) (record { versions = map (λ (v : Rc Map Global). v.value) vs; receipts = receipts })
+same_state vs ws receipts again h r = let versions = same_versions vs ws h in rw (versions, r) refl

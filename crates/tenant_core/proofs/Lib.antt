@@ -11,3 +11,4 @@ pub mod Keeping
 pub mod TestForms
 pub mod Accepting
 pub mod Importing
+pub mod Testing
