@@ -1,6 +1,9 @@
 pub mod Eight
 pub mod Greatest
 pub mod Appended
+pub mod Differing
+pub mod Exchanging
+pub mod Gap
 pub mod Heights
 pub mod Lanes
 pub mod Members
