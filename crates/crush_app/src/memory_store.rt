@@ -3,6 +3,7 @@
 ghost use Rattle.std.specs.Prelude.{◌≡◌, ℕ, List, Some, None, OnOk, OnErr, if◌then◌else◌, option_map};
 ghost use Rattle.std.specs.Str.{bytes_eq};
 ghost use Rattle.std.specs.BTreeMap.{get_by_text};
+ghost use Rattle.tenant_core.specs.State.{after};
 
 use std::alloc::{AllocError, Global};
 use std::collections::BTreeMap;
@@ -10,6 +11,39 @@ use std::rc::Rc;
 use tenant_core::{Change, StoreFault, TenantState, TenantStore};
 
 type States = BTreeMap<String, Rc<TenantState>>;
+
+/// Makes a change of a shared state: in place where it has no other owner, and else on a copy, which shares versions and receipts.
+/// A refused call changes nothing.
+fn change(alloc: Global, shared: &mut Rc<TenantState>, change: &Change) -> Result<(), AllocError>
+    ensures ok { OnOk result (shared.new.value ≡ after change.now shared.old.value) }
+    ensures err { OnErr result (shared.new.value ≡ shared.old.value) }
+{
+    match Rc::get_mut(shared) {
+        Some(state) => state.change(alloc, change),
+        None => {
+            let next = shared.after(alloc, change)?;
+            *shared = Rc::new(alloc, next)?;
+            Ok(())
+        }
+    }
+}
+
+/// Makes a change of the state of a name, if it has one. A refused call changes nothing.
+fn change_named(
+    alloc: Global,
+    states: &mut States,
+    name: &str,
+    made: &Change,
+) -> Result<(), AllocError>
+    ensures ok { OnOk result ((u : List ℕ) → option_map (λ r. r.value) (get_by_text states.new u)
+        ≡ (if bytes_eq name.now u then option_map (λ r. after made.now r.value) (get_by_text states.old u) else option_map (λ r. r.value) (get_by_text states.old u))) }
+    ensures err { OnErr result ((u : List ℕ) → option_map (λ r. r.value) (get_by_text states.new u) ≡ option_map (λ r. r.value) (get_by_text states.old u)) }
+{
+    match states.get_mut(name) {
+        Some(shared) => change(alloc, shared, made),
+        None => Ok(()),
+    }
+}
 
 /// Sets the state of a name. A refused call changes nothing.
 fn put(alloc: Global, states: &mut States, name: &str, state: TenantState) -> Result<(), AllocError>
@@ -40,7 +74,7 @@ pub struct MemoryStore {
 
 impl MemoryStore {
     ghost use Rattle.std.specs.Prelude.{◌≡◌, ℕ, List, Option, None};
-    ghost use Rattle.tenant_core.specs.declared.state.TenantState.{TenantState};
+    ghost use Rattle.tenant_core.specs.State.{TenantState};
     ghost use Rattle.crush_app.specs.declared.memory_store.MemoryStore.{MemoryStore};
 
     /// A store with no tenant. Allocates nothing.
@@ -76,19 +110,18 @@ impl TenantStore for MemoryStore {
     }
 
     fn create(&mut self, name: &str) -> Result<(), StoreFault> {
-        put(self.alloc, &mut self.states, name, TenantState::fresh())?;
+        put(
+            self.alloc,
+            &mut self.states,
+            name,
+            TenantState::fresh(self.alloc),
+        )?;
         Ok(())
     }
 
     fn commit(&mut self, name: &str, change: &Change) -> Result<(), StoreFault> {
-        match self.states.get(name) {
-            None => Ok(()),
-            Some(state) => {
-                let next = state.after(change);
-                put(self.alloc, &mut self.states, name, next)?;
-                Ok(())
-            }
-        }
+        change_named(self.alloc, &mut self.states, name, change)?;
+        Ok(())
     }
 
     fn remove(&mut self, name: &str) -> Result<(), StoreFault> {

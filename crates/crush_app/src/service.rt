@@ -6,14 +6,14 @@ ghost use Rattle.tenant_core.specs.Private.Performing.{Performs};
 ghost use Rattle.tenant_core.specs.States.{IsDamaged, Same, Follows};
 ghost use Rattle.tenant_core.specs.Effects.{Fits, after_effect};
 ghost use Rattle.tenant_core.specs.StoreReply.{store_damaged};
-ghost use Rattle.tenant_core.specs.declared.state.TenantState.{TenantState};
+ghost use Rattle.tenant_core.specs.State.{TenantState};
 
 use crate::memory_store::MemoryStore;
 use std::alloc::{AllocError, Global};
 use std::marker::Model;
 use tenant_core::{
-    Call, CallParts, Effect, Reply, Request, Routes, StoreFault, TenantStore, decide, read_request,
-    refused, store_fault,
+    Call, CallParts, Effect, Refusal, Reply, Request, Routes, StoreFault, TenantStore, decide,
+    read_request, refused, store_fault,
 };
 
 /// Carries out the effect of a request on its tenant.
@@ -65,9 +65,10 @@ fn reply_or_fault<T: TenantStore>(
     ensures damaged { T.is_honest store.new → result ≡ Err StoreFault.Damaged → Follows (call_of call.entry) (T.has_state store.old) (T.has_state store.new) store_damaged }
     ensures honest { T.is_honest store.new → T.is_honest store.old }
 {
-    match read_request(alloc, routes, call)? {
+    match read_request(alloc, routes, call) {
         Ok(request) => perform(alloc, store, &request),
-        Err(problem) => Ok(refused(alloc, problem)?),
+        Err(Refusal::Problem(problem)) => Ok(refused(alloc, problem)?),
+        Err(Refusal::NoMemory) => Err(StoreFault::NoMemory),
     }
 }
 
@@ -89,7 +90,7 @@ impl<T: TenantStore> Model for Service<T> {
 
 impl Service<MemoryStore> {
     ghost use Rattle.std.specs.Prelude.{◌≡◌, ℕ, List, Option, None, IfOk};
-    ghost use Rattle.tenant_core.specs.declared.state.TenantState.{TenantState};
+    ghost use Rattle.tenant_core.specs.State.{TenantState};
     ghost use Rattle.crush_app.specs.declared.memory_store.MemoryStore.{MemoryStore};
 
     /// A service over a store in memory, with no tenant. Such a store is always honest, and each name has exactly one state

@@ -17,3 +17,4 @@ pub mod Keeping
 pub mod Lowering
 pub mod Staying
 pub mod OneTrace
+pub mod OneOrder

@@ -9,5 +9,6 @@ pub mod Indep
 pub mod Laws
 pub mod Outs
 pub mod Rules
+pub mod Trace
 pub mod Stability
 pub mod Private

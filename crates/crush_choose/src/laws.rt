@@ -1,6 +1,6 @@
 //! Laws of the definitions. A call does nothing; its contract is the law.
 
-ghost use Rattle.std.specs.Prelude.{◌≡◌, ◌<◌, ℕ, ℤ, List, length, slice_get, Option, Some, None, true, false};
+ghost use Rattle.std.specs.Prelude.{◌≡◌, ◌↔◌, ◌<◌, ℕ, ℤ, List, length, slice_get, Option, Some, None, true, false};
 ghost use Rattle.crush_map.specs.declared.draft.Rule.{Rule};
 ghost use Rattle.crush_map.specs.declared.draft.Step.TheVariants.{Choose};
 ghost use Rattle.crush_map.specs.declared.draft.Tunables.{Tunables};
@@ -15,7 +15,9 @@ ghost use Rattle.crush_choose.specs.Reach.{reach, reach_below};
 ghost use Rattle.crush_choose.specs.Marks.{Marks, Slot};
 ghost use Rattle.crush_choose.specs.Firstn.{IsFirstnAnswer, firstn};
 ghost use Rattle.crush_choose.specs.Indep.{IsIndepAnswer, indep};
-ghost use Rattle.crush_choose.specs.Rules.{CanRun, Running, Settings, choose_call, step_out, after_step};
+ghost use Rattle.crush_map.specs.declared.draft.Step.{Step};
+ghost use Rattle.crush_choose.specs.Trace.{rule_trace};
+ghost use Rattle.crush_choose.specs.Rules.{CanRun, IsTrace, Running, Settings, choose_call, step_out, after_step};
 ghost use Rattle.crush_choose.specs.Laws.{reach_after_pick};
 ghost use Rattle.crush_choose.specs.Entries.{Entry, AreEntries, AreFirstnEntries, entries};
 
@@ -83,3 +85,8 @@ pub fn chooseleaf_of_devices_is_choose()
 {
     no_bucket_of_a_map_has_type_0();
 }
+
+/// A list is the trace of a rule's run exactly where it is `rule_trace`.
+pub fn traces_ascend()
+    ensures { (t : TablesView) (w : List ℕ) (steps : List Step) (x size : ℕ) (trace : List ℕ) → IsTrace t w steps x size trace ↔ (trace ≡ rule_trace t w steps x size) }
+{}

@@ -10,7 +10,7 @@ use Rattle.tenant_core.specs.declared.reply.Problem.TheVariants.{BadRequest, Too
 use Rattle.tenant_core.specs.declared.request.Action.{Action}
 use Rattle.tenant_core.specs.declared.request.Operation.{Operation}
 use Rattle.tenant_core.specs.declared.request.Request.{Request}
-use Rattle.tenant_core.specs.declared.state.TenantState.{TenantState}
+use Rattle.tenant_core.specs.State.{TenantState}
 use Rattle.tenant_core.specs.declared.store.StoreFault.{StoreFault}
 use Rattle.tenant_core.specs.declared.store.StoreFault.TheVariants.{NoMemory, Full, Damaged, Failed}
 use Rattle.tenant_core.specs.Request.{tenant_in, action_of, on_operation, on_target, operation_of, request_of, body_limit}
@@ -37,7 +37,7 @@ named method body (Some target) r h = named-at (operation_of (route_in target) m
   where
     named-at : (o : Option Operation) → on_operation target body o ≡ Ok r → tenant_in target ≡ Some r.tenant
     named-at None h = cc
-    named-at (Some o) h = named-by (tenant_in target) (action_of o body) r h
+    named-at (Some o) h = named-by (tenant_in target) (action_of target o body) r h
 
 named-small : (call : Call) (r : Request) (large : Bool) → (if large then Err TooLarge else on_target call.method call.body (target_of call.path)) ≡ Ok r → tenant_of call ≡ Some r.tenant
 named-small call r true h = cc

@@ -7,3 +7,8 @@ pub mod PickForms
 pub mod Replying
 pub mod Running
 pub mod Targets
+pub mod Keeping
+pub mod TestForms
+pub mod Accepting
+pub mod Importing
+pub mod Testing

@@ -4,7 +4,8 @@ use Rattle.serde_json.specs.Data.{Data}
 use Rattle.serde_json.specs.Find.{get}
 use Rattle.tenant_core.proofs.Finding.{Finds, is_there}
 use Rattle.tenant_core.proofs.Objects.{AllFound}
-use Rattle.tenant_core.specs.Private.Optional.{IsOptional, if_any, on_optional, optional, present}
+use Rattle.tenant_core.specs.Forms.{IsOptional, if_any}
+use Rattle.tenant_core.specs.Json.{on_optional, optional, present}
 
 optional-says : {A : Type 0} {f : Data → Option A} {Says : Data → A → Type 0} → Finds f Says → (key : List ℕ) (d : Data) (found : Option Data) (o : Option A)
     → get key d ≡ found → on_optional f found ≡ Some o → IsOptional key Says d o

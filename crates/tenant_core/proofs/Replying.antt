@@ -3,10 +3,12 @@ use Rattle.std.proofs.Common.{◌≡◌, inl, inr, ℕ, ◌==◌, true, false, n
 use Rattle.tenant_core.specs.declared.call.Call.{Call}
 use Rattle.tenant_core.specs.declared.reply.Reply.{Reply}
 use Rattle.tenant_core.specs.declared.reply.Problem.{Problem}
-use Rattle.tenant_core.specs.declared.reply.Problem.TheVariants.{BadRequest, NoPath, NoTenant, Method, Exists, TooLarge}
-use Rattle.tenant_core.specs.declared.state.TenantState.{TenantState}
+use Rattle.tenant_core.specs.declared.reply.Problem.TheVariants.{BadRequest, NoPath, NoTenant, NoVersion, NoRule, Method, Exists, RequestReused, TooLarge, MapRefused, TenantLimit}
+use Rattle.tenant_core.specs.declared.reply.SuccessStatus.{SuccessStatus}
+use Rattle.tenant_core.specs.declared.reply.SuccessStatus.TheVariants.{Done, Created}
+use Rattle.tenant_core.specs.State.{TenantState}
 use Rattle.tenant_core.specs.Alone.{is_answered}
-use Rattle.tenant_core.specs.Reply.{Answer, refused, success, created, problem_status, reply}
+use Rattle.tenant_core.specs.Reply.{Answer, refused, answered, repeated, problem_status, success_status, reply}
 use Rattle.tenant_core.specs.Request.{request_of}
 use Rattle.tenant_core.specs.Step.{step, decision_or_refusal}
 use Rattle.tenant_core.specs.StoreReply.{IsUnavailable, store_failed, store_damaged}
@@ -20,15 +22,24 @@ problem : (p : Problem) → IsOfAnswer (problem_status p)
 problem BadRequest = record { no_500 = refl; no_503 = refl }
 problem NoPath = record { no_500 = refl; no_503 = refl }
 problem NoTenant = record { no_500 = refl; no_503 = refl }
+problem NoVersion = record { no_500 = refl; no_503 = refl }
+problem NoRule = record { no_500 = refl; no_503 = refl }
 problem Method = record { no_500 = refl; no_503 = refl }
 problem Exists = record { no_500 = refl; no_503 = refl }
+problem RequestReused = record { no_500 = refl; no_503 = refl }
 problem TooLarge = record { no_500 = refl; no_503 = refl }
+problem (MapRefused fault) = record { no_500 = refl; no_503 = refl }
+problem TenantLimit = record { no_500 = refl; no_503 = refl }
+
+successful : (s : SuccessStatus) → IsOfAnswer (success_status s)
+successful Done = record { no_500 = refl; no_503 = refl }
+successful Created = record { no_500 = refl; no_503 = refl }
 
 of_answer : (a : Answer) → IsOfAnswer (reply a).status
 unfolding reply
 of_answer (refused p) = problem p
-of_answer (success body) = record { no_500 = refl; no_503 = refl }
-of_answer (created body) = record { no_500 = refl; no_503 = refl }
+of_answer (answered status body) = successful status
+of_answer (repeated status body) = successful status
 
 pub reply-answered : (a : Answer) → is_answered (reply a) ≡ true
 reply-answered a = ap not (of_answer a).no_503

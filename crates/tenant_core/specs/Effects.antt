@@ -1,21 +1,12 @@
--- The state of a tenant, and what the decision on a request does to it.
+-- What the decision on a request does to the state of its tenant.
 use Rattle.std.specs.Prelude.{◌≡◌, Option, Some, None, option_map, IsSome}
+use Rattle.serde_json.specs.Data.{Data}
 use Rattle.tenant_core.specs.Reply.{Answer, refused}
+use Rattle.tenant_core.specs.State.{TenantState, Made, fresh, after}
 use Rattle.tenant_core.specs.declared.reply.Problem.TheVariants.{NoTenant}
-use Rattle.tenant_core.specs.declared.state.Change.{Change as StateChange}
+use Rattle.tenant_core.specs.declared.reply.SuccessStatus.{SuccessStatus}
 use Rattle.tenant_core.specs.declared.state.Effect.{Effect}
 use Rattle.tenant_core.specs.declared.state.Effect.TheVariants.{Keep, Create, Change, Remove}
-use Rattle.tenant_core.specs.declared.state.TenantState.{TenantState}
-
--- ---- states
-
--- a tenant that was just created
-abbrev pub fresh : TenantState
-fresh = record { epoch = 0 }
-
--- a state after an accepted change
-abbrev pub after : StateChange → TenantState → TenantState
-after change state = record { epoch = change.epoch }
 
 -- the state of a tenant after an effect, or none where the tenant is then absent
 abbrev pub after_effect : Effect → Option TenantState → Option TenantState
@@ -45,3 +36,9 @@ decided effect answer = record { effect = effect; answer = answer }
 abbrev pub if_present : Option TenantState → (TenantState → Decided) → Decided
 if_present None decide = decided Keep (refused NoTenant)
 if_present (Some state) decide = decide state
+
+-- an order that is accepted: what it makes, and the status and the body of its reply
+pub record Accepted : Type 0 where
+  pub made : Made
+  pub status : SuccessStatus
+  pub body : Data

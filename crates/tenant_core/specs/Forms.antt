@@ -1,5 +1,5 @@
 -- Forms: that a JSON value (RFC 8259) is of some form, and says some value.
-use Rattle.std.specs.Prelude.{◌≡◌, ℕ, ◌≤◌, ℤ, ◌≤ℤ◌, List, [], ◌∷◌, IsPermutation, Some}
+use Rattle.std.specs.Prelude.{◌≡◌, ℕ, ◌≤◌, ℤ, ◌≤ℤ◌, List, [], ◌∷◌, IsPermutation, Option, Some, None}
 use Rattle.std.specs.List.{AllZip}
 use Rattle.serde_json.specs.Data.{Num, unsigned, Data, number, string, array, object, Members, no_members, member}
 use Rattle.serde_json.specs.Find.{get, as_integer}
@@ -49,6 +49,16 @@ pub record IsUnder {A : Type 0} (key : List ℕ) (Says : Data → A → Type 0) 
   pub value : Data
   pub there : get key d ≡ Some value
   pub says : Says value a
+
+-- the value under the key says a; or there is nothing to say, and no such key (`null` is a value)
+abbrev pub IsOptional : {A : Type 0} → List ℕ → (Data → A → Type 0) → Data → Option A → Type 0
+IsOptional key Says d None = get key d ≡ None
+IsOptional key Says d (Some a) = IsUnder key Says d a
+
+-- the key, where there is something to say
+abbrev pub if_any : {A : Type 0} → List ℕ → Option A → List (List ℕ)
+if_any key None = []
+if_any key (Some a) = key ∷ []
 
 -- ---- bytes
 

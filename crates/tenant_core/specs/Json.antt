@@ -1,5 +1,5 @@
 -- Reading a JSON value that has to be of some form.
-use Rattle.std.specs.Prelude.{ℕ, ◌&&◌, ◌==◌, ℤ, int_le, List, [], ◌∷◌, Bool, false, nat_le, if◌then◌else◌, Option, Some, None, option_and_then}
+use Rattle.std.specs.Prelude.{ℕ, ◌&&◌, ◌==◌, ℤ, int_le, List, [], ◌∷◌, Bool, false, nat_le, if◌then◌else◌, Option, Some, None, is_some, option_map, option_and_then}
 use Rattle.std.specs.Option.{option_map_or}
 use Rattle.std.specs.Str.{is_utf8}
 use Rattle.serde_json.specs.Data.{Data, Items, no_items, item}
@@ -53,3 +53,17 @@ has_keys count d = option_map_or (λ members. members_len members == count) (as_
 -- what the value under a key gives
 abbrev pub under : {A : Type 0} → List ℕ → (Data → Option A) → Data → Option A
 under key f d = option_and_then f (get key d)
+
+-- ---- keys that may be missing
+
+abbrev pub on_optional : {A : Type 0} → (Data → Option A) → Option Data → Option (Option A)
+on_optional f None = Some None
+on_optional f (Some d) = option_map (λ a. Some a) (f d)
+
+-- what the value under a key gives, where the key is there
+abbrev pub optional : {A : Type 0} → List ℕ → (Data → Option A) → Data → Option (Option A)
+optional key f d = on_optional f (get key d)
+
+-- how many keys it is: one, or none
+abbrev pub present : List ℕ → Data → ℕ
+present key d = if is_some (get key d) then 1 else 0

@@ -1,5 +1,5 @@
 -- What private clauses and proofs alone cite: how the code works. No public clause rests on it.
+pub mod Accepting
 pub mod Inserting
-pub mod Optional
 pub mod Performing
 pub mod Reading

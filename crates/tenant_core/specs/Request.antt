@@ -2,12 +2,16 @@
 use Rattle.std.specs.Prelude.{ℕ, ◌==◌, List, length, nat_lt, if◌then◌else◌, Option, Some, None, option_map, option_and_then, Result, Err, codes}
 use Rattle.std.specs.Option.{ok_or}
 use Rattle.crush_map.specs.Faults.{is_name}
+use Rattle.tenant_core.specs.Maps as maps
 use Rattle.tenant_core.specs.Picks as picks
-use Rattle.tenant_core.specs.Route.{Target, target_of, route_in, parameter}
+use Rattle.tenant_core.specs.Route.{Target, target_of, route_in, parameter, path_number}
+use Rattle.tenant_core.specs.RuleTests as rule_tests
 use Rattle.tenant_core.specs.Tenants as tenants
 use Rattle.tenant_core.specs.declared.call.Call.{Call}
+use Rattle.tenant_core.specs.declared.commands.Order.{Order}
+use Rattle.tenant_core.specs.declared.commands.Order.TheVariants.{ImportMap}
 use Rattle.tenant_core.specs.declared.route.Route.{Route}
-use Rattle.tenant_core.specs.declared.route.Route.TheVariants.{Tenant, Pick}
+use Rattle.tenant_core.specs.declared.route.Route.TheVariants.{Tenant, Maps, Version, Pick, Test}
 use Rattle.tenant_core.specs.declared.reply.Problem.{Problem}
 use Rattle.tenant_core.specs.declared.reply.Problem.TheVariants.{BadRequest, NoPath, Method, TooLarge}
 use Rattle.tenant_core.specs.declared.request.Action.{Action}
@@ -29,7 +33,10 @@ tenant_in target = option_and_then if_name (parameter (codes "t") target)
 
 abbrev pub operation_of : Route → List ℕ → Option Operation
 operation_of Tenant method = option_map (λ o. operation.Tenant o) (tenants.operation_of method)
+operation_of Maps method = if maps.has_method method then Some operation.Import else None
+operation_of Version method = if maps.version_has_method method then Some operation.ReadVersion else None
 operation_of Pick method = if picks.has_method method then Some operation.Pick else None
+operation_of Test method = if rule_tests.has_method method then Some operation.Test else None
 
 -- ---- the body
 
@@ -37,16 +44,24 @@ operation_of Pick method = if picks.has_method method then Some operation.Pick e
 abbrev pub if_empty : List ℕ → Action → Option Action
 if_empty body asked = if length body == 0 then Some asked else None
 
-abbrev pub action_of : Operation → List ℕ → Option Action
-action_of (operation.Tenant o) body = if_empty body (action.Tenant o)
-action_of operation.Pick body = option_map (λ p. action.Pick p) (picks.pick_request_of body)
+-- a changing request keeps its path and its body, by which a repeat is known
+abbrev pub command_of : Target → List ℕ → List ℕ → Order → Action
+command_of target body number order = action.Command (record { number = number; path = target.path; body = body; order = order })
+
+-- the parts of the path and the body; which of them is read first makes no difference
+abbrev pub action_of : Target → Operation → List ℕ → Option Action
+action_of target (operation.Tenant o) body = if_empty body (action.Tenant o)
+action_of target operation.Import body = option_map (λ asked. command_of target body asked.0 (ImportMap asked.1)) (maps.import_request_of body)
+action_of target operation.ReadVersion body = option_and_then (λ number. if_empty body (action.ReadVersion number)) (path_number (codes "v") target)
+action_of target operation.Pick body = option_map (λ p. action.Pick p) (picks.pick_request_of body)
+action_of target operation.Test body = option_map (λ t. action.Test t) (rule_tests.test_request_of body)
 
 -- ---- all of it: the checks in their order
 
 -- the tenant's name, and then the body
 abbrev pub in_form : Target → List ℕ → Operation → Option Request
 in_form target body o =
-    option_and_then (λ tenant. option_map (λ a. record { tenant = tenant; action = a }) (action_of o body)) (tenant_in target)
+    option_and_then (λ tenant. option_map (λ a. record { tenant = tenant; action = a }) (action_of target o body)) (tenant_in target)
 
 abbrev pub on_operation : Target → List ℕ → Option Operation → Result Request Problem
 on_operation target body None = Err Method

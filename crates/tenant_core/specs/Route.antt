@@ -1,5 +1,5 @@
 -- The table of all routes, and the route of a path: by `matchit`'s rule, literal text goes before a parameter in braces.
-use Rattle.std.specs.Prelude.{ℕ, List, [], ◌∷◌, fold, if◌then◌else◌, Option, None, option_map, Result, Ok, Err}
+use Rattle.std.specs.Prelude.{ℕ, List, [], ◌∷◌, fold, if◌then◌else◌, Option, None, option_map, option_and_then, Result, Ok, Err}
 use Rattle.std.specs.Char.{is_ascii}
 use Rattle.std.specs.List.{list_all}
 use Rattle.matchit.specs.Rows.{RowsOf}
@@ -9,16 +9,21 @@ use Rattle.matchit.specs.Route.{Scan, parse_route}
 use Rattle.matchit.specs.Params.{walk, named}
 use Rattle.matchit.specs.Seek.{first}
 use Rattle.matchit.specs.declared.error.InsertError.{InsertError}
+use Rattle.crush_words.specs.Numbers.{number_of}
+use Rattle.tenant_core.specs.Maps as maps
 use Rattle.tenant_core.specs.Picks as picks
+use Rattle.tenant_core.specs.RuleTests as rule_tests
 use Rattle.tenant_core.specs.Tenants as tenants
 use Rattle.tenant_core.specs.declared.route.Route.{Route}
-use Rattle.tenant_core.specs.declared.route.Route.TheVariants.{Tenant, Pick}
+use Rattle.tenant_core.specs.declared.route.Route.TheVariants.{Tenant, Maps, Version, Pick, Test}
 
 -- ---- the routes
 
 -- all routes, each as it is written
 abbrev pub routes : List (List ℕ × Route)
-routes = (tenants.route, Tenant) ∷ (picks.route, Pick) ∷ []
+routes =
+    (tenants.route, Tenant) ∷ (maps.route, Maps) ∷ (maps.version_route, Version) ∷ (picks.route, Pick)
+    ∷ (rule_tests.route, Test) ∷ []
 
 -- ---- their table
 
@@ -55,3 +60,7 @@ target_of path = option_map (λ row. record { row = row; path = path }) (first t
 abbrev pub parameter : List ℕ → Target → Option (List ℕ)
 parameter key target =
     if list_all is_ascii target.path then named key (walk target.row.pattern target.row.text target.path target.row.names 0 0) else None
+
+-- the number that such a part writes in 1 to 10 digits
+abbrev pub path_number : List ℕ → Target → Option ℕ
+path_number key target = option_and_then number_of (parameter key target)

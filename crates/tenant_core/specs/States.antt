@@ -6,7 +6,7 @@ use Rattle.tenant_core.specs.Step.{step, is_of, tenant_of}
 use Rattle.tenant_core.specs.StoreReply.{IsUnavailable, reply_where_damaged}
 use Rattle.tenant_core.specs.declared.call.Call.{Call}
 use Rattle.tenant_core.specs.declared.reply.Reply.{Reply}
-use Rattle.tenant_core.specs.declared.state.TenantState.{TenantState}
+use Rattle.tenant_core.specs.State.{TenantState}
 
 -- ---- states
 

@@ -2,11 +2,14 @@
 use Rattle.std.specs.Prelude.{ℕ, List, Bool, false, Option, Some, None, option_and_then, Result, Ok, Err}
 use Rattle.std.specs.Option.{option_map_or}
 use Rattle.std.specs.Str.{bytes_eq}
+use Rattle.tenant_core.specs.Commands as commands
 use Rattle.tenant_core.specs.Effects.{Decided, decided, after_effect, if_present}
+use Rattle.tenant_core.specs.Maps as maps
 use Rattle.tenant_core.specs.Picks as picks
 use Rattle.tenant_core.specs.Reply.{refused, reply}
 use Rattle.tenant_core.specs.Request.{tenant_in, request_of}
 use Rattle.tenant_core.specs.Route.{target_of}
+use Rattle.tenant_core.specs.RuleTests as rule_tests
 use Rattle.tenant_core.specs.Tenants as tenants
 use Rattle.tenant_core.specs.declared.call.Call.{Call}
 use Rattle.tenant_core.specs.declared.reply.Reply.{Reply}
@@ -15,14 +18,17 @@ use Rattle.tenant_core.specs.declared.request.Action.{Action}
 use Rattle.tenant_core.specs.declared.request.Action.TheVariants as action
 use Rattle.tenant_core.specs.declared.request.Request.{Request}
 use Rattle.tenant_core.specs.declared.state.Effect.TheVariants.{Keep}
-use Rattle.tenant_core.specs.declared.state.TenantState.{TenantState}
+use Rattle.tenant_core.specs.State.{TenantState}
 
 -- ---- one request
 
 -- the decision on an action, from the state of its tenant, or from its absence: the table of all actions
 abbrev pub decision_on : List ℕ → Action → Option TenantState → Decided
 decision_on tenant (action.Tenant operation) found = tenants.decision tenant operation found
+decision_on tenant (action.Command command) found = if_present found (commands.decision command)
+decision_on tenant (action.ReadVersion number) found = if_present found (λ state. decided Keep (maps.answer number state))
 decision_on tenant (action.Pick p) found = if_present found (λ state. decided Keep (picks.answer p))
+decision_on tenant (action.Test t) found = if_present found (λ state. decided Keep (rule_tests.answer t state))
 
 abbrev pub decision : Request → Option TenantState → Decided
 decision request state = decision_on request.tenant request.action state

@@ -6,7 +6,7 @@ use Rattle.tenant_core.specs.Effects.{Decided, decided, if_present}
 use Rattle.tenant_core.specs.Reply.{refused, success, created, members_of, natural}
 use Rattle.tenant_core.specs.declared.reply.Problem.TheVariants.{Exists}
 use Rattle.tenant_core.specs.declared.state.Effect.TheVariants as effect
-use Rattle.tenant_core.specs.declared.state.TenantState.{TenantState}
+use Rattle.tenant_core.specs.State.{TenantState, epoch, newest}
 use Rattle.tenant_core.specs.declared.tenants.TenantOperation.{TenantOperation}
 use Rattle.tenant_core.specs.declared.tenants.TenantOperation.TheVariants.{Create, Read, Remove}
 
@@ -29,8 +29,8 @@ creation tenant = object (members_of ((codes "epoch", natural 0) ∷ (codes "ten
 
 abbrev pub summary : List ℕ → TenantState → Data
 summary tenant state =
-    object (members_of ((codes "devices", natural 0) ∷ (codes "epoch", natural state.epoch) ∷ (codes "pools", natural 0)
-    ∷ (codes "tenant", string tenant) ∷ (codes "versions", natural 0) ∷ []))
+    object (members_of ((codes "devices", natural 0) ∷ (codes "epoch", natural (epoch state)) ∷ (codes "pools", natural 0)
+    ∷ (codes "tenant", string tenant) ∷ (codes "versions", natural (newest state)) ∷ []))
 
 abbrev pub removal : List ℕ → Data
 removal tenant = object (members_of ((codes "dropped", string tenant) ∷ []))

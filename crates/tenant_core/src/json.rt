@@ -1,11 +1,16 @@
 //! Reading bodies: bytes as a JSON value, and that value as one of a given form.
 
-ghost use Rattle.std.specs.Prelude.{◌≡◌, option_map};
+ghost use Rattle.std.specs.Prelude.{◌≡◌, option_map, codes};
 ghost use Rattle.serde_json.specs.Find.{as_str};
 ghost use Rattle.serde_json.specs.View.{view};
 ghost use Rattle.tenant_core.specs.Json as spec;
+ghost use Rattle.tenant_core.specs.Numbers as numbers;
+ghost use Rattle.tenant_core.specs.Route as route;
 ghost use Rattle.tenant_core.specs.Private.Reading.{Reads};
 
+use crate::reply::{Problem, Refusal};
+use crate::route::Target;
+use crush_words::number_from_text;
 use serde_json::Value;
 use std::alloc::{AllocError, Global};
 
@@ -26,6 +31,20 @@ impl From<AllocError> for ReadError {
 
     fn from(_error: AllocError) -> ReadError {
         ReadError::NoMemory
+    }
+}
+
+impl From<ReadError> for Refusal {
+    ghost use Rattle.std.specs.Prelude.{◌≡◌};
+    ghost use Rattle.tenant_core.specs.Private.Reading.{refusal_of};
+
+    ghost from_gives = { λ error refusal. refusal ≡ refusal_of error };
+
+    fn from(error: ReadError) -> Refusal {
+        match error {
+            ReadError::Malformed => Refusal::Problem(Problem::BadRequest),
+            ReadError::NoMemory => Refusal::NoMemory,
+        }
     }
 }
 
@@ -79,4 +98,32 @@ pub(crate) fn text<'a>(value: &'a Value, key: &str) -> Option<&'a str>
     ensures { option_map (λ t. t.now) result ≡ spec.under key.now as_str (view value.now) }
 {
     value.get(key)?.as_str()
+}
+
+/// The whole number under a key, from 0 to `greatest`; `None` where there is no such key.
+pub(crate) fn optional_natural(value: &Value, key: &str, greatest: u32) -> Option<Option<u32>>
+    ensures { result ≡ spec.optional key.now (spec.natural_of greatest) (view value.now) }
+{
+    match value.get(key) {
+        None => Some(None),
+        Some(_) => Some(Some(natural(value, key, greatest)?)),
+    }
+}
+
+/// The request number of a changing request: a text of 1 to 64 bytes.
+pub(crate) fn request_number(value: &Value) -> Option<&str>
+    ensures { option_map (λ t. t.now) result ≡ spec.under (codes "request") numbers.request_number_of (view value.now) }
+{
+    let number = text(value, "request")?;
+    if number.is_empty() || number.len() > 64 {
+        return None;
+    }
+    Some(number)
+}
+
+/// The number that a part of the path writes, in 1 to 10 digits.
+pub(crate) fn path_number(target: &Target<'_, '_>, key: &str) -> Option<u64>
+    ensures { result ≡ route.path_number key.now target.now }
+{
+    number_from_text(target.parameter(key)?.as_bytes())
 }

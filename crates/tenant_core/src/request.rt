@@ -3,13 +3,17 @@
 ghost use Rattle.std.specs.Prelude.{◌≡◌, IfOk, option_map};
 ghost use Rattle.tenant_core.specs.CallParts.{call_of};
 ghost use Rattle.tenant_core.specs.Private.Reading.{Reads};
+ghost use Rattle.tenant_core.specs.Refusals.{Gives};
 ghost use Rattle.tenant_core.specs.Request as spec;
 
 use crate::call::CallParts;
-use crate::json::ReadError;
+use crate::commands::{Command, Order, copied};
+use crate::json::{ReadError, path_number};
+use crate::maps;
 use crate::picks::{self, PickRequest};
-use crate::reply::Problem;
+use crate::reply::{Problem, Refusal};
 use crate::route::{Route, Routes, Target};
+use crate::rule_tests::{self, RuleTest};
 use crate::tenants::{self, TenantOperation};
 use crush_map::{Text, is_name};
 use std::alloc::{AllocError, Global};
@@ -18,14 +22,22 @@ use std::alloc::{AllocError, Global};
 #[derive(Clone, Copy, Debug, PartialEq, Eq)]
 pub enum Operation {
     Tenant(TenantOperation),
+    Import,
+    ReadVersion,
     Pick,
+    Test,
 }
 
 /// The actions: an operation with what its body says.
 #[derive(Drop)]
 pub enum Action {
     Tenant(TenantOperation),
+    /// A changing request.
+    Command(Command),
+    /// The version with this number is read.
+    ReadVersion(u64),
     Pick(PickRequest),
+    Test(RuleTest),
 }
 
 /// An action on a tenant.
@@ -52,7 +64,10 @@ fn operation_on(route: Route, method: &[u8]) -> Option<Operation>
 {
     match route {
         Route::Tenant => Some(Operation::Tenant(tenants::operation_of(method)?)),
+        Route::Maps => maps::has_method(method).then_some(Operation::Import),
+        Route::Version => maps::version_has_method(method).then_some(Operation::ReadVersion),
         Route::Pick => picks::has_method(method).then_some(Operation::Pick),
+        Route::Test => rule_tests::has_method(method).then_some(Operation::Test),
     }
 }
 
@@ -68,12 +83,53 @@ fn if_empty(body: &[u8], action: Action) -> Result<Action, ReadError>
     }
 }
 
-fn read_action(alloc: Global, operation: Operation, body: &[u8]) -> Result<Action, ReadError>
-    ensures { Reads (λ a. a) result (spec.action_of operation body.now) }
+/// A changing request, with its path and its body, by which a repeat is known.
+fn command(
+    alloc: Global,
+    target: &Target<'_, '_>,
+    body: &[u8],
+    number: Text,
+    order: Order,
+) -> Result<Action, AllocError>
+    ensures { IfOk result (λ a. a ≡ spec.command_of target.now body.now number order) }
+{
+    Ok(Action::Command(Command {
+        number,
+        path: Text::copy(alloc, target.path())?,
+        body: copied(alloc, body)?,
+        order,
+    }))
+}
+
+fn read_import(alloc: Global, target: &Target<'_, '_>, body: &[u8]) -> Result<Action, ReadError>
+    ensures { Reads (λ a. a) result (spec.action_of target.now Operation.Import body.now) }
+{
+    let (number, text) = maps::read_import(alloc, body)?;
+    Ok(command(alloc, target, body, number, Order::ImportMap(text))?)
+}
+
+fn read_version(target: &Target<'_, '_>, body: &[u8]) -> Result<Action, ReadError>
+    ensures { Reads (λ a. a) result (spec.action_of target.now Operation.ReadVersion body.now) }
+{
+    let number = path_number(target, "v").ok_or(ReadError::Malformed)?;
+    if_empty(body, Action::ReadVersion(number))
+}
+
+/// The action of an operation: what the path and the body say.
+fn read_action(
+    alloc: Global,
+    target: &Target<'_, '_>,
+    operation: Operation,
+    body: &[u8],
+) -> Result<Action, ReadError>
+    ensures { Reads (λ a. a) result (spec.action_of target.now operation body.now) }
 {
     match operation {
         Operation::Tenant(operation) => if_empty(body, Action::Tenant(operation)),
+        Operation::Import => read_import(alloc, target, body),
+        Operation::ReadVersion => read_version(target, body),
         Operation::Pick => Ok(Action::Pick(picks::read_pick(alloc, body)?)),
+        Operation::Test => Ok(Action::Test(rule_tests::read_test(alloc, body)?)),
     }
 }
 
@@ -88,7 +144,7 @@ fn in_form(
     ensures { Reads (λ r. r) result (spec.in_form target.now body.now operation) }
 {
     let name = tenant_in(target).ok_or(ReadError::Malformed)?;
-    let action = read_action(alloc, operation, body)?;
+    let action = read_action(alloc, target, operation, body)?;
     Ok(Request {
         tenant: Text::copy(alloc, name)?,
         action,
@@ -101,25 +157,17 @@ const BODY_LIMIT: usize = 1_048_576;
 /// The request of a call, or the problem of its first check that fails, in the order: length of the body, route, method,
 /// the tenant's name, form of the body.
 #[tactic(auto, unfolding(crate::specs::Request::request_of))]
-pub fn read_request(
-    alloc: Global,
-    routes: &Routes,
-    call: CallParts<'_>,
-) -> Result<Result<Request, Problem>, AllocError>
-    ensures { IfOk result (λ r. r ≡ spec.request_of (call_of call.entry)) }
+pub fn read_request(alloc: Global, routes: &Routes, call: CallParts<'_>) -> Result<Request, Refusal>
+    ensures { Gives (λ r. r) result (spec.request_of (call_of call.entry)) }
 {
     if call.body.len() > BODY_LIMIT {
-        return Ok(Err(Problem::TooLarge));
+        return Err(Refusal::Problem(Problem::TooLarge));
     }
-    let Some(target) = routes.find(call.path) else {
-        return Ok(Err(Problem::NoPath));
-    };
-    let Some(operation) = operation_on(target.route(), call.method) else {
-        return Ok(Err(Problem::Method));
-    };
-    match in_form(alloc, &target, call.body, operation) {
-        Ok(request) => Ok(Ok(request)),
-        Err(ReadError::Malformed) => Ok(Err(Problem::BadRequest)),
-        Err(ReadError::NoMemory) => Err(AllocError),
-    }
+    let target = routes
+        .find(call.path)
+        .ok_or(Refusal::Problem(Problem::NoPath))?;
+    let operation = operation_on(target.route(), call.method).ok_or(Refusal::Problem(
+        Problem::Method,
+    ))?;
+    Ok(in_form(alloc, &target, call.body, operation)?)
 }

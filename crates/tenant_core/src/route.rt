@@ -7,7 +7,7 @@ ghost use Rattle.matchit.specs.Route.{parse_route};
 ghost use Rattle.tenant_core.specs.Private.Inserting.{is_new};
 ghost use Rattle.tenant_core.specs.Route.{table, with_route};
 
-use crate::{picks, tenants};
+use crate::{maps, picks, rule_tests, tenants};
 use matchit::{InsertError, Params, Router};
 use std::alloc::{AllocError, Global};
 use std::marker::Model;
@@ -17,8 +17,14 @@ use std::marker::Model;
 pub enum Route {
     /// `/t/{t}`
     Tenant,
+    /// `/t/{t}/maps`
+    Maps,
+    /// `/t/{t}/maps/{v}`
+    Version,
     /// `/t/{t}/pick`
     Pick,
+    /// `/t/{t}/test`
+    Test,
 }
 
 /// The table of all routes, built once.
@@ -36,7 +42,10 @@ impl Routes {
     pub fn build(alloc: Global) -> Result<Self, AllocError> {
         let mut router = Router::new(alloc);
         insert(&mut router, tenants::ROUTE, Route::Tenant)?;
+        insert(&mut router, maps::ROUTE, Route::Maps)?;
+        insert(&mut router, maps::VERSION_ROUTE, Route::Version)?;
         insert(&mut router, picks::ROUTE, Route::Pick)?;
+        insert(&mut router, rule_tests::ROUTE, Route::Test)?;
         Ok(Routes { router })
     }
 
@@ -89,6 +98,13 @@ impl<'r, 'p> Target<'r, 'p> {
         ensures { result ≡ route_in self.now }
     {
         self.route
+    }
+
+    /// The path.
+    pub fn path(&self) -> &'p str
+        ensures { result.now ≡ self.now.path }
+    {
+        self.path
     }
 
     /// The part of the path that a parameter took. A path with a byte that isn't ASCII has no parameters.

@@ -1,9 +1,8 @@
 //! The store of tenants' states: what one has to do, and the replies where it fails.
 
 ghost use Rattle.std.specs.Prelude.{◌≡◌, ◌≢◌, ◌⊎◌, ◌↔◌, ℕ, List, Option, Some, None, IfOk, OnOk, OnErr, option_map};
-ghost use Rattle.tenant_core.specs.declared.state.TenantState.{TenantState};
+ghost use Rattle.tenant_core.specs.State.{TenantState, fresh, after};
 ghost use Rattle.tenant_core.specs.States.{IsDamaged, Same};
-ghost use Rattle.tenant_core.specs.Effects.{fresh, after};
 ghost use Rattle.tenant_core.specs.StoreReply as spec;
 
 use crate::reply::{Reply, error, no_memory, written};

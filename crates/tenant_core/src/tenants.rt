@@ -53,10 +53,10 @@ fn summary(alloc: Global, tenant: &str, state: &TenantState) -> Result<Value, Al
 {
     json!(in alloc; {
         "devices": 0u64,
-        "epoch": state.epoch,
+        "epoch": state.epoch(),
         "pools": 0u64,
         "tenant": tenant,
-        "versions": 0u64
+        "versions": state.newest()
     })
 }
 

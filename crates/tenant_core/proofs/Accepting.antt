@@ -1,0 +1,15 @@
+-- The change of an accepted order.
+use Rattle.std.proofs.Common.{◌≡◌, ℕ, List, refl}
+use Rattle.tenant_core.specs.State.{Made}
+use Rattle.tenant_core.specs.declared.receipts.Receipt.{Receipt}
+use Rattle.tenant_core.specs.declared.reply.SuccessStatus.{SuccessStatus}
+use Rattle.tenant_core.specs.declared.state.Effect.{Effect}
+use Rattle.tenant_core.specs.declared.state.Effect.TheVariants.{Change}
+
+pub same_receipt : (path body reply path' body' reply' : List ℕ) (status : SuccessStatus) → path ≡ path' → body ≡ body' → reply ≡ reply'
+    → ◌≡◌ {A = Receipt} (record { path = path; body = body; status = status; reply = reply }) (record { path = path'; body = body'; status = status; reply = reply' })
+same_receipt path body reply path' body' reply' status p b r = rw (p, b, r) refl
+
+pub same_change : (number number' : List ℕ) (receipt receipt' : Receipt) (made : Made) → number ≡ number' → receipt ≡ receipt'
+    → ◌≡◌ {A = Effect} (Change (record { number = number; receipt = receipt; made = made })) (Change (record { number = number'; receipt = receipt'; made = made }))
+same_change number number' receipt receipt' made n r = rw (n, r) refl

@@ -1,0 +1,48 @@
+-- Changing requests: each has a request number, and acts once.
+use Rattle.std.specs.Prelude.{ℕ, List, length, nat_le, if◌then◌else◌, Option, Some, None, Result, Ok, Err}
+use Rattle.serde_json.specs.Written.{compact_text}
+use Rattle.tenant_core.specs.Effects.{Accepted, Decided, decided}
+use Rattle.tenant_core.specs.Maps as maps
+use Rattle.tenant_core.specs.Receipts.{receipt_of, is_repeat}
+use Rattle.tenant_core.specs.Reply.{Answer, refused, answered, repeated}
+use Rattle.tenant_core.specs.State.{TenantState}
+use Rattle.tenant_core.specs.declared.commands.Command.{Command}
+use Rattle.tenant_core.specs.declared.commands.Order.{Order}
+use Rattle.tenant_core.specs.declared.commands.Order.TheVariants.{ImportMap}
+use Rattle.tenant_core.specs.declared.receipts.Receipt.{Receipt}
+use Rattle.tenant_core.specs.declared.reply.Problem.{Problem}
+use Rattle.tenant_core.specs.declared.reply.Problem.TheVariants.{RequestReused, TenantLimit}
+use Rattle.tenant_core.specs.declared.state.Effect.TheVariants.{Keep, Change}
+
+-- what an order does, or why nothing: the table of all orders
+abbrev pub order_on : Order → TenantState → Result Accepted Problem
+order_on (ImportMap text) state = maps.imported text state
+
+-- ---- once
+
+-- the greatest number of receipts
+abbrev pub receipt_limit : ℕ
+receipt_limit = 100000
+
+abbrev pub receipt_for : Command → Accepted → Receipt
+receipt_for command a = record { path = command.path; body = command.body; status = a.status; reply = compact_text a.body }
+
+-- what is refused changes nothing and leaves no receipt
+abbrev pub carried_out : Command → Result Accepted Problem → Decided
+carried_out command (Err problem) = decided Keep (refused problem)
+carried_out command (Ok a) =
+    decided (Change (record { number = command.number; receipt = receipt_for command a; made = a.made })) (answered a.status a.body)
+
+-- to a request number that has a receipt: its reply again, or a refusal where another request left it
+abbrev pub again : Command → Receipt → Answer
+again command receipt =
+    if is_repeat command.path command.body receipt then repeated receipt.status receipt.reply else refused RequestReused
+
+abbrev pub on_receipt : Command → TenantState → Option Receipt → Decided
+on_receipt command state (Some receipt) = decided Keep (again command receipt)
+on_receipt command state None =
+    if nat_le receipt_limit (length state.receipts) then decided Keep (refused TenantLimit)
+    else carried_out command (order_on command.order state)
+
+abbrev pub decision : Command → TenantState → Decided
+decision command state = on_receipt command state (receipt_of command.number state.receipts)

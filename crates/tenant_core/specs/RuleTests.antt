@@ -1,0 +1,100 @@
+-- Tests of rules, at `/t/{t}/test`: POST asks which items a rule of a version of the tenant's map gives for an input.
+use Rattle.std.specs.Prelude.{◌≡◌, ℕ, ◌≤◌, ◌+◌, ◌==◌, List, [], ◌∷◌, ◌++◌, map, find, Bool, nat_le, if◌then◌else◌, Option, Some, None, option_and_then, unwrap_or, codes}
+use Rattle.std.specs.Str.{bytes_eq}
+use Rattle.serde_json.specs.Data.{Data, null, number, array, object}
+use Rattle.serde_json.specs.Find.{of_integer}
+use Rattle.serde_json.specs.View.{items_of}
+use Rattle.crush_bucket.specs.Tables.{tables_of}
+use Rattle.crush_choose.specs.Marks.{Slot}
+use Rattle.crush_choose.specs.Rules.{rule_answer}
+use Rattle.crush_choose.specs.Trace.{rule_trace}
+use Rattle.crush_choose.specs.Weights.{weights_of}
+use Rattle.crush_map.specs.Map.{Map}
+use Rattle.crush_map.specs.declared.draft.Rule.{Rule}
+use Rattle.tenant_core.specs.Forms.{IsNatural, IsOptional, if_any, HasExactly, IsUnder}
+use Rattle.tenant_core.specs.Json.{value_of, natural_of, both, has_keys, under, optional, present}
+use Rattle.tenant_core.specs.Reply.{Answer, refused, success, members_of, natural}
+use Rattle.tenant_core.specs.State.{TenantState, epoch, newest, version}
+use Rattle.tenant_core.specs.declared.reply.Problem.TheVariants.{NoVersion, NoRule}
+
+-- ---- requests
+
+abbrev pub route : List ℕ
+route = codes "/t/{t}/test"
+
+-- whether the route has this method
+abbrev pub has_method : List ℕ → Bool
+has_method method = bytes_eq method (codes "POST")
+
+-- a test: the rule with this id gives at most so many items for an input, on a version, or else on the newest
+pub record RuleTest : Type 0 where
+  pub rule : ℕ
+  pub size : ℕ
+  pub x : ℕ
+  pub version : Option ℕ
+
+-- ---- the form of a body, and the test that it says
+
+-- {"rule": 0..255, "size": 1..32, "x": 0..4294967295}, and if need be "version": 0..4294967295
+pub record IsTestBody (d : Data) (t : RuleTest) : Type 0 where
+  pub keys : HasExactly (if_any (codes "version") t.version ++ codes "rule" ∷ codes "size" ∷ codes "x" ∷ []) d
+  pub rule : IsUnder (codes "rule") (IsNatural 255) d t.rule
+  pub size : IsUnder (codes "size") (IsNatural 32) d t.size
+  pub some : 1 ≤ t.size
+  pub x : IsUnder (codes "x") (IsNatural 4294967295) d t.x
+  pub version : IsOptional (codes "version") (IsNatural 4294967295) d t.version
+
+-- ---- reading a body: a test is read exactly where the body has that form (law `tests_are_of_the_form`)
+
+abbrev pub test_with : ℕ × ℕ → ℕ × Option ℕ → RuleTest
+test_with asked on = record { rule = asked.0; size = asked.1; x = on.0; version = on.1 }
+
+abbrev pub if_some : RuleTest → Option RuleTest
+if_some t = if nat_le 1 t.size then Some t else None
+
+abbrev pub test_of : Data → Option RuleTest
+test_of d =
+    if has_keys (present (codes "version") d + 3) d then
+    option_and_then if_some (both test_with
+    (both (λ rule size. (rule, size)) (under (codes "rule") (natural_of 255) d) (under (codes "size") (natural_of 32) d))
+    (both (λ x version. (x, version)) (under (codes "x") (natural_of 4294967295) d) (optional (codes "version") (natural_of 4294967295) d))) else None
+
+abbrev pub test_request_of : List ℕ → Option RuleTest
+test_request_of body = option_and_then test_of (value_of body)
+
+-- ---- the answer
+
+-- an item, or none
+abbrev pub slot_json : Slot → Data
+slot_json None = null
+slot_json (Some item) = number (of_integer item.0)
+
+abbrev pub list_json : List Data → Data
+list_json values = array (items_of values)
+
+-- {"epoch": E, "items": [..], "trace": [..], "version": V}
+abbrev pub outcome : ℕ → ℕ → List Slot → List ℕ → Data
+outcome e v items trace =
+    object (members_of ((codes "epoch", natural e) ∷ (codes "items", list_json (map slot_json items))
+    ∷ (codes "trace", list_json (map natural trace)) ∷ (codes "version", natural v) ∷ []))
+
+-- what the steps give for an input; every device has the reweight 65536
+abbrev pub tested : ℕ → ℕ → Map → Rule → ℕ → ℕ → Data
+tested e v m rule x size =
+    outcome e v (rule_answer (tables_of m) (weights_of []) rule.steps x size) (rule_trace (tables_of m) (weights_of []) rule.steps x size)
+
+-- the rule of a map with this id
+abbrev pub rule_with_id : ℕ → Map → Option Rule
+rule_with_id id m = find (λ r. r.id == id) m.rules
+
+abbrev pub on_rule : RuleTest → ℕ → ℕ → Map → Option Rule → Answer
+on_rule t e v m None = refused NoRule
+on_rule t e v m (Some rule) = success (tested e v m rule t.x t.size)
+
+abbrev pub on_version : RuleTest → ℕ → ℕ → Option Map → Answer
+on_version t e v None = refused NoVersion
+on_version t e v (Some m) = on_rule t e v m (rule_with_id t.rule m)
+
+-- the version that the body names, or else the newest
+abbrev pub answer : RuleTest → TenantState → Answer
+answer t state = let v = unwrap_or t.version (newest state) in on_version t (epoch state) v (version v state)

@@ -1,0 +1,138 @@
+//! Changing requests: each has a request number, and acts once.
+
+ghost use Rattle.std.specs.Prelude.{◌≡◌, ◌<◌, ◌^◌, Ok, Err, None, Some, IfOk, length, nat_le, false};
+ghost use Rattle.serde_json.specs.View.{view};
+ghost use Rattle.serde_json.specs.Written.{has_float};
+ghost use Rattle.tenant_core.specs.Commands as spec;
+ghost use Rattle.tenant_core.specs.Effects.{Fits};
+ghost use Rattle.tenant_core.specs.Private.Accepting.{accepted_of};
+ghost use Rattle.tenant_core.specs.Refusals.{Gives};
+ghost use Rattle.tenant_core.specs.Reply.{reply};
+ghost use Rattle.tenant_core.specs.State.{TenantState};
+
+use crate::call::Bytes;
+use crate::maps;
+use crate::receipts::{Receipt, is_repeat};
+use crate::reply::{Problem, Refusal, SuccessStatus, answered, refused, repeated};
+use crate::state::{Change, Decision, Effect, Made, TenantState, kept};
+use crush_map::Text;
+use serde_json::Value;
+use std::alloc::{AllocError, Global};
+use std::rc::Rc;
+
+/// What a changing request asks for.
+#[derive(Drop)]
+pub enum Order {
+    /// A version with the map of this text.
+    ImportMap(Text),
+}
+
+/// A changing request. Its path and body are kept, since a repeat is known by them.
+#[derive(Drop)]
+pub struct Command {
+    /// The request number: 1 to 64 bytes.
+    pub number: Text,
+    pub path: Text,
+    pub body: Bytes,
+    pub order: Order,
+}
+
+/// An order that is accepted: what it makes, and the status and the body of its reply.
+#[derive(Drop)]
+pub(crate) struct Accepted {
+    pub(crate) made: Made,
+    pub(crate) status: SuccessStatus,
+    pub(crate) body: Value,
+}
+
+/// What an order makes, or why nothing: the table of all orders.
+fn accept(alloc: Global, order: &Order, state: &TenantState) -> Result<Accepted, Refusal>
+    requires { length state.now.receipts < 2 ^ 32 }
+    ensures given { Gives accepted_of result (spec.order_on order.now state.now) }
+    ensures plain { IfOk result (λ a. has_float (view a.body) ≡ false) }
+{
+    match order {
+        Order::ImportMap(text) => maps::import(alloc, text.as_str(), state),
+    }
+}
+
+/// A copy of some bytes.
+pub(crate) fn copied(alloc: Global, bytes: &[u8]) -> Result<Bytes, AllocError>
+    ensures { IfOk result (λ again. again ≡ bytes.now) }
+{
+    let mut again = Vec::new(alloc);
+    again.extend_from_slice(bytes)?;
+    Ok(Bytes::new(again))
+}
+
+/// The change that an accepted order makes, with its receipt.
+fn carry_out(alloc: Global, command: &Command, accepted: Accepted) -> Result<Decision, AllocError>
+    requires { has_float (view accepted.body) ≡ false }
+    ensures effect { IfOk result (λ d. d.effect ≡ (spec.carried_out command.now (Ok (accepted_of accepted))).effect) }
+    ensures reply { IfOk result (λ d. d.reply ≡ reply (spec.carried_out command.now (Ok (accepted_of accepted))).answer) }
+    ensures fits { IfOk result (λ d. (s : TenantState) → Fits d.effect (Some s)) }
+{
+    let reply = answered(alloc, accepted.status, &accepted.body)?;
+    let receipt = Receipt {
+        path: Text::copy(alloc, command.path.as_str())?,
+        body: copied(alloc, command.body.as_slice())?,
+        status: accepted.status,
+        reply: Text::copy(alloc, reply.body.as_str())?,
+    };
+    let change = Change {
+        number: Text::copy(alloc, command.number.as_str())?,
+        receipt: Rc::new(alloc, receipt)?,
+        made: accepted.made,
+    };
+    Ok(Decision {
+        effect: Effect::Change(change),
+        reply,
+    })
+}
+
+/// The greatest number of receipts of a tenant.
+const RECEIPT_LIMIT: usize = 100_000;
+
+/// Decides on a request number without a receipt.
+fn decide_new(alloc: Global, state: &TenantState, command: &Command) -> Result<Decision, AllocError>
+    ensures effect { IfOk result (λ d. d.effect ≡ (spec.on_receipt command.now state.now None).effect) }
+    ensures reply { IfOk result (λ d. d.reply ≡ reply (spec.on_receipt command.now state.now None).answer) }
+    ensures fits { IfOk result (λ d. Fits d.effect (Some state.now)) }
+{
+    if state.receipts().len() >= RECEIPT_LIMIT {
+        return Ok(kept(refused(alloc, Problem::TenantLimit)?));
+    }
+    match accept(alloc, &command.order, state) {
+        Ok(accepted) => carry_out(alloc, command, accepted),
+        Err(Refusal::Problem(problem)) => Ok(kept(refused(alloc, problem)?)),
+        Err(Refusal::NoMemory) => Err(AllocError),
+    }
+}
+
+/// Decides on a request number with a receipt: its reply again, or a refusal where another request left it.
+fn decide_again(alloc: Global, command: &Command, receipt: &Receipt) -> Result<Decision, AllocError>
+    ensures effect { IfOk result (λ d. d.effect ≡ Effect.Keep) }
+    ensures reply { IfOk result (λ d. d.reply ≡ reply (spec.again command.now receipt.now)) }
+{
+    if is_repeat(command.path.as_str(), command.body.as_slice(), receipt) {
+        Ok(kept(repeated(alloc, receipt)?))
+    } else {
+        Ok(kept(refused(alloc, Problem::RequestReused)?))
+    }
+}
+
+/// Decides what a changing request does: the reply of its receipt again, or a refusal, or a change.
+pub(crate) fn decide(
+    alloc: Global,
+    state: &TenantState,
+    command: &Command,
+) -> Result<Decision, AllocError>
+    ensures effect { IfOk result (λ d. d.effect ≡ (spec.decision command.now state.now).effect) }
+    ensures reply { IfOk result (λ d. d.reply ≡ reply (spec.decision command.now state.now).answer) }
+    ensures fits { IfOk result (λ d. Fits d.effect (Some state.now)) }
+{
+    match state.receipts().get(command.number.as_str()) {
+        Some(receipt) => decide_again(alloc, command, receipt),
+        None => decide_new(alloc, state, command),
+    }
+}

@@ -1,0 +1,101 @@
+//! Versions of a tenant's map, each kept ready for use.
+
+ghost use Rattle.std.specs.Prelude.{◌≡◌, IfOk};
+ghost use Rattle.crush_text.specs.Canonical.{canonical};
+
+use crush_bucket::Tables;
+use crush_choose::Weights;
+use crush_map::{CrushMap, Text};
+use crush_text::{canonical_texts_are_ascii, write_map};
+use std::alloc::{AllocError, Global};
+use std::marker::Model;
+
+/// A version: a checked map, with its canonical text, and the tables and reweights that its rules run on. Contracts see the map.
+#[derive(Drop)]
+pub struct Version {
+    map: CrushMap,
+    text: Text,
+    tables: Tables,
+    weights: Weights,
+}
+
+impl Model for Version {
+    ghost use Rattle.std.specs.Prelude.{◌≡◌, []};
+    ghost use Rattle.crush_bucket.specs.Tables.{tables_of};
+    ghost use Rattle.crush_choose.specs.Weights.{weights_of};
+    ghost use Rattle.crush_map.specs.Map.{Map};
+    ghost use Rattle.crush_text.specs.Canonical.{canonical};
+
+    ghost Value = { Map };
+
+    ghost view = { λ a. a.map };
+
+    ghost invariant = { λ a. record {
+      text : a.text ≡ canonical a.map;
+      tables : a.tables ≡ tables_of a.map;
+      weights : a.weights ≡ weights_of [];
+    } };
+}
+
+impl Version {
+    ghost use Rattle.std.specs.Prelude.{◌≡◌, [], IfOk};
+    ghost use Rattle.crush_bucket.specs.Tables.{tables_of};
+    ghost use Rattle.crush_choose.specs.Weights.{weights_of};
+    ghost use Rattle.crush_text.specs.Canonical.{canonical};
+
+    /// The version with this map.
+    pub fn build(alloc: Global, map: CrushMap) -> Result<Self, AllocError>
+        ensures { IfOk result (λ version. version ≡ map) }
+    {
+        let text = canonical_text(alloc, &map)?;
+        let tables = Tables::build(alloc, &map)?;
+        let weights = Weights::build(alloc, &map, &[])?;
+        Ok(Version {
+            map,
+            text,
+            tables,
+            weights,
+        })
+    }
+
+    /// The map.
+    pub fn map(&self) -> &CrushMap
+        ensures { result.now ≡ self.now }
+    {
+        &self.map
+    }
+
+    /// Its canonical text.
+    pub fn text(&self) -> &str
+        ensures { result.now ≡ canonical self.now }
+    {
+        self.text.as_str()
+    }
+
+    /// Its tables.
+    pub fn tables(&self) -> &Tables
+        ensures { result.now ≡ tables_of self.now }
+    {
+        &self.tables
+    }
+
+    /// The reweight 65536 for every device.
+    pub fn weights(&self) -> &Weights
+        ensures { result.now ≡ weights_of [] }
+    {
+        &self.weights
+    }
+}
+
+/// The canonical text of a map, which is ASCII.
+fn canonical_text(alloc: Global, map: &CrushMap) -> Result<Text, AllocError>
+    ensures { IfOk result (λ text. text ≡ canonical map.now) }
+{
+    // says that the map is valid
+    let _tunables = map.tunables();
+    canonical_texts_are_ascii();
+    match String::from_utf8(write_map(alloc, map)?) {
+        Ok(text) => Ok(Text::new(text)),
+        Err(_) => unreachable!(),
+    }
+}

@@ -1,0 +1,253 @@
+"""Requests on maps and rule tests, each with the reply that the rules of requests give it. The maps are small enough to be answered by hand."""
+import json
+import pathlib
+
+from replies import BAD, METHOD, NO_TENANT, dropped, made
+
+HERE = pathlib.Path(__file__).resolve().parent
+
+NO_VERSION = b'404 {"error":"no_version"}'
+NO_RULE = b'404 {"error":"no_rule"}'
+REUSED = b'409 {"error":"request_reused"}'
+LIMIT = b'429 {"error":"tenant_limit"}'
+
+
+def tiny(device=0):
+    """23 lines: one device in one uniform bucket, and one rule."""
+    return (HERE / "cases" / "tiny.map").read_text().replace("device 0 osd.0", f"device {device} osd.{device}").replace(" item osd.0", f" item osd.{device}")
+
+
+def with_line(text, number, line):
+    """A text with another line in the place of one (None: without it)."""
+    lines = text.split("\n")
+    lines[number - 1 : number] = [] if line is None else line.split("\n")
+    return "\n".join(lines)
+
+
+def hosts():
+    """Two devices, each in a list bucket of its own; the second bucket weighs nothing."""
+    head = tiny().split("\n")[:10]
+    head[6:7] = ["device 0 osd.0", "device 1 osd.1"]
+    return "\n".join(head) + """
+host h0 {
+ id -2
+ alg list
+ hash 0
+ item osd.0 weight 1.0
+}
+host h1 {
+ id -3
+ alg list
+ hash 0
+ item osd.1 weight 1.0
+}
+root default {
+ id -1
+ alg list
+ hash 0
+ item h0 weight 1.0
+ item h1 weight 0
+}
+rule all {
+ id 0
+ type replicated
+ step take default
+ step chooseleaf firstn 2 type host
+ step emit
+}
+"""
+
+
+def post(path, members):
+    return b"POST /t/a/%s %s" % (path.encode(), json.dumps(members, separators=(",", ":"), ensure_ascii=False).encode())
+
+
+def import_of(text, request="m1"):
+    return post("maps", {"request": request, "text": text})
+
+
+def imported(epoch, version):
+    return b'201 {"epoch":%d,"version":%d}' % (epoch, version)
+
+
+def refused(fault, line):
+    return b'422 {"error":"map_refused","fault":"%s","line":%d}' % (fault.encode(), line)
+
+
+def test_of(x=0, size=1, rule=0, **more):
+    return post("test", {"rule": rule, "size": size, "x": x, **more})
+
+
+def tested(items, trace, epoch=1, version=1):
+    words = json.dumps({"epoch": epoch, "items": items, "trace": trace, "version": version}, separators=(",", ":"))
+    return b"200 " + words.encode()
+
+
+def summary(epoch, versions):
+    return b'200 {"devices":0,"epoch":%d,"pools":0,"tenant":"a","versions":%d}' % (epoch, versions)
+
+
+def canonical_tiny(device=0):
+    """The canonical text of tiny, by the form of canonical texts."""
+    return f"""# begin crush map
+tunable choose_local_tries 0
+tunable choose_local_fallback_tries 0
+tunable choose_total_tries 50
+tunable chooseleaf_descend_once 1
+tunable chooseleaf_vary_r 1
+tunable chooseleaf_stable 1
+
+# devices
+device {device} osd.{device}
+
+# types
+type 0 osd
+type 1 host
+type 10 root
+
+# buckets
+root default {{
+\tid -1
+\talg uniform
+\thash 0
+\titem osd.{device} weight 1.00000
+}}
+
+# rules
+rule all {{
+\tid 0
+\ttype replicated
+\tstep take default
+\tstep choose firstn 0 type osd
+\tstep emit
+}}
+
+# end crush map
+"""
+
+
+def version_of(text, number):
+    return b'200 {"text":%s,"version":%d}' % (json.dumps(text).encode(), number)
+
+
+# ---- the cases: names, and lines with their replies
+
+START = [(b"PUT /t/a", made(b"a"))]
+
+
+def receipts():
+    """A request number acts once: the first reply again for the same path and body, else a refusal."""
+    return START + [
+        (import_of(tiny(), "m1"), imported(1, 1)),
+        (import_of(tiny(), "m2"), imported(2, 2)),
+        (import_of(tiny(), "m1"), imported(1, 1)),
+        (import_of(tiny(7), "m1"), REUSED),
+        (b"GET /t/a", summary(2, 2)),
+        (import_of(tiny(), "m1") + b" ", REUSED),  # one more blank: another body
+        (b"POST /t/a/maps {", BAD),
+        (import_of("", "m3"), refused("M4", 1)),  # a refused request leaves no receipt
+        (import_of(tiny(7), "m3"), imported(3, 3)),
+        (b"GET /t/a/maps/3", version_of(canonical_tiny(7), 3)),
+        (b"DELETE /t/a", dropped(b"a")),
+        (b"PUT /t/a", made(b"a")),
+        (import_of(tiny(7), "m1"), imported(1, 1)),  # nothing of the old tenant is left
+        (b"GET /t/a/maps/1", version_of(canonical_tiny(7), 1)),
+        (b"GET /t/a/maps/2", NO_VERSION),
+    ]
+
+
+def refusals():
+    straw2 = with_line(tiny(), 13, " alg straw2")
+    front = "\n".join(tiny().split("\n")[:15]) + "\n"
+    no_tunables = with_line(with_line(tiny(), 1, None), 1, None)
+    return START + [
+        (import_of(straw2), refused("X2", 13)),
+        (import_of(front), refused("X1", 15)),
+        (import_of(no_tunables), refused("M13", 21)),
+        (b"GET /t/a", summary(0, 0)),
+        (b"GET /t/a/maps", METHOD),
+        (b"POST /t/a/maps/1 {}", METHOD),
+        (b"GET /t/a/maps/x", BAD),
+        (b"GET /t/a/maps/00000000001", BAD),
+        (b"GET /t/a/maps/0", NO_VERSION),
+        (b"GET /t/a/maps/9999999999", NO_VERSION),
+        (b"GET /t/b/maps/1", NO_TENANT),
+        (b"GET /t/a/maps/1 {}", BAD),
+        (b'POST /t/a/maps {"request":"","text":""}', BAD),
+        (b'POST /t/a/maps {"request":"%s","text":""}' % (b"r" * 65), BAD),
+        (b'POST /t/a/maps {"request":1,"text":""}', BAD),
+        (b'POST /t/a/maps {"text":""}', BAD),
+        (b'POST /t/a/maps {"more":0,"request":"m","text":""}', BAD),
+        (b'POST /t/b/maps {"request":"m","text":""}', NO_TENANT),
+        (import_of(tiny(), "r" * 64), imported(1, 1)),
+        (b"GET /t/a/maps/0000000001", version_of(canonical_tiny(), 1)),
+    ]
+
+
+def rule_tests():
+    indep = with_line(tiny(3), 21, " step choose indep 2 type osd")
+    rack = with_line(tiny(), 10, "type 10 root\ntype 3 rack")
+    firstn_rack = with_line(rack, 22, " step choose firstn 1 type rack")
+    indep_rack = with_line(rack, 22, " step choose indep 1 type rack")
+    empty = with_line(with_line(tiny(), 15, " item e weight 1.0"), 10, "type 10 root\nhost e {\n id -2\n alg uniform\n hash 0\n}")
+    firstn_empty = with_line(empty, 26, " step choose firstn 1 type osd")
+    indep_empty = with_line(empty, 26, " step choose indep 1 type osd")
+    takes = with_line(tiny(5), 7, "device 5 osd.5\ndevice 6 osd.6")
+    one = with_line(with_line(takes, 22, None), 21, " step take osd.5")
+    two = with_line(one, 22, " step emit\n step take osd.6\n step emit")
+    out = START + [(test_of(), NO_VERSION)]
+    epoch = 0
+    for text, rows in (
+        (indep, [(dict(size=2, x=x), [3, None], [3]) for x in (0, 1, 999)]),
+        (hosts(), [(dict(size=2, x=x), [0], [0]) for x in (0, 1, 999)]),
+        (firstn_rack, [({}, [], [])]),
+        (indep_rack, [({}, [None], [])]),
+        (firstn_empty, [({}, [], [])]),
+        (indep_empty, [({}, [None], [])]),
+        (one, [({}, [5], [])]),
+        (two, [({}, [5], [])]),
+    ):
+        epoch += 1
+        out.append((import_of(text, f"m{epoch}"), imported(epoch, epoch)))
+        for asked, items, trace in rows:
+            out.append((test_of(**asked), tested(items, trace, epoch, epoch)))
+    out += [
+        (test_of(version=1, size=2), tested([3, None], [3], epoch, 1)),
+        (test_of(version=0), NO_VERSION),
+        (test_of(version=epoch + 1), NO_VERSION),
+        (test_of(version=4294967295), NO_VERSION),
+        (test_of(rule=1), NO_RULE),
+        (test_of(rule=255), NO_RULE),
+        (test_of(rule=256), BAD),
+        (test_of(size=0), BAD),
+        (test_of(size=33), BAD),
+        (test_of(size=32, version=1), tested([3, None], [3], epoch, 1)),
+        (test_of(x=4294967295, version=1, size=2), tested([3, None], [3], epoch, 1)),
+        (test_of(x=4294967296), BAD),
+        (test_of(version=None), BAD),
+        (test_of(version=-1), BAD),
+        (test_of(more=0), BAD),
+        (b'POST /t/a/test {"rule":0,"size":1}', BAD),
+        (b"GET /t/a/test", METHOD),
+        (b"POST /t/b/test {}", BAD),
+        (b'POST /t/b/test {"rule":0,"size":1,"x":0}', NO_TENANT),
+    ]
+    return out
+
+
+def version_limit():
+    """256 versions; a repeat is answered before the limit, and the limit comes before a fault of the text."""
+    rows = START + [(import_of(tiny(), f"m{n}"), imported(n, n)) for n in range(1, 257)]
+    return rows + [
+        (import_of(tiny(), "more"), LIMIT),
+        (import_of("", "more"), LIMIT),
+        (import_of(tiny(), "m256"), imported(256, 256)),
+        (import_of(tiny(7), "m256"), REUSED),
+        (b"GET /t/a", summary(256, 256)),
+        (test_of(version=256), tested([0], [0], 256, 256)),
+    ]
+
+
+def cases():
+    for make in (receipts, refusals, rule_tests, version_limit):
+        yield make.__name__, make()
