@@ -1,5 +1,5 @@
 -- The line for a text, and how a check ends.
-use Rattle.std.proofs.Common.{◌≡◌, ℕ, ◌<◌, ◌⊎◌, List, [], ◌∷◌, ◌++◌, length, codes, decimal, refl, ap, subst, ◌∙◌, inl, inr, arith, Bool, true, false, Option, Some, None, IfSome}
+use Rattle.std.proofs.Common.{◌≡◌, ◌↔◌, ℕ, ◌<◌, ◌⊎◌, List, [], ◌∷◌, ◌++◌, length, codes, decimal, refl, sym, ap, subst, ◌∙◌, inl, inr, arith, Bool, true, false, Option, Some, None, IfSome}
 use Rattle.std.specs.Io.KnownBytes.{Appends}
 use Rattle.crush_map.specs.Map.{Map}
 use Rattle.crush_map.specs.declared.fault.FaultCode.{FaultCode}
@@ -12,8 +12,9 @@ use Rattle.crush_grammar.specs.declared.code.TextCode.TheVariants.{X7}
 use Rattle.crush_text.specs.Codes.{code_text}
 use Rattle.crush_text.specs.MapText.{IsShort, IsTextOf, HasFirstFault, IsRefusedFor}
 use Rattle.crush_app.specs.Play.{AppendsPart}
-use Rattle.crush_app.specs.Check.{accepted_line, refused_line, long_fault, IsLineFor}
+use Rattle.crush_app.specs.Check.{accepted_line, refused_line, IsLineFor}
 use Rattle.crush_app.specs.Private.Verdict.{IsVerdict}
+use Rattle.crush_app.proofs.LongTexts.{exactly_long}
 
 -- ---- lines
 
@@ -38,9 +39,9 @@ accepted_end (Some input) old new line true same says written = (says.map, says.
 accepted_end (Some input) old new line false same says written = let both : false ≡ true = same in cc
 
 pub refused_end : (known old new : Option (List ℕ)) (line : List ℕ) (accepted : Bool) → accepted ≡ false → IfSome known (λ input. IsVerdict accepted input line) → Appends old new line
-    → IfSome known (λ input. (f : TextFault) × IsRefusedFor input f × Appends old new (refused_line f))
+    → IfSome known (λ input. (f : TextFault) × IsRefusedFor input f × ((f.code ≡ X7) ↔ (524288 < length input)) × Appends old new (refused_line f))
 refused_end None old new line accepted same says written = tt
-refused_end (Some input) old new line false same says written = (says.fault, says.refused, rw says.is at written)
+refused_end (Some input) old new line false same says written = (says.fault, says.refused, exactly_long input says.fault says.refused, rw says.is at written)
 refused_end (Some input) old new line true same says written = let both : true ≡ false = same in cc
 
 line_for : (accepted : Bool) (input line : List ℕ) → IsVerdict accepted input line → IsLineFor input line
@@ -77,19 +78,24 @@ map_refused none r s None old new line accepted same read = tt
 map_refused none r s (Some input) old new line false same read = λ m short says. absurd (not_refused none input m read.fault short says read.refused)
 map_refused none r s (Some input) old new line true same read = let both : true ≡ false = same in cc
 
-pub fault_accepted : NoFault → {A : Type 0} (r s : A) (known : Option (List ℕ)) (line : List ℕ) (accepted : Bool) → accepted ≡ true → IfSome known (λ input. IsVerdict accepted input line)
-    → IfSome known (λ input. (f : TextFault) → IsRefusedFor input f → r ≡ s)
-fault_accepted none r s None line accepted same read = tt
-fault_accepted none r s (Some input) line true same read = λ f refused. absurd (not_refused none input read.map f read.short read.text refused)
-fault_accepted none r s (Some input) line false same read = let both : false ≡ true = same in cc
+pub fault_accepted : NoFault → {A : Type 0} (r s : A) (known old new : Option (List ℕ)) (line : List ℕ) (accepted : Bool) → accepted ≡ true → IfSome known (λ input. IsVerdict accepted input line)
+    → IfSome known (λ input. (f : TextFault) → IsRefusedFor input f → (r ≡ s) × Appends old new (refused_line f))
+fault_accepted none r s None old new line accepted same read = tt
+fault_accepted none r s (Some input) old new line true same read = λ f refused. absurd (not_refused none input read.map f read.short read.text refused)
+fault_accepted none r s (Some input) old new line false same read = let both : false ≡ true = same in cc
 
-too_long : (input : List ℕ) (f : TextFault) → 524288 < length input → IsRefusedFor input f → f ≡ long_fault
-too_long input f long (inl (also, is)) = is
-too_long input f long (inr (short, fault)) = absurd (omega (arith, short, long))
+abbrev pub OneFault : Type 0
+OneFault = (text : List ℕ) (f g : TextFault) → HasFirstFault text f → HasFirstFault text g → f ≡ g
 
-pub long_refused : {A : Type 0} (r : A) (known old new : Option (List ℕ)) (line : List ℕ) (accepted : Bool) → accepted ≡ false → IfSome known (λ input. IsVerdict accepted input line) → Appends old new line
-    → IfSome known (λ input. 524288 < length input → (r ≡ r) × Appends old new (refused_line long_fault))
-long_refused r None old new line accepted same read written = tt
-long_refused r (Some input) old new line false same read written =
-    λ long. (refl, subst (λ l. Appends old new l) (read.is ∙ ap refused_line (too_long input read.fault long read.refused)) written)
-long_refused r (Some input) old new line true same read written = let both : true ≡ false = same in cc
+one_refusal : OneFault → (input : List ℕ) (f g : TextFault) → IsRefusedFor input f → IsRefusedFor input g → f ≡ g
+one_refusal one input f g (inl (long, is)) (inl (also, so)) = is ∙ sym so
+one_refusal one input f g (inl (long, is)) (inr (short, fault)) = absurd (omega (arith, short, long))
+one_refusal one input f g (inr (short, fault)) (inl (long, is)) = absurd (omega (arith, short, long))
+one_refusal one input f g (inr (short, fault)) (inr (also, other)) = one input f g fault other
+
+pub fault_refused : OneFault → {A : Type 0} (r : A) (known old new : Option (List ℕ)) (line : List ℕ) (accepted : Bool) → accepted ≡ false → IfSome known (λ input. IsVerdict accepted input line) → Appends old new line
+    → IfSome known (λ input. (f : TextFault) → IsRefusedFor input f → (r ≡ r) × Appends old new (refused_line f))
+fault_refused one r None old new line accepted same read written = tt
+fault_refused one r (Some input) old new line false same read written =
+    λ f refused. (refl, subst (λ l. Appends old new l) (read.is ∙ ap refused_line (one_refusal one input read.fault f read.refused refused)) written)
+fault_refused one r (Some input) old new line true same read written = let both : true ≡ false = same in cc

@@ -1,5 +1,5 @@
 -- Only a text over its length is refused by X7.
-use Rattle.std.proofs.Common.{◌≡◌, ◌∙◌, ap, sym, ℕ, ◌<◌, ◌⊎◌, inl, inr, List, [], ◌∷◌, length, take, slice_get, Option, Some, None, option_map, IsSomeAnd, IfSome}
+use Rattle.std.proofs.Common.{◌≡◌, ◌∙◌, ◌↔◌, ap, sym, arith, ℕ, ◌<◌, ◌⊎◌, inl, inr, List, [], ◌∷◌, length, take, slice_get, Option, Some, None, option_map, IsSomeAnd}
 use Rattle.crush_map.specs.declared.fault.FaultCode.{FaultCode}
 use Rattle.crush_map.specs.Faults.{or_else}
 use Rattle.crush_words.specs.Words.{Word, words}
@@ -69,7 +69,7 @@ no_form ws ds f x (inr (front, whole, is, declares)) =
 
 -- ---- texts
 
-pub only_long : (input : List ℕ) (f : TextFault) → IsRefusedFor input f → f.code ≡ X7 → 524288 < length input
+only_long : (input : List ℕ) (f : TextFault) → IsRefusedFor input f → f.code ≡ X7 → 524288 < length input
 only_long input f (inl (long, is)) x = long
 only_long input f (inr (short, inl h)) x =
     absurd (neither (declared_fault h.declarations) (last_fault (last_line 1 (words input)) (declared h.declarations)) f
@@ -78,6 +78,9 @@ only_long input f (inr (short, inr h)) x =
     absurd (neither (declared_fault h.declarations) (Some h.at) f (no_declarations nothing_declared h.declarations f x)
     (λ e. let same : h.at ≡ f = cc in no_form (words input) h.declarations h.at (ap (λ g. g.code) same ∙ x) h.breaks) h.first)
 
-pub only_long_end : (known : Option (List ℕ)) → IfSome known (λ input. (f : TextFault) → IsRefusedFor input f → f.code ≡ X7 → 524288 < length input)
-only_long_end None = tt
-only_long_end (Some input) = only_long input
+always_long : (input : List ℕ) (f : TextFault) → IsRefusedFor input f → 524288 < length input → f.code ≡ X7
+always_long input f (inl (also, is)) long = ap (λ g. g.code) is
+always_long input f (inr (short, fault)) long = absurd (omega (arith, short, long))
+
+pub exactly_long : (input : List ℕ) (f : TextFault) → IsRefusedFor input f → (f.code ≡ X7) ↔ (524288 < length input)
+exactly_long input f refused = (only_long input f refused, always_long input f refused)

@@ -5,7 +5,6 @@ use Rattle.crush_map.specs.Map.{Map}
 use Rattle.crush_text.specs.Codes.{code_text}
 use Rattle.crush_text.specs.MapText.{IsShort, IsTextOf, IsRefusedFor}
 use Rattle.crush_grammar.specs.declared.code.TextFault.{TextFault}
-use Rattle.crush_grammar.specs.declared.code.TextCode.TheVariants.{X7}
 use Rattle.crush_app.specs.declared.check.CheckEnd.{CheckEnd}
 use Rattle.crush_app.specs.declared.check.CheckEnd.TheVariants.{Accepted, Refused, ReadFault, WriteFault}
 
@@ -16,10 +15,6 @@ accepted_line m = codes "ok devices " ++ (decimal (length m.devices) ++ (codes "
 -- refused line L code C, LF
 abbrev pub refused_line : TextFault → List ℕ
 refused_line f = codes "refused line " ++ (decimal f.line ++ (codes " code " ++ (code_text f.code ++ 10 ∷ [])))
-
--- the fault of a text that is too long
-abbrev pub long_fault : TextFault
-long_fault = record { line = 1; code = X7 }
 
 -- the bytes are a text that may be imported, and this is the line of its map
 pub record IsAcceptedLine (input line : List ℕ) : Type 0 where

@@ -1,20 +1,21 @@
 //! Checks of map texts.
 
-ghost use Rattle.std.specs.Prelude.{◌≡◌, ◌≤◌, ◌<◌, ℕ, List, IfOk, IfSome, string_bytes, length};
+ghost use Rattle.std.specs.Prelude.{◌≡◌, ◌≤◌, ◌<◌, ◌↔◌, ℕ, List, IfOk, IfSome, string_bytes, length};
 ghost use Rattle.std.specs.Io.KnownBytes.{Keeps as KeepsBytes, Appends};
 ghost use Rattle.crush_map.specs.Map.{Map};
 ghost use Rattle.crush_text.specs.MapText.{IsShort, IsTextOf, IsRefusedFor};
 ghost use Rattle.crush_grammar.specs.declared.code.TextCode.TheVariants.{X7};
 ghost use Rattle.crush_grammar.specs.declared.code.TextFault as spec_fault;
 ghost use Rattle.crush_app.specs.Play.{AppendsPart};
-ghost use Rattle.crush_app.specs.Check.{accepted_line as line_of_map, refused_line as line_of_fault, long_fault, IsLineFor, WritesLine, WritesNothing};
+ghost use Rattle.crush_app.specs.Check.{accepted_line as line_of_map, refused_line as line_of_fault, IsLineFor, WritesLine, WritesNothing};
 ghost use Rattle.crush_app.specs.Private.Verdict.{IsVerdict};
 
 use crate::input::{InputFault, read_input};
 use crate::wire::write_whole;
 use crush_map::CrushMap;
 use crush_text::{
-    TextCode, TextFault, code_text, read_map, texts_of_maps_have_no_fault, texts_say_one_map,
+    TextCode, TextFault, code_text, read_map, texts_have_a_map_or_one_fault,
+    texts_of_maps_have_no_fault, texts_say_one_map,
 };
 use std::alloc::{AllocError, Global};
 use std::io::{Read, Write};
@@ -105,7 +106,7 @@ fn read_verdict<R: Read>(alloc: Global, reader: &mut R) -> Result<Option<Verdict
 /// Reads a whole text and writes one line: `ok devices D buckets B rules R` if it is a map's, else `refused line L code C` with
 /// its first fault. Of a text over 524,288 bytes (X7) it reads one byte more than these.
 /// The only `Err` is want of memory: then nothing was written.
-#[tactic(auto, using(crate::proofs::Checking::accepted_end, crate::proofs::Checking::refused_end, crate::proofs::Checking::cut_end, crate::proofs::LongTexts::only_long_end))]
+#[tactic(auto, using(crate::proofs::Checking::accepted_end, crate::proofs::Checking::refused_end, crate::proofs::Checking::cut_end))]
 pub fn check_run<R: Read, W: Write>(
     alloc: Global,
     reader: &mut R,
@@ -115,19 +116,15 @@ pub fn check_run<R: Read, W: Write>(
     ensures accepted { result ≡ Ok CheckEnd.Accepted → IfSome (R.remaining reader.old)
         (λ input. (m : Map) × IsShort input × IsTextOf input m × Appends (W.contents writer.old) (W.contents writer.new) (line_of_map m)) }
 
-    // `Refused`: the input is refused for a fault, and the line of that fault was written.
+    // `Refused`: the input is refused for a fault, which is X7 exactly if it is over 524,288 bytes, and the line of that fault was written.
     ensures refused { result ≡ Ok CheckEnd.Refused → IfSome (R.remaining reader.old)
-        (λ input. (f : spec_fault.TextFault) × IsRefusedFor input f × Appends (W.contents writer.old) (W.contents writer.new) (line_of_fault f)) }
+        (λ input. (f : spec_fault.TextFault) × IsRefusedFor input f × ((f.code ≡ X7) ↔ (524288 < length input)) × Appends (W.contents writer.old) (W.contents writer.new) (line_of_fault f)) }
 
-    // Conversely, where a line was written: of a text of a map it is that map's line, and an input that is refused for a fault isn't accepted.
+    // Conversely, where a line was written it is that of whatever map the input is a text of, or of whatever fault it is refused for.
     ensures of_map { WritesLine result → IfSome (R.remaining reader.old)
         (λ input. (m : Map) → IsShort input → IsTextOf input m → (result ≡ Ok CheckEnd.Accepted) × Appends (W.contents writer.old) (W.contents writer.new) (line_of_map m)) }
     ensures of_fault { WritesLine result → IfSome (R.remaining reader.old)
-        (λ input. (f : spec_fault.TextFault) → IsRefusedFor input f → result ≡ Ok CheckEnd.Refused) }
-
-    // X7 is the fault of an input exactly if it is over 524,288 bytes.
-    ensures long { WritesLine result → IfSome (R.remaining reader.old) (λ input. 524288 < length input → (result ≡ Ok CheckEnd.Refused) × Appends (W.contents writer.old) (W.contents writer.new) (line_of_fault long_fault)) }
-    ensures only_long { IfSome (R.remaining reader.old) (λ input. (f : spec_fault.TextFault) → IsRefusedFor input f → f.code ≡ X7 → 524288 < length input) }
+        (λ input. (f : spec_fault.TextFault) → IsRefusedFor input f → (result ≡ Ok CheckEnd.Refused) × Appends (W.contents writer.old) (W.contents writer.new) (line_of_fault f)) }
 
     // `WriteFault`: the line for the input was written in part.
     ensures cut { result ≡ Ok CheckEnd.WriteFault → IfSome (R.remaining reader.old)
@@ -138,6 +135,7 @@ pub fn check_run<R: Read, W: Write>(
 {
     texts_say_one_map();
     texts_of_maps_have_no_fault();
+    texts_have_a_map_or_one_fault();
     let Some(verdict) = read_verdict(alloc, reader)? else {
         return Ok(CheckEnd::ReadFault);
     };
