@@ -12,3 +12,4 @@ pub mod TestForms
 pub mod Accepting
 pub mod Importing
 pub mod Testing
+pub mod Once

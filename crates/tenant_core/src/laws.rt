@@ -1,15 +1,22 @@
 //! Laws of the definitions: each contract holds of the definitions alone.
 
-ghost use Rattle.std.specs.Prelude.{◌≡◌, ◌≢◌, ◌↔◌, ℕ, List, Option, Some, None};
+ghost use Rattle.std.specs.Prelude.{◌≡◌, ◌≢◌, ◌↔◌, ℕ, suc, List, Option, Some, None};
 ghost use Rattle.serde_json.specs.Data.{Data};
 ghost use Rattle.tenant_core.specs.Forms.{IsJson};
 ghost use Rattle.tenant_core.specs.Maps.{IsImportBody, import_of, import_request_of};
 ghost use Rattle.tenant_core.specs.Picks.{IsPickBody, pick_of, pick_request_of};
 ghost use Rattle.tenant_core.specs.RuleTests.{RuleTest, IsTestBody, test_of, test_request_of};
-ghost use Rattle.tenant_core.specs.Step.{step, tenant_of};
+ghost use Rattle.tenant_core.specs.Commands.{decision};
+ghost use Rattle.tenant_core.specs.Receipts.{receipt_of};
+ghost use Rattle.tenant_core.specs.Reply.{reply};
+ghost use Rattle.tenant_core.specs.Step.{step, tenant_of, decision_on};
 ghost use Rattle.tenant_core.specs.declared.call.Call.{Call};
+ghost use Rattle.tenant_core.specs.declared.commands.Command.{Command};
+ghost use Rattle.tenant_core.specs.declared.receipts.Receipt.{Receipt};
+ghost use Rattle.tenant_core.specs.declared.request.Action.{Action};
+ghost use Rattle.tenant_core.specs.declared.state.Effect.{Effect};
 ghost use Rattle.tenant_core.specs.declared.picks.PickRequest.{PickRequest};
-ghost use Rattle.tenant_core.specs.State.{TenantState, epoch};
+ghost use Rattle.tenant_core.specs.State.{TenantState, Change, epoch, after};
 
 /// No step has the status 500 or 503: these are for a store that fails, and for want of memory.
 pub fn no_step_answers_500_or_503()
@@ -42,4 +49,21 @@ pub fn tests_are_of_the_form()
     ensures value { (d : Data) (t : RuleTest) → (test_of d ≡ Some t) ↔ IsTestBody d t }
     ensures body { (body : List ℕ) (t : RuleTest) → (test_request_of body ≡ Some t) ↔ IsJson IsTestBody body t }
     ensures refused { (body : List ℕ) → (test_request_of body ≡ None) ↔ ((t : RuleTest) → ¬ IsJson IsTestBody body t) }
+{}
+
+/// A changing request that is accepted raises the epoch by one; what any other request does leaves it, or removes the tenant.
+pub fn each_change_raises_the_epoch_by_one()
+    ensures { (tenant : List ℕ) (action : Action) (s : TenantState) (c : Change) → (decision_on tenant action (Some s)).effect ≡ Effect.Change c → epoch (after c s) ≡ suc (epoch s) }
+{}
+
+/// A changing request acts once. Accepted, it leaves a receipt, which no later change takes away; asked again of a state that
+/// has this receipt, it changes nothing and has the same reply, to the byte.
+pub fn a_changing_request_acts_once()
+    ensures receipt { (k : Command) (s : TenantState) (c : Change) → (decision k s).effect ≡ Effect.Change c → receipt_of k.number (after c s).receipts ≡ Some c.receipt }
+    ensures stays { (number : List ℕ) (k : Command) (s : TenantState) (c : Change) (r : Receipt) → (decision k s).effect ≡ Effect.Change c
+        → receipt_of number s.receipts ≡ Some r → receipt_of number (after c s).receipts ≡ Some r }
+    ensures effect { (k : Command) (s u : TenantState) (c : Change) → (decision k s).effect ≡ Effect.Change c → receipt_of k.number u.receipts ≡ Some c.receipt
+        → (decision k u).effect ≡ Effect.Keep }
+    ensures reply { (k : Command) (s u : TenantState) (c : Change) → (decision k s).effect ≡ Effect.Change c → receipt_of k.number u.receipts ≡ Some c.receipt
+        → reply (decision k u).answer ≡ reply (decision k s).answer }
 {}

@@ -1,0 +1,138 @@
+-- A receipt that is added is found again, adds one, and leaves the others.
+use Rattle.std.proofs.Common.{◌≡◌, ◌≢◌, ◌∙◌, ℕ, suc, List, [], ◌∷◌, length, Bool, true, false, ◌&&◌, nat_le, if◌then◌else◌, Option, Some, None, Result, Ok, Err, bytes_eq, Ordering, Less, Equal, Greater, nat_cmp, is_eq, refl, sym, ap, subst, arith}
+use Rattle.std.proofs.lemmas.Map.Text.{is_eq-slice_cmp}
+use Rattle.std.proofs.lemmas.Slice.Eq.{bytes_eq-Decides}
+use Rattle.std.specs.Cmp.Lexicographic.{slice_cmp}
+use Rattle.std.specs.Ordering.{match_ordering}
+use Rattle.serde_json.specs.Written.{compact_text}
+use Rattle.tenant_core.specs.Commands.{decision, on_receipt, carried_out, order_on, again, receipt_for, receipt_limit}
+use Rattle.tenant_core.specs.Effects.{Accepted, Decided, decided}
+use Rattle.tenant_core.specs.Receipts.{Receipts, receipt_of, with_receipt, is_repeat}
+use Rattle.tenant_core.specs.Reply.{Answer, refused, answered, repeated, reply}
+use Rattle.tenant_core.specs.State.{TenantState, Change, after, epoch}
+use Rattle.tenant_core.specs.Step.{decision_on}
+use Rattle.tenant_core.specs.declared.commands.Command.{Command}
+use Rattle.tenant_core.specs.declared.receipts.Receipt.{Receipt}
+use Rattle.tenant_core.specs.declared.reply.Problem.{Problem}
+use Rattle.tenant_core.specs.declared.reply.Problem.TheVariants.{RequestReused, TenantLimit}
+use Rattle.tenant_core.specs.declared.request.Action.{Action}
+use Rattle.tenant_core.specs.declared.request.Action.TheVariants as action
+use Rattle.tenant_core.specs.declared.tenants.TenantOperation.{TenantOperation}
+use Rattle.tenant_core.specs.declared.tenants.TenantOperation.TheVariants.{Create as CreateTenant, Read, Remove as RemoveTenant}
+use Rattle.tenant_core.specs.declared.state.Effect.{Effect}
+use Rattle.tenant_core.specs.declared.state.Effect.TheVariants as effect
+
+-- ---- bytes
+
+same_bytes : (xs : List ℕ) → bytes_eq xs xs ≡ true
+same_bytes xs = grind (arith, bytes_eq-Decides xs xs)
+
+other_bytes : (n m k : List ℕ) → bytes_eq m k ≡ true → bytes_eq n m ≡ false → bytes_eq n k ≡ false
+other_bytes n m k same other = grind (arith, bytes_eq-Decides n k, bytes_eq-Decides n m, bytes_eq-Decides m k, same, other)
+
+-- ---- a receipt that is added
+
+abbrev Entry : Type 0
+Entry = List ℕ × Receipt
+
+found_at : (o : Ordering) (n : List ℕ) (r : Receipt) (e : Entry) (es later : Receipts) → is_eq o ≡ bytes_eq n e.0 → receipt_of n later ≡ Some r
+    → receipt_of n (match_ordering o ((n, r) ∷ e ∷ es) ((e.0, r) ∷ es) (e ∷ later)) ≡ Some r
+found_at Less n r e es later same h = rw (same_bytes n) refl
+found_at Equal n r e es later same h = rw (← same) refl
+found_at Greater n r e es later same h = rw (← same) h
+
+pub found : (n : List ℕ) (r : Receipt) (es : Receipts) → receipt_of n (with_receipt n r es) ≡ Some r
+found n r [] = rw (same_bytes n) refl
+found n r (e ∷ es) = found_at (slice_cmp nat_cmp n e.0) n r e es (with_receipt n r es) (is_eq-slice_cmp n e.0) (found n r es)
+
+kept_at : (o : Ordering) (n m : List ℕ) (r : Receipt) (e : Entry) (es later : Receipts) → is_eq o ≡ bytes_eq m e.0 → bytes_eq n m ≡ false → receipt_of n later ≡ receipt_of n es
+    → receipt_of n (match_ordering o ((m, r) ∷ e ∷ es) ((e.0, r) ∷ es) (e ∷ later)) ≡ receipt_of n (e ∷ es)
+kept_at Less n m r e es later same other h = rw other refl
+kept_at Equal n m r e es later same other h = rw (other_bytes n m e.0 (sym same) other) refl
+kept_at Greater n m r e es later same other h = ap (λ o. if bytes_eq n e.0 then Some e.1 else o) h
+
+kept : (n m : List ℕ) (r : Receipt) (es : Receipts) → bytes_eq n m ≡ false → receipt_of n (with_receipt m r es) ≡ receipt_of n es
+kept n m r [] other = rw other refl
+kept n m r (e ∷ es) other = kept_at (slice_cmp nat_cmp m e.0) n m r e es (with_receipt m r es) (is_eq-slice_cmp m e.0) other (kept n m r es other)
+
+grown_at : (o : Ordering) (n : List ℕ) (r : Receipt) (e : Entry) (es later : Receipts) → is_eq o ≡ bytes_eq n e.0 → receipt_of n (e ∷ es) ≡ None
+    → (receipt_of n es ≡ None → length later ≡ suc (length es)) → length (match_ordering o ((n, r) ∷ e ∷ es) ((e.0, r) ∷ es) (e ∷ later)) ≡ suc (suc (length es))
+grown_at Less n r e es later same none h = refl
+grown_at Equal n r e es later same none h = let both : Some e.1 ≡ None = rw (← same) at none in cc
+grown_at Greater n r e es later same none h = ap suc (h (rw (← same) at none))
+
+grown : (n : List ℕ) (r : Receipt) (es : Receipts) → receipt_of n es ≡ None → length (with_receipt n r es) ≡ suc (length es)
+grown n r [] none = refl
+grown n r (e ∷ es) none = grown_at (slice_cmp nat_cmp n e.0) n r e es (with_receipt n r es) (is_eq-slice_cmp n e.0) none (grown n r es)
+
+-- ---- a changing request that is accepted
+
+-- what is known of it: its number had no receipt, and the one that it leaves says the request and the reply
+pub record Accepts (k : Command) (s : TenantState) (c : Change) (d : Decided) : Type 0 where
+  pub new : receipt_of k.number s.receipts ≡ None
+  pub number : c.number ≡ k.number
+  pub path : c.receipt.path ≡ k.path
+  pub body : c.receipt.body ≡ k.body
+  pub reply : reply (repeated c.receipt.status c.receipt.reply) ≡ reply d.answer
+
+accepts_order : (k : Command) (s : TenantState) (c : Change) (a : Result Accepted Problem) → receipt_of k.number s.receipts ≡ None
+    → (carried_out k a).effect ≡ effect.Change c → Accepts k s c (carried_out k a)
+unfolding reply
+accepts_order k s c (Err problem) none h = cc
+accepts_order k s c (Ok a) none h =
+    let is : ◌≡◌ {A = Change} (record { number = k.number; receipt = receipt_for k a; made = a.made }) c = cc in
+    subst (λ (x : Change). Accepts k s x (carried_out k (Ok a))) is (record { new = none; number = refl; path = refl; body = refl; reply = refl })
+
+accepts_new : (k : Command) (s : TenantState) (c : Change) (full : Bool) → receipt_of k.number s.receipts ≡ None
+    → (if full then decided effect.Keep (refused TenantLimit) else carried_out k (order_on k.order s)).effect ≡ effect.Change c
+    → Accepts k s c (if full then decided effect.Keep (refused TenantLimit) else carried_out k (order_on k.order s))
+accepts_new k s c true none h = cc
+accepts_new k s c false none h = accepts_order k s c (order_on k.order s) none h
+
+accepts_on : (k : Command) (s : TenantState) (c : Change) (o : Option Receipt) → receipt_of k.number s.receipts ≡ o → (on_receipt k s o).effect ≡ effect.Change c
+    → Accepts k s c (on_receipt k s o)
+accepts_on k s c (Some r) is h = cc
+accepts_on k s c None is h = accepts_new k s c (nat_le receipt_limit (length s.receipts)) is h
+
+pub accepts : (k : Command) (s : TenantState) (c : Change) → (decision k s).effect ≡ effect.Change c → Accepts k s c (decision k s)
+accepts k s c h = accepts_on k s c (receipt_of k.number s.receipts) refl h
+
+-- ---- the laws
+
+pub epoch_grows : (k : Command) (s : TenantState) (c : Change) → (decision k s).effect ≡ effect.Change c → epoch (after c s) ≡ suc (epoch s)
+epoch_grows k s c h = let a = accepts k s c h in rw a.number (grown k.number c.receipt s.receipts a.new)
+
+pub receipt_found : (k : Command) (s : TenantState) (c : Change) → (decision k s).effect ≡ effect.Change c → receipt_of k.number (after c s).receipts ≡ Some c.receipt
+receipt_found k s c h = rw ((accepts k s c h).number) (found k.number c.receipt s.receipts)
+
+stays_at : (n : List ℕ) (k : Command) (s : TenantState) (c : Change) (r : Receipt) (same : Bool) → same ≡ bytes_eq n k.number → Accepts k s c (decision k s)
+    → receipt_of n s.receipts ≡ Some r → receipt_of n (after c s).receipts ≡ Some r
+stays_at n k s c r true same a h =
+    let one : n ≡ k.number = grind (arith, bytes_eq-Decides n k.number, sym same) in
+    let both : Some r ≡ None = sym h ∙ (ap (λ m. receipt_of m s.receipts) one ∙ a.new) in cc
+stays_at n k s c r false same a h = rw a.number (kept n k.number c.receipt s.receipts (sym same) ∙ h)
+
+pub receipt_stays : (n : List ℕ) (k : Command) (s : TenantState) (c : Change) (r : Receipt) → (decision k s).effect ≡ effect.Change c
+    → receipt_of n s.receipts ≡ Some r → receipt_of n (after c s).receipts ≡ Some r
+receipt_stays n k s c r h there = stays_at n k s c r (bytes_eq n k.number) refl (accepts k s c h) there
+
+is_repeated : (k : Command) (r : Receipt) → r.path ≡ k.path → r.body ≡ k.body → again k r ≡ repeated r.status r.reply
+is_repeated k r path body = rw (path, body, same_bytes k.path, same_bytes k.body) refl
+
+pub repeats : (k : Command) (s u : TenantState) (c : Change) → (decision k s).effect ≡ effect.Change c → receipt_of k.number u.receipts ≡ Some c.receipt
+    → decision k u ≡ decided effect.Keep (repeated c.receipt.status c.receipt.reply)
+repeats k s u c h there = let a = accepts k s c h in rw there (ap (decided effect.Keep) (is_repeated k c.receipt a.path a.body))
+
+-- ---- of all actions
+
+tenant_changes_nothing : (tenant : List ℕ) (o : TenantOperation) (s : TenantState) (c : Change) → (decision_on tenant (action.Tenant o) (Some s)).effect ≡ effect.Change c → ⊥
+tenant_changes_nothing tenant CreateTenant s c h = cc
+tenant_changes_nothing tenant Read s c h = cc
+tenant_changes_nothing tenant RemoveTenant s c h = cc
+
+pub action_grows : (tenant : List ℕ) (a : Action) (s : TenantState) (c : Change) → (decision_on tenant a (Some s)).effect ≡ effect.Change c → epoch (after c s) ≡ suc (epoch s)
+action_grows tenant (action.Tenant o) s c h = absurd (tenant_changes_nothing tenant o s c h)
+action_grows tenant (action.Command k) s c h = epoch_grows k s c h
+action_grows tenant (action.ReadVersion v) s c h = cc
+action_grows tenant (action.Pick p) s c h = cc
+action_grows tenant (action.Test t) s c h = cc
