@@ -1,5 +1,6 @@
 use Rattle.std.proofs.Common.{◌≡◌, Ok, Err, sym, ◌∙◌}
 use Rattle.tenant_core.specs.Refusals.{Gives}
+use Rattle.crush_app.proofs.Kept.{problem_given}
 use Rattle.tenant_core.proofs.Following.{follows_result, follows_refusal, follows_damaged}
 use Rattle.crush_app.proofs.service.reply_or_fault.Goals as goal
 
@@ -20,4 +21,6 @@ returns-in-Ok-clause-damaged g c = λ honest bad.
     request (c.perform.ensures.damaged honest bad) (rw bad at (c.perform.ensures.err honest))
 
 pub returns-in_ok-refused-in-Err-Problem-clause-ok : goal.returns-in_ok-refused-in-Err-Problem-clause-ok
-returns-in_ok-refused-in-Err-Problem-clause-ok g c = ?
+returns-in_ok-refused-in-Err-Problem-clause-ok g c = λ honest.
+    let problem = problem_given c.read_request.result c.in-Err-Problem.field-0 c.in-Err-Problem.problem _ c.in-Err-Problem.is c.in-Err-Problem.field-0-is c.read_request.ensures in
+    follows_refusal _ (g.T.TenantStore.has_state c.args.store.now) c.in-Err-Problem.problem c.in_ok-refused-in-Err-Problem.field-0 problem c.in_ok-refused-in-Err-Problem.ensures
