@@ -218,8 +218,8 @@ def rule_tests():
     out = START + [(test_of(), NO_VERSION)]
     epoch = 0
     for text, rows in (
-        (indep, [(dict(size=2, x=x), [3, None], [3]) for x in (0, 1, 999)]),
-        (hosts(), [(dict(size=2, x=x), [0], [0]) for x in (0, 1, 999)]),
+        (indep, [(dict(size=2, x=x), [3, None], [3]) for x in range(200)]),
+        (hosts(), [(dict(size=2, x=x), [0], [0]) for x in range(200)]),
         (firstn_rack, [({}, [], [])]),
         (indep_rack, [({}, [None], [])]),
         (firstn_empty, [({}, [], [])]),
@@ -317,6 +317,26 @@ def repeats():
     ]
 
 
+def canonical_texts():
+    """A text as crushtool writes it, without what canonical texts drop; weights are rounded down to 65536ths, and written rounded up."""
+    jewel = (HERE / "cases" / "jewel.map").read_text()
+    dropped_lines = ("tunable straw_calc_version", "tunable allowed_bucket_algs", "\tid -4 class", "\t# weight", "\tmin_size", "\tmax_size")
+    kept = [it for it in jewel.split("\n") if not it.startswith(dropped_lines)]
+    kept = [it if it.startswith("#") else it.split("#")[0].rstrip() for it in kept]
+    canonical = "\n".join(kept).replace(" class ssd", "").replace("weight 1.000", "weight 1.00000")
+    tenth = tiny().replace("weight 1.0", "weight 0.1")
+    return START + [
+        (import_of(jewel), imported(1, 1)),
+        (b"GET /t/a/maps/1", version_of(canonical, 1)),
+        (import_of(canonical, "m2"), imported(2, 2)),  # a canonical text is its own
+        (b"GET /t/a/maps/2", version_of(canonical, 2)),
+        (import_of(tenth, "m3"), imported(3, 3)),
+        (b"GET /t/a/maps/3", version_of(canonical_tiny().replace("1.00000", "0.10000"), 3)),
+        (import_of(tiny().replace("\n", "\r\n"), "m4"), imported(4, 4)),
+        (b"GET /t/a/maps/4", version_of(canonical_tiny(), 4)),
+    ]
+
+
 def version_limit():
     """256 versions; a repeat is answered before the limit, and the limit comes before a fault of the text."""
     rows = START + [(import_of(tiny(), f"m{n}"), imported(n, n)) for n in range(1, 257)]
@@ -331,5 +351,5 @@ def version_limit():
 
 
 def cases():
-    for make in (receipts, repeats, tenants_apart, refusals, rule_tests, version_limit):
+    for make in (receipts, repeats, tenants_apart, refusals, rule_tests, canonical_texts, version_limit):
         yield make.__name__, make()
