@@ -252,7 +252,7 @@ fn a_state_that_is_lent_stays(rt: HostRuntime) -> Result<(), Fail> {
     let alloc = rt.alloc();
     let mut store = MemoryStore::new(alloc);
     assert!(rt; store.create("a").is_ok());
-    for (number, body) in [(1, FIRST), (2, SECOND)] {
+    for (before, after, body) in [(0, 1, FIRST), (1, 2, SECOND)] {
         let Some(change) = change_by(alloc, body)? else {
             assert!(rt; false, "the import changes the tenant");
             return Ok(());
@@ -262,17 +262,23 @@ fn a_state_that_is_lent_stays(rt: HostRuntime) -> Result<(), Fail> {
             return Ok(());
         };
         assert!(rt; store.commit("a", &change).is_ok());
-        assert_eq!(rt; lent.epoch(), number - 1);
-        assert_eq!(rt; lent.newest(), number - 1);
+        assert_eq!(rt; lent.epoch(), before);
+        assert_eq!(rt; lent.newest(), before);
         let Ok(Some(found)) = store.load("a") else {
             assert!(rt; false, "the tenant is there");
             return Ok(());
         };
-        assert_eq!(rt; found.epoch(), number);
-        assert_eq!(rt; found.newest(), number);
-        assert!(rt; found.version(number).is_some());
+        assert_eq!(rt; found.epoch(), after);
+        assert_eq!(rt; found.newest(), after);
+        assert!(rt; found.version(after).is_some());
     }
+    let Ok(Some(last)) = store.load("a") else {
+        assert!(rt; false, "the tenant is there");
+        return Ok(());
+    };
+    assert_eq!(rt; last.newest(), 2);
     assert!(rt; store.remove("a").is_ok());
+    assert_eq!(rt; last.newest(), 2);
     assert!(rt; matches!(store.load("a"), Ok(None)));
     Ok(())
 }
