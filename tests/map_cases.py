@@ -2,7 +2,7 @@
 import json
 import pathlib
 
-from replies import BAD, METHOD, NO_TENANT, dropped, made
+from replies import BAD, EXISTS, METHOD, NO_PATH, NO_TENANT, TOO_LARGE, dropped, made
 
 HERE = pathlib.Path(__file__).resolve().parent
 
@@ -83,8 +83,13 @@ def tested(items, trace, epoch=1, version=1):
     return b"200 " + words.encode()
 
 
-def summary(epoch, versions):
-    return b'200 {"devices":0,"epoch":%d,"pools":0,"tenant":"a","versions":%d}' % (epoch, versions)
+def summary(epoch, versions, tenant=b"a"):
+    return b'200 {"devices":0,"epoch":%d,"pools":0,"tenant":"%s","versions":%d}' % (epoch, tenant, versions)
+
+
+def of_b(line):
+    """The same request of the tenant b."""
+    return line.replace(b"/t/a", b"/t/b", 1)
 
 
 def canonical_tiny(device=0):
@@ -165,7 +170,22 @@ def refusals():
         (import_of(front), refused("X1", 15)),
         (import_of(no_tunables), refused("M13", 21)),
         (b"GET /t/a", summary(0, 0)),
+        (import_of("#" * 524_288), refused("M4", 1)),
+        (import_of("#" * 524_289), refused("X7", 1)),
+        (import_of("#" * 1_048_576), TOO_LARGE),
+        (import_of(tiny().replace("osd.0 weight 1.0", "osd.0 weight 0.5 pos 1")), refused("X5", 15)),
+        (import_of(with_line(tiny(), 20, " step take default class ssd")), refused("X3", 20)),
+        (import_of(tiny() + "choose_args 0 {"), refused("X4", 24)),
+        (import_of(with_line(tiny(), 11, "rack default {")), refused("M4", 11)),
+        (import_of(with_line(tiny(), 21, " step choose firstn 65 type osd")), refused("M12", 17)),
+        (import_of(with_line(tiny(), 21, " step chooseleaf indep 0 type osd")), refused("M14", 17)),
+        (b"GET /t/a", summary(0, 0)),
         (b"GET /t/a/maps", METHOD),
+        (b"PUT /t/a/maps", METHOD),
+        (b"DELETE /t/a/maps/1", METHOD),
+        (b"GET /t/a/maps/", NO_PATH),
+        (b"GET /t/a/maps/1/", NO_PATH),
+        (b"POST /t/a/test/1 {}", NO_PATH),
         (b"POST /t/a/maps/1 {}", METHOD),
         (b"GET /t/a/maps/x", BAD),
         (b"GET /t/a/maps/00000000001", BAD),
@@ -198,8 +218,8 @@ def rule_tests():
     out = START + [(test_of(), NO_VERSION)]
     epoch = 0
     for text, rows in (
-        (indep, [(dict(size=2, x=x), [3, None], [3]) for x in (0, 1, 999)]),
-        (hosts(), [(dict(size=2, x=x), [0], [0]) for x in (0, 1, 999)]),
+        (indep, [(dict(size=2, x=x), [3, None], [3]) for x in range(200)]),
+        (hosts(), [(dict(size=2, x=x), [0], [0]) for x in range(200)]),
         (firstn_rack, [({}, [], [])]),
         (indep_rack, [({}, [None], [])]),
         (firstn_empty, [({}, [], [])]),
@@ -235,6 +255,88 @@ def rule_tests():
     return out
 
 
+def tenants_apart():
+    """Another tenant's versions, receipts and limits are its own, and what is dropped is gone."""
+    return START + [
+        (import_of(tiny(), "m1"), imported(1, 1)),
+        (of_b(import_of(tiny(), "m1")), NO_TENANT),
+        (b"PUT /t/b", made(b"b")),
+        (of_b(test_of()), NO_VERSION),
+        (b"GET /t/b/maps/1", NO_VERSION),
+        (b"GET /t/b", summary(0, 0, b"b")),
+        (of_b(import_of(tiny(7), "m1")), imported(1, 1)),  # a's receipt says nothing of b
+        (import_of(tiny(7), "m1"), REUSED),
+        (of_b(import_of(tiny(7), "m1")), imported(1, 1)),
+        (of_b(import_of(tiny(), "m1")), REUSED),
+        (import_of(tiny(9), "m2"), imported(2, 2)),
+        (test_of(), tested([9], [9], 2, 2)),
+        (test_of(version=1), tested([0], [0], 2, 1)),
+        (of_b(test_of()), tested([7], [7], 1, 1)),
+        (of_b(test_of(version=2)), NO_VERSION),
+        (b"GET /t/a/maps/1", version_of(canonical_tiny(), 1)),
+        (b"GET /t/b/maps/1", version_of(canonical_tiny(7), 1)),
+        (b"DELETE /t/a", dropped(b"a")),
+        (import_of(tiny(), "m1"), NO_TENANT),  # nor is the reply of a receipt given again
+        (test_of(version=1), NO_TENANT),
+        (b"GET /t/a/maps/1", NO_TENANT),
+        (b"GET /t/b", summary(1, 1, b"b")),
+        (of_b(test_of()), tested([7], [7], 1, 1)),
+        (b"PUT /t/a", made(b"a")),
+        (b"GET /t/a/maps/1", NO_VERSION),
+        (test_of(), NO_VERSION),
+        (import_of(tiny(3), "m1"), imported(1, 1)),
+        (test_of(), tested([3], [3], 1, 1)),
+    ]
+
+
+def repeats():
+    """A repeat has the reply of the first time, whatever came in between; what is compared are bytes."""
+    one, other = import_of(tiny(), "m1"), import_of(tiny(5), "m2")
+    turned = post("maps", {"text": tiny(), "request": "m1"})  # the same keys and values in another order
+    escaped = one.replace(b'"m1"', b'"\\u006d1"')  # the same request number, written otherwise
+    return START + [
+        (one, imported(1, 1)),
+        (other, imported(2, 2)),
+        (one, imported(1, 1)),
+        (b"GET /t/a", summary(2, 2)),
+        (turned, REUSED),
+        (escaped, REUSED),
+        (other, imported(2, 2)),
+        (import_of(with_line(tiny(), 13, " alg straw2"), "m2"), REUSED),  # before the text is read
+        (import_of(with_line(tiny(), 13, " alg straw2"), "m3"), refused("X2", 13)),
+        (import_of(with_line(tiny(), 13, " alg straw2"), "m3"), refused("X2", 13)),
+        (import_of(tiny(6), "m3"), imported(3, 3)),
+        (import_of(tiny(6), "M3"), imported(4, 4)),  # numbers differ in case
+        (import_of(tiny(6), "m3 "), imported(5, 5)),  # a number is any text
+        (import_of(tiny(6), "\u00e9" * 32), imported(6, 6)),  # 64 bytes
+        (import_of(tiny(6), "\u00e9" * 33), BAD),
+        (test_of(version=3), tested([6], [6], 6, 3)),
+        (import_of(tiny(6), "\u00e9" * 32), imported(6, 6)),
+        (b"PUT /t/a", EXISTS),
+        (b"GET /t/a", summary(6, 6)),
+    ]
+
+
+def canonical_texts():
+    """A text as crushtool writes it, without what canonical texts drop; weights are rounded down to 65536ths, and written rounded up."""
+    jewel = (HERE / "cases" / "jewel.map").read_text()
+    dropped_lines = ("tunable straw_calc_version", "tunable allowed_bucket_algs", "\tid -4 class", "\t# weight", "\tmin_size", "\tmax_size")
+    kept = [it for it in jewel.split("\n") if not it.startswith(dropped_lines)]
+    kept = [it if it.startswith("#") else it.split("#")[0].rstrip() for it in kept]
+    canonical = "\n".join(kept).replace(" class ssd", "").replace("weight 1.000", "weight 1.00000")
+    tenth = tiny().replace("weight 1.0", "weight 0.1")
+    return START + [
+        (import_of(jewel), imported(1, 1)),
+        (b"GET /t/a/maps/1", version_of(canonical, 1)),
+        (import_of(canonical, "m2"), imported(2, 2)),  # a canonical text is its own
+        (b"GET /t/a/maps/2", version_of(canonical, 2)),
+        (import_of(tenth, "m3"), imported(3, 3)),
+        (b"GET /t/a/maps/3", version_of(canonical_tiny().replace("1.00000", "0.10000"), 3)),
+        (import_of(tiny().replace("\n", "\r\n"), "m4"), imported(4, 4)),
+        (b"GET /t/a/maps/4", version_of(canonical_tiny(), 4)),
+    ]
+
+
 def version_limit():
     """256 versions; a repeat is answered before the limit, and the limit comes before a fault of the text."""
     rows = START + [(import_of(tiny(), f"m{n}"), imported(n, n)) for n in range(1, 257)]
@@ -249,5 +351,5 @@ def version_limit():
 
 
 def cases():
-    for make in (receipts, refusals, rule_tests, version_limit):
+    for make in (receipts, repeats, tenants_apart, refusals, rule_tests, canonical_texts, version_limit):
         yield make.__name__, make()

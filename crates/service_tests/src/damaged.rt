@@ -1,9 +1,10 @@
 //! What a service answers where the data of some names is damaged.
 
 ghost use Rattle.std.specs.Prelude.{◌≡◌, IfOk};
-ghost use Rattle.tenant_core.specs.Effects.{fresh};
+ghost use Rattle.tenant_core.specs.State.{fresh};
 ghost use Rattle.service_tests.specs.Damaged.{begins_with};
 
+use crate::maps::FIRST;
 use crush_app::Service;
 use std::alloc::{AllocError, Global};
 use std::rc::Rc;
@@ -22,8 +23,13 @@ fn begins_with(byte: u8, name: &str) -> bool
 fn fresh_tenant(alloc: Global) -> Result<Rc<TenantState>, AllocError>
     ensures { IfOk result (λ state. state.value ≡ fresh) }
 {
-    Ok(Rc::new(alloc, TenantState::fresh())?)
+    Ok(Rc::new(alloc, TenantState::fresh(alloc))?)
 }
+
+/// An import of a text without a word, which is refused where a tenant is there.
+const IMPORT: &str = "{\"request\":\"m1\",\"text\":\"\"}";
+
+const TEST: &str = "{\"rule\":0,\"size\":1,\"x\":0}";
 
 /// A full store in which the data of each name that begins with `d` is damaged, and each that begins with `b` is a tenant.
 #[derive(Drop)]
@@ -69,23 +75,75 @@ impl TenantStore for PartlyDamaged {
 fn a_damaged_tenant_is_answered_500_and_others_as_ever(rt: HostRuntime) -> Result<(), Fail> {
     let alloc = rt.alloc();
     let mut service = Service::over(alloc, PartlyDamaged { alloc })?;
-    for (method, path, status, body) in [
-        ("GET", "/t/d", 500, "{\"error\":\"store_damaged\"}"),
-        ("PUT", "/t/da", 500, "{\"error\":\"store_damaged\"}"),
-        ("DELETE", "/t/d", 500, "{\"error\":\"store_damaged\"}"),
-        ("GET", "/t/d!", 400, "{\"error\":\"bad_request\"}"),
-        ("POST", "/t/d", 405, "{\"error\":\"method\"}"),
-        ("GET", "/x/d", 404, "{\"error\":\"no_path\"}"),
-        ("GET", "/t/a", 404, "{\"error\":\"no_tenant\"}"),
-        ("DELETE", "/t/a", 404, "{\"error\":\"no_tenant\"}"),
-        ("PUT", "/t/a", 503, "{\"error\":\"store_failed\"}"),
-        ("PUT", "/t/b", 409, "{\"error\":\"exists\"}"),
-        ("DELETE", "/t/b", 503, "{\"error\":\"store_failed\"}"),
+    for (method, path, asked, status, body) in [
+        ("GET", "/t/d", "", 500, "{\"error\":\"store_damaged\"}"),
+        ("PUT", "/t/da", "", 500, "{\"error\":\"store_damaged\"}"),
+        ("DELETE", "/t/d", "", 500, "{\"error\":\"store_damaged\"}"),
+        (
+            "POST",
+            "/t/d/maps",
+            IMPORT,
+            500,
+            "{\"error\":\"store_damaged\"}",
+        ),
+        (
+            "POST",
+            "/t/d/test",
+            TEST,
+            500,
+            "{\"error\":\"store_damaged\"}",
+        ),
+        (
+            "GET",
+            "/t/d/maps/1",
+            "",
+            500,
+            "{\"error\":\"store_damaged\"}",
+        ),
+        ("GET", "/t/d/maps/x", "", 400, "{\"error\":\"bad_request\"}"),
+        (
+            "POST",
+            "/t/d/maps",
+            "{}",
+            400,
+            "{\"error\":\"bad_request\"}",
+        ),
+        (
+            "POST",
+            "/t/b/maps",
+            IMPORT,
+            422,
+            "{\"error\":\"map_refused\",\"fault\":\"M4\",\"line\":1}",
+        ),
+        (
+            "POST",
+            "/t/b/maps",
+            FIRST,
+            503,
+            "{\"error\":\"store_failed\"}",
+        ),
+        (
+            "GET",
+            "/t/b",
+            "",
+            200,
+            "{\"devices\":0,\"epoch\":0,\"pools\":0,\"tenant\":\"b\",\"versions\":0}",
+        ),
+        ("POST", "/t/b/test", TEST, 404, "{\"error\":\"no_version\"}"),
+        ("POST", "/t/a/test", TEST, 404, "{\"error\":\"no_tenant\"}"),
+        ("GET", "/t/d!", "", 400, "{\"error\":\"bad_request\"}"),
+        ("POST", "/t/d", "", 405, "{\"error\":\"method\"}"),
+        ("GET", "/x/d", "", 404, "{\"error\":\"no_path\"}"),
+        ("GET", "/t/a", "", 404, "{\"error\":\"no_tenant\"}"),
+        ("DELETE", "/t/a", "", 404, "{\"error\":\"no_tenant\"}"),
+        ("PUT", "/t/a", "", 503, "{\"error\":\"store_failed\"}"),
+        ("PUT", "/t/b", "", 409, "{\"error\":\"exists\"}"),
+        ("DELETE", "/t/b", "", 503, "{\"error\":\"store_failed\"}"),
     ] {
         let reply = service.request(CallParts {
             method: method.as_bytes(),
             path,
-            body: b"",
+            body: asked.as_bytes(),
         });
         assert_eq!(rt; reply.status, status, "{method} {path}");
         assert_eq!(rt; reply.body.as_str(), body, "{method} {path}");

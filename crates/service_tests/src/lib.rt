@@ -1,9 +1,11 @@
-//! Tests of `tenant_core` and `crush_app`: requests, scripts, and a store whose data is damaged in part. They stand apart, so
+//! Tests of `tenant_core` and `crush_app`: requests, scripts, imports and rule tests, and a store whose data is damaged in part. They stand apart, so
 //! that these crates are proved once.
 #![tactic(auto)]
 
 #[cfg(test)]
 mod damaged;
+#[cfg(test)]
+mod maps;
 #[cfg(test)]
 mod requests;
 #[cfg(test)]

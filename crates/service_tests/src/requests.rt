@@ -3,7 +3,8 @@
 use std::alloc::{AllocError, Global};
 use std::test::Fail;
 use tenant_core::{
-    CallParts, Effect, Routes, StoreFault, TenantState, decide, read_request, refused, store_fault,
+    CallParts, Effect, Refusal, Routes, StoreFault, TenantState, decide, read_request, refused,
+    store_fault,
 };
 
 /// The reply to a POST of this body to the path of a tenant's picks: its status and body.
@@ -14,10 +15,11 @@ fn asked(alloc: Global, body: &str) -> Result<(u16, String), AllocError> {
         path: "/t/a/pick",
         body: body.as_bytes(),
     };
-    let reply = match read_request(alloc, &routes, call)? {
-        Err(problem) => refused(alloc, problem)?,
+    let reply = match read_request(alloc, &routes, call) {
+        Err(Refusal::Problem(problem)) => refused(alloc, problem)?,
+        Err(Refusal::NoMemory) => return Err(AllocError),
         Ok(request) => {
-            let state = TenantState { epoch: 3 };
+            let state = TenantState::fresh(alloc);
             decide(alloc, "a", Some(&state), &request.action)?.reply
         }
     };
@@ -111,11 +113,11 @@ fn a_tenant_is_made_and_dropped(rt: HostRuntime) -> Result<(), Fail> {
             path: "/t/a",
             body: b"",
         };
-        let Ok(request) = read_request(alloc, &routes, call)? else {
+        let Ok(request) = read_request(alloc, &routes, call) else {
             assert!(rt; false, "{method} is a request");
             return Ok(());
         };
-        let state = TenantState::fresh();
+        let state = TenantState::fresh(alloc);
         let state = if there { Some(&state) } else { None };
         let decision = decide(alloc, "a", state, &request.action)?;
         assert_eq!(rt; decision.reply.body.as_str(), body, "{method} {there}");

@@ -1,11 +1,11 @@
 //! Scripts and runs on the service over a store in memory.
 
-use crush_app::{MemoryStore, ScriptEnd, Service, script_run};
+use crush_app::{ScriptEnd, Service, script_run};
 use crush_map::Text;
 use std::alloc::{AllocError, Global};
 use std::io::{self, ErrorKind, Read, Write};
 use std::test::Fail;
-use tenant_core::{Bytes, Call, CallParts, Change, TenantStore};
+use tenant_core::{Bytes, Call, CallParts};
 
 const SCRIPT: &str =
     "PUT /t/a\nPOST /t/a/pick {\"bucket\":{\"id\":-1,\"items\":[{\"item\":4,\"weight\":0},{\"item\":9,\"weight\":65536}],\"kind\":\"list\"},\"r\":0,\"x\":5}\r\nGET\n\nGET /t/a\nPUT /t/a\nDELETE /t/a\nGET /t/a";
@@ -162,20 +162,5 @@ fn a_run_answers_each_tenant_from_its_own_state(rt: HostRuntime) -> Result<(), F
     for (reply, (method, path, status)) in replies.iter().zip(asked) {
         assert_eq!(rt; reply.status, status, "{method} {path}");
     }
-    Ok(())
-}
-
-#[test]
-fn a_change_is_kept_by_the_store_in_memory(rt: HostRuntime) -> Result<(), Fail> {
-    let mut store = MemoryStore::new(rt.alloc());
-    assert!(rt; store.create("a").is_ok());
-    assert!(rt; store.commit("a", &Change { epoch: 7 }).is_ok());
-    let Ok(Some(state)) = store.load("a") else {
-        assert!(rt; false, "the tenant is there");
-        return Ok(());
-    };
-    assert_eq!(rt; state.epoch, 7);
-    assert!(rt; store.remove("a").is_ok());
-    assert!(rt; matches!(store.load("a"), Ok(None)));
     Ok(())
 }

@@ -1,0 +1,284 @@
+//! Imports, versions and rule tests over a store in memory, and the bodies that ask for them.
+
+use crush_app::{MemoryStore, Service};
+use crush_map::Text;
+use std::alloc::{AllocError, Global};
+use std::test::Fail;
+use tenant_core::{
+    Bytes, Call, CallParts, Change, Effect, Reply, Routes, TenantState, TenantStore, decide,
+    read_request,
+};
+
+/// An import of a map with the one device 0, under the request number m1.
+pub(crate) const FIRST: &str =
+    "{\"request\":\"m1\",\"text\":\"tunable choose_local_tries 0\\ntunable choose_local_fallback_tries 0\\ntunable choose_total_tries 50\\ntunable chooseleaf_descend_once 1\\ntunable chooseleaf_vary_r 1\\ntunable chooseleaf_stable 1\\ndevice 0 osd.0\\ntype 0 osd\\ntype 1 host\\ntype 10 root\\nroot default {\\n id -1\\n alg uniform\\n hash 0\\n item osd.0 weight 1.0\\n}\\nrule all {\\n id 0\\n type replicated\\n step take default\\n step choose firstn 0 type osd\\n step emit\\n}\\n\"}";
+
+/// An import of a map with the one device 3, whose rule wants two items in their places, under m2.
+pub(crate) const SECOND: &str =
+    "{\"request\":\"m2\",\"text\":\"tunable choose_local_tries 0\\ntunable choose_local_fallback_tries 0\\ntunable choose_total_tries 50\\ntunable chooseleaf_descend_once 1\\ntunable chooseleaf_vary_r 1\\ntunable chooseleaf_stable 1\\ndevice 3 osd.3\\ntype 0 osd\\ntype 1 host\\ntype 10 root\\nroot default {\\n id -1\\n alg uniform\\n hash 0\\n item osd.3 weight 1.0\\n}\\nrule all {\\n id 0\\n type replicated\\n step take default\\n step choose indep 2 type osd\\n step emit\\n}\\n\"}";
+
+/// The second map under the request number of the first import.
+pub(crate) const OTHER: &str =
+    "{\"request\":\"m1\",\"text\":\"tunable choose_local_tries 0\\ntunable choose_local_fallback_tries 0\\ntunable choose_total_tries 50\\ntunable chooseleaf_descend_once 1\\ntunable chooseleaf_vary_r 1\\ntunable chooseleaf_stable 1\\ndevice 3 osd.3\\ntype 0 osd\\ntype 1 host\\ntype 10 root\\nroot default {\\n id -1\\n alg uniform\\n hash 0\\n item osd.3 weight 1.0\\n}\\nrule all {\\n id 0\\n type replicated\\n step take default\\n step choose indep 2 type osd\\n step emit\\n}\\n\"}";
+
+/// A text with a straw2 bucket on its line 13, under m3.
+pub(crate) const STRAW2: &str =
+    "{\"request\":\"m3\",\"text\":\"tunable choose_local_tries 0\\ntunable choose_local_fallback_tries 0\\ntunable choose_total_tries 50\\ntunable chooseleaf_descend_once 1\\ntunable chooseleaf_vary_r 1\\ntunable chooseleaf_stable 1\\ndevice 0 osd.0\\ntype 0 osd\\ntype 1 host\\ntype 10 root\\nroot default {\\n id -1\\n alg straw2\\n hash 0\\n item osd.0 weight 1.0\\n}\\nrule all {\\n id 0\\n type replicated\\n step take default\\n step choose firstn 0 type osd\\n step emit\\n}\\n\"}";
+
+/// The reply with the canonical text of the first map.
+const CANONICAL: &str =
+    "{\"text\":\"# begin crush map\\ntunable choose_local_tries 0\\ntunable choose_local_fallback_tries 0\\ntunable choose_total_tries 50\\ntunable chooseleaf_descend_once 1\\ntunable chooseleaf_vary_r 1\\ntunable chooseleaf_stable 1\\n\\n# devices\\ndevice 0 osd.0\\n\\n# types\\ntype 0 osd\\ntype 1 host\\ntype 10 root\\n\\n# buckets\\nroot default {\\n\\tid -1\\n\\talg uniform\\n\\thash 0\\n\\titem osd.0 weight 1.00000\\n}\\n\\n# rules\\nrule all {\\n\\tid 0\\n\\ttype replicated\\n\\tstep take default\\n\\tstep choose firstn 0 type osd\\n\\tstep emit\\n}\\n\\n# end crush map\\n\",\"version\":1}";
+
+/// A method, a path and a body, and the status and the body of the reply that the rules of requests give them.
+type Row = (&'static str, &'static str, &'static str, u16, &'static str);
+
+/// Calls of two tenants in turn.
+const ROWS: [Row; 24] = [
+    ("PUT", "/t/a", "", 201, "{\"epoch\":0,\"tenant\":\"a\"}"),
+    ("POST", "/t/b/maps", FIRST, 404, "{\"error\":\"no_tenant\"}"),
+    (
+        "POST",
+        "/t/a/maps",
+        FIRST,
+        201,
+        "{\"epoch\":1,\"version\":1}",
+    ),
+    ("PUT", "/t/b", "", 201, "{\"epoch\":0,\"tenant\":\"b\"}"),
+    (
+        "POST",
+        "/t/b/test",
+        "{\"rule\":0,\"size\":2,\"x\":5}",
+        404,
+        "{\"error\":\"no_version\"}",
+    ),
+    (
+        "POST",
+        "/t/b/maps",
+        OTHER,
+        201,
+        "{\"epoch\":1,\"version\":1}",
+    ),
+    (
+        "POST",
+        "/t/a/maps",
+        FIRST,
+        201,
+        "{\"epoch\":1,\"version\":1}",
+    ),
+    (
+        "POST",
+        "/t/a/maps",
+        OTHER,
+        409,
+        "{\"error\":\"request_reused\"}",
+    ),
+    (
+        "POST",
+        "/t/a/maps",
+        STRAW2,
+        422,
+        "{\"error\":\"map_refused\",\"fault\":\"X2\",\"line\":13}",
+    ),
+    (
+        "GET",
+        "/t/a",
+        "",
+        200,
+        "{\"devices\":0,\"epoch\":1,\"pools\":0,\"tenant\":\"a\",\"versions\":1}",
+    ),
+    (
+        "POST",
+        "/t/a/maps",
+        SECOND,
+        201,
+        "{\"epoch\":2,\"version\":2}",
+    ),
+    (
+        "POST",
+        "/t/b/maps",
+        OTHER,
+        201,
+        "{\"epoch\":1,\"version\":1}",
+    ),
+    (
+        "POST",
+        "/t/a/test",
+        "{\"rule\":0,\"size\":2,\"x\":5}",
+        200,
+        "{\"epoch\":2,\"items\":[3,null],\"trace\":[3],\"version\":2}",
+    ),
+    (
+        "POST",
+        "/t/b/test",
+        "{\"rule\":0,\"size\":2,\"x\":5}",
+        200,
+        "{\"epoch\":1,\"items\":[3,null],\"trace\":[3],\"version\":1}",
+    ),
+    (
+        "POST",
+        "/t/a/test",
+        "{\"rule\":0,\"size\":2,\"version\":1,\"x\":5}",
+        200,
+        "{\"epoch\":2,\"items\":[0],\"trace\":[0],\"version\":1}",
+    ),
+    (
+        "POST",
+        "/t/a/test",
+        "{\"rule\":1,\"size\":2,\"x\":5}",
+        404,
+        "{\"error\":\"no_rule\"}",
+    ),
+    (
+        "POST",
+        "/t/b/test",
+        "{\"rule\":0,\"size\":2,\"version\":2,\"x\":5}",
+        404,
+        "{\"error\":\"no_version\"}",
+    ),
+    ("GET", "/t/b/maps/2", "", 404, "{\"error\":\"no_version\"}"),
+    ("GET", "/t/a/maps/0", "", 404, "{\"error\":\"no_version\"}"),
+    ("DELETE", "/t/a", "", 200, "{\"dropped\":\"a\"}"),
+    ("POST", "/t/a/maps", FIRST, 404, "{\"error\":\"no_tenant\"}"),
+    ("PUT", "/t/a", "", 201, "{\"epoch\":0,\"tenant\":\"a\"}"),
+    (
+        "POST",
+        "/t/b/test",
+        "{\"rule\":0,\"size\":2,\"x\":5}",
+        200,
+        "{\"epoch\":1,\"items\":[3,null],\"trace\":[3],\"version\":1}",
+    ),
+    (
+        "POST",
+        "/t/a/maps",
+        OTHER,
+        201,
+        "{\"epoch\":1,\"version\":1}",
+    ),
+];
+
+fn call(alloc: Global, row: &Row) -> Result<Call, AllocError> {
+    let (method, path, body, _, _) = *row;
+    Ok(Call {
+        method: Bytes::new(Vec::from_slice(alloc, method.as_bytes())?),
+        path: Text::copy(alloc, path)?,
+        body: Bytes::new(Vec::from_slice(alloc, body.as_bytes())?),
+    })
+}
+
+/// The rows whose paths begin so.
+fn rows_below(alloc: Global, path: &str) -> Result<Vec<Row>, AllocError> {
+    let mut rows = Vec::new(alloc);
+    for row in ROWS {
+        if row.1.starts_with(path) {
+            rows.push(row)?;
+        }
+    }
+    Ok(rows)
+}
+
+/// The replies to the calls of some rows, on a service without a tenant.
+fn replies_to(alloc: Global, rows: &[Row]) -> Result<Vec<Reply>, AllocError> {
+    let mut calls = Vec::new(alloc);
+    for row in rows {
+        calls.push(call(alloc, row)?)?;
+    }
+    Service::over_map(alloc)?.run(&calls)
+}
+
+/// The headline by example: the calls of both tenants in turn, and those of each alone, have the same replies.
+#[test]
+fn tenants_in_turn_are_answered_as_each_alone(rt: HostRuntime) -> Result<(), Fail> {
+    let alloc = rt.alloc();
+    for path in ["/t/", "/t/a", "/t/b"] {
+        let rows = rows_below(alloc, path)?;
+        let replies = replies_to(alloc, &rows)?;
+        assert_eq!(rt; replies.len(), rows.len());
+        for (reply, (method, path, _, status, body)) in replies.iter().zip(rows) {
+            assert_eq!(rt; reply.status, status, "{method} {path}");
+            assert_eq!(rt; reply.body.as_str(), body, "{method} {path}");
+        }
+    }
+    Ok(())
+}
+
+/// The canonical text is of another form than the text that was imported.
+#[test]
+fn a_version_is_read_as_its_canonical_text(rt: HostRuntime) -> Result<(), Fail> {
+    let alloc = rt.alloc();
+    let mut service = Service::over_map(alloc)?;
+    for (method, path, body, status) in [
+        ("PUT", "/t/a", "", 201),
+        ("POST", "/t/a/maps", FIRST, 201),
+        ("POST", "/t/a/maps", SECOND, 201),
+    ] {
+        let reply = service.request(CallParts {
+            method: method.as_bytes(),
+            path,
+            body: body.as_bytes(),
+        });
+        assert_eq!(rt; reply.status, status, "{method} {path}");
+    }
+    let reply = service.request(CallParts {
+        method: b"GET",
+        path: "/t/a/maps/1",
+        body: b"",
+    });
+    assert_eq!(rt; reply.status, 200);
+    assert_eq!(rt; reply.body.as_str(), CANONICAL);
+    Ok(())
+}
+
+/// The change that an import makes of a tenant that was just created.
+fn change_by(alloc: Global, body: &str) -> Result<Option<Change>, AllocError> {
+    let routes = Routes::build(alloc)?;
+    let call = CallParts {
+        method: b"POST",
+        path: "/t/a/maps",
+        body: body.as_bytes(),
+    };
+    let Ok(request) = read_request(alloc, &routes, call) else {
+        return Ok(None);
+    };
+    let state = TenantState::fresh(alloc);
+    match decide(alloc, "a", Some(&state), &request.action)?.effect {
+        Effect::Change(change) => Ok(Some(change)),
+        _ => Ok(None),
+    }
+}
+
+/// What is loaded stays as it is while the store is changed, which then has the new state.
+#[test]
+fn a_state_that_is_lent_stays(rt: HostRuntime) -> Result<(), Fail> {
+    let alloc = rt.alloc();
+    let mut store = MemoryStore::new(alloc);
+    assert!(rt; store.create("a").is_ok());
+    for (before, after, body) in [(0, 1, FIRST), (1, 2, SECOND)] {
+        let Some(change) = change_by(alloc, body)? else {
+            assert!(rt; false, "the import changes the tenant");
+            return Ok(());
+        };
+        let Ok(Some(lent)) = store.load("a") else {
+            assert!(rt; false, "the tenant is there");
+            return Ok(());
+        };
+        assert!(rt; store.commit("a", &change).is_ok());
+        assert_eq!(rt; lent.epoch(), before);
+        assert_eq!(rt; lent.newest(), before);
+        let Ok(Some(found)) = store.load("a") else {
+            assert!(rt; false, "the tenant is there");
+            return Ok(());
+        };
+        assert_eq!(rt; found.epoch(), after);
+        assert_eq!(rt; found.newest(), after);
+        assert!(rt; found.version(after).is_some());
+    }
+    let Ok(Some(last)) = store.load("a") else {
+        assert!(rt; false, "the tenant is there");
+        return Ok(());
+    };
+    assert_eq!(rt; last.newest(), 2);
+    assert!(rt; store.remove("a").is_ok());
+    assert_eq!(rt; last.newest(), 2);
+    assert!(rt; matches!(store.load("a"), Ok(None)));
+    Ok(())
+}
