@@ -17,7 +17,8 @@ help:
 	@echo 'make wrong     tries the edits of the crates that changed, or of CRATES="NAME..", and records what refused them;'
 	@echo '               CRATES="--from build" records what the last make test or make gate tried'
 	@echo 'make install   builds, and installs PREFIX/bin/crushcalc (PREFIX=/usr/local)'
-	@echo 'make ceph-check   compares 176,000 mappings and 93 name hashes with those of Ceph'"'"'s own library, and map texts with its crushtool'
+	@echo 'make ceph-check   compares 176,000 mappings by requests, 154,000 with reweights and 93 name hashes with those of Ceph'"'"'s own library,'
+	@echo '               and map texts with its crushtool'
 	@echo 'make bench     builds and measures; beside Ceph'"'"'s own library where that is installed'
 	@echo 'make bench-deps   installs what the comparisons with Ceph need (Debian: librados2, ceph-base, gcc)'
 	@echo 'make serve     the server (not built yet)'
@@ -47,19 +48,12 @@ crushcalc: $(SOURCES) crates.txt HANDLES | tools
 	@cp crates/crushcalc/out/crushcalc crushcalc
 	@echo 'Built ./crushcalc.'
 
-# what make bench measures beside Ceph, built in the same way
+# what make bench measures beside Ceph, and what answers mappings with reweights; built in the same way
 build/crush_bench: $(SOURCES) crates.txt HANDLES | tools
 	@mkdir -p build
 	@echo 'Proving and building crush_bench, which is measured. build/bench.log shows how far it is.'
 	@(cd crates/crush_bench && $(RT) run -- small) >build/bench.txt 2>build/bench.log || { tail -n 30 build/bench.log; echo 'The build failed; the whole log is build/bench.log.' >&2; exit 1; }
 	@cp crates/crush_bench/out/crush_bench build/crush_bench
-
-# what answers the rules of described maps; it is built while its stored run is played
-build/crush_mappings: $(SOURCES) crates.txt HANDLES | tools
-	@mkdir -p build
-	@echo 'Proving and building crush_mappings, whose answers are compared. build/mappings.log shows how far it is.'
-	@(cd crates/crush_mappings && $(RT) run <stdin) >build/mappings.txt 2>build/mappings.log || { tail -n 30 build/mappings.log; echo 'The build failed; the whole log is build/mappings.log.' >&2; exit 1; }
-	@cp crates/crush_mappings/out/crush_mappings build/crush_mappings
 
 # a script's lines, each with its reply
 SHOW = awk '$$0 != "" { print "> " $$0; getline reply <"build/first.replies"; print reply }' examples/first.script
@@ -92,12 +86,12 @@ install: build
 serve:
 	@echo "The server isn't built yet: crushcalc has the commands 'script' and 'check' only." >&2; exit 1
 
-ceph-check: build build/crush_bench build/crush_mappings bench-deps
+ceph-check: build build/crush_bench bench-deps
 	@python3 tests/ceph/check_names
-	@python3 tests/ceph/check build/crush_mappings
+	@python3 tests/ceph/check ./crushcalc build/crush_bench
 	@python3 tests/ceph/check_texts ./crushcalc build/crush_bench
 
-bench: build build/crush_bench build/crush_mappings
+bench: build build/crush_bench
 	@sh bench/all
 
 bench-deps:

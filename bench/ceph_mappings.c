@@ -1,7 +1,7 @@
 /* usage: ceph_mappings <DESCRIPTIONS
 
-   What crates/crush_mappings writes, by Ceph's own crush_do_rule: reads descriptions of maps and writes what their
-   rules answer. tests/ceph/README.md says what lines there are. */
+   Reads descriptions of maps and writes what their rules answer by Ceph's own crush_do_rule. tests/ceph/README.md says
+   what lines there are; tests/ceph/library.py writes them. */
 #include "ceph_crush.h"
 #include <string.h>
 

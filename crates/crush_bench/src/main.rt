@@ -3,19 +3,23 @@
 
 mod bucket;
 mod fullest;
+mod mappings;
+mod ready;
 mod text;
 mod words;
 
 use bucket::Questions;
 use crush_map::Kind;
-use crush_text::code_text;
+use crush_text::{TextFault, code_text};
+use ready::Ready;
 use std::process::ExitCode;
 use std::rt::{Clock, Env};
 use std::{env, io};
-use words::{Work, work_of};
+use words::{Size, Work, reweights_of, work_of};
 
 const USAGE: &str =
-    "usage: crush_bench [small] | pick KIND N COUNT [TRIES] | check | text     (KIND: 1 uniform, 2 list, 3 tree)";
+    "usage: crush_bench [small] | pick KIND N COUNT [TRIES] | check | text <TEXT | mappings SIZE COUNT [DEVICE:REWEIGHT ..] <TEXT
+(KIND: 1 uniform, 2 list, 3 tree)";
 
 /// The picks from each bucket in the small run.
 const FEW: Questions = Questions {
@@ -88,17 +92,45 @@ fn check<R: AllocGlobal + Clock + Print + Eprint>(rt: &R) -> io::Result<ExitCode
     }
 }
 
+/// Prints a text's first fault, and ends with status 1.
+fn refusal<R: Eprint>(rt: &R, refused: TextFault) -> io::Result<ExitCode> {
+    let line = refused.line;
+    let code = code_text(refused.code);
+    eprintln!(rt; "refused line {line} code {code}")?;
+    Ok(ExitCode::from(1))
+}
+
 /// The canonical text of the map whose text is on standard input.
 fn rewritten<R: AllocGlobal + Input + Print + Eprint>(rt: &R) -> io::Result<ExitCode> {
     match text::rewrite(rt)? {
         None => Ok(ExitCode::SUCCESS),
-        Some(refused) => {
-            let line = refused.line;
-            let code = code_text(refused.code);
-            eprintln!(rt; "refused line {line} code {code}")?;
-            Ok(ExitCode::from(1))
-        }
+        Some(refused) => refusal(rt, refused),
     }
+}
+
+/// Prints the checksum of the mappings of the map whose text is on standard input, and on standard error the microseconds of one mapping.
+fn mapped<R: AllocGlobal + Clock + Input + Print + Eprint>(
+    rt: &R,
+    size: Size,
+    inputs: u32,
+    reweights: &[(u32, u32)],
+) -> io::Result<ExitCode> {
+    let map = match text::read(rt)? {
+        Ok(map) => map,
+        Err(refused) => return refusal(rt, refused),
+    };
+    let mut ready = Ready::build(rt.alloc(), map, reweights)?;
+    let measured = mappings::measure(rt, &mut ready, size, inputs)?;
+    let each = measured.took.as_secs_f64() * 1e6 / f64::from(inputs);
+    rt.println(measured.checksum)?;
+    eprintln!(rt; "{each:.3}")?;
+    Ok(ExitCode::SUCCESS)
+}
+
+/// Says what the arguments may be, and ends with status 2.
+fn usage<R: Eprint>(rt: &R) -> io::Result<ExitCode> {
+    rt.eprintln(USAGE)?;
+    Ok(ExitCode::from(2))
 }
 
 fn done<R: AllocGlobal + Clock + Input + Print + Eprint>(
@@ -116,10 +148,13 @@ fn done<R: AllocGlobal + Clock + Input + Print + Eprint>(
         ) => pick(rt, kind, size, questions),
         Some(Work::Check) => check(rt),
         Some(Work::Text) => rewritten(rt),
-        None => {
-            rt.eprintln(USAGE)?;
-            Ok(ExitCode::from(2))
+        Some(Work::Mappings { size, inputs }) => {
+            match reweights_of(rt.alloc(), words.get(4..).unwrap_or(&[]))? {
+                Some(reweights) => mapped(rt, size, inputs, reweights.as_slice()),
+                None => usage(rt),
+            }
         }
+        None => usage(rt),
     }
 }
 

@@ -1,14 +1,20 @@
 //! A text of a map, read and written.
 
+use crush_map::CrushMap;
 use crush_text::{TextFault, read_map, write_map};
 use std::io;
 use std::io::{Read, Write};
 
-/// Reads the text of a map from standard input and writes its canonical text, or gives its first fault.
-pub(crate) fn rewrite<R: AllocGlobal + Input + Print>(rt: &R) -> io::Result<Option<TextFault>> {
+/// The map of the text on standard input, or the text's first fault.
+pub(crate) fn read<R: AllocGlobal + Input>(rt: &R) -> io::Result<Result<CrushMap, TextFault>> {
     let mut text = Vec::new(rt.alloc());
     rt.reader().read_to_end(&mut text)?;
-    match read_map(rt.alloc(), text.as_slice())? {
+    Ok(read_map(rt.alloc(), text.as_slice())?)
+}
+
+/// Writes the canonical text of the map whose text is on standard input, or gives that text's first fault.
+pub(crate) fn rewrite<R: AllocGlobal + Input + Print>(rt: &R) -> io::Result<Option<TextFault>> {
+    match read(rt)? {
         Ok(map) => {
             let written = write_map(rt.alloc(), &map)?;
             io::writer(rt).write_all(written.as_slice())?;

@@ -5,6 +5,15 @@ ghost use Rattle.crush_bench.specs.Words.{IsInRange};
 
 use crate::bucket::Questions;
 use crush_map::Kind;
+use std::alloc::{AllocError, Global};
+
+/// How many slots an answer has at most.
+#[derive(Clone, Copy)]
+pub struct Size {
+    pub slots: u32,
+    ghost some: { 1 ≤ slots },
+    ghost few: { slots ≤ 32 },
+}
 
 /// What to measure.
 #[derive(Clone, Copy)]
@@ -21,6 +30,11 @@ pub enum Work {
     Check,
     /// The canonical text of a text.
     Text,
+    /// The mappings of a map for the inputs 0, 1, ..; reweights may follow.
+    Mappings {
+        size: Size,
+        inputs: u32,
+    },
 }
 
 /// What the arguments ask for; the first of them is the program's own name.
@@ -39,6 +53,9 @@ pub(crate) fn work_of(words: &[String]) -> Option<Work>
             inputs.as_str(),
             tries.as_str(),
         ),
+        [_, word, size, inputs, ..] if word.as_str() == "mappings" => {
+            mappings_work(size.as_str(), inputs.as_str())
+        }
         _ => None,
     }
 }
@@ -54,6 +71,17 @@ fn pick_work(kind: &str, size: &str, inputs: &str, tries: &str) -> Option<Work>
         kind,
         size,
         questions: Questions { inputs, tries },
+    })
+}
+
+fn mappings_work(size: &str, inputs: &str) -> Option<Work>
+    ensures { IfSome result IsInRange }
+{
+    let slots = number(size, 32)?;
+    let inputs = number(inputs, u32::MAX)?;
+    Some(Work::Mappings {
+        size: Size { slots },
+        inputs,
     })
 }
 
@@ -87,4 +115,25 @@ fn number(word: &str, greatest: u32) -> Option<u32>
     } else {
         None
     }
+}
+
+/// The pairs of device and reweight that words name, or nothing where a word names no pair.
+pub(crate) fn reweights_of(
+    alloc: Global,
+    words: &[String],
+) -> Result<Option<Vec<(u32, u32)>>, AllocError> {
+    let mut reweights = Vec::with_capacity(alloc, words.len())?;
+    for word in words {
+        match reweight_of(word.as_str()) {
+            Some(pair) => reweights.push(pair)?,
+            None => return Ok(None),
+        }
+    }
+    Ok(Some(reweights))
+}
+
+/// DEVICE:REWEIGHT.
+fn reweight_of(word: &str) -> Option<(u32, u32)> {
+    let (device, reweight) = word.split_once(':')?;
+    Some((device.parse::<u32>().ok()?, reweight.parse::<u32>().ok()?))
 }

@@ -1,11 +1,10 @@
-//! Writing a map's answers.
+//! Timing whole mappings, by the first rule of a map.
 
-use crate::fault::Fault;
+use crate::bucket::Measured;
 use crate::ready::Ready;
 use crate::words::Size;
 use crush_choose::Slot;
 use std::io;
-use std::io::Write;
 use std::rt::Clock;
 use std::time::{Duration, Instant};
 
@@ -14,31 +13,6 @@ const NONE: u64 = 0x7fff_ffff;
 
 /// How many times the same work is timed.
 const RUNS: u32 = 5;
-
-fn write_answer<W: Write>(writer: &mut W, x: u32, slots: &[Slot]) -> io::Result<()> {
-    write!(writer, "{x}")?;
-    for slot in slots {
-        match *slot {
-            Some(item) => write!(writer, " {}", item.0)?,
-            None => write!(writer, " -")?,
-        }
-    }
-    writeln!(writer)
-}
-
-/// Writes the answers for the inputs from `first` to below `end`.
-pub(crate) fn run<W: Write>(
-    writer: &mut W,
-    ready: &mut Ready,
-    size: Size,
-    first: u32,
-    end: u32,
-) -> io::Result<()> {
-    for x in first..end {
-        write_answer(writer, x, ready.answer(x, size))?;
-    }
-    Ok(())
-}
 
 fn with_answer(sum: u64, slots: &[Slot]) -> u64 {
     let mut sum = sum;
@@ -61,14 +35,13 @@ fn checksum(ready: &mut Ready, size: Size, count: u32) -> u64 {
     sum
 }
 
-/// Writes the checksum, and on standard error the shortest time of a mapping, in microseconds.
-pub(crate) fn time<R: Eprint + Clock, W: Write>(
+/// Times the mappings for the inputs below `count`; the time is the shortest.
+pub(crate) fn measure<R: Clock>(
     rt: &R,
-    writer: &mut W,
     ready: &mut Ready,
     size: Size,
     count: u32,
-) -> Result<(), Fault> {
+) -> io::Result<Measured> {
     let mut sum = 0;
     let mut shortest = Duration::MAX;
     for _ in 0..RUNS {
@@ -76,10 +49,8 @@ pub(crate) fn time<R: Eprint + Clock, W: Write>(
         sum = checksum(ready, size, count);
         shortest = shortest.min(start.elapsed(rt)?);
     }
-    writeln!(writer, "{sum}")?;
-    if count > 0 {
-        let micros = shortest.as_secs_f64() * 1e6 / f64::from(count);
-        eprintln!(rt; "{micros:.3}")?;
-    }
-    Ok(())
+    Ok(Measured {
+        checksum: sum,
+        took: shortest,
+    })
 }

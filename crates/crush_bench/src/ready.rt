@@ -4,16 +4,14 @@ ghost use Rattle.std.specs.Prelude.{◌≡◌};
 ghost use Rattle.crush_map.specs.Map.{IsMap};
 ghost use Rattle.crush_bucket.specs.Tables.{perms_of, tables_of};
 
-use crate::description::Description;
-use crate::fault::Fault;
 use crate::words::Size;
 use crush_bucket::{Scratch, Tables};
 use crush_choose::laws::rules_of_a_map_can_run;
 use crush_choose::{Out, Slot, Weights, run_rule};
 use crush_map::CrushMap;
-use std::alloc::Global;
+use std::alloc::{AllocError, Global};
 
-/// A map with one rule, and all that running it needs.
+/// A map, and all that running its rules needs.
 #[derive(Drop)]
 pub struct Ready {
     map: CrushMap,
@@ -27,16 +25,17 @@ pub struct Ready {
 }
 
 impl Ready {
-    /// The map that a description declares.
-    pub(crate) fn build(alloc: Global, description: Description) -> Result<Ready, Fault> {
-        let (draft, reweights) = description.drafted()?;
-        let map = match CrushMap::check(alloc, draft)? {
-            Ok(map) => map,
-            Err((_, fault)) => return Err(Fault::Refused(fault)),
-        };
+    /// A map with pairs of device and reweight.
+    pub(crate) fn build(
+        alloc: Global,
+        map: CrushMap,
+        reweights: &[(u32, u32)],
+    ) -> Result<Ready, AllocError> {
+        // says that the map is valid
+        let _tunables = map.tunables();
         let tables = Tables::build(alloc, &map)?;
         let scratch = Scratch::build(alloc, &tables)?;
-        let weights = Weights::build(alloc, &map, &reweights)?;
+        let weights = Weights::build(alloc, &map, reweights)?;
         let out = Out::build(alloc)?;
         Ok(Ready {
             map,
@@ -47,7 +46,7 @@ impl Ready {
         })
     }
 
-    /// The answer of the rule for an input.
+    /// The answer of the map's first rule for an input; nothing where it has no rule.
     pub(crate) fn answer(&mut self, x: u32, size: Size) -> &[Slot] {
         rules_of_a_map_can_run();
         match self.map.rules().first() {

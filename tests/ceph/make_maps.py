@@ -1,9 +1,9 @@
 #!/usr/bin/env python3
-"""Writes the descriptions of maps beside this file, in maps/.
+"""The maps of the comparison with Ceph; run, it writes them beside this file, in maps/, as CRUSH map texts.
 
-usage: tests/ceph/make_maps
+usage: tests/ceph/make_maps.py
 
-README.md says what lines there are, and which maps are kept out. The same maps are written each time.
+README.md says what they cover, and which maps are kept out. The same maps are written each time.
 """
 import pathlib
 import random
@@ -11,16 +11,22 @@ import random
 HERE = pathlib.Path(__file__).resolve().parent
 ONE = 65536
 OSD, HOST, RACK, ROOT = 0, 1, 3, 10
+TYPES = {OSD: "osd", HOST: "host", RACK: "rack", ROOT: "root"}
+TUNABLES = ("choose_total_tries", "chooseleaf_descend_once", "chooseleaf_vary_r", "chooseleaf_stable")
 JEWEL, LEGACY = (50, 1, 1, 1), (19, 0, 0, 0)
-INPUTS = 2000  # of each map
+
+
+def weight_text(weight):
+    """All digits of a 16.16 weight, so that every reader has the same one: w / 65536 ends after 16 digits."""
+    return f"{weight >> 16}." + (f"{(weight & 65535) * 10**16 // 65536:016d}".rstrip("0") or "0")
 
 
 class Map:
-    """A map while it is declared; buckets below the root have ids from -2 on."""
+    """A map with one rule, 0, while it is declared; buckets below the root -1 have ids from -2 on."""
 
     def __init__(self, name, tunables=JEWEL):
         self.name, self.tunables, self.devices = name, tunables, 0
-        self.lines, self.steps, self.sizes, self.weight_of, self.next = [], [], (3,), {}, -2
+        self.buckets, self.reweights, self.steps, self.sizes, self.type_of, self.next = [], [], (), (3,), {}, -2
 
     def take_devices(self, count, weight=lambda d: ONE):
         first = self.devices
@@ -30,24 +36,43 @@ class Map:
     def bucket(self, kind, type_, entries, id_=None):
         if id_ is None:
             id_, self.next = self.next, self.next - 1
-        self.lines.append(f"bucket {id_} {type_} {kind}" + "".join(f" {i}:{w}" for i, w in entries))
+        self.buckets.append((id_, type_, kind, tuple(entries)))
+        self.type_of[id_] = type_
         return id_, sum(w for _, w in entries)
 
     def reweight(self, device, weight):
-        self.lines.append(f"reweight {device} {weight}")
+        self.reweights.append((device, weight))
 
     def rule(self, *steps, sizes=(3,)):
         self.steps, self.sizes = steps, sizes
         return self
 
-    def text(self, inputs):
-        head = [f"map {self.name}", "tunables %d %d %d %d" % self.tunables, f"devices {self.devices}"]
+    def shares(self, inputs):
+        """The sizes of answers, each with its first input and their number."""
         share = [inputs // len(self.sizes) + (1 if i < inputs % len(self.sizes) else 0) for i in range(len(self.sizes))]
-        first, runs = 0, []
-        for size, count in zip(self.sizes, share):
-            runs.append(f"run {size} {first} {count}")
-            first += count
-        return "\n".join(head + self.lines + [f"step {s}" for s in self.steps] + runs) + "\n"
+        return [(size, sum(share[:i]), share[i]) for i, size in enumerate(self.sizes)]
+
+    def item_name(self, id_):
+        return f"osd.{id_}" if id_ >= 0 else f"{TYPES[self.type_of[id_]]}{-id_}"
+
+    def step_text(self, step):
+        word, *rest = step.split()
+        if word == "take":
+            return f"take {self.item_name(int(rest[0]))}"
+        return f"{word} {rest[0]} {rest[1]} type {TYPES[int(rest[2])]}" if word in ("choose", "chooseleaf") else step
+
+    def text(self):
+        """The CRUSH map text; crushtool of release 16 wants the sizes in the rule."""
+        lines = ["# begin crush map", "tunable choose_local_tries 0", "tunable choose_local_fallback_tries 0"]
+        lines += [f"tunable {name} {value}" for name, value in zip(TUNABLES, self.tunables)]
+        lines += ["", "# devices"] + [f"device {d} osd.{d}" for d in range(self.devices)]
+        lines += ["", "# types"] + [f"type {number} {name}" for number, name in TYPES.items()] + ["", "# buckets"]
+        for id_, type_, kind, entries in self.buckets:
+            items = [f"\titem {self.item_name(it)} weight {weight_text(weight)}" for it, weight in entries]
+            lines += [f"{TYPES[type_]} {self.item_name(id_)} {{", f"\tid {id_}", f"\talg {kind}", "\thash 0", *items, "}"]
+        lines += ["", "# rules", "rule data {", "\tid 0", "\ttype replicated", "\tmin_size 1", "\tmax_size 10"]
+        lines += [f"\tstep {self.step_text(it)}" for it in self.steps]
+        return "\n".join(lines + ["}", "", "# end crush map"]) + "\n"
 
 
 def even(d):
@@ -286,11 +311,13 @@ def all_maps():
 
 def main():
     maps = list(all_maps())
+    (HERE / "maps").mkdir(exist_ok=True)
     for old in (HERE / "maps").glob("*.txt"):
         old.unlink()
     for it in maps:
-        (HERE / "maps" / f"{it.name}.txt").write_text(it.text(INPUTS))
+        (HERE / "maps" / f"{it.name}.txt").write_text(it.text())
     print(f"{len(maps)} maps")
 
 
-main()
+if __name__ == "__main__":
+    main()
