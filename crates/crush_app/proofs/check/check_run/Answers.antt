@@ -1,5 +1,5 @@
 use Rattle.std.proofs.Common.{rules, string_bytes}
-use Rattle.crush_app.proofs.Checking.{map_accepted, map_refused, fault_accepted, fault_refused}
+use Rattle.crush_app.proofs.Checking.{refused_end, map_accepted, map_refused, fault_accepted, fault_refused}
 use Rattle.crush_app.proofs.check.check_run.Goals as goal
 
 -- the input is a text of a map
@@ -17,3 +17,6 @@ returns-clause-of_map g c = λ _. map_refused c.texts_of_maps_have_no_fault.ensu
 pub returns-clause-of_fault : goal.returns-clause-of_fault
 returns-clause-of_fault g c =
     λ _. fault_refused c.texts_have_a_map_or_one_fault.ensures.one_fault _ _ _ _ (string_bytes c.in-Some.verdict.line) c.in-Some.verdict.accepted c.if-verdict.false (search rules) (search rules)
+
+pub returns-clause-refused : goal.returns-clause-refused
+returns-clause-refused g c = λ _. refused_end _ _ _ (string_bytes c.in-Some.verdict.line) c.in-Some.verdict.accepted c.if-verdict.false (search rules) (search rules)
