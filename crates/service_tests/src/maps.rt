@@ -5,8 +5,8 @@ use crush_map::Text;
 use std::alloc::{AllocError, Global};
 use std::test::Fail;
 use tenant_core::{
-    Bytes, Call, CallParts, Change, Effect, Reply, Routes, TenantState, TenantStore, decide,
-    read_request,
+    Bytes, Call, CallParts, Change, Decision, Effect, Reply, Routes, TenantState, TenantStore,
+    decide, read_request,
 };
 
 /// An import of a map with the one device 0, under the request number m1.
@@ -240,9 +240,48 @@ fn change_by(alloc: Global, body: &str) -> Result<Option<Change>, AllocError> {
         return Ok(None);
     };
     let state = TenantState::fresh(alloc);
-    match decide(alloc, "a", Some(&state), &request.action)?.effect {
+    let Decision {
+        effect,
+        reply: _reply,
+    } = decide(alloc, "a", Some(&state), &request.action)?;
+    match effect {
         Effect::Change(change) => Ok(Some(change)),
         _ => Ok(None),
+    }
+}
+
+/// The epochs of a state of tenant a that was lent while an import changed the store, and of the state that the store then has.
+fn lent_and_changed(
+    alloc: Global,
+    store: &mut MemoryStore,
+    body: &str,
+) -> Result<Option<(u64, u64)>, AllocError> {
+    let Some(change) = change_by(alloc, body)? else {
+        return Ok(None);
+    };
+    let Ok(Some(lent)) = store.load("a") else {
+        return Ok(None);
+    };
+    if store.commit("a", &change).is_err() {
+        return Ok(None);
+    }
+    match store.load("a") {
+        Ok(Some(found)) => Ok(Some((lent.epoch(), found.epoch()))),
+        _ => Ok(None),
+    }
+}
+
+/// The epoch of a state of tenant a that was lent while the tenant was removed, if the store then has no such tenant.
+fn lent_and_removed(store: &mut MemoryStore) -> Option<u64> {
+    let Ok(Some(lent)) = store.load("a") else {
+        return None;
+    };
+    if store.remove("a").is_err() {
+        return None;
+    }
+    match store.load("a") {
+        Ok(None) => Some(lent.epoch()),
+        _ => None,
     }
 }
 
@@ -252,33 +291,8 @@ fn a_state_that_is_lent_stays(rt: HostRuntime) -> Result<(), Fail> {
     let alloc = rt.alloc();
     let mut store = MemoryStore::new(alloc);
     assert!(rt; store.create("a").is_ok());
-    for (before, after, body) in [(0, 1, FIRST), (1, 2, SECOND)] {
-        let Some(change) = change_by(alloc, body)? else {
-            assert!(rt; false, "the import changes the tenant");
-            return Ok(());
-        };
-        let Ok(Some(lent)) = store.load("a") else {
-            assert!(rt; false, "the tenant is there");
-            return Ok(());
-        };
-        assert!(rt; store.commit("a", &change).is_ok());
-        assert_eq!(rt; lent.epoch(), before);
-        assert_eq!(rt; lent.newest(), before);
-        let Ok(Some(found)) = store.load("a") else {
-            assert!(rt; false, "the tenant is there");
-            return Ok(());
-        };
-        assert_eq!(rt; found.epoch(), after);
-        assert_eq!(rt; found.newest(), after);
-        assert!(rt; found.version(after).is_some());
-    }
-    let Ok(Some(last)) = store.load("a") else {
-        assert!(rt; false, "the tenant is there");
-        return Ok(());
-    };
-    assert_eq!(rt; last.newest(), 2);
-    assert!(rt; store.remove("a").is_ok());
-    assert_eq!(rt; last.newest(), 2);
-    assert!(rt; matches!(store.load("a"), Ok(None)));
+    assert!(rt; lent_and_changed(alloc, &mut store, FIRST)? == Some((0, 1)));
+    assert!(rt; lent_and_changed(alloc, &mut store, SECOND)? == Some((1, 2)));
+    assert!(rt; lent_and_removed(&mut store) == Some(2));
     Ok(())
 }
