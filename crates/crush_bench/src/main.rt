@@ -5,6 +5,7 @@ mod bucket;
 mod fullest;
 mod mappings;
 mod ready;
+mod size;
 mod text;
 mod words;
 
@@ -12,10 +13,11 @@ use bucket::Questions;
 use crush_map::Kind;
 use crush_text::{TextFault, code_text};
 use ready::Ready;
+use size::Size;
 use std::process::ExitCode;
 use std::rt::{Clock, Env};
 use std::{env, io};
-use words::{Size, Work, reweights_of, work_of};
+use words::{Work, reweights_of, work_of};
 
 const USAGE: &str =
     "usage: crush_bench [small] | pick KIND N COUNT [TRIES] | check | text <TEXT | mappings SIZE COUNT [DEVICE:REWEIGHT ..] <TEXT

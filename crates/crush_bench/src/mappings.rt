@@ -2,7 +2,7 @@
 
 use crate::bucket::Measured;
 use crate::ready::Ready;
-use crate::words::Size;
+use crate::size::Size;
 use crush_choose::Slot;
 use std::io;
 use std::rt::Clock;

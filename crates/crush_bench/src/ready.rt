@@ -4,7 +4,7 @@ ghost use Rattle.std.specs.Prelude.{◌≡◌};
 ghost use Rattle.crush_map.specs.Map.{IsMap};
 ghost use Rattle.crush_bucket.specs.Tables.{perms_of, tables_of};
 
-use crate::words::Size;
+use crate::size::Size;
 use crush_bucket::{Scratch, Tables};
 use crush_choose::laws::rules_of_a_map_can_run;
 use crush_choose::{Out, Slot, Weights, run_rule};

@@ -4,16 +4,9 @@ ghost use Rattle.std.specs.Prelude.{◌≤◌, IfSome};
 ghost use Rattle.crush_bench.specs.Words.{IsInRange};
 
 use crate::bucket::Questions;
+use crate::size::Size;
 use crush_map::Kind;
 use std::alloc::{AllocError, Global};
-
-/// How many slots an answer has at most.
-#[derive(Clone, Copy)]
-pub struct Size {
-    pub slots: u32,
-    ghost some: { 1 ≤ slots },
-    ghost few: { slots ≤ 32 },
-}
 
 /// What to measure.
 #[derive(Clone, Copy)]
