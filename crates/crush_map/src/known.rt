@@ -1,6 +1,6 @@
 //! The numbers, ids and names declared so far, and the checks of the next element against them.
 
-ghost use Rattle.std.specs.Prelude.{◌≡◌, ◌≤◌, IfOk, if◌then◌else◌, length, None};
+ghost use Rattle.std.specs.Prelude.{◌≡◌, ◌≤◌, IfOk, OnOk, if◌then◌else◌, length, None};
 ghost use Rattle.crush_map.specs.Faults as spec;
 
 use crate::draft::{Bucket, Device, Rule, Step, Tunables, TypeName};
@@ -40,17 +40,17 @@ impl Model for Known {
 
 impl Known {
     /// Nothing declared yet.
-    pub fn new(alloc: Global) -> Result<Self, AllocError>
-        ensures { IfOk result (λ known. known ≡ spec.nothing) }
+    pub fn new(alloc: Global) -> Self
+        ensures { result ≡ spec.nothing }
     {
-        Ok(Known {
+        Known {
             types: Numbers::new(alloc),
             type_names: Names::new(alloc),
             items: Ids::new(alloc),
             item_names: Names::new(alloc),
             rules: Numbers::new(alloc),
             rule_names: Names::new(alloc),
-        })
+        }
     }
 
     /// The fault of a type, if it is declared next.
@@ -74,14 +74,13 @@ impl Known {
         }
     }
 
-    /// Adds a type that has no fault.
-    pub fn with_type(mut self, alloc: Global, declared: &TypeName) -> Result<Self, AllocError>
-        requires { spec.type_fault self declared.now ≡ None }
-        ensures { IfOk result (λ known. known ≡ spec.with_type self declared.now) }
+    /// Adds a type that has no fault. After `AllocError` nothing is said of what is declared.
+    pub fn add_type(&mut self, alloc: Global, declared: &TypeName) -> Result<(), AllocError>
+        requires { spec.type_fault self.old declared.now ≡ None }
+        ensures { OnOk result (self.new ≡ spec.with_type self.old declared.now) }
     {
-        self.types = self.types.with(declared.number)?;
-        self.type_names = self.type_names.with(alloc, declared.name.as_str())?;
-        Ok(self)
+        self.types.add(declared.number)?;
+        self.type_names.add(alloc, declared.name.as_str())
     }
 
     /// The fault of a device, if it is declared next.
@@ -105,14 +104,13 @@ impl Known {
         }
     }
 
-    /// Adds a device that has no fault.
-    pub fn with_device(mut self, alloc: Global, declared: &Device) -> Result<Self, AllocError>
-        requires { spec.device_fault self declared.now ≡ None }
-        ensures { IfOk result (λ known. known ≡ spec.with_device self declared.now) }
+    /// Adds a device that has no fault. After `AllocError` nothing is said of what is declared.
+    pub fn add_device(&mut self, alloc: Global, declared: &Device) -> Result<(), AllocError>
+        requires { spec.device_fault self.old declared.now ≡ None }
+        ensures { OnOk result (self.new ≡ spec.with_device self.old declared.now) }
     {
-        self.items = self.items.with_device(declared.id)?;
-        self.item_names = self.item_names.with(alloc, declared.name.as_str())?;
-        Ok(self)
+        self.items.add_device(declared.id)?;
+        self.item_names.add(alloc, declared.name.as_str())
     }
 
     /// The fault of a bucket, if it is declared next. Memory is needed to find an item that is listed twice.
@@ -187,19 +185,18 @@ impl Known {
             if before.has(item.0) {
                 return Ok(Some(FaultCode::M6));
             }
-            before = before.with(item.0)?;
+            before.add(item.0)?;
         }
         Ok(None)
     }
 
-    /// Adds a bucket that has no fault.
-    pub fn with_bucket(mut self, alloc: Global, declared: &Bucket) -> Result<Self, AllocError>
-        requires { spec.bucket_fault self declared.now ≡ None }
-        ensures { IfOk result (λ known. known ≡ spec.with_bucket self declared.now) }
+    /// Adds a bucket that has no fault. After `AllocError` nothing is said of what is declared.
+    pub fn add_bucket(&mut self, alloc: Global, declared: &Bucket) -> Result<(), AllocError>
+        requires { spec.bucket_fault self.old declared.now ≡ None }
+        ensures { OnOk result (self.new ≡ spec.with_bucket self.old declared.now) }
     {
-        self.items = self.items.with(declared.id)?;
-        self.item_names = self.item_names.with(alloc, declared.name.as_str())?;
-        Ok(self)
+        self.items.add(declared.id)?;
+        self.item_names.add(alloc, declared.name.as_str())
     }
 
     /// The fault of a choose step.
@@ -286,14 +283,13 @@ impl Known {
         }
     }
 
-    /// Adds a rule that has no fault.
-    pub fn with_rule(mut self, alloc: Global, declared: &Rule) -> Result<Self, AllocError>
-        requires { spec.rule_fault self declared.now ≡ None }
-        ensures { IfOk result (λ known. known ≡ spec.with_rule self declared.now) }
+    /// Adds a rule that has no fault. After `AllocError` nothing is said of what is declared.
+    pub fn add_rule(&mut self, alloc: Global, declared: &Rule) -> Result<(), AllocError>
+        requires { spec.rule_fault self.old declared.now ≡ None }
+        ensures { OnOk result (self.new ≡ spec.with_rule self.old declared.now) }
     {
-        self.rules = self.rules.with(declared.id)?;
-        self.rule_names = self.rule_names.with(alloc, declared.name.as_str())?;
-        Ok(self)
+        self.rules.add(declared.id)?;
+        self.rule_names.add(alloc, declared.name.as_str())
     }
 
     /// The fault of a whole draft whose elements have none: no type 0, a tunable out of range, or local tries.

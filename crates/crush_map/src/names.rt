@@ -1,6 +1,6 @@
 //! A list of names, with an index by which one is looked up.
 
-ghost use Rattle.std.specs.Prelude.{◌≡◌, ◌++◌, ◌∷◌, [], IfOk};
+ghost use Rattle.std.specs.Prelude.{◌≡◌, ◌++◌, ◌∷◌, [], OnErr, OnOk};
 ghost use Rattle.crush_map.specs.Faults as spec;
 
 use crate::text::Text;
@@ -45,16 +45,16 @@ impl Names {
         self.index.contains(name)
     }
 
-    /// Adds a name at the end.
-    pub(crate) fn with(self, alloc: Global, name: &str) -> Result<Self, AllocError>
-        ensures { IfOk result (λ names. names ≡ self ++ name.now ∷ []) }
+    /// Adds a name at the end. After `AllocError` the list is as it was.
+    pub(crate) fn add(&mut self, alloc: Global, name: &str) -> Result<(), AllocError>
+        ensures ok { OnOk result (self.new ≡ self.old ++ name.now ∷ []) }
+        ensures err { OnErr result (self.new ≡ self.old) }
     {
-        let Names {
-            mut order,
-            mut index,
-        } = self;
-        order.push(Text::copy(alloc, name)?)?;
-        index.insert(String::from_str(alloc, name)?)?;
-        Ok(Names { order, index })
+        let listed = Text::copy(alloc, name)?;
+        let key = String::from_str(alloc, name)?;
+        self.order.reserve(1)?;
+        self.index.insert(key)?;
+        self.order.push_reserved(listed);
+        Ok(())
     }
 }
