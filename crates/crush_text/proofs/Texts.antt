@@ -61,14 +61,6 @@ form_faulty ws ds f breaks each = record { declarations = ds; at = f; breaks = b
 
 -- ---- what reading finds
 
--- such a text is not refused as a draft
-pub never_refused : {A : Type 0} (ws : List Word) (s : Declared) (draft : MapDraft) (answer : Result A (MapDraft × MapFault)) (e : MapDraft × MapFault) → IsClean ws s → at_end s ≡ None → draft ≡ s.draft →
-    option_map (λ p. p.1) (result_err answer) ≡ first_fault draft → answer ≡ Err e → ⊥
-never_refused ws s draft answer e clean end same fault is =
-    let none : first_fault draft ≡ None = ap first_fault same ∙ clean_draft ws s clean end in
-    let some : option_map (λ p. p.1) (result_err answer) ≡ Some e.1 = rw is refl in
-    cc
-
 pub clean : (ws : List Word) (ds xs : List Declaration) (o : Option TextFault) (answer : Result Declared TextFault) (s : Declared) → xs ≡ ds → MatchOption o (Declares ws ds) (λ at. Breaks ws ds at) → o ≡ None →
     result_err answer ≡ declared_fault xs → IfOk answer (λ judge. judge ≡ declared xs) → answer ≡ Ok s → IsClean ws s
 clean ws ds xs o answer s same form none each all is = record { declarations = xs; form = rw same (rw none at form); each = sym (rw is at each); all = rw is at all }
