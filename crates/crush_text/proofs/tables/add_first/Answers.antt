@@ -3,7 +3,7 @@ use Rattle.std.specs.BTreeMap.{get_by_text}
 use Rattle.std.specs.String.{string_bytes}
 use Rattle.std.proofs.lemmas.Map.Text.{btree_map_updates_text}
 use Rattle.crush_text.proofs.FirstOfName.{first_stays, first_comes}
-use Rattle.crush_text.proofs.tables.with_first.Goals as goal
+use Rattle.crush_text.proofs.tables.add_first.Goals as goal
 
 pub returns-then-contains_key : goal.returns-then-contains_key
 returns-then-contains_key c = first_stays (get_by_text c.args.index) c.args.name.now c.args.item (sym c.contains_key.ensures ∙ c.if-contains_key.true)
