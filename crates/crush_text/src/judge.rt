@@ -346,10 +346,11 @@ impl Judge {
     {
         let bucket = self.bucket_of(alloc, declared)?;
         let fault = self.bucket_fault(alloc, declared, &bucket)?;
-        if fault.is_none() {
-            self.add_bucket(alloc, bucket)?;
+        if let Some(found) = fault {
+            return Ok(Some(found));
         }
-        Ok(fault)
+        self.add_bucket(alloc, bucket)?;
+        Ok(None)
     }
 
     /// The step that is declared; steps that set local tries are dropped.
