@@ -346,11 +346,13 @@ impl Judge {
     {
         let bucket = self.bucket_of(alloc, declared)?;
         let fault = self.bucket_fault(alloc, declared, &bucket)?;
-        if let Some(found) = fault {
-            return Ok(Some(found));
+        match fault {
+            Some(found) => Ok(Some(found)),
+            None => {
+                self.add_bucket(alloc, bucket)?;
+                Ok(None)
+            }
         }
-        self.add_bucket(alloc, bucket)?;
-        Ok(None)
     }
 
     /// The step that is declared; steps that set local tries are dropped.
@@ -458,11 +460,13 @@ impl Judge {
         ensures declared { IfOk result (λ fault. fault ≡ None → self.new ≡ spec.declare self.old (kinds.Rule declared.now)) }
     {
         let rule = self.rule_of(alloc, declared)?;
-        if let Some(code) = self.rule_fault(declared, &rule) {
-            return Ok(Some(at_line(declared.line, code)));
+        match self.rule_fault(declared, &rule) {
+            Some(code) => Ok(Some(at_line(declared.line, code))),
+            None => {
+                self.add_rule(alloc, rule)?;
+                Ok(None)
+            }
         }
-        self.add_rule(alloc, rule)?;
-        Ok(None)
     }
 
     /// The fault of a declaration; where it has none, it is declared.
