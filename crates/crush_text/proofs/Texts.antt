@@ -1,12 +1,10 @@
 -- What a text is found to be: a map, or refused for its first fault.
-use Rattle.std.proofs.Common.{◌≡◌, ◌∙◌, ◌⊎◌, inl, inr, List, Option, Some, None, MatchOption, refl, sym, ap, option_map}
+use Rattle.std.proofs.Common.{◌≡◌, ◌∙◌, ◌⊎◌, inl, inr, List, Option, Some, None, MatchOption, sym, ap}
 use Rattle.std.proofs.Common.{Result, Ok, Err}
 use Rattle.std.specs.Result.{result_err}
 use Rattle.std.proofs.Common.{IfOk, IfErr}
 use Rattle.std.proofs.lemmas.Result.{IfOk-weaker}
 use Rattle.crush_map.specs.declared.fault.FaultCode.{FaultCode}
-use Rattle.crush_map.specs.declared.fault.MapFault.{MapFault}
-use Rattle.crush_map.specs.declared.draft.MapDraft.{MapDraft}
 use Rattle.crush_map.specs.Faults.{or_else, end_fault, first_fault}
 use Rattle.crush_map.specs.Map.{Map, IsMap, IsMapOf}
 use Rattle.crush_words.specs.Words.{Word}
