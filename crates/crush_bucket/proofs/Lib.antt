@@ -1,6 +1,8 @@
 pub mod Eight
 pub mod Greatest
 pub mod Appended
+pub mod Differing
+pub mod Exchanging
 pub mod Heights
 pub mod Lanes
 pub mod Members

@@ -2,5 +2,5 @@
 pub mod Descent
 pub mod Kept
 pub mod Laid
-pub mod Reached
+pub mod Pairs
 pub mod Rows

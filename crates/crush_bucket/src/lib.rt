@@ -4,14 +4,15 @@
 #![tactic(auto)]
 
 mod descent;
-mod extent;
 mod index;
 pub mod laws;
 mod list;
 pub mod list_laws;
 mod number;
+mod pairs;
 mod perm;
 mod picker;
+mod place_hashes;
 mod row;
 mod scratch;
 mod sums;

@@ -2,7 +2,7 @@
 
 ghost use Rattle.std.specs.Prelude.{◌≡◌, ◌<◌, ◌^◌, IfOk, length};
 ghost use Rattle.crush_bucket.specs.Bucket.{IsItemOf};
-ghost use Rattle.crush_bucket.specs.Pick.{pick, perm_for};
+ghost use Rattle.crush_bucket.specs.Pick.{pick, perm_for, of_each};
 ghost use Rattle.crush_bucket.specs.Tables.{typed_bucket};
 ghost use Rattle.crush_bucket.specs.Private.Laid.{IsFit};
 ghost use Rattle.crush_bucket.specs.Private.Rows.{bucket_of};
@@ -101,10 +101,10 @@ impl Row {
     /// The item that the bucket picks.
     pub(crate) fn pick(&self, perm: &mut Option<Perm>, x: u32, r: u32) -> ItemId
         requires some { 0 < length self.now.bucket.entries }
-        requires fits { perm.old ≡ perm_for self.now.bucket }
+        requires fits { of_each perm.old ≡ perm_for self.now.bucket }
         ensures picked { result ≡ pick self.now.bucket x r }
         ensures item { IsItemOf self.now.bucket.entries result }
-        ensures same { perm.new ≡ perm.old }
+        ensures same { of_each perm.new ≡ of_each perm.old }
     {
         match &self.picking {
             Picking::Empty { id: _, kind: _ } => unreachable!(),

@@ -2,7 +2,7 @@
 
 ghost use Rattle.std.specs.Prelude.{◌≡◌, ◌<◌, IfOk, length, slice_index_or, slice_get, Some};
 ghost use Rattle.crush_bucket.specs.Bucket.{IsItemOf};
-ghost use Rattle.crush_bucket.specs.Pick.{pick, perm_for};
+ghost use Rattle.crush_bucket.specs.Pick.{pick, perm_for, of_each};
 ghost use Rattle.crush_bucket.specs.Tables.{perms_of};
 
 use crate::perm::Perm;
@@ -19,12 +19,13 @@ pub struct Scratch {
 }
 
 impl Model for Scratch {
-    ghost use Rattle.std.specs.Prelude.{List, Option};
+    ghost use Rattle.std.specs.Prelude.{List, Option, map};
     ghost use Rattle.crush_bucket.specs.Permutation.{PermView};
+    ghost use Rattle.crush_bucket.specs.Pick.{of_each};
 
     ghost Value = { List (Option PermView) };
 
-    ghost view = { λ a. a.perms.items };
+    ghost view = { λ a. map of_each a.perms.items };
 }
 
 impl Scratch {
@@ -55,7 +56,7 @@ impl Scratch {
 
 /// The permutation of a uniform bucket; the others need none.
 fn perm_for(alloc: Global, row: &Row) -> Result<Option<Perm>, AllocError>
-    ensures { IfOk result (λ perm. perm ≡ perm_for row.now.bucket) }
+    ensures { IfOk result (λ perm. of_each perm ≡ perm_for row.now.bucket) }
 {
     match row.kind() {
         Kind::Uniform => Ok(Some(Perm::build(alloc, row.id(), row.size())?)),

@@ -1,8 +1,8 @@
 //! Uniform buckets.
 
-ghost use Rattle.std.specs.Prelude.{◌≡◌, ◌<◌, ◌^◌, IfOk, length};
+ghost use Rattle.std.specs.Prelude.{◌≡◌, ◌<◌, ◌%◌, ◌^◌, IfOk, length};
 ghost use Rattle.crush_bucket.specs.Bucket.{HasEqualWeights, IsItemOf, total_weight};
-ghost use Rattle.crush_bucket.specs.Pick.{pick, perm_for};
+ghost use Rattle.crush_bucket.specs.Pick.{pick, perm_for, of_each};
 
 use crate::perm::Perm;
 use crate::picker::Picker;
@@ -74,10 +74,10 @@ impl UniformBucket {
 
     /// The item that is picked with the bucket's permutation.
     pub(crate) fn item_for(&self, perm: &mut Option<Perm>, x: u32, r: u32) -> ItemId
-        requires fits { perm.old ≡ perm_for self.now }
+        requires fits { of_each perm.old ≡ perm_for self.now }
         ensures picked { result ≡ pick self.now x r }
         ensures item { IsItemOf self.now.entries result }
-        ensures same { perm.new ≡ perm.old }
+        ensures same { of_each perm.new ≡ of_each perm.old }
     {
         let _id = self.id;
         match perm {
@@ -93,7 +93,16 @@ impl Picker for UniformBucket {
     #[tactic(auto, unfolding(crate::specs::Kinds::uniform_pick, crate::specs::Pick::pick))]
     fn pick(&self, perm: &mut Perm, x: u32, r: u32) -> ItemId {
         let size = self.entries.len() as u32;
-        let place = perm.member(x, (r % size) as usize);
+        let place = perm.member(x, asked_place(r, size) as usize);
         self.entries[place].0
     }
+}
+
+/// The place for which an attempt asks. Few attempts are as high as the size, and a division takes time.
+#[inline]
+fn asked_place(r: u32, size: u32) -> u32
+    requires { 0 < size }
+    ensures { result ≡ r % size }
+{
+    if r < size { r } else { r % size }
 }

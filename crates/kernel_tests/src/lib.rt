@@ -20,6 +20,8 @@ mod plain;
 #[cfg(test)]
 mod rules;
 #[cfg(test)]
+mod sparse;
+#[cfg(test)]
 mod stability;
 #[cfg(test)]
 mod weights;
