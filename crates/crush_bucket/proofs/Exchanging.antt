@@ -187,6 +187,12 @@ exchange_is pairs at to low high own member up more is_low is_high le within les
     let below = same_below pairs (put pairs high own) at to low high own up more is_low le within less above by_low one in
     record { one = one; two = placed (put pairs high own) at low member up below.is below.within below.shift member_other }
 
+-- the same, by what the searches find
+pub exchange_of : (pairs : List Pair) (at to low high own member up more : ℕ) (there found : Bool) → at ≡ index pairs low → to ≡ index pairs high → at ≤ to → to ≤ length pairs → low < high → own ≡ member_at pairs low → member ≡ member_at pairs high → member_at pairs low ≢ high → member_at pairs high ≢ low
+    → there ≡ is_there pairs at low → found ≡ is_there pairs to high → (there ≡ true → up ≡ 0) → (there ≡ false → up ≡ 1) → (found ≡ true → more ≡ 0) → (found ≡ false → more ≡ 1) → IsExchanged pairs at to low high own member up more
+exchange_of pairs at to low high own member up more there found is_low is_high le within less is_own is_member own_other member_other is_there is_found up_none up_one more_none more_one =
+    exchange_is pairs at to low high own member up more is_low is_high le within less (λ e. own_other (sym is_own ∙ e)) (λ e. member_other (sym is_member ∙ e)) (shift_of pairs at low up there is_there up_none up_one) (shift_of pairs to high more found is_found more_none more_one)
+
 -- how many pairs there are then
 pub exchanged_size : (pairs : List Pair) (at to low high own member up more : ℕ) → IsExchanged pairs at to low high own member up more → length (put (put pairs high own) low member) ≡ length pairs + up + more
 exchanged_size pairs at to low high own member up more is = omega (arith, is.one.size, is.two.size)
