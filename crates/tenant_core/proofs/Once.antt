@@ -19,8 +19,8 @@ use Rattle.tenant_core.specs.declared.request.Action.{Action}
 use Rattle.tenant_core.specs.declared.request.Action.TheVariants as action
 use Rattle.tenant_core.specs.declared.tenants.TenantOperation.{TenantOperation}
 use Rattle.tenant_core.specs.declared.tenants.TenantOperation.TheVariants.{Create as CreateTenant, Read, Remove as RemoveTenant}
-use Rattle.tenant_core.specs.declared.decide.Effect.{Effect}
-use Rattle.tenant_core.specs.declared.decide.Effect.TheVariants as effect
+use Rattle.tenant_core.specs.declared.decision.Effect.{Effect}
+use Rattle.tenant_core.specs.declared.decision.Effect.TheVariants as effect
 
 -- ---- bytes
 

@@ -12,7 +12,7 @@ use Rattle.tenant_core.specs.declared.commands.Order.TheVariants.{ImportMap}
 use Rattle.tenant_state.specs.declared.receipts.Receipt.{Receipt}
 use Rattle.tenant_messages.specs.declared.reply.Problem.{Problem}
 use Rattle.tenant_messages.specs.declared.reply.Problem.TheVariants.{RequestReused, TenantLimit}
-use Rattle.tenant_core.specs.declared.decide.Effect.TheVariants.{Keep, Change}
+use Rattle.tenant_core.specs.declared.decision.Effect.TheVariants.{Keep, Change}
 
 -- what an order does, or why nothing: the table of all orders
 abbrev pub order_on : Order → TenantState → Result Accepted Problem

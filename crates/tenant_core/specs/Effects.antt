@@ -5,8 +5,8 @@ use Rattle.tenant_messages.specs.Reply.{Answer, refused}
 use Rattle.tenant_state.specs.State.{TenantState, Made, fresh, after}
 use Rattle.tenant_messages.specs.declared.reply.Problem.TheVariants.{NoTenant}
 use Rattle.tenant_messages.specs.declared.reply.SuccessStatus.{SuccessStatus}
-use Rattle.tenant_core.specs.declared.decide.Effect.{Effect}
-use Rattle.tenant_core.specs.declared.decide.Effect.TheVariants.{Keep, Create, Change, Remove}
+use Rattle.tenant_core.specs.declared.decision.Effect.{Effect}
+use Rattle.tenant_core.specs.declared.decision.Effect.TheVariants.{Keep, Create, Change, Remove}
 
 -- the state of a tenant after an effect, or none where the tenant is then absent
 abbrev pub after_effect : Effect → Option TenantState → Option TenantState

@@ -17,7 +17,7 @@ use Rattle.tenant_messages.specs.declared.reply.Problem.{Problem}
 use Rattle.tenant_core.specs.declared.request.Action.{Action}
 use Rattle.tenant_core.specs.declared.request.Action.TheVariants as action
 use Rattle.tenant_core.specs.declared.request.Request.{Request}
-use Rattle.tenant_core.specs.declared.decide.Effect.TheVariants.{Keep}
+use Rattle.tenant_core.specs.declared.decision.Effect.TheVariants.{Keep}
 use Rattle.tenant_state.specs.State.{TenantState}
 
 -- ---- one request

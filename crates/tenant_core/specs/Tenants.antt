@@ -5,7 +5,7 @@ use Rattle.serde_json.specs.Data.{Data, string, object}
 use Rattle.tenant_core.specs.Effects.{Decided, decided, if_present}
 use Rattle.tenant_messages.specs.Reply.{refused, success, created, members_of, natural}
 use Rattle.tenant_messages.specs.declared.reply.Problem.TheVariants.{Exists}
-use Rattle.tenant_core.specs.declared.decide.Effect.TheVariants as effect
+use Rattle.tenant_core.specs.declared.decision.Effect.TheVariants as effect
 use Rattle.tenant_state.specs.State.{TenantState, epoch, newest}
 use Rattle.tenant_core.specs.declared.tenants.TenantOperation.{TenantOperation}
 use Rattle.tenant_core.specs.declared.tenants.TenantOperation.TheVariants.{Create, Read, Remove}

@@ -10,7 +10,7 @@ ghost use Rattle.tenant_messages.specs.Refusals.{Gives};
 ghost use Rattle.tenant_messages.specs.Reply.{reply};
 ghost use Rattle.tenant_state.specs.State.{TenantState};
 
-use crate::decide::{Decision, Effect, kept};
+use crate::decision::{Decision, Effect, kept};
 use crate::maps;
 use crush_map::Text;
 use serde_json::Value;

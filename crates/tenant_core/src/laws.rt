@@ -14,7 +14,7 @@ ghost use Rattle.tenant_messages.specs.declared.call.Call.{Call};
 ghost use Rattle.tenant_core.specs.declared.commands.Command.{Command};
 ghost use Rattle.tenant_state.specs.declared.receipts.Receipt.{Receipt};
 ghost use Rattle.tenant_core.specs.declared.request.Action.{Action};
-ghost use Rattle.tenant_core.specs.declared.decide.Effect.{Effect};
+ghost use Rattle.tenant_core.specs.declared.decision.Effect.{Effect};
 ghost use Rattle.tenant_core.specs.declared.picks.PickRequest.{PickRequest};
 ghost use Rattle.tenant_state.specs.State.{TenantState, Change, epoch, after};
 

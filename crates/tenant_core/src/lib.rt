@@ -2,7 +2,7 @@
 #![tactic(auto)]
 
 mod commands;
-mod decide;
+mod decision;
 pub mod laws;
 mod maps;
 mod picks;
@@ -13,7 +13,7 @@ mod store;
 mod tenants;
 
 pub use commands::{Command, Order};
-pub use decide::{Decision, Effect, decide};
+pub use decision::{Decision, Effect, decide};
 pub use picks::{AskedBucket, PickRequest};
 pub use request::{Action, Operation, Request, read_request};
 pub use route::{Route, Routes, Target};

@@ -6,7 +6,7 @@ ghost use Rattle.tenant_core.specs.Effects.{Fits};
 ghost use Rattle.tenant_messages.specs.Reply.{reply};
 ghost use Rattle.tenant_core.specs.Tenants as spec;
 
-use crate::decide::{Decision, Effect};
+use crate::decision::{Decision, Effect};
 use serde_json::{Value, json};
 use std::alloc::{AllocError, Global};
 use tenant_messages::{Problem, created, refused, success};
