@@ -51,7 +51,7 @@ pub fn tests_are_of_the_form()
     ensures refused { (body : List ℕ) → (test_request_of body ≡ None) ↔ ((t : RuleTest) → ¬ IsJson IsTestBody body t) }
 {}
 
-/// A changing request that is accepted raises the epoch by one; what any other request does leaves it, or removes the tenant.
+/// Where the decision on an action is a change, the epoch after it is one more.
 pub fn each_change_raises_the_epoch_by_one()
     ensures { (tenant : List ℕ) (action : Action) (s : TenantState) (c : Change) → (decision_on tenant action (Some s)).effect ≡ Effect.Change c → epoch (after c s) ≡ suc (epoch s) }
 {}

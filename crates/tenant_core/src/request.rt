@@ -153,7 +153,7 @@ fn in_form(
 const BODY_LIMIT: usize = 1_048_576;
 
 /// The request of a call, or the problem of its first check that fails, in the order: length of the body, route, method,
-/// the tenant's name, form of the body.
+/// the tenant's name, numbers in the path, form of the body. Or there is no memory.
 #[tactic(auto, unfolding(crate::specs::Request::request_of))]
 pub fn read_request(alloc: Global, routes: &Routes, call: CallParts<'_>) -> Result<Request, Refusal>
     ensures { Gives (λ r. r) result (spec.request_of (call_of call.entry)) }

@@ -10,7 +10,7 @@ use crush_text::{TextFault, code_text};
 use serde_json::{Value, json};
 use std::alloc::{AllocError, Global};
 
-/// The answer to a call: an HTTP status, and a body of compact JSON.
+/// The reply to a call: an HTTP status, and a body of compact JSON.
 /// The body of a 503 for want of memory is empty: whoever writes it out knows its text.
 #[derive(Drop)]
 pub struct Reply {
@@ -63,7 +63,7 @@ pub enum Problem {
     RequestReused,
     /// 413: the body is over its limit.
     TooLarge,
-    /// 422: the text isn't that of a map, for this first fault.
+    /// 422: the text is refused for this first fault.
     MapRefused(TextFault),
     /// 429: the tenant has as many receipts, or as many versions, as it may have.
     TenantLimit,

@@ -91,7 +91,7 @@ impl Version {
 fn canonical_text(alloc: Global, map: &CrushMap) -> Result<Text, AllocError>
     ensures { IfOk result (λ text. text ≡ canonical map.now) }
 {
-    // says that the map is valid
+    // any reader of a map also tells the prover that it is valid, which the law asks for
     let _tunables = map.tunables();
     canonical_texts_are_ascii();
     match String::from_utf8(write_map(alloc, map)?) {
