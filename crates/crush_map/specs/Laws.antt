@@ -1,10 +1,12 @@
--- What the first fault of a draft means.
+-- What the first fault of a draft means, and the order of a map's elements.
 use Rattle.std.specs.Prelude.{◌≡◌, ℕ, ◌<◌, List, take, fold, slice_get, Option, Some, None, IsSomeAnd, IfSome}
+use Rattle.std.specs.List.Sorted.{IsNonDecreasingBy}
 use Rattle.crush_map.specs.declared.fault.FaultCode.{FaultCode}
 use Rattle.crush_map.specs.declared.fault.Element.{Element}
 use Rattle.crush_map.specs.declared.fault.Element.TheVariants.{Types, Devices, Buckets, Rules, End}
 use Rattle.crush_map.specs.declared.draft.MapDraft.{MapDraft}
 use Rattle.crush_map.specs.Faults.{Known, nothing, type_fault, device_fault, bucket_fault, rule_fault, end_fault, with_type, with_device, with_bucket, with_rule, known_types, known_devices, known_buckets, known_rules}
+use Rattle.crush_map.specs.Map.{Map}
 
 -- no element of a list has a fault, each checked against what is declared before it
 abbrev pub Pass : {X : Type 0} → (Known → X → Option FaultCode) → (Known → X → Known) → Known → List X → Type 0
@@ -44,3 +46,9 @@ IsFirstFault d Buckets i code = TypesPass d × DevicesPass d × FailsFirst bucke
 IsFirstFault d Rules i code = TypesPass d × DevicesPass d × BucketsPass d × FailsFirst rule_fault with_rule (known_buckets d) d.rules i code
 IsFirstFault d End i code =
     HasNoElementFault d × (i ≡ 0) × (end_fault (known_rules d) d.tunables d.local_tries d.local_fallback_tries ≡ Some code)
+
+-- types, devices and rules are in order of number
+pub record IsInOrder (m : Map) : Type 0 where
+  pub types : IsNonDecreasingBy (λ t. t.number) m.types
+  pub devices : IsNonDecreasingBy (λ d. d.id) m.devices
+  pub rules : IsNonDecreasingBy (λ r. r.id) m.rules

@@ -26,13 +26,13 @@ impl Model for Ids {
 
 impl Ids {
     /// No ids.
-    pub(crate) fn new(alloc: Global) -> Result<Self, AllocError>
-        ensures { IfOk result (λ ids. ids ≡ spec.no_ids) }
+    pub(crate) fn new(alloc: Global) -> Self
+        ensures { result ≡ spec.no_ids }
     {
-        Ok(Ids {
-            devices: Numbers::new(alloc)?,
-            buckets: Numbers::new(alloc)?,
-        })
+        Ids {
+            devices: Numbers::new(alloc),
+            buckets: Numbers::new(alloc),
+        }
     }
 
     /// How many ids of devices there are.

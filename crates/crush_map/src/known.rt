@@ -44,11 +44,11 @@ impl Known {
         ensures { IfOk result (λ known. known ≡ spec.nothing) }
     {
         Ok(Known {
-            types: Numbers::new(alloc)?,
+            types: Numbers::new(alloc),
             type_names: Names::new(alloc),
-            items: Ids::new(alloc)?,
+            items: Ids::new(alloc),
             item_names: Names::new(alloc),
-            rules: Numbers::new(alloc)?,
+            rules: Numbers::new(alloc),
             rule_names: Names::new(alloc),
         })
     }
@@ -179,7 +179,7 @@ impl Known {
     ) -> Result<Option<FaultCode>, AllocError>
         ensures { IfOk result (λ fault. fault ≡ spec.items_fault self.now spec.no_ids items.now) }
     {
-        let mut before = Ids::new(alloc)?;
+        let mut before = Ids::new(alloc);
         for item in items {
             if !self.items.has(item.0) {
                 return Ok(Some(FaultCode::M5));

@@ -26,8 +26,8 @@ pub use fault::{Element, FaultCode, MapFault};
 pub use form::is_name;
 pub use known::{Known, are_in_range};
 pub use law::{
-    buckets_are_sound, first_fault_is_first, numbers_and_names_are_once, numbers_are_sound,
-    rules_are_sound,
+    buckets_are_sound, drafts_declare_maps, first_fault_is_first, numbers_and_names_are_once,
+    numbers_are_sound, rules_are_sound,
 };
 pub use list::Listed;
 pub use map::CrushMap;

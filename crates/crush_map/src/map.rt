@@ -53,8 +53,8 @@ impl CrushMap {
         }
     }
 
-    /// The map of a draft without a fault.
-    fn of(draft: MapDraft) -> CrushMap
+    /// The map of a draft that is known to have no fault. Takes no memory.
+    pub fn of(draft: MapDraft) -> CrushMap
         requires { spec.first_fault draft ≡ None }
         ensures map { IsMapOf draft result }
         ensures valid { IsMap result }

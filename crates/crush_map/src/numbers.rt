@@ -1,7 +1,9 @@
-//! A list of numbers below 65,536, with a table of flags by which one is looked up in one step.
+//! A list of numbers below 65,536. A short list is searched; a longer one has a table of flags by which a number is looked up in one step.
 
 ghost use Rattle.std.specs.Prelude.{◌≡◌, ◌<◌, ◌≤◌, ◌++◌, ◌∷◌, [], ℕ, IfOk, IsTrue, length, slice_index_or, false};
+ghost use Rattle.std.specs.List.{All};
 ghost use Rattle.crush_map.specs.Faults as spec;
+ghost use Rattle.crush_map.specs.Private.Tables.{IsTableOf};
 
 use std::alloc::{AllocError, Global};
 use std::marker::Model;
@@ -9,22 +11,26 @@ use std::marker::Model;
 /// How many different numbers there can be: 0 to 65,535.
 pub const NUMBERS: usize = 65_536;
 
-/// Numbers in the order in which they were added.
+/// The longest list without a table: to search it takes less time than to clear a table.
+const SHORT: usize = 64;
+
+/// Numbers in the order in which they were added. The table is empty as long as the list is short.
 #[derive(Drop)]
 pub struct Numbers {
+    alloc: Global,
     order: Vec<u32>,
     table: Vec<bool>,
 }
 
 impl Model for Numbers {
     ghost use Rattle.std.specs.Prelude.{List, ℕ};
-    ghost use Rattle.crush_map.specs.Private.Tables.{IsTableOf};
+    ghost use Rattle.crush_map.specs.Private.Tables.{IsIndexOf};
 
     ghost Value = { List ℕ };
 
     ghost view = { λ a. a.order.items };
 
-    ghost invariant = { λ a. IsTableOf a.order.items a.table.items };
+    ghost invariant = { λ a. IsIndexOf a.order.items a.table.items };
 }
 
 /// A table of flags that are all false.
@@ -35,15 +41,28 @@ fn empty_table(alloc: Global, size: usize) -> Result<Vec<bool>, AllocError>
     Ok(vec![in alloc; false; size]?)
 }
 
+/// The table of a list.
+fn table_of(alloc: Global, numbers: &[u32]) -> Result<Vec<bool>, AllocError>
+    requires { All (λ n. n < NUMBERS) numbers.now }
+    ensures { IfOk result (λ t. IsTableOf numbers.now t.items) }
+{
+    let mut table = empty_table(alloc, NUMBERS)?;
+    for number in numbers {
+        table[*number as usize] = true;
+    }
+    Ok(table)
+}
+
 impl Numbers {
     /// The empty list.
-    pub(crate) fn new(alloc: Global) -> Result<Self, AllocError>
-        ensures { IfOk result (λ numbers. numbers ≡ []) }
+    pub(crate) fn new(alloc: Global) -> Self
+        ensures { result ≡ [] }
     {
-        Ok(Numbers {
+        Numbers {
+            alloc,
             order: Vec::new(alloc),
-            table: empty_table(alloc, NUMBERS)?,
-        })
+            table: Vec::new(alloc),
+        }
     }
 
     /// How many numbers are in the list.
@@ -58,7 +77,11 @@ impl Numbers {
         ensures value { result ≡ spec.has_number self.now number }
         ensures known { IsTrue result → number < NUMBERS }
     {
-        match self.table.as_slice().get(number as usize) {
+        let table = self.table.as_slice();
+        if table.is_empty() {
+            return self.order.as_slice().contains(&number);
+        }
+        match table.get(number as usize) {
             Some(seen) => *seen,
             None => false,
         }
@@ -70,11 +93,20 @@ impl Numbers {
         ensures { IfOk result (λ numbers. numbers ≡ self ++ number ∷ []) }
     {
         let Numbers {
+            alloc,
             mut order,
             mut table,
         } = self;
         order.push(number)?;
-        table[number as usize] = true;
-        Ok(Numbers { order, table })
+        if !table.is_empty() {
+            table[number as usize] = true;
+        } else if order.len() > SHORT {
+            table = table_of(alloc, order.as_slice())?;
+        }
+        Ok(Numbers {
+            alloc,
+            order,
+            table,
+        })
     }
 }
