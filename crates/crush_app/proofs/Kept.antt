@@ -3,10 +3,10 @@ use Rattle.std.proofs.Common.{◌≡◌, ◌∙◌, Bool, true, false, if◌then
 use Rattle.std.specs.declared.alloc.Global.{Global}
 use Rattle.std.specs.declared.rc.Rc.{Rc}
 use denote.Bor.{Bor}
-use Rattle.tenant_core.specs.Refusals.{Gives}
-use Rattle.tenant_core.specs.declared.reply.Problem.{Problem}
-use Rattle.tenant_core.specs.declared.reply.Refusal.{Refusal}
-use Rattle.tenant_core.specs.declared.reply.Refusal.TheVariants as refusal
+use Rattle.tenant_messages.specs.Refusals.{Gives}
+use Rattle.tenant_messages.specs.declared.reply.Problem.{Problem}
+use Rattle.tenant_messages.specs.declared.reply.Refusal.{Refusal}
+use Rattle.tenant_messages.specs.declared.reply.Refusal.TheVariants as refusal
 
 -- a new value at a key, read
 pub option_map-if : {A B : Type 0} (f : A → B) (b : Bool) (x : A) (y : B) (old : Option A) → f x ≡ y

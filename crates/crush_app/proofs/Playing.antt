@@ -4,8 +4,8 @@ use Rattle.std.proofs.lemmas.Bool.Decides.{nat_tests}
 use Rattle.std.specs.Io.KnownBytes.{Appends}
 use Rattle.std.specs.Str.Lines.{lines}
 use Rattle.tenant_core.specs.States.{States, Answers}
-use Rattle.tenant_core.specs.declared.call.Call.{Call}
-use Rattle.tenant_core.specs.declared.reply.Reply.{Reply}
+use Rattle.tenant_messages.specs.declared.call.Call.{Call}
+use Rattle.tenant_messages.specs.declared.reply.Reply.{Reply}
 use Rattle.tenant_core.proofs.Running.{run_both, run_one, run_none}
 use Rattle.crush_app.specs.Play.{Plays, PlaysUpTo, WritesHeadline, AppendsPart}
 use Rattle.crush_app.specs.Script.{bad_line, call_of, calls_in, is_nonempty, messages_in, messages, output, wire}

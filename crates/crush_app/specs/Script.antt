@@ -3,10 +3,10 @@ use Rattle.std.specs.Prelude.{ℕ, ◌==◌, List, [], ◌∷◌, ◌++◌, leng
 use Rattle.std.specs.List.{list_any, before_first, after_first}
 use Rattle.std.specs.Str.{is_utf8}
 use Rattle.std.specs.Str.Lines.{lines}
-use Rattle.tenant_core.specs.Reply.{reply, refused}
-use Rattle.tenant_core.specs.declared.call.Call.{Call}
-use Rattle.tenant_core.specs.declared.reply.Reply.{Reply}
-use Rattle.tenant_core.specs.declared.reply.Problem.TheVariants.{BadRequest}
+use Rattle.tenant_messages.specs.Reply.{reply, refused}
+use Rattle.tenant_messages.specs.declared.call.Call.{Call}
+use Rattle.tenant_messages.specs.declared.reply.Reply.{Reply}
+use Rattle.tenant_messages.specs.declared.reply.Problem.TheVariants.{BadRequest}
 
 -- ---- from bytes to calls
 

@@ -3,12 +3,13 @@
 ghost use Rattle.std.specs.Prelude.{◌≡◌, ℕ, List, Some, None, OnOk, OnErr, if◌then◌else◌, option_map};
 ghost use Rattle.std.specs.Str.{bytes_eq};
 ghost use Rattle.std.specs.BTreeMap.{get_by_text};
-ghost use Rattle.tenant_core.specs.State.{after};
+ghost use Rattle.tenant_state.specs.State.{after};
 
 use std::alloc::{AllocError, Global};
 use std::collections::BTreeMap;
 use std::rc::Rc;
-use tenant_core::{Change, StoreFault, TenantState, TenantStore};
+use tenant_core::{StoreFault, TenantStore};
+use tenant_state::{Change, TenantState};
 
 type States = BTreeMap<String, Rc<TenantState>>;
 
@@ -74,7 +75,7 @@ pub struct MemoryStore {
 
 impl MemoryStore {
     ghost use Rattle.std.specs.Prelude.{◌≡◌, ℕ, List, Option, None};
-    ghost use Rattle.tenant_core.specs.State.{TenantState};
+    ghost use Rattle.tenant_state.specs.State.{TenantState};
     ghost use Rattle.crush_app.specs.declared.memory_store.MemoryStore.{MemoryStore};
 
     /// A store with no tenant. Allocates nothing.

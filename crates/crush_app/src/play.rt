@@ -3,7 +3,7 @@
 ghost use Rattle.std.specs.Prelude.{◌≡◌, ◌≤◌, ◌<◌, ◌∷◌, [], length, IsTrue, IfSome, option_map};
 ghost use Rattle.std.specs.Bool.{IsFalse};
 ghost use Rattle.std.specs.Io.KnownBytes.{Keeps as KeepsBytes};
-ghost use Rattle.tenant_core.specs.CallParts.{call_of};
+ghost use Rattle.tenant_messages.specs.CallParts.{call_of};
 ghost use Rattle.tenant_core.specs.States.{Same};
 ghost use Rattle.crush_app.specs.End.{AnswersLines, AnswersNone};
 ghost use Rattle.crush_app.specs.Play.{Plays, PlaysUpTo, WritesHeadline};
@@ -15,7 +15,8 @@ use crate::service::Service;
 use crate::wire::write_line;
 use std::alloc::{AllocError, Global};
 use std::io::{Read, Write};
-use tenant_core::{CallParts, Problem, Reply, TenantStore, refused};
+use tenant_core::TenantStore;
+use tenant_messages::{CallParts, Problem, Reply, refused};
 
 /// The longest script, in bytes.
 const SCRIPT_LIMIT: u32 = 67_108_864;

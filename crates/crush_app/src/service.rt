@@ -1,20 +1,20 @@
 //! The service of all tenants, over any store.
 
 ghost use Rattle.std.specs.Prelude.{◌≡◌, ◌≢◌, ◌↔◌, ℕ, List, Option, IfOk, OnOk, OnErr};
-ghost use Rattle.tenant_core.specs.CallParts.{call_of};
+ghost use Rattle.tenant_messages.specs.CallParts.{call_of};
 ghost use Rattle.tenant_core.specs.Private.Performing.{Performs};
 ghost use Rattle.tenant_core.specs.States.{IsDamaged, Same, Follows};
 ghost use Rattle.tenant_core.specs.Effects.{Fits, after_effect};
 ghost use Rattle.tenant_core.specs.StoreReply.{store_damaged};
-ghost use Rattle.tenant_core.specs.State.{TenantState};
+ghost use Rattle.tenant_state.specs.State.{TenantState};
 
 use crate::memory_store::MemoryStore;
 use std::alloc::{AllocError, Global};
 use std::marker::Model;
 use tenant_core::{
-    Call, CallParts, Effect, Refusal, Reply, Request, Routes, StoreFault, TenantStore, decide,
-    read_request, refused, store_fault,
+    Effect, Request, Routes, StoreFault, TenantStore, decide, read_request, store_fault,
 };
+use tenant_messages::{Call, CallParts, Refusal, Reply, refused};
 
 /// Carries out the effect of a request on its tenant.
 fn carry_out<T: TenantStore>(store: &mut T, tenant: &str, effect: &Effect) -> Result<(), StoreFault>
@@ -90,7 +90,7 @@ impl<T: TenantStore> Model for Service<T> {
 
 impl Service<MemoryStore> {
     ghost use Rattle.std.specs.Prelude.{◌≡◌, ℕ, List, Option, None, IfOk};
-    ghost use Rattle.tenant_core.specs.State.{TenantState};
+    ghost use Rattle.tenant_state.specs.State.{TenantState};
     ghost use Rattle.crush_app.specs.declared.memory_store.MemoryStore.{MemoryStore};
 
     /// A service over a store in memory, with no tenant. Such a store is always honest, and each name has exactly one state
@@ -123,7 +123,7 @@ impl<T: TenantStore + Drop> Service<T> {
 impl<T: TenantStore> Service<T> {
     ghost use Rattle.std.specs.Prelude.{◌≡◌, ◌≤◌, [], IfOk, OnErr, length, vec_capacity};
     ghost use Rattle.std.specs.List.{All};
-    ghost use Rattle.tenant_core.specs.CallParts.{call_of};
+    ghost use Rattle.tenant_messages.specs.CallParts.{call_of};
     ghost use Rattle.tenant_core.specs.States.{Same, Answers, MeetsDefinition, Headline, Leaves, AllAnswerNobody, KeepsDamaged, NamesCause};
 
     /// Answers a call. The reply is the definition's for the state of the call's tenant, which then has the definition's

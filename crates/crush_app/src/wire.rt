@@ -7,7 +7,7 @@ ghost use Rattle.crush_app.specs.Play.{AppendsPart};
 ghost use Rattle.crush_app.specs.Script as spec;
 
 use std::io::Write;
-use tenant_core::Reply;
+use tenant_messages::Reply;
 
 /// Writes the bytes, all or a first part: it ends at the first error, or where a write accepts no byte.
 pub(crate) fn write_whole<W: Write>(writer: &mut W, bytes: &[u8]) -> bool

@@ -13,8 +13,6 @@ mod Round
 mod Only
 mod Ascii
 mod Sorted
-mod Alike
-mod Valid
 mod Reading
 pub mod Checks
 pub mod Kept

@@ -2,7 +2,8 @@
 use Rattle.std.proofs.Common.{◌≡◌, ◌∙◌, ◌⊎◌, inl, inr, ℕ, ◌<◌, ◌≤◌, nat_le, Bool, true, false, List, length, Option, Some, None, Result, Ok, Err, refl, sym, ap, subst, arith, if◌then◌else◌}
 use Rattle.std.specs.Prelude.{◌↔◌}
 use Rattle.std.proofs.lemmas.Bool.Decides.{nat_tests}
-use Rattle.crush_map.specs.Faults.{or_else}
+use Rattle.crush_map.specs.Faults.{or_else, first_fault}
+use Rattle.crush_map.specs.Laws.{IsInOrder}
 use Rattle.crush_map.specs.Map.{Map, IsMap, IsMapOf}
 use Rattle.crush_map.specs.declared.draft.MapDraft.{MapDraft}
 use Rattle.crush_map.specs.declared.fault.FaultCode.{FaultCode}
@@ -18,9 +19,8 @@ use Rattle.crush_text.specs.MapText.{SaysMap, HasMapFault, HasFormFault, IsTextO
 use Rattle.crush_text.specs.Reading.{map_of_draft, fault_of_words, fault_or_map, map_of_words, map_of_stored_text, map_of_text}
 use Rattle.crush_text.proofs.Checks.{first_none, second_none, both_none}
 use Rattle.crush_text.proofs.Only.{one_map}
-use Rattle.crush_text.proofs.Sorted.{same_elements}
+use Rattle.crush_text.proofs.Sorted.{same_elements, in_order}
 use Rattle.crush_text.proofs.Texts.{at_end, clean_draft}
-use Rattle.crush_text.proofs.Valid.{map_is_valid}
 
 -- the words that the grammar is of, as the automaton reads them
 abbrev pub ReadsWhole : Type 0
@@ -29,10 +29,17 @@ ReadsWhole = (ws : List Word) (ds : List Declaration) → Declares ws ds ↔ (re
 abbrev pub ReadsBroken : Type 0
 ReadsBroken = (ws : List Word) (ds : List Declaration) (f : TextFault) → Breaks ws ds f ↔ (read ws ≡ record { decls = ds; fault = Some f })
 
+-- a draft without a fault declares a map
+abbrev pub DeclareMaps : Type 0
+DeclareMaps = (d : MapDraft) (m : Map) → first_fault d ≡ None → IsMapOf d m → IsInOrder m → IsMap m
+
 -- ---- the map of a draft
 
 map_is : (d : MapDraft) → IsMapOf d (map_of_draft d)
 map_is d = record { types = same_elements (λ t. t.number) d.types; devices = same_elements (λ x. x.id) d.devices; buckets = refl; rules = same_elements (λ r. r.id) d.rules; tunables = refl }
+
+is_in_order : (d : MapDraft) → IsInOrder (map_of_draft d)
+is_in_order d = record { types = in_order (λ t. t.number) d.types; devices = in_order (λ x. x.id) d.devices; rules = in_order (λ r. r.id) d.rules }
 
 -- ---- the first fault of words
 
@@ -66,13 +73,14 @@ answered o m p e = ap (λ q. fault_or_map q m) e
 
 -- ---- maps
 
-valid : (ws : List Word) (ds : List Declaration) → Declares ws ds → declared_fault ds ≡ None → last_fault (last_line 1 ws) (declared ds) ≡ None → IsMap (map_of_draft (declared ds).draft)
-valid ws ds form each end =
-    map_is_valid (declared ds).draft (clean_draft ws (declared ds) (record { declarations = ds; form = form; each = each; all = refl }) (no_line (last_line 1 ws) (at_end (declared ds)) end))
+valid : DeclareMaps → (ws : List Word) (ds : List Declaration) → Declares ws ds → declared_fault ds ≡ None → last_fault (last_line 1 ws) (declared ds) ≡ None → IsMap (map_of_draft (declared ds).draft)
+valid maps ws ds form each end =
+    let d = (declared ds).draft in
+    maps d (map_of_draft d) (clean_draft ws (declared ds) (record { declarations = ds; form = form; each = each; all = refl }) (no_line (last_line 1 ws) (at_end (declared ds)) end)) (map_is d) (is_in_order d)
 
-says_by : ReadsWhole → (ws : List Word) (m : Map) (o : Option TextFault) → fault_of_words ws (read ws) ≡ o → fault_or_map o (map_of_draft (declared (read ws).decls).draft) ≡ Ok m → SaysMap ws m
-says_by whole ws m (Some f) e h = cc
-says_by whole ws m None e h =
+says_by : DeclareMaps → ReadsWhole → (ws : List Word) (m : Map) (o : Option TextFault) → fault_of_words ws (read ws) ≡ o → fault_or_map o (map_of_draft (declared (read ws).decls).draft) ≡ Ok m → SaysMap ws m
+says_by maps whole ws m (Some f) e h = cc
+says_by maps whole ws m None e h =
     let r = read ws in
     let none = found ws r e in
     let form : Declares ws r.decls = (whole ws r.decls).1 (reading_is r None none.form) in
@@ -83,19 +91,19 @@ says_by whole ws m None e h =
       each = none.each;
       end = none.end;
       draft = subst (IsMapOf (declared r.decls).draft) same (map_is (declared r.decls).draft);
-      map = subst IsMap same (valid ws r.decls form none.each none.end);
+      map = subst IsMap same (valid maps ws r.decls form none.each none.end);
     }
 
-says : ReadsWhole → (ws : List Word) (m : Map) → map_of_words ws ≡ Ok m → SaysMap ws m
-says whole ws m h = says_by whole ws m (fault_of_words ws (read ws)) refl h
+says : DeclareMaps → ReadsWhole → (ws : List Word) (m : Map) → map_of_words ws ≡ Ok m → SaysMap ws m
+says maps whole ws m h = says_by maps whole ws m (fault_of_words ws (read ws)) refl h
 
-is_said : ReadsWhole → (ws : List Word) (m : Map) → SaysMap ws m → map_of_words ws ≡ Ok m
-is_said whole ws m s =
+is_said : DeclareMaps → ReadsWhole → (ws : List Word) (m : Map) → SaysMap ws m → map_of_words ws ≡ Ok m
+is_said maps whole ws m s =
     let ds = s.declarations in
     let d = (declared ds).draft in
     let all : map_of_words ws ≡ answer ws (record { decls = ds; fault = None }) = ap (answer ws) ((whole ws ds).0 s.form) in
     let none : fault_of_words ws (record { decls = ds; fault = None }) ≡ None = both_none (declared_fault ds) (last_fault (last_line 1 ws) (declared ds)) s.each s.end in
-    let same : map_of_draft d ≡ m = one_map d (map_of_draft d) m (map_is d) s.draft (valid ws ds s.form s.each s.end) s.map in
+    let same : map_of_draft d ≡ m = one_map d (map_of_draft d) m (map_is d) s.draft (valid maps ws ds s.form s.each s.end) s.map in
     all ∙ answered (fault_of_words ws (record { decls = ds; fault = None })) (map_of_draft d) None none ∙ ap Ok same
 
 -- ---- faults
@@ -136,9 +144,9 @@ is_faulty whole broken ws f (inr s) =
 
 -- ---- texts
 
-pub stored_map : ReadsWhole → (bytes : List ℕ) (m : Map) → (map_of_stored_text bytes ≡ Ok m) ↔ IsTextOf bytes m
+pub stored_map : DeclareMaps → ReadsWhole → (bytes : List ℕ) (m : Map) → (map_of_stored_text bytes ≡ Ok m) ↔ IsTextOf bytes m
 unfolding map_of_stored_text
-stored_map whole bytes m = (says whole (words bytes) m, is_said whole (words bytes) m)
+stored_map maps whole bytes m = (says maps whole (words bytes) m, is_said maps whole (words bytes) m)
 
 pub stored_refused : ReadsWhole → ReadsBroken → (bytes : List ℕ) (f : TextFault) → (map_of_stored_text bytes ≡ Err f) ↔ HasFirstFault bytes f
 unfolding map_of_stored_text
@@ -165,11 +173,11 @@ by_refused n true r f e (inr (short, h)) = h
 by_refused n false r f e (inl (long, same)) = ap Err (sym same)
 by_refused n false r f e (inr (short, h)) = absurd (grind (arith, nat_tests))
 
-pub text_map : ReadsWhole → (bytes : List ℕ) (m : Map) → (map_of_text bytes ≡ Ok m) ↔ (IsShort bytes × IsTextOf bytes m)
+pub text_map : DeclareMaps → ReadsWhole → (bytes : List ℕ) (m : Map) → (map_of_text bytes ≡ Ok m) ↔ (IsShort bytes × IsTextOf bytes m)
 unfolding map_of_text
-text_map whole bytes m =
+text_map maps whole bytes m =
     let n = length bytes in
-    let stored = stored_map whole bytes m in (
+    let stored = stored_map maps whole bytes m in (
       (λ h. let both = map_by n (nat_le n 524288) (map_of_stored_text bytes) m refl h in (both.0, stored.0 both.1)),
       (λ h. by_map n (nat_le n 524288) (map_of_stored_text bytes) m refl h.0 (stored.1 h.1)),
     )

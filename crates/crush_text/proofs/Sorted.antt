@@ -1,9 +1,10 @@
 -- A list in ascending order of number.
-use Rattle.std.proofs.Common.{◌≡◌, ℕ, ◌≤◌, nat_lt, Bool, true, false, List, [], ◌∷◌, refl, arith, if◌then◌else◌}
+use Rattle.std.proofs.Common.{◌≡◌, ℕ, zero, suc, ◌≤◌, nat_lt, Bool, true, false, List, [], ◌∷◌, refl, arith, if◌then◌else◌}
 use Rattle.std.proofs.lemmas.Bool.Decides.{nat_tests}
+use Rattle.std.proofs.lemmas.List.Elements.{All-from_recursion, All-get_or}
 use Rattle.std.proofs.lemmas.List.Sorted.{IsPermutation-refl, IsPermutation-sym, IsPermutation-cons, IsPermutation-middle, IsPermutation-trans}
 use Rattle.std.specs.List.{AllByRecursion}
-use Rattle.std.specs.List.Sorted.{IsPermutation}
+use Rattle.std.specs.List.Sorted.{IsPermutation, IsNonDecreasingBy}
 use Rattle.crush_text.specs.Reading.{insert_by, sorted_by}
 
 -- ---- the same elements
@@ -26,7 +27,7 @@ same_elements number (x ∷ xs) =
 -- ---- in order
 
 -- each number is at most those after it
-abbrev pub Ascends : {X : Type 0} → (X → ℕ) → List X → Type 0
+abbrev Ascends : {X : Type 0} → (X → ℕ) → List X → Type 0
 Ascends number [] = Unit {0}
 Ascends number (x ∷ xs) = AllByRecursion (λ y. number x ≤ number y) xs × Ascends number xs
 
@@ -57,6 +58,16 @@ ascends_inserted number x (y ∷ ys) up =
     ascends_if number x y ys (insert_by number x ys) (nat_lt (number y) (number x)) refl up (ascends_inserted number x ys up.1)
     (λ low. all_inserted (λ z. number y ≤ number z) number x ys low up.0)
 
-pub ascends : {X : Type 0} (number : X → ℕ) (xs : List X) → Ascends number (sorted_by number xs)
+ascends : {X : Type 0} (number : X → ℕ) (xs : List X) → Ascends number (sorted_by number xs)
 ascends number [] = tt
 ascends number (x ∷ xs) = ascends_inserted number x (sorted_by number xs) (ascends number xs)
+
+never_falls : {X : Type 0} (number : X → ℕ) (xs : List X) → Ascends number xs → IsNonDecreasingBy number xs
+never_falls number [] up i j d le short = absurd (omega arith)
+never_falls number (x ∷ xs) up zero zero d le short = omega arith
+never_falls number (x ∷ xs) up zero (suc j) d le short = All-get_or (λ y. number x ≤ number y) xs j d (omega arith) (All-from_recursion (λ y. number x ≤ number y) xs up.0)
+never_falls number (x ∷ xs) up (suc i) zero d le short = absurd (omega arith)
+never_falls number (x ∷ xs) up (suc i) (suc j) d le short = never_falls number xs up.1 i j d (omega arith) (omega arith)
+
+pub in_order : {X : Type 0} (number : X → ℕ) (xs : List X) → IsNonDecreasingBy number (sorted_by number xs)
+in_order number xs = never_falls number (sorted_by number xs) (ascends number xs)

@@ -1,12 +1,10 @@
 -- What a text is found to be: a map, or refused for its first fault.
-use Rattle.std.proofs.Common.{◌≡◌, ◌∙◌, ◌⊎◌, inl, inr, List, Option, Some, None, MatchOption, refl, sym, ap, option_map}
+use Rattle.std.proofs.Common.{◌≡◌, ◌∙◌, ◌⊎◌, inl, inr, List, Option, Some, None, MatchOption, sym, ap}
 use Rattle.std.proofs.Common.{Result, Ok, Err}
 use Rattle.std.specs.Result.{result_err}
 use Rattle.std.proofs.Common.{IfOk, IfErr}
 use Rattle.std.proofs.lemmas.Result.{IfOk-weaker}
 use Rattle.crush_map.specs.declared.fault.FaultCode.{FaultCode}
-use Rattle.crush_map.specs.declared.fault.MapFault.{MapFault}
-use Rattle.crush_map.specs.declared.draft.MapDraft.{MapDraft}
 use Rattle.crush_map.specs.Faults.{or_else, end_fault, first_fault}
 use Rattle.crush_map.specs.Map.{Map, IsMap, IsMapOf}
 use Rattle.crush_words.specs.Words.{Word}
@@ -60,14 +58,6 @@ pub form_faulty : (ws : List Word) (ds : List Declaration) (f : TextFault) → B
 form_faulty ws ds f breaks each = record { declarations = ds; at = f; breaks = breaks; first = ap (λ o. or_else o (Some f)) each }
 
 -- ---- what reading finds
-
--- such a text is not refused as a draft
-pub never_refused : {A : Type 0} (ws : List Word) (s : Declared) (draft : MapDraft) (answer : Result A (MapDraft × MapFault)) (e : MapDraft × MapFault) → IsClean ws s → at_end s ≡ None → draft ≡ s.draft →
-    option_map (λ p. p.1) (result_err answer) ≡ first_fault draft → answer ≡ Err e → ⊥
-never_refused ws s draft answer e clean end same fault is =
-    let none : first_fault draft ≡ None = ap first_fault same ∙ clean_draft ws s clean end in
-    let some : option_map (λ p. p.1) (result_err answer) ≡ Some e.1 = rw is refl in
-    cc
 
 pub clean : (ws : List Word) (ds xs : List Declaration) (o : Option TextFault) (answer : Result Declared TextFault) (s : Declared) → xs ≡ ds → MatchOption o (Declares ws ds) (λ at. Breaks ws ds at) → o ≡ None →
     result_err answer ≡ declared_fault xs → IfOk answer (λ judge. judge ≡ declared xs) → answer ≡ Ok s → IsClean ws s

@@ -10,8 +10,8 @@ ghost use Rattle.crush_text.specs.Reading.{map_of_stored_text, map_of_text};
 
 use crush_grammar::{words_are_read_as_they_say, words_are_whole_or_break, words_declare_once};
 use crush_map::{
-    buckets_are_sound, first_fault_is_first, numbers_and_names_are_once, numbers_are_sound,
-    rules_are_sound, weight_comes_back,
+    buckets_are_sound, drafts_declare_maps, first_fault_is_first, numbers_and_names_are_once,
+    numbers_are_sound, rules_are_sound, weight_comes_back,
 };
 
 /// A text is that of one map at most.
@@ -63,6 +63,7 @@ pub fn texts_are_read_as_they_say()
     ensures stored_map { (text : List ℕ) (m : Map) → (map_of_stored_text text ≡ Ok m) ↔ IsTextOf text m }
     ensures stored_refused { (text : List ℕ) (f : TextFault) → (map_of_stored_text text ≡ Err f) ↔ HasFirstFault text f }
 {
+    drafts_declare_maps();
     words_are_read_as_they_say();
 }
 

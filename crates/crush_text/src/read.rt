@@ -11,28 +11,20 @@ use crush_map::CrushMap;
 use std::alloc::{AllocError, Global};
 
 /// The map of a text whose declarations have no fault, or else the fault at the end.
-fn map_of(
-    alloc: Global,
-    text: &[u8],
-    judge: Judge,
-) -> Result<Result<CrushMap, TextFault>, AllocError>
+fn map_of(text: &[u8], judge: Judge) -> Result<CrushMap, TextFault>
     requires { IsClean (words text.now) judge }
-    ensures map { IfOk result (λ answer. IfOk answer (λ m. IsTextOf text.now m)) }
-    ensures refused { IfOk result (λ answer. IfErr answer (λ f. HasFirstFault text.now f)) }
+    ensures map { IfOk result (λ m. IsTextOf text.now m) }
+    ensures refused { IfErr result (λ f. HasFirstFault text.now f) }
 {
     let found = judge.end_fault();
     match found {
         Some(code) => {
             let line = last_line(text);
-            Ok(Err(at_line(line, code)))
+            Err(at_line(line, code))
         }
         None => {
             let draft = judge.into_draft();
-            let checked = CrushMap::check(alloc, draft)?;
-            match checked {
-                Ok(map) => Ok(Ok(map)),
-                Err(_) => unreachable!(),
-            }
+            Ok(CrushMap::of(draft))
         }
     }
 }
@@ -51,7 +43,7 @@ pub fn read_stored(alloc: Global, text: &[u8]) -> Result<Result<CrushMap, TextFa
         Err(fault) => Ok(Err(fault)),
         Ok(judge) => match read.fault {
             Some(fault) => Ok(Err(fault)),
-            None => map_of(alloc, text, judge),
+            None => Ok(map_of(text, judge)),
         },
     }
 }

@@ -1,7 +1,7 @@
 //! What a service answers where the data of some names is damaged.
 
 ghost use Rattle.std.specs.Prelude.{◌≡◌, IfOk};
-ghost use Rattle.tenant_core.specs.State.{fresh};
+ghost use Rattle.tenant_state.specs.State.{fresh};
 ghost use Rattle.service_tests.specs.Damaged.{begins_with};
 
 use crate::maps::FIRST;
@@ -9,7 +9,9 @@ use crush_app::Service;
 use std::alloc::{AllocError, Global};
 use std::rc::Rc;
 use std::test::Fail;
-use tenant_core::{Call, CallParts, Change, StoreFault, TenantState, TenantStore};
+use tenant_core::{StoreFault, TenantStore};
+use tenant_messages::{Call, CallParts};
+use tenant_state::{Change, TenantState};
 
 fn begins_with(byte: u8, name: &str) -> bool
     ensures { result ≡ begins_with byte name.now }

@@ -4,10 +4,9 @@ use crush_app::{MemoryStore, Service};
 use crush_map::Text;
 use std::alloc::{AllocError, Global};
 use std::test::Fail;
-use tenant_core::{
-    Bytes, Call, CallParts, Change, Decision, Effect, Reply, Routes, TenantState, TenantStore,
-    decide, read_request,
-};
+use tenant_core::{Decision, Effect, Routes, TenantStore, decide, read_request};
+use tenant_messages::{Bytes, Call, CallParts, Reply};
+use tenant_state::{Change, TenantState};
 
 /// An import of a map with the one device 0, under the request number m1.
 pub(crate) const FIRST: &str =

@@ -2,10 +2,9 @@
 
 use std::alloc::{AllocError, Global};
 use std::test::Fail;
-use tenant_core::{
-    CallParts, Effect, Refusal, Routes, StoreFault, TenantState, decide, read_request, refused,
-    store_fault,
-};
+use tenant_core::{Effect, Routes, StoreFault, decide, read_request, store_fault};
+use tenant_messages::{CallParts, Refusal, refused};
+use tenant_state::TenantState;
 
 /// The reply to a POST of this body to the path of a tenant's picks: its status and body.
 fn asked(alloc: Global, body: &str) -> Result<(u16, String), AllocError> {

@@ -5,7 +5,7 @@ use crush_map::Text;
 use std::alloc::{AllocError, Global};
 use std::io::{self, ErrorKind, Read, Write};
 use std::test::Fail;
-use tenant_core::{Bytes, Call, CallParts};
+use tenant_messages::{Bytes, Call, CallParts};
 
 const SCRIPT: &str =
     "PUT /t/a\nPOST /t/a/pick {\"bucket\":{\"id\":-1,\"items\":[{\"item\":4,\"weight\":0},{\"item\":9,\"weight\":65536}],\"kind\":\"list\"},\"r\":0,\"x\":5}\r\nGET\n\nGET /t/a\nPUT /t/a\nDELETE /t/a\nGET /t/a";

@@ -1,10 +1,10 @@
 -- The change of an accepted order.
 use Rattle.std.proofs.Common.{◌≡◌, ℕ, List, refl}
-use Rattle.tenant_core.specs.State.{Made}
-use Rattle.tenant_core.specs.declared.receipts.Receipt.{Receipt}
-use Rattle.tenant_core.specs.declared.reply.SuccessStatus.{SuccessStatus}
-use Rattle.tenant_core.specs.declared.state.Effect.{Effect}
-use Rattle.tenant_core.specs.declared.state.Effect.TheVariants.{Change}
+use Rattle.tenant_state.specs.State.{Made}
+use Rattle.tenant_state.specs.declared.receipts.Receipt.{Receipt}
+use Rattle.tenant_messages.specs.declared.reply.SuccessStatus.{SuccessStatus}
+use Rattle.tenant_core.specs.declared.decision.Effect.{Effect}
+use Rattle.tenant_core.specs.declared.decision.Effect.TheVariants.{Change}
 
 pub same_receipt : (path body reply path' body' reply' : List ℕ) (status : SuccessStatus) → path ≡ path' → body ≡ body' → reply ≡ reply'
     → ◌≡◌ {A = Receipt} (record { path = path; body = body; status = status; reply = reply }) (record { path = path'; body = body'; status = status; reply = reply' })

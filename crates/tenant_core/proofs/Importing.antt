@@ -6,10 +6,10 @@ use Rattle.crush_map.specs.Map.{Map}
 use Rattle.crush_text.specs.Reading.{map_of_text}
 use Rattle.tenant_core.specs.Effects.{Accepted}
 use Rattle.tenant_core.specs.Maps.{imported, import_reply}
-use Rattle.tenant_core.specs.State.{TenantState, NewVersion}
-use Rattle.tenant_core.specs.declared.reply.Problem.{Problem}
-use Rattle.tenant_core.specs.declared.reply.Problem.TheVariants.{MapRefused}
-use Rattle.tenant_core.specs.declared.reply.SuccessStatus.TheVariants.{Created}
+use Rattle.tenant_state.specs.State.{TenantState, NewVersion}
+use Rattle.tenant_messages.specs.declared.reply.Problem.{Problem}
+use Rattle.tenant_messages.specs.declared.reply.Problem.TheVariants.{MapRefused}
+use Rattle.tenant_messages.specs.declared.reply.SuccessStatus.TheVariants.{Created}
 
 pub of_fault : (text : List ℕ) (state : TenantState) (f : TextFault) → nat_le 256 (length state.versions) ≡ false → map_of_text text ≡ Err f → imported text state ≡ Err (MapRefused f)
 of_fault text state f few is = rw (few, is) refl

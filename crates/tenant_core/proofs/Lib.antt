@@ -1,13 +1,8 @@
-pub mod Bodies
-pub mod Finding
 pub mod Following
-pub mod Objects
-pub mod OptionalKeys
 pub mod PickForms
 pub mod Replying
 pub mod Running
 pub mod Targets
-pub mod Keeping
 pub mod TestForms
 pub mod Accepting
 pub mod Importing

@@ -7,20 +7,20 @@ use Rattle.std.specs.Ordering.{match_ordering}
 use Rattle.serde_json.specs.Written.{compact_text}
 use Rattle.tenant_core.specs.Commands.{decision, on_receipt, carried_out, order_on, again, receipt_for, receipt_limit}
 use Rattle.tenant_core.specs.Effects.{Accepted, Decided, decided}
-use Rattle.tenant_core.specs.Receipts.{Receipts, receipt_of, with_receipt, is_repeat}
-use Rattle.tenant_core.specs.Reply.{Answer, refused, answered, repeated, reply}
-use Rattle.tenant_core.specs.State.{TenantState, Change, after, epoch}
+use Rattle.tenant_state.specs.Receipts.{Receipts, receipt_of, with_receipt, is_repeat}
+use Rattle.tenant_messages.specs.Reply.{Answer, refused, answered, repeated, reply}
+use Rattle.tenant_state.specs.State.{TenantState, Change, after, epoch}
 use Rattle.tenant_core.specs.Step.{decision_on}
 use Rattle.tenant_core.specs.declared.commands.Command.{Command}
-use Rattle.tenant_core.specs.declared.receipts.Receipt.{Receipt}
-use Rattle.tenant_core.specs.declared.reply.Problem.{Problem}
-use Rattle.tenant_core.specs.declared.reply.Problem.TheVariants.{RequestReused, TenantLimit}
+use Rattle.tenant_state.specs.declared.receipts.Receipt.{Receipt}
+use Rattle.tenant_messages.specs.declared.reply.Problem.{Problem}
+use Rattle.tenant_messages.specs.declared.reply.Problem.TheVariants.{RequestReused, TenantLimit}
 use Rattle.tenant_core.specs.declared.request.Action.{Action}
 use Rattle.tenant_core.specs.declared.request.Action.TheVariants as action
 use Rattle.tenant_core.specs.declared.tenants.TenantOperation.{TenantOperation}
 use Rattle.tenant_core.specs.declared.tenants.TenantOperation.TheVariants.{Create as CreateTenant, Read, Remove as RemoveTenant}
-use Rattle.tenant_core.specs.declared.state.Effect.{Effect}
-use Rattle.tenant_core.specs.declared.state.Effect.TheVariants as effect
+use Rattle.tenant_core.specs.declared.decision.Effect.{Effect}
+use Rattle.tenant_core.specs.declared.decision.Effect.TheVariants as effect
 
 -- ---- bytes
 

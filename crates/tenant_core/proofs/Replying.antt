@@ -1,14 +1,14 @@
 -- The status of replies.
 use Rattle.std.proofs.Common.{◌≡◌, inl, inr, ℕ, ◌==◌, true, false, not, Option, refl, ap, sym, ◌∙◌}
-use Rattle.tenant_core.specs.declared.call.Call.{Call}
-use Rattle.tenant_core.specs.declared.reply.Reply.{Reply}
-use Rattle.tenant_core.specs.declared.reply.Problem.{Problem}
-use Rattle.tenant_core.specs.declared.reply.Problem.TheVariants.{BadRequest, NoPath, NoTenant, NoVersion, NoRule, Method, Exists, RequestReused, TooLarge, MapRefused, TenantLimit}
-use Rattle.tenant_core.specs.declared.reply.SuccessStatus.{SuccessStatus}
-use Rattle.tenant_core.specs.declared.reply.SuccessStatus.TheVariants.{Done, Created}
-use Rattle.tenant_core.specs.State.{TenantState}
+use Rattle.tenant_messages.specs.declared.call.Call.{Call}
+use Rattle.tenant_messages.specs.declared.reply.Reply.{Reply}
+use Rattle.tenant_messages.specs.declared.reply.Problem.{Problem}
+use Rattle.tenant_messages.specs.declared.reply.Problem.TheVariants.{BadRequest, NoPath, NoTenant, NoVersion, NoRule, Method, Exists, RequestReused, TooLarge, MapRefused, TenantLimit}
+use Rattle.tenant_messages.specs.declared.reply.SuccessStatus.{SuccessStatus}
+use Rattle.tenant_messages.specs.declared.reply.SuccessStatus.TheVariants.{Done, Created}
+use Rattle.tenant_state.specs.State.{TenantState}
 use Rattle.tenant_core.specs.Alone.{is_answered}
-use Rattle.tenant_core.specs.Reply.{Answer, refused, answered, repeated, problem_status, success_status, reply}
+use Rattle.tenant_messages.specs.Reply.{Answer, refused, answered, repeated, problem_status, success_status, reply}
 use Rattle.tenant_core.specs.Request.{request_of}
 use Rattle.tenant_core.specs.Step.{step, decision_or_refusal}
 use Rattle.tenant_core.specs.StoreReply.{IsUnavailable, store_failed, store_damaged}

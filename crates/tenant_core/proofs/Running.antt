@@ -3,9 +3,9 @@ use Rattle.std.proofs.Common.{◌≡◌, ℕ, zero, suc, ◌&&◌, ◌==◌, inl
 use Rattle.std.proofs.lemmas.List.{map-append}
 use Rattle.std.proofs.lemmas.List.Elements.{filter-append, All-append}
 use Rattle.std.specs.List.{All, AllZip}
-use Rattle.tenant_core.specs.declared.call.Call.{Call}
-use Rattle.tenant_core.specs.declared.reply.Reply.{Reply}
-use Rattle.tenant_core.specs.State.{TenantState}
+use Rattle.tenant_messages.specs.declared.call.Call.{Call}
+use Rattle.tenant_messages.specs.declared.reply.Reply.{Reply}
+use Rattle.tenant_state.specs.State.{TenantState}
 use Rattle.tenant_core.specs.Alone.{alone, is_answered, answered, calls_answered, replies_answered}
 use Rattle.tenant_core.specs.States.{States, Same, Follows, Answers, AnswersNobody, AnswersDamaged, NamesCause, MeetsDefinition}
 use Rattle.tenant_core.specs.Step.{step, is_of}

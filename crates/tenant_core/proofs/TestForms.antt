@@ -4,13 +4,13 @@ use Rattle.std.specs.Bool.{Decides}
 use Rattle.std.specs.Prelude.{codes}
 use Rattle.std.proofs.lemmas.Bool.Decides.{nat_tests, Decides-and}
 use Rattle.serde_json.specs.Data.{Data}
-use Rattle.tenant_core.proofs.Finding.{Finds, finds_as, finds_both, finds_natural, finds_object, finds_object_with, finds_tested, finds_text, finds_under, is_there}
-use Rattle.tenant_core.proofs.Objects.{AllFound, are_different}
-use Rattle.tenant_core.proofs.OptionalKeys.{finds_optional, found_if_any, all_found-append, present-if_any}
-use Rattle.tenant_core.specs.Forms.{IsNatural, if_any}
-use Rattle.tenant_core.specs.Json.{present}
+use Rattle.tenant_messages.proofs.Finding.{Finds, finds_as, finds_both, finds_natural, finds_object, finds_object_with, finds_tested, finds_text, finds_under, is_there}
+use Rattle.tenant_messages.proofs.Objects.{AllFound, are_different}
+use Rattle.tenant_messages.proofs.OptionalKeys.{finds_optional, found_if_any, all_found-append, present-if_any}
+use Rattle.tenant_messages.specs.Forms.{IsNatural, if_any}
+use Rattle.tenant_messages.specs.Json.{present}
 use Rattle.tenant_core.specs.Maps.{IsImportBody, import_of}
-use Rattle.tenant_core.specs.Numbers.{IsRequestNumber, has_length, request_number_of}
+use Rattle.tenant_messages.specs.Numbers.{IsRequestNumber, has_length, request_number_of}
 use Rattle.tenant_core.specs.RuleTests.{RuleTest, IsTestBody, test_with, test_of}
 
 Decides-leb : (a b : ℕ) → Decides (nat_le a b) (a ≤ b)

@@ -11,7 +11,7 @@ use Rattle.crush_choose.specs.Trace.{rule_trace}
 use Rattle.crush_choose.specs.Weights.{weights_of}
 use Rattle.crush_map.specs.Map.{Map}
 use Rattle.crush_map.specs.declared.draft.Rule.{Rule}
-use Rattle.tenant_core.specs.Reply.{natural}
+use Rattle.tenant_messages.specs.Reply.{natural}
 use Rattle.tenant_core.specs.RuleTests.{RuleTest, outcome, slot_json, list_json, tested}
 
 pub tested_is : (e v : ℕ) (m : Map) (rule : Rule) (t own : RuleTest) (tables : TablesView) (weights : List ℕ) (items : List Slot) (trace : List ℕ)

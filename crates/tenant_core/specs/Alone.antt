@@ -1,9 +1,9 @@
 -- A tenant's calls run alone: as if there were no other tenant, no store and no want of memory.
 use Rattle.std.specs.Prelude.{ℕ, ◌&&◌, ◌==◌, List, [], ◌∷◌, map, filter, zip, Bool, not, Option}
 use Rattle.tenant_core.specs.Step.{step, is_of}
-use Rattle.tenant_core.specs.declared.call.Call.{Call}
-use Rattle.tenant_core.specs.declared.reply.Reply.{Reply}
-use Rattle.tenant_core.specs.State.{TenantState}
+use Rattle.tenant_messages.specs.declared.call.Call.{Call}
+use Rattle.tenant_messages.specs.declared.reply.Reply.{Reply}
+use Rattle.tenant_state.specs.State.{TenantState}
 
 -- ---- calls alone
 

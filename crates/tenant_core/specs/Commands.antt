@@ -3,16 +3,16 @@ use Rattle.std.specs.Prelude.{ℕ, List, length, nat_le, if◌then◌else◌, Op
 use Rattle.serde_json.specs.Written.{compact_text}
 use Rattle.tenant_core.specs.Effects.{Accepted, Decided, decided}
 use Rattle.tenant_core.specs.Maps as maps
-use Rattle.tenant_core.specs.Receipts.{receipt_of, is_repeat}
-use Rattle.tenant_core.specs.Reply.{Answer, refused, answered, repeated}
-use Rattle.tenant_core.specs.State.{TenantState}
+use Rattle.tenant_state.specs.Receipts.{receipt_of, is_repeat}
+use Rattle.tenant_messages.specs.Reply.{Answer, refused, answered, repeated}
+use Rattle.tenant_state.specs.State.{TenantState}
 use Rattle.tenant_core.specs.declared.commands.Command.{Command}
 use Rattle.tenant_core.specs.declared.commands.Order.{Order}
 use Rattle.tenant_core.specs.declared.commands.Order.TheVariants.{ImportMap}
-use Rattle.tenant_core.specs.declared.receipts.Receipt.{Receipt}
-use Rattle.tenant_core.specs.declared.reply.Problem.{Problem}
-use Rattle.tenant_core.specs.declared.reply.Problem.TheVariants.{RequestReused, TenantLimit}
-use Rattle.tenant_core.specs.declared.state.Effect.TheVariants.{Keep, Change}
+use Rattle.tenant_state.specs.declared.receipts.Receipt.{Receipt}
+use Rattle.tenant_messages.specs.declared.reply.Problem.{Problem}
+use Rattle.tenant_messages.specs.declared.reply.Problem.TheVariants.{RequestReused, TenantLimit}
+use Rattle.tenant_core.specs.declared.decision.Effect.TheVariants.{Keep, Change}
 
 -- what an order does, or why nothing: the table of all orders
 abbrev pub order_on : Order → TenantState → Result Accepted Problem

@@ -1,12 +1,12 @@
 -- What the decision on a request does to the state of its tenant.
 use Rattle.std.specs.Prelude.{◌≡◌, Option, Some, None, option_map, IsSome}
 use Rattle.serde_json.specs.Data.{Data}
-use Rattle.tenant_core.specs.Reply.{Answer, refused}
-use Rattle.tenant_core.specs.State.{TenantState, Made, fresh, after}
-use Rattle.tenant_core.specs.declared.reply.Problem.TheVariants.{NoTenant}
-use Rattle.tenant_core.specs.declared.reply.SuccessStatus.{SuccessStatus}
-use Rattle.tenant_core.specs.declared.state.Effect.{Effect}
-use Rattle.tenant_core.specs.declared.state.Effect.TheVariants.{Keep, Create, Change, Remove}
+use Rattle.tenant_messages.specs.Reply.{Answer, refused}
+use Rattle.tenant_state.specs.State.{TenantState, Made, fresh, after}
+use Rattle.tenant_messages.specs.declared.reply.Problem.TheVariants.{NoTenant}
+use Rattle.tenant_messages.specs.declared.reply.SuccessStatus.{SuccessStatus}
+use Rattle.tenant_core.specs.declared.decision.Effect.{Effect}
+use Rattle.tenant_core.specs.declared.decision.Effect.TheVariants.{Keep, Create, Change, Remove}
 
 -- the state of a tenant after an effect, or none where the tenant is then absent
 abbrev pub after_effect : Effect → Option TenantState → Option TenantState

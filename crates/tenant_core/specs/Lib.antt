@@ -1,13 +1,4 @@
-pub mod CallParts
-pub mod Json
-pub mod Forms
-pub mod Reply
-pub mod Refusals
-pub mod Receipts
-pub mod State
-pub mod Made
 pub mod Effects
-pub mod Numbers
 pub mod Tenants
 pub mod Picks
 pub mod Maps

@@ -8,14 +8,14 @@ use Rattle.crush_map.specs.Map.{Map}
 use Rattle.crush_text.specs.Canonical.{canonical}
 use Rattle.crush_text.specs.Reading.{map_of_text}
 use Rattle.tenant_core.specs.Effects.{Accepted}
-use Rattle.tenant_core.specs.Forms.{IsText, HasExactly, IsUnder}
-use Rattle.tenant_core.specs.Json.{value_of, both, has_keys, under}
-use Rattle.tenant_core.specs.Numbers.{IsRequestNumber, request_number_of}
-use Rattle.tenant_core.specs.Reply.{Answer, refused, success, members_of, natural}
-use Rattle.tenant_core.specs.State.{TenantState, NewVersion, epoch, newest, version}
-use Rattle.tenant_core.specs.declared.reply.Problem.{Problem}
-use Rattle.tenant_core.specs.declared.reply.Problem.TheVariants.{NoVersion, MapRefused, TenantLimit}
-use Rattle.tenant_core.specs.declared.reply.SuccessStatus.TheVariants.{Created}
+use Rattle.tenant_messages.specs.Forms.{IsText, HasExactly, IsUnder}
+use Rattle.tenant_messages.specs.Json.{value_of, both, has_keys, under}
+use Rattle.tenant_messages.specs.Numbers.{IsRequestNumber, request_number_of}
+use Rattle.tenant_messages.specs.Reply.{Answer, refused, success, members_of, natural}
+use Rattle.tenant_state.specs.State.{TenantState, NewVersion, epoch, newest, version}
+use Rattle.tenant_messages.specs.declared.reply.Problem.{Problem}
+use Rattle.tenant_messages.specs.declared.reply.Problem.TheVariants.{NoVersion, MapRefused, TenantLimit}
+use Rattle.tenant_messages.specs.declared.reply.SuccessStatus.TheVariants.{Created}
 
 -- ---- requests
 

@@ -12,9 +12,9 @@ use Rattle.crush_map.specs.declared.ItemId.{ItemId}
 use Rattle.crush_map.specs.Kinds.{kind_name, kind_named}
 use Rattle.crush_map.specs.declared.Kind.{Kind}
 use Rattle.crush_map.specs.declared.Kind.TheVariants.{Uniform}
-use Rattle.tenant_core.specs.Forms.{IsNatural, IsInteger, IsText, IsListOf, HasExactly, IsUnder}
-use Rattle.tenant_core.specs.Json.{value_of, natural_of, integer_of, both, all_three, list_of, has_keys, under}
-use Rattle.tenant_core.specs.Reply.{Answer, success, members_of}
+use Rattle.tenant_messages.specs.Forms.{IsNatural, IsInteger, IsText, IsListOf, HasExactly, IsUnder}
+use Rattle.tenant_messages.specs.Json.{value_of, natural_of, integer_of, both, all_three, list_of, has_keys, under}
+use Rattle.tenant_messages.specs.Reply.{Answer, success, members_of}
 use Rattle.tenant_core.specs.declared.picks.PickRequest.{PickRequest}
 
 -- ---- requests

@@ -2,4 +2,3 @@
 pub mod Accepting
 pub mod Inserting
 pub mod Performing
-pub mod Reading

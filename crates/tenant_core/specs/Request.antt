@@ -7,13 +7,13 @@ use Rattle.tenant_core.specs.Picks as picks
 use Rattle.tenant_core.specs.Route.{Target, target_of, route_in, parameter, path_number}
 use Rattle.tenant_core.specs.RuleTests as rule_tests
 use Rattle.tenant_core.specs.Tenants as tenants
-use Rattle.tenant_core.specs.declared.call.Call.{Call}
+use Rattle.tenant_messages.specs.declared.call.Call.{Call}
 use Rattle.tenant_core.specs.declared.commands.Order.{Order}
 use Rattle.tenant_core.specs.declared.commands.Order.TheVariants.{ImportMap}
 use Rattle.tenant_core.specs.declared.route.Route.{Route}
 use Rattle.tenant_core.specs.declared.route.Route.TheVariants.{Tenant, Maps, Version, Pick, Test}
-use Rattle.tenant_core.specs.declared.reply.Problem.{Problem}
-use Rattle.tenant_core.specs.declared.reply.Problem.TheVariants.{BadRequest, NoPath, Method, TooLarge}
+use Rattle.tenant_messages.specs.declared.reply.Problem.{Problem}
+use Rattle.tenant_messages.specs.declared.reply.Problem.TheVariants.{BadRequest, NoPath, Method, TooLarge}
 use Rattle.tenant_core.specs.declared.request.Action.{Action}
 use Rattle.tenant_core.specs.declared.request.Action.TheVariants as action
 use Rattle.tenant_core.specs.declared.request.Operation.{Operation}

@@ -11,11 +11,11 @@ use Rattle.crush_choose.specs.Trace.{rule_trace}
 use Rattle.crush_choose.specs.Weights.{weights_of}
 use Rattle.crush_map.specs.Map.{Map}
 use Rattle.crush_map.specs.declared.draft.Rule.{Rule}
-use Rattle.tenant_core.specs.Forms.{IsNatural, IsOptional, if_any, HasExactly, IsUnder}
-use Rattle.tenant_core.specs.Json.{value_of, natural_of, both, has_keys, under, optional, present}
-use Rattle.tenant_core.specs.Reply.{Answer, refused, success, members_of, natural}
-use Rattle.tenant_core.specs.State.{TenantState, epoch, newest, version}
-use Rattle.tenant_core.specs.declared.reply.Problem.TheVariants.{NoVersion, NoRule}
+use Rattle.tenant_messages.specs.Forms.{IsNatural, IsOptional, if_any, HasExactly, IsUnder}
+use Rattle.tenant_messages.specs.Json.{value_of, natural_of, both, has_keys, under, optional, present}
+use Rattle.tenant_messages.specs.Reply.{Answer, refused, success, members_of, natural}
+use Rattle.tenant_state.specs.State.{TenantState, epoch, newest, version}
+use Rattle.tenant_messages.specs.declared.reply.Problem.TheVariants.{NoVersion, NoRule}
 
 -- ---- requests
 

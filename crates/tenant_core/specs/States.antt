@@ -4,9 +4,9 @@ use Rattle.std.specs.List.{All, AllZip}
 use Rattle.tenant_core.specs.Alone.{alone, is_answered, replies_answered, calls_answered}
 use Rattle.tenant_core.specs.Step.{step, is_of, tenant_of}
 use Rattle.tenant_core.specs.StoreReply.{IsUnavailable, reply_where_damaged}
-use Rattle.tenant_core.specs.declared.call.Call.{Call}
-use Rattle.tenant_core.specs.declared.reply.Reply.{Reply}
-use Rattle.tenant_core.specs.State.{TenantState}
+use Rattle.tenant_messages.specs.declared.call.Call.{Call}
+use Rattle.tenant_messages.specs.declared.reply.Reply.{Reply}
+use Rattle.tenant_state.specs.State.{TenantState}
 
 -- ---- states
 

@@ -6,19 +6,19 @@ use Rattle.tenant_core.specs.Commands as commands
 use Rattle.tenant_core.specs.Effects.{Decided, decided, after_effect, if_present}
 use Rattle.tenant_core.specs.Maps as maps
 use Rattle.tenant_core.specs.Picks as picks
-use Rattle.tenant_core.specs.Reply.{refused, reply}
+use Rattle.tenant_messages.specs.Reply.{refused, reply}
 use Rattle.tenant_core.specs.Request.{tenant_in, request_of}
 use Rattle.tenant_core.specs.Route.{target_of}
 use Rattle.tenant_core.specs.RuleTests as rule_tests
 use Rattle.tenant_core.specs.Tenants as tenants
-use Rattle.tenant_core.specs.declared.call.Call.{Call}
-use Rattle.tenant_core.specs.declared.reply.Reply.{Reply}
-use Rattle.tenant_core.specs.declared.reply.Problem.{Problem}
+use Rattle.tenant_messages.specs.declared.call.Call.{Call}
+use Rattle.tenant_messages.specs.declared.reply.Reply.{Reply}
+use Rattle.tenant_messages.specs.declared.reply.Problem.{Problem}
 use Rattle.tenant_core.specs.declared.request.Action.{Action}
 use Rattle.tenant_core.specs.declared.request.Action.TheVariants as action
 use Rattle.tenant_core.specs.declared.request.Request.{Request}
-use Rattle.tenant_core.specs.declared.state.Effect.TheVariants.{Keep}
-use Rattle.tenant_core.specs.State.{TenantState}
+use Rattle.tenant_core.specs.declared.decision.Effect.TheVariants.{Keep}
+use Rattle.tenant_state.specs.State.{TenantState}
 
 -- ---- one request
 

@@ -3,10 +3,10 @@ use Rattle.std.specs.Prelude.{ℕ, List, [], ◌∷◌, if◌then◌else◌, Opt
 use Rattle.std.specs.Str.{bytes_eq}
 use Rattle.serde_json.specs.Data.{Data, string, object}
 use Rattle.tenant_core.specs.Effects.{Decided, decided, if_present}
-use Rattle.tenant_core.specs.Reply.{refused, success, created, members_of, natural}
-use Rattle.tenant_core.specs.declared.reply.Problem.TheVariants.{Exists}
-use Rattle.tenant_core.specs.declared.state.Effect.TheVariants as effect
-use Rattle.tenant_core.specs.State.{TenantState, epoch, newest}
+use Rattle.tenant_messages.specs.Reply.{refused, success, created, members_of, natural}
+use Rattle.tenant_messages.specs.declared.reply.Problem.TheVariants.{Exists}
+use Rattle.tenant_core.specs.declared.decision.Effect.TheVariants as effect
+use Rattle.tenant_state.specs.State.{TenantState, epoch, newest}
 use Rattle.tenant_core.specs.declared.tenants.TenantOperation.{TenantOperation}
 use Rattle.tenant_core.specs.declared.tenants.TenantOperation.TheVariants.{Create, Read, Remove}
 

@@ -6,19 +6,18 @@ ghost use Rattle.serde_json.specs.Written.{has_float};
 ghost use Rattle.tenant_core.specs.Commands as spec;
 ghost use Rattle.tenant_core.specs.Effects.{Fits};
 ghost use Rattle.tenant_core.specs.Private.Accepting.{accepted_of};
-ghost use Rattle.tenant_core.specs.Refusals.{Gives};
-ghost use Rattle.tenant_core.specs.Reply.{reply};
-ghost use Rattle.tenant_core.specs.State.{TenantState};
+ghost use Rattle.tenant_messages.specs.Refusals.{Gives};
+ghost use Rattle.tenant_messages.specs.Reply.{reply};
+ghost use Rattle.tenant_state.specs.State.{TenantState};
 
-use crate::call::Bytes;
+use crate::decision::{Decision, Effect, kept};
 use crate::maps;
-use crate::receipts::{Receipt, is_repeat};
-use crate::reply::{Problem, Refusal, SuccessStatus, answered, refused, repeated};
-use crate::state::{Change, Decision, Effect, Made, TenantState, kept};
 use crush_map::Text;
 use serde_json::Value;
 use std::alloc::{AllocError, Global};
 use std::rc::Rc;
+use tenant_messages::{Bytes, Problem, Refusal, SuccessStatus, answered, refused, repeated};
+use tenant_state::{Change, Made, Receipt, TenantState, is_repeat};
 
 /// What a changing request asks for.
 #[derive(Drop)]
@@ -115,7 +114,7 @@ fn decide_again(alloc: Global, command: &Command, receipt: &Receipt) -> Result<D
     ensures reply { IfOk result (λ d. d.reply ≡ reply (spec.again command.now receipt.now)) }
 {
     if is_repeat(command.path.as_str(), command.body.as_slice(), receipt) {
-        Ok(kept(repeated(alloc, receipt)?))
+        Ok(kept(repeated(alloc, receipt.status, receipt.reply.as_str())?))
     } else {
         Ok(kept(refused(alloc, Problem::RequestReused)?))
     }

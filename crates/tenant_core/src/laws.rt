@@ -2,21 +2,21 @@
 
 ghost use Rattle.std.specs.Prelude.{◌≡◌, ◌≢◌, ◌↔◌, ℕ, suc, List, Option, Some, None};
 ghost use Rattle.serde_json.specs.Data.{Data};
-ghost use Rattle.tenant_core.specs.Forms.{IsJson};
+ghost use Rattle.tenant_messages.specs.Forms.{IsJson};
 ghost use Rattle.tenant_core.specs.Maps.{IsImportBody, import_of, import_request_of};
 ghost use Rattle.tenant_core.specs.Picks.{IsPickBody, pick_of, pick_request_of};
 ghost use Rattle.tenant_core.specs.RuleTests.{RuleTest, IsTestBody, test_of, test_request_of};
 ghost use Rattle.tenant_core.specs.Commands.{decision};
-ghost use Rattle.tenant_core.specs.Receipts.{receipt_of};
-ghost use Rattle.tenant_core.specs.Reply.{reply};
+ghost use Rattle.tenant_state.specs.Receipts.{receipt_of};
+ghost use Rattle.tenant_messages.specs.Reply.{reply};
 ghost use Rattle.tenant_core.specs.Step.{step, tenant_of, decision_on};
-ghost use Rattle.tenant_core.specs.declared.call.Call.{Call};
+ghost use Rattle.tenant_messages.specs.declared.call.Call.{Call};
 ghost use Rattle.tenant_core.specs.declared.commands.Command.{Command};
-ghost use Rattle.tenant_core.specs.declared.receipts.Receipt.{Receipt};
+ghost use Rattle.tenant_state.specs.declared.receipts.Receipt.{Receipt};
 ghost use Rattle.tenant_core.specs.declared.request.Action.{Action};
-ghost use Rattle.tenant_core.specs.declared.state.Effect.{Effect};
+ghost use Rattle.tenant_core.specs.declared.decision.Effect.{Effect};
 ghost use Rattle.tenant_core.specs.declared.picks.PickRequest.{PickRequest};
-ghost use Rattle.tenant_core.specs.State.{TenantState, Change, epoch, after};
+ghost use Rattle.tenant_state.specs.State.{TenantState, Change, epoch, after};
 
 /// No step has the status 500 or 503: these are for a store that fails, and for want of memory.
 pub fn no_step_answers_500_or_503()

@@ -5,20 +5,21 @@ ghost use Rattle.serde_json.specs.View.{view};
 ghost use Rattle.serde_json.specs.Written.{has_float};
 ghost use Rattle.tenant_core.specs.Maps as spec;
 ghost use Rattle.tenant_core.specs.Private.Accepting.{accepted_of};
-ghost use Rattle.tenant_core.specs.Private.Reading.{Reads};
-ghost use Rattle.tenant_core.specs.Refusals.{Gives};
-ghost use Rattle.tenant_core.specs.Reply.{reply};
+ghost use Rattle.tenant_messages.specs.Reading.{Reads};
+ghost use Rattle.tenant_messages.specs.Refusals.{Gives};
+ghost use Rattle.tenant_messages.specs.Reply.{reply};
 
 use crate::commands::Accepted;
-use crate::json::{ReadError, has_keys, read_value, request_number, text};
-use crate::reply::{Problem, Refusal, Reply, SuccessStatus, refused, success};
-use crate::state::{Made, TenantState};
-use crate::version::Version;
 use crush_map::{CrushMap, Text};
 use crush_text::{read_map, texts_are_read_as_they_say};
 use serde_json::{Value, json};
 use std::alloc::{AllocError, Global};
 use std::rc::Rc;
+use tenant_messages::{
+    Problem, ReadError, Refusal, Reply, SuccessStatus, has_keys, read_value, refused,
+    request_number, success, text,
+};
+use tenant_state::{Made, TenantState, Version};
 
 /// The route of all versions.
 pub(crate) const ROUTE: &str = "/t/{t}/maps";

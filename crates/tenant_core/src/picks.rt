@@ -5,18 +5,17 @@ ghost use Rattle.std.specs.List.{list_any};
 ghost use Rattle.serde_json.specs.View.{view, items_view};
 ghost use Rattle.crush_bucket.specs.Bucket.{total_weight, HasEqualWeights};
 ghost use Rattle.crush_bucket.specs.Pick.{pick, perm_of};
-ghost use Rattle.tenant_core.specs.Json as json;
+ghost use Rattle.tenant_messages.specs.Json as json;
 ghost use Rattle.tenant_core.specs.Picks as spec;
-ghost use Rattle.tenant_core.specs.Private.Reading.{Reads};
-ghost use Rattle.tenant_core.specs.Reply.{reply};
+ghost use Rattle.tenant_messages.specs.Reading.{Reads};
+ghost use Rattle.tenant_messages.specs.Reply.{reply};
 
-use crate::json::{ReadError, has_keys, integer, natural, read_value, text};
-use crate::reply::{Reply, success};
 use crush_bucket::{ListBucket, Perm, Picker, TreeBucket, UniformBucket};
 use crush_map::{ItemId, Kind, Weight, has_equal_weights, total_weight};
 use serde_json::{Value, json};
 use std::alloc::{AllocError, Global};
 use std::marker::Model;
+use tenant_messages::{ReadError, Reply, has_keys, integer, natural, read_value, success, text};
 
 /// The route of picks.
 pub(crate) const ROUTE: &str = "/t/{t}/pick";

@@ -1,22 +1,20 @@
 //! Reading a call as a request: its checks in their order, and the tables of operations and actions.
 
 ghost use Rattle.std.specs.Prelude.{◌≡◌, IfOk, option_map};
-ghost use Rattle.tenant_core.specs.CallParts.{call_of};
-ghost use Rattle.tenant_core.specs.Private.Reading.{Reads};
-ghost use Rattle.tenant_core.specs.Refusals.{Gives};
+ghost use Rattle.tenant_messages.specs.CallParts.{call_of};
+ghost use Rattle.tenant_messages.specs.Reading.{Reads};
+ghost use Rattle.tenant_messages.specs.Refusals.{Gives};
 ghost use Rattle.tenant_core.specs.Request as spec;
 
-use crate::call::CallParts;
 use crate::commands::{Command, Order, copied};
-use crate::json::{ReadError, path_number};
 use crate::maps;
 use crate::picks::{self, PickRequest};
-use crate::reply::{Problem, Refusal};
-use crate::route::{Route, Routes, Target};
+use crate::route::{Route, Routes, Target, path_number};
 use crate::rule_tests::{self, RuleTest};
 use crate::tenants::{self, TenantOperation};
 use crush_map::{Text, is_name};
 use std::alloc::{AllocError, Global};
+use tenant_messages::{CallParts, Problem, ReadError, Refusal};
 
 /// The operations: what the methods mean on the routes.
 #[derive(Clone, Copy, Debug, PartialEq, Eq)]

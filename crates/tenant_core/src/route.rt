@@ -5,9 +5,10 @@ ghost use Rattle.std.specs.Char.{is_ascii};
 ghost use Rattle.std.specs.List.{list_all};
 ghost use Rattle.matchit.specs.Route.{parse_route};
 ghost use Rattle.tenant_core.specs.Private.Inserting.{is_new};
-ghost use Rattle.tenant_core.specs.Route.{table, with_route};
+ghost use Rattle.tenant_core.specs.Route.{table, with_route, path_number};
 
 use crate::{maps, picks, rule_tests, tenants};
+use crush_words::number_from_text;
 use matchit::{InsertError, Params, Router};
 use std::alloc::{AllocError, Global};
 use std::marker::Model;
@@ -136,4 +137,11 @@ fn insert(router: &mut Router<Route>, text: &str, route: Route) -> Result<(), Al
         Err(InsertError::OutOfMemory) => Err(AllocError),
         Err(_) => unreachable!(),
     }
+}
+
+/// The number that a part of the path writes, in 1 to 10 digits.
+pub(crate) fn path_number(target: &Target<'_, '_>, key: &str) -> Option<u64>
+    ensures { result ≡ path_number key.now target.now }
+{
+    number_from_text(target.parameter(key)?.as_bytes())
 }

@@ -6,14 +6,10 @@ ghost use Rattle.crush_choose.specs.Rules.{CanRun, rule_answer};
 ghost use Rattle.crush_choose.specs.Trace.{rule_trace};
 ghost use Rattle.crush_choose.specs.Weights.{weights_of};
 ghost use Rattle.serde_json.specs.View.{view, items_view, items_of};
-ghost use Rattle.tenant_core.specs.Private.Reading.{Reads};
-ghost use Rattle.tenant_core.specs.Reply.{natural, reply};
+ghost use Rattle.tenant_messages.specs.Reading.{Reads};
+ghost use Rattle.tenant_messages.specs.Reply.{natural, reply};
 ghost use Rattle.tenant_core.specs.RuleTests as spec;
 
-use crate::json::{ReadError, has_keys, natural, optional_natural, read_value};
-use crate::reply::{Problem, Reply, refused, success};
-use crate::state::TenantState;
-use crate::version::Version;
 use crush_bucket::Scratch;
 use crush_choose::laws::{rules_of_a_map_can_run, traces_ascend};
 use crush_choose::{Out, Slot, run_rule};
@@ -21,6 +17,10 @@ use crush_map::{CrushMap, Rule};
 use serde_json::{Value, json};
 use std::alloc::{AllocError, Global};
 use std::marker::Model;
+use tenant_messages::{
+    Problem, ReadError, Reply, has_keys, natural, optional_natural, read_value, refused, success,
+};
+use tenant_state::{TenantState, Version};
 
 /// The route of rule tests.
 pub(crate) const ROUTE: &str = "/t/{t}/test";

@@ -1,14 +1,14 @@
 //! The store of tenants' states: what one has to do, and the replies where it fails.
 
 ghost use Rattle.std.specs.Prelude.{◌≡◌, ◌≢◌, ◌⊎◌, ◌↔◌, ℕ, List, Option, Some, None, IfOk, OnOk, OnErr, option_map};
-ghost use Rattle.tenant_core.specs.State.{TenantState, fresh, after};
+ghost use Rattle.tenant_state.specs.State.{TenantState, fresh, after};
 ghost use Rattle.tenant_core.specs.States.{IsDamaged, Same};
 ghost use Rattle.tenant_core.specs.StoreReply as spec;
 
-use crate::reply::{Reply, error, no_memory, written};
-use crate::state::{Change, TenantState};
 use std::alloc::{AllocError, Global};
 use std::rc::Rc;
+use tenant_messages::{Reply, error, no_memory, written};
+use tenant_state::{Change, TenantState};
 
 /// Why a call of a store failed.
 #[derive(Clone, Copy, Debug, PartialEq, Eq)]

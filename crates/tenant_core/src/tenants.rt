@@ -3,13 +3,14 @@
 ghost use Rattle.std.specs.Prelude.{◌≡◌, None, Some, IfOk, option_map};
 ghost use Rattle.serde_json.specs.View.{view};
 ghost use Rattle.tenant_core.specs.Effects.{Fits};
-ghost use Rattle.tenant_core.specs.Reply.{reply};
+ghost use Rattle.tenant_messages.specs.Reply.{reply};
 ghost use Rattle.tenant_core.specs.Tenants as spec;
 
-use crate::reply::{Problem, created, refused, success};
-use crate::state::{Decision, Effect, TenantState};
+use crate::decision::{Decision, Effect};
 use serde_json::{Value, json};
 use std::alloc::{AllocError, Global};
+use tenant_messages::{Problem, created, refused, success};
+use tenant_state::TenantState;
 
 /// The route of tenants.
 pub(crate) const ROUTE: &str = "/t/{t}";

@@ -1,7 +1,7 @@
 -- An accepted order, as the code keeps it.
 use Rattle.serde_json.specs.View.{view}
 use Rattle.tenant_core.specs.Effects as effects
-use Rattle.tenant_core.specs.Made.{made_of}
+use Rattle.tenant_state.specs.Made.{made_of}
 use Rattle.tenant_core.specs.declared.commands.Accepted.{Accepted}
 
 abbrev pub accepted_of : Accepted → effects.Accepted

@@ -1,12 +1,12 @@
 -- A request that was carried out on a store.
 use Rattle.std.specs.Prelude.{ℕ, ◌≡◌, ◌≢◌, ◌↔◌, List, Option}
-use Rattle.tenant_core.specs.Reply.{reply}
+use Rattle.tenant_messages.specs.Reply.{reply}
 use Rattle.tenant_core.specs.States.{States}
 use Rattle.tenant_core.specs.Effects.{after_effect}
 use Rattle.tenant_core.specs.Step.{decision}
-use Rattle.tenant_core.specs.declared.reply.Reply.{Reply}
+use Rattle.tenant_messages.specs.declared.reply.Reply.{Reply}
 use Rattle.tenant_core.specs.declared.request.Request.{Request}
-use Rattle.tenant_core.specs.State.{TenantState}
+use Rattle.tenant_state.specs.State.{TenantState}
 
 -- the state that was found decided the reply, and the state that the tenant has since; every other tenant keeps its own
 pub record Performs (r : Request) (old new : States) (replied : Reply) : Type 0 where

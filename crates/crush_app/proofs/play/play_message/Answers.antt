@@ -1,4 +1,4 @@
-use Rattle.tenant_core.specs.CallParts.{call_of}
+use Rattle.tenant_messages.specs.CallParts.{call_of}
 use Rattle.crush_app.proofs.Playing.{plays_bad, plays_call, cut_bad, cut_call}
 use Rattle.crush_app.proofs.play.play_message.Goals as goal
 

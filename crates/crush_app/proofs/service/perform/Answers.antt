@@ -1,5 +1,5 @@
 use Rattle.std.proofs.Common.{◌≡◌, ◌≢◌, ◌∙◌, sym, ap, subst, option_map}
-use Rattle.tenant_core.specs.Reply.{reply}
+use Rattle.tenant_messages.specs.Reply.{reply}
 use Rattle.tenant_core.specs.Step.{decision_on}
 use Rattle.tenant_core.specs.Effects.{Fits, after_effect}
 use Rattle.crush_app.proofs.Kept.{deref_of}

@@ -1,5 +1,5 @@
 use Rattle.std.proofs.Common.{◌∙◌, ap}
-use Rattle.tenant_core.specs.Reply.{reply}
+use Rattle.tenant_messages.specs.Reply.{reply}
 use Rattle.tenant_core.proofs.Once.{accepts, receipt_found, receipt_stays, repeats}
 use Rattle.tenant_core.proofs.laws.a_changing_request_acts_once.Goals as goal
 

@@ -1,4 +1,4 @@
-use Rattle.tenant_core.proofs.Finding.{json_finds, json_refuses}
+use Rattle.tenant_messages.proofs.Finding.{json_finds, json_refuses}
 use Rattle.tenant_core.proofs.TestForms.{finds_import}
 use Rattle.tenant_core.proofs.laws.imports_are_of_the_form.Goals as goal
 

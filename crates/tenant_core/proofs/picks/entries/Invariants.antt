@@ -1,7 +1,7 @@
 use Rattle.std.proofs.Common.{◌≡◌, ◌++◌, drop, option_map}
 use Rattle.serde_json.specs.View.{items_view}
 use Rattle.tenant_core.specs.Picks.{entry_of}
-use Rattle.tenant_core.specs.Json.{each_of}
+use Rattle.tenant_messages.specs.Json.{each_of}
 use Rattle.tenant_core.proofs.picks.entries.Given as goal
 
 -- the entries so far, and then those of the values that are left, are all

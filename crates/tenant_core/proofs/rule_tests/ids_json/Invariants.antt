@@ -1,6 +1,6 @@
 use Rattle.std.proofs.Common.{◌≡◌, map, take}
 use Rattle.serde_json.specs.View.{view}
-use Rattle.tenant_core.specs.Reply.{natural}
+use Rattle.tenant_messages.specs.Reply.{natural}
 use Rattle.tenant_core.proofs.rule_tests.ids_json.Given as goal
 
 -- the values of the ids so far

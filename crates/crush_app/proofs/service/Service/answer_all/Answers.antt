@@ -1,6 +1,6 @@
 use Rattle.std.proofs.Common.{◌≡◌, ◌+◌, [], ◌∷◌, ◌++◌, take, length-append, sym, ap, ◌∙◌, arith}
 use Rattle.std.proofs.lemmas.List.{take_more}
-use Rattle.tenant_core.specs.declared.call.Call.{Call}
+use Rattle.tenant_messages.specs.declared.call.Call.{Call}
 use Rattle.tenant_core.proofs.Running.{run_more}
 use Rattle.crush_app.proofs.service.Service.answer_all.Goals as goal
 

@@ -1,8 +1,0 @@
--- What a change makes, as the code keeps it.
-use Rattle.tenant_core.specs.State as state
-use Rattle.tenant_core.specs.declared.state.Made.{Made}
-use Rattle.tenant_core.specs.declared.state.Made.TheVariants.{Version}
-
--- a version is shared; what counts is its map
-abbrev pub made_of : Made → state.Made
-made_of (Version version) = state.NewVersion version.value

@@ -1,0 +1,81 @@
+//! The decision what an action does to a tenant.
+
+ghost use Rattle.std.specs.Prelude.{◌≡◌, IfOk, option_map};
+ghost use Rattle.tenant_core.specs.Effects.{Fits};
+ghost use Rattle.tenant_messages.specs.Reply.{reply};
+ghost use Rattle.tenant_core.specs.Step.{decision_on};
+
+use crate::request::Action;
+use crate::{commands, maps, picks, rule_tests, tenants};
+use std::alloc::{AllocError, Global};
+use tenant_messages::{Problem, Reply, refused};
+use tenant_state::{Change, TenantState};
+
+/// What a request does to its tenant.
+#[derive(Drop)]
+pub enum Effect {
+    /// The tenant keeps its state, or stays absent.
+    Keep,
+    /// The tenant, which is absent, is created.
+    Create,
+    /// The tenant's state is changed.
+    Change(Change),
+    /// The tenant is removed with everything of it.
+    Remove,
+}
+
+/// The reply to a request, and its effect on the tenant.
+#[derive(Drop)]
+pub struct Decision {
+    pub effect: Effect,
+    pub reply: Reply,
+}
+
+/// A reply that leaves the tenant as it is.
+pub(crate) fn kept(written: Reply) -> Decision
+    ensures effect { result.effect ≡ Effect.Keep }
+    ensures reply { result.reply ≡ written }
+{
+    Decision {
+        effect: Effect::Keep,
+        reply: written,
+    }
+}
+
+/// Decides what an action does to a tenant that exists.
+fn decide_present(
+    alloc: Global,
+    tenant: &str,
+    state: &TenantState,
+    action: &Action,
+) -> Result<Decision, AllocError>
+    ensures effect { IfOk result (λ d. d.effect ≡ (decision_on tenant.now action.now (Some state.now)).effect) }
+    ensures reply { IfOk result (λ d. d.reply ≡ reply (decision_on tenant.now action.now (Some state.now)).answer) }
+    ensures fits { IfOk result (λ d. Fits d.effect (Some state.now)) }
+{
+    match action {
+        Action::Tenant(operation) => tenants::decide(alloc, tenant, Some(state), *operation),
+        Action::Command(command) => commands::decide(alloc, state, command),
+        Action::ReadVersion(number) => Ok(kept(maps::answer(alloc, *number, state)?)),
+        Action::Pick(pick) => Ok(kept(picks::answer(alloc, pick)?)),
+        Action::Test(test) => Ok(kept(rule_tests::answer(alloc, test, state)?)),
+    }
+}
+
+/// Decides what an action does to a tenant, from the tenant's state, or from its absence (`None`): the table of all actions.
+pub fn decide(
+    alloc: Global,
+    tenant: &str,
+    state: Option<&TenantState>,
+    action: &Action,
+) -> Result<Decision, AllocError>
+    ensures effect { IfOk result (λ d. d.effect ≡ (decision_on tenant.now action.now (option_map (λ s. s.now) state.entry)).effect) }
+    ensures reply { IfOk result (λ d. d.reply ≡ reply (decision_on tenant.now action.now (option_map (λ s. s.now) state.entry)).answer) }
+    ensures fits { IfOk result (λ d. Fits d.effect (option_map (λ s. s.now) state.entry)) }
+{
+    match (state, action) {
+        (Some(state), action) => decide_present(alloc, tenant, state, action),
+        (None, Action::Tenant(operation)) => tenants::decide(alloc, tenant, None, *operation),
+        (None, _) => Ok(kept(refused(alloc, Problem::NoTenant)?)),
+    }
+}

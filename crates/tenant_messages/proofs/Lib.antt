@@ -1,0 +1,4 @@
+pub mod Bodies
+pub mod Finding
+pub mod Objects
+pub mod OptionalKeys

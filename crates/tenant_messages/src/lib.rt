@@ -1,0 +1,15 @@
+//! Calls and replies: the parts of a call, the reading of JSON bodies, and replies as a status and compact JSON.
+#![tactic(auto)]
+
+mod call;
+mod json;
+mod reply;
+
+pub use call::{Bytes, Call, CallParts};
+pub use json::{
+    ReadError, has_keys, integer, natural, optional_natural, read_value, request_number, text,
+};
+pub use reply::{
+    Problem, Refusal, Reply, SuccessStatus, answered, created, error, no_memory, refused, repeated,
+    success, written,
+};

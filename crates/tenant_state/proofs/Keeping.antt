@@ -1,0 +1,81 @@
+-- Receipts, in the ordered map that holds them.
+use Rattle.std.proofs.Common.{◌≡◌, ℕ, List, [], ◌∷◌, map, Bool, true, false, cond, if◌then◌else◌, Option, Some, None, option_map, string_bytes, bytes_eq, Ordering, Less, Equal, Greater, nat_cmp, is_eq, refl, ap}
+use Rattle.std.proofs.lemmas.Map.Text.{is_eq-slice_cmp}
+use Rattle.std.specs.BTreeMap.{insert_entry, is_at}
+use Rattle.std.specs.Cmp.Lexicographic.{slice_cmp}
+use Rattle.std.specs.List.{AllZip}
+use Rattle.std.specs.Map.{lookup}
+use Rattle.std.specs.Ordering.{match_ordering}
+use Rattle.std.specs.Prelude.{String}
+use Rattle.std.specs.declared.alloc.Global.{Global}
+use Rattle.std.specs.declared.rc.Rc.{Rc}
+use Rattle.crush_map.specs.Map.{Map}
+use Rattle.tenant_state.specs.Receipts.{Receipts, receipt_of, with_receipt}
+use Rattle.tenant_state.specs.State.{TenantState}
+use Rattle.tenant_state.specs.declared.receipts.Receipt.{Receipt}
+
+abbrev Kept : Type 0
+Kept = Rc Receipt Global
+
+abbrev Entry : Type 0
+Entry = String Global × Kept
+
+-- an entry, as contracts see it
+abbrev pair_of : Entry → List ℕ × Receipt
+pair_of e = (string_bytes e.0, e.1.value)
+
+abbrev pairs_of : List Entry → Receipts
+pairs_of es = map pair_of es
+
+-- ---- looking up
+
+found_at : (b c : Bool) (rc : Kept) (o : Option Kept) (later : Option Receipt) → b ≡ c → option_map (λ (r : Kept). r.value) o ≡ later
+    → option_map (λ (r : Kept). r.value) (cond b (Some rc) o) ≡ (if c then Some rc.value else later)
+found_at true true rc o later same h = refl
+found_at false false rc o later same h = h
+found_at true false rc o later same h = cc
+found_at false true rc o later same h = cc
+
+pub found_in : (number : List ℕ) (es : List Entry) → option_map (λ (r : Kept). r.value) (lookup (is_at (λ (k : String Global). slice_cmp nat_cmp number (string_bytes k))) es) ≡ receipt_of number (pairs_of es)
+found_in number [] = refl
+found_in number (e ∷ es) =
+    found_at (is_eq (slice_cmp nat_cmp number (string_bytes e.0))) (bytes_eq number (string_bytes e.0)) e.1
+    (lookup (is_at (λ (k : String Global). slice_cmp nat_cmp number (string_bytes k))) es) (receipt_of number (pairs_of es))
+    (is_eq-slice_cmp number (string_bytes e.0)) (found_in number es)
+
+-- ---- inserting
+
+abbrev in_order : String Global → String Global → Ordering
+in_order k q = slice_cmp nat_cmp (string_bytes k) (string_bytes q)
+
+placed_at : (o : Ordering) (k : String Global) (rc : Kept) (e : Entry) (es later : List Entry) (rest : Receipts) → pairs_of later ≡ rest
+    → pairs_of (match_ordering o ((k, rc) ∷ e ∷ es) ((e.0, rc) ∷ es) (e ∷ later))
+    ≡ match_ordering o ((string_bytes k, rc.value) ∷ pair_of e ∷ pairs_of es) (((string_bytes e.0), rc.value) ∷ pairs_of es) (pair_of e ∷ rest)
+placed_at Less k rc e es later rest h = refl
+placed_at Equal k rc e es later rest h = refl
+placed_at Greater k rc e es later rest h = ap (λ r. pair_of e ∷ r) h
+
+pub placed_in : (k : String Global) (rc : Kept) (es : List Entry) → pairs_of (insert_entry in_order es k rc) ≡ with_receipt (string_bytes k) rc.value (pairs_of es)
+placed_in k rc [] = refl
+placed_in k rc (e ∷ es) =
+    placed_at (in_order k e.0) k rc e es (insert_entry in_order es k rc) (with_receipt (string_bytes k) rc.value (pairs_of es)) (placed_in k rc es)
+
+-- ---- copying
+
+pub copied_in : (es fs : List Entry) → AllZip (λ (p q : Entry). (string_bytes q.0 ≡ string_bytes p.0) × (q.1.value ≡ p.1.value)) es fs → pairs_of fs ≡ pairs_of es
+copied_in [] [] h = refl
+copied_in [] (f ∷ fs) h = absurd h
+copied_in (e ∷ es) [] h = absurd h
+copied_in (e ∷ es) (f ∷ fs) h = let head = h.0 in let tail : pairs_of fs ≡ pairs_of es = copied_in es fs h.1 in rw (head.0, head.1, tail) refl
+
+-- ---- states
+
+same_versions : (vs ws : List (Rc Map Global)) → AllZip (λ (p q : Rc Map Global). q.value ≡ p.value) vs ws → map (λ (v : Rc Map Global). v.value) ws ≡ map (λ (v : Rc Map Global). v.value) vs
+same_versions [] [] h = refl
+same_versions [] (w ∷ ws) h = absurd h
+same_versions (v ∷ vs) [] h = absurd h
+same_versions (v ∷ vs) (w ∷ ws) h = let head = h.0 in let tail = same_versions vs ws h.1 in rw (head, tail) refl
+
+pub same_state : (vs ws : List (Rc Map Global)) (receipts again : Receipts) → AllZip (λ (p q : Rc Map Global). q.value ≡ p.value) vs ws → again ≡ receipts
+    → ◌≡◌ {A = TenantState} (record { versions = map (λ (v : Rc Map Global). v.value) ws; receipts = again }) (record { versions = map (λ (v : Rc Map Global). v.value) vs; receipts = receipts })
+same_state vs ws receipts again h r = let versions = same_versions vs ws h in rw (versions, r) refl

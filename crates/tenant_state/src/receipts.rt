@@ -1,0 +1,91 @@
+//! Receipts: what an accepted change leaves, so that a request that is repeated acts once.
+
+ghost use Rattle.std.specs.Prelude.{◌≡◌, IfOk};
+ghost use Rattle.tenant_state.specs.Receipts as spec;
+
+use crush_map::Text;
+use std::alloc::{AllocError, Global};
+use std::collections::BTreeMap;
+use std::marker::Model;
+use std::rc::Rc;
+use tenant_messages::{Bytes, SuccessStatus};
+
+/// What is kept of an accepted changing request: its path and body, and its reply.
+#[derive(Drop)]
+pub struct Receipt {
+    pub path: Text,
+    pub body: Bytes,
+    pub status: SuccessStatus,
+    pub reply: Text,
+}
+
+/// Whether a request is the one that left the receipt: the same path and the same body, to the byte.
+pub fn is_repeat(path: &str, body: &[u8], receipt: &Receipt) -> bool
+    ensures { result ≡ spec.is_repeat path.now body.now receipt.now }
+{
+    path == receipt.path.as_str() && body == receipt.body.as_slice()
+}
+
+/// The receipts of a tenant. Contracts see pairs of a request number and its receipt, in the order of the numbers' bytes.
+#[derive(Drop)]
+pub struct Receipts {
+    by_number: BTreeMap<String, Rc<Receipt>>,
+}
+
+impl Model for Receipts {
+    ghost use Rattle.std.specs.Prelude.{map, string_bytes};
+    ghost use Rattle.tenant_state.specs.Receipts.{Receipts};
+
+    ghost Value = { Receipts };
+
+    ghost view = { λ a. map (λ e. (string_bytes e.0, e.1.value)) a.by_number.entries };
+}
+
+impl Receipts {
+    ghost use Rattle.std.specs.Prelude.{◌≡◌, [], length, OnOk, OnErr, IfOk, string_bytes, option_map};
+    ghost use Rattle.tenant_state.specs.Receipts.{receipt_of, with_receipt};
+
+    /// No receipt. Allocates nothing.
+    pub fn new(alloc: Global) -> Self
+        ensures { result ≡ [] }
+    {
+        Receipts {
+            by_number: BTreeMap::new(alloc),
+        }
+    }
+
+    /// How many receipts there are.
+    pub fn len(&self) -> usize
+        ensures { result ≡ length self.now }
+    {
+        self.by_number.len()
+    }
+
+    /// The receipt of a request number.
+    pub fn get(&self, number: &str) -> Option<&Receipt>
+        ensures { option_map (λ r. r.now) result ≡ receipt_of number.now self.now }
+    {
+        match self.by_number.get(number) {
+            Some(receipt) => Some(receipt.as_ref()),
+            None => None,
+        }
+    }
+
+    /// Adds a receipt. Where memory is wanting, nothing is changed.
+    pub fn insert(&mut self, number: String, receipt: Rc<Receipt>) -> Result<(), AllocError>
+        ensures ok { OnOk result (self.new ≡ with_receipt (string_bytes number) receipt.value self.old) }
+        ensures err { OnErr result (self.new ≡ self.old) }
+    {
+        self.by_number.insert(number, receipt)?;
+        Ok(())
+    }
+
+    /// A copy that shares the receipts.
+    pub fn copy(&self) -> Result<Self, AllocError>
+        ensures { IfOk result (λ again. again ≡ self.now) }
+    {
+        Ok(Receipts {
+            by_number: self.by_number.clone()?,
+        })
+    }
+}

@@ -1,0 +1,133 @@
+//! The state of one tenant, and its changes.
+
+use crate::receipts::{Receipt, Receipts};
+use crate::version::Version;
+use crush_map::Text;
+use std::alloc::{AllocError, Global};
+use std::marker::Model;
+use std::rc::Rc;
+
+// ---- changes
+
+/// What a change makes anew.
+#[derive(Drop)]
+pub enum Made {
+    /// One more version.
+    Version(Rc<Version>),
+}
+
+/// An accepted change. Its receipt goes under the request number.
+#[derive(Drop)]
+pub struct Change {
+    pub number: Text,
+    pub receipt: Rc<Receipt>,
+    pub made: Made,
+}
+
+impl Model for Change {
+    ghost use Rattle.tenant_state.specs.State.{Change};
+    ghost use Rattle.tenant_state.specs.Made.{made_of};
+
+    ghost Value = { Change };
+
+    ghost view = { λ a. record { number = a.number; receipt = a.receipt.value; made = made_of a.made } };
+}
+
+// ---- states
+
+/// The state of a tenant that exists: the versions of its map, and the receipts of its accepted changes.
+#[derive(Drop)]
+pub struct TenantState {
+    versions: Vec<Rc<Version>>,
+    receipts: Receipts,
+}
+
+impl Model for TenantState {
+    ghost use Rattle.std.specs.Prelude.{map};
+    ghost use Rattle.tenant_state.specs.State.{TenantState};
+
+    ghost Value = { TenantState };
+
+    ghost view = { λ a. record { versions = map (λ v. v.value) a.versions.items; receipts = a.receipts } };
+}
+
+impl TenantState {
+    ghost use Rattle.std.specs.Prelude.{◌≡◌, IfOk, OnOk, OnErr, option_map};
+    ghost use Rattle.tenant_state.specs.State as spec;
+
+    /// The state of a tenant that was just created. Allocates nothing.
+    pub fn fresh(alloc: Global) -> TenantState
+        ensures { result ≡ spec.fresh }
+    {
+        TenantState {
+            versions: Vec::new(alloc),
+            receipts: Receipts::new(alloc),
+        }
+    }
+
+    /// The number of accepted changes, each of which left one receipt.
+    pub fn epoch(&self) -> u64
+        ensures { result ≡ spec.epoch self.now }
+    {
+        self.receipts.len() as u64
+    }
+
+    /// The number of the newest version, or 0 where there is none.
+    pub fn newest(&self) -> u64
+        ensures { result ≡ spec.newest self.now }
+    {
+        self.versions.len() as u64
+    }
+
+    /// A version by its number.
+    pub fn version(&self, number: u64) -> Option<&Version>
+        ensures { option_map (λ v. v.now) result ≡ spec.version number self.now }
+    {
+        if number == 0 {
+            return None;
+        }
+        match self.versions.get((number - 1) as usize) {
+            Some(version) => Some(version.as_ref()),
+            None => None,
+        }
+    }
+
+    /// The receipts.
+    pub fn receipts(&self) -> &Receipts
+        ensures { result.now ≡ self.now.receipts }
+    {
+        &self.receipts
+    }
+
+    /// Makes a change in place. Where memory is wanting, nothing is changed.
+    pub fn change(&mut self, alloc: Global, change: &Change) -> Result<(), AllocError>
+        ensures ok { OnOk result (self.new ≡ spec.after change.now self.old) }
+        ensures err { OnErr result (self.new ≡ self.old) }
+    {
+        let number = String::from_str(alloc, change.number.as_str())?;
+        let receipt = change.receipt.clone()?;
+        match &change.made {
+            Made::Version(version) => {
+                let version = version.clone()?;
+                self.versions.reserve(1)?;
+                self.receipts.insert(number, receipt)?;
+                if self.versions.push(version).is_err() {
+                    unreachable!();
+                }
+            }
+        }
+        Ok(())
+    }
+
+    /// The state after a change. The versions and receipts are shared, and not copied.
+    pub fn after(&self, alloc: Global, change: &Change) -> Result<TenantState, AllocError>
+        ensures { IfOk result (λ s. s ≡ spec.after change.now self.now) }
+    {
+        let mut state = TenantState {
+            versions: self.versions.clone()?,
+            receipts: self.receipts.copy()?,
+        };
+        state.change(alloc, change)?;
+        Ok(state)
+    }
+}
