@@ -46,7 +46,23 @@ impl Weights {
             .devices()
             .last()
             .map_or(0, |device| device.id as usize + 1);
-        let bound = bound_of(devices, given);
+        Weights::reaching(alloc, devices, given)
+    }
+
+    /// The reweights in `given`, whatever the map is, with memory up to the greatest id of a pair.
+    pub fn of(alloc: Global, given: &[(u32, u32)]) -> Result<Weights, AllocError>
+        ensures all { IfOk result (λ w. w ≡ weights_of given.now) }
+        ensures each { IfOk result (λ w. (id : ℕ) → weight_at w id ≡ reweight_of given.now id) }
+    {
+        Weights::reaching(alloc, 0, given)
+    }
+
+    /// The reweights in `given`, with memory for at least `first` ids, as far as there are so many.
+    fn reaching(alloc: Global, first: usize, given: &[(u32, u32)]) -> Result<Weights, AllocError>
+        ensures all { IfOk result (λ w. w ≡ weights_of given.now) }
+        ensures each { IfOk result (λ w. (id : ℕ) → weight_at w id ≡ reweight_of given.now id) }
+    {
+        let bound = bound_of(first, given);
         let table = table_of(alloc, bound, given)?;
         Ok(Weights { table })
     }

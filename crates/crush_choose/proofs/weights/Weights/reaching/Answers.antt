@@ -2,7 +2,7 @@ use Rattle.std.proofs.Common.{◌≡◌, ℕ, List, ap, ◌∙◌}
 use Rattle.crush_choose.specs.Weights.{weights_of, weight_at}
 use Rattle.crush_choose.specs.Private.Weights.{padded}
 use Rattle.crush_choose.proofs.Padding.{weight_of, padded_is}
-use Rattle.crush_choose.proofs.weights.Weights.build.Goals as goal
+use Rattle.crush_choose.proofs.weights.Weights.reaching.Goals as goal
 
 pub returns-clause-all : goal.returns-clause-all
 returns-clause-all c =

@@ -1,0 +1,7 @@
+-- A table of flags that is shorter than the list that contracts see.
+use Rattle.std.specs.Prelude.{ℕ, ◌-◌, Bool, true, List, ◌++◌, length, replicate}
+use Rattle.crush_choose.specs.Weights.{ids}
+
+-- the flags of all ids, those past the table's end true
+unfoldable pub padded : List Bool → List Bool
+padded table = table ++ replicate (ids - length table) true

@@ -1,0 +1,18 @@
+//! Pools and placements: from an object's name to its group, and from a group to its devices.
+//!
+//! Source: Ceph's `osd/osd_types.cc`, `osd/OSDMap.cc` and `include/rados.h`.
+#![tactic(auto)]
+
+mod group;
+pub mod laws;
+mod placing;
+mod pool;
+mod states;
+
+pub use group::{mask_of, stable_mod};
+pub use placing::{Placement, place, place_with};
+pub use pool::{Pool, PoolFault, PoolParts};
+pub use states::{DeviceState, DeviceStates};
+
+#[cfg(test)]
+mod tests;

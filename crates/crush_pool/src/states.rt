@@ -1,0 +1,92 @@
+//! The states of devices.
+
+ghost use Rattle.std.specs.Prelude.{◌≡◌, ◌<◌, ◌≤◌, IfOk, length, slice_index_or, true, ℕ};
+ghost use Rattle.crush_choose.specs.Weights.{ids};
+ghost use Rattle.crush_pool.specs.States as spec;
+
+use std::alloc::{AllocError, Global};
+use std::marker::Model;
+
+/// The state of a device.
+#[derive(Clone, Copy, Debug, PartialEq, Eq)]
+pub struct DeviceState {
+    /// Its id, 0..65535 in a map.
+    pub device: u32,
+    /// In 16.16 fixed point, 0..65536: 65536 (1.0) takes all that CRUSH gives it, 0 none.
+    pub reweight: u32,
+    /// Whether it is up; else it is down.
+    pub up: bool,
+}
+
+/// How many ids a device can have.
+const IDS: usize = 65_536;
+
+/// Which devices are up. Contracts see a flag for each id from 0 to 65535, in order.
+#[derive(Drop)]
+pub struct DeviceStates {
+    flags: Vec<bool>,
+}
+
+impl Model for DeviceStates {
+    ghost use Rattle.std.specs.Prelude.{List, Bool, ◌≤◌, length};
+    ghost use Rattle.crush_choose.specs.Weights.{ids};
+    ghost use Rattle.crush_pool.specs.Private.Flags.{padded};
+
+    ghost Value = { List Bool };
+
+    ghost view = { λ a. padded a.flags.items };
+
+    ghost invariant = { λ a. length a.flags.items ≤ ids };
+}
+
+impl DeviceStates {
+    /// The up and down of these states, with memory up to the greatest id of one.
+    ///
+    /// Of several states for one id the first counts. An id without a state is up, and so is each id above 65535.
+    pub fn build(alloc: Global, states: &[DeviceState]) -> Result<DeviceStates, AllocError>
+        ensures all { IfOk result (λ s. s ≡ spec.flags_of states.now) }
+        ensures each { IfOk result (λ s. (id : ℕ) → spec.up_at s id ≡ spec.is_up states.now id) }
+    {
+        let flags = flags_of(alloc, bound_of(states), states)?;
+        Ok(DeviceStates { flags })
+    }
+
+    /// Whether the device with this id is up.
+    pub fn is_up(&self, device: u32) -> bool
+        ensures { result ≡ spec.up_at self.now device }
+    {
+        match self.flags.as_slice().get(device as usize) {
+            Some(up) => *up,
+            None => true,
+        }
+    }
+}
+
+/// A length for the flags: above each id up to 65535 that has a state.
+fn bound_of(states: &[DeviceState]) -> usize
+    ensures few { result ≤ ids }
+    ensures above { (id : ℕ) → result ≤ id → id < ids → spec.first_up states.now id ≡ true }
+{
+    let mut bound = 0;
+    for state in states {
+        if (state.device as usize) < IDS {
+            bound = bound.max(state.device as usize + 1);
+        }
+    }
+    bound
+}
+
+/// The flags of the ids below a bound, in order.
+fn flags_of(alloc: Global, bound: usize, states: &[DeviceState]) -> Result<Vec<bool>, AllocError>
+    ensures len { IfOk result (λ flags. length flags.items ≡ bound) }
+    ensures each { IfOk result (λ flags. (id : ℕ) → id < bound → slice_index_or flags.items id true ≡ spec.first_up states.now id) }
+{
+    let mut flags = vec![in alloc; true; bound]?;
+    for place in (0..states.len()).rev() {
+        let state = states[place];
+        if (state.device as usize) < bound {
+            flags[state.device as usize] = state.up;
+        }
+    }
+    Ok(flags)
+}
