@@ -1,10 +1,6 @@
 pub mod Following
-pub mod PickForms
 pub mod Replying
 pub mod Running
 pub mod Targets
-pub mod TestForms
 pub mod Accepting
-pub mod Importing
-pub mod Testing
 pub mod Once

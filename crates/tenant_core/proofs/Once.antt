@@ -6,7 +6,8 @@ use Rattle.std.specs.Cmp.Lexicographic.{slice_cmp}
 use Rattle.std.specs.Ordering.{match_ordering}
 use Rattle.serde_json.specs.Written.{compact_text}
 use Rattle.tenant_core.specs.Commands.{decision, on_receipt, carried_out, order_on, again, receipt_for, receipt_limit}
-use Rattle.tenant_core.specs.Effects.{Accepted, Decided, decided}
+use Rattle.tenant_core.specs.Effects.{Decided, decided}
+use Rattle.tenant_resources.specs.Orders.{Accepted}
 use Rattle.tenant_state.specs.Receipts.{Receipts, receipt_of, with_receipt, is_repeat}
 use Rattle.tenant_messages.specs.Reply.{Answer, refused, answered, repeated, reply}
 use Rattle.tenant_state.specs.State.{TenantState, Change, after, epoch}

@@ -1,8 +1,9 @@
 -- Changing requests: each has a request number, and acts once.
 use Rattle.std.specs.Prelude.{ℕ, List, length, nat_le, if◌then◌else◌, Option, Some, None, Result, Ok, Err}
 use Rattle.serde_json.specs.Written.{compact_text}
-use Rattle.tenant_core.specs.Effects.{Accepted, Decided, decided}
-use Rattle.tenant_core.specs.Maps as maps
+use Rattle.tenant_core.specs.Effects.{Decided, decided}
+use Rattle.tenant_resources.specs.Orders.{Accepted}
+use Rattle.tenant_resources.specs.Maps as maps
 use Rattle.tenant_state.specs.Receipts.{receipt_of, is_repeat}
 use Rattle.tenant_messages.specs.Reply.{Answer, refused, answered, repeated}
 use Rattle.tenant_state.specs.State.{TenantState}

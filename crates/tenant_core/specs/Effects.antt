@@ -1,10 +1,8 @@
 -- What the decision on a request does to the state of its tenant.
 use Rattle.std.specs.Prelude.{◌≡◌, Option, Some, None, option_map, IsSome}
-use Rattle.serde_json.specs.Data.{Data}
 use Rattle.tenant_messages.specs.Reply.{Answer, refused}
-use Rattle.tenant_state.specs.State.{TenantState, Made, fresh, after}
+use Rattle.tenant_state.specs.State.{TenantState, fresh, after}
 use Rattle.tenant_messages.specs.declared.reply.Problem.TheVariants.{NoTenant}
-use Rattle.tenant_messages.specs.declared.reply.SuccessStatus.{SuccessStatus}
 use Rattle.tenant_core.specs.declared.decision.Effect.{Effect}
 use Rattle.tenant_core.specs.declared.decision.Effect.TheVariants.{Keep, Create, Change, Remove}
 
@@ -36,9 +34,3 @@ decided effect answer = record { effect = effect; answer = answer }
 abbrev pub if_present : Option TenantState → (TenantState → Decided) → Decided
 if_present None decide = decided Keep (refused NoTenant)
 if_present (Some state) decide = decide state
-
--- an order that is accepted: what it makes, and the status and the body of its reply
-pub record Accepted : Type 0 where
-  pub made : Made
-  pub status : SuccessStatus
-  pub body : Data

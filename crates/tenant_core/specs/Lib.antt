@@ -1,8 +1,5 @@
 pub mod Effects
 pub mod Tenants
-pub mod Picks
-pub mod Maps
-pub mod RuleTests
 pub mod Commands
 pub mod Route
 pub mod Request

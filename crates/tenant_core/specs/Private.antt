@@ -1,4 +1,3 @@
 -- What private clauses and proofs alone cite: how the code works. No public clause rests on it.
-pub mod Accepting
 pub mod Inserting
 pub mod Performing

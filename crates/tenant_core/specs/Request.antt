@@ -2,10 +2,10 @@
 use Rattle.std.specs.Prelude.{ℕ, ◌==◌, List, length, nat_lt, if◌then◌else◌, Option, Some, None, option_map, option_and_then, Result, Err, codes}
 use Rattle.std.specs.Option.{ok_or}
 use Rattle.crush_map.specs.Faults.{is_name}
-use Rattle.tenant_core.specs.Maps as maps
-use Rattle.tenant_core.specs.Picks as picks
+use Rattle.tenant_resources.specs.Maps as maps
+use Rattle.tenant_resources.specs.Picks as picks
 use Rattle.tenant_core.specs.Route.{Target, target_of, route_in, parameter, path_number}
-use Rattle.tenant_core.specs.RuleTests as rule_tests
+use Rattle.tenant_resources.specs.RuleTests as rule_tests
 use Rattle.tenant_core.specs.Tenants as tenants
 use Rattle.tenant_messages.specs.declared.call.Call.{Call}
 use Rattle.tenant_core.specs.declared.commands.Order.{Order}

@@ -10,9 +10,9 @@ use Rattle.matchit.specs.Params.{walk, named}
 use Rattle.matchit.specs.Seek.{first}
 use Rattle.matchit.specs.declared.error.InsertError.{InsertError}
 use Rattle.crush_words.specs.Numbers.{number_of}
-use Rattle.tenant_core.specs.Maps as maps
-use Rattle.tenant_core.specs.Picks as picks
-use Rattle.tenant_core.specs.RuleTests as rule_tests
+use Rattle.tenant_resources.specs.Maps as maps
+use Rattle.tenant_resources.specs.Picks as picks
+use Rattle.tenant_resources.specs.RuleTests as rule_tests
 use Rattle.tenant_core.specs.Tenants as tenants
 use Rattle.tenant_core.specs.declared.route.Route.{Route}
 use Rattle.tenant_core.specs.declared.route.Route.TheVariants.{Tenant, Maps, Version, Pick, Test}

@@ -4,12 +4,12 @@ use Rattle.std.specs.Option.{option_map_or}
 use Rattle.std.specs.Str.{bytes_eq}
 use Rattle.tenant_core.specs.Commands as commands
 use Rattle.tenant_core.specs.Effects.{Decided, decided, after_effect, if_present}
-use Rattle.tenant_core.specs.Maps as maps
-use Rattle.tenant_core.specs.Picks as picks
+use Rattle.tenant_resources.specs.Maps as maps
+use Rattle.tenant_resources.specs.Picks as picks
 use Rattle.tenant_messages.specs.Reply.{refused, reply}
 use Rattle.tenant_core.specs.Request.{tenant_in, request_of}
 use Rattle.tenant_core.specs.Route.{target_of}
-use Rattle.tenant_core.specs.RuleTests as rule_tests
+use Rattle.tenant_resources.specs.RuleTests as rule_tests
 use Rattle.tenant_core.specs.Tenants as tenants
 use Rattle.tenant_messages.specs.declared.call.Call.{Call}
 use Rattle.tenant_messages.specs.declared.reply.Reply.{Reply}

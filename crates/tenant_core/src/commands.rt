@@ -5,19 +5,18 @@ ghost use Rattle.serde_json.specs.View.{view};
 ghost use Rattle.serde_json.specs.Written.{has_float};
 ghost use Rattle.tenant_core.specs.Commands as spec;
 ghost use Rattle.tenant_core.specs.Effects.{Fits};
-ghost use Rattle.tenant_core.specs.Private.Accepting.{accepted_of};
+ghost use Rattle.tenant_resources.specs.Private.Accepting.{accepted_of};
 ghost use Rattle.tenant_messages.specs.Refusals.{Gives};
 ghost use Rattle.tenant_messages.specs.Reply.{reply};
 ghost use Rattle.tenant_state.specs.State.{TenantState};
 
 use crate::decision::{Decision, Effect, kept};
-use crate::maps;
 use crush_map::Text;
-use serde_json::Value;
 use std::alloc::{AllocError, Global};
 use std::rc::Rc;
-use tenant_messages::{Bytes, Problem, Refusal, SuccessStatus, answered, refused, repeated};
-use tenant_state::{Change, Made, Receipt, TenantState, is_repeat};
+use tenant_messages::{Bytes, Problem, Refusal, answered, refused, repeated};
+use tenant_resources::{Accepted, maps};
+use tenant_state::{Change, Receipt, TenantState, is_repeat};
 
 /// What a changing request asks for.
 #[derive(Drop)]
@@ -34,14 +33,6 @@ pub struct Command {
     pub path: Text,
     pub body: Bytes,
     pub order: Order,
-}
-
-/// An order that is accepted: what it makes, and the status and the body of its reply.
-#[derive(Drop)]
-pub(crate) struct Accepted {
-    pub(crate) made: Made,
-    pub(crate) status: SuccessStatus,
-    pub(crate) body: Value,
 }
 
 /// What an order makes, or why nothing: the table of all orders.

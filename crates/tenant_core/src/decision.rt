@@ -6,9 +6,10 @@ ghost use Rattle.tenant_messages.specs.Reply.{reply};
 ghost use Rattle.tenant_core.specs.Step.{decision_on};
 
 use crate::request::Action;
-use crate::{commands, maps, picks, rule_tests, tenants};
+use crate::{commands, tenants};
 use std::alloc::{AllocError, Global};
 use tenant_messages::{Problem, Reply, refused};
+use tenant_resources::{maps, picks, rule_tests};
 use tenant_state::{Change, TenantState};
 
 /// What a request does to its tenant.

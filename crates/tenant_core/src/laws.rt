@@ -1,11 +1,6 @@
 //! Laws of the definitions: each contract holds of the definitions alone.
 
-ghost use Rattle.std.specs.Prelude.{◌≡◌, ◌≢◌, ◌↔◌, ℕ, suc, List, Option, Some, None};
-ghost use Rattle.serde_json.specs.Data.{Data};
-ghost use Rattle.tenant_messages.specs.Forms.{IsJson};
-ghost use Rattle.tenant_core.specs.Maps.{IsImportBody, import_of, import_request_of};
-ghost use Rattle.tenant_core.specs.Picks.{IsPickBody, pick_of, pick_request_of};
-ghost use Rattle.tenant_core.specs.RuleTests.{RuleTest, IsTestBody, test_of, test_request_of};
+ghost use Rattle.std.specs.Prelude.{◌≡◌, ◌≢◌, ℕ, suc, List, Option, Some, None};
 ghost use Rattle.tenant_core.specs.Commands.{decision};
 ghost use Rattle.tenant_state.specs.Receipts.{receipt_of};
 ghost use Rattle.tenant_messages.specs.Reply.{reply};
@@ -15,7 +10,6 @@ ghost use Rattle.tenant_core.specs.declared.commands.Command.{Command};
 ghost use Rattle.tenant_state.specs.declared.receipts.Receipt.{Receipt};
 ghost use Rattle.tenant_core.specs.declared.request.Action.{Action};
 ghost use Rattle.tenant_core.specs.declared.decision.Effect.{Effect};
-ghost use Rattle.tenant_core.specs.declared.picks.PickRequest.{PickRequest};
 ghost use Rattle.tenant_state.specs.State.{TenantState, Change, epoch, after};
 
 /// No step has the status 500 or 503: these are for a store that fails, and for want of memory.
@@ -28,27 +22,6 @@ pub fn no_step_answers_500_or_503()
 pub fn a_call_of_no_tenant_stands_alone()
     ensures reply { (call : Call) (s : Option TenantState) → tenant_of call ≡ None → (step call s).reply ≡ (step call None).reply }
     ensures state { (call : Call) (s : Option TenantState) → tenant_of call ≡ None → (step call s).state ≡ s }
-{}
-
-/// A pick is read from a body exactly where the body has its form and says that pick; any other body is refused.
-pub fn picks_are_of_the_form()
-    ensures value { (d : Data) (p : PickRequest) → (pick_of d ≡ Some p) ↔ IsPickBody d p }
-    ensures body { (body : List ℕ) (p : PickRequest) → (pick_request_of body ≡ Some p) ↔ IsJson IsPickBody body p }
-    ensures refused { (body : List ℕ) → (pick_request_of body ≡ None) ↔ ((p : PickRequest) → ¬ IsJson IsPickBody body p) }
-{}
-
-/// An import is read from a body exactly where the body has its form and says that import; any other body is refused.
-pub fn imports_are_of_the_form()
-    ensures value { (d : Data) (asked : List ℕ × List ℕ) → (import_of d ≡ Some asked) ↔ IsImportBody d asked }
-    ensures body { (body : List ℕ) (asked : List ℕ × List ℕ) → (import_request_of body ≡ Some asked) ↔ IsJson IsImportBody body asked }
-    ensures refused { (body : List ℕ) → (import_request_of body ≡ None) ↔ ((asked : List ℕ × List ℕ) → ¬ IsJson IsImportBody body asked) }
-{}
-
-/// A rule test is read from a body exactly where the body has its form and says that test; any other body is refused.
-pub fn tests_are_of_the_form()
-    ensures value { (d : Data) (t : RuleTest) → (test_of d ≡ Some t) ↔ IsTestBody d t }
-    ensures body { (body : List ℕ) (t : RuleTest) → (test_request_of body ≡ Some t) ↔ IsJson IsTestBody body t }
-    ensures refused { (body : List ℕ) → (test_request_of body ≡ None) ↔ ((t : RuleTest) → ¬ IsJson IsTestBody body t) }
 {}
 
 /// Where the decision on an action is a change, the epoch after it is one more.

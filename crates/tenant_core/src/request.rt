@@ -7,14 +7,12 @@ ghost use Rattle.tenant_messages.specs.Refusals.{Gives};
 ghost use Rattle.tenant_core.specs.Request as spec;
 
 use crate::commands::{Command, Order, copied};
-use crate::maps;
-use crate::picks::{self, PickRequest};
 use crate::route::{Route, Routes, Target, path_number};
-use crate::rule_tests::{self, RuleTest};
 use crate::tenants::{self, TenantOperation};
 use crush_map::{Text, is_name};
 use std::alloc::{AllocError, Global};
 use tenant_messages::{CallParts, Problem, ReadError, Refusal};
+use tenant_resources::{PickRequest, RuleTest, maps, picks, rule_tests};
 
 /// The operations: what the methods mean on the routes.
 #[derive(Clone, Copy, Debug, PartialEq, Eq)]

@@ -7,11 +7,12 @@ ghost use Rattle.matchit.specs.Route.{parse_route};
 ghost use Rattle.tenant_core.specs.Private.Inserting.{is_new};
 ghost use Rattle.tenant_core.specs.Route.{table, with_route, path_number};
 
-use crate::{maps, picks, rule_tests, tenants};
+use crate::tenants;
 use crush_words::number_from_text;
 use matchit::{InsertError, Params, Router};
 use std::alloc::{AllocError, Global};
 use std::marker::Model;
+use tenant_resources::{maps, picks, rule_tests};
 
 /// The routes: one for each thing that a path can name.
 #[derive(Clone, Copy, Debug, PartialEq, Eq)]

@@ -1,0 +1,4 @@
+pub mod PickForms
+pub mod TestForms
+pub mod Importing
+pub mod Testing

@@ -1,0 +1,175 @@
+-- A pick is read from a body exactly where the body has the form of one.
+use Rattle.std.proofs.Common.{◌≡◌, ◌≢◌, ℕ, zero, suc, ◌^◌, ◌&&◌, ◌||◌, ◌==◌, ◌<◌, ◌≤◌, ℤ, pos, negsuc, List, [], ◌∷◌, length, Bool, true, false, not, nat_lt, nat_le, int_le, if◌then◌else◌, Option, Some, None, option_and_then, bytes_eq, refl, sym, ap, ◌∙◌, arith}
+use Rattle.std.specs.Bool.{Decides}
+use Rattle.std.specs.List.{All, AllPairs, list_any, list_all}
+use Rattle.std.specs.Prelude.{codes}
+use Rattle.std.proofs.lemmas.Bool.Decides.{nat_tests, Decides-and, Decides-by_and, Decides-eqb, Decides-like, Decides-ltb, Decides-not}
+use Rattle.std.proofs.lemmas.Int.{ints}
+use Rattle.std.proofs.lemmas.Slice.Eq.{bytes_eq-Decides}
+use Rattle.std.proofs.lemmas.List.Kept.{AllPairs-cons}
+use Rattle.serde_json.specs.Data.{Data}
+use Rattle.serde_json.specs.Find.{as_str}
+use Rattle.crush_bucket.specs.Bucket.{BucketView, Entry, total_weight, HasEqualWeights}
+use Rattle.crush_map.specs.Faults.{is_uniform}
+use Rattle.crush_map.specs.Weights.{has_equal_weights}
+use Rattle.crush_map.specs.declared.ItemId.{ItemId}
+use Rattle.crush_map.specs.declared.Kind.{Kind}
+use Rattle.crush_map.specs.declared.Kind.TheVariants.{Uniform, List as ListKind, Tree}
+use Rattle.tenant_messages.proofs.Finding.{Finds, finds_as, finds_both, finds_integer, finds_list, finds_natural, finds_object, finds_tested, finds_text, finds_three, finds_under, is_there}
+use Rattle.tenant_resources.specs.Picks.{weighed, entry_of, is_of_item, are_distinct, kind_of, is_valid, bucket_of, pick_of, IsItem, IsBucket, IsPickBody}
+use Rattle.crush_map.specs.Kinds.{kind_name, kind_named}
+use Rattle.tenant_messages.specs.Forms.{IsText}
+
+-- ---- an item
+
+finds_entry : Finds entry_of IsItem
+finds_entry = finds_as (λ d e is. record { keys = is.0; item = is.1.0; weight = is.1.1 }) (λ d e is. (is.keys, (is.item, is.weight)))
+    (finds_object (codes "item" ∷ codes "weight" ∷ []) refl (λ d e is. (is_there (codes "item") d e.0.0 is.0, (is_there (codes "weight") d e.1.0 is.1, tt)))
+    (finds_both weighed (λ e. e.0.0) (λ e. e.1.0) (λ a b. refl) (λ a b. refl) (λ e. refl)
+    (finds_under (codes "item") (finds_integer (negsuc 65535) (pos 65535) refl)) (finds_under (codes "weight") (finds_natural 4294967295))))
+
+-- ---- a kind
+
+kind-named : (name : List ℕ) (k : Kind) (u l t : Bool) → bytes_eq name (codes "uniform") ≡ u → bytes_eq name (codes "list") ≡ l → bytes_eq name (codes "tree") ≡ t
+    → (if u then Some Uniform else (if l then Some ListKind else (if t then Some Tree else None))) ≡ Some k → name ≡ kind_name k
+kind-named name k true l t is_u is_l is_t h = let same : Uniform ≡ k = cc in rw (← same) ((bytes_eq-Decides name (codes "uniform")).0 is_u)
+kind-named name k false true t is_u is_l is_t h = let same : ListKind ≡ k = cc in rw (← same) ((bytes_eq-Decides name (codes "list")).0 is_l)
+kind-named name k false false true is_u is_l is_t h = let same : Tree ≡ k = cc in rw (← same) ((bytes_eq-Decides name (codes "tree")).0 is_t)
+kind-named name k false false false is_u is_l is_t h = cc
+
+named : (k : Kind) → kind_named (kind_name k) ≡ Some k
+named Uniform = refl
+named ListKind = refl
+named Tree = refl
+
+kind-says : (d : Data) (k : Kind) (o : Option (List ℕ)) → as_str d ≡ o → option_and_then kind_named o ≡ Some k → IsText d (kind_name k)
+kind-says d k None is h = cc
+kind-says d k (Some name) is h =
+    let same : name ≡ kind_name k = kind-named name k _ _ _ refl refl refl h in finds_text.says d (kind_name k) (is ∙ ap Some same)
+
+finds_kind : Finds kind_of (λ v k. IsText v (kind_name k))
+finds_kind = record {
+  says = λ d k h. kind-says d k (as_str d) refl h;
+  found = λ d k is. rw (finds_text.found d (kind_name k) is) (named k);
+}
+
+-- ---- valid buckets
+
+Decides-same : (z y : ℤ) → Decides (int_le z y && int_le y z) (y ≡ z)
+Decides-same z y = (λ h. grind (arith, ints), λ h. grind (arith, ints))
+
+Decides-other : (i : ItemId) (e : Entry) → Decides (not (is_of_item i.0 e)) (e.0 ≢ i)
+Decides-other i e =
+    Decides-not (is_of_item i.0 e) (Decides-like (is_of_item i.0 e) (ap (λ z. record { 0 = z })) (ap (λ (j : ItemId). j.0)) (Decides-same i.0 e.0.0))
+
+Decides-none : (i : ItemId) (es : List Entry) → Decides (not (list_any (is_of_item i.0) es)) (All (λ e. e.0 ≢ i) es)
+Decides-none i es =
+    Decides-by_and (λ e. not (is_of_item i.0 e)) (λ e. e.0 ≢ i) (λ es. not (list_any (is_of_item i.0) es)) (Decides-other i) refl
+    (λ e es. neither (is_of_item i.0 e) (list_any (is_of_item i.0) es)) es
+  where
+    neither : (a b : Bool) → not (a || b) ≡ (not a && not b)
+    neither true b = refl
+    neither false b = refl
+
+abbrev Differ : Entry → Entry → Type 0
+Differ e f = e.0 ≢ f.0
+
+pairs-head : (e : Entry) (es : List Entry) → AllPairs Differ (e ∷ es) → All (λ (f : Entry). f.0 ≢ e.0) es
+pairs-head e es h k d below same = h 0 (suc k) d (omega arith) (omega arith) (sym same)
+
+pairs-tail : (e : Entry) (es : List Entry) → AllPairs Differ (e ∷ es) → AllPairs Differ es
+pairs-tail e es h i j d before below = h (suc i) (suc j) d (omega arith) (omega arith)
+
+Decides-distinct : (es : List Entry) → Decides (are_distinct es) (AllPairs Differ es)
+Decides-distinct [] = (λ h i j d before below. absurd (omega arith), λ h. refl)
+Decides-distinct (e ∷ es) =
+    Decides-like _ (λ is. AllPairs-cons Differ e es (λ k d below same. is.0 k d below (sym same)) is.1)
+    (λ is. (pairs-head e es is, pairs-tail e es is))
+    (Decides-and (not (list_any (is_of_item e.0.0) es)) (are_distinct es) (Decides-none e.0 es) (Decides-distinct es))
+
+like_first : (first : Entry) (es : List Entry) → All (λ (e : Entry). e.1.0 ≡ first.1.0) es → HasEqualWeights (first ∷ es)
+like_first first es rest zero d below = refl
+like_first first es rest (suc k) d below = rest k d (omega arith)
+
+Decides-equal : (es : List Entry) → Decides (has_equal_weights es) (HasEqualWeights es)
+Decides-equal [] = (λ h k d below. absurd (omega arith), λ h. refl)
+Decides-equal (first ∷ es) =
+    Decides-like (list_all (λ (e : Entry). e.1.0 == first.1.0) es) (like_first first es) (λ h k d below. h (suc k) d (omega arith))
+    (Decides-by_and (λ (e : Entry). e.1.0 == first.1.0) (λ (e : Entry). e.1.0 ≡ first.1.0) (list_all (λ (e : Entry). e.1.0 == first.1.0))
+    (λ e. Decides-eqb e.1.0 first.1.0) refl (λ e es. refl) es)
+
+Decides-leb : (a b : ℕ) → Decides (nat_le a b) (a ≤ b)
+Decides-leb a b = (λ h. grind (arith, nat_tests), λ h. grind (arith, nat_tests))
+
+Decides-if_uniform : (k : Kind) (b : Bool) (P : Type 0) → Decides b P → Decides (not (is_uniform k) || b) (k ≡ Uniform → P)
+Decides-if_uniform Uniform b P h = (λ yes same. h.0 yes, λ holds. h.1 (holds refl))
+Decides-if_uniform ListKind b P h = (λ yes same. cc, λ holds. refl)
+Decides-if_uniform Tree b P h = (λ yes same. cc, λ holds. refl)
+
+record IsValid (b : BucketView) : Type 0 where
+  some : 1 ≤ length b.entries
+  few : length b.entries ≤ 1024
+  distinct : AllPairs Differ b.entries
+  others : All (λ e. e.0 ≢ b.id) b.entries
+  light : total_weight b.entries ≤ 4294967295
+  equal : b.kind ≡ Uniform → HasEqualWeights b.entries
+
+Decides-is_valid : (b : BucketView) → Decides (is_valid b) (IsValid b)
+Decides-is_valid b =
+    Decides-like (is_valid b)
+    (λ is. record { some = is.0.0.0.0.0; few = is.0.0.0.0.1; light = less is.0.0.0.1; others = is.0.0.1; distinct = is.0.1; equal = is.1 })
+    (λ is. (((((is.some, is.few), let light = is.light in omega arith), is.others), is.distinct), is.equal))
+    (Decides-and _ (not (is_uniform b.kind) || has_equal_weights b.entries)
+    (Decides-and _ (are_distinct b.entries)
+    (Decides-and _ (not (list_any (is_of_item b.id.0) b.entries))
+    (Decides-and _ (nat_lt (total_weight b.entries) (2 ^ 32))
+    (Decides-and (nat_lt 0 (length b.entries)) (nat_le (length b.entries) 1024) (Decides-leb 1 (length b.entries)) (Decides-leb (length b.entries) 1024))
+    (Decides-ltb (total_weight b.entries) (2 ^ 32)))
+    (Decides-none b.id b.entries))
+    (Decides-distinct b.entries))
+    (Decides-if_uniform b.kind (has_equal_weights b.entries) (HasEqualWeights b.entries) (Decides-equal b.entries)))
+  where
+    less : total_weight b.entries < 2 ^ 32 → total_weight b.entries ≤ 4294967295
+    less h = omega arith
+
+-- ---- a bucket
+
+finds_bucket : Finds bucket_of IsBucket
+finds_bucket = finds_as
+    (λ d b is. record {
+      keys = is.0;
+      id = is.1.0.1;
+      items = is.1.0.2;
+      kind = is.1.0.0;
+      some = is.1.1.some;
+      few = is.1.1.few;
+      distinct = is.1.1.distinct;
+      others = is.1.1.others;
+      light = is.1.1.light;
+      equal = is.1.1.equal;
+    })
+    (λ d b is. (
+      is.keys,
+      (
+        (is.kind, is.id, is.items),
+        record { some = is.some; few = is.few; distinct = is.distinct; others = is.others; light = is.light; equal = is.equal },
+      ),
+    ))
+    (finds_object (codes "id" ∷ codes "items" ∷ codes "kind" ∷ []) refl
+    (λ d b is. (is_there (codes "id") d b.id.0 is.0.1, (is_there (codes "items") d b.entries is.0.2, (is_there (codes "kind") d b.kind is.0.0, tt))))
+    (finds_tested is_valid IsValid (λ b. (Decides-is_valid b).0) (λ b. (Decides-is_valid b).1)
+    (finds_three (λ kind id es. record { id = record { 0 = id }; kind = kind; entries = es }) (λ b. b.kind) (λ b. b.id.0) (λ b. b.entries)
+    (λ a b c. refl) (λ a b c. refl) (λ a b c. refl) (λ b. refl)
+    (finds_under (codes "kind") finds_kind) (finds_under (codes "id") (finds_integer (negsuc 65535) (negsuc 0) refl)) (finds_under (codes "items") (finds_list finds_entry)))))
+
+-- ---- the body
+
+pub finds_pick : Finds pick_of IsPickBody
+finds_pick = finds_as
+    (λ d p is. record { keys = is.0; bucket = is.1.0; r = is.1.1; x = is.1.2 })
+    (λ d p is. (is.keys, (is.bucket, is.r, is.x)))
+    (finds_object (codes "bucket" ∷ codes "r" ∷ codes "x" ∷ []) refl
+    (λ d p is. (is_there (codes "bucket") d p.bucket is.0, (is_there (codes "r") d p.r is.1, (is_there (codes "x") d p.x is.2, tt))))
+    (finds_three (λ b r x. record { bucket = b; x = x; r = r }) (λ p. p.bucket) (λ p. p.r) (λ p. p.x)
+    (λ a b c. refl) (λ a b c. refl) (λ a b c. refl) (λ p. refl)
+    (finds_under (codes "bucket") finds_bucket) (finds_under (codes "r") (finds_natural 2147483647)) (finds_under (codes "x") (finds_natural 4294967295))))

@@ -1,0 +1,81 @@
+-- Maps, at `/t/{t}/maps`: POST adds a version of the tenant's map, from a text. At `/t/{t}/maps/{v}` GET reads the version v.
+use Rattle.std.specs.Prelude.{ℕ, suc, List, [], ◌∷◌, length, Bool, nat_le, if◌then◌else◌, Option, Some, None, option_and_then, Result, Ok, Err, codes}
+use Rattle.std.specs.Str.{bytes_eq}
+use Rattle.serde_json.specs.Data.{Data, string, object}
+use Rattle.serde_json.specs.Find.{as_str}
+use Rattle.crush_grammar.specs.declared.code.TextFault.{TextFault}
+use Rattle.crush_map.specs.Map.{Map}
+use Rattle.crush_text.specs.Canonical.{canonical}
+use Rattle.crush_text.specs.Reading.{map_of_text}
+use Rattle.tenant_resources.specs.Orders.{Accepted}
+use Rattle.tenant_messages.specs.Forms.{IsText, HasExactly, IsUnder}
+use Rattle.tenant_messages.specs.Json.{value_of, both, has_keys, under}
+use Rattle.tenant_messages.specs.Numbers.{IsRequestNumber, request_number_of}
+use Rattle.tenant_messages.specs.Reply.{Answer, refused, success, members_of, natural}
+use Rattle.tenant_state.specs.State.{TenantState, NewVersion, epoch, newest, version}
+use Rattle.tenant_messages.specs.declared.reply.Problem.{Problem}
+use Rattle.tenant_messages.specs.declared.reply.Problem.TheVariants.{NoVersion, MapRefused, TenantLimit}
+use Rattle.tenant_messages.specs.declared.reply.SuccessStatus.TheVariants.{Created}
+
+-- ---- requests
+
+abbrev pub route : List ℕ
+route = codes "/t/{t}/maps"
+
+abbrev pub version_route : List ℕ
+version_route = codes "/t/{t}/maps/{v}"
+
+-- whether the routes have a method
+abbrev pub has_method : List ℕ → Bool
+has_method method = bytes_eq method (codes "POST")
+
+abbrev pub version_has_method : List ℕ → Bool
+version_has_method method = bytes_eq method (codes "GET")
+
+-- ---- the form of the body of an import
+
+-- {"request": REQUEST, "text": TEXT}
+pub record IsImportBody (d : Data) (asked : List ℕ × List ℕ) : Type 0 where
+  pub keys : HasExactly (codes "request" ∷ codes "text" ∷ []) d
+  pub request : IsUnder (codes "request") IsRequestNumber d asked.0
+  pub text : IsUnder (codes "text") IsText d asked.1
+
+-- ---- reading a body: an import is read exactly where the body has that form (law `imports_are_of_the_form`)
+
+-- the request number, and the text
+abbrev pub import_of : Data → Option (List ℕ × List ℕ)
+import_of d =
+    if has_keys 2 d then both (λ number text. (number, text)) (under (codes "request") request_number_of d) (under (codes "text") as_str d) else None
+
+abbrev pub import_request_of : List ℕ → Option (List ℕ × List ℕ)
+import_request_of body = option_and_then import_of (value_of body)
+
+-- ---- importing a text
+
+-- the greatest number of versions
+abbrev pub version_limit : ℕ
+version_limit = 256
+
+-- {"epoch": E, "version": V}
+abbrev pub import_reply : TenantState → Data
+import_reply state = object (members_of ((codes "epoch", natural (suc (epoch state))) ∷ (codes "version", natural (suc (newest state))) ∷ []))
+
+abbrev pub on_text : TenantState → Result Map TextFault → Result Accepted Problem
+on_text state (Err fault) = Err (MapRefused fault)
+on_text state (Ok m) = Ok (record { made = NewVersion m; status = Created; body = import_reply state })
+
+abbrev pub imported : List ℕ → TenantState → Result Accepted Problem
+imported text state = if nat_le version_limit (length state.versions) then Err TenantLimit else on_text state (map_of_text text)
+
+-- ---- reading a version
+
+-- {"text": the canonical text, "version": V}
+abbrev pub version_reply : ℕ → Map → Data
+version_reply number m = object (members_of ((codes "text", string (canonical m)) ∷ (codes "version", natural number) ∷ []))
+
+abbrev pub on_version : ℕ → Option Map → Answer
+on_version number None = refused NoVersion
+on_version number (Some m) = success (version_reply number m)
+
+abbrev pub answer : ℕ → TenantState → Answer
+answer number state = on_version number (version number state)

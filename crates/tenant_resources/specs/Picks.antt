@@ -1,0 +1,116 @@
+-- Picks, at `/t/{t}/pick`: POST asks which item a bucket picks. The bucket is described in the body.
+use Rattle.std.specs.Prelude.{ℕ, ◌≡◌, ◌≢◌, ◌≤◌, ◌^◌, ◌&&◌, ◌||◌, ℤ, pos, negsuc, int_le, List, [], ◌∷◌, length, Bool, true, not, nat_lt, nat_le, if◌then◌else◌, Option, Some, None, option_and_then, codes}
+use Rattle.std.specs.List.{All, AllPairs, list_any}
+use Rattle.std.specs.Str.{bytes_eq}
+use Rattle.serde_json.specs.Data.{Data, number, object}
+use Rattle.serde_json.specs.Find.{as_str, of_integer}
+use Rattle.crush_bucket.specs.Bucket.{BucketView, Entry, total_weight, HasEqualWeights}
+use Rattle.crush_bucket.specs.Pick.{pick}
+use Rattle.crush_map.specs.Faults.{is_uniform}
+use Rattle.crush_map.specs.Weights.{has_equal_weights}
+use Rattle.crush_map.specs.declared.ItemId.{ItemId}
+use Rattle.crush_map.specs.Kinds.{kind_name, kind_named}
+use Rattle.crush_map.specs.declared.Kind.{Kind}
+use Rattle.crush_map.specs.declared.Kind.TheVariants.{Uniform}
+use Rattle.tenant_messages.specs.Forms.{IsNatural, IsInteger, IsText, IsListOf, HasExactly, IsUnder}
+use Rattle.tenant_messages.specs.Json.{value_of, natural_of, integer_of, both, all_three, list_of, has_keys, under}
+use Rattle.tenant_messages.specs.Reply.{Answer, success, members_of}
+use Rattle.tenant_resources.specs.declared.picks.PickRequest.{PickRequest}
+
+-- ---- requests
+
+abbrev pub route : List ℕ
+route = codes "/t/{t}/pick"
+
+-- whether the route has this method
+abbrev pub has_method : List ℕ → Bool
+has_method method = bytes_eq method (codes "POST")
+
+-- ---- the form of a body, and the pick that it says
+
+-- {"item": -65536..65535, "weight": 0..4294967295}
+pub record IsItem (d : Data) (e : Entry) : Type 0 where
+  pub keys : HasExactly (codes "item" ∷ codes "weight" ∷ []) d
+  pub item : IsUnder (codes "item") (IsInteger (negsuc 65535) (pos 65535)) d e.0.0
+  pub weight : IsUnder (codes "weight") (IsNatural 4294967295) d e.1.0
+
+-- {"id": -65536..-1, "items": [ITEM, ..], "kind": "uniform", "list" or "tree"}: 1 to 1,024 distinct items other than the bucket,
+-- whose weights have a sum of at most 2^32 - 1, and are equal in a uniform bucket
+pub record IsBucket (d : Data) (b : BucketView) : Type 0 where
+  pub keys : HasExactly (codes "id" ∷ codes "items" ∷ codes "kind" ∷ []) d
+  pub id : IsUnder (codes "id") (IsInteger (negsuc 65535) (negsuc 0)) d b.id.0
+  pub items : IsUnder (codes "items") (IsListOf IsItem) d b.entries
+  pub kind : IsUnder (codes "kind") (λ v k. IsText v (kind_name k)) d b.kind
+  pub some : 1 ≤ length b.entries
+  pub few : length b.entries ≤ 1024
+  pub distinct : AllPairs (λ e f. e.0 ≢ f.0) b.entries
+  pub others : All (λ e. e.0 ≢ b.id) b.entries
+  pub light : total_weight b.entries ≤ 4294967295
+  pub equal : b.kind ≡ Uniform → HasEqualWeights b.entries
+
+-- {"bucket": BUCKET, "r": 0..2147483647, "x": 0..4294967295}
+pub record IsPickBody (d : Data) (p : PickRequest) : Type 0 where
+  pub keys : HasExactly (codes "bucket" ∷ codes "r" ∷ codes "x" ∷ []) d
+  pub bucket : IsUnder (codes "bucket") IsBucket d p.bucket
+  pub r : IsUnder (codes "r") (IsNatural 2147483647) d p.r
+  pub x : IsUnder (codes "x") (IsNatural 4294967295) d p.x
+
+-- ---- reading a body: a pick is read exactly where the body has that form (law `picks_are_of_the_form`)
+
+-- ---- items
+
+abbrev pub weighed : ℤ → ℕ → Entry
+weighed id weight = (record { 0 = id }, record { 0 = weight })
+
+abbrev pub entry_of : Data → Option Entry
+entry_of d =
+    if has_keys 2 d then both weighed (under (codes "item") (integer_of (negsuc 65535) (pos 65535)) d) (under (codes "weight") (natural_of 4294967295) d) else None
+
+abbrev pub is_of_item : ℤ → Entry → Bool
+is_of_item z e = int_le z e.0.0 && int_le e.0.0 z
+
+-- no item comes twice
+abbrev pub are_distinct : List Entry → Bool
+are_distinct [] = true
+are_distinct (e ∷ es) = not (list_any (is_of_item e.0.0) es) && are_distinct es
+
+-- ---- a bucket
+
+abbrev pub kind_of : Data → Option Kind
+kind_of d = option_and_then kind_named (as_str d)
+
+-- 1 to 1,024 distinct items other than the bucket, whose weights have a sum below 2^32, and are equal in a uniform bucket
+abbrev pub is_valid : BucketView → Bool
+is_valid b =
+    nat_lt 0 (length b.entries) && nat_le (length b.entries) 1024 && nat_lt (total_weight b.entries) (2 ^ 32)
+    && not (list_any (is_of_item b.id.0) b.entries) && are_distinct b.entries && (not (is_uniform b.kind) || has_equal_weights b.entries)
+
+abbrev pub if_valid : BucketView → Option BucketView
+if_valid b = if is_valid b then Some b else None
+
+abbrev pub bucket_of : Data → Option BucketView
+bucket_of d =
+    if has_keys 3 d then
+    option_and_then if_valid (all_three (λ kind id es. record { id = record { 0 = id }; kind = kind; entries = es })
+    (under (codes "kind") kind_of d) (under (codes "id") (integer_of (negsuc 65535) (negsuc 0)) d)
+    (under (codes "items") (list_of entry_of) d)) else None
+
+-- ---- a body
+
+abbrev pub pick_of : Data → Option PickRequest
+pick_of d =
+    if has_keys 3 d then
+    all_three (λ b r x. record { bucket = b; x = x; r = r }) (under (codes "bucket") bucket_of d)
+    (under (codes "r") (natural_of 2147483647) d) (under (codes "x") (natural_of 4294967295) d) else None
+
+abbrev pub pick_request_of : List ℕ → Option PickRequest
+pick_request_of body = option_and_then pick_of (value_of body)
+
+-- ---- the answer
+
+-- the body of the reply
+abbrev pub picked : ItemId → Data
+picked item = object (members_of ((codes "item", number (of_integer item.0)) ∷ []))
+
+abbrev pub answer : PickRequest → Answer
+answer p = success (picked (pick p.bucket p.x p.r))

@@ -1,0 +1,13 @@
+//! Orders that are accepted.
+
+use serde_json::Value;
+use tenant_messages::SuccessStatus;
+use tenant_state::Made;
+
+/// An order that is accepted: what it makes, and the status and the body of its reply.
+#[derive(Drop)]
+pub struct Accepted {
+    pub made: Made,
+    pub status: SuccessStatus,
+    pub body: Value,
+}

@@ -1,0 +1,30 @@
+//! Laws of the forms of bodies: each contract holds of the definitions alone.
+
+ghost use Rattle.std.specs.Prelude.{◌≡◌, ◌↔◌, ℕ, List, None, Some};
+ghost use Rattle.serde_json.specs.Data.{Data};
+ghost use Rattle.tenant_messages.specs.Forms.{IsJson};
+ghost use Rattle.tenant_resources.specs.Maps.{IsImportBody, import_of, import_request_of};
+ghost use Rattle.tenant_resources.specs.Picks.{IsPickBody, pick_of, pick_request_of};
+ghost use Rattle.tenant_resources.specs.RuleTests.{RuleTest, IsTestBody, test_of, test_request_of};
+ghost use Rattle.tenant_resources.specs.declared.picks.PickRequest.{PickRequest};
+
+/// A pick is read from a body exactly where the body has its form and says that pick; any other body is refused.
+pub fn picks_are_of_the_form()
+    ensures value { (d : Data) (p : PickRequest) → (pick_of d ≡ Some p) ↔ IsPickBody d p }
+    ensures body { (body : List ℕ) (p : PickRequest) → (pick_request_of body ≡ Some p) ↔ IsJson IsPickBody body p }
+    ensures refused { (body : List ℕ) → (pick_request_of body ≡ None) ↔ ((p : PickRequest) → ¬ IsJson IsPickBody body p) }
+{}
+
+/// An import is read from a body exactly where the body has its form and says that import; any other body is refused.
+pub fn imports_are_of_the_form()
+    ensures value { (d : Data) (asked : List ℕ × List ℕ) → (import_of d ≡ Some asked) ↔ IsImportBody d asked }
+    ensures body { (body : List ℕ) (asked : List ℕ × List ℕ) → (import_request_of body ≡ Some asked) ↔ IsJson IsImportBody body asked }
+    ensures refused { (body : List ℕ) → (import_request_of body ≡ None) ↔ ((asked : List ℕ × List ℕ) → ¬ IsJson IsImportBody body asked) }
+{}
+
+/// A rule test is read from a body exactly where the body has its form and says that test; any other body is refused.
+pub fn tests_are_of_the_form()
+    ensures value { (d : Data) (t : RuleTest) → (test_of d ≡ Some t) ↔ IsTestBody d t }
+    ensures body { (body : List ℕ) (t : RuleTest) → (test_request_of body ≡ Some t) ↔ IsJson IsTestBody body t }
+    ensures refused { (body : List ℕ) → (test_request_of body ≡ None) ↔ ((t : RuleTest) → ¬ IsJson IsTestBody body t) }
+{}

@@ -1,0 +1,12 @@
+//! What a tenant's requests name: a file for each, with its routes and methods, the form of its bodies, its own checks, and its answer.
+#![tactic(auto)]
+
+mod accepted;
+pub mod laws;
+pub mod maps;
+pub mod picks;
+pub mod rule_tests;
+
+pub use accepted::Accepted;
+pub use picks::{AskedBucket, PickRequest};
+pub use rule_tests::RuleTest;

@@ -1,0 +1,123 @@
+//! Maps, at `/t/{t}/maps`: POST adds a version of the tenant's map, from a text. At `/t/{t}/maps/{v}` GET reads the version v.
+
+ghost use Rattle.std.specs.Prelude.{◌≡◌, ◌<◌, ◌^◌, false, IfOk, length};
+ghost use Rattle.serde_json.specs.View.{view};
+ghost use Rattle.serde_json.specs.Written.{has_float};
+ghost use Rattle.tenant_resources.specs.Maps as spec;
+ghost use Rattle.tenant_resources.specs.Private.Accepting.{accepted_of};
+ghost use Rattle.tenant_messages.specs.Reading.{Reads};
+ghost use Rattle.tenant_messages.specs.Refusals.{Gives};
+ghost use Rattle.tenant_messages.specs.Reply.{reply};
+
+use crate::accepted::Accepted;
+use crush_map::{CrushMap, Text};
+use crush_text::{read_map, texts_are_read_as_they_say};
+use serde_json::{Value, json};
+use std::alloc::{AllocError, Global};
+use std::rc::Rc;
+use tenant_messages::{
+    Problem, ReadError, Refusal, Reply, SuccessStatus, has_keys, read_value, refused,
+    request_number, success, text,
+};
+use tenant_state::{Made, TenantState, Version};
+
+/// The route of all versions.
+pub const ROUTE: &str = "/t/{t}/maps";
+
+/// The route of one version.
+pub const VERSION_ROUTE: &str = "/t/{t}/maps/{v}";
+
+/// Whether the route of all versions has this method.
+pub fn has_method(method: &[u8]) -> bool
+    ensures { result ≡ spec.has_method method.now }
+{
+    method == b"POST".as_slice()
+}
+
+/// Whether the route of one version has this method.
+pub fn version_has_method(method: &[u8]) -> bool
+    ensures { result ≡ spec.version_has_method method.now }
+{
+    method == b"GET".as_slice()
+}
+
+// ---- the body of an import
+
+fn import_in(alloc: Global, value: &Value) -> Result<(Text, Text), ReadError>
+    ensures { Reads (λ asked. asked) result (spec.import_of (view value.now)) }
+{
+    if !has_keys(value, 2) {
+        return Err(ReadError::Malformed);
+    }
+    let number = request_number(value).ok_or(ReadError::Malformed)?;
+    let written = text(value, "text").ok_or(ReadError::Malformed)?;
+    Ok((Text::copy(alloc, number)?, Text::copy(alloc, written)?))
+}
+
+/// The request number and the text of the import that a body asks for.
+pub fn read_import(alloc: Global, body: &[u8]) -> Result<(Text, Text), ReadError>
+    ensures { Reads (λ asked. asked) result (spec.import_request_of body.now) }
+{
+    import_in(alloc, &read_value(alloc, body)?)
+}
+
+// ---- importing a text
+
+/// The greatest number of versions of a tenant.
+const VERSION_LIMIT: u64 = 256;
+
+fn import_reply(alloc: Global, state: &TenantState) -> Result<Value, AllocError>
+    requires receipts { length state.now.receipts < 2 ^ 32 }
+    requires versions { length state.now.versions < 2 ^ 32 }
+    ensures { IfOk result (λ v. view v ≡ spec.import_reply state.now) }
+{
+    json!(in alloc; {"epoch": state.epoch() + 1, "version": state.newest() + 1})
+}
+
+fn shared_version(alloc: Global, map: CrushMap) -> Result<Rc<Version>, AllocError>
+    ensures { IfOk result (λ version. version.value ≡ map) }
+{
+    let version = Version::build(alloc, map)?;
+    Ok(Rc::new(alloc, version)?)
+}
+
+/// The version of a text, or why there is none.
+pub fn import(alloc: Global, text: &str, state: &TenantState) -> Result<Accepted, Refusal>
+    requires { length state.now.receipts < 2 ^ 32 }
+    ensures given { Gives accepted_of result (spec.imported text.now state.now) }
+    ensures plain { IfOk result (λ a. has_float (view a.body) ≡ false) }
+{
+    if state.newest() >= VERSION_LIMIT {
+        return Err(Refusal::Problem(Problem::TenantLimit));
+    }
+    texts_are_read_as_they_say();
+    match read_map(alloc, text.as_bytes())? {
+        Err(fault) => Err(Refusal::Problem(Problem::MapRefused(fault))),
+        Ok(map) => {
+            let version = shared_version(alloc, map)?;
+            Ok(Accepted {
+                made: Made::Version(version),
+                status: SuccessStatus::Created,
+                body: import_reply(alloc, state)?,
+            })
+        }
+    }
+}
+
+// ---- reading a version
+
+fn version_reply(alloc: Global, number: u64, version: &Version) -> Result<Value, AllocError>
+    ensures { IfOk result (λ v. view v ≡ spec.version_reply number version.now) }
+{
+    json!(in alloc; {"text": version.text(), "version": number})
+}
+
+/// The reply with the canonical text of a version.
+pub fn answer(alloc: Global, number: u64, state: &TenantState) -> Result<Reply, AllocError>
+    ensures { IfOk result (λ r. r ≡ reply (spec.answer number state.now)) }
+{
+    match state.version(number) {
+        None => refused(alloc, Problem::NoVersion),
+        Some(version) => success(alloc, &version_reply(alloc, number, version)?),
+    }
+}

@@ -1,0 +1,201 @@
+//! Tests of rules, at `/t/{t}/test`: POST asks which items a rule of a version of the tenant's map gives for an input.
+
+ghost use Rattle.std.specs.Prelude.{◌≡◌, ◌≤◌, [], IfOk, IfSome, map, option_map};
+ghost use Rattle.crush_bucket.specs.Tables.{tables_of};
+ghost use Rattle.crush_choose.specs.Rules.{CanRun, rule_answer};
+ghost use Rattle.crush_choose.specs.Trace.{rule_trace};
+ghost use Rattle.crush_choose.specs.Weights.{weights_of};
+ghost use Rattle.serde_json.specs.View.{view, items_view, items_of};
+ghost use Rattle.tenant_messages.specs.Reading.{Reads};
+ghost use Rattle.tenant_messages.specs.Reply.{natural, reply};
+ghost use Rattle.tenant_resources.specs.RuleTests as spec;
+
+use crush_bucket::Scratch;
+use crush_choose::laws::{rules_of_a_map_can_run, traces_ascend};
+use crush_choose::{Out, Slot, run_rule};
+use crush_map::{CrushMap, Rule};
+use serde_json::{Value, json};
+use std::alloc::{AllocError, Global};
+use std::marker::Model;
+use tenant_messages::{
+    Problem, ReadError, Reply, has_keys, natural, optional_natural, read_value, refused, success,
+};
+use tenant_state::{TenantState, Version};
+
+/// The route of rule tests.
+pub const ROUTE: &str = "/t/{t}/test";
+
+/// Whether the route has this method.
+pub fn has_method(method: &[u8]) -> bool
+    ensures { result ≡ spec.has_method method.now }
+{
+    method == b"POST".as_slice()
+}
+
+/// The body of a rule test: which items the rule gives for the input `x`, at most `size` of them.
+#[derive(Drop)]
+pub struct RuleTest {
+    rule: u32,
+    size: u32,
+    x: u32,
+    version: Option<u32>,
+}
+
+impl Model for RuleTest {
+    ghost use Rattle.std.specs.Prelude.{◌≤◌};
+    ghost use Rattle.tenant_resources.specs.RuleTests.{RuleTest};
+
+    ghost Value = { RuleTest };
+
+    ghost view = { λ a. record { rule = a.rule; size = a.size; x = a.x; version = a.version } };
+
+    ghost invariant = { λ a. record {
+      some : 1 ≤ a.size;
+      few : a.size ≤ 32;
+    } };
+}
+
+// ---- the body
+
+fn test(value: &Value) -> Option<RuleTest>
+    ensures { result ≡ spec.test_of (view value.now) }
+{
+    let keys = if value.get("version").is_some() { 4 } else { 3 };
+    if !has_keys(value, keys) {
+        return None;
+    }
+    let rule = natural(value, "rule", 255)?;
+    let size = natural(value, "size", 32)?;
+    let x = natural(value, "x", 4_294_967_295)?;
+    let version = optional_natural(value, "version", 4_294_967_295)?;
+    if size == 0 {
+        return None;
+    }
+    Some(RuleTest {
+        rule,
+        size,
+        x,
+        version,
+    })
+}
+
+/// The test that a body asks for.
+pub fn read_test(alloc: Global, body: &[u8]) -> Result<RuleTest, ReadError>
+    ensures { Reads (λ t. t) result (spec.test_request_of body.now) }
+{
+    test(&read_value(alloc, body)?).ok_or(ReadError::Malformed)
+}
+
+// ---- the answer
+
+fn slot_json(slot: &Slot) -> Value
+    ensures { view result ≡ spec.slot_json slot.now }
+{
+    match slot {
+        None => Value::Null,
+        Some(item) => Value::from(i64::from(item.0)),
+    }
+}
+
+fn slots_json(alloc: Global, slots: &[Slot]) -> Result<Value, AllocError>
+    ensures { IfOk result (λ v. view v ≡ spec.list_json (map spec.slot_json slots.now)) }
+{
+    let mut values = Vec::with_capacity(alloc, slots.len())?;
+    for slot in slots {
+        values.push(slot_json(slot))?;
+    }
+    Ok(Value::Array(values))
+}
+
+fn ids_json(alloc: Global, ids: &[u32]) -> Result<Value, AllocError>
+    ensures { IfOk result (λ v. view v ≡ spec.list_json (map natural ids.now)) }
+{
+    let mut values = Vec::with_capacity(alloc, ids.len())?;
+    for id in ids {
+        values.push(Value::from(u64::from(*id)))?;
+    }
+    Ok(Value::Array(values))
+}
+
+fn outcome(
+    alloc: Global,
+    epoch: u64,
+    number: u64,
+    slots: &[Slot],
+    trace: &[u32],
+) -> Result<Value, AllocError>
+    ensures { IfOk result (λ v. view v ≡ spec.outcome epoch number slots.now trace.now) }
+{
+    let items = slots_json(alloc, slots)?;
+    let trace = ids_json(alloc, trace)?;
+    json!(in alloc; {"epoch": epoch, "items": items, "trace": trace, "version": number})
+}
+
+fn tested(
+    alloc: Global,
+    epoch: u64,
+    number: u64,
+    version: &Version,
+    rule: &Rule,
+    test: &RuleTest,
+) -> Result<Value, AllocError>
+    requires rule { CanRun (tables_of version.now) rule.now }
+    ensures { IfOk result (λ v. view v ≡ spec.tested epoch number version.now rule.now test.now.x test.now.size) }
+{
+    traces_ascend();
+    let tables = version.tables();
+    let mut scratch = Scratch::build(alloc, tables)?;
+    let mut out = Out::build(alloc)?;
+    run_rule(
+        tables,
+        &mut scratch,
+        rule,
+        test.x,
+        test.size,
+        version.weights(),
+        &mut out,
+    );
+    outcome(alloc, epoch, number, out.items(), out.trace())
+}
+
+/// The rule of a map with this id.
+fn rule_with_id(map: &CrushMap, id: u32) -> Option<&Rule>
+    ensures value { option_map (λ r. r.now) result ≡ spec.rule_with_id id map.now }
+    ensures runs { IfSome result (λ r. CanRun (tables_of map.now) r.now) }
+{
+    rules_of_a_map_can_run();
+    map.rules().iter().find(|rule| rule.id == id)
+}
+
+fn answer_on(
+    alloc: Global,
+    test: &RuleTest,
+    epoch: u64,
+    number: u64,
+    version: &Version,
+) -> Result<Reply, AllocError>
+    ensures { IfOk result (λ r. r ≡ reply (spec.on_version test.now epoch number (Some version.now))) }
+{
+    match rule_with_id(version.map(), test.rule) {
+        None => refused(alloc, Problem::NoRule),
+        Some(rule) => success(alloc, &tested(alloc, epoch, number, version, rule, test)?),
+    }
+}
+
+/// The reply to a rule test: what the rule gives on the version that is named, or else on the newest.
+pub fn answer(
+    alloc: Global,
+    test: &RuleTest,
+    state: &TenantState,
+) -> Result<Reply, AllocError>
+    ensures { IfOk result (λ r. r ≡ reply (spec.answer test.now state.now)) }
+{
+    let number = match test.version {
+        Some(number) => u64::from(number),
+        None => state.newest(),
+    };
+    match state.version(number) {
+        None => refused(alloc, Problem::NoVersion),
+        Some(version) => answer_on(alloc, test, state.epoch(), number, version),
+    }
+}
