@@ -115,7 +115,7 @@ impl TenantStore for MemoryStore {
             self.alloc,
             &mut self.states,
             name,
-            TenantState::fresh(self.alloc),
+            TenantState::fresh(self.alloc)?,
         )?;
         Ok(())
     }

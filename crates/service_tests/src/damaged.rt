@@ -25,7 +25,7 @@ fn begins_with(byte: u8, name: &str) -> bool
 fn fresh_tenant(alloc: Global) -> Result<Rc<TenantState>, AllocError>
     ensures { IfOk result (λ state. state.value ≡ fresh) }
 {
-    Ok(Rc::new(alloc, TenantState::fresh(alloc))?)
+    Ok(Rc::new(alloc, TenantState::fresh(alloc)?)?)
 }
 
 /// An import of a text without a word, which is refused where a tenant is there.

@@ -238,7 +238,7 @@ fn change_by(alloc: Global, body: &str) -> Result<Option<Change>, AllocError> {
     let Ok(request) = read_request(alloc, &routes, call) else {
         return Ok(None);
     };
-    let state = TenantState::fresh(alloc);
+    let state = TenantState::fresh(alloc)?;
     let Decision {
         effect,
         reply: _reply,

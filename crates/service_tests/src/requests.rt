@@ -18,7 +18,7 @@ fn asked(alloc: Global, body: &str) -> Result<(u16, String), AllocError> {
         Err(Refusal::Problem(problem)) => refused(alloc, problem)?,
         Err(Refusal::NoMemory) => return Err(AllocError),
         Ok(request) => {
-            let state = TenantState::fresh(alloc);
+            let state = TenantState::fresh(alloc)?;
             decide(alloc, "a", Some(&state), &request.action)?.reply
         }
     };
@@ -116,7 +116,7 @@ fn a_tenant_is_made_and_dropped(rt: HostRuntime) -> Result<(), Fail> {
             assert!(rt; false, "{method} is a request");
             return Ok(());
         };
-        let state = TenantState::fresh(alloc);
+        let state = TenantState::fresh(alloc)?;
         let state = if there { Some(&state) } else { None };
         let decision = decide(alloc, "a", state, &request.action)?;
         assert_eq!(rt; decision.reply.body.as_str(), body, "{method} {there}");

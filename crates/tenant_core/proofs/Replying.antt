@@ -3,7 +3,7 @@ use Rattle.std.proofs.Common.{◌≡◌, inl, inr, ℕ, ◌==◌, true, false, n
 use Rattle.tenant_messages.specs.declared.call.Call.{Call}
 use Rattle.tenant_messages.specs.declared.reply.Reply.{Reply}
 use Rattle.tenant_messages.specs.declared.reply.Problem.{Problem}
-use Rattle.tenant_messages.specs.declared.reply.Problem.TheVariants.{BadRequest, NoPath, NoTenant, NoVersion, NoRule, Method, Exists, RequestReused, TooLarge, MapRefused, TenantLimit}
+use Rattle.tenant_messages.specs.declared.reply.Problem.TheVariants.{BadRequest, NoPath, NoTenant, NoVersion, NoPool, NoGroup, NoRule, NoDevice, Method, Exists, RequestReused, RuleInUse, TooLarge, MapRefused, TenantLimit}
 use Rattle.tenant_messages.specs.declared.reply.SuccessStatus.{SuccessStatus}
 use Rattle.tenant_messages.specs.declared.reply.SuccessStatus.TheVariants.{Done, Created}
 use Rattle.tenant_state.specs.State.{TenantState}
@@ -23,10 +23,14 @@ problem BadRequest = record { no_500 = refl; no_503 = refl }
 problem NoPath = record { no_500 = refl; no_503 = refl }
 problem NoTenant = record { no_500 = refl; no_503 = refl }
 problem NoVersion = record { no_500 = refl; no_503 = refl }
+problem NoPool = record { no_500 = refl; no_503 = refl }
+problem NoGroup = record { no_500 = refl; no_503 = refl }
 problem NoRule = record { no_500 = refl; no_503 = refl }
+problem NoDevice = record { no_500 = refl; no_503 = refl }
 problem Method = record { no_500 = refl; no_503 = refl }
 problem Exists = record { no_500 = refl; no_503 = refl }
 problem RequestReused = record { no_500 = refl; no_503 = refl }
+problem RuleInUse = record { no_500 = refl; no_503 = refl }
 problem TooLarge = record { no_500 = refl; no_503 = refl }
 problem (MapRefused fault) = record { no_500 = refl; no_503 = refl }
 problem TenantLimit = record { no_500 = refl; no_503 = refl }

@@ -3,13 +3,15 @@ use Rattle.std.specs.Prelude.{ℕ, List, length, nat_le, if◌then◌else◌, Op
 use Rattle.serde_json.specs.Written.{compact_text}
 use Rattle.tenant_core.specs.Effects.{Decided, decided}
 use Rattle.tenant_resources.specs.Orders.{Accepted}
+use Rattle.tenant_resources.specs.Devices as devices
 use Rattle.tenant_resources.specs.Maps as maps
+use Rattle.tenant_resources.specs.Pools as pools
 use Rattle.tenant_state.specs.Receipts.{receipt_of, is_repeat}
 use Rattle.tenant_messages.specs.Reply.{Answer, refused, answered, repeated}
 use Rattle.tenant_state.specs.State.{TenantState}
 use Rattle.tenant_core.specs.declared.commands.Command.{Command}
 use Rattle.tenant_core.specs.declared.commands.Order.{Order}
-use Rattle.tenant_core.specs.declared.commands.Order.TheVariants.{ImportMap}
+use Rattle.tenant_core.specs.declared.commands.Order.TheVariants.{ImportMap, ChangeDevices, CreatePool, RemovePool}
 use Rattle.tenant_state.specs.declared.receipts.Receipt.{Receipt}
 use Rattle.tenant_messages.specs.declared.reply.Problem.{Problem}
 use Rattle.tenant_messages.specs.declared.reply.Problem.TheVariants.{RequestReused, TenantLimit}
@@ -18,6 +20,9 @@ use Rattle.tenant_core.specs.declared.decision.Effect.TheVariants.{Keep, Change}
 -- what an order does, or why nothing: the table of all orders
 abbrev pub order_on : Order → TenantState → Result Accepted Problem
 order_on (ImportMap text) state = maps.imported text state
+order_on (ChangeDevices changes) state = devices.devices_changed changes state
+order_on (CreatePool pool) state = pools.created pool state
+order_on (RemovePool id) state = pools.removed id state
 
 -- ---- once
 

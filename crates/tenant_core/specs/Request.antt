@@ -2,16 +2,19 @@
 use Rattle.std.specs.Prelude.{ℕ, ◌==◌, List, length, nat_lt, if◌then◌else◌, Option, Some, None, option_map, option_and_then, Result, Err, codes}
 use Rattle.std.specs.Option.{ok_or}
 use Rattle.crush_map.specs.Faults.{is_name}
+use Rattle.tenant_resources.specs.Devices as devices
+use Rattle.tenant_resources.specs.Groups as groups
 use Rattle.tenant_resources.specs.Maps as maps
 use Rattle.tenant_resources.specs.Picks as picks
+use Rattle.tenant_resources.specs.Pools as pools
 use Rattle.tenant_core.specs.Route.{Target, target_of, route_in, parameter, path_number}
 use Rattle.tenant_resources.specs.RuleTests as rule_tests
 use Rattle.tenant_core.specs.Tenants as tenants
 use Rattle.tenant_messages.specs.declared.call.Call.{Call}
 use Rattle.tenant_core.specs.declared.commands.Order.{Order}
-use Rattle.tenant_core.specs.declared.commands.Order.TheVariants.{ImportMap}
+use Rattle.tenant_core.specs.declared.commands.Order.TheVariants.{ImportMap, ChangeDevices, CreatePool, RemovePool}
 use Rattle.tenant_core.specs.declared.route.Route.{Route}
-use Rattle.tenant_core.specs.declared.route.Route.TheVariants.{Tenant, Maps, Version, Pick, Test}
+use Rattle.tenant_core.specs.declared.route.Route.TheVariants.{Tenant, Maps, Version, Devices, Pools, PoolRemoval, Group, Locate, Pick, Test}
 use Rattle.tenant_messages.specs.declared.reply.Problem.{Problem}
 use Rattle.tenant_messages.specs.declared.reply.Problem.TheVariants.{BadRequest, NoPath, Method, TooLarge}
 use Rattle.tenant_core.specs.declared.request.Action.{Action}
@@ -35,6 +38,11 @@ abbrev pub operation_of : Route → List ℕ → Option Operation
 operation_of Tenant method = option_map (λ o. operation.Tenant o) (tenants.operation_of method)
 operation_of Maps method = if maps.has_method method then Some operation.Import else None
 operation_of Version method = if maps.version_has_method method then Some operation.ReadVersion else None
+operation_of Devices method = if devices.has_method method then Some operation.ChangeDevices else None
+operation_of Pools method = if pools.has_method method then Some operation.CreatePool else None
+operation_of PoolRemoval method = if pools.has_method method then Some operation.RemovePool else None
+operation_of Group method = if groups.group_has_method method then Some operation.ReadGroup else None
+operation_of Locate method = if groups.locate_has_method method then Some operation.Locate else None
 operation_of Pick method = if picks.has_method method then Some operation.Pick else None
 operation_of Test method = if rule_tests.has_method method then Some operation.Test else None
 
@@ -53,6 +61,13 @@ abbrev pub action_of : Target → Operation → List ℕ → Option Action
 action_of target (operation.Tenant o) body = if_empty body (action.Tenant o)
 action_of target operation.Import body = option_map (λ asked. command_of target body asked.0 (ImportMap asked.1)) (maps.import_request_of body)
 action_of target operation.ReadVersion body = option_and_then (λ number. if_empty body (action.ReadVersion number)) (path_number (codes "v") target)
+action_of target operation.ChangeDevices body = option_map (λ asked. command_of target body asked.0 (ChangeDevices asked.1)) (devices.devices_request_of body)
+action_of target operation.CreatePool body = option_map (λ asked. command_of target body asked.0 (CreatePool asked.1)) (pools.pool_request_of body)
+action_of target operation.RemovePool body = option_map (λ asked. command_of target body asked.0 (RemovePool asked.1)) (pools.removal_request_of body)
+action_of target operation.ReadGroup body =
+    option_and_then (λ pool. option_and_then (λ group. if_empty body (action.ReadGroup pool group)) (path_number (codes "g") target)) (path_number (codes "p") target)
+action_of target operation.Locate body =
+    option_and_then (λ pool. option_map (λ name. action.Locate pool name) (groups.locate_request_of body)) (path_number (codes "p") target)
 action_of target operation.Pick body = option_map (λ p. action.Pick p) (picks.pick_request_of body)
 action_of target operation.Test body = option_map (λ t. action.Test t) (rule_tests.test_request_of body)
 

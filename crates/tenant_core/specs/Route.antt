@@ -10,20 +10,24 @@ use Rattle.matchit.specs.Params.{walk, named}
 use Rattle.matchit.specs.Seek.{first}
 use Rattle.matchit.specs.declared.error.InsertError.{InsertError}
 use Rattle.crush_words.specs.Numbers.{number_of}
+use Rattle.tenant_resources.specs.Devices as devices
+use Rattle.tenant_resources.specs.Groups as groups
 use Rattle.tenant_resources.specs.Maps as maps
 use Rattle.tenant_resources.specs.Picks as picks
+use Rattle.tenant_resources.specs.Pools as pools
 use Rattle.tenant_resources.specs.RuleTests as rule_tests
 use Rattle.tenant_core.specs.Tenants as tenants
 use Rattle.tenant_core.specs.declared.route.Route.{Route}
-use Rattle.tenant_core.specs.declared.route.Route.TheVariants.{Tenant, Maps, Version, Pick, Test}
+use Rattle.tenant_core.specs.declared.route.Route.TheVariants.{Tenant, Maps, Version, Devices, Pools, PoolRemoval, Group, Locate, Pick, Test}
 
 -- ---- the routes
 
 -- all routes, each as it is written
 abbrev pub routes : List (List ℕ × Route)
 routes =
-    (tenants.route, Tenant) ∷ (maps.route, Maps) ∷ (maps.version_route, Version) ∷ (picks.route, Pick)
-    ∷ (rule_tests.route, Test) ∷ []
+    (tenants.route, Tenant) ∷ (maps.route, Maps) ∷ (maps.version_route, Version) ∷ (devices.route, Devices)
+    ∷ (pools.route, Pools) ∷ (pools.removal_route, PoolRemoval) ∷ (groups.group_route, Group) ∷ (groups.locate_route, Locate)
+    ∷ (picks.route, Pick) ∷ (rule_tests.route, Test) ∷ []
 
 -- ---- their table
 

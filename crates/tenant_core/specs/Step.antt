@@ -4,6 +4,7 @@ use Rattle.std.specs.Option.{option_map_or}
 use Rattle.std.specs.Str.{bytes_eq}
 use Rattle.tenant_core.specs.Commands as commands
 use Rattle.tenant_core.specs.Effects.{Decided, decided, after_effect, if_present}
+use Rattle.tenant_resources.specs.Groups as groups
 use Rattle.tenant_resources.specs.Maps as maps
 use Rattle.tenant_resources.specs.Picks as picks
 use Rattle.tenant_messages.specs.Reply.{refused, reply}
@@ -27,6 +28,8 @@ abbrev pub decision_on : List ℕ → Action → Option TenantState → Decided
 decision_on tenant (action.Tenant operation) found = tenants.decision tenant operation found
 decision_on tenant (action.Command command) found = if_present found (commands.decision command)
 decision_on tenant (action.ReadVersion number) found = if_present found (λ state. decided Keep (maps.answer number state))
+decision_on tenant (action.ReadGroup id group) found = if_present found (λ state. decided Keep (groups.group_answer id group state))
+decision_on tenant (action.Locate id name) found = if_present found (λ state. decided Keep (groups.object_answer id name state))
 decision_on tenant (action.Pick p) found = if_present found (λ state. decided Keep (picks.answer p))
 decision_on tenant (action.Test t) found = if_present found (λ state. decided Keep (rule_tests.answer t state))
 

@@ -1,5 +1,5 @@
 -- Tenants, at `/t/{t}`: PUT creates one, GET reads what it has, DELETE removes it.
-use Rattle.std.specs.Prelude.{ℕ, List, [], ◌∷◌, if◌then◌else◌, Option, Some, None, codes}
+use Rattle.std.specs.Prelude.{ℕ, List, [], ◌∷◌, length, if◌then◌else◌, Option, Some, None, codes}
 use Rattle.std.specs.Str.{bytes_eq}
 use Rattle.serde_json.specs.Data.{Data, string, object}
 use Rattle.tenant_core.specs.Effects.{Decided, decided, if_present}
@@ -29,7 +29,7 @@ creation tenant = object (members_of ((codes "epoch", natural 0) ∷ (codes "ten
 
 abbrev pub summary : List ℕ → TenantState → Data
 summary tenant state =
-    object (members_of ((codes "devices", natural 0) ∷ (codes "epoch", natural (epoch state)) ∷ (codes "pools", natural 0)
+    object (members_of ((codes "devices", natural (length state.devices)) ∷ (codes "epoch", natural (epoch state)) ∷ (codes "pools", natural (length state.pools))
     ∷ (codes "tenant", string tenant) ∷ (codes "versions", natural (newest state)) ∷ []))
 
 abbrev pub removal : List ℕ → Data

@@ -11,11 +11,12 @@ ghost use Rattle.tenant_messages.specs.Reply.{reply};
 ghost use Rattle.tenant_state.specs.State.{TenantState};
 
 use crate::decision::{Decision, Effect, kept};
-use crush_map::Text;
+use crush_map::{Listed, Text};
+use crush_pool::Pool;
 use std::alloc::{AllocError, Global};
 use std::rc::Rc;
 use tenant_messages::{Bytes, Problem, Refusal, answered, refused, repeated};
-use tenant_resources::{Accepted, maps};
+use tenant_resources::{Accepted, DeviceChange, devices, maps, pools};
 use tenant_state::{Change, Receipt, TenantState, is_repeat};
 
 /// What a changing request asks for.
@@ -23,6 +24,12 @@ use tenant_state::{Change, Receipt, TenantState, is_repeat};
 pub enum Order {
     /// A version with the map of this text.
     ImportMap(Text),
+    /// These changes of the states of devices.
+    ChangeDevices(Listed<DeviceChange>),
+    /// This pool.
+    CreatePool(Pool),
+    /// The removal of the pool with this id.
+    RemovePool(u32),
 }
 
 /// A changing request. Its path and body are kept, since a repeat is known by them.
@@ -43,6 +50,9 @@ fn accept(alloc: Global, order: &Order, state: &TenantState) -> Result<Accepted,
 {
     match order {
         Order::ImportMap(text) => maps::import(alloc, text.as_str(), state),
+        Order::ChangeDevices(changes) => devices::change_devices(alloc, changes.as_slice(), state),
+        Order::CreatePool(pool) => pools::create(alloc, pool, state),
+        Order::RemovePool(id) => pools::remove(alloc, *id, state),
     }
 }
 

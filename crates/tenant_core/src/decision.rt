@@ -9,7 +9,7 @@ use crate::request::Action;
 use crate::{commands, tenants};
 use std::alloc::{AllocError, Global};
 use tenant_messages::{Problem, Reply, refused};
-use tenant_resources::{maps, picks, rule_tests};
+use tenant_resources::{groups, maps, picks, rule_tests};
 use tenant_state::{Change, TenantState};
 
 /// What a request does to its tenant.
@@ -58,6 +58,12 @@ fn decide_present(
         Action::Tenant(operation) => tenants::decide(alloc, tenant, Some(state), *operation),
         Action::Command(command) => commands::decide(alloc, state, command),
         Action::ReadVersion(number) => Ok(kept(maps::answer(alloc, *number, state)?)),
+        Action::ReadGroup(pool, group) => {
+            Ok(kept(groups::group_answer(alloc, *pool, *group, state)?))
+        }
+        Action::Locate(pool, name) => {
+            Ok(kept(groups::object_answer(alloc, *pool, name, state)?))
+        }
         Action::Pick(pick) => Ok(kept(picks::answer(alloc, pick)?)),
         Action::Test(test) => Ok(kept(rule_tests::answer(alloc, test, state)?)),
     }

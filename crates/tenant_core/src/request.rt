@@ -12,7 +12,8 @@ use crate::tenants::{self, TenantOperation};
 use crush_map::{Text, is_name};
 use std::alloc::{AllocError, Global};
 use tenant_messages::{CallParts, Problem, ReadError, Refusal};
-use tenant_resources::{PickRequest, RuleTest, maps, picks, rule_tests};
+use tenant_resources::{ObjectName, PickRequest, RuleTest};
+use tenant_resources::{devices, groups, maps, picks, pools, rule_tests};
 
 /// The operations: what the methods mean on the routes.
 #[derive(Clone, Copy, Debug, PartialEq, Eq)]
@@ -20,6 +21,11 @@ pub enum Operation {
     Tenant(TenantOperation),
     Import,
     ReadVersion,
+    ChangeDevices,
+    CreatePool,
+    RemovePool,
+    ReadGroup,
+    Locate,
     Pick,
     Test,
 }
@@ -32,6 +38,10 @@ pub enum Action {
     Command(Command),
     /// The version with this number is read.
     ReadVersion(u64),
+    /// In the pool with the first number, the group with the second is read.
+    ReadGroup(u64, u64),
+    /// In the pool with this number, the object with this name is looked for.
+    Locate(u64, ObjectName),
     Pick(PickRequest),
     Test(RuleTest),
 }
@@ -62,6 +72,11 @@ fn operation_on(route: Route, method: &[u8]) -> Option<Operation>
         Route::Tenant => Some(Operation::Tenant(tenants::operation_of(method)?)),
         Route::Maps => maps::has_method(method).then_some(Operation::Import),
         Route::Version => maps::version_has_method(method).then_some(Operation::ReadVersion),
+        Route::Devices => devices::has_method(method).then_some(Operation::ChangeDevices),
+        Route::Pools => pools::has_method(method).then_some(Operation::CreatePool),
+        Route::PoolRemoval => pools::has_method(method).then_some(Operation::RemovePool),
+        Route::Group => groups::group_has_method(method).then_some(Operation::ReadGroup),
+        Route::Locate => groups::locate_has_method(method).then_some(Operation::Locate),
         Route::Pick => picks::has_method(method).then_some(Operation::Pick),
         Route::Test => rule_tests::has_method(method).then_some(Operation::Test),
     }
@@ -111,6 +126,42 @@ fn read_version(target: &Target<'_, '_>, body: &[u8]) -> Result<Action, ReadErro
     if_empty(body, Action::ReadVersion(number))
 }
 
+fn read_devices(alloc: Global, target: &Target<'_, '_>, body: &[u8]) -> Result<Action, ReadError>
+    ensures { Reads (λ a. a) result (spec.action_of target.now Operation.ChangeDevices body.now) }
+{
+    let (number, changes) = devices::read_changes(alloc, body)?;
+    Ok(command(alloc, target, body, number, Order::ChangeDevices(changes))?)
+}
+
+fn read_pool(alloc: Global, target: &Target<'_, '_>, body: &[u8]) -> Result<Action, ReadError>
+    ensures { Reads (λ a. a) result (spec.action_of target.now Operation.CreatePool body.now) }
+{
+    let (number, pool) = pools::read_pool(alloc, body)?;
+    Ok(command(alloc, target, body, number, Order::CreatePool(pool))?)
+}
+
+fn read_removal(alloc: Global, target: &Target<'_, '_>, body: &[u8]) -> Result<Action, ReadError>
+    ensures { Reads (λ a. a) result (spec.action_of target.now Operation.RemovePool body.now) }
+{
+    let (number, id) = pools::read_removal(alloc, body)?;
+    Ok(command(alloc, target, body, number, Order::RemovePool(id))?)
+}
+
+fn read_group(target: &Target<'_, '_>, body: &[u8]) -> Result<Action, ReadError>
+    ensures { Reads (λ a. a) result (spec.action_of target.now Operation.ReadGroup body.now) }
+{
+    let pool = path_number(target, "p").ok_or(ReadError::Malformed)?;
+    let group = path_number(target, "g").ok_or(ReadError::Malformed)?;
+    if_empty(body, Action::ReadGroup(pool, group))
+}
+
+fn read_object(alloc: Global, target: &Target<'_, '_>, body: &[u8]) -> Result<Action, ReadError>
+    ensures { Reads (λ a. a) result (spec.action_of target.now Operation.Locate body.now) }
+{
+    let pool = path_number(target, "p").ok_or(ReadError::Malformed)?;
+    Ok(Action::Locate(pool, groups::read_name(alloc, body)?))
+}
+
 /// The action of an operation: what the path and the body say.
 fn read_action(
     alloc: Global,
@@ -124,6 +175,11 @@ fn read_action(
         Operation::Tenant(operation) => if_empty(body, Action::Tenant(operation)),
         Operation::Import => read_import(alloc, target, body),
         Operation::ReadVersion => read_version(target, body),
+        Operation::ChangeDevices => read_devices(alloc, target, body),
+        Operation::CreatePool => read_pool(alloc, target, body),
+        Operation::RemovePool => read_removal(alloc, target, body),
+        Operation::ReadGroup => read_group(target, body),
+        Operation::Locate => read_object(alloc, target, body),
         Operation::Pick => Ok(Action::Pick(picks::read_pick(alloc, body)?)),
         Operation::Test => Ok(Action::Test(rule_tests::read_test(alloc, body)?)),
     }

@@ -12,7 +12,7 @@ use crush_words::number_from_text;
 use matchit::{InsertError, Params, Router};
 use std::alloc::{AllocError, Global};
 use std::marker::Model;
-use tenant_resources::{maps, picks, rule_tests};
+use tenant_resources::{devices, groups, maps, picks, pools, rule_tests};
 
 /// The routes: one for each thing that a path can name.
 #[derive(Clone, Copy, Debug, PartialEq, Eq)]
@@ -23,6 +23,16 @@ pub enum Route {
     Maps,
     /// `/t/{t}/maps/{v}`
     Version,
+    /// `/t/{t}/devices`
+    Devices,
+    /// `/t/{t}/pools`
+    Pools,
+    /// `/t/{t}/pools/remove`
+    PoolRemoval,
+    /// `/t/{t}/pools/{p}/groups/{g}`
+    Group,
+    /// `/t/{t}/pools/{p}/locate`
+    Locate,
     /// `/t/{t}/pick`
     Pick,
     /// `/t/{t}/test`
@@ -46,6 +56,11 @@ impl Routes {
         insert(&mut router, tenants::ROUTE, Route::Tenant)?;
         insert(&mut router, maps::ROUTE, Route::Maps)?;
         insert(&mut router, maps::VERSION_ROUTE, Route::Version)?;
+        insert(&mut router, devices::ROUTE, Route::Devices)?;
+        insert(&mut router, pools::ROUTE, Route::Pools)?;
+        insert(&mut router, pools::REMOVAL_ROUTE, Route::PoolRemoval)?;
+        insert(&mut router, groups::GROUP_ROUTE, Route::Group)?;
+        insert(&mut router, groups::LOCATE_ROUTE, Route::Locate)?;
         insert(&mut router, picks::ROUTE, Route::Pick)?;
         insert(&mut router, rule_tests::ROUTE, Route::Test)?;
         Ok(Routes { router })

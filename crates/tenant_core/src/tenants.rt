@@ -53,9 +53,9 @@ fn summary(alloc: Global, tenant: &str, state: &TenantState) -> Result<Value, Al
     ensures { IfOk result (λ v. view v ≡ spec.summary tenant.now state.now) }
 {
     json!(in alloc; {
-        "devices": 0u64,
+        "devices": state.devices().states().len() as u64,
         "epoch": state.epoch(),
-        "pools": 0u64,
+        "pools": state.pools().len() as u64,
         "tenant": tenant,
         "versions": state.newest()
     })

@@ -1,7 +1,7 @@
 -- Forms: that a JSON value (RFC 8259) is of some form, and says some value.
-use Rattle.std.specs.Prelude.{◌≡◌, ℕ, ◌≤◌, ℤ, ◌≤ℤ◌, List, [], ◌∷◌, IsPermutation, Option, Some, None}
+use Rattle.std.specs.Prelude.{◌≡◌, ℕ, ◌≤◌, ℤ, ◌≤ℤ◌, Bool, List, [], ◌∷◌, IsPermutation, Option, Some, None}
 use Rattle.std.specs.List.{AllZip}
-use Rattle.serde_json.specs.Data.{Num, unsigned, Data, number, string, array, object, Members, no_members, member}
+use Rattle.serde_json.specs.Data.{Num, unsigned, Data, boolean, number, string, array, object, Members, no_members, member}
 use Rattle.serde_json.specs.Find.{get, as_integer}
 use Rattle.serde_json.specs.View.{items_of}
 use Rattle.tenant_messages.specs.Json.{value_of}
@@ -19,6 +19,10 @@ pub record IsInteger (least greatest : ℤ) (d : Data) (z : ℤ) : Type 0 where
   pub whole : as_integer numeral ≡ Some z
   pub from : least ≤ℤ z
   pub to : z ≤ℤ greatest
+
+-- true or false
+abbrev pub IsBoolean : Data → Bool → Type 0
+IsBoolean d b = d ≡ boolean b
 
 -- the text t
 abbrev pub IsText : Data → List ℕ → Type 0

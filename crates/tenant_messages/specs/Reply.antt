@@ -6,7 +6,7 @@ use Rattle.serde_json.specs.Data.{Data, Members, number, unsigned, string, objec
 use Rattle.serde_json.specs.Written.{compact_text}
 use Rattle.tenant_messages.specs.declared.reply.Reply.{Reply}
 use Rattle.tenant_messages.specs.declared.reply.Problem.{Problem}
-use Rattle.tenant_messages.specs.declared.reply.Problem.TheVariants.{BadRequest, NoPath, NoTenant, NoVersion, NoRule, Method, Exists, RequestReused, TooLarge, MapRefused, TenantLimit}
+use Rattle.tenant_messages.specs.declared.reply.Problem.TheVariants.{BadRequest, NoPath, NoTenant, NoVersion, NoPool, NoGroup, NoRule, NoDevice, Method, Exists, RequestReused, RuleInUse, TooLarge, MapRefused, TenantLimit}
 use Rattle.tenant_messages.specs.declared.reply.SuccessStatus.{SuccessStatus}
 use Rattle.tenant_messages.specs.declared.reply.SuccessStatus.TheVariants.{Done, Created}
 
@@ -41,10 +41,14 @@ problem_status BadRequest = 400
 problem_status NoPath = 404
 problem_status NoTenant = 404
 problem_status NoVersion = 404
+problem_status NoPool = 404
+problem_status NoGroup = 404
 problem_status NoRule = 404
+problem_status NoDevice = 404
 problem_status Method = 405
 problem_status Exists = 409
 problem_status RequestReused = 409
+problem_status RuleInUse = 409
 problem_status TooLarge = 413
 problem_status (MapRefused fault) = 422
 problem_status TenantLimit = 429
@@ -54,10 +58,14 @@ problem_code BadRequest = codes "bad_request"
 problem_code NoPath = codes "no_path"
 problem_code NoTenant = codes "no_tenant"
 problem_code NoVersion = codes "no_version"
+problem_code NoPool = codes "no_pool"
+problem_code NoGroup = codes "no_group"
 problem_code NoRule = codes "no_rule"
+problem_code NoDevice = codes "no_device"
 problem_code Method = codes "method"
 problem_code Exists = codes "exists"
 problem_code RequestReused = codes "request_reused"
+problem_code RuleInUse = codes "rule_in_use"
 problem_code TooLarge = codes "too_large"
 problem_code (MapRefused fault) = codes "map_refused"
 problem_code TenantLimit = codes "tenant_limit"

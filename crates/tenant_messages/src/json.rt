@@ -1,7 +1,7 @@
 //! Reading bodies: bytes as a JSON value, and that value as one of a given form.
 
 ghost use Rattle.std.specs.Prelude.{◌≡◌, option_map, codes};
-ghost use Rattle.serde_json.specs.Find.{as_str};
+ghost use Rattle.serde_json.specs.Find.{as_bool, as_str};
 ghost use Rattle.serde_json.specs.View.{view};
 ghost use Rattle.tenant_messages.specs.Json as spec;
 ghost use Rattle.tenant_messages.specs.Numbers as numbers;
@@ -90,6 +90,13 @@ pub fn integer(value: &Value, key: &str, least: i32, greatest: i32) -> Option<i3
     }
 }
 
+/// The truth value under a key.
+pub fn boolean(value: &Value, key: &str) -> Option<bool>
+    ensures { result ≡ spec.under key.now as_bool (view value.now) }
+{
+    value.get(key)?.as_bool()
+}
+
 /// The text under a key.
 pub fn text<'a>(value: &'a Value, key: &str) -> Option<&'a str>
     ensures { option_map (λ t. t.now) result ≡ spec.under key.now as_str (view value.now) }
@@ -104,6 +111,16 @@ pub fn optional_natural(value: &Value, key: &str, greatest: u32) -> Option<Optio
     match value.get(key) {
         None => Some(None),
         Some(_) => Some(Some(natural(value, key, greatest)?)),
+    }
+}
+
+/// The truth value under a key; `None` where there is no such key.
+pub fn optional_boolean(value: &Value, key: &str) -> Option<Option<bool>>
+    ensures { result ≡ spec.optional key.now as_bool (view value.now) }
+{
+    match value.get(key) {
+        None => Some(None),
+        Some(_) => Some(Some(boolean(value, key)?)),
     }
 }
 

@@ -7,7 +7,8 @@ mod reply;
 
 pub use call::{Bytes, Call, CallParts};
 pub use json::{
-    ReadError, has_keys, integer, natural, optional_natural, read_value, request_number, text,
+    ReadError, boolean, has_keys, integer, natural, optional_boolean, optional_natural, read_value,
+    request_number, text,
 };
 pub use reply::{
     Problem, Refusal, Reply, SuccessStatus, answered, created, error, no_memory, refused, repeated,

@@ -53,19 +53,27 @@ pub enum Problem {
     NoTenant,
     /// 404: the tenant has no such version.
     NoVersion,
+    /// 404: the tenant has no such pool.
+    NoPool,
+    /// 404: the pool has no such group.
+    NoGroup,
     /// 404: the map has no such rule.
     NoRule,
+    /// 404: the map has no such device.
+    NoDevice,
     /// 405: the path has a route, but not for this method.
     Method,
-    /// 409: the tenant exists.
+    /// 409: the tenant exists, or a pool has the id or the name.
     Exists,
     /// 409: the request number has a receipt of another request.
     RequestReused,
+    /// 409: the new map has no rule with the id that a pool names.
+    RuleInUse,
     /// 413: the body is over its limit.
     TooLarge,
     /// 422: the text is refused for this first fault.
     MapRefused(TextFault),
-    /// 429: the tenant has as many receipts, or as many versions, as it may have.
+    /// 429: the tenant has as many receipts, versions or pools as it may have.
     TenantLimit,
 }
 
@@ -109,9 +117,15 @@ impl Problem {
     {
         match self {
             Problem::BadRequest => 400,
-            Problem::NoPath | Problem::NoTenant | Problem::NoVersion | Problem::NoRule => 404,
+            Problem::NoPath
+            | Problem::NoTenant
+            | Problem::NoVersion
+            | Problem::NoPool
+            | Problem::NoGroup
+            | Problem::NoRule
+            | Problem::NoDevice => 404,
             Problem::Method => 405,
-            Problem::Exists | Problem::RequestReused => 409,
+            Problem::Exists | Problem::RequestReused | Problem::RuleInUse => 409,
             Problem::TooLarge => 413,
             Problem::MapRefused(_) => 422,
             Problem::TenantLimit => 429,
@@ -127,10 +141,14 @@ impl Problem {
             Problem::NoPath => "no_path",
             Problem::NoTenant => "no_tenant",
             Problem::NoVersion => "no_version",
+            Problem::NoPool => "no_pool",
+            Problem::NoGroup => "no_group",
             Problem::NoRule => "no_rule",
+            Problem::NoDevice => "no_device",
             Problem::Method => "method",
             Problem::Exists => "exists",
             Problem::RequestReused => "request_reused",
+            Problem::RuleInUse => "rule_in_use",
             Problem::TooLarge => "too_large",
             Problem::MapRefused(_) => "map_refused",
             Problem::TenantLimit => "tenant_limit",

@@ -1,10 +1,12 @@
 -- Maps, at `/t/{t}/maps`: POST adds a version of the tenant's map, from a text. At `/t/{t}/maps/{v}` GET reads the version v.
-use Rattle.std.specs.Prelude.{ℕ, suc, List, [], ◌∷◌, length, Bool, nat_le, if◌then◌else◌, Option, Some, None, option_and_then, Result, Ok, Err, codes}
+use Rattle.std.specs.Prelude.{ℕ, suc, List, [], ◌∷◌, length, Bool, nat_le, if◌then◌else◌, Option, Some, None, is_some, option_and_then, Result, Ok, Err, codes}
+use Rattle.std.specs.List.{list_all}
 use Rattle.std.specs.Str.{bytes_eq}
 use Rattle.serde_json.specs.Data.{Data, string, object}
 use Rattle.serde_json.specs.Find.{as_str}
 use Rattle.crush_grammar.specs.declared.code.TextFault.{TextFault}
 use Rattle.crush_map.specs.Map.{Map}
+use Rattle.crush_pool.specs.Placements.{rule_numbered}
 use Rattle.crush_text.specs.Canonical.{canonical}
 use Rattle.crush_text.specs.Reading.{map_of_text}
 use Rattle.tenant_resources.specs.Orders.{Accepted}
@@ -14,7 +16,7 @@ use Rattle.tenant_messages.specs.Numbers.{IsRequestNumber, request_number_of}
 use Rattle.tenant_messages.specs.Reply.{Answer, refused, success, members_of, natural}
 use Rattle.tenant_state.specs.State.{TenantState, NewVersion, epoch, newest, version}
 use Rattle.tenant_messages.specs.declared.reply.Problem.{Problem}
-use Rattle.tenant_messages.specs.declared.reply.Problem.TheVariants.{NoVersion, MapRefused, TenantLimit}
+use Rattle.tenant_messages.specs.declared.reply.Problem.TheVariants.{NoVersion, RuleInUse, MapRefused, TenantLimit}
 use Rattle.tenant_messages.specs.declared.reply.SuccessStatus.TheVariants.{Created}
 
 -- ---- requests
@@ -60,9 +62,12 @@ version_limit = 256
 abbrev pub import_reply : TenantState → Data
 import_reply state = object (members_of ((codes "epoch", natural (suc (epoch state))) ∷ (codes "version", natural (suc (newest state))) ∷ []))
 
+-- each pool's rule has to be in the new map
 abbrev pub on_text : TenantState → Result Map TextFault → Result Accepted Problem
 on_text state (Err fault) = Err (MapRefused fault)
-on_text state (Ok m) = Ok (record { made = NewVersion m; status = Created; body = import_reply state })
+on_text state (Ok m) =
+    if list_all (λ p. is_some (rule_numbered m p.rule)) state.pools then Ok (record { made = NewVersion m; status = Created; body = import_reply state })
+    else Err RuleInUse
 
 abbrev pub imported : List ℕ → TenantState → Result Accepted Problem
 imported text state = if nat_le version_limit (length state.versions) then Err TenantLimit else on_text state (map_of_text text)

@@ -1,9 +1,7 @@
 -- Tests of rules, at `/t/{t}/test`: POST asks which items a rule of a version of the tenant's map gives for an input.
-use Rattle.std.specs.Prelude.{◌≡◌, ℕ, ◌≤◌, ◌+◌, ◌==◌, List, [], ◌∷◌, ◌++◌, map, find, Bool, nat_le, if◌then◌else◌, Option, Some, None, option_and_then, unwrap_or, codes}
+use Rattle.std.specs.Prelude.{◌≡◌, ℕ, ◌≤◌, ◌+◌, List, [], ◌∷◌, ◌++◌, map, Bool, nat_le, if◌then◌else◌, Option, Some, None, option_and_then, unwrap_or, codes}
 use Rattle.std.specs.Str.{bytes_eq}
-use Rattle.serde_json.specs.Data.{Data, null, number, array, object}
-use Rattle.serde_json.specs.Find.{of_integer}
-use Rattle.serde_json.specs.View.{items_of}
+use Rattle.serde_json.specs.Data.{Data, object}
 use Rattle.crush_bucket.specs.Tables.{tables_of}
 use Rattle.crush_choose.specs.Marks.{Slot}
 use Rattle.crush_choose.specs.Rules.{rule_answer}
@@ -11,9 +9,12 @@ use Rattle.crush_choose.specs.Trace.{rule_trace}
 use Rattle.crush_choose.specs.Weights.{weights_of}
 use Rattle.crush_map.specs.Map.{Map}
 use Rattle.crush_map.specs.declared.draft.Rule.{Rule}
+use Rattle.crush_pool.specs.Placements.{rule_numbered}
+use Rattle.crush_pool.specs.States.{reweights}
 use Rattle.tenant_messages.specs.Forms.{IsNatural, IsOptional, if_any, HasExactly, IsUnder}
 use Rattle.tenant_messages.specs.Json.{value_of, natural_of, both, has_keys, under, optional, present}
 use Rattle.tenant_messages.specs.Reply.{Answer, refused, success, members_of, natural}
+use Rattle.tenant_resources.specs.Slots.{slot_json, list_json}
 use Rattle.tenant_state.specs.State.{TenantState, epoch, newest, version}
 use Rattle.tenant_messages.specs.declared.reply.Problem.TheVariants.{NoVersion, NoRule}
 
@@ -64,37 +65,25 @@ test_request_of body = option_and_then test_of (value_of body)
 
 -- ---- the answer
 
--- an item, or none
-abbrev pub slot_json : Slot → Data
-slot_json None = null
-slot_json (Some item) = number (of_integer item.0)
-
-abbrev pub list_json : List Data → Data
-list_json values = array (items_of values)
-
 -- {"epoch": E, "items": [..], "trace": [..], "version": V}
 abbrev pub outcome : ℕ → ℕ → List Slot → List ℕ → Data
 outcome e v items trace =
     object (members_of ((codes "epoch", natural e) ∷ (codes "items", list_json (map slot_json items))
     ∷ (codes "trace", list_json (map natural trace)) ∷ (codes "version", natural v) ∷ []))
 
--- what the steps give for an input; every device has the reweight 65536
-abbrev pub tested : ℕ → ℕ → Map → Rule → ℕ → ℕ → Data
-tested e v m rule x size =
-    outcome e v (rule_answer (tables_of m) (weights_of []) rule.steps x size) (rule_trace (tables_of m) (weights_of []) rule.steps x size)
+-- what the steps give for an input, with these reweights of devices
+abbrev pub tested : ℕ → ℕ → Map → List ℕ → Rule → ℕ → ℕ → Data
+tested e v m weights rule x size =
+    outcome e v (rule_answer (tables_of m) weights rule.steps x size) (rule_trace (tables_of m) weights rule.steps x size)
 
--- the rule of a map with this id
-abbrev pub rule_with_id : ℕ → Map → Option Rule
-rule_with_id id m = find (λ r. r.id == id) m.rules
+abbrev pub on_rule : RuleTest → TenantState → ℕ → Map → Option Rule → Answer
+on_rule t state v m None = refused NoRule
+on_rule t state v m (Some rule) = success (tested (epoch state) v m (weights_of (reweights state.devices)) rule t.x t.size)
 
-abbrev pub on_rule : RuleTest → ℕ → ℕ → Map → Option Rule → Answer
-on_rule t e v m None = refused NoRule
-on_rule t e v m (Some rule) = success (tested e v m rule t.x t.size)
+abbrev pub on_version : RuleTest → TenantState → ℕ → Option Map → Answer
+on_version t state v None = refused NoVersion
+on_version t state v (Some m) = on_rule t state v m (rule_numbered m t.rule)
 
-abbrev pub on_version : RuleTest → ℕ → ℕ → Option Map → Answer
-on_version t e v None = refused NoVersion
-on_version t e v (Some m) = on_rule t e v m (rule_with_id t.rule m)
-
--- the version that the body names, or else the newest
+-- the version that the body names, or else the newest, with the states of devices as they are now
 abbrev pub answer : RuleTest → TenantState → Answer
-answer t state = let v = unwrap_or t.version (newest state) in on_version t (epoch state) v (version v state)
+answer t state = let v = unwrap_or t.version (newest state) in on_version t state v (version v state)

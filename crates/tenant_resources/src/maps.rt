@@ -1,6 +1,8 @@
 //! Maps, at `/t/{t}/maps`: POST adds a version of the tenant's map, from a text. At `/t/{t}/maps/{v}` GET reads the version v.
 
-ghost use Rattle.std.specs.Prelude.{◌≡◌, ◌<◌, ◌^◌, false, IfOk, length};
+ghost use Rattle.std.specs.Prelude.{◌≡◌, ◌<◌, ◌^◌, false, is_some, IfOk, length};
+ghost use Rattle.std.specs.List.{list_all};
+ghost use Rattle.crush_pool.specs.Placements.{rule_numbered};
 ghost use Rattle.serde_json.specs.View.{view};
 ghost use Rattle.serde_json.specs.Written.{has_float};
 ghost use Rattle.tenant_resources.specs.Maps as spec;
@@ -10,7 +12,9 @@ ghost use Rattle.tenant_messages.specs.Refusals.{Gives};
 ghost use Rattle.tenant_messages.specs.Reply.{reply};
 
 use crate::accepted::Accepted;
+use crate::rules::rule_with_id;
 use crush_map::{CrushMap, Text};
+use crush_pool::Pool;
 use crush_text::{read_map, texts_are_read_as_they_say};
 use serde_json::{Value, json};
 use std::alloc::{AllocError, Global};
@@ -81,6 +85,15 @@ fn shared_version(alloc: Global, map: CrushMap) -> Result<Rc<Version>, AllocErro
     Ok(Rc::new(alloc, version)?)
 }
 
+/// Whether the rule of each pool is in a map.
+fn has_rules_of(map: &CrushMap, pools: &[Rc<Pool>]) -> bool
+    ensures { result ≡ list_all (λ p. is_some (rule_numbered map.now p.value.rule)) pools.now }
+{
+    pools
+        .iter()
+        .all(|pool| rule_with_id(map, pool.parts().rule).is_some())
+}
+
 /// The version of a text, or why there is none.
 pub fn import(alloc: Global, text: &str, state: &TenantState) -> Result<Accepted, Refusal>
     requires { length state.now.receipts < 2 ^ 32 }
@@ -94,6 +107,9 @@ pub fn import(alloc: Global, text: &str, state: &TenantState) -> Result<Accepted
     match read_map(alloc, text.as_bytes())? {
         Err(fault) => Err(Refusal::Problem(Problem::MapRefused(fault))),
         Ok(map) => {
+            if !has_rules_of(&map, state.pools().as_slice()) {
+                return Err(Refusal::Problem(Problem::RuleInUse));
+            }
             let version = shared_version(alloc, map)?;
             Ok(Accepted {
                 made: Made::Version(version),

@@ -1,19 +1,20 @@
 //! Tests of rules, at `/t/{t}/test`: POST asks which items a rule of a version of the tenant's map gives for an input.
 
-ghost use Rattle.std.specs.Prelude.{◌≡◌, ◌≤◌, [], IfOk, IfSome, map, option_map};
+ghost use Rattle.std.specs.Prelude.{◌≡◌, ◌≤◌, IfOk};
 ghost use Rattle.crush_bucket.specs.Tables.{tables_of};
 ghost use Rattle.crush_choose.specs.Rules.{CanRun, rule_answer};
 ghost use Rattle.crush_choose.specs.Trace.{rule_trace};
-ghost use Rattle.crush_choose.specs.Weights.{weights_of};
-ghost use Rattle.serde_json.specs.View.{view, items_view, items_of};
+ghost use Rattle.serde_json.specs.View.{view};
 ghost use Rattle.tenant_messages.specs.Reading.{Reads};
-ghost use Rattle.tenant_messages.specs.Reply.{natural, reply};
+ghost use Rattle.tenant_messages.specs.Reply.{reply};
 ghost use Rattle.tenant_resources.specs.RuleTests as spec;
 
+use crate::rules::rule_with_id;
+use crate::slots::{ids_json, slots_json};
 use crush_bucket::Scratch;
-use crush_choose::laws::{rules_of_a_map_can_run, traces_ascend};
-use crush_choose::{Out, Slot, run_rule};
-use crush_map::{CrushMap, Rule};
+use crush_choose::laws::traces_ascend;
+use crush_choose::{Out, Slot, Weights, run_rule};
+use crush_map::Rule;
 use serde_json::{Value, json};
 use std::alloc::{AllocError, Global};
 use std::marker::Model;
@@ -88,35 +89,6 @@ pub fn read_test(alloc: Global, body: &[u8]) -> Result<RuleTest, ReadError>
 
 // ---- the answer
 
-fn slot_json(slot: &Slot) -> Value
-    ensures { view result ≡ spec.slot_json slot.now }
-{
-    match slot {
-        None => Value::Null,
-        Some(item) => Value::from(i64::from(item.0)),
-    }
-}
-
-fn slots_json(alloc: Global, slots: &[Slot]) -> Result<Value, AllocError>
-    ensures { IfOk result (λ v. view v ≡ spec.list_json (map spec.slot_json slots.now)) }
-{
-    let mut values = Vec::with_capacity(alloc, slots.len())?;
-    for slot in slots {
-        values.push(slot_json(slot))?;
-    }
-    Ok(Value::Array(values))
-}
-
-fn ids_json(alloc: Global, ids: &[u32]) -> Result<Value, AllocError>
-    ensures { IfOk result (λ v. view v ≡ spec.list_json (map natural ids.now)) }
-{
-    let mut values = Vec::with_capacity(alloc, ids.len())?;
-    for id in ids {
-        values.push(Value::from(u64::from(*id)))?;
-    }
-    Ok(Value::Array(values))
-}
-
 fn outcome(
     alloc: Global,
     epoch: u64,
@@ -136,11 +108,12 @@ fn tested(
     epoch: u64,
     number: u64,
     version: &Version,
+    weights: &Weights,
     rule: &Rule,
     test: &RuleTest,
 ) -> Result<Value, AllocError>
     requires rule { CanRun (tables_of version.now) rule.now }
-    ensures { IfOk result (λ v. view v ≡ spec.tested epoch number version.now rule.now test.now.x test.now.size) }
+    ensures { IfOk result (λ v. view v ≡ spec.tested epoch number version.now weights.now rule.now test.now.x test.now.size) }
 {
     traces_ascend();
     let tables = version.tables();
@@ -152,37 +125,32 @@ fn tested(
         rule,
         test.x,
         test.size,
-        version.weights(),
+        weights,
         &mut out,
     );
     outcome(alloc, epoch, number, out.items(), out.trace())
 }
 
-/// The rule of a map with this id.
-fn rule_with_id(map: &CrushMap, id: u32) -> Option<&Rule>
-    ensures value { option_map (λ r. r.now) result ≡ spec.rule_with_id id map.now }
-    ensures runs { IfSome result (λ r. CanRun (tables_of map.now) r.now) }
-{
-    rules_of_a_map_can_run();
-    map.rules().iter().find(|rule| rule.id == id)
-}
-
 fn answer_on(
     alloc: Global,
     test: &RuleTest,
-    epoch: u64,
+    state: &TenantState,
     number: u64,
     version: &Version,
 ) -> Result<Reply, AllocError>
-    ensures { IfOk result (λ r. r ≡ reply (spec.on_version test.now epoch number (Some version.now))) }
+    ensures { IfOk result (λ r. r ≡ reply (spec.on_version test.now state.now number (Some version.now))) }
 {
     match rule_with_id(version.map(), test.rule) {
         None => refused(alloc, Problem::NoRule),
-        Some(rule) => success(alloc, &tested(alloc, epoch, number, version, rule, test)?),
+        Some(rule) => {
+            let weights = state.devices().weights();
+            let body = tested(alloc, state.epoch(), number, version, weights, rule, test)?;
+            success(alloc, &body)
+        }
     }
 }
 
-/// The reply to a rule test: what the rule gives on the version that is named, or else on the newest.
+/// The reply to a rule test: what the rule gives on the version that is named, or else on the newest, with the states of devices as they are now.
 pub fn answer(
     alloc: Global,
     test: &RuleTest,
@@ -196,6 +164,6 @@ pub fn answer(
     };
     match state.version(number) {
         None => refused(alloc, Problem::NoVersion),
-        Some(version) => answer_on(alloc, test, state.epoch(), number, version),
+        Some(version) => answer_on(alloc, test, state, number, version),
     }
 }

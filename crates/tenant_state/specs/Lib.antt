@@ -1,3 +1,4 @@
+pub mod Ordered
 pub mod Receipts
 pub mod State
 pub mod Made

@@ -1,17 +1,23 @@
 -- The state of a tenant, and its changes.
-use Rattle.std.specs.Prelude.{ℕ, ◌-◌, ◌==◌, List, [], ◌∷◌, ◌++◌, length, slice_get, if◌then◌else◌, Option, Some, None}
+use Rattle.std.specs.Prelude.{ℕ, ◌-◌, ◌==◌, List, [], ◌∷◌, ◌++◌, length, slice_get, find, fold, if◌then◌else◌, Option, Some, None}
 use Rattle.crush_map.specs.Map.{Map}
+use Rattle.crush_pool.specs.declared.pool.PoolParts.{PoolParts}
+use Rattle.crush_pool.specs.declared.states.DeviceState.{DeviceState}
+use Rattle.tenant_state.specs.Ordered.{with_element, without}
 use Rattle.tenant_state.specs.Receipts.{Receipts, with_receipt}
 use Rattle.tenant_state.specs.declared.receipts.Receipt.{Receipt}
 
--- the versions 1, 2, .. of the tenant's map, and the receipts of its accepted changes
+-- the versions 1, 2, .. of the tenant's map; the states of devices that were stored, and the pools, both in order of their ids; and the receipts of
+-- its accepted changes
 pub record TenantState : Type 0 where
   pub versions : List Map
+  pub devices : List DeviceState
+  pub pools : List PoolParts
   pub receipts : Receipts
 
 -- a tenant that was just created
 abbrev pub fresh : TenantState
-fresh = record { versions = []; receipts = [] }
+fresh = record { versions = []; devices = []; pools = []; receipts = [] }
 
 -- the number of accepted changes, each of which left one receipt
 abbrev pub epoch : TenantState → ℕ
@@ -27,11 +33,28 @@ newest state = length state.versions
 abbrev pub version : ℕ → TenantState → Option Map
 version number state = if number == 0 then None else slice_get state.versions (number - 1)
 
+-- ---- devices and pools
+
+-- the states of devices with one more, in place of that of the same device
+abbrev pub with_state : List DeviceState → DeviceState → List DeviceState
+with_state states new = with_element (λ s. s.device) new states
+
+-- the states of devices with these, one after the other
+abbrev pub with_states : List DeviceState → List DeviceState → List DeviceState
+with_states changed states = fold with_state states changed
+
+-- the pool with an id
+abbrev pub pool : ℕ → TenantState → Option PoolParts
+pool id state = find (λ p. p.id == id) state.pools
+
 -- ---- changes
 
 -- what is made anew
 pub data Made : Type 0 where
   NewVersion : Map → Made  -- one more version, with this map
+  NewStates : List DeviceState → Made  -- these states of devices
+  NewPool : PoolParts → Made  -- one more pool
+  RemovedPool : ℕ → Made  -- the pool with this id is removed
 
 -- an accepted change: what it makes, and the receipt that it leaves under its request number
 pub record Change : Type 0 where
@@ -41,6 +64,9 @@ pub record Change : Type 0 where
 
 abbrev pub with_made : Made → TenantState → TenantState
 with_made (NewVersion m) state = record state { versions = state.versions ++ m ∷ [] }
+with_made (NewStates changed) state = record state { devices = with_states changed state.devices }
+with_made (NewPool p) state = record state { pools = with_element (λ p. p.id) p state.pools }
+with_made (RemovedPool id) state = record state { pools = without (λ p. p.id) id state.pools }
 
 -- the state after an accepted change
 abbrev pub after : Change → TenantState → TenantState

@@ -1,10 +1,14 @@
-//! The state of a tenant: the versions of its map, the receipts of its accepted changes, and these changes.
+//! The state of a tenant: the versions of its map, the states of devices, the pools, the receipts of its accepted changes, and these changes.
 #![tactic(auto)]
 
+mod devices;
+mod pools;
 mod receipts;
 mod state;
 mod version;
 
+pub use devices::Devices;
+pub use pools::Pools;
 pub use receipts::{Receipt, Receipts, is_repeat};
 pub use state::{Change, Made, TenantState};
 pub use version::Version;

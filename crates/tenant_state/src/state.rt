@@ -1,8 +1,11 @@
 //! The state of one tenant, and its changes.
 
+use crate::devices::Devices;
+use crate::pools::Pools;
 use crate::receipts::{Receipt, Receipts};
 use crate::version::Version;
-use crush_map::Text;
+use crush_map::{Listed, Text};
+use crush_pool::{DeviceState, Pool};
 use std::alloc::{AllocError, Global};
 use std::marker::Model;
 use std::rc::Rc;
@@ -14,6 +17,12 @@ use std::rc::Rc;
 pub enum Made {
     /// One more version.
     Version(Rc<Version>),
+    /// These states of devices, whatever was stored of the same devices.
+    States(Listed<DeviceState>),
+    /// One more pool.
+    Pool(Rc<Pool>),
+    /// The pool with this id is removed.
+    NoPool(u32),
 }
 
 /// An accepted change. Its receipt goes under the request number.
@@ -35,10 +44,12 @@ impl Model for Change {
 
 // ---- states
 
-/// The state of a tenant that exists: the versions of its map, and the receipts of its accepted changes.
+/// The state of a tenant that exists: the versions of its map, the states of devices, the pools, and the receipts of its accepted changes.
 #[derive(Drop)]
 pub struct TenantState {
     versions: Vec<Rc<Version>>,
+    devices: Rc<Devices>,
+    pools: Pools,
     receipts: Receipts,
 }
 
@@ -48,21 +59,23 @@ impl Model for TenantState {
 
     ghost Value = { TenantState };
 
-    ghost view = { λ a. record { versions = map (λ v. v.value) a.versions.items; receipts = a.receipts } };
+    ghost view = { λ a. record { versions = map (λ v. v.value) a.versions.items; devices = a.devices.value; pools = a.pools; receipts = a.receipts } };
 }
 
 impl TenantState {
     ghost use Rattle.std.specs.Prelude.{◌≡◌, IfOk, OnOk, OnErr, option_map};
     ghost use Rattle.tenant_state.specs.State as spec;
 
-    /// The state of a tenant that was just created. Allocates nothing.
-    pub fn fresh(alloc: Global) -> TenantState
-        ensures { result ≡ spec.fresh }
+    /// The state of a tenant that was just created.
+    pub fn fresh(alloc: Global) -> Result<TenantState, AllocError>
+        ensures { IfOk result (λ s. s ≡ spec.fresh) }
     {
-        TenantState {
+        Ok(TenantState {
             versions: Vec::new(alloc),
+            devices: Rc::new(alloc, Devices::new(alloc)?)?,
+            pools: Pools::new(alloc),
             receipts: Receipts::new(alloc),
-        }
+        })
     }
 
     /// The number of accepted changes, each of which left one receipt.
@@ -92,6 +105,20 @@ impl TenantState {
         }
     }
 
+    /// The states of devices that were stored.
+    pub fn devices(&self) -> &Devices
+        ensures { result.now ≡ self.now.devices }
+    {
+        self.devices.as_ref()
+    }
+
+    /// The pools.
+    pub fn pools(&self) -> &Pools
+        ensures { result.now ≡ self.now.pools }
+    {
+        &self.pools
+    }
+
     /// The receipts.
     pub fn receipts(&self) -> &Receipts
         ensures { result.now ≡ self.now.receipts }
@@ -115,16 +142,34 @@ impl TenantState {
                     unreachable!();
                 }
             }
+            Made::States(changed) => {
+                let devices = self.devices.with(alloc, changed.as_slice())?;
+                let devices = Rc::new(alloc, devices)?;
+                self.receipts.insert(number, receipt)?;
+                self.devices = devices;
+            }
+            Made::Pool(pool) => {
+                let pools = self.pools.with(pool)?;
+                self.receipts.insert(number, receipt)?;
+                self.pools = pools;
+            }
+            Made::NoPool(id) => {
+                let pools = self.pools.without(*id)?;
+                self.receipts.insert(number, receipt)?;
+                self.pools = pools;
+            }
         }
         Ok(())
     }
 
-    /// The state after a change. The versions and receipts are shared, and not copied.
+    /// The state after a change. What stays is shared, and not copied.
     pub fn after(&self, alloc: Global, change: &Change) -> Result<TenantState, AllocError>
         ensures { IfOk result (λ s. s ≡ spec.after change.now self.now) }
     {
         let mut state = TenantState {
             versions: self.versions.clone()?,
+            devices: self.devices.clone()?,
+            pools: self.pools.copy()?,
             receipts: self.receipts.copy()?,
         };
         state.change(alloc, change)?;

@@ -1,0 +1,112 @@
+-- States of devices, at `/t/{t}/devices`: POST changes reweights, and which devices are up.
+use Rattle.std.specs.Prelude.{◌≡◌, ◌≢◌, ℕ, suc, ◌+◌, ◌≤◌, ◌&&◌, ◌||◌, ◌==◌, List, [], ◌∷◌, ◌++◌, length, map, Bool, true, not, nat_le, if◌then◌else◌, Option, Some, None, is_some, option_and_then, unwrap_or, Result, Ok, Err, codes}
+use Rattle.std.specs.List.{AllPairs, list_any, list_all}
+use Rattle.std.specs.Str.{bytes_eq}
+use Rattle.serde_json.specs.Data.{Data, object}
+use Rattle.serde_json.specs.Find.{as_bool}
+use Rattle.crush_choose.specs.Weights.{reweight_of}
+use Rattle.crush_map.specs.Map.{Map}
+use Rattle.crush_pool.specs.States.{is_up, reweights}
+use Rattle.crush_pool.specs.declared.states.DeviceState.{DeviceState}
+use Rattle.tenant_messages.specs.Forms.{IsNatural, IsBoolean, IsListOf, IsOptional, if_any, HasExactly, IsUnder}
+use Rattle.tenant_messages.specs.Json.{value_of, natural_of, both, list_of, has_keys, under, optional, present}
+use Rattle.tenant_messages.specs.Numbers.{IsRequestNumber, request_number_of}
+use Rattle.tenant_messages.specs.Reply.{members_of, natural}
+use Rattle.tenant_messages.specs.declared.reply.Problem.{Problem}
+use Rattle.tenant_messages.specs.declared.reply.Problem.TheVariants.{NoVersion, NoDevice}
+use Rattle.tenant_messages.specs.declared.reply.SuccessStatus.TheVariants.{Done}
+use Rattle.tenant_resources.specs.Orders.{Accepted}
+use Rattle.tenant_resources.specs.declared.devices.DeviceChange.{DeviceChange}
+use Rattle.tenant_state.specs.State.{TenantState, NewStates, epoch, newest, version}
+
+-- ---- requests
+
+abbrev pub route : List ℕ
+route = codes "/t/{t}/devices"
+
+-- whether the route has this method
+abbrev pub has_method : List ℕ → Bool
+has_method method = bytes_eq method (codes "POST")
+
+-- ---- the form of a body, and the changes that it says
+
+-- {"id": 0..65535}, with "reweight": 0..65536, or "up": true or false, or both; what is missing stays
+pub record IsChange (d : Data) (c : DeviceChange) : Type 0 where
+  pub keys : HasExactly (if_any (codes "reweight") c.reweight ++ if_any (codes "up") c.up ++ codes "id" ∷ []) d
+  pub device : IsUnder (codes "id") (IsNatural 65535) d c.device
+  pub reweight : IsOptional (codes "reweight") (IsNatural 65536) d c.reweight
+  pub up : IsOptional (codes "up") IsBoolean d c.up
+  pub some : (is_some c.reweight || is_some c.up) ≡ true
+
+-- {"devices": [CHANGE, ..], "request": REQUEST}: 1 to 1,024 changes, each of another device
+pub record IsDevicesBody (d : Data) (asked : List ℕ × List DeviceChange) : Type 0 where
+  pub keys : HasExactly (codes "devices" ∷ codes "request" ∷ []) d
+  pub devices : IsUnder (codes "devices") (IsListOf IsChange) d asked.1
+  pub request : IsUnder (codes "request") IsRequestNumber d asked.0
+  pub some : 1 ≤ length asked.1
+  pub few : length asked.1 ≤ 1024
+  pub distinct : AllPairs (λ c e. c.device ≢ e.device) asked.1
+
+-- ---- reading a body: changes are read exactly where the body has that form (law `device_changes_are_of_the_form`)
+
+abbrev pub change_with : ℕ → Option ℕ × Option Bool → DeviceChange
+change_with device asked = record { device = device; reweight = asked.0; up = asked.1 }
+
+abbrev pub if_any_change : DeviceChange → Option DeviceChange
+if_any_change c = if is_some c.reweight || is_some c.up then Some c else None
+
+abbrev pub change_of : Data → Option DeviceChange
+change_of d =
+    if has_keys (present (codes "reweight") d + (present (codes "up") d + 1)) d then
+    option_and_then if_any_change (both change_with (under (codes "id") (natural_of 65535) d)
+    (both (λ reweight up. (reweight, up)) (optional (codes "reweight") (natural_of 65536) d) (optional (codes "up") as_bool d))) else None
+
+abbrev pub is_of_device : ℕ → DeviceChange → Bool
+is_of_device device c = c.device == device
+
+-- no device comes twice
+abbrev pub are_distinct : List DeviceChange → Bool
+are_distinct [] = true
+are_distinct (c ∷ cs) = not (list_any (is_of_device c.device) cs) && are_distinct cs
+
+abbrev pub is_valid : List DeviceChange → Bool
+is_valid cs = nat_le 1 (length cs) && nat_le (length cs) 1024 && are_distinct cs
+
+abbrev pub if_valid : List ℕ × List DeviceChange → Option (List ℕ × List DeviceChange)
+if_valid asked = if is_valid asked.1 then Some asked else None
+
+-- the request number, and the changes
+abbrev pub changes_of : Data → Option (List ℕ × List DeviceChange)
+changes_of d =
+    if has_keys 2 d then
+    option_and_then if_valid (both (λ number changes. (number, changes)) (under (codes "request") request_number_of d) (under (codes "devices") (list_of change_of) d))
+    else None
+
+abbrev pub devices_request_of : List ℕ → Option (List ℕ × List DeviceChange)
+devices_request_of body = option_and_then changes_of (value_of body)
+
+-- ---- changing the states of devices
+
+-- the state of a device after a change: what the change doesn't say is as it was
+abbrev pub changed : List DeviceState → DeviceChange → DeviceState
+changed states c =
+    record { device = c.device; reweight = unwrap_or c.reweight (reweight_of (reweights states) c.device); up = unwrap_or c.up (is_up states c.device) }
+
+-- whether a map has the device with an id
+abbrev pub has_device : Map → ℕ → Bool
+has_device m id = list_any (λ d. d.id == id) m.devices
+
+-- {"devices": how many changes, "epoch": E}
+abbrev pub devices_reply : ℕ → TenantState → Data
+devices_reply count state = object (members_of ((codes "devices", natural count) ∷ (codes "epoch", natural (suc (epoch state))) ∷ []))
+
+-- each device has to be one of the newest version
+abbrev pub on_version : List DeviceChange → TenantState → Option Map → Result Accepted Problem
+on_version cs state None = Err NoVersion
+on_version cs state (Some m) =
+    if list_all (λ c. has_device m c.device) cs then
+    Ok (record { made = NewStates (map (changed state.devices) cs); status = Done; body = devices_reply (length cs) state })
+    else Err NoDevice
+
+abbrev pub devices_changed : List DeviceChange → TenantState → Result Accepted Problem
+devices_changed cs state = on_version cs state (version (newest state) state)

@@ -1,0 +1,100 @@
+-- Groups of pools: at `/t/{t}/pools/{p}/groups/{g}` GET reads where a group lies, and at `/t/{t}/pools/{p}/locate` POST asks where an object lies.
+use Rattle.std.specs.Prelude.{◌≡◌, ℕ, ◌≤◌, List, [], ◌∷◌, length, map, Bool, nat_lt, nat_le, if◌then◌else◌, Option, Some, None, option_and_then, Result, Ok, Err, codes}
+use Rattle.std.specs.Str.{bytes_eq}
+use Rattle.serde_json.specs.Data.{Data, object}
+use Rattle.serde_json.specs.Find.{as_str}
+use Rattle.crush_hash.specs.Hash.{name_hash}
+use Rattle.crush_map.specs.Map.{Map}
+use Rattle.crush_pool.specs.Placements.{placement}
+use Rattle.crush_pool.specs.Pools.{group_of}
+use Rattle.crush_pool.specs.declared.placing.Placement.{Placement}
+use Rattle.crush_pool.specs.declared.pool.PoolParts.{PoolParts}
+use Rattle.tenant_messages.specs.Forms.{IsText, HasExactly, IsUnder}
+use Rattle.tenant_messages.specs.Json.{value_of, has_keys, under}
+use Rattle.tenant_messages.specs.Reply.{Answer, refused, success, members_of, natural}
+use Rattle.tenant_messages.specs.declared.reply.Problem.{Problem}
+use Rattle.tenant_messages.specs.declared.reply.Problem.TheVariants.{NoVersion, NoPool, NoGroup, NoRule}
+use Rattle.tenant_resources.specs.Slots.{slot_json, list_json}
+use Rattle.tenant_state.specs.State.{TenantState, epoch, newest, version, pool}
+
+-- ---- requests
+
+abbrev pub group_route : List ℕ
+group_route = codes "/t/{t}/pools/{p}/groups/{g}"
+
+abbrev pub locate_route : List ℕ
+locate_route = codes "/t/{t}/pools/{p}/locate"
+
+-- whether the routes have a method
+abbrev pub group_has_method : List ℕ → Bool
+group_has_method method = bytes_eq method (codes "GET")
+
+abbrev pub locate_has_method : List ℕ → Bool
+locate_has_method method = bytes_eq method (codes "POST")
+
+-- ---- the form of the body that asks for an object
+
+-- {"name": TEXT}, of at most 1,024 bytes
+pub record IsLocateBody (d : Data) (name : List ℕ) : Type 0 where
+  pub keys : HasExactly (codes "name" ∷ []) d
+  pub name : IsUnder (codes "name") IsText d name
+  pub few : length name ≤ 1024
+
+-- ---- reading it: a name is read exactly where the body has that form (law `object_names_are_of_the_form`)
+
+abbrev pub if_short : List ℕ → Option (List ℕ)
+if_short name = if nat_le (length name) 1024 then Some name else None
+
+abbrev pub name_of : Data → Option (List ℕ)
+name_of d = if has_keys 1 d then option_and_then if_short (under (codes "name") as_str d) else None
+
+abbrev pub locate_request_of : List ℕ → Option (List ℕ)
+locate_request_of body = option_and_then name_of (value_of body)
+
+-- ---- the answer
+
+-- {"epoch": E, "group": g, "primary": .., "raw": [..], "seed": .., "up": [..], "version": V}; for an object with "hash" after "group"
+abbrev pub group_reply : TenantState → ℕ → Placement → Data
+group_reply state group p =
+    object (members_of ((codes "epoch", natural (epoch state)) ∷ (codes "group", natural group) ∷ (codes "primary", slot_json p.primary)
+    ∷ (codes "raw", list_json (map slot_json p.raw)) ∷ (codes "seed", natural p.seed) ∷ (codes "up", list_json (map slot_json p.up))
+    ∷ (codes "version", natural (newest state)) ∷ []))
+
+abbrev pub object_reply : List ℕ → TenantState → ℕ → Placement → Data
+object_reply name state group p =
+    object (members_of ((codes "epoch", natural (epoch state)) ∷ (codes "group", natural group) ∷ (codes "hash", natural (name_hash name))
+    ∷ (codes "primary", slot_json p.primary) ∷ (codes "raw", list_json (map slot_json p.raw)) ∷ (codes "seed", natural p.seed)
+    ∷ (codes "up", list_json (map slot_json p.up)) ∷ (codes "version", natural (newest state)) ∷ []))
+
+-- a group is placed on the newest version, which has the pool's rule (law `pools_have_their_rules`)
+abbrev pub or_no_rule : Option Placement → Result Placement Problem
+or_no_rule None = Err NoRule
+or_no_rule (Some p) = Ok p
+
+abbrev pub on_version : TenantState → PoolParts → ℕ → Option Map → Result Placement Problem
+on_version state p group None = Err NoVersion
+on_version state p group (Some m) = or_no_rule (placement m state.devices p group)
+
+-- the placement of a group, or why there is none
+abbrev pub placed : TenantState → PoolParts → ℕ → Result Placement Problem
+placed state p group = if nat_lt group p.pg_num then on_version state p group (version (newest state) state) else Err NoGroup
+
+abbrev pub answered : (Placement → Data) → Result Placement Problem → Answer
+answered body (Err problem) = refused problem
+answered body (Ok p) = success (body p)
+
+abbrev pub group_on : TenantState → ℕ → Option PoolParts → Answer
+group_on state group None = refused NoPool
+group_on state group (Some p) = answered (group_reply state group) (placed state p group)
+
+-- the group with a number of the pool with an id
+abbrev pub group_answer : ℕ → ℕ → TenantState → Answer
+group_answer id group state = group_on state group (pool id state)
+
+abbrev pub object_on : TenantState → List ℕ → Option PoolParts → Answer
+object_on state name None = refused NoPool
+object_on state name (Some p) = let group = group_of p name in answered (object_reply name state group) (placed state p group)
+
+-- the group of the object with a name, of the pool with an id
+abbrev pub object_answer : ℕ → List ℕ → TenantState → Answer
+object_answer id name state = object_on state name (pool id state)

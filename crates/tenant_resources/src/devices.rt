@@ -1,0 +1,213 @@
+//! States of devices, at `/t/{t}/devices`: POST changes reweights, and which devices are up.
+
+ghost use Rattle.std.specs.Prelude.{◌≡◌, ◌<◌, ◌^◌, false, IfOk, codes, length, map};
+ghost use Rattle.std.specs.List.{list_any, list_all};
+ghost use Rattle.serde_json.specs.View.{view, items_view};
+ghost use Rattle.serde_json.specs.Written.{has_float};
+ghost use Rattle.tenant_messages.specs.Json as json;
+ghost use Rattle.tenant_messages.specs.Reading.{Reads};
+ghost use Rattle.tenant_messages.specs.Refusals.{Gives};
+ghost use Rattle.tenant_resources.specs.Devices as spec;
+ghost use Rattle.tenant_resources.specs.Private.Accepting.{accepted_of};
+
+use crate::accepted::Accepted;
+use crush_map::{Listed, Text};
+use crush_pool::DeviceState;
+use serde_json::{Value, json};
+use std::alloc::{AllocError, Global};
+use tenant_messages::{
+    Problem, ReadError, Refusal, SuccessStatus, has_keys, natural, optional_boolean,
+    optional_natural, read_value, request_number,
+};
+use tenant_state::{Devices, Made, TenantState, Version};
+
+/// The route of states of devices.
+pub const ROUTE: &str = "/t/{t}/devices";
+
+/// Whether the route has this method.
+pub fn has_method(method: &[u8]) -> bool
+    ensures { result ≡ spec.has_method method.now }
+{
+    method == b"POST".as_slice()
+}
+
+/// What is asked of a device. What is missing stays as it is.
+#[derive(Clone, Copy, Debug, PartialEq, Eq)]
+pub struct DeviceChange {
+    /// The id of the device, 0..65535.
+    pub device: u32,
+    /// The new reweight in 16.16 fixed point, 0..65536.
+    pub reweight: Option<u32>,
+    /// Whether it is up.
+    pub up: Option<bool>,
+}
+
+// ---- the body
+
+fn change(value: &Value) -> Option<DeviceChange>
+    ensures { result ≡ spec.change_of (view value.now) }
+{
+    let mut keys = 1;
+    if value.get("up").is_some() {
+        keys += 1;
+    }
+    if value.get("reweight").is_some() {
+        keys += 1;
+    }
+    if !has_keys(value, keys) {
+        return None;
+    }
+    let device = natural(value, "id", 65_535)?;
+    let reweight = optional_natural(value, "reweight", 65_536)?;
+    let up = optional_boolean(value, "up")?;
+    if reweight.is_none() && up.is_none() {
+        return None;
+    }
+    Some(DeviceChange {
+        device,
+        reweight,
+        up,
+    })
+}
+
+fn changes(alloc: Global, values: &[Value]) -> Result<Vec<DeviceChange>, ReadError>
+    ensures { Reads (λ v. v.items) result (json.each_of spec.change_of (items_view values.now)) }
+{
+    let mut found = Vec::new(alloc);
+    for value in values {
+        let next = change(value).ok_or(ReadError::Malformed)?;
+        if found.push(next).is_err() {
+            return Err(ReadError::NoMemory);
+        }
+    }
+    Ok(found)
+}
+
+fn contains(device: u32, changes: &[DeviceChange]) -> bool
+    ensures { result ≡ list_any (spec.is_of_device device) changes.now }
+{
+    changes.iter().any(|change| change.device == device)
+}
+
+fn are_distinct(changes: &[DeviceChange]) -> bool
+    ensures { result ≡ spec.are_distinct changes.now }
+{
+    let mut rest = changes;
+    while let [first, others @ ..] = rest {
+        if contains(first.device, others) {
+            return false;
+        }
+        rest = others;
+    }
+    true
+}
+
+fn is_valid(changes: &[DeviceChange]) -> bool
+    ensures { result ≡ spec.is_valid changes.now }
+{
+    !changes.is_empty() && changes.len() <= 1024 && are_distinct(changes)
+}
+
+fn changes_in(alloc: Global, value: &Value) -> Result<(Text, Listed<DeviceChange>), ReadError>
+    ensures { Reads (λ asked. asked) result (spec.changes_of (view value.now)) }
+{
+    if !has_keys(value, 2) {
+        return Err(ReadError::Malformed);
+    }
+    let number = request_number(value).ok_or(ReadError::Malformed)?;
+    let values = value
+        .get("devices")
+        .and_then(Value::as_array)
+        .ok_or(ReadError::Malformed)?;
+    let found = changes(alloc, values)?;
+    if is_valid(&found) {
+        Ok((Text::copy(alloc, number)?, Listed::new(found)))
+    } else {
+        Err(ReadError::Malformed)
+    }
+}
+
+/// The request number and the changes that a body asks for.
+pub fn read_changes(
+    alloc: Global,
+    body: &[u8],
+) -> Result<(Text, Listed<DeviceChange>), ReadError>
+    ensures { Reads (λ asked. asked) result (spec.devices_request_of body.now) }
+{
+    changes_in(alloc, &read_value(alloc, body)?)
+}
+
+// ---- changing the states
+
+/// The state of a device after a change.
+fn changed(states: &Devices, change: &DeviceChange) -> DeviceState
+    ensures { result ≡ spec.changed states.now change.now }
+{
+    let reweight = match change.reweight {
+        Some(reweight) => reweight,
+        None => states.weights().get(change.device),
+    };
+    let up = match change.up {
+        Some(up) => up,
+        None => states.flags().is_up(change.device),
+    };
+    DeviceState {
+        device: change.device,
+        reweight,
+        up,
+    }
+}
+
+fn all_changed(
+    alloc: Global,
+    states: &Devices,
+    changes: &[DeviceChange],
+) -> Result<Vec<DeviceState>, AllocError>
+    ensures { IfOk result (λ all. all.items ≡ map (spec.changed states.now) changes.now) }
+{
+    let mut all = Vec::with_capacity(alloc, changes.len())?;
+    for change in changes {
+        all.push(changed(states, change))?;
+    }
+    Ok(all)
+}
+
+/// Whether a version has each device.
+fn has_devices(version: &Version, changes: &[DeviceChange]) -> bool
+    ensures { result ≡ list_all (λ c. spec.has_device version.now c.device) changes.now }
+{
+    changes
+        .iter()
+        .all(|change| version.tables().has_device(change.device))
+}
+
+fn devices_reply(alloc: Global, count: usize, state: &TenantState) -> Result<Value, AllocError>
+    requires receipts { length state.now.receipts < 2 ^ 32 }
+    ensures { IfOk result (λ v. view v ≡ spec.devices_reply count state.now) }
+{
+    json!(in alloc; {"devices": count as u64, "epoch": state.epoch() + 1})
+}
+
+/// The new states of devices, or why there are none.
+pub fn change_devices(
+    alloc: Global,
+    changes: &[DeviceChange],
+    state: &TenantState,
+) -> Result<Accepted, Refusal>
+    requires { length state.now.receipts < 2 ^ 32 }
+    ensures given { Gives accepted_of result (spec.devices_changed changes.now state.now) }
+    ensures plain { IfOk result (λ a. has_float (view a.body) ≡ false) }
+{
+    let Some(version) = state.version(state.newest()) else {
+        return Err(Refusal::Problem(Problem::NoVersion));
+    };
+    if !has_devices(version, changes) {
+        return Err(Refusal::Problem(Problem::NoDevice));
+    }
+    let states = all_changed(alloc, state.devices(), changes)?;
+    Ok(Accepted {
+        made: Made::States(Listed::new(states)),
+        status: SuccessStatus::Done,
+        body: devices_reply(alloc, changes.len(), state)?,
+    })
+}

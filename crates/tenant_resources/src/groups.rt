@@ -1,0 +1,224 @@
+//! Groups of pools: at `/t/{t}/pools/{p}/groups/{g}` GET reads where a group lies, and at `/t/{t}/pools/{p}/locate` POST asks where an object lies.
+
+ghost use Rattle.std.specs.Prelude.{◌≡◌, ◌<◌, ◌≤◌, ◌^◌, Some, IfOk, length};
+ghost use Rattle.serde_json.specs.View.{view};
+ghost use Rattle.crush_pool.specs.Placements.{placement};
+ghost use Rattle.tenant_messages.specs.Reading.{Reads};
+ghost use Rattle.tenant_messages.specs.Refusals.{Gives};
+ghost use Rattle.tenant_messages.specs.Reply.{reply};
+ghost use Rattle.tenant_resources.specs.Groups as spec;
+
+use crate::rules::rule_with_id;
+use crate::slots::{slot_json, slots_json};
+use crush_bucket::Scratch;
+use crush_hash::name_hash;
+use crush_map::Text;
+use crush_pool::{Placement, Pool, place};
+use serde_json::{Value, json};
+use std::alloc::{AllocError, Global};
+use std::marker::Model;
+use tenant_messages::{
+    Problem, ReadError, Refusal, Reply, has_keys, read_value, refused, success, text,
+};
+use tenant_state::TenantState;
+
+/// The route of groups.
+pub const GROUP_ROUTE: &str = "/t/{t}/pools/{p}/groups/{g}";
+
+/// The route of objects.
+pub const LOCATE_ROUTE: &str = "/t/{t}/pools/{p}/locate";
+
+/// Whether the route of groups has this method.
+pub fn group_has_method(method: &[u8]) -> bool
+    ensures { result ≡ spec.group_has_method method.now }
+{
+    method == b"GET".as_slice()
+}
+
+/// Whether the route of objects has this method.
+pub fn locate_has_method(method: &[u8]) -> bool
+    ensures { result ≡ spec.locate_has_method method.now }
+{
+    method == b"POST".as_slice()
+}
+
+/// The name of an object: a text of at most 1,024 bytes.
+#[derive(Drop)]
+pub struct ObjectName {
+    name: Text,
+}
+
+impl Model for ObjectName {
+    ghost use Rattle.std.specs.Prelude.{List, ℕ, ◌≤◌, length};
+
+    ghost Value = { List ℕ };
+
+    ghost view = { λ a. a.name };
+
+    ghost invariant = { λ a. length a.name ≤ 1024 };
+}
+
+impl ObjectName {
+    ghost use Rattle.std.specs.Prelude.{◌≡◌, ◌≤◌, length};
+
+    /// The name.
+    pub fn as_str(&self) -> &str
+        ensures same { result.now ≡ self.now }
+        ensures few { length self.now ≤ 1024 }
+    {
+        self.name.as_str()
+    }
+}
+
+// ---- the body that asks for an object
+
+fn name_in(alloc: Global, value: &Value) -> Result<ObjectName, ReadError>
+    ensures { Reads (λ name. name) result (spec.name_of (view value.now)) }
+{
+    if !has_keys(value, 1) {
+        return Err(ReadError::Malformed);
+    }
+    let name = text(value, "name").ok_or(ReadError::Malformed)?;
+    if name.len() > 1024 {
+        return Err(ReadError::Malformed);
+    }
+    let name = Text::copy(alloc, name)?;
+    Ok(ObjectName { name })
+}
+
+/// The name of the object that a body asks for.
+pub fn read_name(alloc: Global, body: &[u8]) -> Result<ObjectName, ReadError>
+    ensures { Reads (λ name. name) result (spec.locate_request_of body.now) }
+{
+    name_in(alloc, &read_value(alloc, body)?)
+}
+
+// ---- placing a group
+
+/// The placement of a group of a pool, or why there is none.
+fn placed(
+    alloc: Global,
+    state: &TenantState,
+    pool: &Pool,
+    group: u32,
+) -> Result<Placement, Refusal>
+    ensures { Gives (λ p. p) result (spec.placed state.now pool.now group) }
+{
+    let parts = pool.parts();
+    if group >= parts.pg_num {
+        return Err(Refusal::Problem(Problem::NoGroup));
+    }
+    let Some(version) = state.version(state.newest()) else {
+        return Err(Refusal::Problem(Problem::NoVersion));
+    };
+    let Some(rule) = rule_with_id(version.map(), parts.rule) else {
+        return Err(Refusal::Problem(Problem::NoRule));
+    };
+    let tables = version.tables();
+    let mut scratch = Scratch::build(alloc, tables)?;
+    let weights = state.devices().weights();
+    let flags = state.devices().flags();
+    match place(alloc, tables, &mut scratch, pool, rule, weights, flags, group)? {
+        Ok(placement) => Ok(placement),
+        Err(_) => Err(Refusal::Problem(Problem::NoGroup)),
+    }
+}
+
+// ---- the answers
+
+fn group_reply(
+    alloc: Global,
+    state: &TenantState,
+    group: u32,
+    placement: &Placement,
+) -> Result<Value, AllocError>
+    ensures { IfOk result (λ v. view v ≡ spec.group_reply state.now group placement.now) }
+{
+    let raw = slots_json(alloc, placement.raw.as_slice())?;
+    let up = slots_json(alloc, placement.up.as_slice())?;
+    json!(in alloc; {
+        "epoch": state.epoch(),
+        "group": group,
+        "primary": slot_json(&placement.primary),
+        "raw": raw,
+        "seed": placement.seed,
+        "up": up,
+        "version": state.newest()
+    })
+}
+
+fn object_reply(
+    alloc: Global,
+    name: &str,
+    state: &TenantState,
+    group: u32,
+    placement: &Placement,
+) -> Result<Value, AllocError>
+    requires { length name.now < 2 ^ 32 }
+    ensures { IfOk result (λ v. view v ≡ spec.object_reply name.now state.now group placement.now) }
+{
+    let raw = slots_json(alloc, placement.raw.as_slice())?;
+    let up = slots_json(alloc, placement.up.as_slice())?;
+    json!(in alloc; {
+        "epoch": state.epoch(),
+        "group": group,
+        "hash": name_hash(name.as_bytes()),
+        "primary": slot_json(&placement.primary),
+        "raw": raw,
+        "seed": placement.seed,
+        "up": up,
+        "version": state.newest()
+    })
+}
+
+/// The reply to a problem or to want of memory.
+fn refusal(alloc: Global, given: Refusal) -> Result<Reply, AllocError> {
+    match given {
+        Refusal::Problem(problem) => refused(alloc, problem),
+        Refusal::NoMemory => Err(AllocError),
+    }
+}
+
+/// The reply with the placement of a group, of the pool with an id.
+pub fn group_answer(
+    alloc: Global,
+    id: u64,
+    group: u64,
+    state: &TenantState,
+) -> Result<Reply, AllocError>
+    ensures { IfOk result (λ r. r ≡ reply (spec.group_answer id group state.now)) }
+{
+    let Some(pool) = state.pools().get(id) else {
+        return refused(alloc, Problem::NoPool);
+    };
+    let Ok(group) = u32::try_from(group) else {
+        return refused(alloc, Problem::NoGroup);
+    };
+    match placed(alloc, state, pool, group) {
+        Err(given) => refusal(alloc, given),
+        Ok(placement) => success(alloc, &group_reply(alloc, state, group, &placement)?),
+    }
+}
+
+/// The reply with the placement of the object with a name, in the pool with an id.
+pub fn object_answer(
+    alloc: Global,
+    id: u64,
+    name: &ObjectName,
+    state: &TenantState,
+) -> Result<Reply, AllocError>
+    ensures { IfOk result (λ r. r ≡ reply (spec.object_answer id name.now state.now)) }
+{
+    let Some(pool) = state.pools().get(id) else {
+        return refused(alloc, Problem::NoPool);
+    };
+    let name = name.as_str();
+    let group = pool.group_of(name.as_bytes());
+    match placed(alloc, state, pool, group) {
+        Err(given) => refusal(alloc, given),
+        Ok(placement) => success(
+            alloc,
+            &object_reply(alloc, name, state, group, &placement)?,
+        ),
+    }
+}

@@ -1,0 +1,125 @@
+//! The pools of a tenant.
+
+ghost use Rattle.std.specs.Prelude.{◌≡◌, ◌==◌, OnOk, map, nat_le, position};
+ghost use Rattle.std.specs.List.{position_or_len};
+ghost use Rattle.tenant_state.specs.Ordered.{with_element};
+
+use crush_pool::Pool;
+use std::alloc::{AllocError, Global};
+use std::marker::Model;
+use std::rc::Rc;
+
+/// Pools, which are shared. Contracts see their parts in the order in which they are kept, that of their ids.
+#[derive(Drop)]
+pub struct Pools {
+    pools: Vec<Rc<Pool>>,
+}
+
+impl Model for Pools {
+    ghost use Rattle.std.specs.Prelude.{List, map};
+    ghost use Rattle.crush_pool.specs.declared.pool.PoolParts.{PoolParts};
+
+    ghost Value = { List PoolParts };
+
+    ghost view = { λ a. map (λ p. p.value) a.pools.items };
+}
+
+impl Pools {
+    ghost use Rattle.std.specs.Prelude.{◌≡◌, ◌==◌, [], IfOk, length, find, map, option_map};
+    ghost use Rattle.tenant_state.specs.Ordered.{with_element, without};
+
+    /// No pool. Allocates nothing.
+    pub fn new(alloc: Global) -> Self
+        ensures { result ≡ [] }
+    {
+        Pools {
+            pools: Vec::new(alloc),
+        }
+    }
+
+    /// How many pools there are.
+    pub fn len(&self) -> usize
+        ensures { result ≡ length self.now }
+    {
+        self.pools.len()
+    }
+
+    /// The pools.
+    pub fn as_slice(&self) -> &[Rc<Pool>]
+        ensures { map (λ p. p.value) result.now ≡ self.now }
+    {
+        self.pools.as_slice()
+    }
+
+    /// The pool with an id.
+    pub fn get(&self, id: u64) -> Option<&Pool>
+        ensures { option_map (λ p. p.now) result ≡ find (λ p. p.id == id) self.now }
+    {
+        match place_with(&self.pools, id) {
+            Some(place) => Some(self.pools[place].as_ref()),
+            None => None,
+        }
+    }
+
+    /// A copy that shares the pools.
+    pub fn copy(&self) -> Result<Self, AllocError>
+        ensures { IfOk result (λ again. again ≡ self.now) }
+    {
+        Ok(Pools {
+            pools: self.pools.clone()?,
+        })
+    }
+
+    /// These pools with one more, in place of one with the same id.
+    pub fn with(&self, pool: &Rc<Pool>) -> Result<Self, AllocError>
+        ensures { IfOk result (λ pools. pools ≡ with_element (λ p. p.id) pool.now.value self.now) }
+    {
+        let mut pools = self.pools.clone()?;
+        insert(&mut pools, pool.clone()?)?;
+        Ok(Pools { pools })
+    }
+
+    /// These pools without the one that has an id.
+    pub fn without(&self, id: u32) -> Result<Self, AllocError>
+        ensures { IfOk result (λ pools. pools ≡ without (λ p. p.id) id self.now) }
+    {
+        let mut pools = self.pools.clone()?;
+        if let Some(place) = place_with(&pools, u64::from(id)) {
+            let _removed = pools.remove(place);
+        }
+        Ok(Pools { pools })
+    }
+}
+
+/// The place of the first pool with an id.
+fn place_with(pools: &[Rc<Pool>], id: u64) -> Option<usize>
+    ensures { result ≡ position (λ p. p.value.id == id) pools.now }
+{
+    pools
+        .iter()
+        .position(|pool| u64::from(pool.parts().id) == id)
+}
+
+/// The place of the first pool whose id isn't below another.
+fn place_of(pools: &[Rc<Pool>], id: u32) -> usize
+    ensures { result ≡ position_or_len (λ p. nat_le id p.value.id) pools.now }
+{
+    pools
+        .iter()
+        .position(|pool| pool.parts().id >= id)
+        .unwrap_or(pools.len())
+}
+
+/// Puts a pool at its place in the order of ids, in place of one with the same id.
+fn insert(pools: &mut Vec<Rc<Pool>>, new: Rc<Pool>) -> Result<(), AllocError>
+    ensures { OnOk result (map (λ p. p.value) pools.new.items ≡ with_element (λ p. p.id) new.value (map (λ p. p.value) pools.old.items)) }
+{
+    let id = new.parts().id;
+    let place = place_of(pools, id);
+    if place < pools.len() && pools[place].parts().id == id {
+        pools[place] = new;
+    } else {
+        pools.insert(place, new)?;
+    }
+    Ok(())
+}
