@@ -1,3 +1,4 @@
 mod Masks
 mod Padding
+mod Ranges
 mod Uplists

@@ -1,5 +1,5 @@
 -- The states of devices: a reweight, and up or down.
-use Rattle.std.specs.Prelude.{ℕ, ℤ, pos, negsuc, ◌==◌, nat_lt, Bool, true, false, List, [], ◌∷◌, map, slice_index_or, if◌then◌else◌}
+use Rattle.std.specs.Prelude.{ℕ, ◌==◌, nat_lt, Bool, true, List, [], ◌∷◌, map, slice_index_or, if◌then◌else◌}
 use Rattle.std.specs.List.{range_with_len}
 use Rattle.crush_choose.specs.Weights.{ids}
 use Rattle.crush_pool.specs.declared.states.DeviceState.{DeviceState}

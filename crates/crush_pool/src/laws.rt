@@ -1,10 +1,13 @@
 //! Laws of the definitions, as contracts of functions that do nothing.
 
-ghost use Rattle.std.specs.Prelude.{◌≡◌, ◌<◌, ◌%◌, ◌^◌, ◌⊎◌, ℕ, List, Bool, None, true, false, length, slice_index_or};
+ghost use Rattle.std.specs.Prelude.{◌≡◌, ◌<◌, ◌≤◌, ◌+◌, ◌%◌, ◌^◌, ◌⊎◌, ℕ, List, Bool, None, true, false, length, filter, find, is_some, unwrap_or, slice_index_or};
 ghost use Rattle.std.specs.List.{All};
+ghost use Rattle.crush_hash.specs.Hash.{hash2};
 ghost use Rattle.crush_choose.specs.Marks.{Slot};
+ghost use Rattle.crush_pool.specs.declared.pool.PoolParts.{PoolParts};
 ghost use Rattle.crush_pool.specs.Groups.{mask_of, stable_mod};
-ghost use Rattle.crush_pool.specs.Placements.{is_up_slot, up_of};
+ghost use Rattle.crush_pool.specs.Placements.{is_up_slot, primary_of, up_of};
+ghost use Rattle.crush_pool.specs.Pools.{is_pool, seed_of};
 
 use crush_bucket::laws::height_is_least;
 
@@ -18,6 +21,23 @@ pub fn numbers_fall_into_groups()
     height_is_least();
 }
 
+/// Where there are more groups, a number stays in its group or moves to one of the new ones.
+pub fn numbers_move_to_new_groups()
+    ensures { (x fewer more : ℕ) → 0 < fewer → fewer ≤ more → (stable_mod x more (mask_of more) ≡ stable_mod x fewer (mask_of fewer)) ⊎ (fewer ≤ stable_mod x more (mask_of more)) }
+{
+    height_is_least();
+}
+
+/// A group has the seed of its place, which is a group below `pgp_num`. That of a group below `pgp_num` is the hash of the group and the pool's id with
+/// `hashpspool`, else their sum, which doesn't wrap.
+pub fn groups_have_the_seeds_of_their_places()
+    ensures place { (p : PoolParts) (group : ℕ) → 0 < p.pgp_num → seed_of p group ≡ seed_of p (stable_mod group p.pgp_num (mask_of p.pgp_num)) }
+    ensures hash { (p : PoolParts) (group : ℕ) → p.hashpspool ≡ true → group < p.pgp_num → seed_of p group ≡ hash2 group p.id }
+    ensures sum { (p : PoolParts) (group : ℕ) → is_pool p ≡ true → p.hashpspool ≡ false → group < p.pgp_num → seed_of p group ≡ group + p.id }
+{
+    numbers_fall_into_groups();
+}
+
 /// The up list of a replicated pool has devices that are up alone. That of an erasure pool is as long as what the rule answered, and at each place the
 /// same, if a device is there that is up, and else none.
 pub fn up_lists_have_what_is_up()
@@ -25,4 +45,11 @@ pub fn up_lists_have_what_is_up()
     ensures length { (flags : List Bool) (raw : List Slot) → length (up_of true flags raw) ≡ length raw }
     ensures same { (flags : List Bool) (raw : List Slot) (place : ℕ) → is_up_slot flags (slice_index_or raw place None) ≡ true → slice_index_or (up_of true flags raw) place None ≡ slice_index_or raw place None }
     ensures none { (flags : List Bool) (raw : List Slot) (place : ℕ) → is_up_slot flags (slice_index_or raw place None) ≡ false → slice_index_or (up_of true flags raw) place None ≡ None }
+{}
+
+/// A replicated pool has the up list of an erasure pool without the places where none is, and the primary of both is the first device that is up of what
+/// the rule answered.
+pub fn both_kinds_of_pools_have_the_same_devices()
+    ensures devices { (flags : List Bool) (raw : List Slot) → up_of false flags raw ≡ filter is_some (up_of true flags raw) }
+    ensures primary { (erasure : Bool) (flags : List Bool) (raw : List Slot) → primary_of (up_of erasure flags raw) ≡ unwrap_or (find (is_up_slot flags) raw) None }
 {}

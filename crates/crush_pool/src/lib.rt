@@ -1,6 +1,6 @@
 //! Pools and placements: from an object's name to its group, and from a group to its devices.
 //!
-//! Source: Ceph's `osd/osd_types.cc`, `osd/OSDMap.cc` and `include/rados.h`.
+//! Source: Ceph's `osd/osd_types.cc`, `osd/OSDMap.cc` and `include/rados.h`. Its tests are in the crate `pool_tests`.
 #![tactic(auto)]
 
 mod group;
@@ -13,6 +13,3 @@ pub use group::{mask_of, stable_mod};
 pub use placing::{Placement, place, place_with};
 pub use pool::{Pool, PoolFault, PoolParts};
 pub use states::{DeviceState, DeviceStates};
-
-#[cfg(test)]
-mod tests;

@@ -3,7 +3,7 @@
 ghost use Rattle.std.specs.Prelude.{◌≡◌, ◌<◌, ◌≤◌, List, Some, IfOk, IfErr, is_ok, nat_lt, length};
 ghost use Rattle.crush_map.specs.Map.{Map};
 ghost use Rattle.crush_bucket.specs.Tables.{perms_of, tables_of};
-ghost use Rattle.crush_choose.specs.Rules.{CanRun, rule_answer};
+ghost use Rattle.crush_choose.specs.Rules.{CanRun, IsTrace};
 ghost use Rattle.crush_choose.specs.Weights.{weights_of};
 ghost use Rattle.crush_pool.specs.States.{flags_of, reweights};
 ghost use Rattle.crush_pool.specs.Placements as spec;
@@ -83,7 +83,7 @@ fn copied(alloc: Global, slots: &[Slot]) -> Result<Vec<Slot>, AllocError>
     Ok(copy)
 }
 
-/// The placement of a group, or `P2` where the pool has no such group; the rule's answer and trace are left in `out`.
+/// The placement of a group, or `P2` where the pool has no such group. `out` has the rule's answer and the trace of its run afterwards, and stays as it was at `P2`.
 ///
 /// Tables and weights are those of the pool's map and of the states' reweights, and the rule is the map's rule that the pool names.
 #[tactic(auto, unfolding(crate::specs::Placements::placed))]
@@ -103,6 +103,9 @@ pub fn place_with(
     ensures there { IfOk result (λ answer. is_ok answer ≡ nat_lt group pool.now.pg_num) }
     ensures placed { IfOk result (λ answer. IfOk answer (λ p. p ≡ spec.placed tables.now weights.now states.now rule.now.steps pool.now group)) }
     ensures fault { IfOk result (λ answer. IfErr answer (λ fault. fault ≡ PoolFault.P2)) }
+    ensures items { IfOk result (λ answer. IfOk answer (λ p. out.new.items ≡ p.raw)) }
+    ensures trace { IfOk result (λ answer. IfOk answer (λ p. IsTrace tables.now weights.now rule.now.steps p.seed pool.now.size out.new.trace)) }
+    ensures kept { IfOk result (λ answer. IfErr answer (λ fault. out.new ≡ out.old)) }
     ensures fits { scratch.new ≡ perms_of tables.now }
 {
     let parts = pool.parts();

@@ -4,6 +4,7 @@ ghost use Rattle.std.specs.Prelude.{◌≡◌, ◌<◌, ◌^◌, true, false, If
 ghost use Rattle.crush_pool.specs.Pools as spec;
 
 use crate::group::{mask_of, stable_mod};
+use crate::laws::numbers_fall_into_groups;
 use crush_hash::{hash2, name_hash};
 use crush_map::{Text, is_name};
 use std::marker::Model;
@@ -105,8 +106,10 @@ impl Pool {
     /// The group of the object with this name, of fewer than 2^32 bytes (`object_locator_to_pg` of Ceph).
     pub fn group_of(&self, name: &[u8]) -> u32
         requires { length name.now < 2 ^ 32 }
-        ensures { result ≡ spec.group_of self.now name.now }
+        ensures value { result ≡ spec.group_of self.now name.now }
+        ensures there { result < self.now.pg_num }
     {
+        numbers_fall_into_groups();
         let groups = self.parts.pg_num;
         stable_mod(name_hash(name), groups, mask_of(groups))
     }

@@ -1,5 +1,5 @@
 -- A table of flags that is shorter than the list that contracts see.
-use Rattle.std.specs.Prelude.{ℕ, ◌-◌, Bool, true, List, ◌++◌, length, replicate}
+use Rattle.std.specs.Prelude.{◌-◌, Bool, true, List, ◌++◌, length, replicate}
 use Rattle.crush_choose.specs.Weights.{ids}
 
 -- the flags of all ids, those past the table's end true

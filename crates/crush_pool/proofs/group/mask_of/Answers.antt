@@ -1,5 +1,5 @@
-use Rattle.std.proofs.Common.{◌≡◌, ℕ, ◌-◌, ◌^◌, ap, arith, ◌∙◌}
-use Rattle.crush_pool.proofs.Masks.{low_power, height_is}
+use Rattle.std.proofs.Common.{ℕ, ◌-◌, ◌^◌, ap, arith, ◌∙◌}
+use Rattle.crush_pool.proofs.Masks.{height_is}
 use Rattle.crush_pool.proofs.group.mask_of.Goals as goal
 
 pub returns : goal.returns

@@ -1,4 +1,4 @@
-use Rattle.std.proofs.Common.{◌≡◌, ℕ, Bool, List, ap, ◌∙◌}
+use Rattle.std.proofs.Common.{◌≡◌, Bool, List, ap, ◌∙◌}
 use Rattle.crush_pool.specs.States.{flags_of, up_at}
 use Rattle.crush_pool.specs.Private.Flags.{padded}
 use Rattle.crush_pool.proofs.Padding.{flag_of, padded_is}

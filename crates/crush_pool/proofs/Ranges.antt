@@ -1,0 +1,8 @@
+-- The ranges of a pool's numbers.
+use Rattle.std.proofs.Common.{◌≡◌, ◌≤◌, true, arith}
+use Rattle.std.proofs.lemmas.Bool.Decides.{nat_tests}
+use Rattle.crush_pool.specs.Pools.{is_pool}
+use Rattle.crush_pool.specs.declared.pool.PoolParts.{PoolParts}
+
+pub pool_ranges : (p : PoolParts) → is_pool p ≡ true → (p.id ≤ 2147483647) × (p.pgp_num ≤ 65536)
+pool_ranges p valid = grind (arith, nat_tests, valid)
