@@ -12,8 +12,9 @@ use crate::tenants::{self, TenantOperation};
 use crush_map::{Text, is_name};
 use std::alloc::{AllocError, Global};
 use tenant_messages::{CallParts, Problem, ReadError, Refusal};
-use tenant_resources::{ObjectName, PickRequest, RuleTest};
-use tenant_resources::{devices, groups, maps, picks, pools, rule_tests};
+use tenant_resources::{
+    ObjectName, PickRequest, RuleTest, devices, groups, maps, picks, pools, rule_tests,
+};
 
 /// The operations: what the methods mean on the routes.
 #[derive(Clone, Copy, Debug, PartialEq, Eq)]

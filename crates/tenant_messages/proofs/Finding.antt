@@ -4,10 +4,10 @@ use Rattle.std.proofs.lemmas.Bool.Decides.{nat_tests}
 use Rattle.std.proofs.lemmas.Int.{ints}
 use Rattle.std.specs.List.{AllZip}
 use Rattle.serde_json.specs.Data.{Num, unsigned, negative, float, Data, null, boolean, number, string, array, object, Items, no_items, item}
-use Rattle.serde_json.specs.Find.{get, as_i64, as_integer, as_str}
+use Rattle.serde_json.specs.Find.{get, as_bool, as_i64, as_integer, as_str}
 use Rattle.serde_json.specs.View.{items_of}
 use Rattle.tenant_messages.proofs.Objects.{AllFound, are_different, has_exactly, has_keys-exactly}
-use Rattle.tenant_messages.specs.Forms.{IsNatural, IsInteger, IsText, IsListOf, HasExactly, IsUnder, IsJson}
+use Rattle.tenant_messages.specs.Forms.{IsNatural, IsInteger, IsBoolean, IsText, IsListOf, HasExactly, IsUnder, IsJson}
 use Rattle.tenant_messages.specs.Json.{value_of, natural_of, integer_of, both, all_three, each_of, list_of, has_keys, under}
 
 pub record Finds {A : Type 0} (f : Data → Option A) (Says : Data → A → Type 0) : Type 0 where
@@ -92,6 +92,17 @@ text-says (object ms) t h = cc
 
 pub finds_text : Finds as_str IsText
 finds_text = record { says = text-says; found = λ d t is. rw is refl }
+
+boolean-says : (d : Data) (b : Bool) → as_bool d ≡ Some b → IsBoolean d b
+boolean-says (boolean c) b h = let same : c ≡ b = cc in ap boolean same
+boolean-says null b h = cc
+boolean-says (number n) b h = cc
+boolean-says (string s) b h = cc
+boolean-says (array ds) b h = cc
+boolean-says (object ms) b h = cc
+
+pub finds_boolean : Finds as_bool IsBoolean
+finds_boolean = record { says = boolean-says; found = λ d b is. rw is refl }
 
 -- ---- under a key
 

@@ -73,16 +73,19 @@ pair a b = (a, b)
 
 -- the parts in the order in which they are read: request and id, name and kind, size and rule, pg_num and pgp_num, hashpspool
 abbrev pub pool_with : (List ℕ × ℕ) × (List ℕ × Bool) → ((ℕ × ℕ) × (ℕ × ℕ)) × Bool → List ℕ × PoolParts
-pool_with named sized = (named.0.0, record {
-  id = named.0.1;
-  name = named.1.0;
-  erasure = named.1.1;
-  size = sized.0.0.0;
-  rule = sized.0.0.1;
-  pg_num = sized.0.1.0;
-  pgp_num = sized.0.1.1;
-  hashpspool = sized.1;
-})
+pool_with named sized = (
+  named.0.0,
+  record {
+    id = named.0.1;
+    name = named.1.0;
+    erasure = named.1.1;
+    size = sized.0.0.0;
+    rule = sized.0.0.1;
+    pg_num = sized.0.1.0;
+    pgp_num = sized.0.1.1;
+    hashpspool = sized.1;
+  },
+)
 
 abbrev pub number_under : List ℕ → Data → Option ℕ
 number_under key d = under key (natural_of 4294967295) d

@@ -128,10 +128,7 @@ fn changes_in(alloc: Global, value: &Value) -> Result<(Text, Listed<DeviceChange
 }
 
 /// The request number and the changes that a body asks for.
-pub fn read_changes(
-    alloc: Global,
-    body: &[u8],
-) -> Result<(Text, Listed<DeviceChange>), ReadError>
+pub fn read_changes(alloc: Global, body: &[u8]) -> Result<(Text, Listed<DeviceChange>), ReadError>
     ensures { Reads (λ asked. asked) result (spec.devices_request_of body.now) }
 {
     changes_in(alloc, &read_value(alloc, body)?)

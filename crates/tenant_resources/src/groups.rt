@@ -96,12 +96,7 @@ pub fn read_name(alloc: Global, body: &[u8]) -> Result<ObjectName, ReadError>
 // ---- placing a group
 
 /// The placement of a group of a pool, or why there is none.
-fn placed(
-    alloc: Global,
-    state: &TenantState,
-    pool: &Pool,
-    group: u32,
-) -> Result<Placement, Refusal>
+fn placed(alloc: Global, state: &TenantState, pool: &Pool, group: u32) -> Result<Placement, Refusal>
     ensures { Gives (λ p. p) result (spec.placed state.now pool.now group) }
 {
     let parts = pool.parts();
@@ -118,7 +113,16 @@ fn placed(
     let mut scratch = Scratch::build(alloc, tables)?;
     let weights = state.devices().weights();
     let flags = state.devices().flags();
-    match place(alloc, tables, &mut scratch, pool, rule, weights, flags, group)? {
+    match place(
+        alloc,
+        tables,
+        &mut scratch,
+        pool,
+        rule,
+        weights,
+        flags,
+        group,
+    )? {
         Ok(placement) => Ok(placement),
         Err(_) => Err(Refusal::Problem(Problem::NoGroup)),
     }
@@ -171,14 +175,6 @@ fn object_reply(
     })
 }
 
-/// The reply to a problem or to want of memory.
-fn refusal(alloc: Global, given: Refusal) -> Result<Reply, AllocError> {
-    match given {
-        Refusal::Problem(problem) => refused(alloc, problem),
-        Refusal::NoMemory => Err(AllocError),
-    }
-}
-
 /// The reply with the placement of a group, of the pool with an id.
 pub fn group_answer(
     alloc: Global,
@@ -195,7 +191,8 @@ pub fn group_answer(
         return refused(alloc, Problem::NoGroup);
     };
     match placed(alloc, state, pool, group) {
-        Err(given) => refusal(alloc, given),
+        Err(Refusal::Problem(problem)) => refused(alloc, problem),
+        Err(Refusal::NoMemory) => Err(AllocError),
         Ok(placement) => success(alloc, &group_reply(alloc, state, group, &placement)?),
     }
 }
@@ -215,10 +212,8 @@ pub fn object_answer(
     let name = name.as_str();
     let group = pool.group_of(name.as_bytes());
     match placed(alloc, state, pool, group) {
-        Err(given) => refusal(alloc, given),
-        Ok(placement) => success(
-            alloc,
-            &object_reply(alloc, name, state, group, &placement)?,
-        ),
+        Err(Refusal::Problem(problem)) => refused(alloc, problem),
+        Err(Refusal::NoMemory) => Err(AllocError),
+        Ok(placement) => success(alloc, &object_reply(alloc, name, state, group, &placement)?),
     }
 }

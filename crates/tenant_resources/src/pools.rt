@@ -78,8 +78,7 @@ fn parts(alloc: Global, value: &Value) -> Result<(Text, PoolParts), ReadError>
     let id = number_under(value, "id").ok_or(ReadError::Malformed)?;
     let name = text(value, "name").ok_or(ReadError::Malformed)?;
     let erasure = is_erasure(value).ok_or(ReadError::Malformed)?;
-    let (((size, rule), (pg_num, pgp_num)), hashpspool) =
-        sizes(value).ok_or(ReadError::Malformed)?;
+    let (((size, rule), (pg_num, pgp_num)), hashpspool) = sizes(value).ok_or(ReadError::Malformed)?;
     let name = Text::copy(alloc, name)?;
     let parts = PoolParts {
         id,

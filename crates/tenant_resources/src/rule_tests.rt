@@ -151,11 +151,7 @@ fn answer_on(
 }
 
 /// The reply to a rule test: what the rule gives on the version that is named, or else on the newest, with the states of devices as they are now.
-pub fn answer(
-    alloc: Global,
-    test: &RuleTest,
-    state: &TenantState,
-) -> Result<Reply, AllocError>
+pub fn answer(alloc: Global, test: &RuleTest, state: &TenantState) -> Result<Reply, AllocError>
     ensures { IfOk result (λ r. r ≡ reply (spec.answer test.now state.now)) }
 {
     let number = match test.version {
