@@ -1,6 +1,7 @@
 -- What the decision on a request does to the state of its tenant.
 use Rattle.std.specs.Prelude.{◌≡◌, Option, Some, None, option_map, IsSome}
 use Rattle.tenant_messages.specs.Reply.{Answer, refused}
+use Rattle.tenant_state.specs.State as state
 use Rattle.tenant_state.specs.State.{TenantState, fresh, after}
 use Rattle.tenant_messages.specs.declared.reply.Problem.TheVariants.{NoTenant}
 use Rattle.tenant_core.specs.declared.decision.Effect.{Effect}
@@ -12,6 +13,11 @@ after_effect Keep state = state
 after_effect Create state = Some fresh
 after_effect (Change change) state = option_map (after change) state
 after_effect Remove state = None
+
+-- the effect of a changing request: its change, if it is accepted
+abbrev pub effect_of : Option state.Change → Effect
+effect_of None = Keep
+effect_of (Some change) = Change change
 
 -- only an absent tenant is created, and only one that exists is changed or removed
 abbrev pub Fits : Effect → Option TenantState → Type 0

@@ -4,18 +4,17 @@ ghost use Rattle.std.specs.Prelude.{◌≡◌, ◌<◌, ◌^◌, Ok, Err, None, 
 ghost use Rattle.serde_json.specs.View.{view};
 ghost use Rattle.serde_json.specs.Written.{has_float};
 ghost use Rattle.tenant_core.specs.Commands as spec;
-ghost use Rattle.tenant_core.specs.Effects.{Fits};
+ghost use Rattle.tenant_core.specs.Effects.{effect_of};
 ghost use Rattle.tenant_resources.specs.Private.Accepting.{accepted_of};
 ghost use Rattle.tenant_messages.specs.Refusals.{Gives};
 ghost use Rattle.tenant_messages.specs.Reply.{reply};
 ghost use Rattle.tenant_state.specs.State.{TenantState};
 
-use crate::decision::{Decision, Effect, kept};
 use crush_map::{Listed, Text};
 use crush_pool::Pool;
 use std::alloc::{AllocError, Global};
 use std::rc::Rc;
-use tenant_messages::{Bytes, Problem, Refusal, answered, refused, repeated};
+use tenant_messages::{Bytes, Problem, Refusal, Reply, answered, refused, repeated};
 use tenant_resources::{Accepted, DeviceChange, devices, maps, pools};
 use tenant_state::{Change, Receipt, TenantState, is_repeat};
 
@@ -65,12 +64,15 @@ pub(crate) fn copied(alloc: Global, bytes: &[u8]) -> Result<Bytes, AllocError>
     Ok(Bytes::new(again))
 }
 
-/// The change that an accepted order makes, with its receipt.
-fn carry_out(alloc: Global, command: &Command, accepted: Accepted) -> Result<Decision, AllocError>
+/// The change that an accepted order makes, with its receipt, and the reply.
+fn with_receipt(
+    alloc: Global,
+    command: &Command,
+    accepted: Accepted,
+) -> Result<(Option<Change>, Reply), AllocError>
     requires { has_float (view accepted.body) ≡ false }
-    ensures effect { IfOk result (λ d. d.effect ≡ (spec.carried_out command.now (Ok (accepted_of accepted))).effect) }
-    ensures reply { IfOk result (λ d. d.reply ≡ reply (spec.carried_out command.now (Ok (accepted_of accepted))).answer) }
-    ensures fits { IfOk result (λ d. (s : TenantState) → Fits d.effect (Some s)) }
+    ensures effect { IfOk result (λ p. effect_of p.0 ≡ (spec.carried_out command.now (Ok (accepted_of accepted))).effect) }
+    ensures reply { IfOk result (λ p. p.1 ≡ reply (spec.carried_out command.now (Ok (accepted_of accepted))).answer) }
 {
     let reply = answered(alloc, accepted.status, &accepted.body)?;
     let receipt = Receipt {
@@ -84,55 +86,55 @@ fn carry_out(alloc: Global, command: &Command, accepted: Accepted) -> Result<Dec
         receipt: Rc::new(alloc, receipt)?,
         made: accepted.made,
     };
-    Ok(Decision {
-        effect: Effect::Change(change),
-        reply,
-    })
+    Ok((Some(change), reply))
 }
 
 /// The greatest number of receipts of a tenant.
 const RECEIPT_LIMIT: usize = 100_000;
 
-/// Decides on a request number without a receipt.
-fn decide_new(alloc: Global, state: &TenantState, command: &Command) -> Result<Decision, AllocError>
-    ensures effect { IfOk result (λ d. d.effect ≡ (spec.on_receipt command.now state.now None).effect) }
-    ensures reply { IfOk result (λ d. d.reply ≡ reply (spec.on_receipt command.now state.now None).answer) }
-    ensures fits { IfOk result (λ d. Fits d.effect (Some state.now)) }
+/// What a request number without a receipt does.
+fn apply_new(
+    alloc: Global,
+    state: &TenantState,
+    command: &Command,
+) -> Result<(Option<Change>, Reply), AllocError>
+    ensures effect { IfOk result (λ p. effect_of p.0 ≡ (spec.on_receipt command.now state.now None).effect) }
+    ensures reply { IfOk result (λ p. p.1 ≡ reply (spec.on_receipt command.now state.now None).answer) }
 {
     if state.receipts().len() >= RECEIPT_LIMIT {
-        return Ok(kept(refused(alloc, Problem::TenantLimit)?));
+        return Ok((None, refused(alloc, Problem::TenantLimit)?));
     }
     match accept(alloc, &command.order, state) {
-        Ok(accepted) => carry_out(alloc, command, accepted),
-        Err(Refusal::Problem(problem)) => Ok(kept(refused(alloc, problem)?)),
+        Ok(accepted) => with_receipt(alloc, command, accepted),
+        Err(Refusal::Problem(problem)) => Ok((None, refused(alloc, problem)?)),
         Err(Refusal::NoMemory) => Err(AllocError),
     }
 }
 
-/// Decides on a request number with a receipt: its reply again, or a refusal where another request left it.
-fn decide_again(alloc: Global, command: &Command, receipt: &Receipt) -> Result<Decision, AllocError>
-    ensures effect { IfOk result (λ d. d.effect ≡ Effect.Keep) }
-    ensures reply { IfOk result (λ d. d.reply ≡ reply (spec.again command.now receipt.now)) }
+/// The reply to a request number with a receipt: that of the receipt again, or a refusal where another request left it.
+fn reply_again(alloc: Global, command: &Command, receipt: &Receipt) -> Result<Reply, AllocError>
+    ensures { IfOk result (λ r. r ≡ reply (spec.again command.now receipt.now)) }
 {
     if is_repeat(command.path.as_str(), command.body.as_slice(), receipt) {
-        Ok(kept(repeated(alloc, receipt.status, receipt.reply.as_str())?))
+        repeated(alloc, receipt.status, receipt.reply.as_str())
     } else {
-        Ok(kept(refused(alloc, Problem::RequestReused)?))
+        refused(alloc, Problem::RequestReused)
     }
 }
 
-/// Decides what a changing request does: the reply of its receipt again, or a refusal, or a change.
-pub(crate) fn decide(
+/// What a changing request does to a tenant: its change, if it is accepted, and its reply, which is that of its receipt where it is a repeat.
+///
+/// The change isn't made yet (`TenantState::change`, `TenantState::after`).
+pub fn apply(
     alloc: Global,
     state: &TenantState,
     command: &Command,
-) -> Result<Decision, AllocError>
-    ensures effect { IfOk result (λ d. d.effect ≡ (spec.decision command.now state.now).effect) }
-    ensures reply { IfOk result (λ d. d.reply ≡ reply (spec.decision command.now state.now).answer) }
-    ensures fits { IfOk result (λ d. Fits d.effect (Some state.now)) }
+) -> Result<(Option<Change>, Reply), AllocError>
+    ensures effect { IfOk result (λ p. effect_of p.0 ≡ (spec.decision command.now state.now).effect) }
+    ensures reply { IfOk result (λ p. p.1 ≡ reply (spec.decision command.now state.now).answer) }
 {
     match state.receipts().get(command.number.as_str()) {
-        Some(receipt) => decide_again(alloc, command, receipt),
-        None => decide_new(alloc, state, command),
+        Some(receipt) => Ok((None, reply_again(alloc, command, receipt)?)),
+        None => apply_new(alloc, state, command),
     }
 }

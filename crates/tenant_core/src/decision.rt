@@ -1,7 +1,8 @@
 //! The decision what an action does to a tenant.
 
-ghost use Rattle.std.specs.Prelude.{◌≡◌, IfOk, option_map};
-ghost use Rattle.tenant_core.specs.Effects.{Fits};
+ghost use Rattle.std.specs.Prelude.{◌≡◌, Some, IfOk, option_map};
+ghost use Rattle.tenant_core.specs.Effects.{Fits, effect_of};
+ghost use Rattle.tenant_state.specs.State.{TenantState};
 ghost use Rattle.tenant_messages.specs.Reply.{reply};
 ghost use Rattle.tenant_core.specs.Step.{decision_on};
 
@@ -43,6 +44,22 @@ pub(crate) fn kept(written: Reply) -> Decision
     }
 }
 
+/// The decision on a changing request.
+fn changed(change: Option<Change>, written: Reply) -> Decision
+    ensures effect { result.effect ≡ effect_of change }
+    ensures reply { result.reply ≡ written }
+    ensures fits { (s : TenantState) → Fits result.effect (Some s) }
+{
+    let effect = match change {
+        Some(change) => Effect::Change(change),
+        None => Effect::Keep,
+    };
+    Decision {
+        effect,
+        reply: written,
+    }
+}
+
 /// Decides what an action does to a tenant that exists.
 fn decide_present(
     alloc: Global,
@@ -56,7 +73,10 @@ fn decide_present(
 {
     match action {
         Action::Tenant(operation) => tenants::decide(alloc, tenant, Some(state), *operation),
-        Action::Command(command) => commands::decide(alloc, state, command),
+        Action::Command(command) => {
+            let (change, reply) = commands::apply(alloc, state, command)?;
+            Ok(changed(change, reply))
+        }
         Action::ReadVersion(number) => Ok(kept(maps::answer(alloc, *number, state)?)),
         Action::ReadGroup(pool, group) => {
             Ok(kept(groups::group_answer(alloc, *pool, *group, state)?))

@@ -9,7 +9,7 @@ mod route;
 mod store;
 mod tenants;
 
-pub use commands::{Command, Order};
+pub use commands::{Command, Order, apply};
 pub use decision::{Decision, Effect, decide};
 pub use request::{Action, Operation, Request, read_request};
 pub use route::{Route, Routes, Target};

@@ -4,25 +4,22 @@ ghost use Rattle.std.specs.Prelude.{◌≡◌, IfOk};
 ghost use Rattle.crush_text.specs.Canonical.{canonical};
 
 use crush_bucket::Tables;
-use crush_choose::Weights;
 use crush_map::{CrushMap, Text};
 use crush_text::{canonical_texts_are_ascii, write_map};
 use std::alloc::{AllocError, Global};
 use std::marker::Model;
 
-/// A version: a checked map, with its canonical text, and the tables and reweights that its rules run on. Contracts see the map.
+/// A version: a checked map, with its canonical text, and the tables that its rules run on. Contracts see the map.
 #[derive(Drop)]
 pub struct Version {
     map: CrushMap,
     text: Text,
     tables: Tables,
-    weights: Weights,
 }
 
 impl Model for Version {
-    ghost use Rattle.std.specs.Prelude.{◌≡◌, []};
+    ghost use Rattle.std.specs.Prelude.{◌≡◌};
     ghost use Rattle.crush_bucket.specs.Tables.{tables_of};
-    ghost use Rattle.crush_choose.specs.Weights.{weights_of};
     ghost use Rattle.crush_map.specs.Map.{Map};
     ghost use Rattle.crush_text.specs.Canonical.{canonical};
 
@@ -33,14 +30,12 @@ impl Model for Version {
     ghost invariant = { λ a. record {
       text : a.text ≡ canonical a.map;
       tables : a.tables ≡ tables_of a.map;
-      weights : a.weights ≡ weights_of [];
     } };
 }
 
 impl Version {
-    ghost use Rattle.std.specs.Prelude.{◌≡◌, [], IfOk};
+    ghost use Rattle.std.specs.Prelude.{◌≡◌, IfOk};
     ghost use Rattle.crush_bucket.specs.Tables.{tables_of};
-    ghost use Rattle.crush_choose.specs.Weights.{weights_of};
     ghost use Rattle.crush_text.specs.Canonical.{canonical};
 
     /// The version with this map.
@@ -49,13 +44,7 @@ impl Version {
     {
         let text = canonical_text(alloc, &map)?;
         let tables = Tables::build(alloc, &map)?;
-        let weights = Weights::build(alloc, &map, &[])?;
-        Ok(Version {
-            map,
-            text,
-            tables,
-            weights,
-        })
+        Ok(Version { map, text, tables })
     }
 
     /// The map.
@@ -77,13 +66,6 @@ impl Version {
         ensures { result.now ≡ tables_of self.now }
     {
         &self.tables
-    }
-
-    /// The reweight 65536 for every device.
-    pub fn weights(&self) -> &Weights
-        ensures { result.now ≡ weights_of [] }
-    {
-        &self.weights
     }
 }
 

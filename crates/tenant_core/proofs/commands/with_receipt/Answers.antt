@@ -2,7 +2,7 @@ use Rattle.std.proofs.Common.{◌≡◌, ap, ◌∙◌}
 use Rattle.tenant_core.proofs.Accepting.{same_change, same_receipt}
 use Rattle.tenant_messages.specs.Reply.{reply}
 use Rattle.tenant_messages.specs.declared.reply.Reply.{Reply}
-use Rattle.tenant_core.proofs.commands.carry_out.Goals as goal
+use Rattle.tenant_core.proofs.commands.with_receipt.Goals as goal
 
 pub returns-clause-effect : goal.returns-clause-effect
 unfolding reply
