@@ -4,3 +4,4 @@ pub mod Running
 pub mod Targets
 pub mod Accepting
 pub mod Once
+pub mod PoolRules

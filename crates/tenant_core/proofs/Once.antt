@@ -126,7 +126,7 @@ repeats k s u c h there = let a = accepts k s c h in rw there (ap (decided effec
 
 -- ---- of all actions
 
-tenant_changes_nothing : (tenant : List ℕ) (o : TenantOperation) (s : TenantState) (c : Change) → (decision_on tenant (action.Tenant o) (Some s)).effect ≡ effect.Change c → ⊥
+pub tenant_changes_nothing : (tenant : List ℕ) (o : TenantOperation) (s : TenantState) (c : Change) → (decision_on tenant (action.Tenant o) (Some s)).effect ≡ effect.Change c → ⊥
 tenant_changes_nothing tenant CreateTenant s c h = cc
 tenant_changes_nothing tenant Read s c h = cc
 tenant_changes_nothing tenant RemoveTenant s c h = cc
@@ -135,5 +135,7 @@ pub action_grows : (tenant : List ℕ) (a : Action) (s : TenantState) (c : Chang
 action_grows tenant (action.Tenant o) s c h = absurd (tenant_changes_nothing tenant o s c h)
 action_grows tenant (action.Command k) s c h = epoch_grows k s c h
 action_grows tenant (action.ReadVersion v) s c h = cc
+action_grows tenant (action.ReadGroup id group) s c h = cc
+action_grows tenant (action.Locate id name) s c h = cc
 action_grows tenant (action.Pick p) s c h = cc
 action_grows tenant (action.Test t) s c h = cc

@@ -1,7 +1,10 @@
 //! Laws of the definitions: each contract holds of the definitions alone.
 
-ghost use Rattle.std.specs.Prelude.{◌≡◌, ◌≢◌, ℕ, suc, List, Option, Some, None};
+ghost use Rattle.std.specs.Prelude.{◌≡◌, ◌≢◌, ◌<◌, ℕ, suc, true, is_ok, List, Option, Some, None};
+ghost use Rattle.crush_pool.specs.declared.pool.PoolParts.{PoolParts};
 ghost use Rattle.tenant_core.specs.Commands.{decision};
+ghost use Rattle.tenant_resources.specs.Groups.{placed};
+ghost use Rattle.tenant_resources.specs.Pools.{have_rules};
 ghost use Rattle.tenant_state.specs.Receipts.{receipt_of};
 ghost use Rattle.tenant_messages.specs.Reply.{reply};
 ghost use Rattle.tenant_core.specs.Step.{step, tenant_of, decision_on};
@@ -10,7 +13,7 @@ ghost use Rattle.tenant_core.specs.declared.commands.Command.{Command};
 ghost use Rattle.tenant_state.specs.declared.receipts.Receipt.{Receipt};
 ghost use Rattle.tenant_core.specs.declared.request.Action.{Action};
 ghost use Rattle.tenant_core.specs.declared.decision.Effect.{Effect};
-ghost use Rattle.tenant_state.specs.State.{TenantState, Change, epoch, after};
+ghost use Rattle.tenant_state.specs.State.{TenantState, Change, epoch, fresh, after, pool};
 
 /// No step has the status 500 or 503: these are for a store that fails, and for want of memory.
 pub fn no_step_answers_500_or_503()
@@ -39,4 +42,12 @@ pub fn a_changing_request_acts_once()
         → (decision k u).effect ≡ Effect.Keep }
     ensures reply { (k : Command) (s u : TenantState) (c : Change) → (decision k s).effect ≡ Effect.Change c → receipt_of k.number u.receipts ≡ Some c.receipt
         → reply (decision k u).answer ≡ reply (decision k s).answer }
+{}
+
+/// The newest version has the rule of each pool: so it is of a new tenant, and so it stays, whatever changes. Hence each group of a pool is placed.
+pub fn pools_have_their_rules()
+    ensures fresh { have_rules fresh ≡ true }
+    ensures stays { (tenant : List ℕ) (action : Action) (s : TenantState) (c : Change) → (decision_on tenant action (Some s)).effect ≡ Effect.Change c
+        → have_rules s ≡ true → have_rules (after c s) ≡ true }
+    ensures placed { (s : TenantState) (id group : ℕ) (p : PoolParts) → have_rules s ≡ true → pool id s ≡ Some p → group < p.pg_num → is_ok (placed s p group) ≡ true }
 {}

@@ -1,6 +1,6 @@
 -- Pools, at `/t/{t}/pools`: POST creates one. At `/t/{t}/pools/remove` POST removes one.
-use Rattle.std.specs.Prelude.{◌≡◌, ℕ, suc, ◌||◌, ◌==◌, List, [], ◌∷◌, length, Bool, true, false, nat_le, if◌then◌else◌, Option, Some, None, option_and_then, Result, Ok, Err, codes}
-use Rattle.std.specs.List.{list_any}
+use Rattle.std.specs.Prelude.{◌≡◌, ℕ, suc, ◌||◌, ◌==◌, List, [], ◌∷◌, length, Bool, true, false, nat_le, if◌then◌else◌, Option, Some, None, is_some, option_and_then, Result, Ok, Err, codes}
+use Rattle.std.specs.List.{list_all, list_any}
 use Rattle.std.specs.Str.{bytes_eq}
 use Rattle.serde_json.specs.Data.{Data, object}
 use Rattle.serde_json.specs.Find.{as_bool, as_str}
@@ -152,6 +152,14 @@ on_version p state (Some m) = on_rule p state (rule_numbered m p.rule)
 
 abbrev pub created : PoolParts → TenantState → Result Accepted Problem
 created p state = on_version p state (version (newest state) state)
+
+-- the rule of a pool in the newest version
+abbrev pub rule_of : TenantState → PoolParts → Option Rule
+rule_of state p = option_and_then (λ m. rule_numbered m p.rule) (version (newest state) state)
+
+-- whether the newest version has each pool's rule
+abbrev pub have_rules : TenantState → Bool
+have_rules state = list_all (λ p. is_some (rule_of state p)) state.pools
 
 -- ---- removing a pool
 
