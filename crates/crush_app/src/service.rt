@@ -126,10 +126,10 @@ impl<T: TenantStore> Service<T> {
     ghost use Rattle.tenant_messages.specs.CallParts.{call_of};
     ghost use Rattle.tenant_core.specs.States.{Same, Answers, MeetsDefinition, Headline, Leaves, AllAnswerNobody, KeepsDamaged, NamesCause};
 
-    /// Answers a call. The reply is the definition's for the state of the call's tenant, which then has the definition's
+    /// Serves a call. The reply is the definition's for the state of the call's tenant, which then has the definition's
     /// new state, and every other tenant keeps its own; or the reply is 503, and every tenant keeps its state.
     pub fn request(&mut self, call: CallParts<'_>) -> Reply
-        ensures answered { T.is_honest self.new → Answers (call_of call.entry) (T.has_state self.old) (T.has_state self.new) result }
+        ensures answers { T.is_honest self.new → Answers (call_of call.entry) (T.has_state self.old) (T.has_state self.new) result }
         ensures honest { T.is_honest self.new → T.is_honest self.old }
     {
         match reply_or_fault(self.alloc, &self.routes, &mut self.store, call) {
@@ -138,8 +138,8 @@ impl<T: TenantStore> Service<T> {
         }
     }
 
-    /// Answers the calls in order and appends their replies. `replies` has the capacity for them.
-    fn answer_all(&mut self, calls: &[Call], replies: &mut Vec<Reply>)
+    /// Serves the calls in order and appends their replies. `replies` has the capacity for them.
+    fn serve_all(&mut self, calls: &[Call], replies: &mut Vec<Reply>)
         requires empty { replies.old.items ≡ [] }
         requires room { length calls.now ≤ vec_capacity replies.old }
         ensures count { length replies.new.items ≡ length calls.now }
@@ -154,7 +154,7 @@ impl<T: TenantStore> Service<T> {
         }
     }
 
-    /// Answers the calls in order. Where there is no memory for the list of replies, no call is made.
+    /// Serves the calls in order. Where there is no memory for the list of replies, no call is made.
     ///
     /// The headline: for every list of calls and every tenant, the replies to that tenant other than 503 are those of the
     /// definition, run over just the calls that have such a reply, from the state that the tenant had (`None`: it was absent).
@@ -169,7 +169,7 @@ impl<T: TenantStore> Service<T> {
         ensures honest { T.is_honest self.new → T.is_honest self.old }
     {
         let mut replies = Vec::with_capacity(self.alloc, calls.len())?;
-        self.answer_all(calls, &mut replies);
+        self.serve_all(calls, &mut replies);
         Ok(replies)
     }
 }

@@ -39,7 +39,7 @@ const CODES: &str =
   M14  chooseleaf indep of type 0
   M15  a name over 64 bytes, or a type named by a keyword";
 
-/// Why the program ends without the answers that it was asked for.
+/// Why the program ends without what it was asked for.
 enum Stop {
     /// The arguments name no command, or ask for help or the version.
     Arguments(Error),
@@ -75,7 +75,7 @@ enum Request<'a> {
 /// Reads the program's arguments.
 fn read_arguments(alloc: Global, arguments: &[String]) -> Result<Request<'_>, Stop> {
     let script = Command::new(alloc, "script").about(
-        "Answers the lines of standard input, and writes a line for each reply",
+        "Serves the lines of standard input, and writes a line for each reply",
     );
     let file = Arg::new(alloc, "FILE")
         .required(true)
@@ -101,7 +101,7 @@ fn read_arguments(alloc: Global, arguments: &[String]) -> Result<Request<'_>, St
     }
 }
 
-/// Answers the lines of standard input, with no tenant at first.
+/// Serves the lines of standard input, with no tenant at first.
 fn run_script<R: AllocGlobal + Input + Print>(rt: &R) -> Result<(), Stop> {
     let alloc = rt.alloc();
     let mut service = Service::over_map(alloc)?;

@@ -83,7 +83,7 @@ fn a_script_is_played_whatever_one_read_and_one_write_take(rt: HostRuntime) -> R
 }
 
 #[test]
-fn a_read_fault_serves_no_line(rt: HostRuntime) -> Result<(), Fail> {
+fn no_line_is_served_after_a_read_fault(rt: HostRuntime) -> Result<(), Fail> {
     for reads in [0, 1, 9, 10, 60, 150] {
         let (end, written) = play(rt.alloc(), reads, 10_000)?;
         assert_eq!(rt; end, ScriptEnd::ReadFault, "after {reads} reads");
@@ -106,7 +106,7 @@ fn a_write_fault_leaves_a_front_of_the_replies(rt: HostRuntime) -> Result<(), Fa
 }
 
 #[test]
-fn a_write_fault_answers_no_later_line(rt: HostRuntime) -> Result<(), Fail> {
+fn no_later_line_is_served_after_a_write_fault(rt: HostRuntime) -> Result<(), Fail> {
     let alloc = rt.alloc();
     let mut service = Service::over_map(alloc)?;
     let mut reader = Reader {
