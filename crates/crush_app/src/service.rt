@@ -17,7 +17,7 @@ use tenant_core::{
 use tenant_messages::{Call, CallParts, Refusal, Reply, refused};
 
 /// Carries out the effect of a request on its tenant.
-fn carry_out<T: TenantStore>(store: &mut T, tenant: &str, effect: &Effect) -> Result<(), StoreFault>
+fn carry_out_effect<T: TenantStore>(store: &mut T, tenant: &str, effect: &Effect) -> Result<(), StoreFault>
     requires { T.is_honest store.old → (s : Option TenantState) × T.has_state store.old tenant.now s × Fits effect.now s }
     ensures left { T.is_honest store.new → (s : Option TenantState) → T.has_state store.old tenant.now s → Fits effect.now s → OnOk result (T.has_state store.new tenant.now (after_effect effect.now s)) }
     ensures others { T.is_honest store.new → (t : List ℕ) (s : Option TenantState) → t ≢ tenant.now → (T.has_state store.old t s ↔ T.has_state store.new t s) }
@@ -49,7 +49,7 @@ fn perform<T: TenantStore>(
     let decision = decide(alloc, tenant, state.as_deref(), &request.action)?;
     // drops the shared state first, so that the store may change it in place
     drop(state);
-    carry_out(store, tenant, &decision.effect)?;
+    carry_out_effect(store, tenant, &decision.effect)?;
     Ok(decision.reply)
 }
 

@@ -67,13 +67,13 @@ impl From<Error> for Stop {
 }
 
 /// A command of the program, with its arguments.
-enum Request<'a> {
+enum Invocation<'a> {
     Script,
     Check { path: &'a str },
 }
 
 /// Reads the program's arguments.
-fn read_arguments(alloc: Global, arguments: &[String]) -> Result<Request<'_>, Stop> {
+fn read_arguments(alloc: Global, arguments: &[String]) -> Result<Invocation<'_>, Stop> {
     let script = Command::new(alloc, "script").about(
         "Serves the lines of standard input, and writes a line for each reply",
     );
@@ -94,10 +94,10 @@ fn read_arguments(alloc: Global, arguments: &[String]) -> Result<Request<'_>, St
         .try_get_matches_from(arguments)?;
     match matches.subcommand_matches("check") {
         // clap has refused a check without a FILE; an empty path would name no file
-        Some(check) => Ok(Request::Check {
+        Some(check) => Ok(Invocation::Check {
             path: check.get_str("FILE").unwrap_or(""),
         }),
-        None => Ok(Request::Script),
+        None => Ok(Invocation::Script),
     }
 }
 
@@ -134,11 +134,11 @@ fn run<R: AllocGlobal + Input + Print + Env + Files>(rt: &R) -> Result<ExitCode,
     };
     let arguments = given.collect::<Vec<String>>(rt.alloc())?;
     match read_arguments(rt.alloc(), arguments.as_slice())? {
-        Request::Script => {
+        Invocation::Script => {
             run_script(rt)?;
             Ok(ExitCode::SUCCESS)
         }
-        Request::Check { path } => check_file(rt, path),
+        Invocation::Check { path } => check_file(rt, path),
     }
 }
 
