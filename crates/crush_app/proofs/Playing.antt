@@ -8,7 +8,7 @@ use Rattle.tenant_messages.specs.declared.call.Call.{Call}
 use Rattle.tenant_messages.specs.declared.reply.Reply.{Reply}
 use Rattle.tenant_core.proofs.Running.{run_both, run_one, run_none}
 use Rattle.crush_app.specs.Play.{Plays, PlaysUpTo, WritesHeadline, AppendsPart}
-use Rattle.crush_app.specs.Script.{bad_line, call_of, calls_in, is_nonempty, messages_in, messages, output, wire}
+use Rattle.crush_app.specs.Script.{bad_line, call_of_line, calls_in, is_nonempty, messages_in, messages, output, wire}
 use Rattle.crush_app.proofs.Writing.{appends_both, appends_none}
 
 append_none : {A : Type 0} (xs : List A) → xs ++ [] ≡ xs
@@ -29,7 +29,7 @@ output-append (None ∷ ms) ns rs qs h = ap (λ ys. wire bad_line ++ ys) (output
 output-append (Some c ∷ ms) ns [] qs h = absurd (omega arith)
 output-append (Some c ∷ ms) ns (r ∷ rs) qs h = ap (λ ys. wire r ++ ys) (output-append ms ns rs qs (omega arith)) ∙ sym (append_assoc (wire r) (output ms rs) (output ns qs))
 
-filter-front : (b : Bool) (line : List ℕ) (rest : List (List ℕ)) → map call_of (if b then line ∷ filter is_nonempty rest else filter is_nonempty rest) ≡ map call_of (if b then line ∷ [] else []) ++ map call_of (filter is_nonempty rest)
+filter-front : (b : Bool) (line : List ℕ) (rest : List (List ℕ)) → map call_of_line (if b then line ∷ filter is_nonempty rest else filter is_nonempty rest) ≡ map call_of_line (if b then line ∷ [] else []) ++ map call_of_line (filter is_nonempty rest)
 filter-front true line rest = refl
 filter-front false line rest = refl
 

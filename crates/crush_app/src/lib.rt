@@ -1,4 +1,4 @@
-//! The service of all tenants, and scripts of requests to it.
+//! The service of all tenants, scripts of requests to it, and checks of map texts.
 #![tactic(auto)]
 
 mod check;

@@ -14,8 +14,12 @@ use tenant_state::{Change, TenantState};
 type States = BTreeMap<String, Rc<TenantState>>;
 
 /// Makes a change of a shared state: in place where it has no other owner, and else on a copy, which shares versions and receipts.
-/// A refused call changes nothing.
-fn change(alloc: Global, shared: &mut Rc<TenantState>, change: &Change) -> Result<(), AllocError>
+/// Where memory is wanting, nothing is changed.
+fn change_shared(
+    alloc: Global,
+    shared: &mut Rc<TenantState>,
+    change: &Change,
+) -> Result<(), AllocError>
     ensures ok { OnOk result (shared.new.value ≡ after change.now shared.old.value) }
     ensures err { OnErr result (shared.new.value ≡ shared.old.value) }
 {
@@ -29,24 +33,24 @@ fn change(alloc: Global, shared: &mut Rc<TenantState>, change: &Change) -> Resul
     }
 }
 
-/// Makes a change of the state of a name, if it has one. A refused call changes nothing.
+/// Makes a change of the state of a name, if it has one. Where memory is wanting, nothing is changed.
 fn change_named(
     alloc: Global,
     states: &mut States,
     name: &str,
-    made: &Change,
+    change: &Change,
 ) -> Result<(), AllocError>
     ensures ok { OnOk result ((u : List ℕ) → option_map (λ r. r.value) (get_by_text states.new u)
-        ≡ (if bytes_eq name.now u then option_map (λ r. after made.now r.value) (get_by_text states.old u) else option_map (λ r. r.value) (get_by_text states.old u))) }
+        ≡ (if bytes_eq name.now u then option_map (λ r. after change.now r.value) (get_by_text states.old u) else option_map (λ r. r.value) (get_by_text states.old u))) }
     ensures err { OnErr result ((u : List ℕ) → option_map (λ r. r.value) (get_by_text states.new u) ≡ option_map (λ r. r.value) (get_by_text states.old u)) }
 {
     match states.get_mut(name) {
-        Some(shared) => change(alloc, shared, made),
+        Some(shared) => change_shared(alloc, shared, change),
         None => Ok(()),
     }
 }
 
-/// Sets the state of a name. A refused call changes nothing.
+/// Sets the state of a name. Where memory is wanting, nothing is changed.
 fn put(alloc: Global, states: &mut States, name: &str, state: TenantState) -> Result<(), AllocError>
     ensures ok { OnOk result ((u : List ℕ) → option_map (λ r. r.value) (get_by_text states.new u)
         ≡ (if bytes_eq name.now u then Some state else option_map (λ r. r.value) (get_by_text states.old u))) }

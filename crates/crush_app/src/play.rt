@@ -10,7 +10,7 @@ ghost use Rattle.crush_app.specs.Play.{Plays, PlaysUpTo, WritesHeadline};
 ghost use Rattle.crush_app.specs.Script.{bad_line, messages, messages_in, input_limit};
 
 use crate::input::{InputFault, read_input};
-use crate::script::{call_of as call_in, first_line};
+use crate::script::{call_of_line, first_line};
 use crate::service::Service;
 use crate::wire::write_line;
 use std::alloc::{AllocError, Global};
@@ -68,7 +68,7 @@ fn play_line<T: TenantStore, W: Write>(
     if line.is_empty() {
         true
     } else {
-        play_message(service, bad, call_in(line), writer)
+        play_message(service, bad, call_of_line(line), writer)
     }
 }
 

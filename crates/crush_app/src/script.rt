@@ -39,8 +39,8 @@ fn as_text(bytes: &[u8]) -> Option<&str>
 }
 
 /// The call of a line, if the line has the form of one.
-pub(crate) fn call_of(line: &[u8]) -> Option<CallParts<'_>>
-    ensures { option_map call_of result ≡ spec.call_of line.now }
+pub(crate) fn call_of_line(line: &[u8]) -> Option<CallParts<'_>>
+    ensures { option_map call_of result ≡ spec.call_of_line line.now }
 {
     if !has_space(line) {
         return None;

@@ -17,7 +17,11 @@ use tenant_core::{
 use tenant_messages::{Call, CallParts, Refusal, Reply, refused};
 
 /// Carries out the effect of a request on its tenant.
-fn carry_out_effect<T: TenantStore>(store: &mut T, tenant: &str, effect: &Effect) -> Result<(), StoreFault>
+fn carry_out_effect<T: TenantStore>(
+    store: &mut T,
+    tenant: &str,
+    effect: &Effect,
+) -> Result<(), StoreFault>
     requires { T.is_honest store.old → (s : Option TenantState) × T.has_state store.old tenant.now s × Fits effect.now s }
     ensures left { T.is_honest store.new → (s : Option TenantState) → T.has_state store.old tenant.now s → Fits effect.now s → OnOk result (T.has_state store.new tenant.now (after_effect effect.now s)) }
     ensures others { T.is_honest store.new → (t : List ℕ) (s : Option TenantState) → t ≢ tenant.now → (T.has_state store.old t s ↔ T.has_state store.new t s) }
@@ -95,7 +99,7 @@ impl Service<MemoryStore> {
 
     /// A service over a store in memory, with no tenant. Such a store is always honest, and each name has exactly one state
     /// in it, so the headline holds of this service without a premise.
-    pub fn over_map(alloc: Global) -> Result<Self, AllocError>
+    pub fn in_memory(alloc: Global) -> Result<Self, AllocError>
         ensures empty { IfOk result (λ service. (name : List ℕ) → ⟦<MemoryStore as TenantStore>⟧.has_state service name None) }
         ensures honest { (store : MemoryStore) → ⟦<MemoryStore as TenantStore>⟧.is_honest store }
         ensures some_state { (store : MemoryStore) (name : List ℕ) → (s : Option TenantState) × ⟦<MemoryStore as TenantStore>⟧.has_state store name s }

@@ -39,7 +39,7 @@ const CODES: &str =
   M14  chooseleaf indep of type 0
   M15  a name over 64 bytes, or a type named by a keyword";
 
-/// Why the program ends without what it was asked for.
+/// Why the program stops before its command is done, or has none.
 enum Stop {
     /// The arguments name no command, or ask for help or the version.
     Arguments(Error),
@@ -66,7 +66,7 @@ impl From<Error> for Stop {
     }
 }
 
-/// A command of the program, with its arguments.
+/// What the program is asked to do: a command, with its arguments.
 enum Invocation<'a> {
     Script,
     Check { path: &'a str },
@@ -104,7 +104,7 @@ fn read_arguments(alloc: Global, arguments: &[String]) -> Result<Invocation<'_>,
 /// Serves the lines of standard input, with no tenant at first.
 fn run_script<R: AllocGlobal + Input + Print>(rt: &R) -> Result<(), Stop> {
     let alloc = rt.alloc();
-    let mut service = Service::over_map(alloc)?;
+    let mut service = Service::in_memory(alloc)?;
     match script_run(alloc, &mut service, &mut rt.reader(), &mut io::writer(rt))? {
         ScriptEnd::Done => Ok(()),
         ScriptEnd::TooLong => Err(Stop::TooLong),
@@ -142,7 +142,7 @@ fn run<R: AllocGlobal + Input + Print + Env + Files>(rt: &R) -> Result<ExitCode,
     }
 }
 
-/// Writes help or the version to standard output, or why it stops to standard error, and gives the exit status.
+/// Writes help or the version to standard output, or to standard error why the program stops, and gives the exit status.
 fn report<R: Print + Eprint>(rt: &R, stop: Stop) -> io::Result<ExitCode> {
     let why = match stop {
         Stop::Arguments(error) => {
