@@ -3,6 +3,7 @@
 
 mod check;
 mod input;
+pub mod laws;
 mod memory_store;
 mod play;
 mod script;

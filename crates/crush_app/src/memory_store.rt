@@ -78,18 +78,11 @@ pub struct MemoryStore {
 }
 
 impl MemoryStore {
-    ghost use Rattle.std.specs.Prelude.{◌≡◌, ℕ, List, Option, None};
-    ghost use Rattle.tenant_state.specs.State.{TenantState};
-    ghost use Rattle.crush_app.specs.declared.memory_store.MemoryStore.{MemoryStore};
+    ghost use Rattle.std.specs.Prelude.{ℕ, List, None};
 
     /// A store with no tenant. Allocates nothing.
-    ///
-    /// Every store of this type is honest, and in every one each name has exactly one state.
     pub fn new(alloc: Global) -> Self
-        ensures empty { (name : List ℕ) → ⟦<MemoryStore as TenantStore>⟧.has_state result name None }
-        ensures honest { (store : MemoryStore) → ⟦<MemoryStore as TenantStore>⟧.is_honest store }
-        ensures some_state { (store : MemoryStore) (name : List ℕ) → (s : Option TenantState) × ⟦<MemoryStore as TenantStore>⟧.has_state store name s }
-        ensures one_state { (store : MemoryStore) (name : List ℕ) (s u : Option TenantState) → ⟦<MemoryStore as TenantStore>⟧.has_state store name s → ⟦<MemoryStore as TenantStore>⟧.has_state store name u → s ≡ u }
+        ensures { (name : List ℕ) → ⟦<MemoryStore as TenantStore>⟧.has_state result name None }
     {
         MemoryStore {
             alloc,

@@ -93,17 +93,12 @@ impl<T: TenantStore> Model for Service<T> {
 }
 
 impl Service<MemoryStore> {
-    ghost use Rattle.std.specs.Prelude.{◌≡◌, ℕ, List, Option, None, IfOk};
-    ghost use Rattle.tenant_state.specs.State.{TenantState};
-    ghost use Rattle.crush_app.specs.declared.memory_store.MemoryStore.{MemoryStore};
+    ghost use Rattle.std.specs.Prelude.{ℕ, List, None, IfOk};
 
-    /// A service over a store in memory, with no tenant. Such a store is always honest, and each name has exactly one state
-    /// in it, so the headline holds of this service without a premise.
+    /// A service over a store in memory, with no tenant. By `memory_stores_are_honest` the headline holds of this service
+    /// without a premise.
     pub fn in_memory(alloc: Global) -> Result<Self, AllocError>
-        ensures empty { IfOk result (λ service. (name : List ℕ) → ⟦<MemoryStore as TenantStore>⟧.has_state service name None) }
-        ensures honest { (store : MemoryStore) → ⟦<MemoryStore as TenantStore>⟧.is_honest store }
-        ensures some_state { (store : MemoryStore) (name : List ℕ) → (s : Option TenantState) × ⟦<MemoryStore as TenantStore>⟧.has_state store name s }
-        ensures one_state { (store : MemoryStore) (name : List ℕ) (s u : Option TenantState) → ⟦<MemoryStore as TenantStore>⟧.has_state store name s → ⟦<MemoryStore as TenantStore>⟧.has_state store name u → s ≡ u }
+        ensures { IfOk result (λ service. (name : List ℕ) → ⟦<MemoryStore as TenantStore>⟧.has_state service name None) }
     {
         Service::over(alloc, MemoryStore::new(alloc))
     }
