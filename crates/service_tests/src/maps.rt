@@ -31,17 +31,39 @@ const CANONICAL: &str =
 /// A method, a path and a body, and the status and the body of the reply that the rules of requests give them.
 type Row = (&'static str, &'static str, &'static str, u16, &'static str);
 
+// Calls that are made twice, with the same reply each time.
+
+const CREATION_OF_A: Row = ("PUT", "/t/a", "", 201, "{\"epoch\":0,\"tenant\":\"a\"}");
+
+const IMPORT_BY_A: Row = (
+    "POST",
+    "/t/a/maps",
+    FIRST,
+    201,
+    "{\"epoch\":1,\"version\":1}",
+);
+
+const IMPORT_BY_B: Row = (
+    "POST",
+    "/t/b/maps",
+    OTHER,
+    201,
+    "{\"epoch\":1,\"version\":1}",
+);
+
+const TEST_BY_B: Row = (
+    "POST",
+    "/t/b/test",
+    "{\"rule\":0,\"size\":2,\"x\":5}",
+    200,
+    "{\"epoch\":1,\"items\":[3,null],\"trace\":[3],\"version\":1}",
+);
+
 /// Calls of two tenants in turn.
 const ROWS: [Row; 24] = [
-    ("PUT", "/t/a", "", 201, "{\"epoch\":0,\"tenant\":\"a\"}"),
+    CREATION_OF_A,
     ("POST", "/t/b/maps", FIRST, 404, "{\"error\":\"no_tenant\"}"),
-    (
-        "POST",
-        "/t/a/maps",
-        FIRST,
-        201,
-        "{\"epoch\":1,\"version\":1}",
-    ),
+    IMPORT_BY_A,
     ("PUT", "/t/b", "", 201, "{\"epoch\":0,\"tenant\":\"b\"}"),
     (
         "POST",
@@ -50,20 +72,8 @@ const ROWS: [Row; 24] = [
         404,
         "{\"error\":\"no_version\"}",
     ),
-    (
-        "POST",
-        "/t/b/maps",
-        OTHER,
-        201,
-        "{\"epoch\":1,\"version\":1}",
-    ),
-    (
-        "POST",
-        "/t/a/maps",
-        FIRST,
-        201,
-        "{\"epoch\":1,\"version\":1}",
-    ),
+    IMPORT_BY_B,
+    IMPORT_BY_A,
     (
         "POST",
         "/t/a/maps",
@@ -92,13 +102,7 @@ const ROWS: [Row; 24] = [
         201,
         "{\"epoch\":2,\"version\":2}",
     ),
-    (
-        "POST",
-        "/t/b/maps",
-        OTHER,
-        201,
-        "{\"epoch\":1,\"version\":1}",
-    ),
+    IMPORT_BY_B,
     (
         "POST",
         "/t/a/test",
@@ -106,13 +110,7 @@ const ROWS: [Row; 24] = [
         200,
         "{\"epoch\":2,\"items\":[3,null],\"trace\":[3],\"version\":2}",
     ),
-    (
-        "POST",
-        "/t/b/test",
-        "{\"rule\":0,\"size\":2,\"x\":5}",
-        200,
-        "{\"epoch\":1,\"items\":[3,null],\"trace\":[3],\"version\":1}",
-    ),
+    TEST_BY_B,
     (
         "POST",
         "/t/a/test",
@@ -138,14 +136,8 @@ const ROWS: [Row; 24] = [
     ("GET", "/t/a/maps/0", "", 404, "{\"error\":\"no_version\"}"),
     ("DELETE", "/t/a", "", 200, "{\"dropped\":\"a\"}"),
     ("POST", "/t/a/maps", FIRST, 404, "{\"error\":\"no_tenant\"}"),
-    ("PUT", "/t/a", "", 201, "{\"epoch\":0,\"tenant\":\"a\"}"),
-    (
-        "POST",
-        "/t/b/test",
-        "{\"rule\":0,\"size\":2,\"x\":5}",
-        200,
-        "{\"epoch\":1,\"items\":[3,null],\"trace\":[3],\"version\":1}",
-    ),
+    CREATION_OF_A,
+    TEST_BY_B,
     (
         "POST",
         "/t/a/maps",
