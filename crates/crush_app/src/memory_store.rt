@@ -70,7 +70,7 @@ fn take_out(states: &mut States, name: &str)
     let _state = states.remove(name);
 }
 
-/// The states of all tenants in memory; they end with it.
+/// The states of all tenants, in memory: they are gone when it is dropped.
 #[derive(Drop)]
 pub struct MemoryStore {
     alloc: Global,

@@ -153,7 +153,7 @@ impl<T: TenantStore> Service<T> {
         }
     }
 
-    /// Serves the calls in order. Where there is no memory for the list of replies, no call is made.
+    /// Serves the calls in order. Where there is no memory for the list of replies, none is served.
     ///
     /// The headline: for every list of calls and every tenant, the replies to that tenant other than 503 are those of the
     /// definition, run over just the calls that have such a reply, from the state that the tenant had (`None`: it was absent).
