@@ -39,7 +39,7 @@ const CODES: &str =
   M14  chooseleaf indep of type 0
   M15  a name over 64 bytes, or a type named by a keyword";
 
-/// Why the program ends without the answers that it was asked for.
+/// Why the program stops before its command is done, or has none.
 enum Stop {
     /// The arguments name no command, or ask for help or the version.
     Arguments(Error),
@@ -66,16 +66,16 @@ impl From<Error> for Stop {
     }
 }
 
-/// A command of the program, with its arguments.
-enum Request<'a> {
+/// What the program is asked to do: a command, with its arguments.
+enum Invocation<'a> {
     Script,
     Check { path: &'a str },
 }
 
 /// Reads the program's arguments.
-fn read_arguments(alloc: Global, arguments: &[String]) -> Result<Request<'_>, Stop> {
+fn read_arguments(alloc: Global, arguments: &[String]) -> Result<Invocation<'_>, Stop> {
     let script = Command::new(alloc, "script").about(
-        "Answers the lines of standard input, and writes a line for each reply",
+        "Serves the lines of standard input, and writes a line for each reply",
     );
     let file = Arg::new(alloc, "FILE")
         .required(true)
@@ -94,17 +94,17 @@ fn read_arguments(alloc: Global, arguments: &[String]) -> Result<Request<'_>, St
         .try_get_matches_from(arguments)?;
     match matches.subcommand_matches("check") {
         // clap has refused a check without a FILE; an empty path would name no file
-        Some(check) => Ok(Request::Check {
+        Some(check) => Ok(Invocation::Check {
             path: check.get_str("FILE").unwrap_or(""),
         }),
-        None => Ok(Request::Script),
+        None => Ok(Invocation::Script),
     }
 }
 
-/// Answers the lines of standard input, with no tenant at first.
+/// Serves the lines of standard input, with no tenant at first.
 fn run_script<R: AllocGlobal + Input + Print>(rt: &R) -> Result<(), Stop> {
     let alloc = rt.alloc();
-    let mut service = Service::over_map(alloc)?;
+    let mut service = Service::in_memory(alloc)?;
     match script_run(alloc, &mut service, &mut rt.reader(), &mut io::writer(rt))? {
         ScriptEnd::Done => Ok(()),
         ScriptEnd::TooLong => Err(Stop::TooLong),
@@ -134,15 +134,15 @@ fn run<R: AllocGlobal + Input + Print + Env + Files>(rt: &R) -> Result<ExitCode,
     };
     let arguments = given.collect::<Vec<String>>(rt.alloc())?;
     match read_arguments(rt.alloc(), arguments.as_slice())? {
-        Request::Script => {
+        Invocation::Script => {
             run_script(rt)?;
             Ok(ExitCode::SUCCESS)
         }
-        Request::Check { path } => check_file(rt, path),
+        Invocation::Check { path } => check_file(rt, path),
     }
 }
 
-/// Writes help or the version to standard output, or why it stops to standard error, and gives the exit status.
+/// Writes help or the version to standard output, or to standard error why the program stops, and gives the exit status.
 fn report<R: Print + Eprint>(rt: &R, stop: Stop) -> io::Result<ExitCode> {
     let why = match stop {
         Stop::Arguments(error) => {
