@@ -1,5 +1,5 @@
 -- Declarations without a fault, one behind the other.
-use Rattle.std.proofs.Common.{◌≡◌, ◌∙◌, ℕ, ◌+◌, List, [], ◌∷◌, ◌++◌, refl, sym, ap, subst, append_assoc, None, Option, Some}
+use Rattle.std.proofs.Common.{◌≡◌, ◌∙◌, ℕ, ◌+◌, List, [], ◌∷◌, ◌++◌, refl, sym, ap, subst, append_assoc, None}
 use Rattle.std.proofs.lemmas.List.{append-nil}
 use Rattle.crush_map.specs.Faults.{or_else}
 use Rattle.crush_grammar.specs.declared.declaration.Declaration.{Declaration}

@@ -6,7 +6,6 @@ use Rattle.crush_map.specs.Faults.{or_else, first_fault}
 use Rattle.crush_map.specs.Laws.{IsInOrder}
 use Rattle.crush_map.specs.Map.{Map, IsMap, IsMapOf}
 use Rattle.crush_map.specs.declared.draft.MapDraft.{MapDraft}
-use Rattle.crush_map.specs.declared.fault.FaultCode.{FaultCode}
 use Rattle.crush_words.specs.Words.{Word, words}
 use Rattle.crush_grammar.specs.Automaton.{Reading, text as read}
 use Rattle.crush_grammar.specs.Fronts.{Breaks, last_line}
@@ -14,7 +13,7 @@ use Rattle.crush_grammar.specs.Syntax.{Declares}
 use Rattle.crush_grammar.specs.declared.code.TextCode.TheVariants.{X7}
 use Rattle.crush_grammar.specs.declared.code.TextFault.{TextFault}
 use Rattle.crush_grammar.specs.declared.declaration.Declaration.{Declaration}
-use Rattle.crush_text.specs.Judging.{declared, declared_fault, last_fault, at_line}
+use Rattle.crush_text.specs.Judging.{declared, declared_fault, last_fault}
 use Rattle.crush_text.specs.MapText.{SaysMap, HasMapFault, HasFormFault, IsTextOf, HasFirstFault, IsShort, IsRefusedFor}
 use Rattle.crush_text.specs.Reading.{map_of_draft, fault_of_words, fault_or_map, map_of_words, map_of_stored_text, map_of_text}
 use Rattle.crush_text.proofs.Checks.{first_none, second_none, both_none}

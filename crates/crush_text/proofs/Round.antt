@@ -1,5 +1,5 @@
 -- The canonical text of a map is a text of that map.
-use Rattle.std.proofs.Common.{◌≡◌, ◌∙◌, ℕ, ◌+◌, List, [], ◌∷◌, ◌++◌, map, sum_by, false, refl, sym, ap, subst, arith, codes, append_assoc, Option, Some, None, IfSome, slice_get}
+use Rattle.std.proofs.Common.{◌≡◌, ◌∙◌, ℕ, ◌+◌, List, [], ◌++◌, map, sum_by, false, refl, sym, ap, subst, arith, codes, append_assoc, Option, Some, None, IfSome, slice_get}
 use Rattle.std.proofs.lemmas.List.{append-nil, map-append}
 use Rattle.std.proofs.lemmas.List.Concat.{flat_map-append}
 use Rattle.std.proofs.lemmas.List.Sorted.{IsPermutation-refl}
