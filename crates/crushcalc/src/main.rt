@@ -15,7 +15,9 @@ const VERSION: &str = "0.1.0\nrattle-kit-13b logic dac8208d650f15bf";
 
 /// The end of the help of `check`: its line, and each code in a line of its own (`docs/MAPS.md` has more of each).
 const CODES: &str =
-    "It prints 'ok devices D buckets B rules R', or 'refused line L code C' with the first fault. The codes:
+    "It prints 'ok devices D buckets B rules R', or 'refused line L code C' with the first fault.
+With a code X, L is the line of the wrong word. With a code M it is the first line of the tunable, device, type, bucket or
+rule that is wrong, perhaps further down, or the line of the last word where only the end shows the fault. The codes:
   X1   a word that can't stand there, or a text that ends too early
   X2   alg straw or straw2: such buckets aren't computed
   X3   a class in a take step
@@ -23,7 +25,7 @@ const CODES: &str =
   X5   a pos that isn't below the number of items, or that an earlier item has
   X6   no weight where one is wanted
   X7   more than 524,288 bytes
-  M1   more devices, types, buckets, items, rules or steps than the limit; a rule without steps
+  M1   more devices, types, buckets, items, rules or steps than the limit; a rule whose steps are all dropped
   M2   an id or number that an earlier element has
   M3   a name that an earlier element has, or a tunable that was named before
   M4   the type of a bucket isn't declared; at the end: there is no type 0
@@ -32,7 +34,7 @@ const CODES: &str =
   M7   the weights of a bucket add up to 65536 or more
   M8   the weights of a uniform bucket differ
   M9   a bucket of type 0
-  M10  a take step names what isn't declared
+  M10  a take step names what isn't declared earlier
   M11  the type of a choose step isn't declared
   M12  a number out of its range
   M13  local tries or local fallback tries that aren't 0, or aren't named
