@@ -1,5 +1,5 @@
 -- Changes of devices are read from a body exactly where the body has their form.
-use Rattle.std.proofs.Common.{◌≡◌, ◌≢◌, ℕ, suc, ◌+◌, ◌&&◌, ◌||◌, ◌==◌, ◌≤◌, List, [], ◌∷◌, ◌++◌, length, Bool, true, not, nat_le, Option, Some, None, is_some, refl, sym, ap, ◌∙◌, arith}
+use Rattle.std.proofs.Common.{◌≡◌, ◌≢◌, ℕ, suc, ◌+◌, ◌&&◌, ◌||◌, ◌==◌, ◌≤◌, List, [], ◌∷◌, ◌++◌, length, Bool, true, false, not, nat_le, Option, Some, None, is_some, refl, sym, ap, ◌∙◌, arith}
 use Rattle.std.specs.Bool.{Decides}
 use Rattle.std.specs.List.{All, AllPairs, list_any}
 use Rattle.std.specs.Prelude.{codes}
@@ -40,9 +40,10 @@ finds_change = finds_as
     (λ d c is. record { keys = is.0; device = is.1.0.0; reweight = is.1.0.1.0; up = is.1.0.1.1; some = is.1.1 })
     (λ d c is. (is.keys, ((is.device, (is.reweight, is.up)), is.some)))
     (finds_object_with (λ d. present (codes "reweight") d + (present (codes "up") d + 1)) (λ c. named c.reweight c.up) (λ c. differ c.reweight c.up)
-    (λ d c is. all_found-append (if_any (codes "reweight") c.reweight) (if_any (codes "up") c.up ++ id_alone) d
-    (found_if_any (IsNatural 65536) (codes "reweight") d c.reweight is.0.1.0)
-    (all_found-append (if_any (codes "up") c.up) id_alone d (found_if_any IsBoolean (codes "up") d c.up is.0.1.1) (is_there (codes "id") d c.device is.0.0, tt)))
+    (λ d c is. all_found-append (if_any (codes "reweight") c.reweight ++ if_any (codes "up") c.up) id_alone d
+    (all_found-append (if_any (codes "reweight") c.reweight) (if_any (codes "up") c.up) d
+    (found_if_any (IsNatural 65536) (codes "reweight") d c.reweight is.0.1.0) (found_if_any IsBoolean (codes "up") d c.up is.0.1.1))
+    (is_there (codes "id") d c.device is.0.0, tt))
     (λ d c is. rw (present-if_any (IsNatural 65536) (codes "reweight") d c.reweight is.0.1.0, present-if_any IsBoolean (codes "up") d c.up is.0.1.1) (as_many c.reweight c.up))
     (finds_tested (λ c. is_some c.reweight || is_some c.up) (λ c. (is_some c.reweight || is_some c.up) ≡ true) (λ c h. h) (λ c h. h)
     (finds_both change_with (λ c. c.device) (λ c. (c.reweight, c.up)) (λ a b. refl) (λ a b. refl) (λ c. refl)

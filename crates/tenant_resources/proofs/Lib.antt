@@ -6,3 +6,4 @@ pub mod DeviceForms
 pub mod NameForms
 pub mod StoredStates
 pub mod PlainReplies
+pub mod GroupAnswers

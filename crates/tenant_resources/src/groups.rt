@@ -1,8 +1,7 @@
 //! Groups of pools: at `/t/{t}/pools/{p}/groups/{g}` GET reads where a group lies, and at `/t/{t}/pools/{p}/locate` POST asks where an object lies.
 
-ghost use Rattle.std.specs.Prelude.{◌≡◌, ◌<◌, ◌≤◌, ◌^◌, Some, false, IfOk, length, map};
+ghost use Rattle.std.specs.Prelude.{◌≡◌, ◌<◌, ◌≤◌, ◌^◌, Some, IfOk, length, map};
 ghost use Rattle.serde_json.specs.View.{view};
-ghost use Rattle.serde_json.specs.Written.{has_float};
 ghost use Rattle.crush_bucket.specs.Tables.{tables_of};
 ghost use Rattle.crush_choose.specs.Rules.{CanRun};
 ghost use Rattle.crush_pool.specs.Placements.{placement, rule_numbered};
@@ -143,23 +142,13 @@ fn placed(alloc: Global, state: &TenantState, pool: &Pool, group: u32) -> Result
     let Some(rule) = rule_with_id(version.map(), pool.parts().rule) else {
         return Err(Refusal::Problem(Problem::NoRule));
     };
-    Ok(placed_on(
-        alloc,
-        version,
-        state.devices(),
-        pool,
-        rule,
-        group,
-    )?)
+    Ok(placed_on(alloc, version, state.devices(), pool, rule, group)?)
 }
 
 // ---- the answers
 
 /// The devices of a placement: the primary, what the rule answered, and what of it is up.
-fn placement_json(
-    alloc: Global,
-    placement: &Placement,
-) -> Result<(Value, Value, Value), AllocError>
+fn placement_json(alloc: Global, placement: &Placement) -> Result<(Value, Value, Value), AllocError>
     ensures primary { IfOk result (λ parts. view parts.0 ≡ slot_json placement.now.primary) }
     ensures raw { IfOk result (λ parts. view parts.1 ≡ list_json (map slot_json placement.now.raw)) }
     ensures up { IfOk result (λ parts. view parts.2 ≡ list_json (map slot_json placement.now.up)) }
@@ -175,8 +164,7 @@ fn group_reply(
     group: u32,
     placement: &Placement,
 ) -> Result<Value, AllocError>
-    ensures body { IfOk result (λ v. view v ≡ spec.group_reply state.now group placement.now) }
-    ensures plain { IfOk result (λ v. has_float (view v) ≡ false) }
+    ensures { IfOk result (λ v. view v ≡ spec.group_reply state.now group placement.now) }
 {
     let (primary, raw, up) = placement_json(alloc, placement)?;
     json!(in alloc; {
@@ -198,8 +186,7 @@ fn object_reply(
     placement: &Placement,
 ) -> Result<Value, AllocError>
     requires { length name.now < 2 ^ 32 }
-    ensures body { IfOk result (λ v. view v ≡ spec.object_reply name.now state.now group placement.now) }
-    ensures plain { IfOk result (λ v. has_float (view v) ≡ false) }
+    ensures { IfOk result (λ v. view v ≡ spec.object_reply name.now state.now group placement.now) }
 {
     let hash = name_hash(name.as_bytes());
     let (primary, raw, up) = placement_json(alloc, placement)?;
