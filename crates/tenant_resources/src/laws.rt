@@ -1,10 +1,12 @@
 //! Laws of the forms of bodies: each contract holds of the definitions alone.
 
 ghost use Rattle.std.specs.Prelude.{◌≡◌, ◌↔◌, ℕ, List, None, Some};
+ghost use Rattle.crush_pool.specs.declared.pool.PoolParts.{PoolParts};
 ghost use Rattle.serde_json.specs.Data.{Data};
 ghost use Rattle.tenant_messages.specs.Forms.{IsJson};
 ghost use Rattle.tenant_resources.specs.Maps.{IsImportBody, import_of, import_request_of};
 ghost use Rattle.tenant_resources.specs.Picks.{IsPickBody, pick_of, pick_request_of};
+ghost use Rattle.tenant_resources.specs.Pools.{IsPoolBody, IsRemovalBody, pool_of, pool_request_of, removal_of, removal_request_of};
 ghost use Rattle.tenant_resources.specs.RuleTests.{RuleTest, IsTestBody, test_of, test_request_of};
 ghost use Rattle.tenant_resources.specs.declared.picks.PickRequest.{PickRequest};
 
@@ -27,4 +29,18 @@ pub fn tests_are_of_the_form()
     ensures value { (d : Data) (t : RuleTest) → (test_of d ≡ Some t) ↔ IsTestBody d t }
     ensures body { (body : List ℕ) (t : RuleTest) → (test_request_of body ≡ Some t) ↔ IsJson IsTestBody body t }
     ensures refused { (body : List ℕ) → (test_request_of body ≡ None) ↔ ((t : RuleTest) → ¬ IsJson IsTestBody body t) }
+{}
+
+/// A pool is read from a body exactly where the body has its form and says that pool; any other body is refused.
+pub fn pools_are_of_the_form()
+    ensures value { (d : Data) (asked : List ℕ × PoolParts) → (pool_of d ≡ Some asked) ↔ IsPoolBody d asked }
+    ensures body { (body : List ℕ) (asked : List ℕ × PoolParts) → (pool_request_of body ≡ Some asked) ↔ IsJson IsPoolBody body asked }
+    ensures refused { (body : List ℕ) → (pool_request_of body ≡ None) ↔ ((asked : List ℕ × PoolParts) → ¬ IsJson IsPoolBody body asked) }
+{}
+
+/// The removal of a pool is read from a body exactly where the body has its form and says that removal; any other body is refused.
+pub fn removals_are_of_the_form()
+    ensures value { (d : Data) (asked : List ℕ × ℕ) → (removal_of d ≡ Some asked) ↔ IsRemovalBody d asked }
+    ensures body { (body : List ℕ) (asked : List ℕ × ℕ) → (removal_request_of body ≡ Some asked) ↔ IsJson IsRemovalBody body asked }
+    ensures refused { (body : List ℕ) → (removal_request_of body ≡ None) ↔ ((asked : List ℕ × ℕ) → ¬ IsJson IsRemovalBody body asked) }
 {}

@@ -14,7 +14,6 @@ ghost use Rattle.tenant_messages.specs.Reply.{reply};
 use crate::accepted::Accepted;
 use crate::rules::rule_with_id;
 use crush_map::{CrushMap, Text};
-use crush_pool::Pool;
 use crush_text::{read_map, texts_are_read_as_they_say};
 use serde_json::{Value, json};
 use std::alloc::{AllocError, Global};
@@ -23,7 +22,7 @@ use tenant_messages::{
     Problem, ReadError, Refusal, Reply, SuccessStatus, has_keys, read_value, refused,
     request_number, success, text,
 };
-use tenant_state::{Made, TenantState, Version};
+use tenant_state::{Made, Pools, TenantState, Version};
 
 /// The route of all versions.
 pub const ROUTE: &str = "/t/{t}/maps";
@@ -86,10 +85,11 @@ fn shared_version(alloc: Global, map: CrushMap) -> Result<Rc<Version>, AllocErro
 }
 
 /// Whether the rule of each pool is in a map.
-fn has_rules_of(map: &CrushMap, pools: &[Rc<Pool>]) -> bool
-    ensures { result ≡ list_all (λ p. is_some (rule_numbered map.now p.value.rule)) pools.now }
+fn has_rules_of(map: &CrushMap, pools: &Pools) -> bool
+    ensures { result ≡ list_all (λ p. is_some (rule_numbered map.now p.rule)) pools.now }
 {
     pools
+        .as_slice()
         .iter()
         .all(|pool| rule_with_id(map, pool.parts().rule).is_some())
 }
@@ -107,7 +107,7 @@ pub fn import(alloc: Global, text: &str, state: &TenantState) -> Result<Accepted
     match read_map(alloc, text.as_bytes())? {
         Err(fault) => Err(Refusal::Problem(Problem::MapRefused(fault))),
         Ok(map) => {
-            if !has_rules_of(&map, state.pools().as_slice()) {
+            if !has_rules_of(&map, state.pools()) {
                 return Err(Refusal::Problem(Problem::RuleInUse));
             }
             let version = shared_version(alloc, map)?;
