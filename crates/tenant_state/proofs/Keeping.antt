@@ -1,5 +1,5 @@
 -- Receipts, in the ordered map that holds them.
-use Rattle.std.proofs.Common.{◌≡◌, ℕ, List, [], ◌∷◌, map, Bool, true, false, cond, if◌then◌else◌, Option, Some, None, option_map, string_bytes, bytes_eq, Ordering, Less, Equal, Greater, nat_cmp, is_eq, refl, ap}
+use Rattle.std.proofs.Common.{◌≡◌, ℕ, List, [], ◌∷◌, map, Bool, true, false, cond, if◌then◌else◌, Option, Some, option_map, string_bytes, bytes_eq, Ordering, Less, Equal, Greater, nat_cmp, is_eq, refl, ap}
 use Rattle.std.proofs.lemmas.Map.Text.{is_eq-slice_cmp}
 use Rattle.std.specs.BTreeMap.{insert_entry, is_at}
 use Rattle.std.specs.Cmp.Lexicographic.{slice_cmp}
@@ -10,6 +10,8 @@ use Rattle.std.specs.Prelude.{String}
 use Rattle.std.specs.declared.alloc.Global.{Global}
 use Rattle.std.specs.declared.rc.Rc.{Rc}
 use Rattle.crush_map.specs.Map.{Map}
+use Rattle.crush_pool.specs.declared.pool.PoolParts.{PoolParts}
+use Rattle.crush_pool.specs.declared.states.DeviceState.{DeviceState}
 use Rattle.tenant_state.specs.Receipts.{Receipts, receipt_of, with_receipt}
 use Rattle.tenant_state.specs.State.{TenantState}
 use Rattle.tenant_state.specs.declared.receipts.Receipt.{Receipt}
@@ -76,6 +78,17 @@ same_versions [] (w ∷ ws) h = absurd h
 same_versions (v ∷ vs) [] h = absurd h
 same_versions (v ∷ vs) (w ∷ ws) h = let head = h.0 in let tail = same_versions vs ws h.1 in rw (head, tail) refl
 
-pub same_state : (vs ws : List (Rc Map Global)) (receipts again : Receipts) → AllZip (λ (p q : Rc Map Global). q.value ≡ p.value) vs ws → again ≡ receipts
-    → ◌≡◌ {A = TenantState} (record { versions = map (λ (v : Rc Map Global). v.value) ws; receipts = again }) (record { versions = map (λ (v : Rc Map Global). v.value) vs; receipts = receipts })
-same_state vs ws receipts again h r = let versions = same_versions vs ws h in rw (versions, r) refl
+same_pools : (vs ws : List (Rc PoolParts Global)) → AllZip (λ (p q : Rc PoolParts Global). q.value ≡ p.value) vs ws → map (λ (v : Rc PoolParts Global). v.value) ws ≡ map (λ (v : Rc PoolParts Global). v.value) vs
+same_pools [] [] h = refl
+same_pools [] (w ∷ ws) h = absurd h
+same_pools (v ∷ vs) [] h = absurd h
+same_pools (v ∷ vs) (w ∷ ws) h = let head = h.0 in let tail = same_pools vs ws h.1 in rw (head, tail) refl
+
+pub pools_copied : (vs ws : List (Rc PoolParts Global)) → AllZip (λ (p q : Rc PoolParts Global). q.value ≡ p.value) vs ws → map (λ (v : Rc PoolParts Global). v.value) ws ≡ map (λ (v : Rc PoolParts Global). v.value) vs
+pools_copied vs ws h = same_pools vs ws h
+
+pub same_state : (vs ws : List (Rc Map Global)) (devices again-devices : List DeviceState) (pools again-pools : List PoolParts) (receipts again : Receipts)
+    → AllZip (λ (p q : Rc Map Global). q.value ≡ p.value) vs ws → again-devices ≡ devices → again-pools ≡ pools → again ≡ receipts
+    → ◌≡◌ {A = TenantState} (record { versions = map (λ (v : Rc Map Global). v.value) ws; devices = again-devices; pools = again-pools; receipts = again })
+    (record { versions = map (λ (v : Rc Map Global). v.value) vs; devices = devices; pools = pools; receipts = receipts })
+same_state vs ws devices again-devices pools again-pools receipts again h d p r = let versions = same_versions vs ws h in rw (versions, d, p, r) refl

@@ -1,6 +1,6 @@
 //! The states of devices that a tenant stored.
 
-ghost use Rattle.std.specs.Prelude.{◌≡◌, IfOk, OnOk, nat_le};
+ghost use Rattle.std.specs.Prelude.{◌≡◌, IfOk, OnOk, nat_le, position};
 ghost use Rattle.std.specs.List.{position_or_len};
 ghost use Rattle.crush_pool.specs.States.{reweights};
 ghost use Rattle.tenant_state.specs.State.{with_state};
@@ -106,13 +106,20 @@ fn reweights_of(alloc: Global, states: &[DeviceState]) -> Result<Vec<(u32, u32)>
 }
 
 /// The place of the first device whose id isn't below another.
+fn not_below(states: &[DeviceState], device: u32) -> Option<usize>
+    ensures { result ≡ position (λ s. nat_le device s.device) states.now }
+{
+    states.iter().position(|state| state.device >= device)
+}
+
+/// The same, or how many devices there are.
 fn place_of(states: &[DeviceState], device: u32) -> usize
     ensures { result ≡ position_or_len (λ s. nat_le device s.device) states.now }
 {
-    states
-        .iter()
-        .position(|state| state.device >= device)
-        .unwrap_or(states.len())
+    match not_below(states, device) {
+        Some(place) => place,
+        None => states.len(),
+    }
 }
 
 /// Puts a state at its place in the order of ids, in place of that of the same device.

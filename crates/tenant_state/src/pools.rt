@@ -101,13 +101,20 @@ fn place_with(pools: &[Rc<Pool>], id: u64) -> Option<usize>
 }
 
 /// The place of the first pool whose id isn't below another.
+fn not_below(pools: &[Rc<Pool>], id: u32) -> Option<usize>
+    ensures { result ≡ position (λ p. nat_le id p.value.id) pools.now }
+{
+    pools.iter().position(|pool| pool.parts().id >= id)
+}
+
+/// The same, or how many pools there are.
 fn place_of(pools: &[Rc<Pool>], id: u32) -> usize
     ensures { result ≡ position_or_len (λ p. nat_le id p.value.id) pools.now }
 {
-    pools
-        .iter()
-        .position(|pool| pool.parts().id >= id)
-        .unwrap_or(pools.len())
+    match not_below(pools, id) {
+        Some(place) => place,
+        None => pools.len(),
+    }
 }
 
 /// Puts a pool at its place in the order of ids, in place of one with the same id.

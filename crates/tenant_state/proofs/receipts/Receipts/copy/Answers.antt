@@ -1,4 +1,4 @@
-use Rattle.std.proofs.Common.{◌≡◌, ◌∙◌}
+use Rattle.std.proofs.Common.{◌∙◌}
 use Rattle.tenant_state.proofs.Keeping.{copied_in}
 use Rattle.tenant_state.proofs.receipts.Receipts.copy.Goals as goal
 

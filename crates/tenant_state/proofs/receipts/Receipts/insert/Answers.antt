@@ -1,4 +1,4 @@
-use Rattle.std.proofs.Common.{◌≡◌, ◌∙◌, ap, map, string_bytes}
+use Rattle.std.proofs.Common.{◌∙◌, ap, map, string_bytes}
 use Rattle.tenant_state.proofs.Keeping.{placed_in}
 use Rattle.tenant_state.specs.Receipts.{with_receipt}
 use Rattle.tenant_state.proofs.receipts.Receipts.insert.Goals as goal
