@@ -14,6 +14,7 @@ ghost use Rattle.tenant_messages.specs.Reply.{reply};
 use crate::accepted::Accepted;
 use crate::rules::rule_with_id;
 use crush_map::{CrushMap, Text};
+use crush_pool::Pool;
 use crush_text::{read_map, texts_are_read_as_they_say};
 use serde_json::{Value, json};
 use std::alloc::{AllocError, Global};
@@ -84,14 +85,20 @@ fn shared_version(alloc: Global, map: CrushMap) -> Result<Rc<Version>, AllocErro
     Ok(Rc::new(alloc, version)?)
 }
 
-/// Whether the rule of each pool is in a map.
+/// Whether a map has the rule of each of some pools.
+fn has_each_rule(map: &CrushMap, pools: &[Rc<Pool>]) -> bool
+    ensures { result ≡ list_all (λ p. is_some (rule_numbered map.now p.value.rule)) pools.now }
+{
+    pools
+        .iter()
+        .all(|pool| rule_with_id(map, pool.parts().rule).is_some())
+}
+
+/// The same for all pools of a tenant.
 fn has_rules_of(map: &CrushMap, pools: &Pools) -> bool
     ensures { result ≡ list_all (λ p. is_some (rule_numbered map.now p.rule)) pools.now }
 {
-    pools
-        .as_slice()
-        .iter()
-        .all(|pool| rule_with_id(map, pool.parts().rule).is_some())
+    has_each_rule(map, pools.as_slice())
 }
 
 /// The version of a text, or why there is none.

@@ -148,14 +148,18 @@ fn is_like(parts: &PoolParts, other: &PoolParts) -> bool
     other.id == parts.id || other.name.as_str() == parts.name.as_str()
 }
 
-/// Whether one of the pools has the id or the name of another.
+/// Whether one of some pools has the id or the name of another.
+fn is_any_like(parts: &PoolParts, pools: &[Rc<Pool>]) -> bool
+    ensures { result ≡ list_any (λ p. spec.is_like parts.now p.value) pools.now }
+{
+    pools.iter().any(|pool| is_like(parts, pool.parts()))
+}
+
+/// The same for all pools of a tenant.
 fn is_taken(parts: &PoolParts, pools: &Pools) -> bool
     ensures { result ≡ list_any (spec.is_like parts.now) pools.now }
 {
-    pools
-        .as_slice()
-        .iter()
-        .any(|pool| is_like(parts, pool.parts()))
+    is_any_like(parts, pools.as_slice())
 }
 
 fn creation(alloc: Global, id: u32, state: &TenantState) -> Result<Value, AllocError>
