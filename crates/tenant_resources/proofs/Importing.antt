@@ -1,7 +1,6 @@
 -- The import of a text.
-use Rattle.std.proofs.Common.{◌≡◌, ◌∙◌, ℕ, List, length, map, Bool, true, false, nat_le, is_some, Result, Ok, Err, refl, sym, ap}
+use Rattle.std.proofs.Common.{◌≡◌, ℕ, List, length, true, false, nat_le, is_some, Result, Ok, Err, refl}
 use Rattle.std.specs.List.{list_all}
-use Rattle.std.proofs.lemmas.List.Folds.{list_all-map}
 use Rattle.serde_json.specs.Data.{Data}
 use Rattle.crush_grammar.specs.declared.code.TextFault.{TextFault}
 use Rattle.crush_map.specs.Map.{Map}
@@ -25,7 +24,3 @@ pub of_map : (text : List ℕ) (state : TenantState) (m n : Map) (body : Data) �
     → list_all (λ p. is_some (rule_numbered m p.rule)) state.pools ≡ true → n ≡ m → body ≡ import_reply state
     → imported text state ≡ Ok (record { made = NewVersion n; status = Created; body = body })
 of_map text state m n body few is has same written = rw (few, is, has, same, written) refl
-
--- a test of all elements, where they are those of another list
-pub all-of : {X Y : Type 0} (test : X → Bool) (of : Y → X) (ys : List Y) (xs : List X) → map of ys ≡ xs → list_all test xs ≡ list_all (λ y. test (of y)) ys
-all-of test of ys xs are = ap (list_all test) (sym are) ∙ list_all-map test of ys

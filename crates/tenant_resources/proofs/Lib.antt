@@ -2,5 +2,5 @@ pub mod PickForms
 pub mod TestForms
 pub mod Importing
 pub mod Testing
-pub mod Creating
+pub mod Mapped
 pub mod PoolForms

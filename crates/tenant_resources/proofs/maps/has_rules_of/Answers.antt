@@ -1,6 +1,6 @@
 use Rattle.std.proofs.Common.{◌∙◌, is_some, sym}
 use Rattle.crush_pool.specs.Placements.{rule_numbered}
-use Rattle.tenant_resources.proofs.Importing.{all-of}
+use Rattle.tenant_resources.proofs.Mapped.{all-of}
 use Rattle.tenant_resources.proofs.maps.has_rules_of.Goals as goal
 
 pub returns : goal.returns

@@ -1,5 +1,5 @@
 use Rattle.std.proofs.Common.{◌∙◌, sym}
-use Rattle.tenant_resources.proofs.Creating.{any-of}
+use Rattle.tenant_resources.proofs.Mapped.{any-of}
 use Rattle.tenant_resources.proofs.pools.is_taken.Goals as goal
 use Rattle.tenant_resources.specs.Pools.{is_like}
 
