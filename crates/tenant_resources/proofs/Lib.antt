@@ -7,3 +7,5 @@ pub mod NameForms
 pub mod StoredStates
 pub mod PlainReplies
 pub mod GroupAnswers
+pub mod Mapped
+pub mod PoolForms
