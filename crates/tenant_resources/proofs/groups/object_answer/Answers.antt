@@ -16,8 +16,9 @@ returns-in-Err-Problem c =
     let there : pool c.args.id c.args.state.now ≡ Some p = pool_there c.args.id c.args.state.now c.pools.result.now p c.pools.ensures c.in-Some.ensures in
     let own : c.group_of-group.result ≡ group_of p c.args.name.now = c.group_of-group.ensures.value ∙ ap (group_of p) (c.as_bytes.ensures.value ∙ c.as_str-name.ensures.same) in
     let given = rw c.in-Err-Problem.field-0-is at c.in-Err-Problem.ensures in
+    let answer = rw c.in-Err-Problem.field-0-is at c.refused-in-Err-Problem.ensures in
     subst (λ answer. IfOk c.refused-in-Err-Problem.result (λ r. r ≡ reply answer))
-    (object_refused c.args.id c.args.name.now c.args.state.now p c.group_of-group.result c.in-Err-Problem.problem there own given) c.refused-in-Err-Problem.ensures
+    (object_refused c.args.id c.args.name.now c.args.state.now p c.group_of-group.result c.in-Err-Problem.problem there own given) answer
 
 pub returns-in_ok-object_reply-in-Ok : goal.returns-in_ok-object_reply-in-Ok
 returns-in_ok-object_reply-in-Ok c =
