@@ -99,14 +99,28 @@ finds_pool = finds_as
     (finds_object (codes "hashpspool" ∷ codes "id" ∷ codes "kind" ∷ codes "name" ∷ codes "pg_num" ∷ codes "pgp_num" ∷ codes "request" ∷ codes "rule" ∷ codes "size" ∷ []) refl
     (λ d a is. (
       is_there (codes "hashpspool") d a.1.hashpspool is.0.1.1,
-      (is_there (codes "id") d a.1.id is.0.0.0.1,
-      (is_there (codes "kind") d a.1.erasure is.0.0.1.1,
-      (is_there (codes "name") d a.1.name is.0.0.1.0,
-      (is_there (codes "pg_num") d a.1.pg_num is.0.1.0.1.0,
-      (is_there (codes "pgp_num") d a.1.pgp_num is.0.1.0.1.1,
-      (is_there (codes "request") d a.0 is.0.0.0.0,
-      (is_there (codes "rule") d a.1.rule is.0.1.0.0.1,
-      (is_there (codes "size") d a.1.size is.0.1.0.0.0, tt)))))))),
+      (
+        is_there (codes "id") d a.1.id is.0.0.0.1,
+        (
+          is_there (codes "kind") d a.1.erasure is.0.0.1.1,
+          (
+            is_there (codes "name") d a.1.name is.0.0.1.0,
+            (
+              is_there (codes "pg_num") d a.1.pg_num is.0.1.0.1.0,
+              (
+                is_there (codes "pgp_num") d a.1.pgp_num is.0.1.0.1.1,
+                (
+                  is_there (codes "request") d a.0 is.0.0.0.0,
+                  (
+                    is_there (codes "rule") d a.1.rule is.0.1.0.0.1,
+                    (is_there (codes "size") d a.1.size is.0.1.0.0.0, tt),
+                  ),
+                ),
+              ),
+            ),
+          ),
+        ),
+      ),
     ))
     (finds_tested (λ a. is_pool a.1) (λ a. is_pool a.1 ≡ true) (λ a h. h) (λ a h. h)
     (finds_both pool_with named_part sized_part (λ n s. refl) (λ n s. refl) (λ a. refl) finds_named finds_sized)))
