@@ -25,7 +25,7 @@ returns-then-not-has_rules_of-clause-given c =
     let own = subst (λ t. IsShort t × IsTextOf t c.in-Ok.map) c.as_bytes.ensures.value read in
     let asked : c.has_rules_of.result ≡ list_all (λ (p : PoolParts). is_some (rule_numbered c.in-Ok.map p.rule)) c.args.state.now.pools =
     c.has_rules_of.ensures ∙ ap (list_all (λ (p : PoolParts). is_some (rule_numbered c.in-Ok.map p.rule))) c.pools.ensures in
-    let lacks : list_all (λ (p : PoolParts). is_some (rule_numbered c.in-Ok.map p.rule)) c.args.state.now.pools ≡ false = grind (asked, c.if-not-has_rules_of.true) in
+    let lacks : list_all (λ (p : PoolParts). is_some (rule_numbered c.in-Ok.map p.rule)) c.args.state.now.pools ≡ false = grind (arith, asked, c.if-not-has_rules_of.true) in
     of_rule_in_use c.args.text.now c.args.state.now c.in-Ok.map few ((c.texts_are_read_as_they_say.ensures.map c.args.text.now c.in-Ok.map).1 own) lacks
 
 pub returns-in_ok-import_reply-in-Ok-clause-given : goal.returns-in_ok-import_reply-in-Ok-clause-given
@@ -37,6 +37,6 @@ returns-in_ok-import_reply-in-Ok-clause-given c =
     let own = subst (λ t. IsShort t × IsTextOf t c.in-Ok.map) c.as_bytes.ensures.value read in
     let asked : c.has_rules_of.result ≡ list_all (λ (p : PoolParts). is_some (rule_numbered c.in-Ok.map p.rule)) c.args.state.now.pools =
     c.has_rules_of.ensures ∙ ap (list_all (λ (p : PoolParts). is_some (rule_numbered c.in-Ok.map p.rule))) c.pools.ensures in
-    let has : list_all (λ (p : PoolParts). is_some (rule_numbered c.in-Ok.map p.rule)) c.args.state.now.pools ≡ true = grind (asked, c.if-not-has_rules_of.false) in
+    let has : list_all (λ (p : PoolParts). is_some (rule_numbered c.in-Ok.map p.rule)) c.args.state.now.pools ≡ true = grind (arith, asked, c.if-not-has_rules_of.false) in
     of_map c.args.text.now c.args.state.now c.in-Ok.map c.in_ok-version-in-Ok.version.value _ few ((c.texts_are_read_as_they_say.ensures.map c.args.text.now c.in-Ok.map).1 own) has
     c.in_ok-version-in-Ok.ensures c.in_ok-import_reply-in-Ok.ensures
