@@ -1,4 +1,4 @@
--- A map's entries, each read by a function.
+-- The entries of an ordered map, each read by a function; then results, refusals and shared states.
 use Rattle.std.proofs.Common.{◌≡◌, ◌∙◌, Bool, true, false, if◌then◌else◌, Option, Some, None, option_map, MatchOption, IsSomeAnd, Result, Ok, Err, OnOk, OnErr, refl, ap}
 use Rattle.std.specs.declared.alloc.Global.{Global}
 use Rattle.std.specs.declared.rc.Rc.{Rc}

@@ -1,5 +1,5 @@
 -- Only a text over its length is refused by X7.
-use Rattle.std.proofs.Common.{◌≡◌, ◌∙◌, ◌↔◌, ap, sym, arith, ℕ, ◌<◌, ◌⊎◌, inl, inr, List, [], ◌∷◌, length, take, slice_get, Option, Some, None, option_map, IsSomeAnd}
+use Rattle.std.proofs.Common.{◌≡◌, ◌∙◌, ◌↔◌, ap, sym, arith, ℕ, ◌<◌, inl, inr, List, [], ◌∷◌, length, take, slice_get, Option, Some, None, option_map, IsSomeAnd}
 use Rattle.crush_map.specs.declared.fault.FaultCode.{FaultCode}
 use Rattle.crush_map.specs.Faults.{or_else}
 use Rattle.crush_words.specs.Words.{Word, words}

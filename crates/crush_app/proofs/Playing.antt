@@ -1,4 +1,4 @@
--- A script goes on.
+-- A script is played line by line.
 use Rattle.std.proofs.Common.{◌≡◌, ℕ, ◌==◌, ◌≤◌, List, [], ◌∷◌, ◌++◌, length, map, filter, length-append, Bool, true, false, if◌then◌else◌, Option, Some, None, refl, ap, sym, ◌∙◌, arith, append_assoc}
 use Rattle.std.proofs.lemmas.Bool.Decides.{nat_tests}
 use Rattle.std.specs.Io.KnownBytes.{Appends}
@@ -8,7 +8,7 @@ use Rattle.tenant_messages.specs.declared.call.Call.{Call}
 use Rattle.tenant_messages.specs.declared.reply.Reply.{Reply}
 use Rattle.tenant_core.proofs.Running.{run_both, run_one, run_none}
 use Rattle.crush_app.specs.Play.{Plays, PlaysUpTo, WritesHeadline, AppendsPart}
-use Rattle.crush_app.specs.Script.{bad_line, call_of, calls_in, is_nonempty, messages_in, messages, output, wire}
+use Rattle.crush_app.specs.Script.{bad_line, call_of_line, calls_in, is_nonempty, messages_in, messages, output, wire}
 use Rattle.crush_app.proofs.Writing.{appends_both, appends_none}
 
 append_none : {A : Type 0} (xs : List A) → xs ++ [] ≡ xs
@@ -29,7 +29,7 @@ output-append (None ∷ ms) ns rs qs h = ap (λ ys. wire bad_line ++ ys) (output
 output-append (Some c ∷ ms) ns [] qs h = absurd (omega arith)
 output-append (Some c ∷ ms) ns (r ∷ rs) qs h = ap (λ ys. wire r ++ ys) (output-append ms ns rs qs (omega arith)) ∙ sym (append_assoc (wire r) (output ms rs) (output ns qs))
 
-filter-front : (b : Bool) (line : List ℕ) (rest : List (List ℕ)) → map call_of (if b then line ∷ filter is_nonempty rest else filter is_nonempty rest) ≡ map call_of (if b then line ∷ [] else []) ++ map call_of (filter is_nonempty rest)
+filter-front : (b : Bool) (line : List ℕ) (rest : List (List ℕ)) → map call_of_line (if b then line ∷ filter is_nonempty rest else filter is_nonempty rest) ≡ map call_of_line (if b then line ∷ [] else []) ++ map call_of_line (filter is_nonempty rest)
 filter-front true line rest = refl
 filter-front false line rest = refl
 
@@ -53,15 +53,15 @@ plays_both old mid new a b c ms ns first second = record {
 
 -- a call, and its reply as a line
 pub plays_call : (old new : States) (call : Call) (reply : Reply) (a b : Option (List ℕ)) → Answers call old new reply → Appends a b (wire reply) → Plays old new (Some call ∷ []) a b
-plays_call old new call reply a b answered written = record {
+plays_call old new call reply a b answers written = record {
   replies = reply ∷ [];
-  meets = run_one old new call reply answered;
+  meets = run_one old new call reply answers;
   written = rw (append_none (wire reply)) written;
 }
 
 -- a call, and its reply as a line in part
 pub cut_call : (old new : States) (call : Call) (reply : Reply) (a b : Option (List ℕ)) → Answers call old new reply → AppendsPart a b (wire reply) → PlaysUpTo old new (Some call ∷ []) a b
-cut_call old new call reply a b answered part = record {
+cut_call old new call reply a b answers part = record {
   before = [];
   cut = Some call;
   later = [];
@@ -69,7 +69,7 @@ cut_call old new call reply a b answered part = record {
   replies = [];
   last = reply ∷ [];
   count = refl;
-  meets = run_one old new call reply answered;
+  meets = run_one old new call reply answers;
   line = part.front.front;
   rest = part.rest;
   some = part.some;
@@ -173,7 +173,7 @@ rest_none old new a b input (x ∷ rest) h played = absurd (omega arith)
 
 pub headline_whole : (old new : States) (ms : List (Option Call)) (a b : Option (List ℕ)) → Plays old new ms a b → WritesHeadline old ms a b
 headline_whole old new ms a b plays = record {
-  answered = ms;
+  served = ms;
   later = [];
   all = append_none ms;
   replies = plays.replies;
@@ -184,7 +184,7 @@ headline_whole old new ms a b plays = record {
 
 pub headline_part : (old new : States) (ms : List (Option Call)) (a b : Option (List ℕ)) → PlaysUpTo old new ms a b → WritesHeadline old ms a b
 headline_part old new ms a b plays = record {
-  answered = plays.before ++ plays.cut ∷ [];
+  served = plays.before ++ plays.cut ∷ [];
   later = plays.later;
   all = append_assoc plays.before (plays.cut ∷ []) plays.later ∙ plays.all;
   replies = plays.replies ++ plays.last;

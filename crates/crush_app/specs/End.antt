@@ -4,18 +4,18 @@ use Rattle.std.specs.declared.alloc.AllocError.{AllocError}
 use Rattle.crush_app.specs.declared.play.ScriptEnd.{ScriptEnd}
 use Rattle.crush_app.specs.declared.play.ScriptEnd.TheVariants.{Done, TooLong, ReadFault, WriteFault}
 
--- the input was read whole, and its lines were answered
-abbrev pub AnswersLines : Result ScriptEnd AllocError → Type 0
-AnswersLines (Ok Done) = ⊤
-AnswersLines (Ok WriteFault) = ⊤
-AnswersLines (Ok TooLong) = ⊥
-AnswersLines (Ok ReadFault) = ⊥
-AnswersLines (Err e) = ⊥
+-- the input was read whole, and its lines were served, all or a first part
+abbrev pub ServesLines : Result ScriptEnd AllocError → Type 0
+ServesLines (Ok Done) = ⊤
+ServesLines (Ok WriteFault) = ⊤
+ServesLines (Ok TooLong) = ⊥
+ServesLines (Ok ReadFault) = ⊥
+ServesLines (Err e) = ⊥
 
--- it was not, and no line was answered
-abbrev pub AnswersNone : Result ScriptEnd AllocError → Type 0
-AnswersNone (Ok Done) = ⊥
-AnswersNone (Ok WriteFault) = ⊥
-AnswersNone (Ok TooLong) = ⊤
-AnswersNone (Ok ReadFault) = ⊤
-AnswersNone (Err e) = ⊤
+-- it was not, and no line was served
+abbrev pub ServesNone : Result ScriptEnd AllocError → Type 0
+ServesNone (Ok Done) = ⊥
+ServesNone (Ok WriteFault) = ⊥
+ServesNone (Ok TooLong) = ⊤
+ServesNone (Ok ReadFault) = ⊤
+ServesNone (Err e) = ⊤

@@ -22,14 +22,14 @@ pub record AppendsPart (old new : Option (List ℕ)) (bytes : List ℕ) : Type 0
 
 -- ---- messages
 
--- the calls among the messages were answered as the definition says, and the lines of all messages were written
+-- the messages were served: their calls as the definition says, and their lines were written
 pub record Plays (old new : States) (ms : List (Option Call)) (from to : Option (List ℕ)) : Type 0 where
   pub replies : List Reply
   pub meets : MeetsDefinition old new (calls_in ms) replies
   pub written : Appends from to (output ms replies)
 
--- the messages before one were answered and their lines written whole; that one was answered, and its line was written
--- in part; no later message was answered
+-- the messages before one were served and their lines written whole; that one was served, and its line was written
+-- in part; no later message was served
 pub record PlaysUpTo (old new : States) (ms : List (Option Call)) (from to : Option (List ℕ)) : Type 0 where
   pub before : List (Option Call)
   pub cut : Option Call
@@ -48,10 +48,10 @@ pub record PlaysUpTo (old new : States) (ms : List (Option Call)) (from to : Opt
 -- the headline: what was written is a first part of the lines for the first messages and the replies to their calls,
 -- and for every tenant those of these replies other than 503 are the definition's
 pub record WritesHeadline (old : States) (ms : List (Option Call)) (from to : Option (List ℕ)) : Type 0 where
-  pub answered : List (Option Call)
+  pub served : List (Option Call)
   pub later : List (Option Call)
-  pub all : answered ++ later ≡ ms
+  pub all : served ++ later ≡ ms
   pub replies : List Reply
   pub rest : List ℕ
-  pub written : AppendsUpTo rest from to (output answered replies)
-  pub headline : Headline old (calls_in answered) replies
+  pub written : AppendsUpTo rest from to (output served replies)
+  pub headline : Headline old (calls_in served) replies

@@ -18,8 +18,8 @@ abbrev pub text_of : List ℕ → Option (List ℕ)
 text_of bytes = if is_utf8 bytes then Some bytes else None
 
 -- METHOD, a space and PATH, and after one more space BODY; without that space BODY is empty
-abbrev pub call_of : List ℕ → Option Call
-call_of line =
+abbrev pub call_of_line : List ℕ → Option Call
+call_of_line line =
     if list_any is_space line then
     (let rest = after_first is_space line in
     option_map (λ path. record { method = before_first is_space line; path = path; body = after_first is_space rest }) (text_of (before_first is_space rest))) else None
@@ -29,7 +29,7 @@ is_nonempty line = nat_lt 0 (length line)
 
 -- the messages of some lines: for each that isn't empty its call, or none where it doesn't have the form of one
 abbrev pub messages_in : List (List ℕ) → List (Option Call)
-messages_in ls = map call_of (filter is_nonempty ls)
+messages_in ls = map call_of_line (filter is_nonempty ls)
 
 -- the messages of an input. Its lines end with LF, one CR before an LF is dropped, and the last LF may be missing
 abbrev pub messages : List ℕ → List (Option Call)
@@ -42,7 +42,7 @@ calls_in (Some call ∷ ms) = call ∷ calls_in ms
 
 -- ---- from replies to bytes
 
--- the body as it is written: the text of a reply for want of memory is put in here
+-- the body as it is written. A reply for want of memory has no body, so its text is put in here
 abbrev pub shown_body : List ℕ → List ℕ
 shown_body [] = codes "{\"error\":\"no_memory\"}"
 shown_body (b ∷ body) = b ∷ body

@@ -120,7 +120,7 @@ pub fn check_run<R: Read, W: Write>(
     ensures refused { result ≡ Ok CheckEnd.Refused → IfSome (R.remaining reader.old)
         (λ input. (f : spec_fault.TextFault) × IsRefusedFor input f × ((f.code ≡ X7) ↔ (524288 < length input)) × Appends (W.contents writer.old) (W.contents writer.new) (line_of_fault f)) }
 
-    // Conversely, where a line was written it is that of whatever map the input is a text of, or of whatever fault it is refused for.
+    // Conversely, where a line was written: if the input is a text of a map it is the line of that map, and if it is refused for a fault, of that fault.
     ensures of_map { WritesLine result → IfSome (R.remaining reader.old)
         (λ input. (m : Map) → IsShort input → IsTextOf input m → (result ≡ Ok CheckEnd.Accepted) × Appends (W.contents writer.old) (W.contents writer.new) (line_of_map m)) }
     ensures of_fault { WritesLine result → IfSome (R.remaining reader.old)

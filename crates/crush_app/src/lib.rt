@@ -1,8 +1,9 @@
-//! The service of all tenants, and scripts of requests to it.
+//! The service of all tenants, scripts of requests to it, and checks of map texts.
 #![tactic(auto)]
 
 mod check;
 mod input;
+pub mod laws;
 mod memory_store;
 mod play;
 mod script;

@@ -14,8 +14,12 @@ use tenant_state::{Change, TenantState};
 type States = BTreeMap<String, Rc<TenantState>>;
 
 /// Makes a change of a shared state: in place where it has no other owner, and else on a copy, which shares versions and receipts.
-/// A refused call changes nothing.
-fn change(alloc: Global, shared: &mut Rc<TenantState>, change: &Change) -> Result<(), AllocError>
+/// Where memory is wanting, nothing is changed.
+fn change_shared(
+    alloc: Global,
+    shared: &mut Rc<TenantState>,
+    change: &Change,
+) -> Result<(), AllocError>
     ensures ok { OnOk result (shared.new.value ≡ after change.now shared.old.value) }
     ensures err { OnErr result (shared.new.value ≡ shared.old.value) }
 {
@@ -29,24 +33,24 @@ fn change(alloc: Global, shared: &mut Rc<TenantState>, change: &Change) -> Resul
     }
 }
 
-/// Makes a change of the state of a name, if it has one. A refused call changes nothing.
+/// Makes a change of the state of a name, if it has one. Where memory is wanting, nothing is changed.
 fn change_named(
     alloc: Global,
     states: &mut States,
     name: &str,
-    made: &Change,
+    change: &Change,
 ) -> Result<(), AllocError>
     ensures ok { OnOk result ((u : List ℕ) → option_map (λ r. r.value) (get_by_text states.new u)
-        ≡ (if bytes_eq name.now u then option_map (λ r. after made.now r.value) (get_by_text states.old u) else option_map (λ r. r.value) (get_by_text states.old u))) }
+        ≡ (if bytes_eq name.now u then option_map (λ r. after change.now r.value) (get_by_text states.old u) else option_map (λ r. r.value) (get_by_text states.old u))) }
     ensures err { OnErr result ((u : List ℕ) → option_map (λ r. r.value) (get_by_text states.new u) ≡ option_map (λ r. r.value) (get_by_text states.old u)) }
 {
     match states.get_mut(name) {
-        Some(shared) => change(alloc, shared, made),
+        Some(shared) => change_shared(alloc, shared, change),
         None => Ok(()),
     }
 }
 
-/// Sets the state of a name. A refused call changes nothing.
+/// Sets the state of a name. Where memory is wanting, nothing is changed.
 fn put(alloc: Global, states: &mut States, name: &str, state: TenantState) -> Result<(), AllocError>
     ensures ok { OnOk result ((u : List ℕ) → option_map (λ r. r.value) (get_by_text states.new u)
         ≡ (if bytes_eq name.now u then Some state else option_map (λ r. r.value) (get_by_text states.old u))) }
@@ -66,7 +70,7 @@ fn take_out(states: &mut States, name: &str)
     let _state = states.remove(name);
 }
 
-/// The states of all tenants in memory; they end with it.
+/// The states of all tenants, in memory: they are gone when it is dropped.
 #[derive(Drop)]
 pub struct MemoryStore {
     alloc: Global,
@@ -74,18 +78,11 @@ pub struct MemoryStore {
 }
 
 impl MemoryStore {
-    ghost use Rattle.std.specs.Prelude.{◌≡◌, ℕ, List, Option, None};
-    ghost use Rattle.tenant_state.specs.State.{TenantState};
-    ghost use Rattle.crush_app.specs.declared.memory_store.MemoryStore.{MemoryStore};
+    ghost use Rattle.std.specs.Prelude.{ℕ, List, None};
 
     /// A store with no tenant. Allocates nothing.
-    ///
-    /// Every store of this type is honest, and in every one each name has exactly one state.
     pub fn new(alloc: Global) -> Self
-        ensures empty { (name : List ℕ) → ⟦<MemoryStore as TenantStore>⟧.has_state result name None }
-        ensures honest { (store : MemoryStore) → ⟦<MemoryStore as TenantStore>⟧.is_honest store }
-        ensures some_state { (store : MemoryStore) (name : List ℕ) → (s : Option TenantState) × ⟦<MemoryStore as TenantStore>⟧.has_state store name s }
-        ensures one_state { (store : MemoryStore) (name : List ℕ) (s u : Option TenantState) → ⟦<MemoryStore as TenantStore>⟧.has_state store name s → ⟦<MemoryStore as TenantStore>⟧.has_state store name u → s ≡ u }
+        ensures { (name : List ℕ) → ⟦<MemoryStore as TenantStore>⟧.has_state result name None }
     {
         MemoryStore {
             alloc,

@@ -1,16 +1,16 @@
-//! Scripts: each line of an input is answered by the service, and its reply written.
+//! Scripts: the service serves each line of an input, and its reply is written.
 
 ghost use Rattle.std.specs.Prelude.{◌≡◌, ◌≤◌, ◌<◌, ◌∷◌, [], length, IsTrue, IfSome, option_map};
 ghost use Rattle.std.specs.Bool.{IsFalse};
 ghost use Rattle.std.specs.Io.KnownBytes.{Keeps as KeepsBytes};
 ghost use Rattle.tenant_messages.specs.CallParts.{call_of};
 ghost use Rattle.tenant_core.specs.States.{Same};
-ghost use Rattle.crush_app.specs.End.{AnswersLines, AnswersNone};
+ghost use Rattle.crush_app.specs.End.{ServesLines, ServesNone};
 ghost use Rattle.crush_app.specs.Play.{Plays, PlaysUpTo, WritesHeadline};
 ghost use Rattle.crush_app.specs.Script.{bad_line, messages, messages_in, input_limit};
 
 use crate::input::{InputFault, read_input};
-use crate::script::{call_of as call_in, first_line};
+use crate::script::{call_of_line, first_line};
 use crate::service::Service;
 use crate::wire::write_line;
 use std::alloc::{AllocError, Global};
@@ -24,13 +24,13 @@ const SCRIPT_LIMIT: u32 = 67_108_864;
 /// How a script ended.
 #[derive(Clone, Copy, Debug, PartialEq, Eq)]
 pub enum ScriptEnd {
-    /// Every line was answered, and its reply written.
+    /// Every line was served, and its reply written.
     Done,
-    /// The input is over 67,108,864 bytes. No line was answered.
+    /// The input is over 67,108,864 bytes. No line was served.
     TooLong,
-    /// The input couldn't be read. No line was answered.
+    /// The input couldn't be read. No line was served.
     ReadFault,
-    /// A reply couldn't be written. No later line was answered.
+    /// A reply couldn't be written. No later line was served.
     WriteFault,
 }
 
@@ -68,7 +68,7 @@ fn play_line<T: TenantStore, W: Write>(
     if line.is_empty() {
         true
     } else {
-        play_message(service, bad, call_in(line), writer)
+        play_message(service, bad, call_of_line(line), writer)
     }
 }
 
@@ -95,34 +95,34 @@ fn play<T: TenantStore, W: Write>(
     true
 }
 
-/// Reads a whole script, answers its lines in order and writes a line for each reply. An empty line has no reply.
-/// The only `Err` is want of memory for the script itself: then no line was answered.
+/// Reads a whole script, serves its lines in order and writes a line for each reply. An empty line has no reply.
+/// The only `Err` is want of memory for the script itself: then no line was served.
 pub fn script_run<T: TenantStore, R: Read, W: Write>(
     alloc: Global,
     service: &mut Service<T>,
     reader: &mut R,
     writer: &mut W,
 ) -> Result<ScriptEnd, AllocError>
-    // `Done`: all lines of the input were answered; their replies were written, and nothing else.
+    // `Done`: all lines of the input were served; their replies were written, and nothing else.
     ensures done { T.is_honest service.new → result ≡ Ok ScriptEnd.Done → IfSome (R.remaining reader.old)
         (λ input. Plays (T.has_state service.old) (T.has_state service.new) (messages input) (W.contents writer.old) (W.contents writer.new)) }
 
-    // `WriteFault`: the replies before the failed one were written whole, that one in part, and no later line was answered.
+    // `WriteFault`: the replies before the failed one were written whole, that one in part, and no later line was served.
     ensures cut { T.is_honest service.new → result ≡ Ok ScriptEnd.WriteFault → IfSome (R.remaining reader.old)
         (λ input. PlaysUpTo (T.has_state service.old) (T.has_state service.new) (messages input) (W.contents writer.old) (W.contents writer.new)) }
 
     // The headline: for every tenant, the written replies other than 503 are those of the definition, run over just the calls
     // that have such a reply, from the state that the tenant had.
-    ensures headline { T.is_honest service.new → AnswersLines result → IfSome (R.remaining reader.old)
+    ensures headline { T.is_honest service.new → ServesLines result → IfSome (R.remaining reader.old)
         (λ input. WritesHeadline (T.has_state service.old) (messages input) (W.contents writer.old) (W.contents writer.new)) }
 
     // An input is too long exactly by its length.
-    ensures short { AnswersLines result → IfSome (R.remaining reader.old) (λ input. length input ≤ input_limit) }
+    ensures short { ServesLines result → IfSome (R.remaining reader.old) (λ input. length input ≤ input_limit) }
     ensures long { result ≡ Ok ScriptEnd.TooLong → IfSome (R.remaining reader.old) (λ input. input_limit < length input) }
 
     // Otherwise no state changed, and nothing was written.
-    ensures none { T.is_honest service.new → AnswersNone result → Same (T.has_state service.old) (T.has_state service.new) }
-    ensures silent { AnswersNone result → KeepsBytes (W.contents writer.old) (W.contents writer.new) }
+    ensures none { T.is_honest service.new → ServesNone result → Same (T.has_state service.old) (T.has_state service.new) }
+    ensures silent { ServesNone result → KeepsBytes (W.contents writer.old) (W.contents writer.new) }
     ensures honest { T.is_honest service.new → T.is_honest service.old }
 {
     let input = match read_input(alloc, reader, SCRIPT_LIMIT) {

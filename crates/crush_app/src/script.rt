@@ -8,7 +8,7 @@ ghost use Rattle.crush_app.specs.Script as spec;
 
 use tenant_messages::CallParts;
 
-/// The index of the first such byte.
+/// The index of the first byte that is this one.
 fn index_of(bytes: &[u8], byte: u8) -> Option<usize>
     ensures { result ≡ position (λ b. b == byte) bytes.now }
 {
@@ -39,8 +39,8 @@ fn as_text(bytes: &[u8]) -> Option<&str>
 }
 
 /// The call of a line, if the line has the form of one.
-pub(crate) fn call_of(line: &[u8]) -> Option<CallParts<'_>>
-    ensures { option_map call_of result ≡ spec.call_of line.now }
+pub(crate) fn call_of_line(line: &[u8]) -> Option<CallParts<'_>>
+    ensures { option_map call_of result ≡ spec.call_of_line line.now }
 {
     if !has_space(line) {
         return None;
@@ -51,7 +51,7 @@ pub(crate) fn call_of(line: &[u8]) -> Option<CallParts<'_>>
     Some(CallParts { method, path, body })
 }
 
-/// A line without a CR at its end.
+/// The line, less one CR at its end.
 fn without_return(line: &[u8]) -> &[u8]
     ensures { result.now ≡ strip_carriage_return line.now }
 {

@@ -17,7 +17,11 @@ use tenant_core::{
 use tenant_messages::{Call, CallParts, Refusal, Reply, refused};
 
 /// Carries out the effect of a request on its tenant.
-fn carry_out<T: TenantStore>(store: &mut T, tenant: &str, effect: &Effect) -> Result<(), StoreFault>
+fn carry_out_effect<T: TenantStore>(
+    store: &mut T,
+    tenant: &str,
+    effect: &Effect,
+) -> Result<(), StoreFault>
     requires { T.is_honest store.old → (s : Option TenantState) × T.has_state store.old tenant.now s × Fits effect.now s }
     ensures left { T.is_honest store.new → (s : Option TenantState) → T.has_state store.old tenant.now s → Fits effect.now s → OnOk result (T.has_state store.new tenant.now (after_effect effect.now s)) }
     ensures others { T.is_honest store.new → (t : List ℕ) (s : Option TenantState) → t ≢ tenant.now → (T.has_state store.old t s ↔ T.has_state store.new t s) }
@@ -49,7 +53,7 @@ fn perform<T: TenantStore>(
     let decision = decide(alloc, tenant, state.as_deref(), &request.action)?;
     // drops the shared state first, so that the store may change it in place
     drop(state);
-    carry_out(store, tenant, &decision.effect)?;
+    carry_out_effect(store, tenant, &decision.effect)?;
     Ok(decision.reply)
 }
 
@@ -89,17 +93,12 @@ impl<T: TenantStore> Model for Service<T> {
 }
 
 impl Service<MemoryStore> {
-    ghost use Rattle.std.specs.Prelude.{◌≡◌, ℕ, List, Option, None, IfOk};
-    ghost use Rattle.tenant_state.specs.State.{TenantState};
-    ghost use Rattle.crush_app.specs.declared.memory_store.MemoryStore.{MemoryStore};
+    ghost use Rattle.std.specs.Prelude.{ℕ, List, None, IfOk};
 
-    /// A service over a store in memory, with no tenant. Such a store is always honest, and each name has exactly one state
-    /// in it, so the headline holds of this service without a premise.
-    pub fn over_map(alloc: Global) -> Result<Self, AllocError>
-        ensures empty { IfOk result (λ service. (name : List ℕ) → ⟦<MemoryStore as TenantStore>⟧.has_state service name None) }
-        ensures honest { (store : MemoryStore) → ⟦<MemoryStore as TenantStore>⟧.is_honest store }
-        ensures some_state { (store : MemoryStore) (name : List ℕ) → (s : Option TenantState) × ⟦<MemoryStore as TenantStore>⟧.has_state store name s }
-        ensures one_state { (store : MemoryStore) (name : List ℕ) (s u : Option TenantState) → ⟦<MemoryStore as TenantStore>⟧.has_state store name s → ⟦<MemoryStore as TenantStore>⟧.has_state store name u → s ≡ u }
+    /// A service over a store in memory, with no tenant. By `memory_stores_are_honest` the headline holds of this service
+    /// without a premise.
+    pub fn in_memory(alloc: Global) -> Result<Self, AllocError>
+        ensures { IfOk result (λ service. (name : List ℕ) → ⟦<MemoryStore as TenantStore>⟧.has_state service name None) }
     {
         Service::over(alloc, MemoryStore::new(alloc))
     }
@@ -126,10 +125,10 @@ impl<T: TenantStore> Service<T> {
     ghost use Rattle.tenant_messages.specs.CallParts.{call_of};
     ghost use Rattle.tenant_core.specs.States.{Same, Answers, MeetsDefinition, Headline, Leaves, AllAnswerNobody, KeepsDamaged, NamesCause};
 
-    /// Answers a call. The reply is the definition's for the state of the call's tenant, which then has the definition's
+    /// Serves a call. The reply is the definition's for the state of the call's tenant, which then has the definition's
     /// new state, and every other tenant keeps its own; or the reply is 503, and every tenant keeps its state.
     pub fn request(&mut self, call: CallParts<'_>) -> Reply
-        ensures answered { T.is_honest self.new → Answers (call_of call.entry) (T.has_state self.old) (T.has_state self.new) result }
+        ensures answers { T.is_honest self.new → Answers (call_of call.entry) (T.has_state self.old) (T.has_state self.new) result }
         ensures honest { T.is_honest self.new → T.is_honest self.old }
     {
         match reply_or_fault(self.alloc, &self.routes, &mut self.store, call) {
@@ -138,8 +137,8 @@ impl<T: TenantStore> Service<T> {
         }
     }
 
-    /// Answers the calls in order and appends their replies. `replies` has the capacity for them.
-    fn answer_all(&mut self, calls: &[Call], replies: &mut Vec<Reply>)
+    /// Serves the calls in order and appends their replies. `replies` has the capacity for them.
+    fn serve_all(&mut self, calls: &[Call], replies: &mut Vec<Reply>)
         requires empty { replies.old.items ≡ [] }
         requires room { length calls.now ≤ vec_capacity replies.old }
         ensures count { length replies.new.items ≡ length calls.now }
@@ -154,7 +153,7 @@ impl<T: TenantStore> Service<T> {
         }
     }
 
-    /// Answers the calls in order. Where there is no memory for the list of replies, no call is made.
+    /// Serves the calls in order. Where there is no memory for the list of replies, none is served.
     ///
     /// The headline: for every list of calls and every tenant, the replies to that tenant other than 503 are those of the
     /// definition, run over just the calls that have such a reply, from the state that the tenant had (`None`: it was absent).
@@ -169,7 +168,7 @@ impl<T: TenantStore> Service<T> {
         ensures honest { T.is_honest self.new → T.is_honest self.old }
     {
         let mut replies = Vec::with_capacity(self.alloc, calls.len())?;
-        self.answer_all(calls, &mut replies);
+        self.serve_all(calls, &mut replies);
         Ok(replies)
     }
 }

@@ -34,7 +34,7 @@ fn write_both<W: Write>(writer: &mut W, first: &[u8], second: &[u8]) -> bool
     write_whole(writer, second)
 }
 
-/// The body as it is written: the text of a reply for want of memory is put in here.
+/// The body as it is written. A reply for want of memory has no body, so its text is put in here.
 fn shown_body(body: &str) -> &[u8]
     ensures { result.now ≡ spec.shown_body body.now }
 {

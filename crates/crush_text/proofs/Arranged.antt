@@ -1,5 +1,6 @@
 -- Items in order of place, by a table.
 use Rattle.std.proofs.Common.{◌≡◌, ◌∙◌, ◌<◌, ◌+◌, ℕ, zero, suc, Option, Some, None, List, [], ◌∷◌, ◌++◌, refl, sym, ap, map, length, take, drop, get_or, drop-cons, add-one, arith, option_map, find, filter, is_none}
+use Rattle.std.proofs.lemmas.List.{map-append}
 use Rattle.crush_grammar.specs.declared.declaration.DeclaredItem.{DeclaredItem}
 use Rattle.crush_text.specs.Places.{fill, names_place, in_place}
 use Rattle.crush_text.specs.Private.Tables.{arrange}
@@ -15,10 +16,6 @@ map_take f (x ∷ xs) = refl
 map_drop : {X Y : Type 0} (f : X → Y) (xs : List X) → map f (drop 1 xs) ≡ drop 1 (map f xs)
 map_drop f [] = refl
 map_drop f (x ∷ xs) = refl
-
-map_append : {X Y : Type 0} (f : X → Y) (xs ys : List X) → map f (xs ++ ys) ≡ map f xs ++ map f ys
-map_append f [] ys = refl
-map_append f (x ∷ xs) ys = ap (λ zs. f x ∷ zs) (map_append f xs ys)
 
 drop_end : {X : Type 0} (xs : List X) (k : ℕ) → k ≡ length xs → drop k xs ≡ []
 drop_end [] zero h = refl
@@ -38,7 +35,7 @@ one_place : {X : Type 0} (f : DeclaredItem → X) (items : List DeclaredItem) (k
 one_place f items k n others rest (Some item) e h = ap (map f) (named_place items k n others item e) ∙ ap (λ zs. f item ∷ zs) (h others)
 one_place f items k n others rest None e h =
     ap (map f) (free_place items k n others e)
-    ∙ (map_append f (take 1 others) (fill items (k + 1) n (drop 1 others)) ∙ rw (map_take f others, h (drop 1 others), map_drop f others) refl)
+    ∙ (map-append f (take 1 others) (fill items (k + 1) n (drop 1 others)) ∙ rw (map_take f others, h (drop 1 others), map_drop f others) refl)
 
 pub fill_is_arranged : {X : Type 0} (f : DeclaredItem → X) (items : List DeclaredItem) (table : List (Option X)) (k n : ℕ) (others : List DeclaredItem) → length table ≡ length items → k + n ≡ length items → IsTable f items table →
     map f (fill items k n others) ≡ arrange (drop k table) (map f others)

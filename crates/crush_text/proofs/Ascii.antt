@@ -28,6 +28,7 @@ use Rattle.crush_text.proofs.Spelt.{both}
 use Rattle.crush_text.proofs.Numerals.{IsWithin}
 use Rattle.crush_text.proofs.Trees.{HasForm, IsWritten, StepForm, IsWrittenRule, all_mapped}
 use Rattle.crush_text.proofs.SoundMap.{Sound, all_by, bucket_is_written, rule_is_written}
+use Rattle.crush_text.proofs.Back.{wider}
 use Rattle.crush_text.proofs.Judged.{ranges}
 
 -- ---- words
@@ -132,10 +133,6 @@ of_choose : (leaf : Bool) → IsAscii (choose_text leaf)
 of_choose true = fixed (codes "chooseleaf") refl
 of_choose false = fixed (codes "choose") refl
 
-count : (z : ℤ) → IsWithin 64 z → IsWithin 65536 z
-count (pos n) h = omega arith
-count (negsuc n) h = omega arith
-
 of_step : (m : Map) (s : Step) → StepForm m s → IsAscii (step_line m s)
 unfolding step_line
 of_step m (Take id) form = of_inner_line (codes "step" ∷ codes "take" ∷ item_name m id.0 ∷ []) (fixed (codes "step") refl, (fixed (codes "take") refl, (name (item_name m id.0) form, tt)))
@@ -145,7 +142,7 @@ of_step m (SetVaryR value) form = of_inner_line (codes "step" ∷ codes "set_cho
 of_step m (SetStable value) form = of_inner_line (codes "step" ∷ codes "set_chooseleaf_stable" ∷ decimal value ∷ []) (fixed (codes "step") refl, (fixed (codes "set_chooseleaf_stable") refl, (number value (omega arith), tt)))
 of_step m (Choose firstn leaf n wanted) form =
     of_inner_line (codes "step" ∷ choose_text leaf ∷ firstn_text firstn ∷ signed_decimal n ∷ codes "type" ∷ type_name m.types wanted ∷ [])
-    (fixed (codes "step") refl, (of_choose leaf, (of_firstn firstn, (integer n (count n form.0), (fixed (codes "type") refl, (name (type_name m.types wanted) form.1, tt))))))
+    (fixed (codes "step") refl, (of_choose leaf, (of_firstn firstn, (integer n (wider n form.0), (fixed (codes "type") refl, (name (type_name m.types wanted) form.1, tt))))))
 of_step m Emit form = of_inner_line (codes "step" ∷ codes "emit" ∷ []) (fixed (codes "step") refl, (fixed (codes "emit") refl, tt))
 
 of_erasure : (erasure : Bool) → IsAscii (erasure_text erasure)

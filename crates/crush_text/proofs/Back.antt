@@ -22,7 +22,7 @@ use Rattle.crush_text.specs.Judging.{Declared, fitted, fitted_integer, type_numb
 use Rattle.crush_text.proofs.Spelt.{both}
 use Rattle.crush_text.proofs.Numerals.{IsWithin}
 use Rattle.crush_text.proofs.Names.{type_comes_back, item_comes_back}
-use Rattle.crush_text.proofs.Going.{first_none, second_none}
+use Rattle.crush_text.proofs.Checks.{first_none, second_none}
 use Rattle.crush_text.proofs.Trees.{item_declared, step_declared}
 
 -- ---- numbers that fit
@@ -42,7 +42,7 @@ pub count_within : (z : ℤ) → is_count z ≡ true → IsWithin 64 z
 count_within (pos n) h = grind (arith, nat_tests)
 count_within (negsuc n) h = let low = (both (nat_le n 63) true h).0 in grind (arith, nat_tests)
 
-wider : (z : ℤ) → IsWithin 64 z → IsWithin 65536 z
+pub wider : (z : ℤ) → IsWithin 64 z → IsWithin 65536 z
 wider (pos n) h = omega arith
 wider (negsuc n) h = omega arith
 

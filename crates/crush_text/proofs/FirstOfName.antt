@@ -3,6 +3,7 @@ use Rattle.std.proofs.Common.{◌≡◌, ◌∙◌, Bool, true, false, cond, Opt
 use Rattle.std.specs.Option.{option_or}
 use Rattle.std.proofs.lemmas.List.Folds.{find-append}
 use Rattle.crush_text.specs.Private.Tables.{first_value}
+use Rattle.crush_text.proofs.Named.{is_none_of}
 use Rattle.std.proofs.lemmas.Slice.Eq.{bytes_eq-Decides}
 
 stays : {V : Type 0} (o : Option V) (b : Bool) (v : V) → (b ≡ true → is_some o ≡ true) → o ≡ option_or o (cond b (Some v) None)
@@ -18,10 +19,6 @@ comes (Some w) true v h = let e = h refl in cc
 
 same : (xs ys : List ℕ) → bytes_eq xs ys ≡ true → xs ≡ ys
 same xs ys e = (bytes_eq-Decides xs ys).0 e
-
-is_none_of : {V : Type 0} (o : Option V) → is_some o ≡ false → o ≡ None
-is_none_of None h = refl
-is_none_of (Some v) h = cc
 
 -- the name has a value: nothing changes
 pub first_stays : {V : Type 0} (get : List ℕ → Option V) (name : List ℕ) (value : V) → is_some (get name) ≡ true → (key : List ℕ) → get key ≡ first_value get name value key

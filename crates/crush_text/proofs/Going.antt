@@ -1,19 +1,12 @@
 -- Declarations without a fault, one behind the other.
-use Rattle.std.proofs.Common.{◌≡◌, ◌∙◌, ℕ, ◌+◌, List, [], ◌∷◌, ◌++◌, refl, sym, ap, subst, append_assoc, None, Option, Some}
+use Rattle.std.proofs.Common.{◌≡◌, ◌∙◌, ℕ, ◌+◌, List, [], ◌∷◌, ◌++◌, refl, sym, ap, subst, append_assoc, None}
 use Rattle.std.proofs.lemmas.List.{append-nil}
 use Rattle.crush_map.specs.Faults.{or_else}
 use Rattle.crush_grammar.specs.declared.declaration.Declaration.{Declaration}
 use Rattle.crush_text.specs.Judging.{Declared, declaration_fault, declare, declared_from, fault_from}
 use Rattle.crush_text.proofs.Spelt.{numbered}
+use Rattle.crush_text.proofs.Checks.{first_none, second_none}
 use Rattle.crush_text.proofs.Found.{AtEach}
-
-pub first_none : {X : Type 0} (x y : Option X) → or_else x y ≡ None → x ≡ None
-first_none None y h = refl
-first_none (Some x) y h = cc
-
-pub second_none : {X : Type 0} (x y : Option X) → or_else x y ≡ None → y ≡ None
-second_none None y h = h
-second_none (Some x) y h = cc
 
 -- behind the first state the declarations have no fault, and make the second
 pub record Goes (s : Declared) (ds : List Declaration) (t : Declared) : Type 0 where

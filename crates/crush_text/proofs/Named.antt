@@ -13,7 +13,7 @@ pub or_none : {X : Type 0} (o : Option X) → option_or o None ≡ o
 or_none None = refl
 or_none (Some x) = refl
 
-is_none_of : {X : Type 0} (o : Option X) → is_some o ≡ false → o ≡ None
+pub is_none_of : {X : Type 0} (o : Option X) → is_some o ≡ false → o ≡ None
 is_none_of None h = refl
 is_none_of (Some x) h = cc
 

@@ -6,7 +6,6 @@ use Rattle.crush_map.specs.Faults.{or_else, first_fault}
 use Rattle.crush_map.specs.Laws.{IsInOrder}
 use Rattle.crush_map.specs.Map.{Map, IsMap, IsMapOf}
 use Rattle.crush_map.specs.declared.draft.MapDraft.{MapDraft}
-use Rattle.crush_map.specs.declared.fault.FaultCode.{FaultCode}
 use Rattle.crush_words.specs.Words.{Word, words}
 use Rattle.crush_grammar.specs.Automaton.{Reading, text as read}
 use Rattle.crush_grammar.specs.Fronts.{Breaks, last_line}
@@ -14,10 +13,11 @@ use Rattle.crush_grammar.specs.Syntax.{Declares}
 use Rattle.crush_grammar.specs.declared.code.TextCode.TheVariants.{X7}
 use Rattle.crush_grammar.specs.declared.code.TextFault.{TextFault}
 use Rattle.crush_grammar.specs.declared.declaration.Declaration.{Declaration}
-use Rattle.crush_text.specs.Judging.{declared, declared_fault, last_fault, at_line}
+use Rattle.crush_text.specs.Judging.{declared, declared_fault, last_fault}
 use Rattle.crush_text.specs.MapText.{SaysMap, HasMapFault, HasFormFault, IsTextOf, HasFirstFault, IsShort, IsRefusedFor}
 use Rattle.crush_text.specs.Reading.{map_of_draft, fault_of_words, fault_or_map, map_of_words, map_of_stored_text, map_of_text}
 use Rattle.crush_text.proofs.Checks.{first_none, second_none, both_none}
+use Rattle.crush_text.proofs.Kept.{no_fault}
 use Rattle.crush_text.proofs.Only.{one_map}
 use Rattle.crush_text.proofs.Sorted.{same_elements, in_order}
 use Rattle.crush_text.proofs.Texts.{at_end, clean_draft}
@@ -58,10 +58,6 @@ found ws r h =
       end = second_none r.fault (last_fault (last_line 1 ws) (declared r.decls)) behind;
     }
 
-no_line : (line : ℕ) (o : Option FaultCode) → at_line line o ≡ None → o ≡ None
-no_line line None h = refl
-no_line line (Some code) h = cc
-
 reading_is : (r : Reading) (o : Option TextFault) → r.fault ≡ o → r ≡ record { decls = r.decls; fault = o }
 reading_is r o e = ap (λ p. record { decls = r.decls; fault = p }) e
 
@@ -76,7 +72,7 @@ answered o m p e = ap (λ q. fault_or_map q m) e
 valid : DeclareMaps → (ws : List Word) (ds : List Declaration) → Declares ws ds → declared_fault ds ≡ None → last_fault (last_line 1 ws) (declared ds) ≡ None → IsMap (map_of_draft (declared ds).draft)
 valid maps ws ds form each end =
     let d = (declared ds).draft in
-    maps d (map_of_draft d) (clean_draft ws (declared ds) (record { declarations = ds; form = form; each = each; all = refl }) (no_line (last_line 1 ws) (at_end (declared ds)) end)) (map_is d) (is_in_order d)
+    maps d (map_of_draft d) (clean_draft ws (declared ds) (record { declarations = ds; form = form; each = each; all = refl }) (no_fault (last_line 1 ws) (at_end (declared ds)) end)) (map_is d) (is_in_order d)
 
 says_by : DeclareMaps → ReadsWhole → (ws : List Word) (m : Map) (o : Option TextFault) → fault_of_words ws (read ws) ≡ o → fault_or_map o (map_of_draft (declared (read ws).decls).draft) ≡ Ok m → SaysMap ws m
 says_by maps whole ws m (Some f) e h = cc

@@ -1,6 +1,6 @@
 -- The canonical text of a map is a text of that map.
-use Rattle.std.proofs.Common.{◌≡◌, ◌∙◌, ℕ, ◌+◌, List, [], ◌∷◌, ◌++◌, map, sum_by, false, refl, sym, ap, subst, arith, codes, append_assoc, Option, Some, None, IfSome, slice_get}
-use Rattle.std.proofs.lemmas.List.{append-nil}
+use Rattle.std.proofs.Common.{◌≡◌, ◌∙◌, ℕ, ◌+◌, List, [], ◌++◌, map, sum_by, false, refl, sym, ap, subst, arith, codes, append_assoc, Option, Some, None, IfSome, slice_get}
+use Rattle.std.proofs.lemmas.List.{append-nil, map-append}
 use Rattle.std.proofs.lemmas.List.Concat.{flat_map-append}
 use Rattle.std.proofs.lemmas.List.Sorted.{IsPermutation-refl}
 use Rattle.std.specs.List.{flat_map}
@@ -68,10 +68,6 @@ rules_spell m s = all_spell late_words late_declares (rule_lines m) (rule_declar
 without_remarks : (t d y b r : List Word) → (((((((((([] ++ t) ++ []) ++ d) ++ []) ++ y) ++ []) ++ b) ++ []) ++ r) ++ []) ≡ (t ++ (d ++ y)) ++ (b ++ r)
 without_remarks t d y b r = simp (append_assoc, append-nil)
 
-mapped_parts : {X Y : Type 0} (f : X → Y) (xs ys : List X) → map f (xs ++ ys) ≡ map f xs ++ map f ys
-mapped_parts f [] ys = refl
-mapped_parts f (x ∷ xs) ys = ap (λ zs. f x ∷ zs) (mapped_parts f xs ys)
-
 -- the canonical text is the words of a tree, which declares the map
 record Spelt (m : Map) : Type 0 where
   pub tree : Text
@@ -102,9 +98,9 @@ spelt m s =
     flat_map-append early_words ts (ds ++ ys) ∙ ap (λ ws. flat_map early_words ts ++ ws) (flat_map-append early_words ds ys) in
     let late_parts : flat_map late_words (bs ++ rs) ≡ flat_map late_words bs ++ flat_map late_words rs = flat_map-append late_words bs rs in
     let early_all : map early_declares (ts ++ (ds ++ ys)) ≡ numbered tunable_declared (λ x. 1) (1 + 1) (tunables_of m.tunables) ++ (numbered device_declared (λ x. 1) j m.devices ++ numbered type_declared (λ x. 1) k m.types) =
-    mapped_parts early_declares ts (ds ++ ys) ∙ (ap (λ ws. map early_declares ts ++ ws) (mapped_parts early_declares ds ys) ∙ cc) in
+    map-append early_declares ts (ds ++ ys) ∙ (ap (λ ws. map early_declares ts ++ ws) (map-append early_declares ds ys) ∙ cc) in
     let late_all : map late_declares (bs ++ rs) ≡ numbered (bucket_declared m) bucket_height l m.buckets ++ numbered (rule_declared m) rule_height n m.rules =
-    mapped_parts late_declares bs rs ∙ cc in
+    map-append late_declares bs rs ∙ cc in
     let reads = joined (joined (joined (joined (joined (joined (joined (joined (joined (joined begins rt) (devices_follow (1 + 1 + sum_by (λ x. 1) (tunables_of m.tunables)))) rd) (types_follow (j + sum_by (λ x. 1) m.devices))) ry)
     (buckets_follow (k + sum_by (λ x. 1) m.types))) rb) (rules_follow (l + sum_by bucket_height m.buckets))) rr) (end_follows (n + sum_by rule_height m.rules)) in
     let same = without_remarks (flat_map early_words ts) (flat_map early_words ds) (flat_map early_words ys) (flat_map late_words bs) (flat_map late_words rs) in

@@ -1,9 +1,8 @@
 -- What a text is found to be: a map, or refused for its first fault.
 use Rattle.std.proofs.Common.{◌≡◌, ◌∙◌, ◌⊎◌, inl, inr, List, Option, Some, None, MatchOption, sym, ap}
-use Rattle.std.proofs.Common.{Result, Ok, Err}
+use Rattle.std.proofs.Common.{Result, Ok}
 use Rattle.std.specs.Result.{result_err}
-use Rattle.std.proofs.Common.{IfOk, IfErr}
-use Rattle.std.proofs.lemmas.Result.{IfOk-weaker}
+use Rattle.std.proofs.Common.{IfOk}
 use Rattle.crush_map.specs.declared.fault.FaultCode.{FaultCode}
 use Rattle.crush_map.specs.Faults.{or_else, end_fault, first_fault}
 use Rattle.crush_map.specs.Map.{Map, IsMap, IsMapOf}
@@ -50,36 +49,11 @@ end_faulty ws s code clean end =
       first = ap (λ o. or_else o (last_fault (last_line 1 ws) (declared clean.declarations))) clean.each ∙ ap (at_line (last_line 1 ws)) some;
     }
 
-pub declared_faulty : (ws : List Word) (ds : List Declaration) (o : Option TextFault) (f : TextFault) → MatchOption o (Declares ws ds) (λ at. Breaks ws ds at) → declared_fault ds ≡ Some f → HasMapFault ws f ⊎ HasFormFault ws f
-declared_faulty ws ds None f form fault = inl (record { declarations = ds; form = form; first = ap (λ o. or_else o (last_fault (last_line 1 ws) (declared ds))) fault })
-declared_faulty ws ds (Some at) f form fault = inr (record { declarations = ds; at = at; breaks = form; first = ap (λ o. or_else o (Some at)) fault })
-
-pub form_faulty : (ws : List Word) (ds : List Declaration) (f : TextFault) → Breaks ws ds f → declared_fault ds ≡ None → HasFormFault ws f
-form_faulty ws ds f breaks each = record { declarations = ds; at = f; breaks = breaks; first = ap (λ o. or_else o (Some f)) each }
-
 -- ---- what reading finds
 
 pub clean : (ws : List Word) (ds xs : List Declaration) (o : Option TextFault) (answer : Result Declared TextFault) (s : Declared) → xs ≡ ds → MatchOption o (Declares ws ds) (λ at. Breaks ws ds at) → o ≡ None →
     result_err answer ≡ declared_fault xs → IfOk answer (λ judge. judge ≡ declared xs) → answer ≡ Ok s → IsClean ws s
 clean ws ds xs o answer s same form none each all is = record { declarations = xs; form = rw same (rw none at form); each = sym (rw is at each); all = rw is at all }
-
-pub declaration_refused : (ws : List Word) (ds xs : List Declaration) (o : Option TextFault) (answer : Result Declared TextFault) (f : TextFault) → xs ≡ ds → MatchOption o (Declares ws ds) (λ at. Breaks ws ds at) →
-    result_err answer ≡ declared_fault xs → answer ≡ Err f → HasMapFault ws f ⊎ HasFormFault ws f
-declaration_refused ws ds xs o answer f same form each is = declared_faulty ws ds o f form (ap declared_fault (sym same) ∙ sym (rw is at each))
-
-pub form_refused : (ws : List Word) (ds xs : List Declaration) (o : Option TextFault) (answer : Result Declared TextFault) (s : Declared) (f : TextFault) → xs ≡ ds → MatchOption o (Declares ws ds) (λ at. Breaks ws ds at) → o ≡ Some f →
-    result_err answer ≡ declared_fault xs → answer ≡ Ok s → HasMapFault ws f ⊎ HasFormFault ws f
-form_refused ws ds xs o answer s f same form some each is = inr (form_faulty ws ds f (rw some at form) (ap declared_fault (sym same) ∙ sym (rw is at each)))
-
-err_weaker : {A E : Type 0} (r : Result A E) (P Q : E → Type 0) → ((e : E) → P e → Q e) → IfErr r P → IfErr r Q
-err_weaker (Ok a) P Q h k = k
-err_weaker (Err e) P Q h k = h e k
-
-pub each_ok : {A E F : Type 0} (r : Result (Result A E) F) (P Q : A → Type 0) → ((a : A) → P a → Q a) → IfOk r (λ x. IfOk x P) → IfOk r (λ x. IfOk x Q)
-each_ok r P Q h k = IfOk-weaker r (λ x. IfOk x P) (λ x. IfOk x Q) (λ x. IfOk-weaker x P Q h) k
-
-pub each_err : {A E F : Type 0} (r : Result (Result A E) F) (P Q : E → Type 0) → ((e : E) → P e → Q e) → IfOk r (λ x. IfErr x P) → IfOk r (λ x. IfErr x Q)
-each_err r P Q h k = IfOk-weaker r (λ x. IfErr x P) (λ x. IfErr x Q) (λ x. err_weaker x P Q h) k
 
 -- ---- a text of a map has no fault
 

@@ -15,7 +15,9 @@ const VERSION: &str = "0.1.0\nrattle-kit-13b logic dac8208d650f15bf";
 
 /// The end of the help of `check`: its line, and each code in a line of its own (`docs/MAPS.md` has more of each).
 const CODES: &str =
-    "It prints 'ok devices D buckets B rules R', or 'refused line L code C' with the first fault. The codes:
+    "It prints 'ok devices D buckets B rules R', or 'refused line L code C' with the first fault.
+With a code X, L is the line of the wrong word. With a code M it is the first line of the tunable, device, type, bucket or
+rule that is wrong, perhaps further down, or the line of the last word where only the end shows the fault. The codes:
   X1   a word that can't stand there, or a text that ends too early
   X2   alg straw or straw2: such buckets aren't computed
   X3   a class in a take step
@@ -23,7 +25,7 @@ const CODES: &str =
   X5   a pos that isn't below the number of items, or that an earlier item has
   X6   no weight where one is wanted
   X7   more than 524,288 bytes
-  M1   more devices, types, buckets, items, rules or steps than the limit; a rule without steps
+  M1   more devices, types, buckets, items, rules or steps than the limit; a rule whose steps are all dropped
   M2   an id or number that an earlier element has
   M3   a name that an earlier element has, or a tunable that was named before
   M4   the type of a bucket isn't declared; at the end: there is no type 0
@@ -32,14 +34,14 @@ const CODES: &str =
   M7   the weights of a bucket add up to 65536 or more
   M8   the weights of a uniform bucket differ
   M9   a bucket of type 0
-  M10  a take step names what isn't declared
+  M10  a take step names what isn't declared earlier
   M11  the type of a choose step isn't declared
   M12  a number out of its range
   M13  local tries or local fallback tries that aren't 0, or aren't named
   M14  chooseleaf indep of type 0
   M15  a name over 64 bytes, or a type named by a keyword";
 
-/// Why the program ends without the answers that it was asked for.
+/// Why the program stops before its command is done, or has none.
 enum Stop {
     /// The arguments name no command, or ask for help or the version.
     Arguments(Error),
@@ -66,16 +68,16 @@ impl From<Error> for Stop {
     }
 }
 
-/// A command of the program, with its arguments.
-enum Request<'a> {
+/// What the program is asked to do: a command, with its arguments.
+enum Invocation<'a> {
     Script,
     Check { path: &'a str },
 }
 
 /// Reads the program's arguments.
-fn read_arguments(alloc: Global, arguments: &[String]) -> Result<Request<'_>, Stop> {
+fn read_arguments(alloc: Global, arguments: &[String]) -> Result<Invocation<'_>, Stop> {
     let script = Command::new(alloc, "script").about(
-        "Answers the lines of standard input, and writes a line for each reply",
+        "Serves the lines of standard input, and writes a line for each reply",
     );
     let file = Arg::new(alloc, "FILE")
         .required(true)
@@ -94,17 +96,17 @@ fn read_arguments(alloc: Global, arguments: &[String]) -> Result<Request<'_>, St
         .try_get_matches_from(arguments)?;
     match matches.subcommand_matches("check") {
         // clap has refused a check without a FILE; an empty path would name no file
-        Some(check) => Ok(Request::Check {
+        Some(check) => Ok(Invocation::Check {
             path: check.get_str("FILE").unwrap_or(""),
         }),
-        None => Ok(Request::Script),
+        None => Ok(Invocation::Script),
     }
 }
 
-/// Answers the lines of standard input, with no tenant at first.
+/// Serves the lines of standard input, with no tenant at first.
 fn run_script<R: AllocGlobal + Input + Print>(rt: &R) -> Result<(), Stop> {
     let alloc = rt.alloc();
-    let mut service = Service::over_map(alloc)?;
+    let mut service = Service::in_memory(alloc)?;
     match script_run(alloc, &mut service, &mut rt.reader(), &mut io::writer(rt))? {
         ScriptEnd::Done => Ok(()),
         ScriptEnd::TooLong => Err(Stop::TooLong),
@@ -134,15 +136,15 @@ fn run<R: AllocGlobal + Input + Print + Env + Files>(rt: &R) -> Result<ExitCode,
     };
     let arguments = given.collect::<Vec<String>>(rt.alloc())?;
     match read_arguments(rt.alloc(), arguments.as_slice())? {
-        Request::Script => {
+        Invocation::Script => {
             run_script(rt)?;
             Ok(ExitCode::SUCCESS)
         }
-        Request::Check { path } => check_file(rt, path),
+        Invocation::Check { path } => check_file(rt, path),
     }
 }
 
-/// Writes help or the version to standard output, or why it stops to standard error, and gives the exit status.
+/// Writes help or the version to standard output, or to standard error why the program stops, and gives the exit status.
 fn report<R: Print + Eprint>(rt: &R, stop: Stop) -> io::Result<ExitCode> {
     let why = match stop {
         Stop::Arguments(error) => {

@@ -31,7 +31,7 @@ fn fresh_tenant(alloc: Global) -> Result<Rc<TenantState>, AllocError>
 /// An import of a text without a word, which is refused where a tenant is there.
 const IMPORT: &str = "{\"request\":\"m1\",\"text\":\"\"}";
 
-const TEST: &str = "{\"rule\":0,\"size\":1,\"x\":0}";
+const RULE_TEST: &str = "{\"rule\":0,\"size\":1,\"x\":0}";
 
 /// A full store in which the data of each name that begins with `d` is damaged, and each that begins with `b` is a tenant.
 #[derive(Drop)]
@@ -91,7 +91,7 @@ fn a_damaged_tenant_is_answered_500_and_others_as_ever(rt: HostRuntime) -> Resul
         (
             "POST",
             "/t/d/test",
-            TEST,
+            RULE_TEST,
             500,
             "{\"error\":\"store_damaged\"}",
         ),
@@ -131,8 +131,20 @@ fn a_damaged_tenant_is_answered_500_and_others_as_ever(rt: HostRuntime) -> Resul
             200,
             "{\"devices\":0,\"epoch\":0,\"pools\":0,\"tenant\":\"b\",\"versions\":0}",
         ),
-        ("POST", "/t/b/test", TEST, 404, "{\"error\":\"no_version\"}"),
-        ("POST", "/t/a/test", TEST, 404, "{\"error\":\"no_tenant\"}"),
+        (
+            "POST",
+            "/t/b/test",
+            RULE_TEST,
+            404,
+            "{\"error\":\"no_version\"}",
+        ),
+        (
+            "POST",
+            "/t/a/test",
+            RULE_TEST,
+            404,
+            "{\"error\":\"no_tenant\"}",
+        ),
         ("GET", "/t/d!", "", 400, "{\"error\":\"bad_request\"}"),
         ("POST", "/t/d", "", 405, "{\"error\":\"method\"}"),
         ("GET", "/x/d", "", 404, "{\"error\":\"no_path\"}"),

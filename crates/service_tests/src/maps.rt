@@ -31,17 +31,39 @@ const CANONICAL: &str =
 /// A method, a path and a body, and the status and the body of the reply that the rules of requests give them.
 type Row = (&'static str, &'static str, &'static str, u16, &'static str);
 
+// Calls that are made twice, with the same reply each time.
+
+const CREATION_OF_A: Row = ("PUT", "/t/a", "", 201, "{\"epoch\":0,\"tenant\":\"a\"}");
+
+const IMPORT_BY_A: Row = (
+    "POST",
+    "/t/a/maps",
+    FIRST,
+    201,
+    "{\"epoch\":1,\"version\":1}",
+);
+
+const IMPORT_BY_B: Row = (
+    "POST",
+    "/t/b/maps",
+    OTHER,
+    201,
+    "{\"epoch\":1,\"version\":1}",
+);
+
+const TEST_BY_B: Row = (
+    "POST",
+    "/t/b/test",
+    "{\"rule\":0,\"size\":2,\"x\":5}",
+    200,
+    "{\"epoch\":1,\"items\":[3,null],\"trace\":[3],\"version\":1}",
+);
+
 /// Calls of two tenants in turn.
 const ROWS: [Row; 24] = [
-    ("PUT", "/t/a", "", 201, "{\"epoch\":0,\"tenant\":\"a\"}"),
+    CREATION_OF_A,
     ("POST", "/t/b/maps", FIRST, 404, "{\"error\":\"no_tenant\"}"),
-    (
-        "POST",
-        "/t/a/maps",
-        FIRST,
-        201,
-        "{\"epoch\":1,\"version\":1}",
-    ),
+    IMPORT_BY_A,
     ("PUT", "/t/b", "", 201, "{\"epoch\":0,\"tenant\":\"b\"}"),
     (
         "POST",
@@ -50,20 +72,8 @@ const ROWS: [Row; 24] = [
         404,
         "{\"error\":\"no_version\"}",
     ),
-    (
-        "POST",
-        "/t/b/maps",
-        OTHER,
-        201,
-        "{\"epoch\":1,\"version\":1}",
-    ),
-    (
-        "POST",
-        "/t/a/maps",
-        FIRST,
-        201,
-        "{\"epoch\":1,\"version\":1}",
-    ),
+    IMPORT_BY_B,
+    IMPORT_BY_A,
     (
         "POST",
         "/t/a/maps",
@@ -92,13 +102,7 @@ const ROWS: [Row; 24] = [
         201,
         "{\"epoch\":2,\"version\":2}",
     ),
-    (
-        "POST",
-        "/t/b/maps",
-        OTHER,
-        201,
-        "{\"epoch\":1,\"version\":1}",
-    ),
+    IMPORT_BY_B,
     (
         "POST",
         "/t/a/test",
@@ -106,13 +110,7 @@ const ROWS: [Row; 24] = [
         200,
         "{\"epoch\":2,\"items\":[3,null],\"trace\":[3],\"version\":2}",
     ),
-    (
-        "POST",
-        "/t/b/test",
-        "{\"rule\":0,\"size\":2,\"x\":5}",
-        200,
-        "{\"epoch\":1,\"items\":[3,null],\"trace\":[3],\"version\":1}",
-    ),
+    TEST_BY_B,
     (
         "POST",
         "/t/a/test",
@@ -138,14 +136,8 @@ const ROWS: [Row; 24] = [
     ("GET", "/t/a/maps/0", "", 404, "{\"error\":\"no_version\"}"),
     ("DELETE", "/t/a", "", 200, "{\"dropped\":\"a\"}"),
     ("POST", "/t/a/maps", FIRST, 404, "{\"error\":\"no_tenant\"}"),
-    ("PUT", "/t/a", "", 201, "{\"epoch\":0,\"tenant\":\"a\"}"),
-    (
-        "POST",
-        "/t/b/test",
-        "{\"rule\":0,\"size\":2,\"x\":5}",
-        200,
-        "{\"epoch\":1,\"items\":[3,null],\"trace\":[3],\"version\":1}",
-    ),
+    CREATION_OF_A,
+    TEST_BY_B,
     (
         "POST",
         "/t/a/maps",
@@ -181,7 +173,7 @@ fn replies_to(alloc: Global, rows: &[Row]) -> Result<Vec<Reply>, AllocError> {
     for row in rows {
         calls.push(call(alloc, row)?)?;
     }
-    Service::over_map(alloc)?.run(&calls)
+    Service::in_memory(alloc)?.run(&calls)
 }
 
 /// The headline by example: the calls of both tenants in turn, and those of each alone, have the same replies.
@@ -204,7 +196,7 @@ fn tenants_in_turn_are_answered_as_each_alone(rt: HostRuntime) -> Result<(), Fai
 #[test]
 fn a_version_is_read_as_its_canonical_text(rt: HostRuntime) -> Result<(), Fail> {
     let alloc = rt.alloc();
-    let mut service = Service::over_map(alloc)?;
+    let mut service = Service::in_memory(alloc)?;
     for (method, path, body, status) in [
         ("PUT", "/t/a", "", 201),
         ("POST", "/t/a/maps", FIRST, 201),
@@ -249,8 +241,8 @@ fn change_by(alloc: Global, body: &str) -> Result<Option<Change>, AllocError> {
     }
 }
 
-/// The epochs of a state of tenant a that was lent while an import changed the store, and of the state that the store then has.
-fn lent_and_changed(
+/// The epochs of a state of tenant a that was held while an import changed the store, and of the state that the store then has.
+fn held_and_changed(
     alloc: Global,
     store: &mut MemoryStore,
     body: &str,
@@ -258,40 +250,40 @@ fn lent_and_changed(
     let Some(change) = change_by(alloc, body)? else {
         return Ok(None);
     };
-    let Ok(Some(lent)) = store.load("a") else {
+    let Ok(Some(held)) = store.load("a") else {
         return Ok(None);
     };
     if store.commit("a", &change).is_err() {
         return Ok(None);
     }
     match store.load("a") {
-        Ok(Some(found)) => Ok(Some((lent.epoch(), found.epoch()))),
+        Ok(Some(found)) => Ok(Some((held.epoch(), found.epoch()))),
         _ => Ok(None),
     }
 }
 
-/// The epoch of a state of tenant a that was lent while the tenant was removed, if the store then has no such tenant.
-fn lent_and_removed(store: &mut MemoryStore) -> Option<u64> {
-    let Ok(Some(lent)) = store.load("a") else {
+/// The epoch of a state of tenant a that was held while the tenant was removed, if the store then has no such tenant.
+fn held_and_removed(store: &mut MemoryStore) -> Option<u64> {
+    let Ok(Some(held)) = store.load("a") else {
         return None;
     };
     if store.remove("a").is_err() {
         return None;
     }
     match store.load("a") {
-        Ok(None) => Some(lent.epoch()),
+        Ok(None) => Some(held.epoch()),
         _ => None,
     }
 }
 
-/// What is loaded stays as it is while the store is changed, which then has the new state.
+/// A state that is held stays as it is while the store is changed, which then has the new state.
 #[test]
-fn a_state_that_is_lent_stays(rt: HostRuntime) -> Result<(), Fail> {
+fn a_state_that_is_held_stays(rt: HostRuntime) -> Result<(), Fail> {
     let alloc = rt.alloc();
     let mut store = MemoryStore::new(alloc);
     assert!(rt; store.create("a").is_ok());
-    assert!(rt; lent_and_changed(alloc, &mut store, FIRST)? == Some((0, 1)));
-    assert!(rt; lent_and_changed(alloc, &mut store, SECOND)? == Some((1, 2)));
-    assert!(rt; lent_and_removed(&mut store) == Some(2));
+    assert!(rt; held_and_changed(alloc, &mut store, FIRST)? == Some((0, 1)));
+    assert!(rt; held_and_changed(alloc, &mut store, SECOND)? == Some((1, 2)));
+    assert!(rt; held_and_removed(&mut store) == Some(2));
     Ok(())
 }

@@ -6,8 +6,8 @@ use tenant_core::{Effect, Routes, StoreFault, decide, read_request, store_fault}
 use tenant_messages::{CallParts, Refusal, refused};
 use tenant_state::TenantState;
 
-/// The reply to a POST of this body to the path of a tenant's picks: its status and body.
-fn asked(alloc: Global, body: &str) -> Result<(u16, String), AllocError> {
+/// The status and the body of the reply to a POST of this body to a tenant's picks.
+fn pick_reply(alloc: Global, body: &str) -> Result<(u16, String), AllocError> {
     let routes = Routes::build(alloc)?;
     let call = CallParts {
         method: b"POST",
@@ -25,7 +25,8 @@ fn asked(alloc: Global, body: &str) -> Result<(u16, String), AllocError> {
     Ok((reply.status, reply.body.into_string()))
 }
 
-fn body(
+/// The body that asks for a pick.
+fn pick_body(
     alloc: Global,
     id: i32,
     items: &str,
@@ -38,7 +39,7 @@ fn body(
     )
 }
 
-/// Two items or more with these weights, from an item on.
+/// Items with these weights in JSON, numbered from `first` on.
 fn items(alloc: Global, first: u32, weights: &[u32]) -> Result<String, AllocError> {
     let mut text = String::new(alloc);
     for (place, weight) in weights.iter().enumerate() {
@@ -66,7 +67,7 @@ fn buckets_pick_as_worked_out_by_hand(rt: HostRuntime) -> Result<(), Fail> {
     ] {
         for (x, r) in [(0, 0), (5, 0), (7, 3), (4_294_967_295, 2_147_483_647)] {
             let items = items(alloc, first, weights)?;
-            let (status, text) = asked(alloc, &body(alloc, -7, &items, kind, x, r)?)?;
+            let (status, text) = pick_reply(alloc, &pick_body(alloc, -7, &items, kind, x, r)?)?;
             assert_eq!(rt; status, 200);
             assert_eq!(rt;
                 text,
@@ -82,16 +83,16 @@ fn buckets_pick_as_worked_out_by_hand(rt: HostRuntime) -> Result<(), Fail> {
         ("uniform", 5, [65536, 65536, 65536].as_slice(), 7),
     ] {
         let items = items(alloc, first, weights)?;
-        let (_, text) = asked(alloc, &body(alloc, -1, &items, kind, 0, 0)?)?;
+        let (_, text) = pick_reply(alloc, &pick_body(alloc, -1, &items, kind, 0, 0)?)?;
         assert_eq!(rt;
             text,
             format!(in alloc; "{{\"item\":{picked}}}")?,
             "{kind} {weights:?}"
         );
     }
-    let (status, _) = asked(
+    let (status, _) = pick_reply(
         alloc,
-        &body(alloc, -1, &items(alloc, 5, &[1, 2])?, "uniform", 0, 0)?,
+        &pick_body(alloc, -1, &items(alloc, 5, &[1, 2])?, "uniform", 0, 0)?,
     )?;
     assert_eq!(rt; status, 400, "weights of a uniform bucket that differ");
     Ok(())

@@ -58,9 +58,9 @@ impl Write for Writer {
     }
 }
 
-/// The stored run over a reader and a writer that fail after so many turns.
+/// How the script ends with a reader and a writer that fail after so many calls, and what was written.
 fn play(alloc: Global, reads: usize, writes: usize) -> Result<(ScriptEnd, Vec<u8>), AllocError> {
-    let mut service = Service::over_map(alloc)?;
+    let mut service = Service::in_memory(alloc)?;
     let mut reader = Reader {
         rest: SCRIPT.as_bytes(),
         reads,
@@ -83,7 +83,7 @@ fn a_script_is_played_whatever_one_read_and_one_write_take(rt: HostRuntime) -> R
 }
 
 #[test]
-fn a_read_fault_serves_no_line(rt: HostRuntime) -> Result<(), Fail> {
+fn no_line_is_served_after_a_read_fault(rt: HostRuntime) -> Result<(), Fail> {
     for reads in [0, 1, 9, 10, 60, 150] {
         let (end, written) = play(rt.alloc(), reads, 10_000)?;
         assert_eq!(rt; end, ScriptEnd::ReadFault, "after {reads} reads");
@@ -106,9 +106,9 @@ fn a_write_fault_leaves_a_front_of_the_replies(rt: HostRuntime) -> Result<(), Fa
 }
 
 #[test]
-fn a_write_fault_answers_no_later_line(rt: HostRuntime) -> Result<(), Fail> {
+fn no_later_line_is_served_after_a_write_fault(rt: HostRuntime) -> Result<(), Fail> {
     let alloc = rt.alloc();
-    let mut service = Service::over_map(alloc)?;
+    let mut service = Service::in_memory(alloc)?;
     let mut reader = Reader {
         rest: b"PUT /t/a\nPUT /t/b\nPUT /t/c\n",
         reads: 1_000,
@@ -157,7 +157,7 @@ fn a_run_answers_each_tenant_from_its_own_state(rt: HostRuntime) -> Result<(), F
     for (method, path, _) in asked {
         calls.push(call(alloc, method, path)?)?;
     }
-    let replies = Service::over_map(alloc)?.run(&calls)?;
+    let replies = Service::in_memory(alloc)?.run(&calls)?;
     assert_eq!(rt; replies.len(), asked.len());
     for (reply, (method, path, status)) in replies.iter().zip(asked) {
         assert_eq!(rt; reply.status, status, "{method} {path}");

@@ -1,5 +1,6 @@
 //! Texts and their first faults of form, with their lines.
 
+use crate::jewel::WRITTEN_BY_CRUSHTOOL;
 use crate::tiny::{TINY, tiny_lines, tiny_with_line};
 use crush_grammar::{TextCode, read_declarations};
 use std::alloc::Global;
@@ -19,6 +20,7 @@ fn texts_of_the_form_have_no_fault(rt: HostRuntime) -> Result<(), Fail> {
     for text in [
         "",
         TINY,
+        WRITTEN_BY_CRUSHTOOL,
         "# nothing\n",
         "device 0 osd.0",
         "device 65536 a",
@@ -29,52 +31,6 @@ fn texts_of_the_form_have_no_fault(rt: HostRuntime) -> Result<(), Fail> {
     ] {
         assert_eq!(rt; fault(alloc, text)?, None, "{text}");
     }
-    Ok(())
-}
-
-#[test]
-fn a_text_of_crushtool_has_no_fault(rt: HostRuntime) -> Result<(), Fail> {
-    let text = "# begin crush map
-tunable choose_local_tries 0
-tunable choose_local_fallback_tries 0
-tunable choose_total_tries 50
-tunable chooseleaf_descend_once 1
-tunable chooseleaf_vary_r 1
-tunable chooseleaf_stable 1
-tunable straw_calc_version 1
-tunable allowed_bucket_algs 54
-
-# devices
-device 0 osd.0 class ssd
-
-# types
-type 0 osd
-type 1 host
-
-# buckets
-host a {
-\tid -2\t\t# do not change unnecessarily
-\tid -4 class ssd\t\t# do not change unnecessarily
-\t# weight 1.000
-\talg list\t# add new items at the end; do not change order unnecessarily
-\thash 0\t# rjenkins1
-\titem osd.0 weight 1.000
-}
-
-# rules
-rule data {
-\tid 0
-\ttype replicated
-\tmin_size 1
-\tmax_size 10
-\tstep take a
-\tstep choose firstn 0 type osd
-\tstep emit
-}
-
-# end crush map
-";
-    assert_eq!(rt; fault(rt.alloc(), text)?, None);
     Ok(())
 }
 

@@ -1,9 +1,10 @@
-//! A text as crushtool writes it, read and written.
+//! A map with the tunables of Jewel: its text as crushtool writes it, and its canonical text.
 
 use crate::maps::canonical;
 use std::test::Fail;
 
-const WRITTEN_BY_CRUSHTOOL: &str = "# begin crush map
+/// With two tunables, a class, sizes and remarks that are dropped.
+pub const WRITTEN_BY_CRUSHTOOL: &str = "# begin crush map
 tunable choose_local_tries 0
 tunable choose_local_fallback_tries 0
 tunable choose_total_tries 50
@@ -45,7 +46,7 @@ rule data {
 ";
 
 /// The canonical text of the same map.
-const CANONICAL: &str = "# begin crush map
+pub const CANONICAL: &str = "# begin crush map
 tunable choose_local_tries 0
 tunable choose_local_fallback_tries 0
 tunable choose_total_tries 50

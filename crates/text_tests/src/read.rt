@@ -1,49 +1,12 @@
 //! Texts as maps, and their first faults.
 
+use crate::jewel::CANONICAL;
 use crate::maps::canonical;
 use crate::tiny::{tiny_lines, tiny_with_line};
 use crush_map::FaultCode;
 use crush_text::{TextCode, read_map, read_stored};
 use std::alloc::Global;
 use std::test::Fail;
-
-/// A canonical text.
-const CANONICAL: &str = "# begin crush map
-tunable choose_local_tries 0
-tunable choose_local_fallback_tries 0
-tunable choose_total_tries 50
-tunable chooseleaf_descend_once 1
-tunable chooseleaf_vary_r 1
-tunable chooseleaf_stable 1
-
-# devices
-device 0 osd.0
-device 1 osd.1
-
-# types
-type 0 osd
-type 1 host
-
-# buckets
-host a {
-\tid -2
-\talg list
-\thash 0
-\titem osd.0 weight 1.00000
-\titem osd.1 weight 2.00000
-}
-
-# rules
-rule data {
-\tid 0
-\ttype replicated
-\tstep take a
-\tstep choose firstn 0 type osd
-\tstep emit
-}
-
-# end crush map
-";
 
 /// The first fault of a text that may be imported, by line and code.
 fn fault(alloc: Global, text: &[u8]) -> Result<Option<(usize, TextCode)>, Fail> {
@@ -58,8 +21,6 @@ fn each_fault_of_form_has_its_code(rt: HostRuntime) -> Result<(), Fail> {
     let alloc = rt.alloc();
     for (text, line, code) in [
         ("device 0", 1, TextCode::X1),
-        ("device 0 osd.0 class", 1, TextCode::X1),
-        ("@", 1, TextCode::X1),
         ("root default\n id -1", 2, TextCode::X1),
         ("root default {\n id -1\n alg straw2", 3, TextCode::X2),
         (
@@ -156,12 +117,7 @@ fn each_fault_of_what_is_declared_has_its_code(rt: HostRuntime) -> Result<(), Fa
 fn a_wrong_line_of_a_map_is_named(rt: HostRuntime) -> Result<(), Fail> {
     let alloc = rt.alloc();
     for (number, line, want) in [
-        (13, " alg straw2", (13, TextCode::X2)),
-        (14, " hash 1", (14, TextCode::X1)),
-        (15, " item osd.0 weight 65536", (15, TextCode::X6)),
         (15, " item osd.0 weight 1.0 pos 1", (15, TextCode::X5)),
-        (20, " step take default class ssd", (20, TextCode::X3)),
-        (24, "choose_args 0 {", (24, TextCode::X4)),
         (11, "rack default {", (11, TextCode::Map(FaultCode::M4))),
         (
             21,
@@ -177,8 +133,6 @@ fn a_wrong_line_of_a_map_is_named(rt: HostRuntime) -> Result<(), Fail> {
         let text = tiny_with_line(alloc, number, line)?;
         assert_eq!(rt; fault(alloc, text.as_bytes())?, Some(want), "{line}");
     }
-    let front = tiny_lines(alloc, 1, 15)?;
-    assert_eq!(rt; fault(alloc, front.as_bytes())?, Some((15, TextCode::X1)));
     let unnamed = tiny_lines(alloc, 3, 23)?;
     assert_eq!(rt;
         fault(alloc, unnamed.as_bytes())?,
@@ -274,22 +228,55 @@ fn a_stored_text_may_be_longer(rt: HostRuntime) -> Result<(), Fail> {
     Ok(())
 }
 
-#[test]
-fn a_canonical_text_comes_back(rt: HostRuntime) -> Result<(), Fail> {
-    let text = canonical(rt.alloc(), CANONICAL.as_bytes())?;
-    assert_eq!(rt; text.as_slice(), CANONICAL.as_bytes());
-    Ok(())
+/// The canonical text of a map with two devices.
+const TWO_DEVICES: &str = "# begin crush map
+tunable choose_local_tries 0
+tunable choose_local_fallback_tries 0
+tunable choose_total_tries 50
+tunable chooseleaf_descend_once 1
+tunable chooseleaf_vary_r 1
+tunable chooseleaf_stable 1
+
+# devices
+device 0 osd.0
+device 1 osd.1
+
+# types
+type 0 osd
+type 1 host
+
+# buckets
+host a {
+\tid -2
+\talg list
+\thash 0
+\titem osd.0 weight 1.00000
+\titem osd.1 weight 2.00000
 }
 
-#[test]
-fn what_is_dropped_leaves_the_same_map(rt: HostRuntime) -> Result<(), Fail> {
-    let text =
-        "tunable choose_local_tries 0 tunable choose_local_fallback_tries 0 tunable choose_total_tries 50
+# rules
+rule data {
+\tid 0
+\ttype replicated
+\tstep take a
+\tstep choose firstn 0 type osd
+\tstep emit
+}
+
+# end crush map
+";
+
+/// The same map in another order, with all that is dropped.
+const WITH_WHAT_IS_DROPPED: &str =
+    "tunable choose_local_tries 0 tunable choose_local_fallback_tries 0 tunable choose_total_tries 50
 tunable chooseleaf_descend_once 1 tunable chooseleaf_vary_r 1 tunable chooseleaf_stable 1 tunable allowed_bucket_algs 54
 device 1 osd.1 type 1 host device 0 osd.0 class class type 00 osd # device 2
 host a { id -4 class ssd id -2 alg list hash rjenkins1 hash 0 item osd.1 weight 2.000009 pos 1 item osd.0 }
 rule data { ruleset 0 type replicated min_size 1 max_size 10 step take a step choose firstn 0 type osd step set_choose_local_tries 0 step emit }";
-    let written = canonical(rt.alloc(), text.as_bytes())?;
-    assert_eq!(rt; written.as_slice(), CANONICAL.as_bytes());
+
+#[test]
+fn what_is_dropped_leaves_the_same_map(rt: HostRuntime) -> Result<(), Fail> {
+    let written = canonical(rt.alloc(), WITH_WHAT_IS_DROPPED.as_bytes())?;
+    assert_eq!(rt; written.as_slice(), TWO_DEVICES.as_bytes());
     Ok(())
 }

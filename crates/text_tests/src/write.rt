@@ -1,5 +1,6 @@
 //! Canonical texts, byte for byte, and read again.
 
+use crate::jewel::CANONICAL;
 use crate::maps::{ShortBucket, ShortRule, canonical, map};
 use crush_map::{ItemId, Kind, Step};
 use crush_text::write_map;
@@ -35,7 +36,12 @@ fn a_map_with_jewels_tunables_is_written(rt: HostRuntime) -> Result<(), Fail> {
         &[rule],
     )?;
     let text = write_map(alloc, &map)?;
-    let want = b"# begin crush map
+    assert_eq!(rt; text.as_slice(), CANONICAL.as_bytes());
+    Ok(())
+}
+
+/// The canonical text of a map with each kind of line.
+const EACH_KIND_OF_LINE: &str = "# begin crush map
 tunable choose_local_tries 0
 tunable choose_local_fallback_tries 0
 tunable choose_total_tries 50
@@ -44,36 +50,48 @@ tunable chooseleaf_vary_r 1
 tunable chooseleaf_stable 1
 
 # devices
-device 0 osd.0
+device 1 x.1
+device 7 x.7
 
 # types
 type 0 osd
 type 1 host
+type 10 root
 
 # buckets
-host a {
-\tid -2
+host h {
+\tid -3
+\talg uniform
+\thash 0
+\titem x.7 weight 0.10000
+\titem x.1 weight 0.10000
+}
+root r {
+\tid -1
+\talg tree
+\thash 0
+\titem h weight 65535.99999
+}
+root e {
+\tid -65536
 \talg list
 \thash 0
-\titem osd.0 weight 1.00000
 }
 
 # rules
-rule data {
-\tid 0
-\ttype replicated
-\tstep take a
-\tstep choose firstn 0 type osd
-\tstep emit
+rule q {
+\tid 255
+\ttype erasure
+\tstep set_choose_tries 100
+\tstep set_chooseleaf_tries 5
+\tstep set_chooseleaf_vary_r 8
+\tstep set_chooseleaf_stable 0
+\tstep take x.7
+\tstep chooseleaf indep -2 type host
 }
 
 # end crush map
 ";
-    assert_eq!(rt; text.as_slice(), want.as_slice());
-    let again = canonical(alloc, want)?;
-    assert_eq!(rt; again.as_slice(), want.as_slice());
-    Ok(())
-}
 
 #[test]
 fn each_kind_of_line_is_written(rt: HostRuntime) -> Result<(), Fail> {
@@ -126,59 +144,8 @@ fn each_kind_of_line_is_written(rt: HostRuntime) -> Result<(), Fail> {
         &[rule],
     )?;
     let text = write_map(alloc, &map)?;
-    let want = b"# begin crush map
-tunable choose_local_tries 0
-tunable choose_local_fallback_tries 0
-tunable choose_total_tries 50
-tunable chooseleaf_descend_once 1
-tunable chooseleaf_vary_r 1
-tunable chooseleaf_stable 1
-
-# devices
-device 1 x.1
-device 7 x.7
-
-# types
-type 0 osd
-type 1 host
-type 10 root
-
-# buckets
-host h {
-\tid -3
-\talg uniform
-\thash 0
-\titem x.7 weight 0.10000
-\titem x.1 weight 0.10000
-}
-root r {
-\tid -1
-\talg tree
-\thash 0
-\titem h weight 65535.99999
-}
-root e {
-\tid -65536
-\talg list
-\thash 0
-}
-
-# rules
-rule q {
-\tid 255
-\ttype erasure
-\tstep set_choose_tries 100
-\tstep set_chooseleaf_tries 5
-\tstep set_chooseleaf_vary_r 8
-\tstep set_chooseleaf_stable 0
-\tstep take x.7
-\tstep chooseleaf indep -2 type host
-}
-
-# end crush map
-";
-    assert_eq!(rt; text.as_slice(), want.as_slice());
-    let again = canonical(alloc, want)?;
-    assert_eq!(rt; again.as_slice(), want.as_slice());
+    assert_eq!(rt; text.as_slice(), EACH_KIND_OF_LINE.as_bytes());
+    let again = canonical(alloc, EACH_KIND_OF_LINE.as_bytes())?;
+    assert_eq!(rt; again.as_slice(), EACH_KIND_OF_LINE.as_bytes());
     Ok(())
 }

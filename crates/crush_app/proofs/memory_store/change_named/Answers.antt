@@ -1,4 +1,4 @@
-use Rattle.std.proofs.Common.{◌≡◌, ◌∙◌, ℕ, List, rules, sym, ap, subst, Option, Some, None, option_map, Bool, true, false, if◌then◌else◌, arith}
+use Rattle.std.proofs.Common.{◌≡◌, ◌∙◌, ℕ, List, rules, sym, ap, subst, Some, option_map, true, if◌then◌else◌, arith}
 use Rattle.std.specs.Str.{bytes_eq}
 use Rattle.std.specs.BTreeMap.{get_by_text}
 use Rattle.std.specs.declared.alloc.Global.{Global}
@@ -10,10 +10,10 @@ use Rattle.crush_app.proofs.memory_store.change_named.Goals as goal
 
 -- the value under the name, of the states with another value in its place
 updated : (c : goal.After-states-in-Some-1) (u : List ℕ) →
-    get_by_text (c.get_mut.follows.lender c.change.new.shared) u ≡ (if bytes_eq c.args.name.now u then Some c.change.new.shared else get_by_text c.args.states.now u)
+    get_by_text (c.get_mut.follows.lender c.change_shared.new.shared) u ≡ (if bytes_eq c.args.name.now u then Some c.change_shared.new.shared else get_by_text c.args.states.now u)
 updated c u =
-    btree_map_updates_text {Y = Global} c.args.name.now c.args.states.now (c.get_mut.follows.lender c.change.new.shared) (Some c.change.new.shared)
-    ((c.get_mut.follows.holds c.change.new.shared).3 (search rules)) u
+    btree_map_updates_text {Y = Global} c.args.name.now c.args.states.now (c.get_mut.follows.lender c.change_shared.new.shared) (Some c.change_shared.new.shared)
+    ((c.get_mut.follows.holds c.change_shared.new.shared).3 (search rules)) u
 
 -- and before
 there : (c : goal.After-states-in-Some-1) (u : List ℕ) → bytes_eq c.args.name.now u ≡ true → get_by_text c.args.states.now u ≡ Some c.in-Some.shared.now
@@ -23,14 +23,14 @@ there c u same =
 
 pub returns-in-Some-clause-ok : goal.returns-in-Some-clause-ok
 returns-in-Some-clause-ok c =
-    OnOk-map c.change.result
+    OnOk-map c.change_shared.result
     (λ made u. ap (option_map (λ r. r.value)) (updated c u)
-    ∙ option_map-changed (λ r. r.value) (after c.args.made.now) (bytes_eq c.args.name.now u) c.in-Some.shared.now c.change.new.shared (get_by_text c.args.states.now u) (there c u) made)
-    c.change.ensures.ok
+    ∙ option_map-changed (λ r. r.value) (after c.args.change.now) (bytes_eq c.args.name.now u) c.in-Some.shared.now c.change_shared.new.shared (get_by_text c.args.states.now u) (there c u) made)
+    c.change_shared.ensures.ok
 
 pub returns-in-Some-clause-err : goal.returns-in-Some-clause-err
 returns-in-Some-clause-err c =
-    OnErr-map c.change.result
+    OnErr-map c.change_shared.result
     (λ same u. ap (option_map (λ r. r.value)) (updated c u)
-    ∙ option_map-kept (λ r. r.value) (bytes_eq c.args.name.now u) c.in-Some.shared.now c.change.new.shared (get_by_text c.args.states.now u) (there c u) same)
-    c.change.ensures.err
+    ∙ option_map-kept (λ r. r.value) (bytes_eq c.args.name.now u) c.in-Some.shared.now c.change_shared.new.shared (get_by_text c.args.states.now u) (there c u) same)
+    c.change_shared.ensures.err

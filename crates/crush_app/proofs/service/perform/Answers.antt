@@ -7,7 +7,7 @@ use Rattle.crush_app.proofs.service.perform.Goals as goal
 
 pub returns-clause-ok : goal.returns-clause-ok
 returns-clause-ok g c = λ honest.
-    let before = c.in_ok-carry_out.ensures.honest honest in
+    let before = c.in_ok-carry_out_effect.ensures.honest honest in
     let states = g.T.TenantStore.has_state in
     let action = c.args.request.now.action in
     let effect = c.in_ok-decision.decision.effect in
@@ -19,14 +19,14 @@ returns-clause-ok g c = λ honest.
     let decided : effect ≡ (decision_on c.as_str-tenant.result.now action (option_map (λ s. s.now) c.as_deref.result)).effect = c.in_ok-decision.ensures.effect in
     let replied : c.in_ok-decision.decision.reply ≡ reply (decision_on c.as_str-tenant.result.now action (option_map (λ s. s.now) c.as_deref.result)).answer = c.in_ok-decision.ensures.reply in
     let fits = subst (λ o. Fits effect o) view c.in_ok-decision.ensures.fits in
-    let left = c.in_ok-carry_out.ensures.left honest state ((same c.as_str-tenant.result.now state).0 has) fits in
-    let others = c.in_ok-carry_out.ensures.others honest in
+    let left = c.in_ok-carry_out_effect.ensures.left honest state ((same c.as_str-tenant.result.now state).0 has) fits in
+    let others = c.in_ok-carry_out_effect.ensures.others honest in
     let whole = decided ∙ ap (λ o. (decision_on c.as_str-tenant.result.now action o).effect) view ∙ ap (λ n. (decision_on n action state).effect) name in
     record {
       state = state;
       found = subst (λ n. states c.args.store.now n state) name has;
       reply = replied ∙ ap (λ o. reply (decision_on c.as_str-tenant.result.now action o).answer) view ∙ ap (λ n. reply (decision_on n action state).answer) name;
-      left = subst (λ e. states c.carry_out.new.store c.args.request.now.tenant (after_effect e state)) whole (subst (λ n. states c.carry_out.new.store n (after_effect effect state)) name left);
+      left = subst (λ e. states c.carry_out_effect.new.store c.args.request.now.tenant (after_effect e state)) whole (subst (λ n. states c.carry_out_effect.new.store n (after_effect effect state)) name left);
       others = λ t s apart.
           let both = same t s in
           let kept = others t s (subst (λ n. t ≢ n) (sym name) apart) in

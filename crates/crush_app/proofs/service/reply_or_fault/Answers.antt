@@ -1,5 +1,3 @@
-use Rattle.std.proofs.Common.{◌≡◌, Ok, Err, sym, ◌∙◌}
-use Rattle.tenant_messages.specs.Refusals.{Gives}
 use Rattle.crush_app.proofs.Kept.{problem_given}
 use Rattle.tenant_core.proofs.Following.{follows_result, follows_refusal, follows_damaged}
 use Rattle.crush_app.proofs.service.reply_or_fault.Goals as goal

@@ -1,8 +1,8 @@
 use Rattle.std.proofs.Common.{◌≡◌, ◌≤◌, length, take, vec_capacity}
 use Rattle.tenant_core.specs.States.{MeetsDefinition}
-use Rattle.crush_app.proofs.service.Service.answer_all.Given as goal
+use Rattle.crush_app.proofs.service.Service.serve_all.Given as goal
 
--- the calls so far were answered, and there is room for all replies
+-- the calls so far were served, and there is room for all replies
 abbrev pub invariant-loop-call : goal.invariant-loop-call
 invariant-loop-call g l = record {
   honest : g.T.TenantStore.is_honest l.self → g.T.TenantStore.is_honest l.fn.self;
