@@ -21,7 +21,7 @@ Decides-leb a b = (λ h. grind (arith, nat_tests), λ h. grind (arith, nat_tests
 Decides-length : (number : List ℕ) → Decides (has_length number) ((1 ≤ length number) × (length number ≤ 64))
 Decides-length number = Decides-and (nat_le 1 (length number)) (nat_le (length number) 64) (Decides-leb 1 (length number)) (Decides-leb (length number) 64)
 
-finds_number : Finds request_number_of IsRequestNumber
+pub finds_number : Finds request_number_of IsRequestNumber
 finds_number = finds_as (λ d n is. record { text = is.0; some = is.1.0; few = is.1.1 }) (λ d n is. (is.text, (is.some, is.few)))
     (finds_tested has_length (λ number. (1 ≤ length number) × (length number ≤ 64)) (λ n. (Decides-length n).0) (λ n. (Decides-length n).1) finds_text)
 

@@ -8,16 +8,16 @@ use Rattle.crush_bucket.specs.Tables.{TablesView, tables_of}
 use Rattle.crush_choose.specs.Marks.{Slot}
 use Rattle.crush_choose.specs.Rules.{rule_answer}
 use Rattle.crush_choose.specs.Trace.{rule_trace}
-use Rattle.crush_choose.specs.Weights.{weights_of}
 use Rattle.crush_map.specs.Map.{Map}
 use Rattle.crush_map.specs.declared.draft.Rule.{Rule}
 use Rattle.tenant_messages.specs.Reply.{natural}
-use Rattle.tenant_resources.specs.RuleTests.{RuleTest, outcome, slot_json, list_json, tested}
+use Rattle.tenant_resources.specs.RuleTests.{RuleTest, outcome, tested}
+use Rattle.tenant_resources.specs.Slots.{slot_json}
 
-pub tested_is : (e v : ℕ) (m : Map) (rule : Rule) (t own : RuleTest) (tables : TablesView) (weights : List ℕ) (items : List Slot) (trace : List ℕ)
-    → tables ≡ tables_of m → weights ≡ weights_of [] → own ≡ t → items ≡ rule_answer tables weights rule.steps own.x own.size → trace ≡ rule_trace tables weights rule.steps own.x own.size
-    → outcome e v items trace ≡ tested e v m rule t.x t.size
-tested_is e v m rule t own tables weights items trace its_tables its_weights its_test its_items its_trace = rw (its_items, its_trace, its_tables, its_weights, its_test) refl
+pub tested_is : (e v : ℕ) (m : Map) (weights : List ℕ) (rule : Rule) (t own : RuleTest) (tables : TablesView) (items : List Slot) (trace : List ℕ)
+    → tables ≡ tables_of m → own ≡ t → items ≡ rule_answer tables weights rule.steps own.x own.size → trace ≡ rule_trace tables weights rule.steps own.x own.size
+    → outcome e v items trace ≡ tested e v m weights rule t.x t.size
+tested_is e v m weights rule t own tables items trace its_tables its_test its_items its_trace = rw (its_items, its_trace, its_tables, its_test) refl
 
 -- ---- it has no number with a point or an exponent
 
@@ -44,5 +44,5 @@ ids_plain (id ∷ ids) = ids_plain ids
 outcome_plain : (e v : ℕ) (slots : List Slot) (ids : List ℕ) → has_float (outcome e v slots ids) ≡ false
 outcome_plain e v slots ids = rw (slots_plain slots, ids_plain ids) refl
 
-pub tested_plain : (e v : ℕ) (m : Map) (rule : Rule) (x size : ℕ) → has_float (tested e v m rule x size) ≡ false
-tested_plain e v m rule x size = outcome_plain e v (rule_answer (tables_of m) (weights_of []) rule.steps x size) (rule_trace (tables_of m) (weights_of []) rule.steps x size)
+pub tested_plain : (e v : ℕ) (m : Map) (weights : List ℕ) (rule : Rule) (x size : ℕ) → has_float (tested e v m weights rule x size) ≡ false
+tested_plain e v m weights rule x size = outcome_plain e v (rule_answer (tables_of m) weights rule.steps x size) (rule_trace (tables_of m) weights rule.steps x size)

@@ -35,10 +35,10 @@ locate_has_method method = bytes_eq method (codes "POST")
 -- ---- the form of the body that asks for an object
 
 -- {"name": TEXT}, of at most 1,024 bytes
-pub record IsLocateBody (d : Data) (name : List ℕ) : Type 0 where
+pub record IsLocateBody (d : Data) (text : List ℕ) : Type 0 where
   pub keys : HasExactly (codes "name" ∷ []) d
-  pub name : IsUnder (codes "name") IsText d name
-  pub few : length name ≤ 1024
+  pub name : IsUnder (codes "name") IsText d text
+  pub few : length text ≤ 1024
 
 -- ---- reading it: a name is read exactly where the body has that form (law `object_names_are_of_the_form`)
 

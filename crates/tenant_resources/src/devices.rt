@@ -1,9 +1,11 @@
 //! States of devices, at `/t/{t}/devices`: POST changes reweights, and which devices are up.
 
-ghost use Rattle.std.specs.Prelude.{◌≡◌, ◌<◌, ◌^◌, false, IfOk, codes, length, map};
+ghost use Rattle.std.specs.Prelude.{◌≡◌, ◌<◌, ◌≤◌, ◌^◌, false, IfOk, codes, length, map};
 ghost use Rattle.std.specs.List.{list_any, list_all};
 ghost use Rattle.serde_json.specs.View.{view, items_view};
 ghost use Rattle.serde_json.specs.Written.{has_float};
+ghost use Rattle.crush_choose.specs.Weights.{reweight_of};
+ghost use Rattle.crush_pool.specs.States.{is_up, reweights};
 ghost use Rattle.tenant_messages.specs.Json as json;
 ghost use Rattle.tenant_messages.specs.Reading.{Reads};
 ghost use Rattle.tenant_messages.specs.Refusals.{Gives};
@@ -44,16 +46,18 @@ pub struct DeviceChange {
 
 // ---- the body
 
+/// How many keys it is that are this one.
+fn present(value: &Value, key: &str) -> usize
+    ensures count { result ≡ json.present key.now (view value.now) }
+    ensures few { result ≤ 1 }
+{
+    if value.get(key).is_some() { 1 } else { 0 }
+}
+
 fn change(value: &Value) -> Option<DeviceChange>
     ensures { result ≡ spec.change_of (view value.now) }
 {
-    let mut keys = 1;
-    if value.get("up").is_some() {
-        keys += 1;
-    }
-    if value.get("reweight").is_some() {
-        keys += 1;
-    }
+    let keys = present(value, "reweight") + (present(value, "up") + 1);
     if !has_keys(value, keys) {
         return None;
     }
@@ -136,17 +140,31 @@ pub fn read_changes(alloc: Global, body: &[u8]) -> Result<(Text, Listed<DeviceCh
 
 // ---- changing the states
 
+/// The reweight of a device.
+fn reweight(states: &Devices, device: u32) -> u32
+    ensures { result ≡ reweight_of (reweights states.now) device }
+{
+    states.weights().get(device)
+}
+
+/// Whether a device is up.
+fn is_up(states: &Devices, device: u32) -> bool
+    ensures { result ≡ is_up states.now device }
+{
+    states.flags().is_up(device)
+}
+
 /// The state of a device after a change.
 fn changed(states: &Devices, change: &DeviceChange) -> DeviceState
     ensures { result ≡ spec.changed states.now change.now }
 {
     let reweight = match change.reweight {
         Some(reweight) => reweight,
-        None => states.weights().get(change.device),
+        None => reweight(states, change.device),
     };
     let up = match change.up {
         Some(up) => up,
-        None => states.flags().is_up(change.device),
+        None => is_up(states, change.device),
     };
     DeviceState {
         device: change.device,
@@ -169,13 +187,20 @@ fn all_changed(
     Ok(all)
 }
 
+/// Whether a version has a device.
+fn has_device(version: &Version, device: u32) -> bool
+    ensures { result ≡ spec.has_device version.now device }
+{
+    version.tables().has_device(device)
+}
+
 /// Whether a version has each device.
 fn has_devices(version: &Version, changes: &[DeviceChange]) -> bool
     ensures { result ≡ list_all (λ c. spec.has_device version.now c.device) changes.now }
 {
     changes
         .iter()
-        .all(|change| version.tables().has_device(change.device))
+        .all(|change| has_device(version, change.device))
 }
 
 fn devices_reply(alloc: Global, count: usize, state: &TenantState) -> Result<Value, AllocError>

@@ -1,18 +1,21 @@
 //! Groups of pools: at `/t/{t}/pools/{p}/groups/{g}` GET reads where a group lies, and at `/t/{t}/pools/{p}/locate` POST asks where an object lies.
 
-ghost use Rattle.std.specs.Prelude.{◌≡◌, ◌<◌, ◌≤◌, ◌^◌, Some, IfOk, length};
+ghost use Rattle.std.specs.Prelude.{◌≡◌, ◌<◌, ◌≤◌, ◌^◌, Some, IfOk, length, map};
 ghost use Rattle.serde_json.specs.View.{view};
-ghost use Rattle.crush_pool.specs.Placements.{placement};
+ghost use Rattle.crush_bucket.specs.Tables.{tables_of};
+ghost use Rattle.crush_choose.specs.Rules.{CanRun};
+ghost use Rattle.crush_pool.specs.Placements.{placement, rule_numbered};
 ghost use Rattle.tenant_messages.specs.Reading.{Reads};
 ghost use Rattle.tenant_messages.specs.Refusals.{Gives};
 ghost use Rattle.tenant_messages.specs.Reply.{reply};
 ghost use Rattle.tenant_resources.specs.Groups as spec;
+ghost use Rattle.tenant_resources.specs.Slots.{slot_json, list_json};
 
 use crate::rules::rule_with_id;
 use crate::slots::{slot_json, slots_json};
 use crush_bucket::Scratch;
 use crush_hash::name_hash;
-use crush_map::Text;
+use crush_map::{Rule, Text};
 use crush_pool::{Placement, Pool, place};
 use serde_json::{Value, json};
 use std::alloc::{AllocError, Global};
@@ -20,7 +23,7 @@ use std::marker::Model;
 use tenant_messages::{
     Problem, ReadError, Refusal, Reply, has_keys, read_value, refused, success, text,
 };
-use tenant_state::TenantState;
+use tenant_state::{Devices, TenantState, Version};
 
 /// The route of groups.
 pub const GROUP_ROUTE: &str = "/t/{t}/pools/{p}/groups/{g}";
@@ -95,24 +98,24 @@ pub fn read_name(alloc: Global, body: &[u8]) -> Result<ObjectName, ReadError>
 
 // ---- placing a group
 
-/// The placement of a group of a pool, or why there is none.
-fn placed(alloc: Global, state: &TenantState, pool: &Pool, group: u32) -> Result<Placement, Refusal>
-    ensures { Gives (λ p. p) result (spec.placed state.now pool.now group) }
+/// The placement of a group on a version, with these states of devices.
+fn placed_on(
+    alloc: Global,
+    version: &Version,
+    devices: &Devices,
+    pool: &Pool,
+    rule: &Rule,
+    group: u32,
+) -> Result<Placement, AllocError>
+    requires there { group < pool.now.pg_num }
+    requires rule { rule_numbered version.now pool.now.rule ≡ Some rule.now }
+    requires runs { CanRun (tables_of version.now) rule.now }
+    ensures { IfOk result (λ p. placement version.now devices.now pool.now group ≡ Some p) }
 {
-    let parts = pool.parts();
-    if group >= parts.pg_num {
-        return Err(Refusal::Problem(Problem::NoGroup));
-    }
-    let Some(version) = state.version(state.newest()) else {
-        return Err(Refusal::Problem(Problem::NoVersion));
-    };
-    let Some(rule) = rule_with_id(version.map(), parts.rule) else {
-        return Err(Refusal::Problem(Problem::NoRule));
-    };
     let tables = version.tables();
     let mut scratch = Scratch::build(alloc, tables)?;
-    let weights = state.devices().weights();
-    let flags = state.devices().flags();
+    let weights = devices.weights();
+    let flags = devices.flags();
     match place(
         alloc,
         tables,
@@ -124,11 +127,36 @@ fn placed(alloc: Global, state: &TenantState, pool: &Pool, group: u32) -> Result
         group,
     )? {
         Ok(placement) => Ok(placement),
-        Err(_) => Err(Refusal::Problem(Problem::NoGroup)),
+        Err(_) => unreachable!(),
     }
 }
 
+/// The placement of a group of a pool on the newest version, or why there is none.
+fn placed(alloc: Global, state: &TenantState, pool: &Pool, group: u32) -> Result<Placement, Refusal>
+    requires { group < pool.now.pg_num }
+    ensures { Gives (λ p. p) result (spec.placed state.now pool.now group) }
+{
+    let Some(version) = state.version(state.newest()) else {
+        return Err(Refusal::Problem(Problem::NoVersion));
+    };
+    let Some(rule) = rule_with_id(version.map(), pool.parts().rule) else {
+        return Err(Refusal::Problem(Problem::NoRule));
+    };
+    Ok(placed_on(alloc, version, state.devices(), pool, rule, group)?)
+}
+
 // ---- the answers
+
+/// The devices of a placement: the primary, what the rule answered, and what of it is up.
+fn placement_json(alloc: Global, placement: &Placement) -> Result<(Value, Value, Value), AllocError>
+    ensures primary { IfOk result (λ parts. view parts.0 ≡ slot_json placement.now.primary) }
+    ensures raw { IfOk result (λ parts. view parts.1 ≡ list_json (map slot_json placement.now.raw)) }
+    ensures up { IfOk result (λ parts. view parts.2 ≡ list_json (map slot_json placement.now.up)) }
+{
+    let raw = slots_json(alloc, placement.raw.as_slice())?;
+    let up = slots_json(alloc, placement.up.as_slice())?;
+    Ok((slot_json(&placement.primary), raw, up))
+}
 
 fn group_reply(
     alloc: Global,
@@ -138,12 +166,11 @@ fn group_reply(
 ) -> Result<Value, AllocError>
     ensures { IfOk result (λ v. view v ≡ spec.group_reply state.now group placement.now) }
 {
-    let raw = slots_json(alloc, placement.raw.as_slice())?;
-    let up = slots_json(alloc, placement.up.as_slice())?;
+    let (primary, raw, up) = placement_json(alloc, placement)?;
     json!(in alloc; {
         "epoch": state.epoch(),
         "group": group,
-        "primary": slot_json(&placement.primary),
+        "primary": primary,
         "raw": raw,
         "seed": placement.seed,
         "up": up,
@@ -161,13 +188,13 @@ fn object_reply(
     requires { length name.now < 2 ^ 32 }
     ensures { IfOk result (λ v. view v ≡ spec.object_reply name.now state.now group placement.now) }
 {
-    let raw = slots_json(alloc, placement.raw.as_slice())?;
-    let up = slots_json(alloc, placement.up.as_slice())?;
+    let hash = name_hash(name.as_bytes());
+    let (primary, raw, up) = placement_json(alloc, placement)?;
     json!(in alloc; {
         "epoch": state.epoch(),
         "group": group,
-        "hash": name_hash(name.as_bytes()),
-        "primary": slot_json(&placement.primary),
+        "hash": hash,
+        "primary": primary,
         "raw": raw,
         "seed": placement.seed,
         "up": up,
@@ -187,9 +214,10 @@ pub fn group_answer(
     let Some(pool) = state.pools().get(id) else {
         return refused(alloc, Problem::NoPool);
     };
-    let Ok(group) = u32::try_from(group) else {
+    if group >= u64::from(pool.parts().pg_num) {
         return refused(alloc, Problem::NoGroup);
-    };
+    }
+    let group = group as u32;
     match placed(alloc, state, pool, group) {
         Err(Refusal::Problem(problem)) => refused(alloc, problem),
         Err(Refusal::NoMemory) => Err(AllocError),

@@ -23,7 +23,7 @@ use tenant_messages::{
     Problem, ReadError, Refusal, Reply, SuccessStatus, has_keys, read_value, refused,
     request_number, success, text,
 };
-use tenant_state::{Made, TenantState, Version};
+use tenant_state::{Made, Pools, TenantState, Version};
 
 /// The route of all versions.
 pub const ROUTE: &str = "/t/{t}/maps";
@@ -85,13 +85,20 @@ fn shared_version(alloc: Global, map: CrushMap) -> Result<Rc<Version>, AllocErro
     Ok(Rc::new(alloc, version)?)
 }
 
-/// Whether the rule of each pool is in a map.
-fn has_rules_of(map: &CrushMap, pools: &[Rc<Pool>]) -> bool
+/// Whether a map has the rule of each of some pools.
+fn has_each_rule(map: &CrushMap, pools: &[Rc<Pool>]) -> bool
     ensures { result ≡ list_all (λ p. is_some (rule_numbered map.now p.value.rule)) pools.now }
 {
     pools
         .iter()
         .all(|pool| rule_with_id(map, pool.parts().rule).is_some())
+}
+
+/// The same for all pools of a tenant.
+fn has_rules_of(map: &CrushMap, pools: &Pools) -> bool
+    ensures { result ≡ list_all (λ p. is_some (rule_numbered map.now p.rule)) pools.now }
+{
+    has_each_rule(map, pools.as_slice())
 }
 
 /// The version of a text, or why there is none.
@@ -107,7 +114,7 @@ pub fn import(alloc: Global, text: &str, state: &TenantState) -> Result<Accepted
     match read_map(alloc, text.as_bytes())? {
         Err(fault) => Err(Refusal::Problem(Problem::MapRefused(fault))),
         Ok(map) => {
-            if !has_rules_of(&map, state.pools().as_slice()) {
+            if !has_rules_of(&map, state.pools()) {
                 return Err(Refusal::Problem(Problem::RuleInUse));
             }
             let version = shared_version(alloc, map)?;

@@ -22,7 +22,7 @@ use tenant_messages::{
     Problem, ReadError, Refusal, SuccessStatus, boolean, has_keys, natural, read_value,
     request_number, text,
 };
-use tenant_state::{Made, TenantState};
+use tenant_state::{Made, Pools, TenantState};
 
 /// The route of pools.
 pub const ROUTE: &str = "/t/{t}/pools";
@@ -148,10 +148,18 @@ fn is_like(parts: &PoolParts, other: &PoolParts) -> bool
     other.id == parts.id || other.name.as_str() == parts.name.as_str()
 }
 
-fn is_taken(parts: &PoolParts, pools: &[Rc<Pool>]) -> bool
+/// Whether one of some pools has the id or the name of another.
+fn is_any_like(parts: &PoolParts, pools: &[Rc<Pool>]) -> bool
     ensures { result ≡ list_any (λ p. spec.is_like parts.now p.value) pools.now }
 {
     pools.iter().any(|pool| is_like(parts, pool.parts()))
+}
+
+/// The same for all pools of a tenant.
+fn is_taken(parts: &PoolParts, pools: &Pools) -> bool
+    ensures { result ≡ list_any (spec.is_like parts.now) pools.now }
+{
+    is_any_like(parts, pools.as_slice())
 }
 
 fn creation(alloc: Global, id: u32, state: &TenantState) -> Result<Value, AllocError>
@@ -189,7 +197,7 @@ pub fn create(alloc: Global, pool: &Pool, state: &TenantState) -> Result<Accepte
     if rule_with_id(version.map(), parts.rule).is_none() {
         return Err(Refusal::Problem(Problem::NoRule));
     }
-    if is_taken(parts, state.pools().as_slice()) {
+    if is_taken(parts, state.pools()) {
         return Err(Refusal::Problem(Problem::Exists));
     }
     if state.pools().len() >= POOL_LIMIT {

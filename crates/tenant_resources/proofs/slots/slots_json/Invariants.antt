@@ -1,7 +1,7 @@
 use Rattle.std.proofs.Common.{◌≡◌, map, take}
 use Rattle.serde_json.specs.View.{view}
-use Rattle.tenant_resources.specs.RuleTests.{slot_json}
-use Rattle.tenant_resources.proofs.rule_tests.slots_json.Given as goal
+use Rattle.tenant_resources.specs.Slots.{slot_json}
+use Rattle.tenant_resources.proofs.slots.slots_json.Given as goal
 
 -- the values of the slots so far
 abbrev pub invariant-loop-slot : goal.invariant-loop-slot

@@ -1,7 +1,7 @@
 use Rattle.std.proofs.Common.{◌≡◌, map, take}
 use Rattle.serde_json.specs.View.{view}
 use Rattle.tenant_messages.specs.Reply.{natural}
-use Rattle.tenant_resources.proofs.rule_tests.ids_json.Given as goal
+use Rattle.tenant_resources.proofs.slots.ids_json.Given as goal
 
 -- the values of the ids so far
 abbrev pub invariant-loop-id : goal.invariant-loop-id
