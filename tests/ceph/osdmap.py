@@ -131,10 +131,10 @@ class OsdMap:
     def state_said(of):
         return of["osd"], round(of["weight"] * 65536), of["up"] == 1
 
-    def placements(self):
-        """For each pool and group raw, up and the primary; None stands for none."""
+    def placements(self, *options):
+        """For each pool and group raw, up and the primary; None stands for none. Options change states of devices for this once."""
         line = re.compile(r"(\d+)\.([0-9a-f]+) raw \(\[([^]]*)\], p-?\d+\) up \(\[([^]]*)\], p(-?\d+)\) acting .*")
-        found = filter(None, map(line.fullmatch, self.ask("--test-map-pgs-dump-all").splitlines()))
+        found = filter(None, map(line.fullmatch, self.ask(*options, "--test-map-pgs-dump-all").splitlines()))
         return {(int(it[1]), int(it[2], 16)): (slots(it[3]), slots(it[4]), None if it[5] == "-1" else int(it[5])) for it in found}
 
     def object_lies(self, pool, name):
