@@ -18,7 +18,7 @@ help:
 	@echo '               CRATES="--from build" records what the last make test or make gate tried'
 	@echo 'make install   builds, and installs PREFIX/bin/crushcalc (PREFIX=/usr/local)'
 	@echo 'make ceph-check   compares 176,000 mappings by requests, 154,000 with reweights and 93 name hashes with those of Ceph'"'"'s own library,'
-	@echo '               and map texts with its crushtool'
+	@echo '               74,592 placements of groups with those of its osdmaptool, and map texts with its crushtool'
 	@echo 'make bench     builds and measures; beside Ceph'"'"'s own library where that is installed'
 	@echo 'make bench-deps   installs what the comparisons with Ceph need (Debian: librados2, ceph-base, gcc)'
 	@echo 'make serve     the server (not built yet)'
@@ -89,6 +89,7 @@ serve:
 ceph-check: build build/crush_bench bench-deps
 	@python3 tests/ceph/check_names
 	@python3 tests/ceph/check ./crushcalc build/crush_bench
+	@python3 tests/ceph/check_pools ./crushcalc
 	@python3 tests/ceph/check_texts ./crushcalc build/crush_bench
 
 bench: build build/crush_bench
@@ -98,8 +99,8 @@ bench-deps:
 	@if [ -e "$$(sh bench/libceph)" ] && command -v gcc >/dev/null; then echo 'librados2 and gcc are installed.'; else \
 	  echo 'Installing librados2 and gcc: apt-get install -y librados2 gcc libc6-dev'; \
 	  apt-get update && apt-get install -y librados2 gcc libc6-dev; fi
-	@if command -v crushtool >/dev/null; then echo 'crushtool is installed.'; else \
-	  echo 'Installing crushtool: apt-get install -y --no-install-recommends ceph-base'; \
+	@if command -v crushtool >/dev/null && command -v osdmaptool >/dev/null; then echo 'crushtool and osdmaptool are installed.'; else \
+	  echo 'Installing crushtool and osdmaptool: apt-get install -y --no-install-recommends ceph-base'; \
 	  apt-get update && apt-get install -y --no-install-recommends ceph-base; fi
 
 clean:

@@ -70,9 +70,13 @@ class Map:
         for id_, type_, kind, entries in self.buckets:
             items = [f"\titem {self.item_name(it)} weight {weight_text(weight)}" for it, weight in entries]
             lines += [f"{TYPES[type_]} {self.item_name(id_)} {{", f"\tid {id_}", f"\talg {kind}", "\thash 0", *items, "}"]
-        lines += ["", "# rules", "rule data {", "\tid 0", "\ttype replicated", "\tmin_size 1", "\tmax_size 10"]
-        lines += [f"\tstep {self.step_text(it)}" for it in self.steps]
-        return "\n".join(lines + ["}", "", "# end crush map"]) + "\n"
+        return "\n".join(lines + ["", "# rules", *self.rule_lines(), "", "# end crush map"]) + "\n"
+
+    def rule_lines(self):
+        return self.lines_of_rule("data", 0, "replicated", self.steps)
+
+    def lines_of_rule(self, name, id_, type_, steps):
+        return [f"rule {name} {{", f"\tid {id_}", f"\ttype {type_}", "\tmin_size 1", "\tmax_size 10", *(f"\tstep {self.step_text(it)}" for it in steps), "}"]
 
 
 def even(d):

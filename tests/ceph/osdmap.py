@@ -1,0 +1,150 @@
+"""OSD maps for Ceph's osdmaptool, with the pools and the states of devices that a comparison wants.
+
+osdmaptool makes pools of one form alone (`--createsimple --with-default-pool`: replicated, size 3), and none of its options keeps a device down or gives it a
+reweight. So its own map is changed here in its encoded form (`OSDMap::encode` and `pg_pool_t::encode` of Ceph's osd/, release 16): the pools, their names, and
+the states and reweights of devices. osdmaptool then has to read the changed map, and to say by `--dump json` that each pool and each device is as it was wanted.
+"""
+import json
+import pathlib
+import re
+import struct
+
+import library
+
+EXISTS, UP = 1, 2  # bits of a device's state
+HASHPSPOOL = 1  # the bit of a pool's flags
+TYPES = {"replicated": 1, "erasure": 3}
+# places in the body of an encoded pool
+TYPE, SIZE, RULE, PG_NUM, PGP_NUM, FLAGS, MIN_SIZE = 0, 1, 2, 4, 8, 52, 64
+NONE = 2_147_483_647  # CRUSH_ITEM_NONE
+
+
+def checksums():
+    """The table of Castagnoli's checksum."""
+    for crc in range(256):
+        for _ in range(8):
+            crc = (crc >> 1) ^ (0x82F63B78 if crc & 1 else 0)
+        yield crc
+
+
+TABLE = list(checksums())
+
+
+def checksum(data):
+    """Ceph's: begun with all ones, and not inverted at the end."""
+    crc = 0xFFFFFFFF
+    for byte in data:
+        crc = TABLE[(crc ^ byte) & 255] ^ (crc >> 8)
+    return crc
+
+
+def number(data, at):
+    return struct.unpack_from("<I", data, at)[0]
+
+
+def section_end(data, at):
+    """The end of a section: two bytes of its version, its length, and so many bytes."""
+    return at + 6 + number(data, at + 2)
+
+
+def section(version, body):
+    return version + struct.pack("<I", len(body)) + body
+
+
+def of_pool(template, pool):
+    """An encoded pool: the template with these parts."""
+    found = bytearray(template)
+    parts = (
+        ("B", TYPE, TYPES[pool["kind"]]), ("B", SIZE, pool["size"]), ("B", RULE, pool["rule"]), ("I", PG_NUM, pool["pg_num"]),
+        ("I", PGP_NUM, pool["pgp_num"]), ("Q", FLAGS, HASHPSPOOL if pool["hashpspool"] else 0), ("B", MIN_SIZE, 1),
+    )  # fmt: skip
+    for form, at, value in parts:
+        struct.pack_into("<" + form, found, 6 + at, value)
+    return bytes(found)
+
+
+def of_pools(template, pools):
+    """Encoded pools, their names, and the greatest of their ids."""
+    found = struct.pack("<I", len(pools))
+    for pool in pools:
+        found += struct.pack("<q", pool["id"]) + of_pool(template, pool)
+    found += struct.pack("<I", len(pools))
+    for pool in pools:
+        found += struct.pack("<qI", pool["id"], len(pool["name"])) + pool["name"].encode()
+    return found + struct.pack("<i", pools[-1]["id"])
+
+
+def of_states(states):
+    """The encoded states of devices, and their reweights."""
+    numbers = [len(states), *(EXISTS | (UP if up else 0) for _, up in states), len(states), *(reweight for reweight, _ in states)]
+    return struct.pack(f"<{len(numbers)}I", *numbers)
+
+
+def changed(data, pools, states):
+    """The encoded map of one pool with these pools, in order of id, and these states: pairs of a reweight, and whether the device is up."""
+    if checksum(data[:-4]) != number(data, len(data) - 4):
+        raise library.Failed("osdmaptool's own map has another checksum than this program finds")
+    client_end = section_end(data, 6)
+    body = data[12:client_end]
+    first = 36  # behind the id of the cluster, the epoch, and two times
+    template = body[first + 12 : section_end(body, first + 12)]
+    name = first + 12 + len(template)
+    flags = name + 12 + number(body, name + 12) + 4 + 4
+    if number(body, first) != 1 or number(body, name) != 1 or number(body, flags + 4) != len(states):
+        raise library.Failed("osdmaptool's own map hasn't one pool and the devices that were asked for")
+    behind = flags + 8 + 2 * (4 + 4 * len(states))
+    client = body[:first] + of_pools(template, pools) + body[flags : flags + 8] + of_states(states) + body[behind:]
+    # the checksum is of the whole, its length included
+    whole = section(data[:2], section(data[6:8], client) + data[client_end:])[:-4]
+    return whole + struct.pack("<I", checksum(whole))
+
+
+class OsdMap:
+    """A file in a folder with the OSD map of a CRUSH map's text, of pools and of states."""
+
+    def __init__(self, folder, text, pools, states):
+        self.path = pathlib.Path(folder) / "osdmap"
+        crush_text, crush = self.path.with_suffix(".txt"), self.path.with_suffix(".crush")
+        crush_text.write_text(text)
+        library.run(["crushtool", "-c", crush_text, "-o", crush])
+        library.run(["osdmaptool", self.path, "--createsimple", len(states), "--with-default-pool", "--clobber"])
+        pools = sorted(pools, key=lambda of: of["id"])
+        self.path.write_bytes(changed(self.path.read_bytes(), pools, states))
+        library.run(["osdmaptool", self.path, "--import-crush", crush])
+        said = json.loads(self.ask("--dump", "json"))
+        if [self.pool_said(of) for of in said["pools"]] != pools:
+            raise library.Failed(f"osdmaptool reads other pools than {pools}")
+        if [self.state_said(of) for of in said["osds"]] != [(of, *it) for of, it in enumerate(states)]:
+            raise library.Failed(f"osdmaptool reads other states than {states}")
+
+    def ask(self, *words):
+        return library.run(["osdmaptool", self.path, *words])[0]
+
+    @staticmethod
+    def pool_said(of):
+        return {
+            "id": of["pool"], "kind": {number: kind for kind, number in TYPES.items()}[of["type"]], "size": of["size"], "rule": of["crush_rule"],
+            "pg_num": of["pg_num"], "pgp_num": of["pg_placement_num"], "hashpspool": "hashpspool" in of["flags_names"], "name": of["pool_name"],
+        }  # fmt: skip
+
+    @staticmethod
+    def state_said(of):
+        return of["osd"], round(of["weight"] * 65536), of["up"] == 1
+
+    def placements(self, *options):
+        """For each pool and group raw, up and the primary; None stands for none. Options change states of devices for this once."""
+        line = re.compile(r"(\d+)\.([0-9a-f]+) raw \(\[([^]]*)\], p-?\d+\) up \(\[([^]]*)\], p(-?\d+)\) acting .*")
+        found = filter(None, map(line.fullmatch, self.ask(*options, "--test-map-pgs-dump-all").splitlines()))
+        return {(int(it[1]), int(it[2], 16)): (slots(it[3]), slots(it[4]), None if it[5] == "-1" else int(it[5])) for it in found}
+
+    def object_lies(self, pool, name):
+        """The group of the object with a name, and the devices that are up in it."""
+        said = self.ask("--test-map-object", name, "--pool", pool)
+        found = re.fullmatch(re.escape(f" object '{name}' -> {pool}.") + r"([0-9a-f]+) -> \[([^]]*)\]\n", said)
+        if not found:
+            raise library.Failed(f"osdmaptool --test-map-object: {said}")
+        return int(found[1], 16), slots(found[2])
+
+
+def slots(text):
+    return [None if it == str(NONE) else int(it) for it in filter(None, text.split(","))]
