@@ -33,6 +33,27 @@ def hashed(turns, **words):
     return h
 
 
+def name_hash(name):
+    """The hash of an object's name, from its bytes: 12 of them for each mix, and a last mix with the length and the rest."""
+    a = b = 0x9E3779B9
+    c = 0
+    whole = len(name) // 12 * 12
+    for place in range(0, whole, 12):
+        words = (int.from_bytes(name[at : at + 4], "little") for at in (place, place + 4, place + 8))
+        a, b, c = mix(*(so_far + word & WORD for so_far, word in zip((a, b, c), words)))
+    rest = name[whole:]
+    a = a + int.from_bytes(rest[:4], "little") & WORD
+    b = b + int.from_bytes(rest[4:8], "little") & WORD
+    c = c + len(name) + (int.from_bytes(rest[8:], "little") << 8) & WORD
+    return mix(a, b, c)[2]
+
+
+def stable_mod(x, count):
+    """The remainder that keeps most of its values where the count grows to the next power of two."""
+    mask = (1 << (count - 1).bit_length()) - 1
+    return x & mask if x & mask < count else x & mask >> 1
+
+
 def hash2(a, b):
     return hashed("ab xa by", a=a, b=b)
 
@@ -89,6 +110,9 @@ def check():
     even = lambda *items: [(item, 65536) for item in items]
     return (
         hash2(0, 1) == 0x0573D827
+        and name_hash(b"") == 3175731469
+        and name_hash(b"a") == 703514648
+        and [stable_mod(x, 12) for x in range(16)] == [*range(12), 4, 5, 6, 7]
         and hash3(0, -1, 0) == 0x2235FB93
         and hash4(0, 1, 0, -1) == 0x9097F53A
         and uniform_pick(-1, even(5, 6, 7), 0, 0) == 7

@@ -1,4 +1,4 @@
-//! Tests of `tenant_core` and `crush_app`: requests, scripts, imports and rule tests, and a store whose data is damaged in part. They stand apart, so
+//! Tests of `tenant_core` and `crush_app`: requests, scripts, imports, rule tests, pools and states of devices, and a store whose data is damaged in part. They stand apart, so
 //! that these crates are proved once.
 #![tactic(auto)]
 
@@ -7,6 +7,10 @@ mod damaged;
 #[cfg(test)]
 mod maps;
 #[cfg(test)]
+mod pools;
+#[cfg(test)]
 mod requests;
+#[cfg(test)]
+mod rows;
 #[cfg(test)]
 mod scripts;

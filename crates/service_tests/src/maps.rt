@@ -1,11 +1,11 @@
 //! Imports, versions and rule tests over a store in memory, and the bodies that ask for them.
 
+use crate::rows::{Row, assert_each_alone};
 use crush_app::{MemoryStore, Service};
-use crush_map::Text;
 use std::alloc::{AllocError, Global};
 use std::test::Fail;
 use tenant_core::{Decision, Effect, Routes, TenantStore, decide, read_request};
-use tenant_messages::{Bytes, Call, CallParts, Reply};
+use tenant_messages::CallParts;
 use tenant_state::{Change, TenantState};
 
 /// An import of a map with the one device 0, under the request number m1.
@@ -27,9 +27,6 @@ pub(crate) const STRAW2: &str =
 /// The reply with the canonical text of the first map.
 const CANONICAL: &str =
     "{\"text\":\"# begin crush map\\ntunable choose_local_tries 0\\ntunable choose_local_fallback_tries 0\\ntunable choose_total_tries 50\\ntunable chooseleaf_descend_once 1\\ntunable chooseleaf_vary_r 1\\ntunable chooseleaf_stable 1\\n\\n# devices\\ndevice 0 osd.0\\n\\n# types\\ntype 0 osd\\ntype 1 host\\ntype 10 root\\n\\n# buckets\\nroot default {\\n\\tid -1\\n\\talg uniform\\n\\thash 0\\n\\titem osd.0 weight 1.00000\\n}\\n\\n# rules\\nrule all {\\n\\tid 0\\n\\ttype replicated\\n\\tstep take default\\n\\tstep choose firstn 0 type osd\\n\\tstep emit\\n}\\n\\n# end crush map\\n\",\"version\":1}";
-
-/// A method, a path and a body, and the status and the body of the reply that the rules of requests give them.
-type Row = (&'static str, &'static str, &'static str, u16, &'static str);
 
 // Calls that are made twice, with the same reply each time.
 
@@ -147,48 +144,10 @@ const ROWS: [Row; 24] = [
     ),
 ];
 
-fn call(alloc: Global, row: &Row) -> Result<Call, AllocError> {
-    let (method, path, body, _, _) = *row;
-    Ok(Call {
-        method: Bytes::new(Vec::from_slice(alloc, method.as_bytes())?),
-        path: Text::copy(alloc, path)?,
-        body: Bytes::new(Vec::from_slice(alloc, body.as_bytes())?),
-    })
-}
-
-/// The rows whose paths begin so.
-fn rows_below(alloc: Global, path: &str) -> Result<Vec<Row>, AllocError> {
-    let mut rows = Vec::new(alloc);
-    for row in ROWS {
-        if row.1.starts_with(path) {
-            rows.push(row)?;
-        }
-    }
-    Ok(rows)
-}
-
-/// The replies to the calls of some rows, on a service without a tenant.
-fn replies_to(alloc: Global, rows: &[Row]) -> Result<Vec<Reply>, AllocError> {
-    let mut calls = Vec::new(alloc);
-    for row in rows {
-        calls.push(call(alloc, row)?)?;
-    }
-    Service::in_memory(alloc)?.run(&calls)
-}
-
 /// The headline by example: the calls of both tenants in turn, and those of each alone, have the same replies.
 #[test]
 fn tenants_in_turn_are_answered_as_each_alone(rt: HostRuntime) -> Result<(), Fail> {
-    let alloc = rt.alloc();
-    for path in ["/t/", "/t/a", "/t/b"] {
-        let rows = rows_below(alloc, path)?;
-        let replies = replies_to(alloc, &rows)?;
-        assert_eq!(rt; replies.len(), rows.len());
-        for (reply, (method, path, _, status, body)) in replies.iter().zip(rows) {
-            assert_eq!(rt; reply.status, status, "{method} {path}");
-            assert_eq!(rt; reply.body.as_str(), body, "{method} {path}");
-        }
-    }
+    assert_each_alone(&rt, rt.alloc(), &ROWS)?;
     Ok(())
 }
 

@@ -1,26 +1,24 @@
 -- A receipt that is added is found again, adds one, and leaves the others.
-use Rattle.std.proofs.Common.{◌≡◌, ◌≢◌, ◌∙◌, ℕ, suc, List, [], ◌∷◌, length, Bool, true, false, ◌&&◌, nat_le, if◌then◌else◌, Option, Some, None, Result, Ok, Err, bytes_eq, Ordering, Less, Equal, Greater, nat_cmp, is_eq, refl, sym, ap, subst, arith}
+use Rattle.std.proofs.Common.{◌≡◌, ◌∙◌, ℕ, suc, List, [], ◌∷◌, length, Bool, true, false, nat_le, if◌then◌else◌, Option, Some, None, Result, Ok, Err, bytes_eq, Ordering, Less, Equal, Greater, nat_cmp, is_eq, refl, sym, ap, subst, arith}
 use Rattle.std.proofs.lemmas.Map.Text.{is_eq-slice_cmp}
 use Rattle.std.proofs.lemmas.Slice.Eq.{bytes_eq-Decides}
 use Rattle.std.specs.Cmp.Lexicographic.{slice_cmp}
 use Rattle.std.specs.Ordering.{match_ordering}
-use Rattle.serde_json.specs.Written.{compact_text}
 use Rattle.tenant_core.specs.Commands.{decision, on_receipt, carried_out, order_on, again, receipt_for, receipt_limit}
 use Rattle.tenant_core.specs.Effects.{Decided, decided}
 use Rattle.tenant_resources.specs.Orders.{Accepted}
-use Rattle.tenant_state.specs.Receipts.{Receipts, receipt_of, with_receipt, is_repeat}
-use Rattle.tenant_messages.specs.Reply.{Answer, refused, answered, repeated, reply}
+use Rattle.tenant_state.specs.Receipts.{Receipts, receipt_of, with_receipt}
+use Rattle.tenant_messages.specs.Reply.{refused, repeated, reply}
 use Rattle.tenant_state.specs.State.{TenantState, Change, after, epoch}
 use Rattle.tenant_core.specs.Step.{decision_on}
 use Rattle.tenant_core.specs.declared.commands.Command.{Command}
 use Rattle.tenant_state.specs.declared.receipts.Receipt.{Receipt}
 use Rattle.tenant_messages.specs.declared.reply.Problem.{Problem}
-use Rattle.tenant_messages.specs.declared.reply.Problem.TheVariants.{RequestReused, TenantLimit}
+use Rattle.tenant_messages.specs.declared.reply.Problem.TheVariants.{TenantLimit}
 use Rattle.tenant_core.specs.declared.request.Action.{Action}
 use Rattle.tenant_core.specs.declared.request.Action.TheVariants as action
 use Rattle.tenant_core.specs.declared.tenants.TenantOperation.{TenantOperation}
 use Rattle.tenant_core.specs.declared.tenants.TenantOperation.TheVariants.{Create as CreateTenant, Read, Remove as RemoveTenant}
-use Rattle.tenant_core.specs.declared.decision.Effect.{Effect}
 use Rattle.tenant_core.specs.declared.decision.Effect.TheVariants as effect
 
 -- ---- bytes

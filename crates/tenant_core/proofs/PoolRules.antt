@@ -1,12 +1,11 @@
 -- The newest version has the rule of each pool.
-use Rattle.std.proofs.Common.{◌≡◌, ◌∙◌, ℕ, zero, suc, ◌-◌, ◌<◌, ◌==◌, List, [], ◌∷◌, ◌++◌, length, map, find, Bool, true, false, ◌&&◌, nat_le, nat_lt, if◌then◌else◌, slice_get, Option, Some, None, is_some, option_and_then, Result, Ok, Err, is_ok, refl, sym, ap, subst, arith}
+use Rattle.std.proofs.Common.{◌≡◌, ℕ, suc, ◌-◌, ◌<◌, ◌==◌, List, [], ◌∷◌, ◌++◌, length, map, find, Bool, true, false, ◌&&◌, nat_le, nat_lt, if◌then◌else◌, slice_get, Option, Some, None, is_some, option_and_then, Result, Ok, Err, is_ok, refl, sym, ap, subst, arith}
 use Rattle.std.proofs.lemmas.Bool.Decides.{nat_tests}
 use Rattle.std.specs.List.{list_all, list_any}
 use Rattle.crush_grammar.specs.declared.code.TextFault.{TextFault}
 use Rattle.crush_map.specs.Map.{Map}
 use Rattle.crush_map.specs.declared.draft.Rule.{Rule}
 use Rattle.crush_pool.specs.Placements.{rule_numbered, placement}
-use Rattle.crush_pool.specs.declared.placing.Placement.{Placement}
 use Rattle.crush_pool.specs.declared.pool.PoolParts.{PoolParts}
 use Rattle.crush_text.specs.Reading.{map_of_text}
 use Rattle.tenant_core.proofs.Once.{tenant_changes_nothing}
@@ -22,6 +21,7 @@ use Rattle.tenant_core.specs.declared.request.Action.TheVariants as action
 use Rattle.tenant_messages.specs.Reply.{refused}
 use Rattle.tenant_messages.specs.declared.reply.Problem.{Problem}
 use Rattle.tenant_messages.specs.declared.reply.Problem.TheVariants.{TenantLimit, RuleInUse, NoDevice, Exists}
+use Rattle.tenant_messages.specs.declared.reply.SuccessStatus.TheVariants.{Created, Done}
 use Rattle.tenant_resources.specs.Devices as devices
 use Rattle.tenant_resources.specs.Groups as groups
 use Rattle.tenant_resources.specs.Maps as maps
@@ -46,7 +46,7 @@ all_with t number new (x ∷ xs) h all =
     let are = both_true (t x) (list_all t xs) all in placed (nat_le (number new) (number x)) (number x == number new) are.0 are.1 (all_with t number new xs h are.1)
   where
     placed : (b c : Bool) → t x ≡ true → list_all t xs ≡ true → list_all t (with_element number new xs) ≡ true
-    → list_all t (if b then (if c then new ∷ xs else new ∷ x ∷ xs) else x ∷ with_element number new xs) ≡ true
+        → list_all t (if b then (if c then new ∷ xs else new ∷ x ∷ xs) else x ∷ with_element number new xs) ≡ true
     placed true true one rest later = rw (h, rest) refl
     placed true false one rest later = rw (h, one, rest) refl
     placed false c one rest later = rw (one, later) refl
@@ -70,8 +70,14 @@ at_end : (vs : List Map) (m : Map) → slice_get (vs ++ m ∷ []) (length vs) �
 at_end [] m = refl
 at_end (v ∷ vs) m = at_end vs m
 
+not_zero : (n : ℕ) → (suc n == 0) ≡ false
+not_zero n = grind (arith, nat_tests)
+
+one_less : (n : ℕ) → suc n - 1 ≡ n
+one_less n = omega arith
+
 newest_is : (vs : List Map) (m : Map) (s : TenantState) → s.versions ≡ vs ++ m ∷ [] → version (newest s) s ≡ Some m
-newest_is vs m s is = rw (is, longer vs m) (at_end vs m)
+newest_is vs m s is = rw (is, longer vs m, not_zero (length vs), one_less (length vs)) (at_end vs m)
 
 -- ---- what each order makes
 
@@ -98,13 +104,13 @@ makes k s c h = makes_on k s c (receipt_of k.number s.receipts) h
 
 -- ---- each of them leaves the rules of pools in the newest version
 
-Leaves : TenantState → Made → Type 0
+abbrev Leaves : TenantState → Made → Type 0
 Leaves s made = have_rules s ≡ true → have_rules (with_made made s) ≡ true
 
 import_read : (s : TenantState) (m : Map) (a : Accepted) (fit : Bool) → list_all (λ p. is_some (rule_numbered m p.rule)) s.pools ≡ fit
-    → (if fit then Ok (record { made = NewVersion m; status = Rattle.tenant_messages.specs.declared.reply.SuccessStatus.TheVariants.Created; body = maps.import_reply s }) else Err RuleInUse) ≡ Ok a
+    → (if fit then Ok (record { made = NewVersion m; status = Created; body = maps.import_reply s }) else Err RuleInUse) ≡ Ok a
     → Leaves s a.made
-import_read s m a false fits h = cc
+import_read s m a false fits h had = cc
 import_read s m a true fits h had =
     let made : NewVersion m ≡ a.made = cc in
     let new = newest_is s.versions m (with_made (NewVersion m) s) refl in
@@ -119,9 +125,9 @@ import_at text s a true h = cc
 import_at text s a false h = import_text s a (map_of_text text) h
 
 devices_at : (cs : List DeviceChange) (s : TenantState) (a : Accepted) (known : Bool)
-    → (if known then Ok (record { made = NewStates (map (devices.changed s.devices) cs); status = Rattle.tenant_messages.specs.declared.reply.SuccessStatus.TheVariants.Done; body = devices.devices_reply (length cs) s }) else Err NoDevice) ≡ Ok a
+    → (if known then Ok (record { made = NewStates (map (devices.changed s.devices) cs); status = Done; body = devices.devices_reply (length cs) s }) else Err NoDevice) ≡ Ok a
     → Leaves s a.made
-devices_at cs s a false h = cc
+devices_at cs s a false h had = cc
 devices_at cs s a true h had =
     let made : NewStates (map (devices.changed s.devices) cs) ≡ a.made = cc in subst (λ x. have_rules (with_made x s) ≡ true) made had
 
@@ -130,16 +136,16 @@ devices_on cs s a None h = cc
 devices_on cs s a (Some m) h = devices_at cs s a (list_all (λ c. devices.has_device m c.device) cs) h
 
 pool_made : (p : PoolParts) (s : TenantState) (a : Accepted) (full : Bool) → is_some (rule_of s p) ≡ true
-    → (if full then Err TenantLimit else Ok (record { made = NewPool p; status = Rattle.tenant_messages.specs.declared.reply.SuccessStatus.TheVariants.Created; body = pools.creation p.id s })) ≡ Ok a
+    → (if full then Err TenantLimit else Ok (record { made = NewPool p; status = Created; body = pools.creation p.id s })) ≡ Ok a
     → Leaves s a.made
-pool_made p s a true ruled h = cc
+pool_made p s a true ruled h had = cc
 pool_made p s a false ruled h had =
     let made : NewPool p ≡ a.made = cc in
     subst (λ x. have_rules (with_made x s) ≡ true) made (all_with (λ q. is_some (rule_of s q)) (λ q. q.id) p s.pools ruled had)
 
 pool_taken : (p : PoolParts) (s : TenantState) (a : Accepted) (taken : Bool) → is_some (rule_of s p) ≡ true
     → (if taken then Err Exists else (if nat_le pools.pool_limit (length s.pools) then Err TenantLimit
-    else Ok (record { made = NewPool p; status = Rattle.tenant_messages.specs.declared.reply.SuccessStatus.TheVariants.Created; body = pools.creation p.id s }))) ≡ Ok a → Leaves s a.made
+    else Ok (record { made = NewPool p; status = Created; body = pools.creation p.id s }))) ≡ Ok a → Leaves s a.made
 pool_taken p s a true ruled h = cc
 pool_taken p s a false ruled h = pool_made p s a (nat_le pools.pool_limit (length s.pools)) ruled h
 
@@ -152,7 +158,7 @@ pool_on p s a None is h = cc
 pool_on p s a (Some m) is h = pool_rule p s a (rule_numbered m p.rule) (ap (λ v. option_and_then (λ m. rule_numbered m p.rule) v) is) h
 
 removal_on : (id : ℕ) (s : TenantState) (a : Accepted) (o : Option PoolParts) → pools.on_pool id s o ≡ Ok a → Leaves s a.made
-removal_on id s a None h = cc
+removal_on id s a None h had = cc
 removal_on id s a (Some p) h had =
     let made : RemovedPool id ≡ a.made = cc in
     subst (λ x. have_rules (with_made x s) ≡ true) made (all_without (λ q. is_some (rule_of s q)) (λ q. q.id) id s.pools had)

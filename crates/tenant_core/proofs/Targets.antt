@@ -1,5 +1,5 @@
 -- The parameters of a path that has a route.
-use Rattle.std.proofs.Common.{◌≡◌, ℕ, zero, suc, ◌==◌, ◌&&◌, ltb, cond, List, [], ◌∷◌, length, Bool, true, false, nat_lt, leb, ◌-◌, take, drop, Option, Some, None, IfSome, MatchOption, option_map, Result, Ok, Err, IfOk, refl, sym, subst, arith}
+use Rattle.std.proofs.Common.{◌≡◌, ℕ, zero, suc, ◌==◌, ◌&&◌, ltb, cond, List, [], ◌∷◌, length, Bool, true, false, leb, ◌-◌, take, drop, Option, Some, None, IfSome, MatchOption, option_map, Result, Ok, Err, IfOk, refl, sym, subst, arith}
 use Rattle.std.proofs.lemmas.Bool.Decides.{nat_tests}
 use Rattle.std.proofs.lemmas.Str.{IsAscii-take, IsAscii-drop, IsUtf8-from_ascii}
 use Rattle.std.specs.Char.{is_ascii}
@@ -9,7 +9,7 @@ use Rattle.std.specs.Str.{IsAscii, IsUtf8}
 use Rattle.matchit.proofs.OnLiterals.{matchit_on_literals}
 use Rattle.matchit.specs.Params.{AllText, named, part_of, walk}
 use Rattle.matchit.specs.Router.{RouteOf}
-use Rattle.matchit.specs.Rows.{RowsOf, param_token, catch_all_token}
+use Rattle.matchit.specs.Rows.{param_token, catch_all_token}
 use Rattle.matchit.specs.Seek.{first, has_slash, longest_suffix, or_else, own, param_step, same_text, seek, segment, step, with_suffix}
 use Rattle.tenant_core.specs.Route.{Table, Target, parameter, table}
 use Rattle.tenant_core.specs.declared.route.Route.{Route}

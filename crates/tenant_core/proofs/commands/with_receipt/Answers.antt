@@ -1,4 +1,4 @@
-use Rattle.std.proofs.Common.{◌≡◌, ap, ◌∙◌}
+use Rattle.std.proofs.Common.{ap, ◌∙◌}
 use Rattle.tenant_core.proofs.Accepting.{same_change, same_receipt}
 use Rattle.tenant_messages.specs.Reply.{reply}
 use Rattle.tenant_messages.specs.declared.reply.Reply.{Reply}
