@@ -103,6 +103,7 @@ pub fn place_with(
     ensures there { IfOk result (λ answer. is_ok answer ≡ nat_lt group pool.now.pg_num) }
     ensures placed { IfOk result (λ answer. IfOk answer (λ p. p ≡ spec.placed tables.now weights.now states.now rule.now.steps pool.now group)) }
     ensures fault { IfOk result (λ answer. IfErr answer (λ fault. fault ≡ PoolFault.P2)) }
+    ensures map { (m : Map) (given : List DeviceState) → tables.now ≡ tables_of m → weights.now ≡ weights_of (reweights given) → states.now ≡ flags_of given → spec.rule_numbered m pool.now.rule ≡ Some rule.now → IfOk result (λ answer. IfOk answer (λ p. Some p ≡ spec.placement m given pool.now group)) }
     ensures items { IfOk result (λ answer. IfOk answer (λ p. out.new.items ≡ p.raw)) }
     ensures trace { IfOk result (λ answer. IfOk answer (λ p. IsTrace tables.now weights.now rule.now.steps p.seed pool.now.size out.new.trace)) }
     ensures kept { IfOk result (λ answer. IfErr answer (λ fault. out.new ≡ out.old)) }
