@@ -18,7 +18,7 @@ help:
 	@echo '               CRATES="--from build" records what the last make test or make gate tried'
 	@echo 'make install   builds, and installs PREFIX/bin/crushcalc (PREFIX=/usr/local)'
 	@echo 'make ceph-check   compares 176,000 mappings by requests, 154,000 with reweights and 93 name hashes with those of Ceph'"'"'s own library,'
-	@echo '               74,592 placements of groups with those of its osdmaptool, and map texts with its crushtool'
+	@echo '               74,592 placements of groups with those of its osdmaptool, impacts with what its crushtool moves, and map texts with its crushtool'
 	@echo 'make bench     builds and measures; beside Ceph'"'"'s own library where that is installed'
 	@echo 'make bench-deps   installs what the comparisons with Ceph need (Debian: librados2, ceph-base, gcc)'
 	@echo 'make serve     the server (not built yet)'
@@ -90,6 +90,7 @@ ceph-check: build build/crush_bench bench-deps
 	@python3 tests/ceph/check_names
 	@python3 tests/ceph/check ./crushcalc build/crush_bench
 	@python3 tests/ceph/check_pools ./crushcalc
+	@python3 tests/ceph/check_impacts ./crushcalc
 	@python3 tests/ceph/check_texts ./crushcalc build/crush_bench
 
 bench: build build/crush_bench

@@ -1,12 +1,14 @@
 """The commands that documents show, each with what it has to print: indented lines, a command after '$ ' and its output below it.
-A command runs in a folder that has the program as crushcalc, and the examples."""
+The commands of a document run in order in one folder, which has the program as crushcalc, and the examples."""
 import os
 import pathlib
+import re
+import shutil
 import subprocess
 import tempfile
 
 TOP = pathlib.Path(__file__).resolve().parent.parent
-DOCUMENTS = ("README.md", "examples/README.md", "docs/REQUESTS.md", "docs/MAPS.md")
+DOCUMENTS = ("README.md", "examples/README.md", "docs/REQUESTS.md", "docs/MAPS.md", "docs/PLANNING.md")
 INDENT, PROMPT, HERE_END = "    ", "    $ ", "<<'END'"
 
 
@@ -17,7 +19,7 @@ def commands_in(text):
     for line in lines:
         if line.startswith(PROMPT):
             command = [line[len(PROMPT) :]]
-            if command[0].endswith(HERE_END):
+            if HERE_END in command[0]:
                 for more in lines:
                     command.append(more.removeprefix(INDENT))
                     if command[-1] == "END":
@@ -30,18 +32,27 @@ def commands_in(text):
     return [(command, "".join(output)) for command, output in found]
 
 
-def fault(program, command, wanted, seconds):
+def without_jq(command):
+    """The command with rows written as CSV by plan.py where jq does it, so that the tests need no jq."""
+    return re.sub(r"\bjq -r '[^']*'", "python3 examples/plan.py csv", command)
+
+
+def fault(folder, command, wanted, seconds):
     """Why a command doesn't print what is shown, or None."""
-    with tempfile.TemporaryDirectory() as folder:
-        os.symlink(program, f"{folder}/crushcalc")
-        os.symlink(TOP / "examples", f"{folder}/examples")
-        ran = subprocess.run(["sh", "-c", command], cwd=folder, stdin=subprocess.DEVNULL, stdout=subprocess.PIPE, stderr=subprocess.STDOUT, timeout=seconds)
+    ran = subprocess.run(["sh", "-c", command], cwd=folder, stdin=subprocess.DEVNULL, stdout=subprocess.PIPE, stderr=subprocess.STDOUT, timeout=seconds)
     said = ran.stdout.decode(errors="replace")
     return None if said == wanted else f"it prints {said[:400]!r}"
 
 
-def commands():
-    """All commands of the documents: a name, the command and its output."""
+def outcomes(program, words, seconds):
+    """Each command of the documents, or of those whose names have one of the words: its name, and why it fails, or None."""
     for document in DOCUMENTS:
-        for place, (command, wanted) in enumerate(commands_in((TOP / document).read_text()), 1):
-            yield f"shown in {document}, command {place}", command, wanted
+        name = f"shown in {document}"
+        if words and not any(it in name for it in words):
+            continue
+        with tempfile.TemporaryDirectory() as folder:
+            os.symlink(program, f"{folder}/crushcalc")
+            os.symlink(TOP / "examples", f"{folder}/examples")
+            for place, (command, wanted) in enumerate(commands_in((TOP / document).read_text()), 1):
+                asked = command if shutil.which("jq") else without_jq(command)
+                yield f"{name}, command {place}", fault(folder, asked, wanted, seconds)

@@ -3,7 +3,7 @@ use Rattle.std.proofs.Common.{◌≡◌, ℕ, ◌==◌, ◌≤◌, List, [], ◌
 use Rattle.std.proofs.lemmas.Bool.Decides.{nat_tests}
 use Rattle.std.specs.Io.KnownBytes.{Appends}
 use Rattle.std.specs.Str.Lines.{lines}
-use Rattle.tenant_core.specs.States.{States, Answers}
+use Rattle.tenant_core.specs.States.{States, Serves}
 use Rattle.tenant_messages.specs.declared.call.Call.{Call}
 use Rattle.tenant_messages.specs.declared.reply.Reply.{Reply}
 use Rattle.tenant_core.proofs.Running.{run_both, run_one, run_none}
@@ -52,16 +52,16 @@ plays_both old mid new a b c ms ns first second = record {
 -- ---- one message
 
 -- a call, and its reply as a line
-pub plays_call : (old new : States) (call : Call) (reply : Reply) (a b : Option (List ℕ)) → Answers call old new reply → Appends a b (wire reply) → Plays old new (Some call ∷ []) a b
-plays_call old new call reply a b answers written = record {
+pub plays_call : (old new : States) (call : Call) (reply : Reply) (a b : Option (List ℕ)) → Serves call old new reply → Appends a b (wire reply) → Plays old new (Some call ∷ []) a b
+plays_call old new call reply a b serves written = record {
   replies = reply ∷ [];
-  meets = run_one old new call reply answers;
+  meets = run_one old new call reply serves;
   written = rw (append_none (wire reply)) written;
 }
 
 -- a call, and its reply as a line in part
-pub cut_call : (old new : States) (call : Call) (reply : Reply) (a b : Option (List ℕ)) → Answers call old new reply → AppendsPart a b (wire reply) → PlaysUpTo old new (Some call ∷ []) a b
-cut_call old new call reply a b answers part = record {
+pub cut_call : (old new : States) (call : Call) (reply : Reply) (a b : Option (List ℕ)) → Serves call old new reply → AppendsPart a b (wire reply) → PlaysUpTo old new (Some call ∷ []) a b
+cut_call old new call reply a b serves part = record {
   before = [];
   cut = Some call;
   later = [];
@@ -69,7 +69,7 @@ cut_call old new call reply a b answers part = record {
   replies = [];
   last = reply ∷ [];
   count = refl;
-  meets = run_one old new call reply answers;
+  meets = run_one old new call reply serves;
   line = part.front.front;
   rest = part.rest;
   some = part.some;

@@ -123,12 +123,12 @@ impl<T: TenantStore> Service<T> {
     ghost use Rattle.std.specs.Prelude.{◌≡◌, ◌≤◌, [], IfOk, OnErr, length, vec_capacity};
     ghost use Rattle.std.specs.List.{All};
     ghost use Rattle.tenant_messages.specs.CallParts.{call_of};
-    ghost use Rattle.tenant_core.specs.States.{Same, Answers, MeetsDefinition, Headline, Leaves, AllAnswerNobody, KeepsDamaged, NamesCause};
+    ghost use Rattle.tenant_core.specs.States.{Same, Serves, MeetsDefinition, Headline, Leaves, ServesCallsOfNobody, KeepsDamaged, NamesCause};
 
     /// Serves a call. The reply is the definition's for the state of the call's tenant, which then has the definition's
     /// new state, and every other tenant keeps its own; or the reply is 503, and every tenant keeps its state.
     pub fn request(&mut self, call: CallParts<'_>) -> Reply
-        ensures answers { T.is_honest self.new → Answers (call_of call.entry) (T.has_state self.old) (T.has_state self.new) result }
+        ensures serves { T.is_honest self.new → Serves (call_of call.entry) (T.has_state self.old) (T.has_state self.new) result }
         ensures honest { T.is_honest self.new → T.is_honest self.old }
     {
         match reply_or_fault(self.alloc, &self.routes, &mut self.store, call) {
@@ -161,7 +161,7 @@ impl<T: TenantStore> Service<T> {
         ensures count { IfOk result (λ replies. length replies.items ≡ length calls.now) }
         ensures headline { T.is_honest self.new → IfOk result (λ replies. Headline (T.has_state self.old) calls.now replies.items) }
         ensures leaves { T.is_honest self.new → IfOk result (λ replies. Leaves (T.has_state self.old) (T.has_state self.new) calls.now replies.items) }
-        ensures nobody { T.is_honest self.new → IfOk result (λ replies. AllAnswerNobody calls.now replies.items) }
+        ensures nobody { T.is_honest self.new → IfOk result (λ replies. ServesCallsOfNobody calls.now replies.items) }
         ensures damaged { T.is_honest self.new → IfOk result (λ replies. KeepsDamaged (T.has_state self.old) (T.has_state self.new) calls.now replies.items) }
         ensures causes { T.is_honest self.new → IfOk result (λ replies. All NamesCause replies.items) }
         ensures err { T.is_honest self.new → OnErr result (Same (T.has_state self.old) (T.has_state self.new)) }

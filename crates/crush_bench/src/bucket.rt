@@ -82,7 +82,7 @@ fn measure_bucket<P: Picker, R: Clock>(
     mut perm: Perm,
     questions: Questions,
 ) -> io::Result<Option<Measured>>
-    requires { perm ≡ perm_of (P.bucket bucket.now) }
+    requires { perm.of ≡ perm_of (P.bucket bucket.now) }
 {
     let start = Instant::now(rt)?;
     let checksum = pick_all(bucket, &mut perm, questions);
@@ -92,7 +92,7 @@ fn measure_bucket<P: Picker, R: Clock>(
 
 /// The checksum of all picks.
 fn pick_all<P: Picker>(bucket: &P, perm: &mut Perm, questions: Questions) -> u64
-    requires { perm.old ≡ perm_of (P.bucket bucket.now) }
+    requires { perm.old.of ≡ perm_of (P.bucket bucket.now) }
 {
     let mut checksum = 0;
     'inputs: for x in 0..questions.inputs {
@@ -104,8 +104,8 @@ fn pick_all<P: Picker>(bucket: &P, perm: &mut Perm, questions: Questions) -> u64
 /// Adds the picks for one input to a checksum.
 #[inline]
 fn pick_tries<P: Picker>(bucket: &P, perm: &mut Perm, x: u32, tries: u32, before: u64) -> u64
-    requires { perm.old ≡ perm_of (P.bucket bucket.now) }
-    ensures { perm.new ≡ perm.old }
+    requires { perm.old.of ≡ perm_of (P.bucket bucket.now) }
+    ensures { perm.new.of ≡ perm.old.of }
 {
     let mut checksum = before;
     'tries: for r in 0..tries {

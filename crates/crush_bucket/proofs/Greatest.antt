@@ -1,5 +1,5 @@
 -- The greatest number that passes.
-use Rattle.std.proofs.Common.{◌≡◌, ℕ, zero, suc, ◌+◌, ◌<◌, Bool, true, false, Option, Some, None, MatchOption, IfSome, refl, arith, ◌⊎◌, inl, inr}
+use Rattle.std.proofs.Common.{◌≡◌, ℕ, zero, suc, ◌+◌, ◌<◌, Bool, true, false, Option, Some, None, unwrap_or, ◌≤◌, MatchOption, IfSome, refl, arith, ◌⊎◌, inl, inr}
 use Rattle.crush_bucket.specs.Kinds.{greatest}
 use Rattle.crush_bucket.specs.Laws.{IsGreatest, NonePasses}
 
@@ -38,3 +38,30 @@ last_fails p from n None fails is =
     let e : from + (n + 1) ≡ suc (from + n) = omega arith in record { same = rw (e, fails) is.same; within = tt }
 last_fails p from n (Some place) fails is =
     let e : from + (n + 1) ≡ suc (from + n) = omega arith in record { same = rw (e, fails) is.same; within = let w = is.within in omega arith }
+
+-- ---- the greatest number that passes, or 0
+
+-- of at most one number it is 0 in either case
+pub or_first : (p : ℕ → Bool) (n : ℕ) → n ≤ 1 → 0 ≡ unwrap_or (greatest p n) 0
+or_first p zero low = refl
+or_first p (suc zero) low =
+    let by : (b : Bool) → p 0 ≡ b → 0 ≡ unwrap_or (greatest p 1) 0 = λ b. elim b as (λ b. p 0 ≡ b → 0 ≡ unwrap_or (greatest p 1) 0) [
+      | true ↦ λ passes. rw passes refl
+      | false ↦ λ fails. rw fails refl
+    ] in by (p 0) refl
+or_first p (suc (suc n)) low = absurd (omega arith)
+
+pub or_passes : (p : ℕ → Bool) (n : ℕ) → p n ≡ true → n ≡ unwrap_or (greatest p (n + 1)) 0
+or_passes p n passes = let e : n + 1 ≡ suc n = omega arith in rw (e, passes) refl
+
+pub or_fails : (p : ℕ → Bool) (n last : ℕ) → p n ≡ false → last ≡ unwrap_or (greatest p n) 0 → last ≡ unwrap_or (greatest p (n + 1)) 0
+or_fails p n last fails is = let e : n + 1 ≡ suc n = omega arith in rw (e, fails) is
+
+-- which is below a number that isn't below n
+pub or_below : (p : ℕ → Bool) (n m : ℕ) → 0 < m → n ≤ m → unwrap_or (greatest p n) 0 < m
+or_below p zero m some low = some
+or_below p (suc n) m some low =
+    let by : (b : Bool) → p n ≡ b → unwrap_or (greatest p (suc n)) 0 < m = λ b. elim b as (λ b. p n ≡ b → unwrap_or (greatest p (suc n)) 0 < m) [
+      | true ↦ λ passes. rw passes (omega (arith, low))
+      | false ↦ λ fails. rw fails (or_below p n m some (omega (arith, low)))
+    ] in by (p n) refl

@@ -1,5 +1,5 @@
 -- The permutation of a uniform bucket's places (`bucket_perm_choose` of Ceph's `mapper.c`).
-use Rattle.std.specs.Prelude.{ℕ, zero, suc, ◌+◌, ◌-◌, ◌%◌, List}
+use Rattle.std.specs.Prelude.{ℕ, zero, suc, ◌+◌, ◌-◌, ◌%◌, ◌==◌, if◌then◌else◌, min, max, List, [], ◌∷◌, length}
 use Rattle.std.specs.List.{range_with_len, swap}
 use Rattle.crush_hash.specs.Hash.{hash3}
 use Rattle.crush_map.specs.declared.ItemId.{ItemId}
@@ -22,3 +22,25 @@ after_swaps id size x (suc n) = swap (after_swaps id size x n) n (partner id siz
 -- the permutation of 0, 1, .. below size for an input x: all places but the last changed contents in turn
 unfoldable pub permutation : ItemId → ℕ → ℕ → List ℕ
 permutation id size x = after_swaps id size x (size - 1)
+
+-- ---- what a scratch remembers
+
+-- the permutation it is of, the input that was asked last, and how many exchanges were made for that
+pub record Remembered : Type 0 where
+  pub of : PermView
+  pub x : ℕ
+  pub swaps : ℕ
+
+-- what is remembered after a question for an input at a place: exchanges as many as the place needs, and for the same input no fewer than before
+abbrev pub asked : Remembered → ℕ → ℕ → Remembered
+asked m x place = record m { x = x; swaps = max (if m.x == x then m.swaps else 0) (min (place + 1) (m.of.size - 1)) }
+
+-- the places of a list, numbered from one on, at which another number stands, each with that number
+abbrev pub differing : ℕ → List ℕ → List (ℕ × ℕ)
+differing place [] = []
+differing place (member ∷ rest) =
+    if member == place then differing (place + 1) rest else (place, member) ∷ differing (place + 1) rest
+
+-- at how many places the list of what is remembered differs from 0, 1, ..
+abbrev pub kept : Remembered → ℕ
+kept m = length (differing 0 (after_swaps m.of.id m.of.size m.x m.swaps))

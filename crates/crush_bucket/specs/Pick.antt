@@ -1,10 +1,10 @@
 -- The pick of a bucket.
-use Rattle.std.specs.Prelude.{ℕ, length, Option, None, Some}
+use Rattle.std.specs.Prelude.{ℕ, ◌%◌, length, Option, None, Some}
 use Rattle.crush_map.specs.declared.ItemId.{ItemId}
 use Rattle.crush_map.specs.declared.Kind.{Kind}
 use Rattle.crush_map.specs.declared.Kind.TheVariants.{Uniform, List, Tree}
 use Rattle.crush_bucket.specs.Bucket.{BucketView}
-use Rattle.crush_bucket.specs.Permutation.{PermView}
+use Rattle.crush_bucket.specs.Permutation.{PermView, Remembered, asked}
 use Rattle.crush_bucket.specs.Kinds.{uniform_pick, list_pick, tree_pick}
 
 -- what a bucket would pick if it were of this kind
@@ -20,6 +20,16 @@ pick b x r = pick_as b.kind b x r
 -- the permutation by which a bucket picks, if it is uniform
 abbrev pub perm_of : BucketView → PermView
 perm_of b = record { id = b.id; size = length b.entries }
+
+-- what a scratch remembers after a pick of a bucket of this kind: lists and trees ask it nothing
+abbrev pub after_pick_as : Kind → BucketView → Remembered → ℕ → ℕ → Remembered
+after_pick_as Uniform b m x r = asked m x (r % length b.entries)
+after_pick_as List b m x r = m
+after_pick_as Tree b m x r = m
+
+-- what it remembers after a bucket's pick for an input x and an attempt r
+abbrev pub after_pick : BucketView → Remembered → ℕ → ℕ → Remembered
+after_pick b m x r = after_pick_as b.kind b m x r
 
 -- ---- the scratch of a bucket among others
 

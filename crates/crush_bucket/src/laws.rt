@@ -1,6 +1,6 @@
 //! Laws of the definitions: each contract holds of the definitions alone.
 
-ghost use Rattle.std.specs.Prelude.{◌<◌, length, ◌≤◌, ◌^◌, ℕ, Bool, MatchOption};
+ghost use Rattle.std.specs.Prelude.{◌≡◌, ◌≢◌, ◌<◌, ◌+◌, ◌*◌, length, ◌≤◌, ◌^◌, ℕ, Bool, MatchOption};
 ghost use Rattle.std.specs.List.{range_with_len};
 ghost use Rattle.std.specs.List.Sorted.{IsPermutation};
 ghost use Rattle.crush_map.specs.Map.{Map, IsMap};
@@ -8,7 +8,7 @@ ghost use Rattle.crush_map.specs.declared.ItemId.{ItemId};
 ghost use Rattle.crush_bucket.specs.Bucket.{BucketView, IsItemOf};
 ghost use Rattle.crush_bucket.specs.Kinds.{greatest, height_of};
 ghost use Rattle.crush_bucket.specs.Laws.{IsGreatest, NonePasses, PicksBelow, HasNoDeviceBucket};
-ghost use Rattle.crush_bucket.specs.Permutation.{permutation};
+ghost use Rattle.crush_bucket.specs.Permutation.{PermView, Remembered, permutation, asked, kept};
 ghost use Rattle.crush_bucket.specs.Pick.{pick};
 ghost use Rattle.crush_bucket.specs.Tables.{tables_of};
 
@@ -22,6 +22,12 @@ pub fn greatest_passes()
 /// The permutation of a uniform bucket's places has each place once.
 pub fn permutation_has_each_place()
     ensures { (id : ItemId) (size x : ℕ) → IsPermutation (range_with_len 0 size) (permutation id size x) }
+{}
+
+/// What a question for a new input makes a scratch keep: at most twice as many places as exchanges, and none before the first question.
+pub fn a_perm_keeps_few_places()
+    ensures none { (of : PermView) (x : ℕ) → kept (record { of = of; x = x; swaps = 0 }) ≡ 0 }
+    ensures few { (m : Remembered) (x place : ℕ) → m.x ≢ x → place < m.of.size → kept (asked m x place) ≤ 2 * (place + 1) }
 {}
 
 /// A tree's leaves are enough for its bucket, and those of half as many are too few.

@@ -4,14 +4,16 @@
 #![tactic(auto)]
 
 mod descent;
-mod extent;
 mod index;
 pub mod laws;
 mod list;
 pub mod list_laws;
 mod number;
+mod pairs;
 mod perm;
 mod picker;
+mod place_hashes;
+mod reached;
 mod row;
 mod scratch;
 mod sums;

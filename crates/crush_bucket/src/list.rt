@@ -1,6 +1,6 @@
 //! List buckets.
 
-ghost use Rattle.std.specs.Prelude.{◌≡◌, ℕ, ◌<◌, ◌≤◌, ◌+◌, ◌*◌, ◌/◌, ◌%◌, ◌^◌, nat_lt, MatchOption, IfOk, IfSome, length, slice_index};
+ghost use Rattle.std.specs.Prelude.{◌≡◌, ℕ, ◌<◌, ◌≤◌, ◌+◌, ◌*◌, ◌/◌, ◌%◌, ◌^◌, nat_lt, unwrap_or, MatchOption, IfOk, IfSome, length, slice_index};
 ghost use Rattle.crush_bucket.specs.Bucket.{CanBeAsked, IsItemOf, item_at, word, total_weight};
 ghost use Rattle.crush_bucket.specs.Pick.{pick};
 ghost use Rattle.crush_bucket.specs.Kinds.{list_place, greatest, takes};
@@ -8,7 +8,7 @@ ghost use Rattle.crush_bucket.specs.Private.Kept.{AreSums};
 
 use crate::perm::Perm;
 use crate::picker::Picker;
-use crush_hash::{hash4, hash4_lanes};
+use crush_hash::hash4_lanes;
 use crush_map::{ItemId, Kind, Weight};
 use std::alloc::{AllocError, Global};
 use std::marker::Model;
@@ -111,7 +111,7 @@ fn sums_of(alloc: Global, entries: &[(ItemId, Weight)]) -> Result<Vec<u32>, Allo
     Ok(sums)
 }
 
-/// The greatest place that takes the input, or the first where none does. Goes from the last place down, eight places at a time, and then through the first `size mod 8` one by one.
+/// The greatest place that takes the input, or the first where none does. Goes from the last place down, eight places at a time, and then through the first `size mod 8`, whose hashes are made at once too.
 fn list_place(id: ItemId, entries: &[(ItemId, Weight)], sums: &[u32], x: u32, r: u32) -> usize
     requires asked { CanBeAsked entries.now }
     requires sums { AreSums entries.now sums.now }
@@ -124,12 +124,63 @@ fn list_place(id: ItemId, entries: &[(ItemId, Weight)], sums: &[u32], x: u32, r:
             return place;
         }
     }
-    for place in (0..rest).rev() {
-        if takes(id, entries, sums, x, r, place) {
-            return place;
+    last_of_rest(id, entries, sums, x, r, rest)
+}
+
+/// The last of the first places that takes the input, or the first place where none does: it is answered in either case, so it isn't tried.
+#[inline]
+fn last_of_rest(
+    id: ItemId,
+    entries: &[(ItemId, Weight)],
+    sums: &[u32],
+    x: u32,
+    r: u32,
+    rest: usize,
+) -> usize
+    requires within { rest ≤ length entries.now }
+    requires low { rest < 8 }
+    requires sums { AreSums entries.now sums.now }
+    ensures { result ≡ unwrap_or (greatest (takes id entries.now x r) rest) 0 }
+{
+    let mut last = 0;
+    if rest > 1 {
+        let hashes = hash4_lanes(x, &first_words(entries, rest), r, id.word());
+        for place in 1..rest {
+            if is_below(hashes[place], sums[place], entries[place].1.0) {
+                last = place;
+            }
         }
     }
-    0
+    last
+}
+
+/// The words by which the first items enter a hash, the last one's in each lane that is left.
+#[inline]
+fn first_words(entries: &[(ItemId, Weight)], count: usize) -> [u32; 8]
+    requires some { 0 < count }
+    requires within { count ≤ length entries.now }
+    ensures { (n : ℕ) → n < 8 → n < count → slice_index result n ≡ word (item_at entries.now n) }
+{
+    let last = count - 1;
+    [
+        word_up_to(entries, last, 0),
+        word_up_to(entries, last, 1),
+        word_up_to(entries, last, 2),
+        word_up_to(entries, last, 3),
+        word_up_to(entries, last, 4),
+        word_up_to(entries, last, 5),
+        word_up_to(entries, last, 6),
+        word_up_to(entries, last, 7),
+    ]
+}
+
+/// The word of the item at a place, or of the item at the last one where that is lower.
+#[inline]
+fn word_up_to(entries: &[(ItemId, Weight)], last: usize, place: usize) -> u32
+    requires { last < length entries.now }
+    ensures { place ≤ last → result ≡ word (item_at entries.now place) }
+{
+    entries[place.min(last)].0.word()
 }
 
 /// The last of eight places that takes the input.
@@ -176,23 +227,6 @@ fn words(entries: &[(ItemId, Weight)], from: usize) -> [u32; 8]
         entries[from + 6].0.word(),
         entries[from + 7].0.word(),
     ]
-}
-
-/// Whether a place takes the input.
-fn takes(
-    id: ItemId,
-    entries: &[(ItemId, Weight)],
-    sums: &[u32],
-    x: u32,
-    r: u32,
-    place: usize,
-) -> bool
-    requires within { place < length entries.now }
-    requires sums { AreSums entries.now sums.now }
-    ensures { result ≡ takes id entries.now x r place }
-{
-    let hash = hash4(x, entries[place].0.word(), r, id.word());
-    is_below(hash, sums[place], entries[place].1.0)
 }
 
 /// Whether the draw that a hash makes, its lower 16 bits scaled by the sum of the weights up to a place, is below the weight there.

@@ -2,7 +2,7 @@
 
 ghost use Rattle.std.specs.Prelude.{◌≡◌};
 ghost use Rattle.crush_bucket.specs.Bucket.{BucketView, IsItemOf};
-ghost use Rattle.crush_bucket.specs.Pick.{pick, perm_of};
+ghost use Rattle.crush_bucket.specs.Pick.{pick, perm_of, after_pick};
 
 use crate::perm::Perm;
 use crush_map::ItemId;
@@ -14,8 +14,9 @@ pub trait Picker {
 
     /// The item that is picked for an input and an attempt, whatever the scratch was asked before. Takes no memory.
     fn pick(&self, perm: &mut Perm, x: u32, r: u32) -> ItemId
-        requires { perm.old ≡ perm_of (bucket self.now) }
+        requires { perm.old.of ≡ perm_of (bucket self.now) }
         ensures picked { result ≡ pick (bucket self.now) x r }
         ensures item { IsItemOf (bucket self.now).entries result }
-        ensures same { perm.new ≡ perm.old };
+        ensures same { perm.new.of ≡ perm.old.of }
+        ensures asked { perm.new ≡ after_pick (bucket self.now) perm.old x r };
 }

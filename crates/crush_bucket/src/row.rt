@@ -1,14 +1,11 @@
 //! A bucket among others.
 
 ghost use Rattle.std.specs.Prelude.{◌≡◌, ◌<◌, ◌^◌, IfOk, length};
-ghost use Rattle.crush_bucket.specs.Bucket.{IsItemOf};
-ghost use Rattle.crush_bucket.specs.Pick.{pick, perm_for};
 ghost use Rattle.crush_bucket.specs.Tables.{typed_bucket};
 ghost use Rattle.crush_bucket.specs.Private.Laid.{IsFit};
 ghost use Rattle.crush_bucket.specs.Private.Rows.{bucket_of};
 
 use crate::list::ListBucket;
-use crate::perm::Perm;
 use crate::tree::TreeBucket;
 use crate::uniform::UniformBucket;
 use crush_map::{Bucket, ItemId, Kind};
@@ -98,20 +95,12 @@ impl Row {
         }
     }
 
-    /// The item that the bucket picks.
-    pub(crate) fn pick(&self, perm: &mut Option<Perm>, x: u32, r: u32) -> ItemId
-        requires some { 0 < length self.now.bucket.entries }
-        requires fits { perm.old ≡ perm_for self.now.bucket }
-        ensures picked { result ≡ pick self.now.bucket x r }
-        ensures item { IsItemOf self.now.bucket.entries result }
-        ensures same { perm.new ≡ perm.old }
+    /// The bucket, by its kind.
+    #[inline]
+    pub(crate) fn picking(&self) -> &Picking
+        ensures { bucket_of result.now ≡ self.now.bucket }
     {
-        match &self.picking {
-            Picking::Empty { id: _, kind: _ } => unreachable!(),
-            Picking::Uniform(bucket) => bucket.item_for(perm, x, r),
-            Picking::List(bucket) => bucket.item_for(x, r),
-            Picking::Tree(bucket) => bucket.item_for(x, r),
-        }
+        &self.picking
     }
 }
 

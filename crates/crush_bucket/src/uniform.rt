@@ -1,8 +1,8 @@
 //! Uniform buckets.
 
-ghost use Rattle.std.specs.Prelude.{◌≡◌, ◌<◌, ◌^◌, IfOk, length};
-ghost use Rattle.crush_bucket.specs.Bucket.{HasEqualWeights, IsItemOf, total_weight};
-ghost use Rattle.crush_bucket.specs.Pick.{pick, perm_for};
+ghost use Rattle.std.specs.Prelude.{◌≡◌, ◌<◌, ◌%◌, ◌^◌, IfOk, length};
+ghost use Rattle.crush_bucket.specs.Bucket.{HasEqualWeights, IsItemOf, item_at, total_weight};
+ghost use Rattle.crush_bucket.specs.Pick.{pick};
 
 use crate::perm::Perm;
 use crate::picker::Picker;
@@ -72,18 +72,24 @@ impl UniformBucket {
         self.entries.len()
     }
 
-    /// The item that is picked with the bucket's permutation.
-    pub(crate) fn item_for(&self, perm: &mut Option<Perm>, x: u32, r: u32) -> ItemId
-        requires fits { perm.old ≡ perm_for self.now }
-        ensures picked { result ≡ pick self.now x r }
-        ensures item { IsItemOf self.now.entries result }
-        ensures same { perm.new ≡ perm.old }
+    /// The place for which an attempt asks.
+    #[inline]
+    pub(crate) fn asked_place(&self, r: u32) -> usize
+        ensures value { result ≡ r % length self.now.entries }
+        ensures within { result < length self.now.entries }
+        ensures kind { self.now.kind ≡ Kind.Uniform }
     {
-        let _id = self.id;
-        match perm {
-            Some(perm) => self.pick(perm, x, r),
-            None => unreachable!(),
-        }
+        asked_place(r, self.entries.len() as u32) as usize
+    }
+
+    /// The item at a place.
+    #[inline]
+    pub(crate) fn item(&self, place: usize) -> ItemId
+        requires { place < length self.now.entries }
+        ensures value { result ≡ item_at self.now.entries place }
+        ensures item { IsItemOf self.now.entries result }
+    {
+        self.entries[place].0
     }
 }
 
@@ -92,8 +98,15 @@ impl Picker for UniformBucket {
 
     #[tactic(auto, unfolding(crate::specs::Kinds::uniform_pick, crate::specs::Pick::pick))]
     fn pick(&self, perm: &mut Perm, x: u32, r: u32) -> ItemId {
-        let size = self.entries.len() as u32;
-        let place = perm.member(x, (r % size) as usize);
-        self.entries[place].0
+        self.item(perm.member(x, self.asked_place(r)))
     }
+}
+
+/// The place for which an attempt asks. Few attempts are as high as the size, and a division takes time.
+#[inline]
+fn asked_place(r: u32, size: u32) -> u32
+    requires { 0 < size }
+    ensures { result ≡ r % size }
+{
+    if r < size { r } else { r % size }
 }

@@ -36,7 +36,8 @@ pub struct FirstnCall {
     pub stable: u32,
 }
 
-fn slot_has(slot: Slot, item: ItemId) -> bool
+/// Whether a slot has an item.
+pub fn slot_has(slot: Slot, item: ItemId) -> bool
     ensures { result ≡ spec.slot_has item slot }
 {
     match slot {
@@ -45,7 +46,8 @@ fn slot_has(slot: Slot, item: ItemId) -> bool
     }
 }
 
-fn has(slots: &[Slot], item: ItemId) -> bool
+/// Whether an item is in a list.
+pub fn has(slots: &[Slot], item: ItemId) -> bool
     ensures { result ≡ spec.has slots.now item }
 {
     slots.iter().any(|slot| slot_has(*slot, item))

@@ -14,7 +14,7 @@ pub mod stability;
 mod walk;
 mod weights;
 
-pub use firstn::{FirstnCall, choose_firstn};
+pub use firstn::{FirstnCall, choose_firstn, has, slot_has};
 pub use indep::{IndepCall, choose_indep};
 pub use mark::{Mark, Spot};
 pub use row::{Row, Slot};

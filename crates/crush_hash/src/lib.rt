@@ -205,8 +205,10 @@ pub fn name_hash(name: &[u8]) -> u32
     absorb(words, last_group(name, 12 * groups)).2
 }
 
+mod four_lanes;
 mod lanes;
 
+pub use four_lanes::hash3_lanes;
 pub use lanes::hash4_lanes;
 
 #[cfg(test)]

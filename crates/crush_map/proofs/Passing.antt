@@ -1,12 +1,10 @@
 -- What holds for elements without a fault.
 use Rattle.std.proofs.Common.{rules, ◌≡◌, ◌∙◌, Bool, true, false, not, Option, Some, None, List, [], ◌∷◌, ℕ, zero, suc, ℤ, pos, negsuc, refl, sym, IsTrue, slice_get, nat_lt}
 use Rattle.crush_map.specs.declared.fault.FaultCode.{FaultCode}
-use Rattle.crush_map.specs.declared.fault.FaultCode.TheVariants.{M12}
-use Rattle.crush_map.specs.declared.draft.TypeName.{TypeName}
-use Rattle.crush_map.specs.declared.draft.Device.{Device}
+use Rattle.crush_map.specs.declared.fault.FaultCode.TheVariants.{M3, M12}
 use Rattle.crush_map.specs.declared.draft.Bucket.{Bucket}
 use Rattle.crush_map.specs.declared.draft.Rule.{Rule}
-use Rattle.crush_map.specs.Faults.{Known, first_of, or_else, ◌when◌, type_fault, device_fault, bucket_fault, rule_fault, type_checks, device_checks, bucket_checks, rule_checks, is_bucket_id}
+use Rattle.crush_map.specs.Faults.{Known, first_of, or_else, ◌when◌, has_name, bucket_fault, rule_fault, bucket_checks, rule_checks, is_bucket_id}
 use Rattle.crush_map.specs.Private.Tables.{is_id}
 
 -- ---- checks
@@ -32,14 +30,6 @@ fails code false h = refl
 
 -- ---- numbers
 
-pub type_in_range : (known : Known) (t : TypeName) → type_fault known t ≡ None → nat_lt 65535 t.number ≡ false
-unfolding type_fault
-type_in_range known t h = fails M12 _ (passes (type_checks known t) 1 (M12 when nat_lt 65535 t.number) refl h)
-
-pub device_in_range : (known : Known) (d : Device) → device_fault known d ≡ None → nat_lt 65535 d.id ≡ false
-unfolding device_fault
-device_in_range known d h = fails M12 _ (passes (device_checks known d) 1 (M12 when nat_lt 65535 d.id) refl h)
-
 pub rule_in_range : (known : Known) (r : Rule) → rule_fault known r ≡ None → nat_lt 255 r.id ≡ false
 unfolding rule_fault
 rule_in_range known r h = fails M12 _ (passes (rule_checks known r) 1 (M12 when nat_lt 255 r.id) refl h)
@@ -51,3 +41,13 @@ bucket_is (negsuc n) h = search rules
 pub bucket_in_range : (known : Known) (b : Bucket) → bucket_fault known b ≡ None → IsTrue (is_id b.id.0)
 unfolding bucket_fault
 bucket_in_range known b h = bucket_is b.id.0 (fails M12 _ (passes (bucket_checks known b) 1 (M12 when not (is_bucket_id b.id.0)) refl h))
+
+-- ---- names
+
+pub bucket_is_new : (known : Known) (b : Bucket) → bucket_fault known b ≡ None → has_name known.item_names b.name ≡ false
+unfolding bucket_fault
+bucket_is_new known b h = fails M3 _ (passes (bucket_checks known b) 4 (M3 when has_name known.item_names b.name) refl h)
+
+pub rule_is_new : (known : Known) (r : Rule) → rule_fault known r ≡ None → has_name known.rule_names r.name ≡ false
+unfolding rule_fault
+rule_is_new known r h = fails M3 _ (passes (rule_checks known r) 4 (M3 when has_name known.rule_names r.name) refl h)

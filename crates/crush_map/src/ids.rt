@@ -1,6 +1,6 @@
 //! The ids of the devices and buckets declared so far.
 
-ghost use Rattle.std.specs.Prelude.{◌≡◌, ◌≤◌, pos, IfOk, IsTrue, length};
+ghost use Rattle.std.specs.Prelude.{◌≡◌, ◌≤◌, pos, IsTrue, OnOk, length};
 ghost use Rattle.crush_map.specs.Faults as spec;
 ghost use Rattle.crush_map.specs.Private.Tables as tables;
 
@@ -56,16 +56,12 @@ impl Ids {
         self.devices.has(id)
     }
 
-    /// Adds the id of a device.
-    pub(crate) fn with_device(self, id: u32) -> Result<Self, AllocError>
+    /// Adds the id of a device. After `AllocError` nothing is said of the ids.
+    pub(crate) fn add_device(&mut self, id: u32) -> Result<(), AllocError>
         requires { id ≤ 65535 }
-        ensures { IfOk result (λ ids. ids ≡ spec.with_id self (pos id)) }
+        ensures { OnOk result (self.new ≡ spec.with_id self.old (pos id)) }
     {
-        let Ids { devices, buckets } = self;
-        Ok(Ids {
-            devices: devices.with(id)?,
-            buckets,
-        })
+        self.devices.add(id)
     }
 
     /// Whether there is this id.
@@ -80,20 +76,15 @@ impl Ids {
         }
     }
 
-    /// Adds an id.
-    pub(crate) fn with(self, id: ItemId) -> Result<Self, AllocError>
+    /// Adds an id. After `AllocError` nothing is said of the ids.
+    pub(crate) fn add(&mut self, id: ItemId) -> Result<(), AllocError>
         requires { IsTrue (tables.is_id id.0) }
-        ensures { IfOk result (λ ids. ids ≡ spec.with_id self id.0) }
+        ensures { OnOk result (self.new ≡ spec.with_id self.old id.0) }
     {
-        let Ids {
-            mut devices,
-            mut buckets,
-        } = self;
         if id.0 < 0 {
-            buckets = buckets.with(id.0.unsigned_abs() - 1)?;
+            self.buckets.add(id.0.unsigned_abs() - 1)
         } else {
-            devices = devices.with(id.0.unsigned_abs())?;
+            self.devices.add(id.0.unsigned_abs())
         }
-        Ok(Ids { devices, buckets })
     }
 }

@@ -1,6 +1,6 @@
 //! The numbers, ids and names declared so far, and the checks of the next element against them.
 
-ghost use Rattle.std.specs.Prelude.{◌≡◌, ◌≤◌, IfOk, if◌then◌else◌, length, None};
+ghost use Rattle.std.specs.Prelude.{◌≡◌, ◌≤◌, IfOk, OnOk, if◌then◌else◌, is_some, length, None};
 ghost use Rattle.crush_map.specs.Faults as spec;
 
 use crate::draft::{Bucket, Device, Rule, Step, Tunables, TypeName};
@@ -40,79 +40,73 @@ impl Model for Known {
 
 impl Known {
     /// Nothing declared yet.
-    pub fn new(alloc: Global) -> Result<Self, AllocError>
-        ensures { IfOk result (λ known. known ≡ spec.nothing) }
+    pub fn new(alloc: Global) -> Self
+        ensures { result ≡ spec.nothing }
     {
-        Ok(Known {
+        Known {
             types: Numbers::new(alloc),
             type_names: Names::new(alloc),
             items: Ids::new(alloc),
             item_names: Names::new(alloc),
             rules: Numbers::new(alloc),
             rule_names: Names::new(alloc),
-        })
+        }
     }
 
-    /// The fault of a type, if it is declared next.
+    /// The fault of a type that is declared next; where it has none, it is declared. After `AllocError` nothing is said of what is declared.
     #[tactic(auto, unfolding(crate::specs::Faults::type_fault))]
-    pub fn type_fault(&self, declared: &TypeName) -> Option<FaultCode>
-        ensures { result ≡ spec.type_fault self.now declared.now }
+    pub fn declare_type(
+        &mut self,
+        alloc: Global,
+        declared: &TypeName,
+    ) -> Result<Option<FaultCode>, AllocError>
+        ensures fault { IfOk result (λ fault. fault ≡ spec.type_fault self.old declared.now) }
+        ensures known { IfOk result (λ fault. self.new ≡ (if is_some fault then self.old else spec.with_type self.old declared.now)) }
     {
         let name = declared.name.as_str();
-        if self.types.len() >= TYPE_LIMIT {
-            Some(FaultCode::M1)
+        let fault = if self.types.len() >= TYPE_LIMIT {
+            FaultCode::M1
         } else if declared.number > NUMBER_LIMIT {
-            Some(FaultCode::M12)
+            FaultCode::M12
         } else if self.types.has(declared.number) {
-            Some(FaultCode::M2)
+            FaultCode::M2
         } else if !is_name(name) || is_reserved(name) {
-            Some(FaultCode::M15)
-        } else if self.type_names.has(name) {
-            Some(FaultCode::M3)
+            FaultCode::M15
+        } else if !self.type_names.insert(alloc, name)? {
+            FaultCode::M3
         } else {
-            None
-        }
+            self.types.add(declared.number)?;
+            return Ok(None);
+        };
+        Ok(Some(fault))
     }
 
-    /// Adds a type that has no fault.
-    pub fn with_type(mut self, alloc: Global, declared: &TypeName) -> Result<Self, AllocError>
-        requires { spec.type_fault self declared.now ≡ None }
-        ensures { IfOk result (λ known. known ≡ spec.with_type self declared.now) }
-    {
-        self.types = self.types.with(declared.number)?;
-        self.type_names = self.type_names.with(alloc, declared.name.as_str())?;
-        Ok(self)
-    }
-
-    /// The fault of a device, if it is declared next.
+    /// The fault of a device that is declared next; where it has none, it is declared. After `AllocError` nothing is said of what is declared.
     #[tactic(auto, unfolding(crate::specs::Faults::device_fault))]
-    pub fn device_fault(&self, declared: &Device) -> Option<FaultCode>
-        ensures { result ≡ spec.device_fault self.now declared.now }
+    pub fn declare_device(
+        &mut self,
+        alloc: Global,
+        declared: &Device,
+    ) -> Result<Option<FaultCode>, AllocError>
+        ensures fault { IfOk result (λ fault. fault ≡ spec.device_fault self.old declared.now) }
+        ensures known { IfOk result (λ fault. self.new ≡ (if is_some fault then self.old else spec.with_device self.old declared.now)) }
     {
         let name = declared.name.as_str();
-        if self.items.devices() >= DEVICE_LIMIT {
-            Some(FaultCode::M1)
+        let fault = if self.items.devices() >= DEVICE_LIMIT {
+            FaultCode::M1
         } else if declared.id > NUMBER_LIMIT {
-            Some(FaultCode::M12)
+            FaultCode::M12
         } else if self.items.has_device(declared.id) {
-            Some(FaultCode::M2)
+            FaultCode::M2
         } else if !is_name(name) {
-            Some(FaultCode::M15)
-        } else if self.item_names.has(name) {
-            Some(FaultCode::M3)
+            FaultCode::M15
+        } else if !self.item_names.insert(alloc, name)? {
+            FaultCode::M3
         } else {
-            None
-        }
-    }
-
-    /// Adds a device that has no fault.
-    pub fn with_device(mut self, alloc: Global, declared: &Device) -> Result<Self, AllocError>
-        requires { spec.device_fault self declared.now ≡ None }
-        ensures { IfOk result (λ known. known ≡ spec.with_device self declared.now) }
-    {
-        self.items = self.items.with_device(declared.id)?;
-        self.item_names = self.item_names.with(alloc, declared.name.as_str())?;
-        Ok(self)
+            self.items.add_device(declared.id)?;
+            return Ok(None);
+        };
+        Ok(Some(fault))
     }
 
     /// The fault of a bucket, if it is declared next. Memory is needed to find an item that is listed twice.
@@ -187,19 +181,19 @@ impl Known {
             if before.has(item.0) {
                 return Ok(Some(FaultCode::M6));
             }
-            before = before.with(item.0)?;
+            before.add(item.0)?;
         }
         Ok(None)
     }
 
-    /// Adds a bucket that has no fault.
-    pub fn with_bucket(mut self, alloc: Global, declared: &Bucket) -> Result<Self, AllocError>
-        requires { spec.bucket_fault self declared.now ≡ None }
-        ensures { IfOk result (λ known. known ≡ spec.with_bucket self declared.now) }
+    /// Adds a bucket that has no fault. After `AllocError` nothing is said of what is declared.
+    #[tactic(auto, using(crate::proofs::Passing::bucket_is_new))]
+    pub fn add_bucket(&mut self, alloc: Global, declared: &Bucket) -> Result<(), AllocError>
+        requires { spec.bucket_fault self.old declared.now ≡ None }
+        ensures { OnOk result (self.new ≡ spec.with_bucket self.old declared.now) }
     {
-        self.items = self.items.with(declared.id)?;
-        self.item_names = self.item_names.with(alloc, declared.name.as_str())?;
-        Ok(self)
+        self.item_names.insert(alloc, declared.name.as_str())?;
+        self.items.add(declared.id)
     }
 
     /// The fault of a choose step.
@@ -286,14 +280,14 @@ impl Known {
         }
     }
 
-    /// Adds a rule that has no fault.
-    pub fn with_rule(mut self, alloc: Global, declared: &Rule) -> Result<Self, AllocError>
-        requires { spec.rule_fault self declared.now ≡ None }
-        ensures { IfOk result (λ known. known ≡ spec.with_rule self declared.now) }
+    /// Adds a rule that has no fault. After `AllocError` nothing is said of what is declared.
+    #[tactic(auto, using(crate::proofs::Passing::rule_is_new))]
+    pub fn add_rule(&mut self, alloc: Global, declared: &Rule) -> Result<(), AllocError>
+        requires { spec.rule_fault self.old declared.now ≡ None }
+        ensures { OnOk result (self.new ≡ spec.with_rule self.old declared.now) }
     {
-        self.rules = self.rules.with(declared.id)?;
-        self.rule_names = self.rule_names.with(alloc, declared.name.as_str())?;
-        Ok(self)
+        self.rule_names.insert(alloc, declared.name.as_str())?;
+        self.rules.add(declared.id)
     }
 
     /// The fault of a whole draft whose elements have none: no type 0, a tunable out of range, or local tries.

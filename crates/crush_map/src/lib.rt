@@ -1,6 +1,6 @@
 //! CRUSH maps: what a map is declared from, which drafts are maps, and weights as text.
 //!
-//! Its tests are in the crate `kernel_tests`.
+//! Its tests are in the crate `map_tests`.
 #![tactic(auto)]
 
 mod decimal;

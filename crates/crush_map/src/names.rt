@@ -1,6 +1,6 @@
 //! A list of names, with an index by which one is looked up.
 
-ghost use Rattle.std.specs.Prelude.{◌≡◌, ◌++◌, ◌∷◌, [], IfOk};
+ghost use Rattle.std.specs.Prelude.{◌≡◌, ◌++◌, ◌∷◌, [], IfOk, OnErr, not, if◌then◌else◌};
 ghost use Rattle.crush_map.specs.Faults as spec;
 
 use crate::text::Text;
@@ -45,16 +45,19 @@ impl Names {
         self.index.contains(name)
     }
 
-    /// Adds a name at the end.
-    pub(crate) fn with(self, alloc: Global, name: &str) -> Result<Self, AllocError>
-        ensures { IfOk result (λ names. names ≡ self ++ name.now ∷ []) }
+    /// Adds a name at the end, unless it is in the list, and says whether it was new. After `AllocError` the list is as it was.
+    pub(crate) fn insert(&mut self, alloc: Global, name: &str) -> Result<bool, AllocError>
+        ensures new { IfOk result (λ new. new ≡ not (spec.has_name self.old name.now)) }
+        ensures ok { IfOk result (λ new. self.new ≡ (if new then self.old ++ name.now ∷ [] else self.old)) }
+        ensures err { OnErr result (self.new ≡ self.old) }
     {
-        let Names {
-            mut order,
-            mut index,
-        } = self;
-        order.push(Text::copy(alloc, name)?)?;
-        index.insert(String::from_str(alloc, name)?)?;
-        Ok(Names { order, index })
+        let listed = Text::copy(alloc, name)?;
+        let key = String::from_str(alloc, name)?;
+        self.order.reserve(1)?;
+        let new = self.index.insert(key)?;
+        if new {
+            self.order.push_reserved(listed);
+        }
+        Ok(new)
     }
 }

@@ -1,6 +1,6 @@
 //! A list of numbers below 65,536. A short list is searched; a longer one has a table of flags by which a number is looked up in one step.
 
-ghost use Rattle.std.specs.Prelude.{◌≡◌, ◌<◌, ◌≤◌, ◌++◌, ◌∷◌, [], ℕ, IfOk, IsTrue, length, slice_index_or, false};
+ghost use Rattle.std.specs.Prelude.{◌≡◌, ◌<◌, ◌≤◌, ◌++◌, ◌∷◌, [], ℕ, IfOk, IsTrue, OnOk, length, slice_index_or, false};
 ghost use Rattle.std.specs.List.{All};
 ghost use Rattle.crush_map.specs.Faults as spec;
 ghost use Rattle.crush_map.specs.Private.Tables.{IsTableOf};
@@ -87,26 +87,17 @@ impl Numbers {
         }
     }
 
-    /// Adds a number at the end.
-    pub(crate) fn with(self, number: u32) -> Result<Self, AllocError>
+    /// Adds a number at the end. After `AllocError` nothing is said of the list.
+    pub(crate) fn add(&mut self, number: u32) -> Result<(), AllocError>
         requires { number < NUMBERS }
-        ensures { IfOk result (λ numbers. numbers ≡ self ++ number ∷ []) }
+        ensures { OnOk result (self.new ≡ self.old ++ number ∷ []) }
     {
-        let Numbers {
-            alloc,
-            mut order,
-            mut table,
-        } = self;
-        order.push(number)?;
-        if !table.is_empty() {
-            table[number as usize] = true;
-        } else if order.len() > SHORT {
-            table = table_of(alloc, order.as_slice())?;
+        self.order.push(number)?;
+        if !self.table.is_empty() {
+            self.table[number as usize] = true;
+        } else if self.order.len() > SHORT {
+            self.table = table_of(self.alloc, self.order.as_slice())?;
         }
-        Ok(Numbers {
-            alloc,
-            order,
-            table,
-        })
+        Ok(())
     }
 }

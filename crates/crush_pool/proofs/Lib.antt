@@ -1,4 +1,4 @@
 mod Masks
-mod Padding
+pub mod Padding
 mod Ranges
 mod Uplists

@@ -10,6 +10,6 @@ mod pool;
 mod states;
 
 pub use group::{mask_of, stable_mod};
-pub use placing::{Placement, place, place_with};
+pub use placing::{Placement, place, place_with, rule_with_id};
 pub use pool::{Pool, PoolFault, PoolParts};
-pub use states::{DeviceState, DeviceStates};
+pub use states::{DeviceState, DeviceStates, reweights_of};

@@ -1,6 +1,6 @@
 //! Placements: the devices of a group.
 
-ghost use Rattle.std.specs.Prelude.{◌≡◌, ◌<◌, ◌≤◌, List, Some, IfOk, IfErr, is_ok, nat_lt, length};
+ghost use Rattle.std.specs.Prelude.{◌≡◌, ◌<◌, ◌≤◌, List, Some, IfOk, IfErr, IfSome, is_ok, nat_lt, length, option_map};
 ghost use Rattle.crush_map.specs.Map.{Map};
 ghost use Rattle.crush_bucket.specs.Tables.{perms_of, tables_of};
 ghost use Rattle.crush_choose.specs.Rules.{CanRun, IsTrace};
@@ -13,8 +13,9 @@ ghost use Rattle.crush_pool.specs.declared.states.DeviceState.{DeviceState};
 use crate::pool::{Pool, PoolFault};
 use crate::states::DeviceStates;
 use crush_bucket::{Scratch, Tables};
+use crush_choose::laws::rules_of_a_map_can_run;
 use crush_choose::{Out, Slot, Weights, run_rule};
-use crush_map::{Listed, Rule};
+use crush_map::{CrushMap, Listed, Rule};
 use std::alloc::{AllocError, Global};
 
 /// The placement of a group.
@@ -28,6 +29,15 @@ pub struct Placement {
     pub up: Listed<Slot>,
     /// The first device of `up`.
     pub primary: Slot,
+}
+
+/// The rule of a map with an id.
+pub fn rule_with_id(map: &CrushMap, id: u32) -> Option<&Rule>
+    ensures value { option_map (λ r. r.now) result ≡ spec.rule_numbered map.now id }
+    ensures runs { IfSome result (λ r. CanRun (tables_of map.now) r.now) }
+{
+    rules_of_a_map_can_run();
+    map.rules().iter().find(|rule| rule.id == id)
 }
 
 /// Whether a slot has a device that is up.

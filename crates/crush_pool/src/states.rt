@@ -18,6 +18,20 @@ pub struct DeviceState {
     pub up: bool,
 }
 
+/// The pairs of device and reweight.
+pub fn reweights_of(
+    alloc: Global,
+    states: &[DeviceState],
+) -> Result<Vec<(u32, u32)>, AllocError>
+    ensures { IfOk result (λ given. given.items ≡ spec.reweights states.now) }
+{
+    let mut given = Vec::with_capacity(alloc, states.len())?;
+    for state in states {
+        given.push((state.device, state.reweight))?;
+    }
+    Ok(given)
+}
+
 /// How many ids a device can have.
 const IDS: usize = 65_536;
 

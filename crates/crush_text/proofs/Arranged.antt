@@ -1,7 +1,10 @@
 -- Items in order of place, by a table.
-use Rattle.std.proofs.Common.{◌≡◌, ◌∙◌, ◌<◌, ◌+◌, ℕ, zero, suc, Option, Some, None, List, [], ◌∷◌, ◌++◌, refl, sym, ap, map, length, take, drop, get_or, drop-cons, add-one, arith, option_map, find, filter, is_none}
-use Rattle.std.proofs.lemmas.List.{map-append}
+use Rattle.std.proofs.Common.{◌≡◌, ◌∙◌, ◌<◌, ◌≤◌, ◌+◌, ◌==◌, ◌&&◌, ℕ, zero, suc, Bool, true, false, cond, Option, Some, None, List, [], ◌∷◌, ◌++◌, refl, sym, ap, map, length, take, drop, get_or, drop-cons, add-one, arith, option_map, find, filter, is_none}
+use Rattle.std.specs.List.{list_all}
+use Rattle.std.specs.Option.{option_map_or}
+use Rattle.std.proofs.lemmas.List.{length-map, map-append}
 use Rattle.crush_grammar.specs.declared.declaration.DeclaredItem.{DeclaredItem}
+use Rattle.crush_grammar.specs.declared.declaration.Place.{Place}
 use Rattle.crush_text.specs.Places.{fill, names_place, in_place}
 use Rattle.crush_text.specs.Private.Tables.{arrange}
 
@@ -53,3 +56,56 @@ pub in_place_is_arranged : {X : Type 0} (f : DeclaredItem → X) (items : List D
 unfolding in_place
 in_place_is_arranged f items table others size h rest =
     rw rest (sym (fill_is_arranged f items table 0 (length items) (filter (λ item. is_none item.place) items) size (omega arith) h))
+
+-- ---- no item names a place
+
+shorter : {X : Type 0} (x : X) (ys xs : List X) (b : Bool) → length ys ≤ length xs → length (cond b (x ∷ ys) ys) ≤ suc (length xs)
+shorter x ys xs true h = omega (arith, h)
+shorter x ys xs false h = omega (arith, h)
+
+at_most : {X : Type 0} (p : X → Bool) (xs : List X) → length (filter p xs) ≤ length xs
+at_most p [] = omega arith
+at_most p (x ∷ xs) = shorter x (filter p xs) xs (p x) (at_most p xs)
+
+same_by : {X : Type 0} (x : X) (ys xs : List X) (b : Bool) → length ys ≤ length xs → (length ys ≡ length xs → ys ≡ xs) → length (cond b (x ∷ ys) ys) ≡ suc (length xs) → cond b (x ∷ ys) ys ≡ x ∷ xs
+same_by x ys xs true le same h = ap (λ zs. x ∷ zs) (same (omega (arith, h)))
+same_by x ys xs false le same h = absurd (omega (arith, h, le))
+
+-- what passes of a list is all of it, if it is as long
+all_of_it : {X : Type 0} (p : X → Bool) (xs : List X) → length (filter p xs) ≡ length xs → filter p xs ≡ xs
+all_of_it p [] h = refl
+all_of_it p (x ∷ xs) h = same_by x (filter p xs) xs (p x) (at_most p xs) (all_of_it p xs) h
+
+pass_by : {X : Type 0} (x : X) (ys xs : List X) (b r : Bool) → length ys ≤ length xs → (length ys ≡ length xs → r ≡ true) → length (cond b (x ∷ ys) ys) ≡ suc (length xs) → (b && r) ≡ true
+pass_by x ys xs true r le all h = all (omega (arith, h))
+pass_by x ys xs false r le all h = absurd (omega (arith, h, le))
+
+all_pass : {X : Type 0} (p : X → Bool) (xs : List X) → length (filter p xs) ≡ length xs → list_all p xs ≡ true
+all_pass p [] h = refl
+all_pass p (x ∷ xs) h = pass_by x (filter p xs) xs (p x) (list_all p xs) (at_most p xs) (all_pass p xs) h
+
+none_by : (place : Option Place) (k : ℕ) (item : DeclaredItem) (r : Bool) (o : Option DeclaredItem) → (is_none place && r) ≡ true → (r ≡ true → o ≡ None) →
+    cond (option_map_or (λ p. p.number == k) place false) (Some item) o ≡ None
+none_by None k item r o h more = more h
+none_by (Some p) k item r o h more = cc
+
+none_found : (items : List DeclaredItem) (k : ℕ) → list_all (λ item. is_none item.place) items ≡ true → find (names_place k) items ≡ None
+none_found [] k h = refl
+none_found (item ∷ items) k h = none_by item.place k item (list_all (λ it. is_none it.place) items) (find (names_place k) items) h (none_found items k)
+
+filled_in_turn : (items : List DeclaredItem) (k : ℕ) (others : List DeclaredItem) → ((j : ℕ) → find (names_place j) items ≡ None) → fill items k (length others) others ≡ others
+filled_in_turn items k [] none = refl
+filled_in_turn items k (x ∷ others) none = free_place items k (length others) (x ∷ others) (none k) ∙ ap (λ xs. x ∷ xs) (filled_in_turn items (k + 1) others none)
+
+in_turn : (items : List DeclaredItem) → length (filter (λ item. is_none item.place) items) ≡ length items → in_place items ≡ filter (λ item. is_none item.place) items
+unfolding in_place
+in_turn items h =
+    let same : filter (λ item. is_none item.place) items ≡ items = all_of_it _ items h in
+    rw same (filled_in_turn items 0 items (λ j. none_found items j (all_pass _ items h)))
+
+-- where as many items name no place as there are, these are the items in order of place
+pub others_are_in_place : {X : Type 0} (f : DeclaredItem → X) (items : List DeclaredItem) (others : List X) → others ≡ map f (filter (λ item. is_none item.place) items) → length others ≡ length items →
+    others ≡ map f (in_place items)
+others_are_in_place f items others e h =
+    let long : length (filter (λ item. is_none item.place) items) ≡ length items = simp length-map at (sym (ap length e) ∙ h) in
+    e ∙ ap (map f) (sym (in_turn items long))

@@ -23,7 +23,7 @@ use Rattle.crush_map.specs.Faults.{is_name, is_name_byte}
 use Rattle.crush_map.specs.Map.{Map}
 use Rattle.crush_map.specs.Sound.{IsTypeAt, IsDeviceAt, IsBucketAt, IsRuleAt}
 use Rattle.crush_map.specs.WeightText.{text_of}
-use Rattle.crush_text.specs.Canonical.{line, inner_line, type_name, item_name, tunable_line, tunable_lines, device_line, type_line, alg_text, item_line, bucket_lines, choose_text, firstn_text, step_line, erasure_text, rule_lines, canonical}
+use Rattle.crush_writing.specs.Canonical.{line, inner_line, type_name, item_name, tunable_line, tunable_lines, device_line, type_line, alg_text, item_line, bucket_lines, choose_text, firstn_text, step_line, erasure_text, rule_lines, canonical}
 use Rattle.crush_text.proofs.Spelt.{both}
 use Rattle.crush_text.proofs.Numerals.{IsWithin}
 use Rattle.crush_text.proofs.Trees.{HasForm, IsWritten, StepForm, IsWrittenRule, all_mapped}

@@ -16,7 +16,7 @@ use Rattle.crush_map.specs.Sound.{IsEachOnce, has_type, has_item, IsStep}
 use Rattle.crush_grammar.specs.declared.declaration.DeclaredItem.{DeclaredItem}
 use Rattle.crush_grammar.specs.declared.declaration.DeclaredBucket.{DeclaredBucket}
 use Rattle.crush_grammar.specs.declared.declaration.DeclaredRule.{DeclaredRule}
-use Rattle.crush_text.specs.Canonical.{type_name, item_name}
+use Rattle.crush_writing.specs.Canonical.{type_name, item_name}
 use Rattle.crush_text.specs.Places.{names_place, wrong_place, wrong_place_from, fill, in_place}
 use Rattle.crush_text.specs.Judging.{Declared, fitted, fitted_integer, type_number, item_named, item_of, bucket_of, step_of, rule_of, declared_step_fault, declared_rule_fault, kept_step_fault}
 use Rattle.crush_text.proofs.Spelt.{both}

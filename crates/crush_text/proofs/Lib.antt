@@ -1,4 +1,3 @@
-pub mod Joins
 mod Spelt
 mod Numerals
 mod Found
@@ -21,4 +20,3 @@ pub mod FirstOfName
 pub mod Named
 pub mod Faultless
 pub mod Texts
-pub mod Listed

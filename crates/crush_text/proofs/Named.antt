@@ -13,7 +13,7 @@ pub or_none : {X : Type 0} (o : Option X) → option_or o None ≡ o
 or_none None = refl
 or_none (Some x) = refl
 
-pub is_none_of : {X : Type 0} (o : Option X) → is_some o ≡ false → o ≡ None
+is_none_of : {X : Type 0} (o : Option X) → is_some o ≡ false → o ≡ None
 is_none_of None h = refl
 is_none_of (Some x) h = cc
 
@@ -47,7 +47,7 @@ pub ruleset named_steps = (nat_tests, length-set, get_or_read, or_none, past, ta
 
 -- ---- one more item
 
-mapped : {X V : Type 0} (f : X → V) (o : Option X) (b : Bool) (x : X) → option_map f (option_or o (cond b (Some x) None)) ≡ option_or (option_map f o) (cond b (Some (f x)) None)
+pub mapped : {X V : Type 0} (f : X → V) (o : Option X) (b : Bool) (x : X) → option_map f (option_or o (cond b (Some x) None)) ≡ option_or (option_map f o) (cond b (Some (f x)) None)
 mapped f None true x = refl
 mapped f None false x = refl
 mapped f (Some y) b x = refl

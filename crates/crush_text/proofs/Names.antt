@@ -13,7 +13,7 @@ use Rattle.crush_map.specs.declared.draft.Bucket.{Bucket}
 use Rattle.crush_map.specs.declared.draft.MapDraft.{MapDraft}
 use Rattle.crush_map.specs.Map.{Map}
 use Rattle.crush_map.specs.Sound.{IsEachOnce, same_id, has_type, has_item, has_device, has_bucket}
-use Rattle.crush_text.specs.Canonical.{type_name, device_name, bucket_name, item_name}
+use Rattle.crush_writing.specs.Canonical.{type_name, device_name, bucket_name, item_name}
 use Rattle.crush_text.specs.Judging.{item_named, of_device, of_bucket, undeclared}
 use Rattle.crush_text.proofs.Found.{any_named, first_name, find_none, find_once, get_before, get_behind, get_mapped}
 

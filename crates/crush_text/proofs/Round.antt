@@ -9,7 +9,7 @@ use Rattle.crush_map.specs.Sound.{IsTypeAt, IsDeviceAt, IsBucketAt, IsRuleAt}
 use Rattle.crush_words.specs.Words.{Word, words, words_from}
 use Rattle.crush_grammar.specs.Syntax.{early_words, early_declares, late_words, late_declares, Text, text_words, text_declares}
 use Rattle.crush_grammar.specs.Fronts.{last_line}
-use Rattle.crush_text.specs.Canonical.{device_line, type_line, bucket_lines, rule_lines, canonical}
+use Rattle.crush_writing.specs.Canonical.{device_line, type_line, bucket_lines, rule_lines, canonical}
 use Rattle.crush_text.specs.Judging.{last_fault, at_line}
 use Rattle.crush_text.specs.MapText.{IsTextOf}
 use Rattle.crush_text.proofs.Spelt.{Reads, joined, ends, Spells, numbered, all_spell}

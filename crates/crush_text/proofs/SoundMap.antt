@@ -18,7 +18,7 @@ use Rattle.crush_map.specs.Laws.{HasNoFault}
 use Rattle.crush_map.specs.Sound.{IsEachOnce, IsTypeAt, IsDeviceAt, IsBucketAt, IsRuleAt, IsItemAt, IsStep, has_type, has_device, has_bucket, has_item, same_id}
 use Rattle.crush_map.specs.Weights.{total_weight}
 use Rattle.crush_map.specs.WeightText.{text_of, weight_of}
-use Rattle.crush_text.specs.Canonical.{type_name, device_name, bucket_name, item_name}
+use Rattle.crush_writing.specs.Canonical.{type_name, device_name, bucket_name, item_name}
 use Rattle.crush_text.proofs.Found.{any_named, first_name, holds_there}
 use Rattle.crush_text.proofs.Names.{type_first, device_first, bucket_first, same_eq, any_also}
 use Rattle.crush_text.proofs.Trees.{HasForm, IsWritten, IsWrittenRule, StepForm, all_mapped}

@@ -6,7 +6,7 @@ use Rattle.std.specs.List.{flat_map, list_all, AllByRecursion}
 use Rattle.crush_map.specs.Faults.{is_name_byte}
 use Rattle.crush_words.specs.Words.{Word, words_from, starts_name, onto, alone}
 use Rattle.crush_grammar.specs.Sayings.{name_of}
-use Rattle.crush_text.specs.Canonical.{line, inner_line}
+use Rattle.crush_writing.specs.Canonical.{line, inner_line}
 
 -- ---- words
 

@@ -35,7 +35,7 @@ use Rattle.crush_grammar.specs.declared.declaration.DeclaredStep.{DeclaredStep}
 use Rattle.crush_grammar.specs.declared.declaration.DeclaredStep.TheVariants as steps
 use Rattle.crush_grammar.specs.declared.declaration.Declaration.{Declaration}
 use Rattle.crush_grammar.specs.declared.declaration.Declaration.TheVariants as declarations
-use Rattle.crush_text.specs.Canonical.{type_name, item_name, tunable_line, tunable_lines, device_line, type_line, alg_text, item_line, bucket_lines, choose_text, firstn_text, step_line, erasure_text, rule_lines, inner_line}
+use Rattle.crush_writing.specs.Canonical.{type_name, item_name, tunable_line, tunable_lines, device_line, type_line, alg_text, item_line, bucket_lines, choose_text, firstn_text, step_line, erasure_text, rule_lines, inner_line}
 use Rattle.crush_text.proofs.Spelt.{word_at, IsToken, both, keyword, name_is_token, Reads, joined, ends, line_reads, inner_line_reads, Spells, numbered, numbered-map, all_spell}
 use Rattle.crush_text.proofs.Numerals.{IsWithin, number_comes_back, integer_comes_back, decimal_is_token, signed_is_token}
 

@@ -3,5 +3,4 @@ pub mod Judging
 pub mod MapText
 pub mod Reading
 pub mod Codes
-pub mod Canonical
 pub mod Private

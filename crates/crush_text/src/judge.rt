@@ -1,6 +1,6 @@
 //! Judging what a text declares, in order.
 
-ghost use Rattle.std.specs.Prelude.{◌≡◌, ◌++◌, ◌∷◌, [], ◌<◌, ℕ, List, IfOk, length, map, filter, filter_map, find, option_map, is_none, slice_index_or, None};
+ghost use Rattle.std.specs.Prelude.{◌≡◌, ◌++◌, ◌∷◌, [], ◌<◌, ℕ, List, IfOk, OnOk, length, map, filter, filter_map, find, option_map, is_none, slice_index_or, None};
 ghost use Rattle.std.specs.Result.{result_err};
 ghost use Rattle.crush_map.specs.Faults as faults;
 ghost use Rattle.crush_map.specs.declared.draft.MapDraft.{MapDraft};
@@ -109,11 +109,11 @@ fn with_value(tunables: Tunables, name: TunableName, value: u32) -> Tunables
 
 impl Judge {
     /// Before the first declaration.
-    pub(crate) fn new(alloc: Global) -> Result<Self, AllocError>
-        ensures { IfOk result (λ judge. judge ≡ spec.nothing_declared) }
+    pub(crate) fn new(alloc: Global) -> Self
+        ensures { result ≡ spec.nothing_declared }
     {
-        Ok(Judge {
-            known: Known::new(alloc)?,
+        Judge {
+            known: Known::new(alloc),
             types: Vec::new(alloc),
             devices: DeviceTable::new(alloc),
             buckets: BucketTable::new(alloc),
@@ -127,7 +127,7 @@ impl Judge {
                 stable: 0,
             },
             named: Vec::new(alloc),
-        })
+        }
     }
 
     /// The fault of a tunable that is declared next.
@@ -146,9 +146,9 @@ impl Judge {
         }
     }
 
-    /// With a value of a tunable.
-    fn with_tunable(mut self, name: TunableName, value: u32) -> Self
-        ensures { result ≡ record self { draft = spec.with_tunable self.draft name value } }
+    /// Sets a tunable.
+    fn set_tunable(&mut self, name: TunableName, value: u32)
+        ensures { self.new ≡ record self.old { draft = spec.with_tunable self.old.draft name value } }
     {
         match name {
             TunableName::LocalTries => self.local_tries = value,
@@ -159,65 +159,63 @@ impl Judge {
             TunableName::Stable => self.tunables.stable = value,
             TunableName::StrawCalcVersion | TunableName::AllowedBucketAlgs => {}
         }
-        self
     }
 
-    /// With a tunable, or its fault.
+    /// The fault of a tunable; where it has none, it is declared.
     fn declare_tunable(
-        mut self,
+        &mut self,
         declared: &DeclaredTunable,
-    ) -> Result<Result<Self, TextFault>, AllocError>
-        ensures fault { IfOk result (λ r. result_err r ≡ spec.declaration_fault self (kinds.Tunable declared.now)) }
-        ensures declared { IfOk result (λ r. IfOk r (λ judge. judge ≡ spec.declare self (kinds.Tunable declared.now))) }
+    ) -> Result<Option<TextFault>, AllocError>
+        ensures fault { IfOk result (λ fault. fault ≡ spec.declaration_fault self.old (kinds.Tunable declared.now)) }
+        ensures declared { IfOk result (λ fault. fault ≡ None → self.new ≡ spec.declare self.old (kinds.Tunable declared.now)) }
     {
         if let Some(code) = self.tunable_fault(declared) {
-            return Ok(Err(at_line(declared.line, code)));
+            return Ok(Some(at_line(declared.line, code)));
         }
         self.named.push(declared.name)?;
-        Ok(Ok(self.with_tunable(declared.name, fitted(declared.value))))
+        self.set_tunable(declared.name, fitted(declared.value));
+        Ok(None)
     }
 
-    /// With a device, or its fault.
+    /// The fault of a device; where it has none, it is declared.
     #[tactic(auto, using(crate::proofs::Kept::is_small))]
     fn declare_device(
-        mut self,
+        &mut self,
         alloc: Global,
         declared: &DeclaredDevice<'_>,
-    ) -> Result<Result<Self, TextFault>, AllocError>
-        ensures fault { IfOk result (λ r. result_err r ≡ spec.declaration_fault self (kinds.Device declared.now)) }
-        ensures declared { IfOk result (λ r. IfOk r (λ judge. judge ≡ spec.declare self (kinds.Device declared.now))) }
+    ) -> Result<Option<TextFault>, AllocError>
+        ensures fault { IfOk result (λ fault. fault ≡ spec.declaration_fault self.old (kinds.Device declared.now)) }
+        ensures declared { IfOk result (λ fault. fault ≡ None → self.new ≡ spec.declare self.old (kinds.Device declared.now)) }
     {
         let device = Device {
             id: fitted(declared.id),
             name: Text::copy(alloc, declared.name.as_str())?,
         };
-        if let Some(code) = self.known.device_fault(&device) {
-            return Ok(Err(at_line(declared.line, code)));
+        if let Some(code) = self.known.declare_device(alloc, &device)? {
+            return Ok(Some(at_line(declared.line, code)));
         }
-        self.known = self.known.with_device(alloc, &device)?;
-        self.devices = self.devices.with(alloc, device)?;
-        Ok(Ok(self))
+        self.devices.add(alloc, device)?;
+        Ok(None)
     }
 
-    /// With a type, or its fault.
+    /// The fault of a type; where it has none, it is declared.
     fn declare_type(
-        mut self,
+        &mut self,
         alloc: Global,
         declared: &DeclaredType<'_>,
-    ) -> Result<Result<Self, TextFault>, AllocError>
-        ensures fault { IfOk result (λ r. result_err r ≡ spec.declaration_fault self (kinds.TypeName declared.now)) }
-        ensures declared { IfOk result (λ r. IfOk r (λ judge. judge ≡ spec.declare self (kinds.TypeName declared.now))) }
+    ) -> Result<Option<TextFault>, AllocError>
+        ensures fault { IfOk result (λ fault. fault ≡ spec.declaration_fault self.old (kinds.TypeName declared.now)) }
+        ensures declared { IfOk result (λ fault. fault ≡ None → self.new ≡ spec.declare self.old (kinds.TypeName declared.now)) }
     {
         let named = TypeName {
             number: fitted(declared.number),
             name: Text::copy(alloc, declared.name.as_str())?,
         };
-        if let Some(code) = self.known.type_fault(&named) {
-            return Ok(Err(at_line(declared.line, code)));
+        if let Some(code) = self.known.declare_type(alloc, &named)? {
+            return Ok(Some(at_line(declared.line, code)));
         }
-        self.known = self.known.with_type(alloc, &named)?;
         self.types.push(named)?;
-        Ok(Ok(self))
+        Ok(None)
     }
 
     /// The id of an item, and its weight where none is said.
@@ -282,8 +280,11 @@ impl Judge {
     ) -> Result<Vec<(ItemId, Weight)>, AllocError>
         ensures { IfOk result (λ v. v.items ≡ map (spec.item_of self.now.draft) (places.in_place items.now)) }
     {
-        let named = self.named_places(alloc, items)?;
         let others = self.other_items(alloc, items)?;
+        if others.len() == items.len() {
+            return Ok(others);
+        }
+        let named = self.named_places(alloc, items)?;
         let places = named.as_slice();
         let rest = others.as_slice();
         arranged(alloc, places, rest)
@@ -326,30 +327,32 @@ impl Judge {
         }
     }
 
-    /// With a bucket that has no fault.
-    fn with_bucket(mut self, alloc: Global, bucket: Bucket) -> Result<Self, AllocError>
-        requires { faults.bucket_fault self.known bucket ≡ None }
-        ensures { IfOk result (λ judge. judge ≡ record self { draft = record self.draft { buckets = self.draft.buckets ++ bucket ∷ [] }; known = faults.with_bucket self.known bucket }) }
+    /// Adds a bucket that has no fault. After `AllocError` nothing is said of what is declared.
+    fn add_bucket(&mut self, alloc: Global, bucket: Bucket) -> Result<(), AllocError>
+        requires { faults.bucket_fault self.old.known bucket ≡ None }
+        ensures { OnOk result (self.new ≡ record self.old { draft = record self.old.draft { buckets = self.old.draft.buckets ++ bucket ∷ [] }; known = faults.with_bucket self.old.known bucket }) }
     {
-        self.known = self.known.with_bucket(alloc, &bucket)?;
-        self.buckets = self.buckets.with(alloc, bucket)?;
-        Ok(self)
+        self.known.add_bucket(alloc, &bucket)?;
+        self.buckets.add(alloc, bucket)
     }
 
-    /// With a bucket, or its fault.
+    /// The fault of a bucket; where it has none, it is declared.
     fn declare_bucket(
-        self,
+        &mut self,
         alloc: Global,
         declared: &DeclaredBucket<'_>,
-    ) -> Result<Result<Self, TextFault>, AllocError>
-        ensures fault { IfOk result (λ r. result_err r ≡ spec.declaration_fault self (kinds.Bucket declared.now)) }
-        ensures declared { IfOk result (λ r. IfOk r (λ judge. judge ≡ spec.declare self (kinds.Bucket declared.now))) }
+    ) -> Result<Option<TextFault>, AllocError>
+        ensures fault { IfOk result (λ fault. fault ≡ spec.declaration_fault self.old (kinds.Bucket declared.now)) }
+        ensures declared { IfOk result (λ fault. fault ≡ None → self.new ≡ spec.declare self.old (kinds.Bucket declared.now)) }
     {
         let bucket = self.bucket_of(alloc, declared)?;
         let fault = self.bucket_fault(alloc, declared, &bucket)?;
         match fault {
-            Some(fault) => Ok(Err(fault)),
-            None => Ok(Ok(self.with_bucket(alloc, bucket)?)),
+            Some(found) => Ok(Some(found)),
+            None => {
+                self.add_bucket(alloc, bucket)?;
+                Ok(None)
+            }
         }
     }
 
@@ -438,40 +441,43 @@ impl Judge {
         }
     }
 
-    /// With a rule that has no fault.
-    fn with_rule(mut self, alloc: Global, rule: Rule) -> Result<Self, AllocError>
-        requires { faults.rule_fault self.known rule ≡ None }
-        ensures { IfOk result (λ judge. judge ≡ record self { draft = record self.draft { rules = self.draft.rules ++ rule ∷ [] }; known = faults.with_rule self.known rule }) }
+    /// Adds a rule that has no fault. After `AllocError` nothing is said of what is declared.
+    fn add_rule(&mut self, alloc: Global, rule: Rule) -> Result<(), AllocError>
+        requires { faults.rule_fault self.old.known rule ≡ None }
+        ensures { OnOk result (self.new ≡ record self.old { draft = record self.old.draft { rules = self.old.draft.rules ++ rule ∷ [] }; known = faults.with_rule self.old.known rule }) }
     {
-        self.known = self.known.with_rule(alloc, &rule)?;
+        self.known.add_rule(alloc, &rule)?;
         self.rules.push(rule)?;
-        Ok(self)
+        Ok(())
     }
 
-    /// With a rule, or its fault.
+    /// The fault of a rule; where it has none, it is declared.
     fn declare_rule(
-        self,
+        &mut self,
         alloc: Global,
         declared: &DeclaredRule<'_>,
-    ) -> Result<Result<Self, TextFault>, AllocError>
-        ensures fault { IfOk result (λ r. result_err r ≡ spec.declaration_fault self (kinds.Rule declared.now)) }
-        ensures declared { IfOk result (λ r. IfOk r (λ judge. judge ≡ spec.declare self (kinds.Rule declared.now))) }
+    ) -> Result<Option<TextFault>, AllocError>
+        ensures fault { IfOk result (λ fault. fault ≡ spec.declaration_fault self.old (kinds.Rule declared.now)) }
+        ensures declared { IfOk result (λ fault. fault ≡ None → self.new ≡ spec.declare self.old (kinds.Rule declared.now)) }
     {
         let rule = self.rule_of(alloc, declared)?;
         match self.rule_fault(declared, &rule) {
-            Some(code) => Ok(Err(at_line(declared.line, code))),
-            None => Ok(Ok(self.with_rule(alloc, rule)?)),
+            Some(code) => Ok(Some(at_line(declared.line, code))),
+            None => {
+                self.add_rule(alloc, rule)?;
+                Ok(None)
+            }
         }
     }
 
-    /// With one declaration more, or its fault.
+    /// The fault of a declaration; where it has none, it is declared.
     fn declare(
-        self,
+        &mut self,
         alloc: Global,
         declaration: &Declaration<'_>,
-    ) -> Result<Result<Self, TextFault>, AllocError>
-        ensures fault { IfOk result (λ r. result_err r ≡ spec.declaration_fault self declaration.now) }
-        ensures declared { IfOk result (λ r. IfOk r (λ judge. judge ≡ spec.declare self declaration.now)) }
+    ) -> Result<Option<TextFault>, AllocError>
+        ensures fault { IfOk result (λ fault. fault ≡ spec.declaration_fault self.old declaration.now) }
+        ensures declared { IfOk result (λ fault. fault ≡ None → self.new ≡ spec.declare self.old declaration.now) }
     {
         match declaration {
             Declaration::Tunable(tunable) => self.declare_tunable(tunable),
@@ -538,11 +544,10 @@ pub(crate) fn judge_all(
     ensures fault { IfOk result (λ r. result_err r ≡ spec.declared_fault declarations.now) }
     ensures declared { IfOk result (λ r. IfOk r (λ judge. judge ≡ spec.declared declarations.now)) }
 {
-    let mut judge = Judge::new(alloc)?;
+    let mut judge = Judge::new(alloc);
     for declaration in declarations {
-        match judge.declare(alloc, declaration)? {
-            Ok(next) => judge = next,
-            Err(fault) => return Ok(Err(fault)),
+        if let Some(fault) = judge.declare(alloc, declaration)? {
+            return Ok(Err(fault));
         }
     }
     Ok(Ok(judge))

@@ -4,7 +4,7 @@ ghost use Rattle.std.specs.Prelude.{◌≡◌, ◌↔◌, ◌⊎◌, ℕ, List, 
 ghost use Rattle.std.specs.Str.{IsAscii, IsUtf8};
 ghost use Rattle.crush_grammar.specs.declared.code.TextFault.{TextFault};
 ghost use Rattle.crush_map.specs.Map.{Map, IsMap};
-ghost use Rattle.crush_text.specs.Canonical.{canonical};
+ghost use Rattle.crush_writing.specs.Canonical.{canonical};
 ghost use Rattle.crush_text.specs.MapText.{HasFirstFault, IsRefusedFor, IsShort, IsTextOf};
 ghost use Rattle.crush_text.specs.Reading.{map_of_stored_text, map_of_text};
 

@@ -1,6 +1,6 @@
 //! What is declared, with an index by which a name is looked up.
 
-ghost use Rattle.std.specs.Prelude.{◌≡◌, ◌≤◌, ◌++◌, ◌∷◌, [], ℕ, List, IfOk, find, option_map, bytes_eq, length};
+ghost use Rattle.std.specs.Prelude.{◌≡◌, ◌≤◌, ◌++◌, ◌∷◌, [], ℕ, List, OnErr, OnOk, find, option_map, bytes_eq, length};
 ghost use Rattle.std.specs.BTreeMap.{get_by_text};
 ghost use Rattle.std.specs.Option.{option_map_or};
 ghost use Rattle.crush_map.specs.Weights.{total_weight};
@@ -24,20 +24,19 @@ pub(crate) fn type_number(types: &[TypeName], name: &str) -> u32
     65_536
 }
 
-/// With the item of a name, unless it has one.
-fn with_first(
+/// Adds the item of a name, unless the name has one. After `AllocError` the index is as it was.
+fn add_first(
     alloc: Global,
-    mut index: BTreeMap<String, (ItemId, Weight)>,
+    index: &mut BTreeMap<String, (ItemId, Weight)>,
     name: &str,
     item: (ItemId, Weight),
-) -> Result<BTreeMap<String, (ItemId, Weight)>, AllocError>
-    ensures { IfOk result (λ m. (key : List ℕ) → get_by_text m key ≡ first_value (get_by_text index) name.now item key) }
+) -> Result<(), AllocError>
+    ensures ok { OnOk result ((key : List ℕ) → get_by_text index.new key ≡ first_value (get_by_text index.old) name.now item key) }
+    ensures err { OnErr result ((key : List ℕ) → get_by_text index.new key ≡ get_by_text index.old key) }
 {
-    if index.contains_key(name) {
-        return Ok(index);
-    }
-    index.insert(String::from_str(alloc, name)?, item)?;
-    Ok(index)
+    let key = String::from_str(alloc, name)?;
+    index.entry(key)?.or_insert(item);
+    Ok(())
 }
 
 /// A device as an item: its id, and the weight 1.0.
@@ -86,19 +85,17 @@ impl DeviceTable {
         self.index.get(name).copied()
     }
 
-    /// With one more device.
-    pub(crate) fn with(self, alloc: Global, declared: Device) -> Result<Self, AllocError>
+    /// Adds a device at the end. After `AllocError` the devices are as they were.
+    pub(crate) fn add(&mut self, alloc: Global, declared: Device) -> Result<(), AllocError>
         requires { declared.id ≤ 65535 }
-        ensures { IfOk result (λ table. table ≡ self ++ declared ∷ []) }
+        ensures ok { OnOk result (self.new ≡ self.old ++ declared ∷ []) }
+        ensures err { OnErr result (self.new ≡ self.old) }
     {
-        let DeviceTable {
-            mut order,
-            mut index,
-        } = self;
         let item = device_item(&declared);
-        index = with_first(alloc, index, declared.name.as_str(), item)?;
-        order.push(declared)?;
-        Ok(DeviceTable { order, index })
+        self.order.reserve(1)?;
+        add_first(alloc, &mut self.index, declared.name.as_str(), item)?;
+        self.order.push_reserved(declared);
+        Ok(())
     }
 
     /// The devices. Takes no memory.
@@ -160,20 +157,18 @@ impl BucketTable {
         self.index.get(name).copied()
     }
 
-    /// With one more bucket.
-    pub(crate) fn with(self, alloc: Global, declared: Bucket) -> Result<Self, AllocError>
+    /// Adds a bucket at the end. After `AllocError` the buckets are as they were.
+    pub(crate) fn add(&mut self, alloc: Global, declared: Bucket) -> Result<(), AllocError>
         requires few { length declared.items ≤ 1024 }
         requires light { total_weight declared.items ≤ 4294967295 }
-        ensures { IfOk result (λ table. table ≡ self ++ declared ∷ []) }
+        ensures ok { OnOk result (self.new ≡ self.old ++ declared ∷ []) }
+        ensures err { OnErr result (self.new ≡ self.old) }
     {
-        let BucketTable {
-            mut order,
-            mut index,
-        } = self;
         let item = bucket_item(&declared);
-        index = with_first(alloc, index, declared.name.as_str(), item)?;
-        order.push(declared)?;
-        Ok(BucketTable { order, index })
+        self.order.reserve(1)?;
+        add_first(alloc, &mut self.index, declared.name.as_str(), item)?;
+        self.order.push_reserved(declared);
+        Ok(())
     }
 
     /// The buckets. Takes no memory.

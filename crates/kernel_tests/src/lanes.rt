@@ -1,7 +1,7 @@
-//! Eight hashes at a time.
+//! Eight hashes at a time, and four.
 
 use crate::buckets::next;
-use crush_hash::{hash4, hash4_lanes};
+use crush_hash::{hash3, hash3_lanes, hash4, hash4_lanes};
 use std::process::Abort;
 
 /// What Ceph 16's `crush_hash32_4` answers stands in the third lane; each lane is the hash of its item.
@@ -21,6 +21,24 @@ fn lanes_hash_as_one_by_one(rt: HostRuntime) {
         let hashes = hash4_lanes(x, &items, r, id);
         for lane in 0..8 {
             assert_eq!(rt; hashes[lane], hash4(x, items[lane], r, id));
+        }
+    }
+}
+
+/// What Ceph 16's `crush_hash32_3` answers stands in the last lane; each lane is the hash of its place.
+#[test]
+fn places_hash_as_one_by_one(rt: HostRuntime) {
+    assert_eq!(rt; hash3_lanes(1, 2, &[0, 1, 2, 3])[3], 1_935_332_395);
+    let mut seed = 2_028;
+    for _ in 0..1_000 {
+        let (x, id) = (next(&mut seed), next(&mut seed));
+        let mut places = [0; 4];
+        for lane in 0..4 {
+            places[lane] = next(&mut seed).wrapping_mul(next(&mut seed));
+        }
+        let hashes = hash3_lanes(x, id, &places);
+        for lane in 0..4 {
+            assert_eq!(rt; hashes[lane], hash3(x, id, places[lane]));
         }
     }
 }

@@ -1,16 +1,8 @@
-//! Tests of `crush_map`, `crush_bucket` and `crush_choose`, over one builder of maps. They stand apart, so that these crates are proved once.
+//! Tests of `crush_bucket` and `crush_choose`, on maps of drafts. They stand apart, so that these crates are proved once.
 #![tactic(auto)]
 
 #[cfg(test)]
 mod buckets;
-#[cfg(test)]
-mod drafts;
-#[cfg(test)]
-mod edges;
-#[cfg(test)]
-mod faults;
-#[cfg(test)]
-mod full;
 #[cfg(test)]
 mod lanes;
 #[cfg(test)]
@@ -20,6 +12,9 @@ mod plain;
 #[cfg(test)]
 mod rules;
 #[cfg(test)]
-mod stability;
+mod sparse;
 #[cfg(test)]
-mod weights;
+mod stability;
+
+#[cfg(test)]
+use map_tests::drafts;

@@ -1,6 +1,8 @@
-//! Tests of `crush_pool`, on maps that are written as texts. They stand apart, so that the crate itself is proved once.
+//! Tests of `crush_pool` and `crush_report`, on maps that are written as texts. They stand apart, so that the crates themselves are proved once.
 #![tactic(auto)]
 
+#[cfg(test)]
+mod csvs;
 #[cfg(test)]
 mod groups;
 #[cfg(test)]
@@ -9,6 +11,8 @@ mod maps;
 mod placements;
 #[cfg(test)]
 mod pools;
+#[cfg(test)]
+mod reports;
 #[cfg(test)]
 mod seeds;
 #[cfg(test)]

@@ -12,40 +12,31 @@ use std::alloc::{AllocError, Global};
 use std::process::Abort;
 use std::test::Fail;
 
-/// A map of the device 0, which is the one item of its root.
-pub(crate) const DEVICE_0: &str = "tunable choose_local_tries 0
+/// The text of a map with the tunables of Jewel, from its devices on.
+macro_rules! map_text {
+    ($($part:literal),*) => {
+        concat!(
+            "tunable choose_local_tries 0
 tunable choose_local_fallback_tries 0
 tunable choose_total_tries 50
 tunable chooseleaf_descend_once 1
 tunable chooseleaf_vary_r 1
 tunable chooseleaf_stable 1
-device 0 osd.0
-type 0 osd
-type 1 host
-type 10 root
-root default {
- id -1
- alg uniform
- hash 0
- item osd.0 weight 1.0
+",
+            $($part),*
+        )
+    };
 }
-rule all {
- id 0
- type replicated
- step take default
- step choose firstn 0 type osd
- step emit
-}
-";
 
-/// The same of the device 7.
-pub(crate) const DEVICE_7: &str = "tunable choose_local_tries 0
-tunable choose_local_fallback_tries 0
-tunable choose_total_tries 50
-tunable chooseleaf_descend_once 1
-tunable chooseleaf_vary_r 1
-tunable chooseleaf_stable 1
-device 7 osd.7
+/// The text of a map of one device, which is the one item of its root.
+macro_rules! one_device {
+    ($id:literal) => {
+        map_text!(
+            "device ",
+            $id,
+            " osd.",
+            $id,
+            "
 type 0 osd
 type 1 host
 type 10 root
@@ -53,7 +44,9 @@ root default {
  id -1
  alg uniform
  hash 0
- item osd.7 weight 1.0
+ item osd.",
+            $id,
+            " weight 1.0
 }
 rule all {
  id 0
@@ -62,17 +55,21 @@ rule all {
  step choose firstn 0 type osd
  step emit
 }
-";
+"
+        )
+    };
+}
+
+/// A map of the device 0.
+pub(crate) const DEVICE_0: &str = one_device!(0);
+
+/// A map of the device 7.
+pub(crate) const DEVICE_7: &str = one_device!(7);
 
 /// A map of three devices. Its rules answer, whatever the input is: the devices 0, 1 and 2; the device 0 and none; the root and then the device 2; the
 /// device 1 twice.
-pub(crate) const THREE: &str = "tunable choose_local_tries 0
-tunable choose_local_fallback_tries 0
-tunable choose_total_tries 50
-tunable chooseleaf_descend_once 1
-tunable chooseleaf_vary_r 1
-tunable chooseleaf_stable 1
-device 0 osd.0
+pub(crate) const THREE: &str = map_text!(
+    "device 0 osd.0
 device 1 osd.1
 device 2 osd.2
 type 0 osd
@@ -117,7 +114,8 @@ rule twice {
  step take osd.1
  step emit
 }
-";
+"
+);
 
 /// The map of a text.
 pub(crate) fn map_of(rt: &impl Abort, alloc: Global, text: &str) -> Result<CrushMap, Fail> {

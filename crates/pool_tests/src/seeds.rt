@@ -1,10 +1,39 @@
 //! The seeds of groups.
 
 use crate::pools::{Short, TWELVE, pool};
+use std::alloc::Global;
+use std::process::Abort;
 use std::test::Fail;
 
-/// A pool's id, its pg_num and pgp_num, a group, and the seed as a sum (Ceph's `raw_pg_to_pps` without `hashpspool`).
-const SUMS: &[(u32, u32, u32, u32, u32)] = &[
+/// A pool's id, its pg_num and pgp_num, a group, and the seed.
+type Row = (u32, u32, u32, u32, u32);
+
+fn assert_seeds(
+    rt: &impl Abort,
+    alloc: Global,
+    rows: &[Row],
+    hashpspool: bool,
+) -> Result<(), Fail> {
+    for (id, pg_num, pgp_num, group, seed) in rows {
+        let short = Short {
+            id: *id,
+            pg_num: *pg_num,
+            pgp_num: *pgp_num,
+            hashpspool,
+            ..TWELVE
+        };
+        let pool = pool(rt, alloc, short)?;
+        assert_eq!(rt;
+            pool.seed_of(*group),
+            *seed,
+            "group {group} of {pg_num}, {pgp_num}"
+        );
+    }
+    Ok(())
+}
+
+/// Seeds as sums (Ceph's `raw_pg_to_pps` without `hashpspool`).
+const SUMS: &[Row] = &[
     (1, 12, 12, 5, 6),
     (1, 12, 12, 8, 9),
     (1, 8, 8, 0, 1),
@@ -26,25 +55,12 @@ const SUMS: &[(u32, u32, u32, u32, u32)] = &[
 
 #[test]
 fn seeds_are_sums_without_hashpspool(rt: HostRuntime) -> Result<(), Fail> {
-    for (id, pg_num, pgp_num, group, seed) in SUMS {
-        let short = Short {
-            id: *id,
-            pg_num: *pg_num,
-            pgp_num: *pgp_num,
-            ..TWELVE
-        };
-        let pool = pool(&rt, rt.alloc(), short)?;
-        assert_eq!(rt;
-            pool.seed_of(*group),
-            *seed,
-            "group {group} of {pg_num}, {pgp_num}"
-        );
-    }
+    assert_seeds(&rt, rt.alloc(), SUMS, false)?;
     Ok(())
 }
 
-/// The same, and the seed as a hash (with `hashpspool`; Ceph's `crush_hash32_2`).
-const HASHES: &[(u32, u32, u32, u32, u32)] = &[
+/// Seeds as hashes (with `hashpspool`; Ceph's `crush_hash32_2`).
+const HASHES: &[Row] = &[
     (1, 8, 8, 0, 91_478_055),
     (1, 12, 4, 4, 91_478_055),
     (1, 12, 4, 11, 1_156_777_298),
@@ -58,20 +74,6 @@ const HASHES: &[(u32, u32, u32, u32, u32)] = &[
 
 #[test]
 fn seeds_are_hashes_with_hashpspool(rt: HostRuntime) -> Result<(), Fail> {
-    for (id, pg_num, pgp_num, group, seed) in HASHES {
-        let short = Short {
-            id: *id,
-            pg_num: *pg_num,
-            pgp_num: *pgp_num,
-            hashpspool: true,
-            ..TWELVE
-        };
-        let pool = pool(&rt, rt.alloc(), short)?;
-        assert_eq!(rt;
-            pool.seed_of(*group),
-            *seed,
-            "group {group} of {pg_num}, {pgp_num}"
-        );
-    }
+    assert_seeds(&rt, rt.alloc(), HASHES, true)?;
     Ok(())
 }

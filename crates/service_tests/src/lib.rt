@@ -1,4 +1,4 @@
-//! Tests of `tenant_core` and `crush_app`: requests, scripts, imports, rule tests, pools and states of devices, and a store whose data is damaged in part. They stand apart, so
+//! Tests of `tenant_core` and `crush_app`: requests, scripts, imports, rule tests, pools, states of devices and reports, and a store whose data is damaged in part. They stand apart, so
 //! that these crates are proved once.
 #![tactic(auto)]
 
@@ -8,6 +8,8 @@ mod damaged;
 mod maps;
 #[cfg(test)]
 mod pools;
+#[cfg(test)]
+mod reports;
 #[cfg(test)]
 mod requests;
 #[cfg(test)]

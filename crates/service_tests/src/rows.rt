@@ -9,8 +9,13 @@ use tenant_messages::{Bytes, Call, Reply};
 /// A method, a path and a body, and the status and the body of the reply that the rules of requests give them.
 pub(crate) type Row = (&'static str, &'static str, &'static str, u16, &'static str);
 
-fn call(alloc: Global, row: &Row) -> Result<Call, AllocError> {
-    let (method, path, body, _, _) = *row;
+/// A call of these parts, which it keeps.
+pub(crate) fn call(
+    alloc: Global,
+    method: &str,
+    path: &str,
+    body: &str,
+) -> Result<Call, AllocError> {
     Ok(Call {
         method: Bytes::new(Vec::from_slice(alloc, method.as_bytes())?),
         path: Text::copy(alloc, path)?,
@@ -32,8 +37,8 @@ fn rows_below(alloc: Global, rows: &[Row], path: &str) -> Result<Vec<Row>, Alloc
 /// The replies to the calls of some rows, on a service without a tenant.
 fn replies_to(alloc: Global, rows: &[Row]) -> Result<Vec<Reply>, AllocError> {
     let mut calls = Vec::new(alloc);
-    for row in rows {
-        calls.push(call(alloc, row)?)?;
+    for (method, path, body, _, _) in rows {
+        calls.push(call(alloc, method, path, body)?)?;
     }
     Service::in_memory(alloc)?.run(&calls)
 }

@@ -1,11 +1,11 @@
 //! Scripts and runs on the service over a store in memory.
 
+use crate::rows::call;
 use crush_app::{ScriptEnd, Service, script_run};
-use crush_map::Text;
 use std::alloc::{AllocError, Global};
 use std::io::{self, ErrorKind, Read, Write};
 use std::test::Fail;
-use tenant_messages::{Bytes, Call, CallParts};
+use tenant_messages::CallParts;
 
 const SCRIPT: &str =
     "PUT /t/a\nPOST /t/a/pick {\"bucket\":{\"id\":-1,\"items\":[{\"item\":4,\"weight\":0},{\"item\":9,\"weight\":65536}],\"kind\":\"list\"},\"r\":0,\"x\":5}\r\nGET\n\nGET /t/a\nPUT /t/a\nDELETE /t/a\nGET /t/a";
@@ -131,14 +131,6 @@ fn no_later_line_is_served_after_a_write_fault(rt: HostRuntime) -> Result<(), Fa
     Ok(())
 }
 
-fn call(alloc: Global, method: &str, path: &str) -> Result<Call, AllocError> {
-    Ok(Call {
-        method: Bytes::new(Vec::from_slice(alloc, method.as_bytes())?),
-        path: Text::copy(alloc, path)?,
-        body: Bytes::new(Vec::new(alloc)),
-    })
-}
-
 #[test]
 fn a_run_answers_each_tenant_from_its_own_state(rt: HostRuntime) -> Result<(), Fail> {
     let alloc = rt.alloc();
@@ -155,7 +147,7 @@ fn a_run_answers_each_tenant_from_its_own_state(rt: HostRuntime) -> Result<(), F
     ];
     let mut calls = Vec::new(alloc);
     for (method, path, _) in asked {
-        calls.push(call(alloc, method, path)?)?;
+        calls.push(call(alloc, method, path, "")?)?;
     }
     let replies = Service::in_memory(alloc)?.run(&calls)?;
     assert_eq!(rt; replies.len(), asked.len());

@@ -16,7 +16,7 @@ use Rattle.tenant_core.specs.declared.store.StoreFault.TheVariants.{NoMemory, Fu
 use Rattle.tenant_core.specs.Request.{tenant_in, action_of, on_operation, on_target, operation_of, request_of, body_limit}
 use Rattle.tenant_messages.specs.Reply.{refused, reply}
 use Rattle.tenant_core.specs.Route.{Target, target_of, route_in}
-use Rattle.tenant_core.specs.States.{States, IsDamaged, Same, Follows, Answers}
+use Rattle.tenant_core.specs.States.{States, IsDamaged, Same, Follows, Serves}
 use Rattle.tenant_core.specs.Step.{decision, decision_or_refusal, step_of, step, tenant_of, is_of}
 use Rattle.tenant_core.specs.StoreReply.{no_memory, store_damaged, store_fault, refused_or_damaged}
 use Rattle.tenant_core.specs.Private.Performing.{Performs, HasOneState}
@@ -112,16 +112,16 @@ follows_damaged call old new r h bad same = record {
 
 -- ---- whatever the store did
 
-gives-up : (call : Call) (old new : States) (fault : StoreFault) → Same old new → (fault ≡ Damaged → Follows call old new store_damaged) → Answers call old new (store_fault fault)
+gives-up : (call : Call) (old new : States) (fault : StoreFault) → Same old new → (fault ≡ Damaged → Follows call old new store_damaged) → Serves call old new (store_fault fault)
 gives-up call old new NoMemory same damaged = inr (record { unavailable = inl refl; same = same })
 gives-up call old new Full same damaged = inr (record { unavailable = inr refl; same = same })
 gives-up call old new Failed same damaged = inr (record { unavailable = inr refl; same = same })
 gives-up call old new Damaged same damaged = inl (damaged refl)
 
-pub answers_fault : (call : Call) (old new : States) (fault : StoreFault) (replied : Reply) → Same old new → (fault ≡ Damaged → Follows call old new store_damaged)
-    → (replied ≡ store_fault fault) ⊎ (replied ≡ no_memory) → Answers call old new replied
-answers_fault call old new fault replied same damaged (inl is) = rw is (gives-up call old new fault same damaged)
-answers_fault call old new fault replied same damaged (inr is) = inr (record { unavailable = inl is; same = same })
+pub serves_fault : (call : Call) (old new : States) (fault : StoreFault) (replied : Reply) → Same old new → (fault ≡ Damaged → Follows call old new store_damaged)
+    → (replied ≡ store_fault fault) ⊎ (replied ≡ no_memory) → Serves call old new replied
+serves_fault call old new fault replied same damaged (inl is) = rw is (gives-up call old new fault same damaged)
+serves_fault call old new fault replied same damaged (inr is) = inr (record { unavailable = inl is; same = same })
 
 -- ---- a call of no tenant
 

@@ -4,7 +4,7 @@ use Rattle.std.proofs.lemmas.Map.Text.{is_eq-slice_cmp}
 use Rattle.std.proofs.lemmas.Slice.Eq.{bytes_eq-Decides}
 use Rattle.std.specs.Cmp.Lexicographic.{slice_cmp}
 use Rattle.std.specs.Ordering.{match_ordering}
-use Rattle.tenant_core.specs.Commands.{decision, on_receipt, carried_out, order_on, again, receipt_for, receipt_limit}
+use Rattle.tenant_core.specs.Commands.{decision, on_receipt, change_or_refusal, order_on, again, receipt_for, receipt_limit}
 use Rattle.tenant_core.specs.Effects.{Decided, decided}
 use Rattle.tenant_resources.specs.Orders.{Accepted}
 use Rattle.tenant_state.specs.Receipts.{Receipts, receipt_of, with_receipt}
@@ -75,16 +75,16 @@ pub record Accepts (k : Command) (s : TenantState) (c : Change) (d : Decided) : 
   pub reply : reply (repeated c.receipt.status c.receipt.reply) ≡ reply d.answer
 
 accepts_order : (k : Command) (s : TenantState) (c : Change) (a : Result Accepted Problem) → receipt_of k.number s.receipts ≡ None
-    → (carried_out k a).effect ≡ effect.Change c → Accepts k s c (carried_out k a)
+    → (change_or_refusal k a).effect ≡ effect.Change c → Accepts k s c (change_or_refusal k a)
 unfolding reply
 accepts_order k s c (Err problem) none h = cc
 accepts_order k s c (Ok a) none h =
     let is : ◌≡◌ {A = Change} (record { number = k.number; receipt = receipt_for k a; made = a.made }) c = cc in
-    subst (λ (x : Change). Accepts k s x (carried_out k (Ok a))) is (record { new = none; number = refl; path = refl; body = refl; reply = refl })
+    subst (λ (x : Change). Accepts k s x (change_or_refusal k (Ok a))) is (record { new = none; number = refl; path = refl; body = refl; reply = refl })
 
 accepts_new : (k : Command) (s : TenantState) (c : Change) (full : Bool) → receipt_of k.number s.receipts ≡ None
-    → (if full then decided effect.Keep (refused TenantLimit) else carried_out k (order_on k.order s)).effect ≡ effect.Change c
-    → Accepts k s c (if full then decided effect.Keep (refused TenantLimit) else carried_out k (order_on k.order s))
+    → (if full then decided effect.Keep (refused TenantLimit) else change_or_refusal k (order_on k.order s)).effect ≡ effect.Change c
+    → Accepts k s c (if full then decided effect.Keep (refused TenantLimit) else change_or_refusal k (order_on k.order s))
 accepts_new k s c true none h = cc
 accepts_new k s c false none h = accepts_order k s c (order_on k.order s) none h
 
@@ -135,5 +135,8 @@ action_grows tenant (action.Command k) s c h = epoch_grows k s c h
 action_grows tenant (action.ReadVersion v) s c h = cc
 action_grows tenant (action.ReadGroup id group) s c h = cc
 action_grows tenant (action.Locate id name) s c h = cc
+action_grows tenant (action.ReportUsage id) s c h = cc
+action_grows tenant (action.ReportMoves id from to) s c h = cc
+action_grows tenant (action.ReportImpact id device) s c h = cc
 action_grows tenant (action.Pick p) s c h = cc
 action_grows tenant (action.Test t) s c h = cc

@@ -9,7 +9,7 @@ use Rattle.crush_pool.specs.Placements.{rule_numbered, placement}
 use Rattle.crush_pool.specs.declared.pool.PoolParts.{PoolParts}
 use Rattle.crush_text.specs.Reading.{map_of_text}
 use Rattle.tenant_core.proofs.Once.{tenant_changes_nothing}
-use Rattle.tenant_core.specs.Commands.{decision, on_receipt, carried_out, order_on, receipt_limit}
+use Rattle.tenant_core.specs.Commands.{decision, on_receipt, change_or_refusal, order_on, receipt_limit}
 use Rattle.tenant_core.specs.Effects.{decided}
 use Rattle.tenant_core.specs.Step.{decision_on}
 use Rattle.tenant_core.specs.declared.commands.Command.{Command}
@@ -28,7 +28,7 @@ use Rattle.tenant_resources.specs.Maps as maps
 use Rattle.tenant_resources.specs.Orders.{Accepted}
 use Rattle.tenant_resources.specs.Pools as pools
 use Rattle.tenant_resources.specs.Pools.{rule_of, have_rules}
-use Rattle.tenant_resources.specs.declared.devices.DeviceChange.{DeviceChange}
+use Rattle.crush_report.specs.declared.changes.DeviceChange.{DeviceChange}
 use Rattle.tenant_state.specs.Ordered.{with_element, without}
 use Rattle.tenant_state.specs.Receipts.{receipt_of}
 use Rattle.tenant_state.specs.State.{TenantState, Made, NewVersion, NewStates, NewPool, RemovedPool, Change, after, with_made, version, newest, pool}
@@ -86,12 +86,12 @@ record Makes (k : Command) (s : TenantState) (c : Change) : Type 0 where
   pub is : order_on k.order s ≡ Ok accepted
   pub made : c.made ≡ accepted.made
 
-makes_order : (k : Command) (s : TenantState) (c : Change) (a : Result Accepted Problem) → order_on k.order s ≡ a → (carried_out k a).effect ≡ effect.Change c → Makes k s c
+makes_order : (k : Command) (s : TenantState) (c : Change) (a : Result Accepted Problem) → order_on k.order s ≡ a → (change_or_refusal k a).effect ≡ effect.Change c → Makes k s c
 makes_order k s c (Err problem) is h = cc
 makes_order k s c (Ok a) is h = let made : a.made ≡ c.made = cc in record { accepted = a; is = is; made = sym made }
 
 makes_new : (k : Command) (s : TenantState) (c : Change) (full : Bool)
-    → (if full then decided effect.Keep (refused TenantLimit) else carried_out k (order_on k.order s)).effect ≡ effect.Change c → Makes k s c
+    → (if full then decided effect.Keep (refused TenantLimit) else change_or_refusal k (order_on k.order s)).effect ≡ effect.Change c → Makes k s c
 makes_new k s c true h = cc
 makes_new k s c false h = makes_order k s c (order_on k.order s) refl h
 
@@ -179,6 +179,9 @@ action_leaves tenant (action.Command k) s c h had = command_leaves k s c h had
 action_leaves tenant (action.ReadVersion v) s c h had = cc
 action_leaves tenant (action.ReadGroup id group) s c h had = cc
 action_leaves tenant (action.Locate id name) s c h had = cc
+action_leaves tenant (action.ReportUsage id) s c h had = cc
+action_leaves tenant (action.ReportMoves id from to) s c h had = cc
+action_leaves tenant (action.ReportImpact id device) s c h had = cc
 action_leaves tenant (action.Pick p) s c h had = cc
 action_leaves tenant (action.Test t) s c h had = cc
 

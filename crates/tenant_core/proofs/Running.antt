@@ -7,7 +7,7 @@ use Rattle.tenant_messages.specs.declared.call.Call.{Call}
 use Rattle.tenant_messages.specs.declared.reply.Reply.{Reply}
 use Rattle.tenant_state.specs.State.{TenantState}
 use Rattle.tenant_core.specs.Alone.{alone, is_answered, answered, calls_answered, replies_answered}
-use Rattle.tenant_core.specs.States.{States, Same, Follows, Answers, AnswersNobody, AnswersDamaged, NamesCause, MeetsDefinition}
+use Rattle.tenant_core.specs.States.{States, Same, Follows, Serves, ServesCallOfNobody, ServesCallOfDamaged, NamesCause, MeetsDefinition}
 use Rattle.tenant_core.specs.Step.{step, is_of}
 use Rattle.tenant_core.proofs.Replying.{status-unavailable}
 
@@ -62,17 +62,17 @@ comes-unavailable s c r New true gone kept = record {
 }
 comes-unavailable s c r New false gone kept = record { of_step = λ h. let both : false ≡ true = h in cc; kept = λ h. kept }
 
-comes : (old new : States) (c : Call) (r : Reply) → Answers c old new r → (t : List ℕ) (s : Option TenantState) → old t s → Comes (counts t c r) s c r (new t)
+comes : (old new : States) (c : Call) (r : Reply) → Serves c old new r → (t : List ℕ) (s : Option TenantState) → old t s → Comes (counts t c r) s c r (new t)
 comes old new c r (inl by) t s has = comes-answered s c r (new t) (is_of t c) by.answered (λ own. by.own t s own has) (λ other. (by.others t s other).0 has)
 comes old new c r (inr gone) t s has = comes-unavailable s c r (new t) (is_of t c) (status-unavailable r gone.unavailable) ((gone.same t s).0 has)
 
-answers-nobody : (old new : States) (c : Call) (r : Reply) → Answers c old new r → AnswersNobody c r
-answers-nobody old new c r (inl by) = λ none. inl (by.nobody none)
-answers-nobody old new c r (inr gone) = λ none. inr gone.unavailable
+serves-nobody : (old new : States) (c : Call) (r : Reply) → Serves c old new r → ServesCallOfNobody c r
+serves-nobody old new c r (inl by) = λ none. inl (by.nobody none)
+serves-nobody old new c r (inr gone) = λ none. inr gone.unavailable
 
-answers-damaged : (old new : States) (c : Call) (r : Reply) (t : List ℕ) → Answers c old new r → ((s : Option TenantState) → old t s → ⊥) → AnswersDamaged t c r
-answers-damaged old new c r t (inl by) bad = λ own. inl (by.damaged t own bad).0
-answers-damaged old new c r t (inr gone) bad = λ own. inr gone.unavailable
+serves-damaged : (old new : States) (c : Call) (r : Reply) (t : List ℕ) → Serves c old new r → ((s : Option TenantState) → old t s → ⊥) → ServesCallOfDamaged t c r
+serves-damaged old new c r t (inl by) bad = λ own. inl (by.damaged t own bad).0
+serves-damaged old new c r t (inr gone) bad = λ own. inr gone.unavailable
 
 -- a damaged tenant stays so, whether the call is its own or not
 still-by : (old new : States) (c : Call) (r : Reply) (t : List ℕ) (own : Bool) → is_of t c ≡ own → Follows c old new r
@@ -80,11 +80,11 @@ still-by : (old new : States) (c : Call) (r : Reply) (t : List ℕ) (own : Bool)
 still-by old new c r t true e by bad = (by.damaged t e bad).1
 still-by old new c r t false e by bad = λ s has. bad s ((by.others t s e).1 has)
 
-still-damaged : (old new : States) (c : Call) (r : Reply) (t : List ℕ) → Answers c old new r → ((s : Option TenantState) → old t s → ⊥) → (s : Option TenantState) → new t s → ⊥
+still-damaged : (old new : States) (c : Call) (r : Reply) (t : List ℕ) → Serves c old new r → ((s : Option TenantState) → old t s → ⊥) → (s : Option TenantState) → new t s → ⊥
 still-damaged old new c r t (inl by) bad = still-by old new c r t (is_of t c) refl by bad
 still-damaged old new c r t (inr gone) bad = λ s has. bad s ((gone.same t s).1 has)
 
-names-cause : (old new : States) (c : Call) (r : Reply) → Answers c old new r → NamesCause r
+names-cause : (old new : States) (c : Call) (r : Reply) → Serves c old new r → NamesCause r
 names-cause old new c r (inl by) = λ gone. let no : is_answered r ≡ false = ap (λ n. not (n == 503)) gone in let both : true ≡ false = sym by.answered ∙ no in cc
 names-cause old new c r (inr gone) = λ _. gone.unavailable
 
@@ -92,13 +92,13 @@ all_one : (P : Reply → Type 0) (r : Reply) → P r → All P (r ∷ [])
 all_one P r h zero d lt = h
 all_one P r h (suc k) d lt = absurd (omega arith)
 
-pub run_one : (old new : States) (c : Call) (r : Reply) → Answers c old new r → MeetsDefinition old new (c ∷ []) (r ∷ [])
+pub run_one : (old new : States) (c : Call) (r : Reply) → Serves c old new r → MeetsDefinition old new (c ∷ []) (r ∷ [])
 run_one old new c r by = record {
   count = refl;
   headline = λ t s has. one-headline t s c r (new t) (counts t c r) (comes old new c r by t s has);
   leaves = λ t s has. one-leaves t s c r (new t) (counts t c r) (comes old new c r by t s has);
-  nobody = (answers-nobody old new c r by, tt);
-  damaged = λ t bad. (still-damaged old new c r t by bad, (answers-damaged old new c r t by bad, tt));
+  nobody = (serves-nobody old new c r by, tt);
+  damaged = λ t bad. (still-damaged old new c r t by bad, (serves-damaged old new c r t by bad, tt));
   causes = all_one NamesCause r (names-cause old new c r by);
 }
 
@@ -150,15 +150,15 @@ run_both old mid new cs rs ds qs first second =
       leaves = λ t s has.
           let between = (alone s (calls_answered t cs rs)).state in
           rw (both_calls t, alone-state s (calls_answered t cs rs) (calls_answered t ds qs)) (second.leaves t between (first.leaves t s has));
-      nobody = all_zip-append AnswersNobody cs ds rs qs first.nobody second.nobody;
+      nobody = all_zip-append ServesCallOfNobody cs ds rs qs first.nobody second.nobody;
       damaged = λ t bad.
           let one = first.damaged t bad in
           let two = second.damaged t one.0 in
-          (two.0, all_zip-append (AnswersDamaged t) cs ds rs qs one.1 two.1);
+          (two.0, all_zip-append (ServesCallOfDamaged t) cs ds rs qs one.1 two.1);
       causes = All-append NamesCause rs qs first.causes second.causes;
     }
 
 -- a run, and one call more
-pub run_more : (old mid new : States) (cs : List Call) (rs : List Reply) (c : Call) (r : Reply) → MeetsDefinition old mid cs rs → Answers c mid new r
+pub run_more : (old mid new : States) (cs : List Call) (rs : List Reply) (c : Call) (r : Reply) → MeetsDefinition old mid cs rs → Serves c mid new r
     → MeetsDefinition old new (cs ++ c ∷ []) (rs ++ r ∷ [])
-run_more old mid new cs rs c r before answered = run_both old mid new cs rs (c ∷ []) (r ∷ []) before (run_one mid new c r answered)
+run_more old mid new cs rs c r before served = run_both old mid new cs rs (c ∷ []) (r ∷ []) before (run_one mid new c r served)

@@ -33,10 +33,10 @@ receipt_limit = 100000
 abbrev pub receipt_for : Command → Accepted → Receipt
 receipt_for command a = record { path = command.path; body = command.body; status = a.status; reply = compact_text a.body }
 
--- what is refused changes nothing and leaves no receipt
-abbrev pub carried_out : Command → Result Accepted Problem → Decided
-carried_out command (Err problem) = decided Keep (refused problem)
-carried_out command (Ok a) =
+-- what is accepted is changed, with a receipt; what is refused changes nothing and leaves none
+abbrev pub change_or_refusal : Command → Result Accepted Problem → Decided
+change_or_refusal command (Err problem) = decided Keep (refused problem)
+change_or_refusal command (Ok a) =
     decided (Change (record { number = command.number; receipt = receipt_for command a; made = a.made })) (answered a.status a.body)
 
 -- to a request number that has a receipt: its reply again, or a refusal where another request left it
@@ -48,7 +48,7 @@ abbrev pub on_receipt : Command → TenantState → Option Receipt → Decided
 on_receipt command state (Some receipt) = decided Keep (again command receipt)
 on_receipt command state None =
     if nat_le receipt_limit (length state.receipts) then decided Keep (refused TenantLimit)
-    else carried_out command (order_on command.order state)
+    else change_or_refusal command (order_on command.order state)
 
 abbrev pub decision : Command → TenantState → Decided
 decision command state = on_receipt command state (receipt_of command.number state.receipts)

@@ -10,6 +10,10 @@ use Rattle.matchit.specs.Params.{walk, named}
 use Rattle.matchit.specs.Seek.{first}
 use Rattle.matchit.specs.declared.error.InsertError.{InsertError}
 use Rattle.crush_words.specs.Numbers.{number_of}
+use Rattle.tenant_reports.specs.DeviceCsv as device_csv
+use Rattle.tenant_reports.specs.Impact as impact
+use Rattle.tenant_reports.specs.Moves as moves
+use Rattle.tenant_reports.specs.Usage as usage
 use Rattle.tenant_resources.specs.Devices as devices
 use Rattle.tenant_resources.specs.Groups as groups
 use Rattle.tenant_resources.specs.Maps as maps
@@ -18,7 +22,7 @@ use Rattle.tenant_resources.specs.Pools as pools
 use Rattle.tenant_resources.specs.RuleTests as rule_tests
 use Rattle.tenant_core.specs.Tenants as tenants
 use Rattle.tenant_core.specs.declared.route.Route.{Route}
-use Rattle.tenant_core.specs.declared.route.Route.TheVariants.{Tenant, Maps, Version, Devices, Pools, PoolRemoval, Group, Locate, Pick, Test}
+use Rattle.tenant_core.specs.declared.route.Route.TheVariants.{Tenant, Maps, Version, Devices, DeviceCsv, Pools, PoolRemoval, Group, Locate, Usage, Moves, Impact, Pick, Test}
 
 -- ---- the routes
 
@@ -26,7 +30,8 @@ use Rattle.tenant_core.specs.declared.route.Route.TheVariants.{Tenant, Maps, Ver
 abbrev pub routes : List (List ℕ × Route)
 routes =
     (tenants.route, Tenant) ∷ (maps.route, Maps) ∷ (maps.version_route, Version) ∷ (devices.route, Devices)
-    ∷ (pools.route, Pools) ∷ (pools.removal_route, PoolRemoval) ∷ (groups.group_route, Group) ∷ (groups.locate_route, Locate)
+    ∷ (device_csv.route, DeviceCsv) ∷ (pools.route, Pools) ∷ (pools.removal_route, PoolRemoval) ∷ (groups.group_route, Group) ∷ (groups.locate_route, Locate)
+    ∷ (usage.route, Usage) ∷ (moves.route, Moves) ∷ (impact.route, Impact)
     ∷ (picks.route, Pick) ∷ (rule_tests.route, Test) ∷ []
 
 -- ---- their table

@@ -38,8 +38,9 @@ pub record GivesUp (old new : States) (reply : Reply) : Type 0 where
   pub unavailable : IsUnavailable reply
   pub same : Same old new
 
-abbrev pub Answers : Call → States → States → Reply → Type 0
-Answers call old new reply = Follows call old new reply ⊎ GivesUp old new reply
+-- the call is served: either of these
+abbrev pub Serves : Call → States → States → Reply → Type 0
+Serves call old new reply = Follows call old new reply ⊎ GivesUp old new reply
 
 -- ---- a run
 
@@ -54,20 +55,21 @@ abbrev pub Leaves : States → States → List Call → List Reply → Type 0
 Leaves old new calls replies =
     (t : List ℕ) (s : Option TenantState) → old t s → new t (alone s (calls_answered t calls replies)).state
 
--- a call of no tenant is answered by itself alone, or 503
-abbrev pub AnswersNobody : Call → Reply → Type 0
-AnswersNobody call reply = tenant_of call ≡ None → (reply ≡ (step call None).reply) ⊎ IsUnavailable reply
+-- a call of no tenant is served: the reply is the step's, which is by the call alone, or 503
+abbrev pub ServesCallOfNobody : Call → Reply → Type 0
+ServesCallOfNobody call reply = tenant_of call ≡ None → (reply ≡ (step call None).reply) ⊎ IsUnavailable reply
 
-abbrev pub AllAnswerNobody : List Call → List Reply → Type 0
-AllAnswerNobody calls replies = AllZip AnswersNobody calls replies
+-- each of them has a reply of its own
+abbrev pub ServesCallsOfNobody : List Call → List Reply → Type 0
+ServesCallsOfNobody calls replies = AllZip ServesCallOfNobody calls replies
 
--- a call of a tenant whose data is damaged is answered so, or 503
-abbrev pub AnswersDamaged : List ℕ → Call → Reply → Type 0
-AnswersDamaged t call reply = is_of t call ≡ true → (reply ≡ reply_where_damaged call) ⊎ IsUnavailable reply
+-- a call of a damaged tenant is served: the reply is the one for such a tenant, or 503
+abbrev pub ServesCallOfDamaged : List ℕ → Call → Reply → Type 0
+ServesCallOfDamaged t call reply = is_of t call ≡ true → (reply ≡ reply_where_damaged call) ⊎ IsUnavailable reply
 
--- each damaged tenant stays so, and its calls are answered so
+-- each damaged tenant stays so, and its calls are served so
 abbrev pub KeepsDamaged : States → States → List Call → List Reply → Type 0
-KeepsDamaged old new calls replies = (t : List ℕ) → IsDamaged old t → IsDamaged new t × AllZip (AnswersDamaged t) calls replies
+KeepsDamaged old new calls replies = (t : List ℕ) → IsDamaged old t → IsDamaged new t × AllZip (ServesCallOfDamaged t) calls replies
 
 -- each reply of the status 503 is one of the two
 abbrev pub NamesCause : Reply → Type 0
@@ -78,6 +80,6 @@ pub record MeetsDefinition (old new : States) (calls : List Call) (replies : Lis
   pub count : length replies ≡ length calls
   pub headline : Headline old calls replies
   pub leaves : Leaves old new calls replies
-  pub nobody : AllAnswerNobody calls replies
+  pub nobody : ServesCallsOfNobody calls replies
   pub damaged : KeepsDamaged old new calls replies
   pub causes : All NamesCause replies

@@ -4,6 +4,9 @@ use Rattle.std.specs.Option.{option_map_or}
 use Rattle.std.specs.Str.{bytes_eq}
 use Rattle.tenant_core.specs.Commands as commands
 use Rattle.tenant_core.specs.Effects.{Decided, decided, after_effect, if_present}
+use Rattle.tenant_reports.specs.Impact as impact
+use Rattle.tenant_reports.specs.Moves as moves
+use Rattle.tenant_reports.specs.Usage as usage
 use Rattle.tenant_resources.specs.Groups as groups
 use Rattle.tenant_resources.specs.Maps as maps
 use Rattle.tenant_resources.specs.Picks as picks
@@ -30,6 +33,9 @@ decision_on tenant (action.Command command) found = if_present found (commands.d
 decision_on tenant (action.ReadVersion number) found = if_present found (λ state. decided Keep (maps.answer number state))
 decision_on tenant (action.ReadGroup id group) found = if_present found (λ state. decided Keep (groups.group_answer id group state))
 decision_on tenant (action.Locate id name) found = if_present found (λ state. decided Keep (groups.object_answer id name state))
+decision_on tenant (action.ReportUsage id) found = if_present found (λ state. decided Keep (usage.usage_answer id state))
+decision_on tenant (action.ReportMoves id from to) found = if_present found (λ state. decided Keep (moves.moves_answer id from to state))
+decision_on tenant (action.ReportImpact id device) found = if_present found (λ state. decided Keep (impact.impact_answer id device state))
 decision_on tenant (action.Pick p) found = if_present found (λ state. decided Keep (picks.answer p))
 decision_on tenant (action.Test t) found = if_present found (λ state. decided Keep (rule_tests.answer t state))
 

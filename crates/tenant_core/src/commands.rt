@@ -5,17 +5,18 @@ ghost use Rattle.serde_json.specs.View.{view};
 ghost use Rattle.serde_json.specs.Written.{has_float};
 ghost use Rattle.tenant_core.specs.Commands as spec;
 ghost use Rattle.tenant_core.specs.Effects.{effect_of};
-ghost use Rattle.tenant_resources.specs.Private.Accepting.{accepted_of};
+ghost use Rattle.tenant_resources.specs.Orders.{accepted_of};
 ghost use Rattle.tenant_messages.specs.Refusals.{Gives};
 ghost use Rattle.tenant_messages.specs.Reply.{reply};
 ghost use Rattle.tenant_state.specs.State.{TenantState};
 
 use crush_map::{Listed, Text};
 use crush_pool::Pool;
+use crush_report::DeviceChange;
 use std::alloc::{AllocError, Global};
 use std::rc::Rc;
 use tenant_messages::{Bytes, Problem, Refusal, Reply, answered, refused, repeated};
-use tenant_resources::{Accepted, DeviceChange, devices, maps, pools};
+use tenant_resources::{Accepted, devices, maps, pools};
 use tenant_state::{Change, Receipt, TenantState, is_repeat};
 
 /// What a changing request asks for.
@@ -71,8 +72,8 @@ fn with_receipt(
     accepted: Accepted,
 ) -> Result<(Option<Change>, Reply), AllocError>
     requires { has_float (view accepted.body) ≡ false }
-    ensures effect { IfOk result (λ p. effect_of p.0 ≡ (spec.carried_out command.now (Ok (accepted_of accepted))).effect) }
-    ensures reply { IfOk result (λ p. p.1 ≡ reply (spec.carried_out command.now (Ok (accepted_of accepted))).answer) }
+    ensures effect { IfOk result (λ p. effect_of p.0 ≡ (spec.change_or_refusal command.now (Ok (accepted_of accepted))).effect) }
+    ensures reply { IfOk result (λ p. p.1 ≡ reply (spec.change_or_refusal command.now (Ok (accepted_of accepted))).answer) }
 {
     let reply = answered(alloc, accepted.status, &accepted.body)?;
     let receipt = Receipt {

@@ -10,6 +10,7 @@ use crate::request::Action;
 use crate::{commands, tenants};
 use std::alloc::{AllocError, Global};
 use tenant_messages::{Problem, Reply, refused};
+use tenant_reports::{impact, moves, usage};
 use tenant_resources::{groups, maps, picks, rule_tests};
 use tenant_state::{Change, TenantState};
 
@@ -83,6 +84,13 @@ fn decide_present(
         }
         Action::Locate(pool, name) => {
             Ok(kept(groups::object_answer(alloc, *pool, name, state)?))
+        }
+        Action::ReportUsage(pool) => Ok(kept(usage::answer(alloc, *pool, state)?)),
+        Action::ReportMoves(pool, from, to) => {
+            Ok(kept(moves::answer(alloc, *pool, *from, *to, state)?))
+        }
+        Action::ReportImpact(pool, device) => {
+            Ok(kept(impact::answer(alloc, *pool, *device, state)?))
         }
         Action::Pick(pick) => Ok(kept(picks::answer(alloc, pick)?)),
         Action::Test(test) => Ok(kept(rule_tests::answer(alloc, test, state)?)),

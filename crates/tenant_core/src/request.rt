@@ -12,6 +12,7 @@ use crate::tenants::{self, TenantOperation};
 use crush_map::{Text, is_name};
 use std::alloc::{AllocError, Global};
 use tenant_messages::{CallParts, Problem, ReadError, Refusal};
+use tenant_reports::{device_csv, impact, moves, usage};
 use tenant_resources::{
     ObjectName, PickRequest, RuleTest, devices, groups, maps, picks, pools, rule_tests,
 };
@@ -23,10 +24,14 @@ pub enum Operation {
     Import,
     ReadVersion,
     ChangeDevices,
+    ChangeDevicesByCsv,
     CreatePool,
     RemovePool,
     ReadGroup,
     Locate,
+    ReportUsage,
+    ReportMoves,
+    ReportImpact,
     Pick,
     Test,
 }
@@ -43,6 +48,12 @@ pub enum Action {
     ReadGroup(u64, u64),
     /// In the pool with this number, the object with this name is looked for.
     Locate(u64, ObjectName),
+    /// How much of the pool with this number lies on each device.
+    ReportUsage(u64),
+    /// Which groups, of the pool with the first number, move from the version with the second to that with the third.
+    ReportMoves(u64, u64, u64),
+    /// Which groups, of the pool with the first number, the device with the second can touch.
+    ReportImpact(u64, u64),
     Pick(PickRequest),
     Test(RuleTest),
 }
@@ -74,10 +85,16 @@ fn operation_on(route: Route, method: &[u8]) -> Option<Operation>
         Route::Maps => maps::has_method(method).then_some(Operation::Import),
         Route::Version => maps::version_has_method(method).then_some(Operation::ReadVersion),
         Route::Devices => devices::has_method(method).then_some(Operation::ChangeDevices),
+        Route::DeviceCsv => {
+            device_csv::has_method(method).then_some(Operation::ChangeDevicesByCsv)
+        }
         Route::Pools => pools::has_method(method).then_some(Operation::CreatePool),
         Route::PoolRemoval => pools::has_method(method).then_some(Operation::RemovePool),
         Route::Group => groups::group_has_method(method).then_some(Operation::ReadGroup),
         Route::Locate => groups::locate_has_method(method).then_some(Operation::Locate),
+        Route::Usage => usage::has_method(method).then_some(Operation::ReportUsage),
+        Route::Moves => moves::has_method(method).then_some(Operation::ReportMoves),
+        Route::Impact => impact::has_method(method).then_some(Operation::ReportImpact),
         Route::Pick => picks::has_method(method).then_some(Operation::Pick),
         Route::Test => rule_tests::has_method(method).then_some(Operation::Test),
     }
@@ -134,6 +151,13 @@ fn read_devices(alloc: Global, target: &Target<'_, '_>, body: &[u8]) -> Result<A
     Ok(command(alloc, target, body, number, Order::ChangeDevices(changes))?)
 }
 
+fn read_device_csv(alloc: Global, target: &Target<'_, '_>, body: &[u8]) -> Result<Action, ReadError>
+    ensures { Reads (λ a. a) result (spec.action_of target.now Operation.ChangeDevicesByCsv body.now) }
+{
+    let (number, changes) = device_csv::read_changes(alloc, body)?;
+    Ok(command(alloc, target, body, number, Order::ChangeDevices(changes))?)
+}
+
 fn read_pool(alloc: Global, target: &Target<'_, '_>, body: &[u8]) -> Result<Action, ReadError>
     ensures { Reads (λ a. a) result (spec.action_of target.now Operation.CreatePool body.now) }
 {
@@ -163,6 +187,30 @@ fn read_object(alloc: Global, target: &Target<'_, '_>, body: &[u8]) -> Result<Ac
     Ok(Action::Locate(pool, groups::read_name(alloc, body)?))
 }
 
+fn read_usage(target: &Target<'_, '_>, body: &[u8]) -> Result<Action, ReadError>
+    ensures { Reads (λ a. a) result (spec.action_of target.now Operation.ReportUsage body.now) }
+{
+    let pool = path_number(target, "p").ok_or(ReadError::Malformed)?;
+    if_empty(body, Action::ReportUsage(pool))
+}
+
+fn read_moves(target: &Target<'_, '_>, body: &[u8]) -> Result<Action, ReadError>
+    ensures { Reads (λ a. a) result (spec.action_of target.now Operation.ReportMoves body.now) }
+{
+    let pool = path_number(target, "p").ok_or(ReadError::Malformed)?;
+    let from = path_number(target, "v").ok_or(ReadError::Malformed)?;
+    let to = path_number(target, "w").ok_or(ReadError::Malformed)?;
+    if_empty(body, Action::ReportMoves(pool, from, to))
+}
+
+fn read_impact(target: &Target<'_, '_>, body: &[u8]) -> Result<Action, ReadError>
+    ensures { Reads (λ a. a) result (spec.action_of target.now Operation.ReportImpact body.now) }
+{
+    let pool = path_number(target, "p").ok_or(ReadError::Malformed)?;
+    let device = path_number(target, "d").ok_or(ReadError::Malformed)?;
+    if_empty(body, Action::ReportImpact(pool, device))
+}
+
 /// The action of an operation: what the path and the body say.
 fn read_action(
     alloc: Global,
@@ -177,10 +225,14 @@ fn read_action(
         Operation::Import => read_import(alloc, target, body),
         Operation::ReadVersion => read_version(target, body),
         Operation::ChangeDevices => read_devices(alloc, target, body),
+        Operation::ChangeDevicesByCsv => read_device_csv(alloc, target, body),
         Operation::CreatePool => read_pool(alloc, target, body),
         Operation::RemovePool => read_removal(alloc, target, body),
         Operation::ReadGroup => read_group(target, body),
         Operation::Locate => read_object(alloc, target, body),
+        Operation::ReportUsage => read_usage(target, body),
+        Operation::ReportMoves => read_moves(target, body),
+        Operation::ReportImpact => read_impact(target, body),
         Operation::Pick => Ok(Action::Pick(picks::read_pick(alloc, body)?)),
         Operation::Test => Ok(Action::Test(rule_tests::read_test(alloc, body)?)),
     }

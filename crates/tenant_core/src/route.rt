@@ -12,6 +12,7 @@ use crush_words::number_from_text;
 use matchit::{InsertError, Params, Router};
 use std::alloc::{AllocError, Global};
 use std::marker::Model;
+use tenant_reports::{device_csv, impact, moves, usage};
 use tenant_resources::{devices, groups, maps, picks, pools, rule_tests};
 
 /// The routes: one for each thing that a path can name.
@@ -25,6 +26,8 @@ pub enum Route {
     Version,
     /// `/t/{t}/devices`
     Devices,
+    /// `/t/{t}/devices/csv`
+    DeviceCsv,
     /// `/t/{t}/pools`
     Pools,
     /// `/t/{t}/pools/remove`
@@ -33,6 +36,12 @@ pub enum Route {
     Group,
     /// `/t/{t}/pools/{p}/locate`
     Locate,
+    /// `/t/{t}/pools/{p}/usage`
+    Usage,
+    /// `/t/{t}/pools/{p}/moves/{v}/{w}`
+    Moves,
+    /// `/t/{t}/pools/{p}/impact/{d}`
+    Impact,
     /// `/t/{t}/pick`
     Pick,
     /// `/t/{t}/test`
@@ -57,10 +66,14 @@ impl Routes {
         insert(&mut router, maps::ROUTE, Route::Maps)?;
         insert(&mut router, maps::VERSION_ROUTE, Route::Version)?;
         insert(&mut router, devices::ROUTE, Route::Devices)?;
+        insert(&mut router, device_csv::ROUTE, Route::DeviceCsv)?;
         insert(&mut router, pools::ROUTE, Route::Pools)?;
         insert(&mut router, pools::REMOVAL_ROUTE, Route::PoolRemoval)?;
         insert(&mut router, groups::GROUP_ROUTE, Route::Group)?;
         insert(&mut router, groups::LOCATE_ROUTE, Route::Locate)?;
+        insert(&mut router, usage::ROUTE, Route::Usage)?;
+        insert(&mut router, moves::ROUTE, Route::Moves)?;
+        insert(&mut router, impact::ROUTE, Route::Impact)?;
         insert(&mut router, picks::ROUTE, Route::Pick)?;
         insert(&mut router, rule_tests::ROUTE, Route::Test)?;
         Ok(Routes { router })

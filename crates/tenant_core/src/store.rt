@@ -38,7 +38,7 @@ impl From<AllocError> for StoreFault {
 ///
 /// Two relations give a store its meaning. `is_honest`: what it reads is what it wrote. `has_state`: the state of a name. In an
 /// honest store each name has one state, or is absent, or has damaged data. Every clause of a call has the premise that the
-/// store is honest after the call; it then was honest before. A refused call changes nothing, and no call changes another name.
+/// store is honest after the call; it then was honest before. A call that fails changes nothing, and no call changes another name.
 pub trait TenantStore {
     /// What is read is what was written.
     ghost is_honest: { Self → Type 0 };

@@ -1,6 +1,7 @@
 -- What finds a value exactly where a JSON value is of a form and says it.
 use Rattle.std.proofs.Common.{◌≡◌, ◌↔◌, ℕ, ◌^◌, ◌&&◌, ◌≤◌, ℤ, pos, ◌≤ℤ◌, List, [], ◌∷◌, length, Bool, true, false, nat_lt, nat_le, int_le, if◌then◌else◌, Option, Some, None, is_some, option_and_then, refl, sym, ap, subst, ◌∙◌, arith}
-use Rattle.std.proofs.lemmas.Bool.Decides.{nat_tests}
+use Rattle.std.specs.Bool.{Decides}
+use Rattle.std.proofs.lemmas.Bool.Decides.{nat_tests, Decides-and}
 use Rattle.std.proofs.lemmas.Int.{ints}
 use Rattle.std.specs.List.{AllZip}
 use Rattle.serde_json.specs.Data.{Num, unsigned, negative, float, Data, null, boolean, number, string, array, object, Items, no_items, item}
@@ -8,6 +9,7 @@ use Rattle.serde_json.specs.Find.{get, as_bool, as_i64, as_integer, as_str}
 use Rattle.serde_json.specs.View.{items_of}
 use Rattle.tenant_messages.proofs.Objects.{AllFound, are_different, has_exactly, has_keys-exactly}
 use Rattle.tenant_messages.specs.Forms.{IsNatural, IsInteger, IsBoolean, IsText, IsListOf, HasExactly, IsUnder, IsJson}
+use Rattle.tenant_messages.specs.Numbers.{IsRequestNumber, has_length, request_number_of}
 use Rattle.tenant_messages.specs.Json.{value_of, natural_of, integer_of, both, all_three, each_of, list_of, has_keys, under}
 
 pub record Finds {A : Type 0} (f : Data → Option A) (Says : Data → A → Type 0) : Type 0 where
@@ -263,6 +265,18 @@ finds_tested {A} {f} {Says} test P holds passes finds = record {
 
 pub finds_as : {A : Type 0} {f : Data → Option A} {P Q : Data → A → Type 0} → ((d : Data) (a : A) → P d a → Q d a) → ((d : Data) (a : A) → Q d a → P d a) → Finds f P → Finds f Q
 finds_as to from finds = record { says = λ d a h. to d a (finds.says d a h); found = λ d a is. finds.found d a (from d a is) }
+
+-- ---- request numbers
+
+pub Decides-leb : (a b : ℕ) → Decides (nat_le a b) (a ≤ b)
+Decides-leb a b = (λ h. grind (arith, nat_tests), λ h. grind (arith, nat_tests))
+
+Decides-length : (text : List ℕ) → Decides (has_length text) ((1 ≤ length text) × (length text ≤ 64))
+Decides-length text = Decides-and (nat_le 1 (length text)) (nat_le (length text) 64) (Decides-leb 1 (length text)) (Decides-leb (length text) 64)
+
+pub finds_number : Finds request_number_of IsRequestNumber
+finds_number = finds_as (λ d n is. record { text = is.0; some = is.1.0; few = is.1.1 }) (λ d n is. (is.text, (is.some, is.few)))
+    (finds_tested has_length (λ t. (1 ≤ length t) × (length t ≤ 64)) (λ n. (Decides-length n).0) (λ n. (Decides-length n).1) finds_text)
 
 -- ---- bytes
 

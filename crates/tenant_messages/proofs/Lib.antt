@@ -2,3 +2,4 @@ pub mod Bodies
 pub mod Finding
 pub mod Objects
 pub mod OptionalKeys
+pub mod PlainSlots

@@ -1,5 +1,5 @@
 -- Forms: that a JSON value (RFC 8259) is of some form, and says some value.
-use Rattle.std.specs.Prelude.{◌≡◌, ℕ, ◌≤◌, ℤ, ◌≤ℤ◌, Bool, List, [], ◌∷◌, IsPermutation, Option, Some, None}
+use Rattle.std.specs.Prelude.{◌≡◌, ◌↔◌, ℕ, ◌≤◌, ℤ, ◌≤ℤ◌, Bool, List, [], ◌∷◌, IsPermutation, Option, Some, None}
 use Rattle.std.specs.List.{AllZip}
 use Rattle.serde_json.specs.Data.{Num, unsigned, Data, boolean, number, string, array, object, Members, no_members, member}
 use Rattle.serde_json.specs.Find.{get, as_integer}
@@ -71,3 +71,17 @@ pub record IsJson {A : Type 0} (Says : Data → A → Type 0) (bytes : List ℕ)
   pub value : Data
   pub read : value_of bytes ≡ Some value
   pub says : Says value a
+
+-- ---- reading values of a form
+
+-- a value is found exactly where the JSON says it
+abbrev pub FindsExactly : {A : Type 0} → (Data → Option A) → (Data → A → Type 0) → Type 0
+FindsExactly {A} find Says = (d : Data) (a : A) → (find d ≡ Some a) ↔ Says d a
+
+-- a value is read exactly where the bytes are JSON that says it
+abbrev pub ReadsExactly : {A : Type 0} → (List ℕ → Option A) → (Data → A → Type 0) → Type 0
+ReadsExactly {A} read Says = (bytes : List ℕ) (a : A) → (read bytes ≡ Some a) ↔ IsJson Says bytes a
+
+-- nothing is read exactly where the bytes say no value
+abbrev pub RefusesOthers : {A : Type 0} → (List ℕ → Option A) → (Data → A → Type 0) → Type 0
+RefusesOthers {A} read Says = (bytes : List ℕ) → (read bytes ≡ None) ↔ ((a : A) → ¬ IsJson Says bytes a)

@@ -5,3 +5,4 @@ pub mod Reply
 pub mod Refusals
 pub mod Numbers
 pub mod Reading
+pub mod Slots

@@ -4,6 +4,7 @@
 mod call;
 mod json;
 mod reply;
+mod slots;
 
 pub use call::{Bytes, Call, CallParts};
 pub use json::{
@@ -14,3 +15,4 @@ pub use reply::{
     Problem, Refusal, Reply, SuccessStatus, answered, created, error, no_memory, refused, repeated,
     success, written,
 };
+pub use slots::{ids_json, slot_json, slots_json};

@@ -1,5 +1,5 @@
 -- The answer where a pool is there: by the placement of the group, or by why there is none.
-use Rattle.std.proofs.Common.{◌≡◌, ◌∙◌, ◌==◌, ℕ, List, Option, Some, Result, Ok, Err, sym, ap, refl}
+use Rattle.std.proofs.Common.{◌≡◌, ◌∙◌, ◌==◌, ℕ, List, Some, Ok, Err, sym, ap}
 use Rattle.std.specs.Prelude.{find}
 use Rattle.serde_json.specs.Data.{Data}
 use Rattle.crush_pool.specs.Pools.{group_of}

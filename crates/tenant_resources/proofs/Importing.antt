@@ -1,15 +1,13 @@
 -- The import of a text.
-use Rattle.std.proofs.Common.{◌≡◌, ℕ, List, length, true, false, nat_le, is_some, Result, Ok, Err, refl}
+use Rattle.std.proofs.Common.{◌≡◌, ℕ, List, length, true, false, nat_le, is_some, Ok, Err, refl}
 use Rattle.std.specs.List.{list_all}
 use Rattle.serde_json.specs.Data.{Data}
 use Rattle.crush_grammar.specs.declared.code.TextFault.{TextFault}
 use Rattle.crush_map.specs.Map.{Map}
 use Rattle.crush_pool.specs.Placements.{rule_numbered}
 use Rattle.crush_text.specs.Reading.{map_of_text}
-use Rattle.tenant_resources.specs.Orders.{Accepted}
 use Rattle.tenant_resources.specs.Maps.{imported, import_reply}
 use Rattle.tenant_state.specs.State.{TenantState, NewVersion}
-use Rattle.tenant_messages.specs.declared.reply.Problem.{Problem}
 use Rattle.tenant_messages.specs.declared.reply.Problem.TheVariants.{RuleInUse, MapRefused}
 use Rattle.tenant_messages.specs.declared.reply.SuccessStatus.TheVariants.{Created}
 

@@ -6,7 +6,7 @@ use Rattle.std.proofs.lemmas.List.Folds.{list_all-map}
 pub all-of : {X Y : Type 0} (test : X → Bool) (of : Y → X) (ys : List Y) (xs : List X) → map of ys ≡ xs → list_all test xs ≡ list_all (λ y. test (of y)) ys
 all-of test of ys xs are = ap (list_all test) (sym are) ∙ list_all-map test of ys
 
-any-map : {X Y : Type 0} (test : X → Bool) (of : Y → X) (ys : List Y) → list_any test (map of ys) ≡ list_any (λ y. test (of y)) ys
+pub any-map : {X Y : Type 0} (test : X → Bool) (of : Y → X) (ys : List Y) → list_any test (map of ys) ≡ list_any (λ y. test (of y)) ys
 any-map test of [] = refl
 any-map test of (y ∷ ys) = ap (λ b. test (of y) || b) (any-map test of ys)
 

@@ -1,16 +1,11 @@
 -- The name of an object is read from a body exactly where the body has its form.
-use Rattle.std.proofs.Common.{◌≡◌, ℕ, ◌≤◌, List, [], ◌∷◌, length, nat_le, refl, arith}
-use Rattle.std.specs.Bool.{Decides}
+use Rattle.std.proofs.Common.{◌≤◌, [], ◌∷◌, length, nat_le, refl}
 use Rattle.std.specs.Prelude.{codes}
-use Rattle.std.proofs.lemmas.Bool.Decides.{nat_tests}
-use Rattle.tenant_messages.proofs.Finding.{Finds, finds_as, finds_object, finds_tested, finds_text, finds_under, is_there}
+use Rattle.tenant_messages.proofs.Finding.{Decides-leb, Finds, finds_as, finds_object, finds_tested, finds_text, finds_under, is_there}
 use Rattle.tenant_resources.specs.Groups.{IsLocateBody, name_of}
-
-Decides-short : (name : List ℕ) → Decides (nat_le (length name) 1024) (length name ≤ 1024)
-Decides-short name = (λ h. grind (arith, nat_tests), λ h. grind (arith, nat_tests))
 
 pub finds_name : Finds name_of IsLocateBody
 finds_name = finds_as (λ d n is. record { keys = is.0; name = is.1.0; few = is.1.1 }) (λ d n is. (is.keys, (is.name, is.few)))
     (finds_object (codes "name" ∷ []) refl (λ d n is. (is_there (codes "name") d n is.0, tt))
-    (finds_tested (λ n. nat_le (length n) 1024) (λ n. length n ≤ 1024) (λ n. (Decides-short n).0) (λ n. (Decides-short n).1)
+    (finds_tested (λ n. nat_le (length n) 1024) (λ n. length n ≤ 1024) (λ n. (Decides-leb (length n) 1024).0) (λ n. (Decides-leb (length n) 1024).1)
     (finds_under (codes "name") finds_text)))

@@ -1,12 +1,11 @@
 -- A pick is read from a body exactly where the body has the form of one.
-use Rattle.std.proofs.Common.{◌≡◌, ◌≢◌, ℕ, zero, suc, ◌^◌, ◌&&◌, ◌||◌, ◌==◌, ◌<◌, ◌≤◌, ℤ, pos, negsuc, List, [], ◌∷◌, length, Bool, true, false, not, nat_lt, nat_le, int_le, if◌then◌else◌, Option, Some, None, option_and_then, bytes_eq, refl, sym, ap, ◌∙◌, arith}
+use Rattle.std.proofs.Common.{◌≡◌, ◌≢◌, ℕ, zero, suc, ◌^◌, ◌&&◌, ◌||◌, ◌==◌, ◌<◌, ◌≤◌, ℤ, pos, negsuc, List, [], ◌∷◌, length, Bool, true, false, not, nat_lt, nat_le, int_le, if◌then◌else◌, Option, Some, None, option_and_then, bytes_eq, refl, ap, ◌∙◌, arith}
 use Rattle.std.specs.Bool.{Decides}
 use Rattle.std.specs.List.{All, AllPairs, list_any, list_all}
 use Rattle.std.specs.Prelude.{codes}
-use Rattle.std.proofs.lemmas.Bool.Decides.{nat_tests, Decides-and, Decides-by_and, Decides-eqb, Decides-like, Decides-ltb, Decides-not}
+use Rattle.std.proofs.lemmas.Bool.Decides.{Decides-and, Decides-by_and, Decides-eqb, Decides-like, Decides-ltb, Decides-not}
 use Rattle.std.proofs.lemmas.Int.{ints}
 use Rattle.std.proofs.lemmas.Slice.Eq.{bytes_eq-Decides}
-use Rattle.std.proofs.lemmas.List.Kept.{AllPairs-cons}
 use Rattle.serde_json.specs.Data.{Data}
 use Rattle.serde_json.specs.Find.{as_str}
 use Rattle.crush_bucket.specs.Bucket.{BucketView, Entry, total_weight, HasEqualWeights}
@@ -15,7 +14,8 @@ use Rattle.crush_map.specs.Weights.{has_equal_weights}
 use Rattle.crush_map.specs.declared.ItemId.{ItemId}
 use Rattle.crush_map.specs.declared.Kind.{Kind}
 use Rattle.crush_map.specs.declared.Kind.TheVariants.{Uniform, List as ListKind, Tree}
-use Rattle.tenant_messages.proofs.Finding.{Finds, finds_as, finds_both, finds_integer, finds_list, finds_natural, finds_object, finds_tested, finds_text, finds_three, finds_under, is_there}
+use Rattle.tenant_messages.proofs.Finding.{Finds, finds_as, finds_both, finds_integer, finds_list, finds_natural, finds_object, finds_tested, finds_text, finds_three, finds_under, is_there, Decides-leb}
+use Rattle.tenant_resources.proofs.Deciding.{Decides-distinct, Decides-none, Differ}
 use Rattle.tenant_resources.specs.Picks.{weighed, entry_of, is_of_item, are_distinct, kind_of, is_valid, bucket_of, pick_of, IsItem, IsBucket, IsPickBody}
 use Rattle.crush_map.specs.Kinds.{kind_name, kind_named}
 use Rattle.tenant_messages.specs.Forms.{IsText}
@@ -62,30 +62,8 @@ Decides-other : (i : ItemId) (e : Entry) → Decides (not (is_of_item i.0 e)) (e
 Decides-other i e =
     Decides-not (is_of_item i.0 e) (Decides-like (is_of_item i.0 e) (ap (λ z. record { 0 = z })) (ap (λ (j : ItemId). j.0)) (Decides-same i.0 e.0.0))
 
-Decides-none : (i : ItemId) (es : List Entry) → Decides (not (list_any (is_of_item i.0) es)) (All (λ e. e.0 ≢ i) es)
-Decides-none i es =
-    Decides-by_and (λ e. not (is_of_item i.0 e)) (λ e. e.0 ≢ i) (λ es. not (list_any (is_of_item i.0) es)) (Decides-other i) refl
-    (λ e es. neither (is_of_item i.0 e) (list_any (is_of_item i.0) es)) es
-  where
-    neither : (a b : Bool) → not (a || b) ≡ (not a && not b)
-    neither true b = refl
-    neither false b = refl
-
-abbrev Differ : Entry → Entry → Type 0
-Differ e f = e.0 ≢ f.0
-
-pairs-head : (e : Entry) (es : List Entry) → AllPairs Differ (e ∷ es) → All (λ (f : Entry). f.0 ≢ e.0) es
-pairs-head e es h k d below same = h 0 (suc k) d (omega arith) (omega arith) (sym same)
-
-pairs-tail : (e : Entry) (es : List Entry) → AllPairs Differ (e ∷ es) → AllPairs Differ es
-pairs-tail e es h i j d before below = h (suc i) (suc j) d (omega arith) (omega arith)
-
-Decides-distinct : (es : List Entry) → Decides (are_distinct es) (AllPairs Differ es)
-Decides-distinct [] = (λ h i j d before below. absurd (omega arith), λ h. refl)
-Decides-distinct (e ∷ es) =
-    Decides-like _ (λ is. AllPairs-cons Differ e es (λ k d below same. is.0 k d below (sym same)) is.1)
-    (λ is. (pairs-head e es is, pairs-tail e es is))
-    (Decides-and (not (list_any (is_of_item e.0.0) es)) (are_distinct es) (Decides-none e.0 es) (Decides-distinct es))
+abbrev item_of : Entry → ItemId
+item_of e = e.0
 
 like_first : (first : Entry) (es : List Entry) → All (λ (e : Entry). e.1.0 ≡ first.1.0) es → HasEqualWeights (first ∷ es)
 like_first first es rest zero d below = refl
@@ -98,9 +76,6 @@ Decides-equal (first ∷ es) =
     (Decides-by_and (λ (e : Entry). e.1.0 == first.1.0) (λ (e : Entry). e.1.0 ≡ first.1.0) (list_all (λ (e : Entry). e.1.0 == first.1.0))
     (λ e. Decides-eqb e.1.0 first.1.0) refl (λ e es. refl) es)
 
-Decides-leb : (a b : ℕ) → Decides (nat_le a b) (a ≤ b)
-Decides-leb a b = (λ h. grind (arith, nat_tests), λ h. grind (arith, nat_tests))
-
 Decides-if_uniform : (k : Kind) (b : Bool) (P : Type 0) → Decides b P → Decides (not (is_uniform k) || b) (k ≡ Uniform → P)
 Decides-if_uniform Uniform b P h = (λ yes same. h.0 yes, λ holds. h.1 (holds refl))
 Decides-if_uniform ListKind b P h = (λ yes same. cc, λ holds. refl)
@@ -109,7 +84,7 @@ Decides-if_uniform Tree b P h = (λ yes same. cc, λ holds. refl)
 record IsValid (b : BucketView) : Type 0 where
   some : 1 ≤ length b.entries
   few : length b.entries ≤ 1024
-  distinct : AllPairs Differ b.entries
+  distinct : AllPairs (Differ item_of) b.entries
   others : All (λ e. e.0 ≢ b.id) b.entries
   light : total_weight b.entries ≤ 4294967295
   equal : b.kind ≡ Uniform → HasEqualWeights b.entries
@@ -125,8 +100,8 @@ Decides-is_valid b =
     (Decides-and _ (nat_lt (total_weight b.entries) (2 ^ 32))
     (Decides-and (nat_lt 0 (length b.entries)) (nat_le (length b.entries) 1024) (Decides-leb 1 (length b.entries)) (Decides-leb (length b.entries) 1024))
     (Decides-ltb (total_weight b.entries) (2 ^ 32)))
-    (Decides-none b.id b.entries))
-    (Decides-distinct b.entries))
+    (Decides-none (is_of_item b.id.0) (λ e. e.0 ≢ b.id) (Decides-other b.id) b.entries))
+    (Decides-distinct item_of (λ e. is_of_item e.0.0) are_distinct (λ e f. Decides-other e.0 f) refl (λ e es. refl) b.entries))
     (Decides-if_uniform b.kind (has_equal_weights b.entries) (HasEqualWeights b.entries) (Decides-equal b.entries)))
   where
     less : total_weight b.entries < 2 ^ 32 → total_weight b.entries ≤ 4294967295

@@ -1,16 +1,15 @@
 -- A pool or the removal of one is read from a body exactly where the body has its form.
-use Rattle.std.proofs.Common.{◌≡◌, ◌∙◌, ℕ, List, [], ◌∷◌, Bool, true, false, nat_le, if◌then◌else◌, Option, Some, None, option_and_then, bytes_eq, refl, ap}
+use Rattle.std.proofs.Common.{◌≡◌, ◌∙◌, ℕ, ◌≤◌, List, [], ◌∷◌, Bool, true, false, nat_le, if◌then◌else◌, Option, Some, None, option_and_then, bytes_eq, refl, ap}
 use Rattle.std.specs.Prelude.{codes}
 use Rattle.std.proofs.lemmas.Slice.Eq.{bytes_eq-Decides}
 use Rattle.serde_json.specs.Data.{Data}
 use Rattle.serde_json.specs.Find.{as_str}
 use Rattle.crush_pool.specs.Pools.{is_pool, id_limit}
 use Rattle.crush_pool.specs.declared.pool.PoolParts.{PoolParts}
-use Rattle.tenant_messages.proofs.Finding.{Finds, finds_as, finds_boolean, finds_both, finds_natural, finds_object, finds_tested, finds_text, finds_under, is_there}
+use Rattle.tenant_messages.proofs.Finding.{Decides-leb, Finds, finds_as, finds_boolean, finds_both, finds_natural, finds_number, finds_object, finds_tested, finds_text, finds_under, is_there}
 use Rattle.tenant_messages.specs.Forms.{IsNatural, IsBoolean, IsText, IsUnder}
 use Rattle.tenant_messages.specs.Json.{both}
 use Rattle.tenant_messages.specs.Numbers.{IsRequestNumber}
-use Rattle.tenant_resources.proofs.TestForms.{finds_number}
 use Rattle.tenant_resources.specs.Pools.{IsPoolBody, IsRemovalBody, kind_text, kind_named, kind_of, pair, pool_with, number_under, named_of, sized_of, pool_of, removal_of}
 
 finds_pair : {A B : Type 0} {F : Data → Option A} {G : Data → Option B} {P : Data → A → Type 0} {Q : Data → B → Type 0}
@@ -133,5 +132,5 @@ finds_removal = finds_as
     (λ d a is. (is.keys, ((is.request, is.id), is.some)))
     (finds_object (codes "id" ∷ codes "request" ∷ []) refl
     (λ d a is. (is_there (codes "id") d a.1 is.0.1, (is_there (codes "request") d a.0 is.0.0, tt)))
-    (finds_tested (λ a. nat_le 1 a.1) (λ a. nat_le 1 a.1 ≡ true) (λ a h. h) (λ a h. h)
+    (finds_tested (λ a. nat_le 1 a.1) (λ a. 1 ≤ a.1) (λ a. (Decides-leb 1 a.1).0) (λ a. (Decides-leb 1 a.1).1)
     (finds_pair (finds_under (codes "request") finds_number) (finds_under (codes "id") (finds_natural id_limit)))))

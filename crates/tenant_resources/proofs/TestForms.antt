@@ -1,29 +1,15 @@
 -- An import or a rule test is read from a body exactly where the body has its form.
-use Rattle.std.proofs.Common.{◌≡◌, ℕ, ◌+◌, ◌&&◌, ◌≤◌, List, [], ◌∷◌, ◌++◌, length, Bool, true, nat_le, Option, Some, None, refl, ◌∙◌, ap, arith}
-use Rattle.std.specs.Bool.{Decides}
+use Rattle.std.proofs.Common.{◌≡◌, ℕ, ◌+◌, ◌≤◌, List, [], ◌∷◌, ◌++◌, length, true, nat_le, Option, Some, None, refl, ◌∙◌, ap}
 use Rattle.std.specs.Prelude.{codes}
-use Rattle.std.proofs.lemmas.Bool.Decides.{nat_tests, Decides-and}
-use Rattle.serde_json.specs.Data.{Data}
-use Rattle.tenant_messages.proofs.Finding.{Finds, finds_as, finds_both, finds_natural, finds_object, finds_object_with, finds_tested, finds_text, finds_under, is_there}
-use Rattle.tenant_messages.proofs.Objects.{AllFound, are_different}
+use Rattle.tenant_messages.proofs.Finding.{Decides-leb, Finds, finds_as, finds_both, finds_natural, finds_number, finds_object, finds_object_with, finds_tested, finds_text, finds_under, is_there}
+use Rattle.tenant_messages.proofs.Objects.{are_different}
 use Rattle.tenant_messages.proofs.OptionalKeys.{finds_optional, found_if_any, all_found-append, present-if_any}
 use Rattle.tenant_messages.specs.Forms.{IsNatural, if_any}
 use Rattle.tenant_messages.specs.Json.{present}
 use Rattle.tenant_resources.specs.Maps.{IsImportBody, import_of}
-use Rattle.tenant_messages.specs.Numbers.{IsRequestNumber, has_length, request_number_of}
-use Rattle.tenant_resources.specs.RuleTests.{RuleTest, IsTestBody, test_with, test_of}
-
-Decides-leb : (a b : ℕ) → Decides (nat_le a b) (a ≤ b)
-Decides-leb a b = (λ h. grind (arith, nat_tests), λ h. grind (arith, nat_tests))
+use Rattle.tenant_resources.specs.RuleTests.{IsTestBody, test_with, test_of}
 
 -- ---- imports
-
-Decides-length : (number : List ℕ) → Decides (has_length number) ((1 ≤ length number) × (length number ≤ 64))
-Decides-length number = Decides-and (nat_le 1 (length number)) (nat_le (length number) 64) (Decides-leb 1 (length number)) (Decides-leb (length number) 64)
-
-pub finds_number : Finds request_number_of IsRequestNumber
-finds_number = finds_as (λ d n is. record { text = is.0; some = is.1.0; few = is.1.1 }) (λ d n is. (is.text, (is.some, is.few)))
-    (finds_tested has_length (λ number. (1 ≤ length number) × (length number ≤ 64)) (λ n. (Decides-length n).0) (λ n. (Decides-length n).1) finds_text)
 
 pub finds_import : Finds import_of IsImportBody
 finds_import = finds_as (λ d a is. record { keys = is.0; request = is.1.0; text = is.1.1 }) (λ d a is. (is.keys, (is.request, is.text)))

@@ -8,6 +8,8 @@ use Rattle.crush_choose.specs.Weights.{reweight_of}
 use Rattle.crush_map.specs.Map.{Map}
 use Rattle.crush_pool.specs.States.{is_up, reweights}
 use Rattle.crush_pool.specs.declared.states.DeviceState.{DeviceState}
+use Rattle.crush_report.specs.Changes.{is_valid}
+use Rattle.crush_report.specs.declared.changes.DeviceChange.{DeviceChange}
 use Rattle.tenant_messages.specs.Forms.{IsNatural, IsBoolean, IsListOf, IsOptional, if_any, HasExactly, IsUnder}
 use Rattle.tenant_messages.specs.Json.{value_of, natural_of, both, list_of, has_keys, under, optional, present}
 use Rattle.tenant_messages.specs.Numbers.{IsRequestNumber, request_number_of}
@@ -16,7 +18,6 @@ use Rattle.tenant_messages.specs.declared.reply.Problem.{Problem}
 use Rattle.tenant_messages.specs.declared.reply.Problem.TheVariants.{NoVersion, NoDevice}
 use Rattle.tenant_messages.specs.declared.reply.SuccessStatus.TheVariants.{Done}
 use Rattle.tenant_resources.specs.Orders.{Accepted}
-use Rattle.tenant_resources.specs.declared.devices.DeviceChange.{DeviceChange}
 use Rattle.tenant_state.specs.State.{TenantState, NewStates, epoch, newest, version}
 
 -- ---- requests
@@ -60,17 +61,6 @@ change_of d =
     if has_keys (present (codes "reweight") d + (present (codes "up") d + 1)) d then
     option_and_then if_any_change (both change_with (under (codes "id") (natural_of 65535) d)
     (both (λ reweight up. (reweight, up)) (optional (codes "reweight") (natural_of 65536) d) (optional (codes "up") as_bool d))) else None
-
-abbrev pub is_of_device : ℕ → DeviceChange → Bool
-is_of_device device c = c.device == device
-
--- no device comes twice
-abbrev pub are_distinct : List DeviceChange → Bool
-are_distinct [] = true
-are_distinct (c ∷ cs) = not (list_any (is_of_device c.device) cs) && are_distinct cs
-
-abbrev pub is_valid : List DeviceChange → Bool
-is_valid cs = nat_le 1 (length cs) && nat_le (length cs) 1024 && are_distinct cs
 
 abbrev pub if_valid : List ℕ × List DeviceChange → Option (List ℕ × List DeviceChange)
 if_valid asked = if is_valid asked.1 then Some asked else None

@@ -1,5 +1,5 @@
 -- Groups of pools: at `/t/{t}/pools/{p}/groups/{g}` GET reads where a group lies, and at `/t/{t}/pools/{p}/locate` POST asks where an object lies.
-use Rattle.std.specs.Prelude.{◌≡◌, ℕ, ◌≤◌, List, [], ◌∷◌, length, map, Bool, nat_lt, nat_le, if◌then◌else◌, Option, Some, None, option_and_then, Result, Ok, Err, codes}
+use Rattle.std.specs.Prelude.{ℕ, ◌≤◌, List, [], ◌∷◌, length, map, Bool, nat_lt, nat_le, if◌then◌else◌, Option, Some, None, option_and_then, Result, Ok, Err, codes}
 use Rattle.std.specs.Str.{bytes_eq}
 use Rattle.serde_json.specs.Data.{Data, object}
 use Rattle.serde_json.specs.Find.{as_str}
@@ -14,7 +14,7 @@ use Rattle.tenant_messages.specs.Json.{value_of, has_keys, under}
 use Rattle.tenant_messages.specs.Reply.{Answer, refused, success, members_of, natural}
 use Rattle.tenant_messages.specs.declared.reply.Problem.{Problem}
 use Rattle.tenant_messages.specs.declared.reply.Problem.TheVariants.{NoVersion, NoPool, NoGroup, NoRule}
-use Rattle.tenant_resources.specs.Slots.{slot_json, list_json}
+use Rattle.tenant_messages.specs.Slots.{slot_json, list_json}
 use Rattle.tenant_state.specs.State.{TenantState, epoch, newest, version, pool}
 
 -- ---- requests

@@ -1,9 +1,7 @@
 pub mod Orders
-pub mod Slots
 pub mod Picks
 pub mod Maps
 pub mod RuleTests
 pub mod Devices
 pub mod Pools
 pub mod Groups
-pub mod Private

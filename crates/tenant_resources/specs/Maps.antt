@@ -7,7 +7,7 @@ use Rattle.serde_json.specs.Find.{as_str}
 use Rattle.crush_grammar.specs.declared.code.TextFault.{TextFault}
 use Rattle.crush_map.specs.Map.{Map}
 use Rattle.crush_pool.specs.Placements.{rule_numbered}
-use Rattle.crush_text.specs.Canonical.{canonical}
+use Rattle.crush_writing.specs.Canonical.{canonical}
 use Rattle.crush_text.specs.Reading.{map_of_text}
 use Rattle.tenant_resources.specs.Orders.{Accepted}
 use Rattle.tenant_messages.specs.Forms.{IsText, HasExactly, IsUnder}

@@ -1,6 +1,9 @@
 -- Orders: what changing requests ask for.
 use Rattle.serde_json.specs.Data.{Data}
+use Rattle.serde_json.specs.View.{view}
 use Rattle.tenant_messages.specs.declared.reply.SuccessStatus.{SuccessStatus}
+use Rattle.tenant_resources.specs.declared.accepted.Accepted as accepted
+use Rattle.tenant_state.specs.Made.{made_of}
 use Rattle.tenant_state.specs.State.{Made}
 
 -- an order that is accepted: what it makes, and the status and the body of its reply
@@ -8,3 +11,7 @@ pub record Accepted : Type 0 where
   pub made : Made
   pub status : SuccessStatus
   pub body : Data
+
+-- what the code keeps of one says
+abbrev pub accepted_of : accepted.Accepted → Accepted
+accepted_of a = record { made = made_of a.made; status = a.status; body = view a.body }

@@ -1,5 +1,5 @@
 -- Pools, at `/t/{t}/pools`: POST creates one. At `/t/{t}/pools/remove` POST removes one.
-use Rattle.std.specs.Prelude.{◌≡◌, ℕ, suc, ◌||◌, ◌==◌, List, [], ◌∷◌, length, Bool, true, false, nat_le, if◌then◌else◌, Option, Some, None, is_some, option_and_then, Result, Ok, Err, codes}
+use Rattle.std.specs.Prelude.{◌≡◌, ℕ, suc, ◌≤◌, ◌||◌, ◌==◌, List, [], ◌∷◌, length, Bool, true, false, nat_le, if◌then◌else◌, Option, Some, None, is_some, option_and_then, Result, Ok, Err, codes}
 use Rattle.std.specs.List.{list_all, list_any}
 use Rattle.std.specs.Str.{bytes_eq}
 use Rattle.serde_json.specs.Data.{Data, object}
@@ -53,12 +53,12 @@ pub record IsPoolBody (d : Data) (asked : List ℕ × PoolParts) : Type 0 where
   pub hashpspool : IsUnder (codes "hashpspool") IsBoolean d asked.1.hashpspool
   pub ranges : is_pool asked.1 ≡ true
 
--- {"id": 0..2147483647, "request": REQUEST}; no pool has the id 0
+-- {"id": 1..2147483647, "request": REQUEST}
 pub record IsRemovalBody (d : Data) (asked : List ℕ × ℕ) : Type 0 where
   pub keys : HasExactly (codes "id" ∷ codes "request" ∷ []) d
   pub request : IsUnder (codes "request") IsRequestNumber d asked.0
   pub id : IsUnder (codes "id") (IsNatural id_limit) d asked.1
-  pub some : nat_le 1 asked.1 ≡ true
+  pub some : 1 ≤ asked.1
 
 -- ---- reading a body: a pool is read exactly where the body has that form (laws `pools_are_of_the_form`, `removals_are_of_the_form`)
 

@@ -1,5 +1,5 @@
 -- Tests of rules, at `/t/{t}/test`: POST asks which items a rule of a version of the tenant's map gives for an input.
-use Rattle.std.specs.Prelude.{◌≡◌, ℕ, ◌≤◌, ◌+◌, List, [], ◌∷◌, ◌++◌, map, Bool, nat_le, if◌then◌else◌, Option, Some, None, option_and_then, unwrap_or, codes}
+use Rattle.std.specs.Prelude.{ℕ, ◌≤◌, ◌+◌, List, [], ◌∷◌, ◌++◌, map, Bool, nat_le, if◌then◌else◌, Option, Some, None, option_and_then, unwrap_or, codes}
 use Rattle.std.specs.Str.{bytes_eq}
 use Rattle.serde_json.specs.Data.{Data, object}
 use Rattle.crush_bucket.specs.Tables.{tables_of}
@@ -14,7 +14,7 @@ use Rattle.crush_pool.specs.States.{reweights}
 use Rattle.tenant_messages.specs.Forms.{IsNatural, IsOptional, if_any, HasExactly, IsUnder}
 use Rattle.tenant_messages.specs.Json.{value_of, natural_of, both, has_keys, under, optional, present}
 use Rattle.tenant_messages.specs.Reply.{Answer, refused, success, members_of, natural}
-use Rattle.tenant_resources.specs.Slots.{slot_json, list_json}
+use Rattle.tenant_messages.specs.Slots.{slot_json, list_json}
 use Rattle.tenant_state.specs.State.{TenantState, epoch, newest, version}
 use Rattle.tenant_messages.specs.declared.reply.Problem.TheVariants.{NoVersion, NoRule}
 

@@ -1,7 +1,7 @@
 //! States of devices, at `/t/{t}/devices`: POST changes reweights, and which devices are up.
 
 ghost use Rattle.std.specs.Prelude.{◌≡◌, ◌<◌, ◌≤◌, ◌^◌, false, IfOk, codes, length, map};
-ghost use Rattle.std.specs.List.{list_any, list_all};
+ghost use Rattle.std.specs.List.{list_all};
 ghost use Rattle.serde_json.specs.View.{view, items_view};
 ghost use Rattle.serde_json.specs.Written.{has_float};
 ghost use Rattle.crush_choose.specs.Weights.{reweight_of};
@@ -10,11 +10,12 @@ ghost use Rattle.tenant_messages.specs.Json as json;
 ghost use Rattle.tenant_messages.specs.Reading.{Reads};
 ghost use Rattle.tenant_messages.specs.Refusals.{Gives};
 ghost use Rattle.tenant_resources.specs.Devices as spec;
-ghost use Rattle.tenant_resources.specs.Private.Accepting.{accepted_of};
+ghost use Rattle.tenant_resources.specs.Orders.{accepted_of};
 
 use crate::accepted::Accepted;
 use crush_map::{Listed, Text};
 use crush_pool::DeviceState;
+use crush_report::{DeviceChange, is_valid};
 use serde_json::{Value, json};
 use std::alloc::{AllocError, Global};
 use tenant_messages::{
@@ -31,17 +32,6 @@ pub fn has_method(method: &[u8]) -> bool
     ensures { result ≡ spec.has_method method.now }
 {
     method == b"POST".as_slice()
-}
-
-/// What is asked of a device. What is missing stays as it is.
-#[derive(Clone, Copy, Debug, PartialEq, Eq)]
-pub struct DeviceChange {
-    /// The id of the device, 0..65535.
-    pub device: u32,
-    /// The new reweight in 16.16 fixed point, 0..65536.
-    pub reweight: Option<u32>,
-    /// Whether it is up.
-    pub up: Option<bool>,
 }
 
 // ---- the body
@@ -85,31 +75,6 @@ fn changes(alloc: Global, values: &[Value]) -> Result<Vec<DeviceChange>, ReadErr
         }
     }
     Ok(found)
-}
-
-fn contains(device: u32, changes: &[DeviceChange]) -> bool
-    ensures { result ≡ list_any (spec.is_of_device device) changes.now }
-{
-    changes.iter().any(|change| change.device == device)
-}
-
-fn are_distinct(changes: &[DeviceChange]) -> bool
-    ensures { result ≡ spec.are_distinct changes.now }
-{
-    let mut rest = changes;
-    while let [first, others @ ..] = rest {
-        if contains(first.device, others) {
-            return false;
-        }
-        rest = others;
-    }
-    true
-}
-
-fn is_valid(changes: &[DeviceChange]) -> bool
-    ensures { result ≡ spec.is_valid changes.now }
-{
-    !changes.is_empty() && changes.len() <= 1024 && are_distinct(changes)
 }
 
 fn changes_in(alloc: Global, value: &Value) -> Result<(Text, Listed<DeviceChange>), ReadError>

@@ -9,19 +9,17 @@ ghost use Rattle.tenant_messages.specs.Reading.{Reads};
 ghost use Rattle.tenant_messages.specs.Refusals.{Gives};
 ghost use Rattle.tenant_messages.specs.Reply.{reply};
 ghost use Rattle.tenant_resources.specs.Groups as spec;
-ghost use Rattle.tenant_resources.specs.Slots.{slot_json, list_json};
+ghost use Rattle.tenant_messages.specs.Slots.{slot_json, list_json};
 
-use crate::rules::rule_with_id;
-use crate::slots::{slot_json, slots_json};
 use crush_bucket::Scratch;
 use crush_hash::name_hash;
 use crush_map::{Rule, Text};
-use crush_pool::{Placement, Pool, place};
+use crush_pool::{Placement, Pool, place, rule_with_id};
 use serde_json::{Value, json};
 use std::alloc::{AllocError, Global};
 use std::marker::Model;
 use tenant_messages::{
-    Problem, ReadError, Refusal, Reply, has_keys, read_value, refused, success, text,
+    Problem, ReadError, Refusal, Reply, has_keys, read_value, refused, slot_json, slots_json, success, text,
 };
 use tenant_state::{Devices, TenantState, Version};
 

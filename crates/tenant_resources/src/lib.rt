@@ -9,11 +9,8 @@ pub mod maps;
 pub mod picks;
 pub mod pools;
 pub mod rule_tests;
-mod rules;
-mod slots;
 
 pub use accepted::Accepted;
-pub use devices::DeviceChange;
 pub use groups::ObjectName;
 pub use picks::{AskedBucket, PickRequest};
 pub use rule_tests::RuleTest;

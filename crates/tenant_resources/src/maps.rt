@@ -6,15 +6,14 @@ ghost use Rattle.crush_pool.specs.Placements.{rule_numbered};
 ghost use Rattle.serde_json.specs.View.{view};
 ghost use Rattle.serde_json.specs.Written.{has_float};
 ghost use Rattle.tenant_resources.specs.Maps as spec;
-ghost use Rattle.tenant_resources.specs.Private.Accepting.{accepted_of};
+ghost use Rattle.tenant_resources.specs.Orders.{accepted_of};
 ghost use Rattle.tenant_messages.specs.Reading.{Reads};
 ghost use Rattle.tenant_messages.specs.Refusals.{Gives};
 ghost use Rattle.tenant_messages.specs.Reply.{reply};
 
 use crate::accepted::Accepted;
-use crate::rules::rule_with_id;
 use crush_map::{CrushMap, Text};
-use crush_pool::Pool;
+use crush_pool::{Pool, rule_with_id};
 use crush_text::{read_map, texts_are_read_as_they_say};
 use serde_json::{Value, json};
 use std::alloc::{AllocError, Global};

@@ -9,12 +9,11 @@ ghost use Rattle.tenant_messages.specs.Json as json;
 ghost use Rattle.tenant_messages.specs.Reading.{Reads};
 ghost use Rattle.tenant_messages.specs.Refusals.{Gives};
 ghost use Rattle.tenant_resources.specs.Pools as spec;
-ghost use Rattle.tenant_resources.specs.Private.Accepting.{accepted_of};
+ghost use Rattle.tenant_resources.specs.Orders.{accepted_of};
 
 use crate::accepted::Accepted;
-use crate::rules::rule_with_id;
 use crush_map::Text;
-use crush_pool::{Pool, PoolParts};
+use crush_pool::{Pool, PoolParts, rule_with_id};
 use serde_json::{Value, json};
 use std::alloc::{AllocError, Global};
 use std::rc::Rc;

@@ -9,17 +9,16 @@ ghost use Rattle.tenant_messages.specs.Reading.{Reads};
 ghost use Rattle.tenant_messages.specs.Reply.{reply};
 ghost use Rattle.tenant_resources.specs.RuleTests as spec;
 
-use crate::rules::rule_with_id;
-use crate::slots::{ids_json, slots_json};
 use crush_bucket::Scratch;
 use crush_choose::laws::traces_ascend;
 use crush_choose::{Out, Slot, Weights, run_rule};
 use crush_map::Rule;
+use crush_pool::rule_with_id;
 use serde_json::{Value, json};
 use std::alloc::{AllocError, Global};
 use std::marker::Model;
 use tenant_messages::{
-    Problem, ReadError, Reply, has_keys, natural, optional_natural, read_value, refused, success,
+    Problem, ReadError, Reply, has_keys, ids_json, natural, optional_natural, read_value, refused, slots_json, success,
 };
 use tenant_state::{TenantState, Version};
 

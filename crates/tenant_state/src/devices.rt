@@ -6,7 +6,7 @@ ghost use Rattle.crush_pool.specs.States.{reweights};
 ghost use Rattle.tenant_state.specs.State.{with_state};
 
 use crush_choose::Weights;
-use crush_pool::{DeviceState, DeviceStates};
+use crush_pool::{DeviceState, DeviceStates, reweights_of};
 use std::alloc::{AllocError, Global};
 use std::marker::Model;
 
@@ -92,17 +92,6 @@ impl Devices {
         }
         Devices::of(alloc, states)
     }
-}
-
-/// The pairs of device and reweight.
-fn reweights_of(alloc: Global, states: &[DeviceState]) -> Result<Vec<(u32, u32)>, AllocError>
-    ensures { IfOk result (λ given. given.items ≡ reweights states.now) }
-{
-    let mut given = Vec::with_capacity(alloc, states.len())?;
-    for state in states {
-        given.push((state.device, state.reweight))?;
-    }
-    Ok(given)
 }
 
 /// The place of the first device whose id isn't below another.

@@ -1,7 +1,7 @@
 //! Versions of a tenant's map, each kept ready for use.
 
 ghost use Rattle.std.specs.Prelude.{◌≡◌, IfOk};
-ghost use Rattle.crush_text.specs.Canonical.{canonical};
+ghost use Rattle.crush_writing.specs.Canonical.{canonical};
 
 use crush_bucket::Tables;
 use crush_map::{CrushMap, Text};
@@ -21,7 +21,7 @@ impl Model for Version {
     ghost use Rattle.std.specs.Prelude.{◌≡◌};
     ghost use Rattle.crush_bucket.specs.Tables.{tables_of};
     ghost use Rattle.crush_map.specs.Map.{Map};
-    ghost use Rattle.crush_text.specs.Canonical.{canonical};
+    ghost use Rattle.crush_writing.specs.Canonical.{canonical};
 
     ghost Value = { Map };
 
@@ -36,7 +36,7 @@ impl Model for Version {
 impl Version {
     ghost use Rattle.std.specs.Prelude.{◌≡◌, IfOk};
     ghost use Rattle.crush_bucket.specs.Tables.{tables_of};
-    ghost use Rattle.crush_text.specs.Canonical.{canonical};
+    ghost use Rattle.crush_writing.specs.Canonical.{canonical};
 
     /// The version with this map.
     pub fn build(alloc: Global, map: CrushMap) -> Result<Self, AllocError>

@@ -5,7 +5,3 @@ use Rattle.crush_bucket.proofs.list.list_place.Given as goal
 abbrev pub invariant-loop-block : goal.invariant-loop-block
 invariant-loop-block l =
     greatest (takes l.id l.entries l.x l.r) (length l.entries) ≡ greatest (takes l.id l.entries l.x l.r) (length l.entries % 8 + 8 * l.block)
-
-abbrev pub invariant-loop-place : goal.invariant-loop-place
-invariant-loop-place l =
-    greatest (takes l.id l.entries l.x l.r) (length l.entries) ≡ greatest (takes l.id l.entries l.x l.r) l.place

@@ -1,5 +1,5 @@
 use Rattle.crush_map.specs.Map.{Map, IsMap, draft_of}
-use Rattle.crush_text.specs.Canonical.{canonical}
+use Rattle.crush_writing.specs.Canonical.{canonical}
 use Rattle.crush_text.specs.MapText.{IsTextOf}
 use Rattle.crush_text.proofs.Round.{is_text_of}
 use Rattle.crush_text.proofs.law.canonical_texts_are_read.Goals as goal

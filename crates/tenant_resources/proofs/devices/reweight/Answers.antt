@@ -1,4 +1,4 @@
-use Rattle.std.proofs.Common.{◌≡◌, ◌∙◌, ap}
+use Rattle.std.proofs.Common.{◌∙◌, ap}
 use Rattle.crush_choose.proofs.Padding.{weight_of}
 use Rattle.crush_choose.specs.Weights.{weight_at}
 use Rattle.crush_pool.specs.States.{reweights}

@@ -1,4 +1,4 @@
-use Rattle.std.proofs.Common.{◌≡◌, ◌∙◌, IfOk, Some, Ok, Err, ap, subst}
+use Rattle.std.proofs.Common.{◌≡◌, ◌∙◌, IfOk, Some, ap, subst}
 use Rattle.serde_json.specs.Written.{has_float}
 use Rattle.tenant_messages.specs.Reply.{reply}
 use Rattle.tenant_resources.proofs.GroupAnswers.{pool_there, group_refused, group_placed}

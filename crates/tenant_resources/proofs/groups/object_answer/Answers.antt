@@ -1,4 +1,4 @@
-use Rattle.std.proofs.Common.{◌≡◌, ◌∙◌, IfOk, Some, Ok, Err, ap, subst}
+use Rattle.std.proofs.Common.{◌≡◌, ◌∙◌, IfOk, Some, ap, subst}
 use Rattle.serde_json.specs.Written.{has_float}
 use Rattle.crush_pool.specs.Pools.{group_of}
 use Rattle.tenant_messages.specs.Reply.{reply}

@@ -1,6 +1,6 @@
-use Rattle.std.proofs.Common.{◌≡◌, ◌∙◌, ap}
+use Rattle.std.proofs.Common.{◌∙◌, ap}
 use Rattle.serde_json.specs.Written.{has_float}
-use Rattle.tenant_resources.proofs.Testing.{tested_plain}
+use Rattle.tenant_resources.proofs.PlainReplies.{tested_plain}
 use Rattle.tenant_resources.proofs.rule_tests.answer_on.Goals as goal
 
 pub success-requires : goal.success-requires

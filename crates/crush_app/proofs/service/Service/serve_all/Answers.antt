@@ -10,7 +10,7 @@ loop-call-preserved g c =
     let so_far = c.loop-call.invariant in
     let done = take c.loop-call.call-index c.args.calls.now in
     let replies = c.loop-call.replies.items in
-    let answers = rw c.parts.ensures at c.request-reply.ensures.answers in
+    let serves = rw c.parts.ensures at c.request-reply.ensures.serves in
     let calls_then : take (c.loop-call.call-index + 1) c.args.calls.now ≡ done ++ c.call-item.result ∷ [] =
     take_more c.args.calls.now c.loop-call.call-index c.call-item.result c.loop-call-test.true ∙ ap (λ (call : Call). done ++ call ∷ []) (sym c.call-item.is) in
     let replies_then : c.push.new.self.items ≡ replies ++ c.request-reply.result ∷ [] = rw c.if-is_err.ensures.negation at c.push.ensures.items in
@@ -18,7 +18,7 @@ loop-call-preserved g c =
       honest = λ h. so_far.honest (c.request-reply.ensures.honest h);
       meets = λ h. rw (calls_then, replies_then)
           (run_more (g.T.TenantStore.has_state c.args.self.now) (g.T.TenantStore.has_state c.loop-call.self) (g.T.TenantStore.has_state c.request-reply.new.self)
-          done replies c.call-item.result c.request-reply.result (so_far.meets (c.request-reply.ensures.honest h)) (answers h));
+          done replies c.call-item.result c.request-reply.result (so_far.meets (c.request-reply.ensures.honest h)) (serves h));
       room = omega (arith, c.push.ensures.capacity, so_far.room);
       count = rw replies_then (omega (arith, length-append replies (c.request-reply.result ∷ []), so_far.count));
     }

@@ -1,18 +1,10 @@
-use Rattle.std.proofs.Common.{◌≡◌, length, refl, arith, ap, ◌∙◌}
-use Rattle.std.proofs.lemmas.List.FromFn.{length-range_with_len}
-use Rattle.crush_bucket.proofs.Members.{range_more}
+use Rattle.std.proofs.Common.{ap, arith}
+use Rattle.crush_bucket.specs.Permutation.{Remembered}
+use Rattle.crush_bucket.proofs.Reaching.{new_is}
 use Rattle.crush_bucket.proofs.perm.Perm.build.Goals as goal
-
-pub loop-place-preserved : goal.loop-place-preserved
-loop-place-preserved c = let more = range_more c.loop-place.place in grind (arith, more)
 
 pub invariant_of-result : goal.invariant_of-result
 invariant_of-result c =
-    let len : length c.loop-place.members.items ≡ c.loop-place.place = ap length c.loop-place.invariant ∙ length-range_with_len 0 c.loop-place.place in
-    record { reached = (omega arith, rw len c.loop-place.invariant); small = omega arith }
-
-pub returns : goal.returns
-returns c =
-    let len : length c.loop-place.members.items ≡ c.loop-place.place = ap length c.loop-place.invariant ∙ length-range_with_len 0 c.loop-place.place in
-    let same : length c.loop-place.members.items ≡ c.args.size = omega arith in
-    rw same refl
+    let of = c.new.ensures.remembered in
+    let size = ap (λ (m : Remembered). m.of.size) of in
+    new_is c.new.result c.in_ok-row.row.items c.new.ensures.len (ap (λ (m : Remembered). m.swaps) of) (omega (arith, size, c.requires)) (omega (arith, size, c.room_of.ensures, c.in_ok-row.ensures))

@@ -1,0 +1,69 @@
+//! Four hashes at once, each in a lane of its own of every vector.
+
+ghost use Rattle.std.specs.Prelude.{◌≡◌, ℕ, ◌<◌, slice_index, bit_xor};
+ghost use Rattle.crush_hash.specs.Hash.{down, up, mix, hash3, lane};
+
+use crate::{SEED, X, Y};
+use std::simd::u32x4;
+
+/// Three words in each lane.
+type Lanes = (u32x4, u32x4, u32x4);
+
+/// A word in each lane.
+#[inline(always)]
+fn splat(word: u32) -> u32x4
+    ensures { (n : ℕ) → n < 4 → slice_index result n ≡ word }
+{
+    u32x4::splat(word)
+}
+
+#[inline(always)]
+fn xor(x: u32x4, y: u32x4) -> u32x4
+    ensures { (n : ℕ) → n < 4 → slice_index result n ≡ bit_xor (slice_index x n) (slice_index y n) }
+{
+    x ^ y
+}
+
+/// `x - y - z`, xor `z` shifted right.
+#[inline(always)]
+fn down(bits: u32, x: u32x4, y: u32x4, z: u32x4) -> u32x4
+    requires { bits < 32 }
+    ensures { (n : ℕ) → n < 4 → slice_index result n ≡ down bits (slice_index x n) (slice_index y n) (slice_index z n) }
+{
+    (x - y - z) ^ (z >> u32x4::splat(bits))
+}
+
+/// `x - y - z`, xor `z` shifted left.
+#[inline(always)]
+fn up(bits: u32, x: u32x4, y: u32x4, z: u32x4) -> u32x4
+    requires { bits < 32 }
+    ensures { (n : ℕ) → n < 4 → slice_index result n ≡ up bits (slice_index x n) (slice_index y n) (slice_index z n) }
+{
+    (x - y - z) ^ (z << u32x4::splat(bits))
+}
+
+/// Three words of each lane, mixed.
+#[inline(always)]
+fn mix(words: Lanes) -> Lanes
+    ensures { (n : ℕ) → n < 4 → lane n result ≡ mix (lane n words) }
+{
+    mixed!(words)
+}
+
+/// The hashes of three words, of which the third is another in each lane (`crush_hash32_3`).
+#[inline(always)]
+pub fn hash3_lanes(x: u32, id: u32, places: &[u32; 4]) -> [u32; 4]
+    ensures { (n : ℕ) → n < 4 → slice_index result n ≡ hash3 x id (slice_index places.now n) }
+{
+    let c = u32x4::from_array(*places);
+    let (a, b) = (splat(x), splat(id));
+    let h1 = xor(splat(SEED), a);
+    let h2 = xor(h1, b);
+    let h3 = xor(h2, c);
+    let p = mix((a, b, h3));
+    let q = mix((c, splat(X), p.2));
+    let s = mix((splat(Y), p.0, q.2));
+    let t = mix((p.1, q.1, s.2));
+    let u = mix((s.0, q.0, t.2));
+    u.2.to_array()
+}

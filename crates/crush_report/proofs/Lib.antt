@@ -1,0 +1,15 @@
+mod Gains
+mod Groups
+mod Items
+mod Moving
+mod OfMap
+mod Short
+mod Sums
+mod Tallies
+mod Ups
+pub mod DeviceTexts
+pub mod CsvTexts
+pub mod Reached
+pub mod ReadBack
+pub mod ValidChanges
+pub mod DeviceForms

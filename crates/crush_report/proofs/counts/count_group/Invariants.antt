@@ -1,0 +1,15 @@
+use Rattle.std.proofs.Common.{◌≡◌, ◌+◌, ◌<◌, ℕ, length, if◌then◌else◌}
+use Rattle.crush_choose.specs.Firstn.{has}
+use Rattle.crush_report.specs.Usage.{device_item}
+use Rattle.crush_report.specs.Private.Tallies.{count_at, HasRoom}
+use Rattle.crush_report.proofs.counts.count_group.Given as goal
+
+abbrev pub invariant-loop-rest : goal.invariant-loop-rest
+invariant-loop-rest l = record {
+  len : length l.counts ≡ length l.initial.counts;
+  room : HasRoom l.counts (length l.rest);
+  each : (id : ℕ) → id < length l.counts → count_at l.counts id + (if has l.rest (device_item id) then 1 else 0) ≡ count_at l.initial.counts id + (if has l.up (device_item id) then 1 else 0);
+}
+
+abbrev pub decreases-loop-rest : goal.decreases-loop-rest
+decreases-loop-rest l = length l.rest

@@ -1,0 +1,51 @@
+use Rattle.std.proofs.Common.{Bor, List, ℕ, ◌≤◌, ◌∙◌, ◌∷◌, [], sym, refl, arith, inl, inr, map, Some, length}
+use Rattle.std.proofs.lemmas.List.{length-append, length-map, map-append}
+use Rattle.csv.specs.Reading.{Reached, default_config, strip_bom}
+use Rattle.csv.specs.Records.{fields_of}
+use Rattle.csv.specs.declared.parser.State.TheVariants as st
+use Rattle.csv.proofs.ReadFacts.{rows-end, rows-more}
+use Rattle.crush_report.proofs.Reached.{all_are_first, reached_are_first}
+use Rattle.crush_report.proofs.csv_read.first_records.Goals as goal
+use Rattle.crush_report.proofs.csv_read.first_records.Goals.{in-None, in-Some+then-len-eq1026}
+
+pub loop-next-init : goal.loop-next-init
+unfolding Reached
+loop-next-init c =
+    let fr = c.from_reader-reader.ensures in
+    let h = c.has_headers.ensures in
+    let f = c.flexible.ensures in
+    let start = c.into_iter-next-iterator.ensures.into_iter_gives ∙ refl in
+    let rdr = c.into_byte_records-next-items.ensures.rdr in
+    let left = c.into_byte_records-next-items.ensures.left in
+    rw (start, rdr, c.new-found.ensures.items) (
+      rw (f, h) at fr.trim ∙ c.new.ensures.trim,
+      inr (inr (rw (f, h) at fr.has_headers, fr.headers)),
+      left,
+      rw (f, h) at fr.config ∙ c.new.ensures.config,
+      omega arith,
+      strip_bom c.args.text.now,
+      fr.source,
+      (sym fr.state, refl),
+    )
+
+pub loop-next-preserved : goal.loop-next-preserved
+loop-next-preserved c =
+    let inv = c.loop-next.invariant in
+    let s = rw (c.in-Some.is, c.in-Ok.is) at ((c.next.ensures.steps inv.2 inv.0).0 inv.1) in
+    let items = c.in_ok-push.ensures.items in
+    let few : length c.push.new.self.items ≤ 1026 = rw (items, length-append c.loop-next.found.items (c.in-Ok.row ∷ [])) (omega (arith, inv.4, c.len.ensures, c.if-len-eq1026.false)) in
+    let m = rows-more (λ (s : Bor (List ℕ)). Some s.now) c.loop-next.next-iterator.rdr c.next.new.self.rdr (fields_of c.in-Ok.row) default_config st.StartRecord (strip_bom c.args.text.now) inv.5 (map fields_of c.loop-next.found.items) inv.3 inv.6 inv.7 s.0 in
+    (s.0.3 ∙ inv.0, inl s.1, s.2, s.0.2 ∙ inv.3, few, m.0, m.1, rw (items, map-append fields_of c.loop-next.found.items (c.in-Ok.row ∷ [])) m.2)
+
+pub returns : goal.returns
+returns c =
+    let inv = c.loop-next.invariant in
+    let count = length-map c.loop-next.found.items fields_of in
+    elim c.match-next.branch [
+      | in-None w ↦
+          let s = rw w.in-None.is at ((c.next.ensures.steps inv.2 inv.0).0 inv.1) in
+          let last = rows-end (λ (s : Bor (List ℕ)). Some s.now) c.loop-next.next-iterator.rdr c.next.new.self.rdr [] default_config inv.5 inv.3 inv.6 s in
+          all_are_first 1026 (map fields_of c.loop-next.found.items) (strip_bom c.args.text.now) (rw count inv.4) (c.loop-next.next-iterator.rdr.state, inv.5, inv.7, last)
+      | in-Some+then-len-eq1026 w ↦
+          reached_are_first 1026 (map fields_of c.loop-next.found.items) c.loop-next.next-iterator.rdr.state (strip_bom c.args.text.now) inv.5 (omega (arith, count, w.len.ensures, w.if-len-eq1026.true)) inv.7
+    ]

@@ -1,0 +1,8 @@
+pub mod Usage
+pub mod Moves
+pub mod Impact
+pub mod Reports
+pub mod Csv
+pub mod Changes
+pub mod DeviceCsv
+pub mod Private

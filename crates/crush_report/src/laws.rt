@@ -1,0 +1,37 @@
+//! Laws of the definitions, as contracts of functions that do nothing.
+
+ghost use Rattle.std.specs.Prelude.{◌≡◌, ◌≢◌, ◌↔◌, ◌<◌, ◌≤◌, ℕ, List, [], map, not, true, Some};
+ghost use Rattle.crush_map.specs.Faults.{has_number};
+ghost use Rattle.crush_map.specs.Map.{Map};
+ghost use Rattle.crush_map.specs.declared.draft.Rule.{Rule};
+ghost use Rattle.crush_choose.specs.Marks.{Slot};
+ghost use Rattle.crush_choose.specs.Weights.{weight_at, weights_of};
+ghost use Rattle.crush_pool.specs.States.{reweights};
+ghost use Rattle.crush_pool.specs.declared.pool.PoolParts.{PoolParts};
+ghost use Rattle.crush_pool.specs.declared.states.DeviceState.{DeviceState};
+ghost use Rattle.crush_report.specs.Moves.{same_slots, move_rows};
+ghost use Rattle.crush_report.specs.Reports.{groups, raw_by, impact_by, moves};
+ghost use Rattle.crush_report.specs.declared.rows.MoveRow.{MoveRow};
+
+use crush_choose::stability::a_changed_answer_has_a_lowered_device_in_its_trace;
+use crush_choose::laws::traces_ascend;
+
+/// A group has a row in `moves` exactly where its up lists differ, and from a map to itself no group moves.
+pub fn groups_move_where_their_lists_differ()
+    ensures same { (first second : List Slot) → same_slots first second ≡ true ↔ first ≡ second }
+    ensures rows { (old new : ℕ → List Slot) (p : PoolParts) (group : ℕ) → group < p.pg_num
+        → has_number (map (λ row. row.group) (move_rows old new (groups p))) group ≡ not (same_slots (old group) (new group)) }
+    ensures itself { (m : Map) (states : List DeviceState) (p : PoolParts) (rows : List MoveRow) → moves m m states p ≡ Some rows → rows ≡ [] }
+{}
+
+/// A group whose raw list changes when reweights of devices are lowered is in the impact list of one of the lowered devices, by the reweights of
+/// before. It says nothing on raised reweights and on devices that go down or up; and a group in such a list need not move.
+pub fn groups_that_move_are_in_an_impact_list()
+    ensures { (m : Map) (states lowered : List DeviceState) (p : PoolParts) (rule : Rule) (group : ℕ) → group < p.pg_num
+        → ((device : ℕ) → weight_at (weights_of (reweights lowered)) device ≤ weight_at (weights_of (reweights states)) device)
+        → raw_by m lowered p rule group ≢ raw_by m states p rule group
+        → (device : ℕ) × (weight_at (weights_of (reweights lowered)) device < weight_at (weights_of (reweights states)) device) × (has_number (impact_by m states p device rule) group ≡ true) }
+{
+    a_changed_answer_has_a_lowered_device_in_its_trace();
+    traces_ascend();
+}

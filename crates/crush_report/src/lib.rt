@@ -1,0 +1,29 @@
+//! Reports on a pool: how much of it lies on each device, which groups move to other devices on another map, and which groups a device can touch;
+//! reports as CSV, and changes of devices from CSV.
+//!
+//! Its tests are in the crate `pool_tests`.
+#![tactic(auto)]
+
+mod changes;
+mod counts;
+mod csv_laws;
+mod csv_read;
+mod csv_write;
+pub mod laws;
+mod moved_groups;
+mod placing;
+mod reports;
+mod rows;
+mod touched_groups;
+mod usage_counts;
+pub mod usage_laws;
+
+pub use changes::{DeviceChange, are_distinct, contains, is_valid};
+pub use csv_laws::{device_csvs_are_of_the_form, reports_are_read_back};
+pub use csv_read::{CsvFault, read_device_csv};
+pub use csv_write::{moves_csv, usage_csv};
+pub use moved_groups::{gained_in, moves_with};
+pub use reports::{impact, moves, usage};
+pub use rows::{MoveRow, UsageRow};
+pub use touched_groups::impact_with;
+pub use usage_counts::usage_with;

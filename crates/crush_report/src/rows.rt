@@ -1,0 +1,32 @@
+//! The rows of reports.
+
+use crush_choose::Slot;
+use crush_map::Listed;
+
+/// How much of a pool lies on a device.
+#[derive(Clone, Copy, Debug, PartialEq, Eq)]
+pub struct UsageRow {
+    /// The id of the device.
+    pub device: u32,
+    /// How many groups have it in their up list.
+    pub groups: u32,
+    /// How many entries of up lists it is.
+    pub entries: u32,
+    /// Of how many groups it is the primary.
+    pub primaries: u32,
+    /// Its entries in thousandths of all entries of up lists that aren't none, rounded down; 0 where there is none.
+    pub permille: u32,
+}
+
+/// A group that lies on other devices on a second map than on a first.
+#[derive(Drop)]
+pub struct MoveRow {
+    /// The group.
+    pub group: u32,
+    /// How many devices are in the new up list and not in the old one.
+    pub gained: usize,
+    /// Its up list on the first map.
+    pub old: Listed<Slot>,
+    /// Its up list on the second map.
+    pub new: Listed<Slot>,
+}

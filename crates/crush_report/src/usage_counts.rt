@@ -1,0 +1,194 @@
+//! How much of a pool lies on each device.
+
+ghost use Rattle.std.specs.Prelude.{◌≡◌, ◌<◌, ◌≤◌, ◌*◌, ◌^◌, ℕ, List, Some, IfOk, length, map, nat_lt, true};
+ghost use Rattle.std.specs.List.{list_all};
+ghost use Rattle.crush_map.specs.Map.{Map};
+ghost use Rattle.crush_bucket.specs.Tables.{tables_of};
+ghost use Rattle.crush_choose.specs.Rules.{CanRun};
+ghost use Rattle.crush_choose.specs.Marks.{Slot};
+ghost use Rattle.crush_choose.specs.Weights.{weights_of};
+ghost use Rattle.crush_pool.specs.Placements.{primary_of, rule_numbered};
+ghost use Rattle.crush_pool.specs.States.{flags_of, reweights};
+ghost use Rattle.crush_pool.specs.declared.states.DeviceState.{DeviceState};
+ghost use Rattle.crush_report.specs.Private.Tallies.{IsTally, count_at, row_by};
+ghost use Rattle.crush_report.specs.Usage as spec;
+ghost use Rattle.crush_report.specs.Reports.{groups, up_list, usage};
+
+use crate::counts::{count_entries, count_group, count_slot, filled};
+use crate::placing::placement_of;
+use crate::rows::UsageRow;
+use crush_bucket::{Scratch, Tables};
+use crush_choose::{Out, Slot, Weights};
+use crush_map::{Device, Listed, Rule};
+use crush_pool::{DeviceStates, Pool};
+use std::alloc::{AllocError, Global};
+use std::marker::Model;
+
+/// What is counted of some up lists: three counts for each device below a bound, by its id, and how many entries aren't none.
+#[derive(Drop)]
+struct Tally {
+    groups: Vec<u32>,
+    entries: Vec<u32>,
+    primaries: Vec<u32>,
+    filled: u32,
+}
+
+impl Model for Tally {
+    ghost use Rattle.crush_report.specs.Private.Tallies.{TallyView};
+
+    ghost Value = { TallyView };
+
+    ghost view = { λ a. record { groups = a.groups.items; entries = a.entries.items; primaries = a.primaries.items; filled = a.filled } };
+}
+
+impl Tally {
+    ghost use Rattle.std.specs.Prelude.{◌≡◌, ◌<◌, ◌≤◌, ◌+◌, ◌*◌, ◌^◌, ℕ, List, [], ◌∷◌, ◌++◌, IfOk, length};
+    ghost use Rattle.crush_choose.specs.Marks.{Slot};
+    ghost use Rattle.crush_pool.specs.Placements.{primary_of};
+    ghost use Rattle.crush_report.specs.Private.Tallies.{IsTally, HasRoom, count_at, row_by};
+    ghost use Rattle.crush_report.specs.Usage as spec;
+
+    /// No list counted, for the devices with ids below a bound.
+    fn new(alloc: Global, bound: usize) -> Result<Tally, AllocError>
+        ensures { IfOk result (λ t. IsTally bound [] t) }
+    {
+        Ok(Tally {
+            groups: vec![in alloc; 0; bound]?,
+            entries: vec![in alloc; 0; bound]?,
+            primaries: vec![in alloc; 0; bound]?,
+            filled: 0,
+        })
+    }
+
+    /// Counts one more up list with its primary.
+    fn add(&mut self, up: &[Slot], primary: Slot)
+        requires short { length up.now ≤ 32 }
+        requires groups { HasRoom self.old.groups 32 }
+        requires entries { HasRoom self.old.entries 32 }
+        requires primaries { HasRoom self.old.primaries 32 }
+        requires filled { self.old.filled + 32 < 2 ^ 32 }
+        ensures { (bound : ℕ) (ups : List (List Slot)) → primary ≡ primary_of up.now → IsTally bound ups self.old → IsTally bound (ups ++ up.now ∷ []) self.new }
+    {
+        count_group(&mut self.groups, up);
+        count_entries(&mut self.entries, up);
+        count_slot(&mut self.primaries, primary);
+        self.filled += filled(up);
+    }
+
+    /// The row of a device.
+    fn row(&self, device: u32) -> UsageRow
+        requires { (id : ℕ) → 1000 * count_at self.now.entries id < 2 ^ 32 }
+        ensures { result ≡ row_by self.now device }
+    {
+        let entries = count_of(&self.entries, device);
+        UsageRow {
+            device,
+            groups: count_of(&self.groups, device),
+            entries,
+            primaries: count_of(&self.primaries, device),
+            permille: permille(entries, self.filled),
+        }
+    }
+}
+
+/// The count of a device; 0 past the end.
+fn count_of(counts: &[u32], device: u32) -> u32
+    ensures { result ≡ count_at counts.now device }
+{
+    match counts.get(device as usize) {
+        Some(count) => *count,
+        None => 0,
+    }
+}
+
+/// A part in thousandths of the whole, rounded down; 0 of nothing.
+fn permille(part: u32, whole: u32) -> u32
+    requires { 1000 * part < 2 ^ 32 }
+    ensures { result ≡ spec.permille part whole }
+{
+    if whole == 0 { 0 } else { 1000 * part / whole }
+}
+
+/// A number above the id of each device.
+fn bound_of(devices: &[Device]) -> usize
+    ensures { list_all (λ d. nat_lt d.id result) devices.now ≡ true }
+{
+    let mut rest = devices;
+    let mut bound: usize = 0;
+    while let [device, others @ ..] = rest {
+        bound = bound.max(device.id as usize + 1);
+        rest = others;
+    }
+    bound
+}
+
+/// What is counted of the up lists of all groups of a pool.
+#[tactic(auto, using(crate::proofs::Groups::lists_more))]
+fn tally_of(
+    alloc: Global,
+    bound: usize,
+    tables: &Tables,
+    pool: &Pool,
+    rule: &Rule,
+    weights: &Weights,
+    states: &DeviceStates,
+) -> Result<Tally, AllocError>
+    requires rule { CanRun tables.now rule.now }
+    ensures few { IfOk result (λ t. (id : ℕ) → 1000 * count_at t.entries id < 2 ^ 32) }
+    ensures tally { IfOk result (λ t. IsTally bound (map (up_list tables.now weights.now states.now rule.now.steps pool.now) (groups pool.now)) t) }
+{
+    let mut scratch = Scratch::build(alloc, tables)?;
+    let mut out = Out::build(alloc)?;
+    let mut tally = Tally::new(alloc, bound)?;
+    for group in 0..pool.parts().pg_num {
+        let placement = placement_of(
+            alloc,
+            tables,
+            &mut scratch,
+            pool,
+            rule,
+            weights,
+            states,
+            group,
+            &mut out,
+        )?;
+        tally.add(placement.up.as_slice(), placement.primary);
+    }
+    Ok(tally)
+}
+
+/// A row for each device, in the order of the devices.
+fn rows_of(alloc: Global, devices: &[Device], tally: &Tally) -> Result<Listed<UsageRow>, AllocError>
+    requires { (id : ℕ) → 1000 * count_at tally.now.entries id < 2 ^ 32 }
+    ensures { IfOk result (λ rows. rows ≡ map (λ d. row_by tally.now d.id) devices.now) }
+{
+    let mut rows = Vec::with_capacity(alloc, devices.len())?;
+    for device in devices {
+        rows.push(tally.row(device.id))?;
+    }
+    Ok(Listed::new(rows))
+}
+
+/// How much of a pool lies on each device, in the order of the devices, on prepared tables.
+///
+/// The devices are the map's, and the rule is the one of the map that the pool names; weights and states are those of the same states of
+/// devices.
+pub fn usage_with(
+    alloc: Global,
+    devices: &[Device],
+    tables: &Tables,
+    pool: &Pool,
+    rule: &Rule,
+    weights: &Weights,
+    states: &DeviceStates,
+) -> Result<Listed<UsageRow>, AllocError>
+    requires rule { CanRun tables.now rule.now }
+    ensures rows { IfOk result (λ rows. rows ≡ spec.usage_rows devices.now (map (up_list tables.now weights.now states.now rule.now.steps pool.now) (groups pool.now))) }
+    ensures map { (m : Map) (given : List DeviceState) → devices.now ≡ m.devices → tables.now ≡ tables_of m → weights.now ≡ weights_of (reweights given) → states.now ≡ flags_of given
+        → rule_numbered m pool.now.rule ≡ Some rule.now → IfOk result (λ rows. Some rows ≡ usage m given pool.now) }
+{
+    let bound = bound_of(devices);
+    let tally = tally_of(alloc, bound, tables, pool, rule, weights, states)?;
+    let rows = rows_of(alloc, devices, &tally)?;
+    Ok(rows)
+}

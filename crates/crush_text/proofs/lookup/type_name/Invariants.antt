@@ -1,6 +1,0 @@
-use Rattle.std.proofs.Common.{◌≡◌, drop}
-use Rattle.crush_text.specs.Canonical.{type_name}
-use Rattle.crush_text.proofs.lookup.type_name.Given as goal
-
-abbrev pub invariant-loop-declared : goal.invariant-loop-declared
-invariant-loop-declared l = type_name (drop l.declared-index l.types) l.number ≡ type_name l.types l.number

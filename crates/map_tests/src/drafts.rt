@@ -1,0 +1,177 @@
+//! Drafts of maps, written shortly.
+
+use crush_map::{
+    Bucket, Device, ItemId, Kind, Listed, MapDraft, Rule, Step, Text, Tunables, TypeName, Weight,
+};
+use std::alloc::{AllocError, Global};
+
+/// The weight 1.0.
+pub const ONE: u32 = 65_536;
+
+/// The tunables that Ceph has from its release Jewel on.
+pub const JEWEL: Tunables = Tunables {
+    total_tries: 50,
+    descend_once: 1,
+    vary_r: 1,
+    stable: 1,
+};
+
+/// The steps of a rule that answers nothing.
+pub const EMIT: &[Step] = &[Step::Emit];
+
+/// A choose step: whether it is firstn, whether it is chooseleaf, its count, and the number of the wanted type.
+#[macro_export]
+macro_rules! choose {
+    ($firstn:expr, $leaf:expr, $n:expr, $wanted:expr) => {
+        crush_map::Step::Choose {
+            firstn: $firstn,
+            leaf: $leaf,
+            n: $n,
+            wanted: $wanted,
+        }
+    };
+}
+
+pub use crate::choose;
+
+/// A bucket: its id, its name, the number of its type, its kind, and its items with their weights.
+pub type ShortBucket<'a> = (i32, &'a str, u32, Kind, &'a [(i32, u32)]);
+
+/// A rule: its id, its name and its steps.
+pub type ShortRule<'a> = (u32, &'a str, &'a [Step]);
+
+/// A draft, written shortly.
+#[derive(Clone, Copy)]
+pub struct Short<'a> {
+    pub types: &'a [(u32, &'a str)],
+    pub devices: &'a [(u32, &'a str)],
+    pub buckets: &'a [ShortBucket<'a>],
+    pub rules: &'a [ShortRule<'a>],
+    /// choose_local_tries and choose_local_fallback_tries.
+    pub local_tries: (u32, u32),
+    pub tunables: Tunables,
+}
+
+/// A map without buckets and rules.
+pub const SOUND: Short<'static> = Short {
+    types: &[(1, "host"), (0, "osd"), (10, "root"), (3, "rack")],
+    devices: &[(3, "osd.3"), (0, "osd.0")],
+    buckets: &[],
+    rules: &[],
+    local_tries: (0, 0),
+    tunables: JEWEL,
+};
+
+fn types(alloc: Global, short: &[(u32, &str)]) -> Result<Listed<TypeName>, AllocError> {
+    let mut types = Vec::new(alloc);
+    for (number, name) in short {
+        let name = Text::copy(alloc, name)?;
+        types.push(TypeName {
+            number: *number,
+            name,
+        })?;
+    }
+    Ok(Listed::new(types))
+}
+
+fn devices(alloc: Global, short: &[(u32, &str)]) -> Result<Listed<Device>, AllocError> {
+    let mut devices = Vec::new(alloc);
+    for (id, name) in short {
+        let name = Text::copy(alloc, name)?;
+        devices.push(Device { id: *id, name })?;
+    }
+    Ok(Listed::new(devices))
+}
+
+/// Items with their weights.
+pub fn entries(alloc: Global, short: &[(i32, u32)]) -> Result<Vec<(ItemId, Weight)>, AllocError> {
+    let mut entries = Vec::new(alloc);
+    for (id, weight) in short {
+        entries.push((ItemId(*id), Weight(*weight)))?;
+    }
+    Ok(entries)
+}
+
+fn buckets(alloc: Global, short: &[ShortBucket<'_>]) -> Result<Listed<Bucket>, AllocError> {
+    let mut buckets = Vec::new(alloc);
+    for (id, name, kind_of, alg, items) in short {
+        let name = Text::copy(alloc, name)?;
+        buckets.push(Bucket {
+            id: ItemId(*id),
+            name,
+            kind_of: *kind_of,
+            alg: *alg,
+            items: Listed::new(entries(alloc, items)?),
+        })?;
+    }
+    Ok(Listed::new(buckets))
+}
+
+fn rules(alloc: Global, short: &[ShortRule<'_>]) -> Result<Listed<Rule>, AllocError> {
+    let mut rules = Vec::new(alloc);
+    for (id, name, steps) in short {
+        let name = Text::copy(alloc, name)?;
+        rules.push(Rule {
+            id: *id,
+            name,
+            erasure: false,
+            steps: Listed::new(steps.to_vec(alloc)?),
+        })?;
+    }
+    Ok(Listed::new(rules))
+}
+
+/// The draft that is written so.
+pub fn draft(alloc: Global, short: Short<'_>) -> Result<MapDraft, AllocError> {
+    Ok(MapDraft {
+        types: types(alloc, short.types)?,
+        devices: devices(alloc, short.devices)?,
+        buckets: buckets(alloc, short.buckets)?,
+        rules: rules(alloc, short.rules)?,
+        local_tries: short.local_tries.0,
+        local_fallback_tries: short.local_tries.1,
+        tunables: short.tunables,
+    })
+}
+
+/// A draft with these buckets, and with the devices from 0 on.
+pub fn generated(
+    alloc: Global,
+    short: Short<'_>,
+    count: u32,
+    buckets: Listed<Bucket>,
+) -> Result<MapDraft, AllocError> {
+    let mut devices = Vec::new(alloc);
+    for id in 0..count {
+        let name = Text::new(format!(in alloc; "osd.{id}")?);
+        devices.push(Device { id, name })?;
+    }
+    let rules = rules(alloc, short.rules)?;
+    Ok(MapDraft {
+        types: types(alloc, short.types)?,
+        devices: Listed::new(devices),
+        buckets,
+        rules,
+        local_tries: 0,
+        local_fallback_tries: 0,
+        tunables: short.tunables,
+    })
+}
+
+/// A bucket that is named by its id.
+pub fn bucket(
+    alloc: Global,
+    id: i32,
+    kind_of: u32,
+    alg: Kind,
+    items: &[(i32, u32)],
+) -> Result<Bucket, AllocError> {
+    let name = Text::new(format!(in alloc; "bucket{id}")?);
+    Ok(Bucket {
+        id: ItemId(id),
+        name,
+        kind_of,
+        alg,
+        items: Listed::new(entries(alloc, items)?),
+    })
+}

@@ -1,0 +1,3 @@
+mod CsvForms
+mod PlainReplies
+mod Texts

@@ -1,0 +1,61 @@
+-- Which groups of a pool a device can touch: at `/t/{t}/pools/{p}/impact/{d}` GET reads those in whose trace it is, on the newest version.
+use Rattle.std.specs.Prelude.{ℕ, ◌==◌, List, [], ◌∷◌, map, Bool, Option, Some, None, Result, Ok, Err, codes, if◌then◌else◌}
+use Rattle.std.specs.Option.{ok_or}
+use Rattle.std.specs.Str.{bytes_eq}
+use Rattle.serde_json.specs.Data.{Data, object}
+use Rattle.crush_map.specs.Map.{Map}
+use Rattle.crush_map.specs.declared.draft.Device.{Device}
+use Rattle.crush_pool.specs.declared.pool.PoolParts.{PoolParts}
+use Rattle.crush_report.specs.Reports.{impact}
+use Rattle.tenant_messages.specs.Reply.{Answer, refused, success, members_of, natural}
+use Rattle.tenant_messages.specs.Slots.{list_json}
+use Rattle.tenant_messages.specs.declared.reply.Problem.{Problem}
+use Rattle.tenant_messages.specs.declared.reply.Problem.TheVariants.{NoVersion, NoPool, NoDevice, NoRule}
+use Rattle.tenant_state.specs.State.{TenantState, epoch, newest, version, pool}
+
+-- ---- requests
+
+abbrev pub route : List ℕ
+route = codes "/t/{t}/pools/{p}/impact/{d}"
+
+-- whether the route has this method
+abbrev pub has_method : List ℕ → Bool
+has_method method = bytes_eq method (codes "GET")
+
+-- ---- the answer
+
+-- {"device": d, "epoch": E, "groups": [..], "pool": p, "version": V}
+abbrev pub impact_reply : TenantState → ℕ → ℕ → List ℕ → Data
+impact_reply state id device groups =
+    object (members_of ((codes "device", natural device) ∷ (codes "epoch", natural (epoch state)) ∷ (codes "groups", list_json (map natural groups))
+    ∷ (codes "pool", natural id) ∷ (codes "version", natural (newest state)) ∷ []))
+
+-- the id of the device with a number, if there is one
+abbrev pub id_of : List Device → ℕ → Option ℕ
+id_of [] number = None
+id_of (d ∷ devices) number = if d.id == number then Some d.id else id_of devices number
+
+-- the groups that the device with an id can touch
+abbrev pub on_device : TenantState → PoolParts → Map → Option ℕ → Result (List ℕ) Problem
+on_device state p m None = Err NoDevice
+on_device state p m (Some device) = ok_or (impact m state.devices p device) NoRule
+
+-- the device has to be one of the newest version, which has the pool's rule (law `pools_have_their_rules`)
+abbrev pub on_version : TenantState → PoolParts → ℕ → Option Map → Result (List ℕ) Problem
+on_version state p device None = Err NoVersion
+on_version state p device (Some m) = on_device state p m (id_of m.devices device)
+
+abbrev pub groups_of : TenantState → PoolParts → ℕ → Result (List ℕ) Problem
+groups_of state p device = on_version state p device (version (newest state) state)
+
+abbrev pub answered : TenantState → ℕ → ℕ → Result (List ℕ) Problem → Answer
+answered state id device (Err problem) = refused problem
+answered state id device (Ok groups) = success (impact_reply state id device groups)
+
+abbrev pub impact_on : TenantState → ℕ → Option PoolParts → Answer
+impact_on state device None = refused NoPool
+impact_on state device (Some p) = answered state p.id device (groups_of state p device)
+
+-- the groups of the pool with an id that a device can touch
+abbrev pub impact_answer : ℕ → ℕ → TenantState → Answer
+impact_answer id device state = impact_on state device (pool id state)

@@ -1,0 +1,5 @@
+pub mod Usage
+pub mod Moves
+pub mod Impact
+pub mod DeviceCsv
+pub mod Private

@@ -1,0 +1,59 @@
+-- Which groups of a pool move between two versions: at `/t/{t}/pools/{p}/moves/{v}/{w}` GET reads those whose up lists differ.
+use Rattle.std.specs.Prelude.{ℕ, List, [], ◌∷◌, length, map, Bool, Option, Some, None, Result, Ok, Err, codes}
+use Rattle.std.specs.Option.{ok_or}
+use Rattle.std.specs.Str.{bytes_eq}
+use Rattle.serde_json.specs.Data.{Data, object}
+use Rattle.crush_map.specs.Map.{Map}
+use Rattle.crush_pool.specs.declared.pool.PoolParts.{PoolParts}
+use Rattle.crush_report.specs.Moves.{gained_in}
+use Rattle.crush_report.specs.Reports.{moves}
+use Rattle.crush_report.specs.declared.rows.MoveRow.{MoveRow}
+use Rattle.tenant_messages.specs.Reply.{Answer, refused, success, members_of, natural}
+use Rattle.tenant_messages.specs.Slots.{slot_json, list_json}
+use Rattle.tenant_messages.specs.declared.reply.Problem.{Problem}
+use Rattle.tenant_messages.specs.declared.reply.Problem.TheVariants.{NoVersion, NoPool, NoRule}
+use Rattle.tenant_state.specs.State.{TenantState, epoch, version, pool}
+
+-- ---- requests
+
+abbrev pub route : List ℕ
+route = codes "/t/{t}/pools/{p}/moves/{v}/{w}"
+
+-- whether the route has this method
+abbrev pub has_method : List ℕ → Bool
+has_method method = bytes_eq method (codes "GET")
+
+-- ---- the answer
+
+-- {"gained": .., "group": g, "new": [..], "old": [..]}
+abbrev pub row_json : MoveRow → Data
+row_json row =
+    object (members_of ((codes "gained", natural row.gained) ∷ (codes "group", natural row.group) ∷ (codes "new", list_json (map slot_json row.new))
+    ∷ (codes "old", list_json (map slot_json row.old)) ∷ []))
+
+-- {"epoch": E, "from": v, "gained": the sum of the rows', "moved": how many rows, "pool": p, "rows": [ROW, ..], "to": w}
+abbrev pub moves_reply : TenantState → ℕ → ℕ → ℕ → List MoveRow → Data
+moves_reply state id from to rows =
+    object (members_of ((codes "epoch", natural (epoch state)) ∷ (codes "from", natural from) ∷ (codes "gained", natural (gained_in rows))
+    ∷ (codes "moved", natural (length rows)) ∷ (codes "pool", natural id) ∷ (codes "rows", list_json (map row_json rows)) ∷ (codes "to", natural to) ∷ []))
+
+-- both versions have to be there, and to have the pool's rule
+abbrev pub on_versions : TenantState → PoolParts → Option Map → Option Map → Result (List MoveRow) Problem
+on_versions state p None second = Err NoVersion
+on_versions state p (Some first) None = Err NoVersion
+on_versions state p (Some first) (Some second) = ok_or (moves first second state.devices p) NoRule
+
+abbrev pub rows_of : TenantState → PoolParts → ℕ → ℕ → Result (List MoveRow) Problem
+rows_of state p from to = on_versions state p (version from state) (version to state)
+
+abbrev pub answered : TenantState → ℕ → ℕ → ℕ → Result (List MoveRow) Problem → Answer
+answered state id from to (Err problem) = refused problem
+answered state id from to (Ok rows) = success (moves_reply state id from to rows)
+
+abbrev pub moves_on : TenantState → ℕ → ℕ → Option PoolParts → Answer
+moves_on state from to None = refused NoPool
+moves_on state from to (Some p) = answered state p.id from to (rows_of state p from to)
+
+-- the groups of the pool with an id that move from a version to another
+abbrev pub moves_answer : ℕ → ℕ → ℕ → TenantState → Answer
+moves_answer id from to state = moves_on state from to (pool id state)

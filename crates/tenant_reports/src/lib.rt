@@ -1,0 +1,10 @@
+//! Requests for reports on a pool, and changes of states of devices as CSV: a file for each.
+//!
+//! Its tests are in the crate `service_tests`.
+#![tactic(auto)]
+
+pub mod device_csv;
+pub mod impact;
+pub mod laws;
+pub mod moves;
+pub mod usage;

@@ -1,0 +1,257 @@
+//! Which groups of a pool move between two versions: at `/t/{t}/pools/{p}/moves/{v}/{w}` GET reads those whose up lists differ.
+
+ghost use Rattle.std.specs.Prelude.{◌≡◌, ◌≤◌, ◌++◌, Some, IfOk, OnOk, map, string_bytes};
+ghost use Rattle.std.specs.Fmt.{decimal};
+ghost use Rattle.serde_json.specs.View.{view};
+ghost use Rattle.serde_json.specs.Written.{comma_if, compact_text};
+ghost use Rattle.crush_bucket.specs.Tables.{tables_of};
+ghost use Rattle.crush_choose.specs.Rules.{CanRun};
+ghost use Rattle.crush_pool.specs.Placements.{rule_numbered};
+ghost use Rattle.crush_report.specs.Moves.{gained_in};
+ghost use Rattle.crush_report.specs.Reports.{moves};
+ghost use Rattle.tenant_messages.specs.Refusals.{Gives};
+ghost use Rattle.tenant_messages.specs.Reply.{reply, success};
+ghost use Rattle.tenant_messages.specs.Slots.{list_json};
+ghost use Rattle.tenant_reports.specs.Moves as spec;
+ghost use Rattle.tenant_reports.specs.Private.Pieces.{head_text};
+
+use crush_map::{Listed, Rule, Text};
+use crush_pool::{Pool, rule_with_id};
+use crush_report::{MoveRow, gained_in, moves_with};
+use serde_json::{Value, json};
+use std::alloc::{AllocError, Global};
+use tenant_messages::{Problem, Refusal, Reply, refused, slots_json};
+use tenant_state::{Devices, TenantState, Version};
+
+/// The route of moves.
+pub const ROUTE: &str = "/t/{t}/pools/{p}/moves/{v}/{w}";
+
+/// Whether the route has this method.
+pub fn has_method(method: &[u8]) -> bool
+    ensures { result ≡ spec.has_method method.now }
+{
+    method == b"GET".as_slice()
+}
+
+// ---- the groups that move
+
+/// The rows between two versions, with these states of devices.
+fn rows_between(
+    alloc: Global,
+    from: &Version,
+    to: &Version,
+    devices: &Devices,
+    pool: &Pool,
+    first: &Rule,
+    second: &Rule,
+) -> Result<Listed<MoveRow>, AllocError>
+    requires first { rule_numbered from.now pool.now.rule ≡ Some first.now }
+    requires first_runs { CanRun (tables_of from.now) first.now }
+    requires second { rule_numbered to.now pool.now.rule ≡ Some second.now }
+    requires second_runs { CanRun (tables_of to.now) second.now }
+    ensures rows { IfOk result (λ rows. moves from.now to.now devices.now pool.now ≡ Some rows) }
+    ensures gained { IfOk result (λ rows. gained_in rows ≤ 2097152) }
+{
+    moves_with(
+        alloc,
+        from.tables(),
+        first,
+        to.tables(),
+        second,
+        pool,
+        devices.weights(),
+        devices.flags(),
+    )
+}
+
+/// The rows between the versions with two numbers, or why there are none.
+fn rows_of(
+    alloc: Global,
+    state: &TenantState,
+    pool: &Pool,
+    from: u64,
+    to: u64,
+) -> Result<Listed<MoveRow>, Refusal>
+    ensures rows { Gives (λ rows. rows) result (spec.rows_of state.now pool.now from to) }
+    ensures gained { IfOk result (λ rows. gained_in rows ≤ 2097152) }
+{
+    let Some(before) = state.version(from) else {
+        return Err(Refusal::Problem(Problem::NoVersion));
+    };
+    let Some(after) = state.version(to) else {
+        return Err(Refusal::Problem(Problem::NoVersion));
+    };
+    let Some(first) = rule_with_id(before.map(), pool.parts().rule) else {
+        return Err(Refusal::Problem(Problem::NoRule));
+    };
+    let Some(second) = rule_with_id(after.map(), pool.parts().rule) else {
+        return Err(Refusal::Problem(Problem::NoRule));
+    };
+    Ok(rows_between(
+        alloc,
+        before,
+        after,
+        state.devices(),
+        pool,
+        first,
+        second,
+    )?)
+}
+
+// ---- the answer
+
+fn row_json(alloc: Global, row: &MoveRow) -> Result<Value, AllocError>
+    ensures { IfOk result (λ v. view v ≡ spec.row_json row.now) }
+{
+    let new = slots_json(alloc, row.new.as_slice())?;
+    let old = slots_json(alloc, row.old.as_slice())?;
+    json!(in alloc; {
+        "gained": row.gained as u64,
+        "group": row.group,
+        "new": new,
+        "old": old
+    })
+}
+
+#[tactic(auto, using(crate::proofs::PlainReplies::move_plain))]
+fn row_text(alloc: Global, row: &MoveRow) -> Result<String, AllocError>
+    ensures { IfOk result (λ text. string_bytes text ≡ compact_text (spec.row_json row.now)) }
+{
+    let value = row_json(alloc, row)?;
+    value.to_string(alloc)
+}
+
+/// Puts a row at the end of a text, behind a comma if another is before it.
+fn push_row(
+    alloc: Global,
+    text: &mut String,
+    later: bool,
+    row: &MoveRow,
+) -> Result<(), AllocError>
+    ensures { OnOk result (string_bytes text.new ≡ string_bytes text.old ++ (comma_if later ++ compact_text (spec.row_json row.now))) }
+{
+    if later {
+        text.push_str(",")?;
+    }
+    text.push_str(row_text(alloc, row)?.as_str())?;
+    Ok(())
+}
+
+/// The rows as a JSON list. Each row's value is gone before the next is made: a tree of all of them would take many times the memory of their text.
+#[tactic(auto, using(crate::proofs::Texts::row_more))]
+fn rows_text(alloc: Global, rows: &[MoveRow]) -> Result<String, AllocError>
+    ensures { IfOk result (λ text. string_bytes text ≡ compact_text (list_json (map spec.row_json rows.now))) }
+{
+    let mut text = String::new(alloc);
+    text.push_str("[")?;
+    let mut later = false;
+    let mut rest = rows;
+    while let [row, others @ ..] = rest {
+        push_row(alloc, &mut text, later, row)?;
+        later = true;
+        rest = others;
+    }
+    text.push_str("]")?;
+    Ok(text)
+}
+
+/// Puts a text and a number at the end of a text.
+fn push_number(
+    alloc: Global,
+    text: &mut String,
+    before: &str,
+    number: u64,
+) -> Result<(), AllocError>
+    ensures { OnOk result (string_bytes text.new ≡ string_bytes text.old ++ (before.now ++ decimal number)) }
+{
+    let digits = format!(in alloc; "{}", number)?;
+    text.push_str(before)?;
+    text.push_str(digits.as_str())?;
+    Ok(())
+}
+
+/// The body of the reply, up to the list of rows.
+fn head_text(
+    alloc: Global,
+    epoch: u64,
+    from: u64,
+    gained: u64,
+    moved: usize,
+    id: u32,
+) -> Result<String, AllocError>
+    ensures { IfOk result (λ text. string_bytes text ≡ head_text epoch from gained moved id) }
+{
+    let mut text = String::new(alloc);
+    push_number(alloc, &mut text, "{\"epoch\":", epoch)?;
+    push_number(alloc, &mut text, ",\"from\":", from)?;
+    push_number(alloc, &mut text, ",\"gained\":", gained)?;
+    push_number(alloc, &mut text, ",\"moved\":", moved as u64)?;
+    push_number(alloc, &mut text, ",\"pool\":", u64::from(id))?;
+    Ok(text)
+}
+
+/// The body of the reply.
+#[tactic(auto, using(crate::proofs::Texts::body_by_pieces))]
+fn moves_text(
+    alloc: Global,
+    state: &TenantState,
+    id: u32,
+    from: u64,
+    to: u64,
+    rows: &[MoveRow],
+) -> Result<String, AllocError>
+    requires { gained_in rows.now ≤ 2097152 }
+    ensures { IfOk result (λ text. string_bytes text ≡ compact_text (spec.moves_reply state.now id from to rows.now)) }
+{
+    let gained = gained_in(rows);
+    let mut text = head_text(alloc, state.epoch(), from, gained, rows.len(), id)?;
+    let list = rows_text(alloc, rows)?;
+    text.push_str(",\"rows\":")?;
+    text.push_str(list.as_str())?;
+    push_number(alloc, &mut text, ",\"to\":", to)?;
+    text.push_str("}")?;
+    Ok(text)
+}
+
+/// The reply with rows.
+#[tactic(auto, unfolding(tenant_messages::specs::Reply::reply))]
+fn moves_reply(
+    alloc: Global,
+    state: &TenantState,
+    id: u32,
+    from: u64,
+    to: u64,
+    rows: &[MoveRow],
+) -> Result<Reply, AllocError>
+    requires { gained_in rows.now ≤ 2097152 }
+    ensures { IfOk result (λ r. r ≡ reply (success (spec.moves_reply state.now id from to rows.now))) }
+{
+    let text = moves_text(alloc, state, id, from, to, rows)?;
+    Ok(Reply {
+        status: 200,
+        body: Text::new(text),
+    })
+}
+
+/// The reply with the groups, of the pool with an id, that move between the versions with two numbers.
+pub fn answer(
+    alloc: Global,
+    id: u64,
+    from: u64,
+    to: u64,
+    state: &TenantState,
+) -> Result<Reply, AllocError>
+    ensures { IfOk result (λ r. r ≡ reply (spec.moves_answer id from to state.now)) }
+{
+    let Some(pool) = state.pools().get(id) else {
+        return refused(alloc, Problem::NoPool);
+    };
+    match rows_of(alloc, state, pool, from, to) {
+        Err(Refusal::Problem(problem)) => refused(alloc, problem),
+        Err(Refusal::NoMemory) => Err(AllocError),
+        Ok(rows) => {
+            let written = moves_reply(alloc, state, pool.parts().id, from, to, rows.as_slice())?;
+            Ok(written)
+        }
+    }
+}

@@ -1,7 +1,0 @@
-use Rattle.std.proofs.Common.{◌≡◌, take}
-use Rattle.crush_pool.specs.States.{reweights}
-use Rattle.tenant_state.proofs.devices.reweights_of.Given as goal
-
--- the pairs of the states so far
-abbrev pub invariant-loop-state : goal.invariant-loop-state
-invariant-loop-state l = l.given.items ≡ reweights (take l.state-index l.states)
