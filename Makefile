@@ -16,6 +16,7 @@ help:
 	@echo 'make gate      the same with every edit that must fail'
 	@echo 'make wrong     tries the edits of the crates that changed, or of CRATES="NAME..", and records what refused them;'
 	@echo '               CRATES="--from build" records what the last make test or make gate tried'
+	@echo 'make form      formats the sources of each crate; make test refuses what is not in this form'
 	@echo 'make install   builds, and installs PREFIX/bin/crushcalc (PREFIX=/usr/local)'
 	@echo 'make ceph-check   compares 176,000 mappings by requests, 154,000 with reweights and 93 name hashes with those of Ceph'"'"'s own library,'
 	@echo '               74,592 placements of groups with those of its osdmaptool, impacts with what its crushtool moves, and map texts with its crushtool'
@@ -78,6 +79,9 @@ gate: tools
 wrong: tools
 	@RT='$(RT)' python3 tests/wrong $(CRATES)
 
+form: tools
+	@for crate in crates/*; do (cd "$$crate" && $(RT) fmt) || exit 1; done
+
 install: build
 	@echo 'Installing $(DESTDIR)$(PREFIX)/bin/crushcalc'
 	@install -d '$(DESTDIR)$(PREFIX)/bin'
@@ -108,4 +112,4 @@ clean:
 	@echo 'Removing ./crushcalc, build/ and crates/*/out; the next build proves everything anew.'
 	@rm -rf crushcalc build crates/*/out
 
-.PHONY: build help tools try run test gate wrong install serve ceph-check bench bench-deps clean
+.PHONY: build help tools try run test gate wrong form install serve ceph-check bench bench-deps clean

@@ -19,10 +19,7 @@ pub struct DeviceState {
 }
 
 /// The pairs of device and reweight.
-pub fn reweights_of(
-    alloc: Global,
-    states: &[DeviceState],
-) -> Result<Vec<(u32, u32)>, AllocError>
+pub fn reweights_of(alloc: Global, states: &[DeviceState]) -> Result<Vec<(u32, u32)>, AllocError>
     ensures { IfOk result (λ given. given.items ≡ spec.reweights states.now) }
 {
     let mut given = Vec::with_capacity(alloc, states.len())?;

@@ -81,10 +81,10 @@ rows_from : (old new : ℕ → List Slot) (a n group : ℕ) → a ≤ group → 
 rows_from old new a zero group le lt = absurd (omega (arith, le, lt))
 rows_from old new a (suc n) group le lt = elim (cases_eq a group) [
   | inl e ↦ (let head = take_head (same_slots (old a) (new a)) a group (old a) (new a) (move_rows old new (range_with_len (a + 1) n)) (eq-eqb a group e)
-                (none_below old new (a + 1) n group (omega (arith, e))) in
-            head ∙ rw e refl)
+      (none_below old new (a + 1) n group (omega (arith, e))) in
+      head ∙ rw e refl)
   | inr other ↦ (skip_head (same_slots (old a) (new a)) a group (old a) (new a) (move_rows old new (range_with_len (a + 1) n)) (ne_eqb a group other)
-                ∙ rows_from old new (a + 1) n group (omega (arith, le, other)) (omega (arith, lt)))
+      ∙ rows_from old new (a + 1) n group (omega (arith, le, other)) (omega (arith, lt)))
 ]
 
 pub row_where_moved : (old new : ℕ → List Slot) (n group : ℕ) → group < n

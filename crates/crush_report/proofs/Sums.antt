@@ -87,7 +87,7 @@ each_counted slot ids ascending [] are = sum_zero ids
 each_counted {X} slot ids ascending (x ∷ xs) are =
     let count = λ (id : ℕ). length (filter (λ (y : X). slot_has (device_item id) (slot y)) xs) in
     let more = sum_same (λ (id : ℕ). length (filter (λ (y : X). slot_has (device_item id) (slot y)) (x ∷ xs))) (λ (id : ℕ). one_if (slot_has (device_item id) (slot x)) + count id) ids
-      (λ (id : ℕ). filter_if (slot_has (device_item id) (slot x)) x (filter (λ (y : X). slot_has (device_item id) (slot y)) xs)) in
+    (λ (id : ℕ). filter_if (slot_has (device_item id) (slot x)) x (filter (λ (y : X). slot_has (device_item id) (slot y)) xs)) in
     let parts = sum_both (λ (id : ℕ). one_if (slot_has (device_item id) (slot x))) count ids in
     let here = slot_counted ids ascending (slot x) (All-head (λ (y : X). IsAmong ids (slot y)) x xs are) in
     let rest = each_counted slot ids ascending xs (All-tail (λ (y : X). IsAmong ids (slot y)) x xs are) in

@@ -38,8 +38,13 @@ permille part whole = if whole == 0 then 0 else 1000 * part / whole
 
 abbrev pub usage_row : List (List Slot) → ℕ → UsageRow
 usage_row ups device =
-    record { device = device; groups = groups_of device ups; entries = entries_of device ups; primaries = primaries_of device ups;
-             permille = permille (entries_of device ups) (entry_count ups) }
+    record {
+      device = device;
+      groups = groups_of device ups;
+      entries = entries_of device ups;
+      primaries = primaries_of device ups;
+      permille = permille (entries_of device ups) (entry_count ups);
+    }
 
 -- a row for each device, in the order of the devices
 abbrev pub usage_rows : List Device → List (List Slot) → List UsageRow

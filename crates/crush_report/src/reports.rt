@@ -6,9 +6,9 @@ ghost use Rattle.crush_pool.specs.Placements.{rule_numbered};
 ghost use Rattle.crush_pool.specs.States.{reweights};
 ghost use Rattle.crush_report.specs.Reports as spec;
 
-use crate::touched_groups::impact_with;
 use crate::moved_groups::moves_with;
 use crate::rows::{MoveRow, UsageRow};
+use crate::touched_groups::impact_with;
 use crate::usage_counts::usage_with;
 use crush_bucket::Tables;
 use crush_choose::Weights;

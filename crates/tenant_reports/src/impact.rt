@@ -84,14 +84,7 @@ fn groups_of(
     let Some(rule) = rule_with_id(version.map(), pool.parts().rule) else {
         return Err(Refusal::Problem(Problem::NoRule));
     };
-    Ok(groups_on(
-        alloc,
-        version,
-        state.devices(),
-        pool,
-        rule,
-        device,
-    )?)
+    Ok(groups_on(alloc, version, state.devices(), pool, rule, device)?)
 }
 
 // ---- the answer
@@ -116,12 +109,7 @@ fn impact_reply(
 }
 
 /// The reply with the groups, of the pool with an id, that a device can touch.
-pub fn answer(
-    alloc: Global,
-    id: u64,
-    device: u64,
-    state: &TenantState,
-) -> Result<Reply, AllocError>
+pub fn answer(alloc: Global, id: u64, device: u64, state: &TenantState) -> Result<Reply, AllocError>
     ensures { IfOk result (λ r. r ≡ reply (spec.impact_answer id device state.now)) }
 {
     let Some(pool) = state.pools().get(id) else {

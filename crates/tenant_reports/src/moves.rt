@@ -87,15 +87,7 @@ fn rows_of(
     let Some(second) = rule_with_id(after.map(), pool.parts().rule) else {
         return Err(Refusal::Problem(Problem::NoRule));
     };
-    Ok(rows_between(
-        alloc,
-        before,
-        after,
-        state.devices(),
-        pool,
-        first,
-        second,
-    )?)
+    Ok(rows_between(alloc, before, after, state.devices(), pool, first, second)?)
 }
 
 // ---- the answer
@@ -122,12 +114,7 @@ fn row_text(alloc: Global, row: &MoveRow) -> Result<String, AllocError>
 }
 
 /// Puts a row at the end of a text, behind a comma if another is before it.
-fn push_row(
-    alloc: Global,
-    text: &mut String,
-    later: bool,
-    row: &MoveRow,
-) -> Result<(), AllocError>
+fn push_row(alloc: Global, text: &mut String, later: bool, row: &MoveRow) -> Result<(), AllocError>
     ensures { OnOk result (string_bytes text.new ≡ string_bytes text.old ++ (comma_if later ++ compact_text (spec.row_json row.now))) }
 {
     if later {

@@ -19,7 +19,8 @@ use serde_json::{Value, json};
 use std::alloc::{AllocError, Global};
 use std::marker::Model;
 use tenant_messages::{
-    Problem, ReadError, Refusal, Reply, has_keys, read_value, refused, slot_json, slots_json, success, text,
+    Problem, ReadError, Refusal, Reply, has_keys, read_value, refused, slot_json, slots_json,
+    success, text,
 };
 use tenant_state::{Devices, TenantState, Version};
 

@@ -18,7 +18,8 @@ use serde_json::{Value, json};
 use std::alloc::{AllocError, Global};
 use std::marker::Model;
 use tenant_messages::{
-    Problem, ReadError, Reply, has_keys, ids_json, natural, optional_natural, read_value, refused, slots_json, success,
+    Problem, ReadError, Reply, has_keys, ids_json, natural, optional_natural, read_value, refused,
+    slots_json, success,
 };
 use tenant_state::{TenantState, Version};
 

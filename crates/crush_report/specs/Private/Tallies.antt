@@ -38,5 +38,10 @@ pub record IsTally (bound : ℕ) (ups : List (List Slot)) (t : TallyView) : Type
 -- the row of a device by what is counted
 abbrev pub row_by : TallyView → ℕ → UsageRow
 row_by t device =
-    record { device = device; groups = count_at t.groups device; entries = count_at t.entries device; primaries = count_at t.primaries device;
-             permille = permille (count_at t.entries device) t.filled }
+    record {
+      device = device;
+      groups = count_at t.groups device;
+      entries = count_at t.entries device;
+      primaries = count_at t.primaries device;
+      permille = permille (count_at t.entries device) t.filled;
+    }

@@ -18,5 +18,5 @@ returns c m states lowered p rule group lt lower moved =
     let trace = rule_trace t w rule.steps seed p.size in
     let is : IsTrace t w rule.steps seed p.size trace = (c.traces_ascend.ensures t w rule.steps seed p.size trace).1 refl in
     let found = c.a_changed_answer_has_a_lowered_device_in_its_trace.ensures t w (weights_of (reweights lowered)) rule.steps seed p.size trace is lower
-        (λ e. moved (raw_is m lowered p rule group ∙ e ∙ sym (raw_is m states p rule group))) in
+    (λ e. moved (raw_is m lowered p rule group ∙ e ∙ sym (raw_is m states p rule group))) in
     (found.0, found.2, passes (λ g. has_number (trace_of t w rule.steps p g) found.0) p.pg_num group lt found.1)

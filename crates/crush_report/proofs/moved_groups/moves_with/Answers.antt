@@ -15,7 +15,7 @@ loop-group-preserved c =
     let new = up_list c.args.to.now c.args.weights.now c.args.states.now c.args.second.now.steps c.args.pool.now in
     let more = moves_more old new n in
     let row : c.move_between.result ≡ move_between n (old n) (new n) =
-        c.move_between.ensures ∙ rw c.in_ok-old.ensures.up (rw c.in_ok-new.ensures.up refl) in
+    c.move_between.ensures ∙ rw c.in_ok-old.ensures.up (rw c.in_ok-new.ensures.up refl) in
     elim c.match-move_between.branch [
       | in-Some+in_ok-push w ↦
           (let one = rw (sym row ∙ w.in-Some.is) at more in

@@ -10,8 +10,8 @@ returns-clause-touched c =
     let seed = c.seed_of-seed.result in
     let size = c.parts.result.now.size in
     let is : made ≡ rule_trace c.args.tables.now c.args.weights.now c.args.rule.now.steps seed size =
-        (c.traces_ascend.ensures c.args.tables.now c.args.weights.now c.args.rule.now.steps seed size made).0 c.run_rule.ensures.trace in
+    (c.traces_ascend.ensures c.args.tables.now c.args.weights.now c.args.rule.now.steps seed size made).0 c.run_rule.ensures.trace in
     let of_group : rule_trace c.args.tables.now c.args.weights.now c.args.rule.now.steps seed size
-            ≡ trace_of c.args.tables.now c.args.weights.now c.args.rule.now.steps c.args.pool.now c.args.group =
-        rw c.seed_of-seed.ensures (rw c.parts.ensures.same refl) in
+    ≡ trace_of c.args.tables.now c.args.weights.now c.args.rule.now.steps c.args.pool.now c.args.group =
+    rw c.seed_of-seed.ensures (rw c.parts.ensures.same refl) in
     c.has_number.ensures ∙ ap (λ (trace : List ℕ). has_number trace c.args.device) (c.trace.ensures ∙ is ∙ of_group)
