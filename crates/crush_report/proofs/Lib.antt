@@ -1,4 +1,5 @@
 mod Gains
+mod GainCounts
 mod Groups
 mod Items
 mod Moving

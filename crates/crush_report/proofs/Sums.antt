@@ -1,10 +1,10 @@
 -- Counts of each device of a list, where each is there once, sum up to the count of what is one of them.
-use Rattle.std.proofs.Common.{◌≡◌, ℕ, ℤ, pos, negsuc, zero, suc, ◌+◌, ◌<◌, ◌==◌, ◌||◌, List, [], ◌∷◌, length, map, filter, Bool, true, false, cond, is_some, Option, Some, None, IfSome, slice_index_or, sum_by, count_by, refl, ap, sym, ◌∙◌, arith}
+use Rattle.std.proofs.Common.{◌≡◌, ℕ, pos, suc, ◌+◌, ◌<◌, ◌==◌, List, [], ◌∷◌, length, map, filter, Bool, true, false, cond, is_some, Some, None, IfSome, slice_index_or, sum_by, count_by, refl, ap, sym, ◌∙◌, arith}
 use Rattle.std.specs.List.{All, AllPairs, list_any}
 use Rattle.std.specs.Ordering.{int_eq}
 use Rattle.std.proofs.Math.Path.{fun_ext}
 use Rattle.std.proofs.lemmas.Bool.{false_from_ne_true}
-use Rattle.std.proofs.lemmas.Bool.Decides.{Decides-eqb, Decides-int_eq, nat_tests}
+use Rattle.std.proofs.lemmas.Bool.Decides.{Decides-eqb, Decides-int_eq}
 use Rattle.std.proofs.lemmas.List.Elements.{All-head, All-tail}
 use Rattle.std.proofs.lemmas.List.Sums.{sum_by-cons}
 use Rattle.crush_map.specs.declared.draft.Device.{Device}
@@ -13,25 +13,25 @@ use Rattle.crush_choose.specs.Marks.{Slot}
 use Rattle.crush_report.specs.Usage.{device_item, usage_row}
 use Rattle.crush_report.specs.declared.rows.UsageRow.{UsageRow}
 
-abbrev one_if : Bool → ℕ
+abbrev pub one_if : Bool → ℕ
 one_if b = cond b 1 0
 
 -- ---- sums
 
-sum_zero : {X : Type 0} (xs : List X) → sum_by (λ (x : X). 0) xs ≡ 0
+pub sum_zero : {X : Type 0} (xs : List X) → sum_by (λ (x : X). 0) xs ≡ 0
 sum_zero [] = refl
 sum_zero {X} (x ∷ xs) = omega (arith, sum_by-cons (λ (y : X). 0) x xs, sum_zero xs)
 
-sum_both : {X : Type 0} (g h : X → ℕ) (xs : List X) → sum_by (λ x. g x + h x) xs ≡ sum_by g xs + sum_by h xs
+pub sum_both : {X : Type 0} (g h : X → ℕ) (xs : List X) → sum_by (λ x. g x + h x) xs ≡ sum_by g xs + sum_by h xs
 sum_both g h [] = refl
 sum_both g h (x ∷ xs) = omega (arith, sum_by-cons (λ y. g y + h y) x xs, sum_by-cons g x xs, sum_by-cons h x xs, sum_both g h xs)
 
-sum_same : {X : Type 0} (g h : X → ℕ) (xs : List X) → ((x : X) → g x ≡ h x) → sum_by g xs ≡ sum_by h xs
+pub sum_same : {X : Type 0} (g h : X → ℕ) (xs : List X) → ((x : X) → g x ≡ h x) → sum_by g xs ≡ sum_by h xs
 sum_same {X} g h xs same = ap (λ (f : X → ℕ). sum_by f xs) (fun_ext same)
 
 -- ---- one number among ascending ones
 
-none_counted : (p : ℕ → Bool) (ids : List ℕ) → All (λ n. p n ≡ false) ids → count_by p ids ≡ 0
+pub none_counted : (p : ℕ → Bool) (ids : List ℕ) → All (λ n. p n ≡ false) ids → count_by p ids ≡ 0
 none_counted p [] none = refl
 none_counted p (id ∷ ids) none =
     let here : one_if (p id) ≡ 0 = rw (All-head (λ n. p n ≡ false) id ids none) refl in
@@ -56,7 +56,7 @@ module _ (p : ℕ → Bool) (k : ℕ) (only : (id : ℕ) → p id ≡ true → i
       omega (arith, here, sum_by-cons (λ n. one_if (p n)) id ids, rest (rw other at has))
 
   -- a number that is among ascending ones is there once
-  counted_once : (ids : List ℕ) → AllPairs (λ a b. a < b) ids → list_any (λ n. n == k) ids ≡ true → count_by p ids ≡ 1
+  pub counted_once : (ids : List ℕ) → AllPairs (λ a b. a < b) ids → list_any (λ n. n == k) ids ≡ true → count_by p ids ≡ 1
   counted_once [] pairs has = cc
   counted_once (id ∷ ids) pairs has =
       counted_at id ids (p id) refl (λ j d lt. pairs 0 (suc j) d (omega arith) (omega arith)) has (counted_once ids (λ i j d lt within. pairs (suc i) (suc j) d (omega arith) (omega arith)))

@@ -1,5 +1,5 @@
 -- Which groups of a pool a device can touch: those in whose trace it is.
-use Rattle.std.specs.Prelude.{ℕ, Bool, List, filter}
+use Rattle.std.specs.Prelude.{ℕ, List, filter}
 use Rattle.crush_map.specs.Faults.{has_number}
 use Rattle.crush_map.specs.declared.draft.Step.{Step}
 use Rattle.crush_bucket.specs.Tables.{TablesView}

@@ -16,14 +16,14 @@ pub struct DeviceChange {
 }
 
 /// Whether one of the changes is of the device.
-pub fn contains(device: u32, changes: &[DeviceChange]) -> bool
+fn contains(device: u32, changes: &[DeviceChange]) -> bool
     ensures { result ≡ list_any (spec.is_of_device device) changes.now }
 {
     changes.iter().any(|change| change.device == device)
 }
 
 /// Whether no device comes twice.
-pub fn are_distinct(changes: &[DeviceChange]) -> bool
+fn are_distinct(changes: &[DeviceChange]) -> bool
     ensures { result ≡ spec.are_distinct changes.now }
 {
     let mut rest = changes;

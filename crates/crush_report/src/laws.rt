@@ -1,16 +1,18 @@
 //! Laws of the definitions, as contracts of functions that do nothing.
 
-ghost use Rattle.std.specs.Prelude.{◌≡◌, ◌≢◌, ◌↔◌, ◌<◌, ◌≤◌, ℕ, List, [], map, not, true, Some};
+ghost use Rattle.std.specs.Prelude.{◌≡◌, ◌≢◌, ◌↔◌, ◌<◌, ◌≤◌, ◌&&◌, ℕ, pos, List, [], All, AllPairs, map, not, true, Some, IfSome, count_by, sum_by};
 ghost use Rattle.crush_map.specs.Faults.{has_number};
 ghost use Rattle.crush_map.specs.Map.{Map};
 ghost use Rattle.crush_map.specs.declared.draft.Rule.{Rule};
+ghost use Rattle.crush_choose.specs.Firstn.{has};
 ghost use Rattle.crush_choose.specs.Marks.{Slot};
 ghost use Rattle.crush_choose.specs.Weights.{weight_at, weights_of};
 ghost use Rattle.crush_pool.specs.States.{reweights};
 ghost use Rattle.crush_pool.specs.declared.pool.PoolParts.{PoolParts};
 ghost use Rattle.crush_pool.specs.declared.states.DeviceState.{DeviceState};
-ghost use Rattle.crush_report.specs.Moves.{same_slots, move_rows};
+ghost use Rattle.crush_report.specs.Moves.{gained, gained_in, same_slots, move_rows};
 ghost use Rattle.crush_report.specs.Reports.{groups, raw_by, impact_by, moves};
+ghost use Rattle.crush_report.specs.Usage.{device_item};
 ghost use Rattle.crush_report.specs.declared.rows.MoveRow.{MoveRow};
 
 use crush_choose::laws::traces_ascend;
@@ -22,6 +24,14 @@ pub fn groups_move_where_their_lists_differ()
     ensures rows { (old new : ℕ → List Slot) (p : PoolParts) (group : ℕ) → group < p.pg_num
         → has_number (map (λ row. row.group) (move_rows old new (groups p))) group ≡ not (same_slots (old group) (new group)) }
     ensures itself { (m : Map) (states : List DeviceState) (p : PoolParts) (rows : List MoveRow) → moves m m states p ≡ Some rows → rows ≡ [] }
+{}
+
+/// `gained` counts each device once that is in the new list and not in the old one, whatever ascending list of ids has the new list's devices; the gains of rows are the sum of theirs.
+pub fn gained_counts_each_new_device_once()
+    ensures once { (old new : List Slot) (ids : List ℕ) → AllPairs (λ a b. a < b) ids
+        → All (λ slot. IfSome slot (λ item. (id : ℕ) × (item.0 ≡ pos id) × (has_number ids id ≡ true))) new
+        → gained old new ≡ count_by (λ id. has new (device_item id) && not (has old (device_item id))) ids }
+    ensures sum { (rows : List MoveRow) → gained_in rows ≡ sum_by (λ row. row.gained) rows }
 {}
 
 /// A group whose raw list changes when reweights of devices are lowered is in the impact list of one of the lowered devices, by the reweights of

@@ -18,7 +18,7 @@ mod touched_groups;
 mod usage_counts;
 pub mod usage_laws;
 
-pub use changes::{DeviceChange, are_distinct, contains, is_valid};
+pub use changes::{DeviceChange, is_valid};
 pub use csv_laws::{device_csvs_are_of_the_form, reports_are_read_back};
 pub use csv_read::{CsvFault, read_device_csv};
 pub use csv_write::{moves_csv, usage_csv};
