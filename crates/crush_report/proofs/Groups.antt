@@ -1,6 +1,6 @@
 -- The groups of a pool, one after the other.
 use Rattle.std.proofs.Common.{◌≡◌, ℕ, zero, suc, ◌+◌, List, [], ◌∷◌, ◌++◌, cond, map, refl, ap, ◌∙◌, arith}
-use Rattle.std.specs.List.{range_with_len, filter_map, cons_option}
+use Rattle.std.specs.List.{range_with_len, cons_option}
 use Rattle.std.proofs.lemmas.List.{map-append}
 use Rattle.std.proofs.lemmas.List.Elements.{filter-append, filter_map-append}
 use Rattle.crush_bucket.specs.Tables.{TablesView}

@@ -1,5 +1,5 @@
 -- What holds of each pick of the buckets and of each item that is taken holds of each item of a rule's answer.
-use Rattle.std.proofs.Common.{◌≡◌, ℕ, zero, suc, ◌+◌, ◌<◌, ◌-◌, ◌==◌, ◌&&◌, nat_lt, List, [], ◌∷◌, ◌++◌, length, map, take, Bool, true, false, not, if◌then◌else◌, Option, Some, None, option_map, slice_index_or, slice_set, replicate, IfSome, refl, arith}
+use Rattle.std.proofs.Common.{◌≡◌, ℕ, zero, suc, ◌+◌, ◌<◌, ◌-◌, ◌==◌, ◌&&◌, nat_lt, List, [], ◌∷◌, length, map, take, Bool, true, false, not, if◌then◌else◌, Option, Some, None, option_map, slice_index_or, IfSome, refl, arith}
 use Rattle.std.specs.Bool.{then_some}
 use Rattle.std.specs.List.{All}
 use Rattle.std.proofs.lemmas.Bool.Decides.{nat_tests}
@@ -18,9 +18,9 @@ use Rattle.crush_choose.specs.Growing.{grown}
 use Rattle.crush_choose.specs.Least.{least, or_else}
 use Rattle.crush_choose.specs.Reach.{at_item, reach_below, reach, step}
 use Rattle.crush_choose.specs.Weights.{is_device_in}
-use Rattle.crush_choose.specs.Marks.{Marks, Slot, placed_by, spots, items_of, leaves_of, item_at, leaf_at}
+use Rattle.crush_choose.specs.Marks.{Marks, Slot, placed_by, items_of, leaves_of, item_at, leaf_at}
 use Rattle.crush_choose.specs.Firstn.{has, new_leaf, leaf_by, leaf_below, leaf_start, leaf_of, firstn_outcome, firstn_try, decided, mark_of, firstn}
-use Rattle.crush_choose.specs.Indep.{taken, leaf_in, indep_leaf_by, indep_leaf, indep_leaf_of, indep_outcome, indep_try, after_try, in_round, after_rounds, indep}
+use Rattle.crush_choose.specs.Indep.{taken, leaf_in, indep_leaf_by, indep_leaf, indep_leaf_of, indep_outcome, indep_try, in_round, after_rounds, indep}
 use Rattle.crush_choose.specs.Rules.{ChooseCall, firstn_call, indep_call, put_out, bucket_out, slot_out, step_out, choose_call, Running, with_settings, start, after_step, after_steps, after_rule, rule_answer}
 
 -- ---- options

@@ -1,11 +1,9 @@
 -- Which groups have a row in `moves`, and which stand in a list of groups that pass a test.
-use Rattle.std.proofs.Common.{◌≡◌, ℕ, ℤ, zero, suc, ◌+◌, ◌<◌, ◌≤◌, ◌==◌, ◌||◌, ◌&&◌, Bool, true, false, not, cond, if◌then◌else◌, List, [], ◌∷◌, map, filter, Option, Some, None, option_map, option_and_then, refl, ap, sym, ◌∙◌, arith, inl, inr}
-use Rattle.std.specs.List.{range_with_len, filter_map, cons_option, list_any}
-use Rattle.std.specs.Ordering.{int_eq}
+use Rattle.std.proofs.Common.{◌≡◌, ℕ, ℤ, zero, suc, ◌+◌, ◌<◌, ◌≤◌, ◌==◌, ◌||◌, Bool, true, false, not, cond, if◌then◌else◌, List, [], ◌∷◌, map, filter, Option, Some, None, option_map, option_and_then, refl, ap, sym, ◌∙◌, arith, inl, inr}
+use Rattle.std.specs.List.{range_with_len, cons_option}
 use Rattle.std.proofs.lemmas.Bool.{and_parts, and_from, false≢true, cases_eq, eq-eqb, ne_eqb}
 use Rattle.std.proofs.lemmas.Bool.Decides.{Decides-int_eq}
 use Rattle.crush_map.specs.Faults.{has_number}
-use Rattle.crush_map.specs.declared.word.ItemId.{ItemId}
 use Rattle.crush_choose.specs.Marks.{Slot}
 use Rattle.crush_map.specs.Map.{Map}
 use Rattle.crush_map.specs.declared.draft.Rule.{Rule}
@@ -18,7 +16,7 @@ use Rattle.crush_pool.specs.States.{reweights}
 use Rattle.crush_pool.specs.declared.pool.PoolParts.{PoolParts}
 use Rattle.crush_pool.specs.declared.states.DeviceState.{DeviceState}
 use Rattle.crush_report.specs.Reports.{groups, up_by, raw_by, moves_by, moves}
-use Rattle.crush_report.specs.Moves.{same_slot, same_slots, gained, move_between, move_rows}
+use Rattle.crush_report.specs.Moves.{same_slot, same_slots, gained, move_rows}
 use Rattle.crush_report.specs.declared.rows.MoveRow.{MoveRow}
 
 -- ---- lists that are the same

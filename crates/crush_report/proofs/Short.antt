@@ -1,5 +1,5 @@
 -- Up lists have at most as many slots as the pool's size.
-use Rattle.std.proofs.Common.{◌≡◌, ℕ, zero, suc, ◌==◌, cond, if◌then◌else◌, ◌-◌, ◌≤◌, List, [], ◌∷◌, ◌++◌, length, take, filter, Bool, true, false, arith, length-append}
+use Rattle.std.proofs.Common.{◌≡◌, ℕ, zero, suc, ◌==◌, cond, if◌then◌else◌, ◌-◌, ◌≤◌, List, [], ◌∷◌, length, take, filter, Bool, true, false, arith, length-append}
 use Rattle.std.proofs.lemmas.List.{length-map}
 use Rattle.crush_bucket.specs.Tables.{TablesView}
 use Rattle.crush_map.specs.declared.draft.Step.{Step}

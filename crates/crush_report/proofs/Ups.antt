@@ -1,15 +1,13 @@
 -- Up lists of a map have devices of the map alone, and the rows of usage sum up.
-use Rattle.std.proofs.Common.{◌≡◌, ℕ, ℤ, pos, negsuc, ◌==◌, ◌<◌, List, [], ◌∷◌, ◌++◌, length, map, filter, Bool, true, false, if◌then◌else◌, is_some, Some, None, IfSome, slice_index_or, sum_by, refl, sym, ◌∙◌}
-use Rattle.std.specs.List.{All, list_any, flat_map}
+use Rattle.std.proofs.Common.{◌≡◌, ℕ, ℤ, pos, negsuc, ◌==◌, List, [], ◌∷◌, length, map, filter, Bool, true, false, if◌then◌else◌, is_some, Some, None, IfSome, slice_index_or, sum_by, refl, ◌∙◌}
+use Rattle.std.specs.List.{All, list_any}
 use Rattle.std.proofs.lemmas.List.Elements.{All-nil, All-head, All-tail, All-append, All-filter, All-map, All-weaker, filter_passes}
 use Rattle.std.proofs.lemmas.List.Kept.{AllPairs-from_increasing}
 use Rattle.crush_map.specs.Map.{Map, IsMap}
 use Rattle.crush_map.specs.Sound.{has_item}
-use Rattle.crush_map.specs.declared.draft.Bucket.{Bucket}
 use Rattle.crush_map.specs.declared.draft.Device.{Device}
 use Rattle.crush_map.specs.declared.draft.Rule.{Rule}
 use Rattle.crush_bucket.specs.Tables.{tables_of}
-use Rattle.crush_choose.specs.Firstn.{slot_has}
 use Rattle.crush_choose.specs.Marks.{Slot}
 use Rattle.crush_choose.specs.Rules.{rule_answer}
 use Rattle.crush_choose.specs.Weights.{weights_of}
@@ -19,7 +17,7 @@ use Rattle.crush_pool.specs.States.{flags_of, reweights}
 use Rattle.crush_pool.specs.declared.pool.PoolParts.{PoolParts}
 use Rattle.crush_pool.specs.declared.states.DeviceState.{DeviceState}
 use Rattle.crush_report.specs.Reports.{groups, up_by, usage_by}
-use Rattle.crush_report.specs.Usage.{all_entries, device_item, entries_of, entry_count, primaries_of}
+use Rattle.crush_report.specs.Usage.{all_entries, entries_of, entry_count, primaries_of}
 use Rattle.crush_report.proofs.Items.{AreSlots}
 use Rattle.crush_report.proofs.OfMap.{IsOf, same_devices}
 use Rattle.crush_report.proofs.Sums.{AreAscending, IsAmong, each_counted, sum_rows}

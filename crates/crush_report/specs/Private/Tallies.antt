@@ -1,5 +1,5 @@
 -- Counts by the id of a device.
-use Rattle.std.specs.Prelude.{◌≡◌, ◌<◌, ◌+◌, ◌^◌, ℕ, Bool, false, List, Some, None, length, filter, is_some, slice_index_or}
+use Rattle.std.specs.Prelude.{◌≡◌, ◌<◌, ◌+◌, ◌^◌, ℕ, Bool, false, List, Some, None, length, slice_index_or}
 use Rattle.crush_choose.specs.Firstn.{has}
 use Rattle.crush_choose.specs.Marks.{Slot}
 use Rattle.crush_report.specs.Usage.{entries_of, groups_of, primaries_of, entry_count, permille}

@@ -1,7 +1,6 @@
-use Rattle.std.proofs.Common.{rules, ◌≡◌, ◌+◌, [], ◌∷◌, ◌++◌, refl, sym, ◌∙◌, true, false}
-use Rattle.std.specs.List.{range_with_len}
+use Rattle.std.proofs.Common.{rules, ◌≡◌, sym, ◌∙◌, true, false}
 use Rattle.crush_map.specs.Faults.{has_number}
-use Rattle.crush_report.specs.Impact.{trace_of, touched}
+use Rattle.crush_report.specs.Impact.{trace_of}
 use Rattle.crush_report.proofs.Groups.{touched_more}
 use Rattle.crush_report.proofs.touched_groups.impact_with.Goals as goal
 use Rattle.crush_report.proofs.touched_groups.impact_with.Goals.{then-is_touched+in_ok-push, else-is_touched}

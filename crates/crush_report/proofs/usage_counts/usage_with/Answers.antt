@@ -1,4 +1,4 @@
-use Rattle.std.proofs.Common.{rules, ◌≡◌, map, ◌∙◌}
+use Rattle.std.proofs.Common.{rules, map, ◌∙◌}
 use Rattle.crush_report.proofs.Tallies.{rows_are}
 use Rattle.crush_report.specs.Reports.{groups, up_list}
 use Rattle.crush_report.proofs.usage_counts.usage_with.Goals as goal
