@@ -1,4 +1,4 @@
--- Which groups of a pool lie on other devices on a second map than on a first.
+-- The groups of a pool whose up lists differ between two maps.
 use Rattle.std.specs.Prelude.{ℕ, suc, ◌+◌, Bool, true, false, not, ◌&&◌, List, [], ◌∷◌, Option, Some, None, is_none, if◌then◌else◌}
 use Rattle.std.specs.List.{filter_map}
 use Rattle.crush_choose.specs.Firstn.{has, slot_has}

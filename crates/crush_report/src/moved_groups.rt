@@ -1,4 +1,4 @@
-//! Which groups of a pool lie on other devices on a second map than on a first.
+//! The groups of a pool whose up lists differ between two maps.
 
 ghost use Rattle.std.specs.Prelude.{◌≡◌, ◌<◌, ◌≤◌, ◌^◌, List, Some, IfOk};
 ghost use Rattle.crush_map.specs.Map.{Map};

@@ -18,7 +18,7 @@ pub struct UsageRow {
     pub permille: u32,
 }
 
-/// A group that lies on other devices on a second map than on a first.
+/// A group whose up lists differ between two maps.
 #[derive(Drop)]
 pub struct MoveRow {
     /// The group.
