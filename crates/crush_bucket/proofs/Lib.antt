@@ -11,5 +11,6 @@ pub mod Numbered
 pub mod Parts
 pub mod Picking
 pub mod Reaching
+pub mod Slots
 pub mod Validity
 pub mod Weights

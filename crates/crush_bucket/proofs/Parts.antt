@@ -1,15 +1,18 @@
 -- Parts of a row that permutations share.
-use Rattle.std.proofs.Common.{◌≡◌, ℕ, ◌+◌, ◌-◌, ◌<◌, ◌≤◌, List, [], ◌∷◌, ◌++◌, length, take, drop, slice_range, map, slice_get, slice_index_or, slice_set, Option, None, Some, refl, ap, sym, subst, ◌∙◌, arith, ◌⊎◌, inl, inr}
-use Rattle.std.proofs.lemmas.List.{take-take, drop-drop, drop-take, length-drop, length-take-le, get_or-set_same, get_or-set_other, get_or_past, get_or_default, length-append, length-map, append-nil, drop_all}
-use Rattle.std.proofs.lemmas.Option.{none-some, same_Some, slice_get_within, get_or_from_slice_get}
-use Rattle.std.proofs.Math.ListN.{get_or-append, get_or-map}
-use Rattle.std.proofs.Math.Seq.{get_or-append_seam, take-length}
+use Rattle.std.proofs.Common.{◌≡◌, ℕ, ◌+◌, ◌-◌, ◌<◌, ◌≤◌, List, [], ◌∷◌, ◌++◌, length, take, drop, slice_range, map, slice_get, slice_index_or, slice_set, Some, refl, ap, sym, subst, ◌∙◌, arith, ◌⊎◌, inl, inr}
+use Rattle.std.proofs.lemmas.List.{take-take, drop-drop, drop-take, length-drop, length-take-le, get_or-set_same, get_or-set_other, get_or_default, length-set, length-map, append-nil, drop_all}
+use Rattle.std.proofs.lemmas.Option.{slice_get_within, get_or_from_slice_get}
+use Rattle.std.proofs.lemmas.List.Elements.{All-push}
+use Rattle.std.proofs.lemmas.List.Quantifiers.{all_pairs_push}
+use Rattle.std.proofs.Math.ListN.{get_or-map}
+use Rattle.std.proofs.Math.Seq.{take-length}
 use Rattle.crush_map.specs.declared.Kind.TheVariants.{Uniform}
 use Rattle.crush_bucket.specs.Bucket.{BucketView}
-use Rattle.crush_bucket.specs.Pick.{perm_for, perm_of}
+use Rattle.crush_bucket.specs.Pick.{perm_of}
 use Rattle.crush_bucket.specs.declared.reached.Slot.{Slot}
 use Rattle.crush_bucket.specs.Private.Pairs.{Pair}
-use Rattle.crush_bucket.specs.Private.Reached.{IsPart, IsReached, HasSlot, AreParts, AreNew, IsNew, IsBetween, end_of, of_slot}
+use Rattle.crush_bucket.specs.Private.Reached.{IsPart, IsReached, AreParts, AreNew, IsNew, end_of, of_slot}
+use Rattle.crush_bucket.specs.Private.Laid.{IsSlotOf}
 use Rattle.crush_bucket.proofs.Differing.{either_way}
 use Rattle.crush_bucket.proofs.Reaching.{new_is}
 
@@ -31,124 +34,77 @@ range_behind xs ys a b e high same =
 
 -- ---- a slot that has made exchanges
 
--- the slot that was there, whose part is that of the slot that is there now
-record Was (slots : List (Option Slot)) (i : ℕ) (now was : Slot) : Type 0 where
-  has : HasSlot slots i was
-  start : was.start ≡ now.start
-  end : end_of was ≡ end_of now
-
-was_there : (slots : List (Option Slot)) (p i : ℕ) (s t u : Slot) → HasSlot slots p s → p < length slots → t.start ≡ s.start → end_of t ≡ end_of s → HasSlot (slice_set slots p (Some t)) i u → (w : Slot) × Was slots i u w
-was_there slots p i s t u has low start end now = elim (either_way i p) [
-  | inl same ↦
-      let is : t ≡ u = same_Some t u (sym (get_or-set_same slots p (Some t) None low) ∙ subst (λ (k : ℕ). HasSlot (slice_set slots p (Some t)) k u) same now) in
-      (s, record { has = rw same has; start = rw (← is) (sym start); end = rw (← is) (sym end) })
-  | inr other ↦ (u, record { has = sym (get_or-set_other slots p i (Some t) None other) ∙ now; start = refl; end = refl })
+-- it has the same part, and so has each other slot
+same_part : (slots : List Slot) (p i : ℕ) (t d : Slot) → p < length slots → t.start ≡ (slice_index_or slots p d).start → end_of t ≡ end_of (slice_index_or slots p d)
+    → ((slice_index_or (slice_set slots p t) i d).start ≡ (slice_index_or slots i d).start) × (end_of (slice_index_or (slice_set slots p t) i d) ≡ end_of (slice_index_or slots i d))
+same_part slots p i t d low start end = elim (either_way i p) [
+  | inl same ↦ rw (same, get_or-set_same slots p t d low) (start, end)
+  | inr other ↦ rw (get_or-set_other slots p i t d other) (refl, refl)
 ]
 
-pub parts_after : (slots : List (Option Slot)) (row after : List Pair) (p : ℕ) (s t : Slot) → AreParts slots row → HasSlot slots p s → p < length slots → t.start ≡ s.start → end_of t ≡ end_of s → IsPart t after → length after ≡ length row
-    → take s.start after ≡ take s.start row → drop (end_of s) after ≡ drop (end_of s) row → AreParts (slice_set slots p (Some t)) after
-parts_after slots row after p s t parts has low start end part len before behind = record {
-  each = λ i u now. (elim (either_way i p) [
-    | inl same ↦
-        let is : t ≡ u = same_Some t u (sym (get_or-set_same slots p (Some t) None low) ∙ subst (λ (k : ℕ). HasSlot (slice_set slots p (Some t)) k u) same now) in
-        subst (λ (v : Slot). IsPart v after) is part
-    | inr other ↦
-        let was : HasSlot slots i u = sym (get_or-set_other slots p i (Some t) None other) ∙ now in
-        let old = parts.each i u was in
-        let either : (i < p) ⊎ (p < i) = grind (arith, other) in
-        let same : slice_range after u.start (end_of u) ≡ slice_range row u.start (end_of u) = elim either [
-          | inl less ↦ range_before row after u.start (end_of u) s.start (omega arith) (parts.apart i p u s less was has) before
-          | inr more ↦ range_behind row after u.start (end_of u) (end_of s) (parts.apart p i s u more has was) behind
-        ] in
-        record { within = omega (arith, old.within, len); reached = subst (λ (r : List Pair). IsReached u.reached r) (sym same) old.reached }
-  ]);
-  apart = λ i j u v less first second.
-      (let a = was_there slots p i s t u has low start end first in
-      let b = was_there slots p j s t v has low start end second in
-      let apart = parts.apart i j a.0 b.0 less a.1.has b.1.has in
-      omega (arith, apart, a.1.end, b.1.start));
-}
+pub parts_after : (slots : List Slot) (row after : List Pair) (p : ℕ) (s t : Slot) → AreParts slots row → p < length slots → slice_index_or slots p s ≡ s → t.start ≡ s.start → end_of t ≡ end_of s → IsPart t after → length after ≡ length row
+    → take s.start after ≡ take s.start row → drop (end_of s) after ≡ drop (end_of s) row → AreParts (slice_set slots p t) after
+parts_after slots row after p s t parts low has start end part len before behind =
+    let there : (d : Slot) → slice_index_or slots p d ≡ s = λ d. get_or_default slots p d s low ∙ has in
+    record {
+      each = λ i d within. (elim (either_way i p) [
+        | inl same ↦ rw (same, get_or-set_same slots p t d low) part
+        | inr other ↦
+            let u = slice_index_or slots i d in
+            let old_low : i < length slots = omega (arith, within, length-set slots p t) in
+            let old = parts.each i d old_low in
+            let either : (i < p) ⊎ (p < i) = grind (arith, other) in
+            let same : slice_range after u.start (end_of u) ≡ slice_range row u.start (end_of u) = elim either [
+              | inl less ↦ (let apart : end_of u ≤ s.start = rw (there d) at (parts.apart i p d less low) in range_before row after u.start (end_of u) s.start (omega arith) apart before)
+              | inr more ↦ (let apart : end_of s ≤ u.start = rw (there d) at (parts.apart p i d more old_low) in range_behind row after u.start (end_of u) (end_of s) apart behind)
+            ] in
+            rw (get_or-set_other slots p i t d other) (record { within = omega (arith, old.within, len); reached = subst (λ (r : List Pair). IsReached u.reached r) (sym same) old.reached })
+      ]);
+      apart = λ i j d less below.
+          (let starts : t.start ≡ (slice_index_or slots p d).start = rw (there d) start in
+          let ends : end_of t ≡ end_of (slice_index_or slots p d) = rw (there d) end in
+          let first = same_part slots p i t d low starts ends in
+          let second = same_part slots p j t d low starts ends in
+          let apart = parts.apart i j d less (omega (arith, below, length-set slots p t)) in
+          omega (arith, apart, first.1, second.0));
+    }
 
 -- ---- new slots
 
--- where a list ends there is no slot
-none_past : (slots : List (Option Slot)) (i : ℕ) (s : Slot) → length slots ≤ i → HasSlot slots i s → ⊥
-none_past slots i s past has = none-some s (sym (get_or_past slots i None past) ∙ has)
-
 pub no_slots : AreNew [] 0
-no_slots = record {
-  each = λ i s has. absurd (none_past [] i s (omega arith) has);
-  apart = λ i j s t less has other. absurd (none_past [] i s (omega arith) has);
+no_slots = record { each = λ i d within. absurd (omega (arith, within)); apart = λ i j d less within. absurd (omega (arith, within)) }
+
+pub new_more : (slots : List Slot) (last : Slot) (end next : ℕ) → AreNew slots end → IsNew next last → last.start ≡ end → AreNew (slots ++ last ∷ []) next
+new_more slots last end next new is start = record {
+  each = All-push (IsNew next) slots last (λ i d within. (let old = new.each i d within in record { len = old.len; swaps = old.swaps; small = old.small; within = omega (arith, old.within, is.within, start) })) is;
+  apart = all_pairs_push (λ (s t : Slot). end_of s ≤ t.start) slots last new.apart (λ i d within. (let old = new.each i d within in omega (arith, old.within, start)));
 }
-
--- a slot is the last one, or one of those before it
-last_or : (slots : List (Option Slot)) (last : Option Slot) (i : ℕ) (s : Slot) → HasSlot (slots ++ last ∷ []) i s → HasSlot slots i s ⊎ ((i ≡ length slots) × (last ≡ Some s))
-last_or slots last i s has =
-    let either : ((i < length slots) ⊎ (i ≡ length slots)) ⊎ (length slots < i) = grind arith in
-    elim either [
-      | inl (inl low) ↦ inl (sym (get_or-append slots (last ∷ []) None i low) ∙ has)
-      | inl (inr same) ↦ inr (same, sym (get_or-append_seam slots last [] None) ∙ (rw (← same) has))
-      | inr high ↦ absurd (none_past (slots ++ last ∷ []) i s (omega (arith, high, length-append slots (last ∷ []))) has)
-    ]
-
-new_none : (slots : List (Option Slot)) (end : ℕ) → AreNew slots end → AreNew (slots ++ None ∷ []) end
-new_none slots end new =
-    let was : (i : ℕ) (s : Slot) → HasSlot (slots ++ None ∷ []) i s → HasSlot slots i s = λ i s has.
-    (elim (last_or slots None i s has) [ inl before ↦ before | inr none ↦ absurd (none-some s none.1) ]) in
-    record {
-      each = λ i s has. new.each i s (was i s has);
-      apart = λ i j s t less has other. new.apart i j s t less (was i s has) (was j t other);
-    }
-
-new_some : (slots : List (Option Slot)) (last : Slot) (end : ℕ) → AreNew slots end → IsNew last → last.start ≡ end → AreNew (slots ++ Some last ∷ []) (end_of last)
-new_some slots last end new is start = record {
-  each = λ i s has. (elim (last_or slots (Some last) i s has) [
-    | inl before ↦ (let old = new.each i s before in (old.0, omega (arith, old.1, start)))
-    | inr there ↦ (let same = same_Some last s there.1 in subst (λ (u : Slot). IsNew u × (end_of u ≤ end_of last)) same (is, omega arith))
-  ]);
-  apart = λ i j s t less has other. (elim (last_or slots (Some last) j t other) [
-    | inl before ↦ (elim (last_or slots (Some last) i s has) [
-      | inl first ↦ new.apart i j s t less first before
-      | inr there ↦ absurd (none_past slots j t (omega (arith, there.0, less)) before)
-    ])
-    | inr there ↦ (elim (last_or slots (Some last) i s has) [
-      | inl first ↦ (let old = new.each i s first in let same = ap (λ (u : Slot). u.start) (same_Some last t there.1) in omega (arith, old.1, start, same))
-      | inr both ↦ omega (arith, there.0, both.0, less)
-    ])
-  ]);
-}
-
-pub new_more : (slots : List (Option Slot)) (last : Option Slot) (end next : ℕ) → AreNew slots end → IsBetween last end next → AreNew (slots ++ last ∷ []) next
-new_more slots None end next new between = subst (λ (n : ℕ). AreNew (slots ++ None ∷ []) n) between (new_none slots end new)
-new_more slots (Some last) end next new between = subst (λ (n : ℕ). AreNew (slots ++ Some last ∷ []) n) between.2 (new_some slots last end new between.0 between.1)
 
 -- new slots have their parts in any row that is long enough
-pub new_parts : (slots : List (Option Slot)) (row : List Pair) → AreNew slots (length row) → AreParts slots row
+pub new_parts : (slots : List Slot) (row : List Pair) → AreNew slots (length row) → AreParts slots row
 new_parts slots row new = record {
-  each = λ i s has.
-      (let is = new.each i s has in
+  each = λ i d within.
+      (let s = slice_index_or slots i d in
+      let is = new.each i d within in
       let rest = length-drop s.start row in
-      let part : length (slice_range row s.start (end_of s)) ≡ end_of s - s.start = length-take-le (end_of s - s.start) (drop s.start row) (omega (arith, rest, is.1)) in
-      record { within = is.1; reached = new_is s.reached (slice_range row s.start (end_of s)) is.0.len is.0.swaps is.0.small (omega (arith, part)) });
+      let part : length (slice_range row s.start (end_of s)) ≡ end_of s - s.start = length-take-le (end_of s - s.start) (drop s.start row) (omega (arith, rest, is.within)) in
+      record { within = is.within; reached = new_is s.reached (slice_range row s.start (end_of s)) is.len is.swaps is.small (omega (arith, part)) });
   apart = new.apart;
 }
 
 -- ---- what a look-up finds
 
--- the slot of a uniform bucket
-pub record IsFound (slots : List (Option Slot)) (place : ℕ) (now : Option Slot) (b : BucketView) : Type 0 where
-  pub low : place < length slots
-  pub has : slice_index_or slots place None ≡ now
-  pub of : of_slot now ≡ Some (perm_of b)
+-- the slot of a uniform bucket is there
+pub slot_low : (slots : List Slot) (place : ℕ) (b : BucketView) → IsSlotOf (map of_slot slots) place b → b.kind ≡ Uniform → place < length slots
+slot_low slots place b fits kind =
+    omega (arith, slice_get_within (map of_slot slots) place (perm_of b) (fits (perm_of b) (rw kind refl)), length-map slots of_slot)
 
-pub found : (slots : List (Option Slot)) (place : ℕ) (now : Option Slot) (b : BucketView) → slice_get (map of_slot slots) place ≡ Some (perm_for b) → b.kind ≡ Uniform → now ≡ slice_index_or slots place now → IsFound slots place now b
-found slots place now b fits kind is =
-    let low : place < length slots = omega (arith, slice_get_within (map of_slot slots) place (perm_for b) fits, length-map slots of_slot) in
-    let has : slice_index_or slots place None ≡ now = get_or_default slots place None now low ∙ sym is in
-    let at : slice_index_or (map of_slot slots) place None ≡ perm_for b = get_or_from_slice_get (map of_slot slots) place (perm_for b) None fits in
-    let mapped : slice_index_or (map of_slot slots) place None ≡ of_slot (slice_index_or slots place None) = get_or-map of_slot slots place None in
-    let uniform : perm_for b ≡ Some (perm_of b) = rw kind refl in
-    record { low = low; has = has; of = ap of_slot (sym has) ∙ sym mapped ∙ at ∙ uniform }
+-- and is of it
+pub slot_of : (slots : List Slot) (place : ℕ) (now : Slot) (b : BucketView) → IsSlotOf (map of_slot slots) place b → b.kind ≡ Uniform → now ≡ slice_index_or slots place now → of_slot now ≡ perm_of b
+slot_of slots place now b fits kind is =
+    let at : slice_get (map of_slot slots) place ≡ Some (perm_of b) = fits (perm_of b) (rw kind refl) in
+    let mapped : slice_index_or (map of_slot slots) place (of_slot now) ≡ of_slot (slice_index_or slots place now) = get_or-map of_slot slots place now in
+    ap of_slot is ∙ sym mapped ∙ get_or_from_slice_get (map of_slot slots) place (perm_of b) (of_slot now) at
 
 -- a row that is written back as a whole
 pub whole : (row after : List Pair) (len : ℕ) → len ≡ length row → length after ≡ length row → take len (after ++ drop (length after) row) ≡ after

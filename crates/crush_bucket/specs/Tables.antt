@@ -1,6 +1,6 @@
 -- The buckets and devices of a map, as choosing walks over them.
 use Rattle.std.specs.Prelude.{◌≡◌, ℕ, pos, ◌<◌, ◌==◌, Bool, true, List, [], length, map, slice_index_or, Option, MatchOption}
-use Rattle.std.specs.List.{list_any, position_from}
+use Rattle.std.specs.List.{list_any, position_from, filter_map}
 use Rattle.std.specs.Ordering.{int_eq}
 use Rattle.crush_map.specs.declared.word.ItemId.{ItemId}
 use Rattle.crush_map.specs.declared.word.Kind.{Kind}
@@ -73,6 +73,9 @@ IsBelow t number item = MatchOption (bucket_numbered t item) (IsDevice t item) (
 
 -- ---- the scratch
 
--- for each bucket, by its number, the permutation that it needs
-abbrev pub perms_of : TablesView → List (Option PermView)
-perms_of t = map (λ b. perm_for b.bucket) t.buckets
+-- the permutations that these buckets need, in order of number: one for each uniform bucket
+abbrev pub perms_in : List TypedBucket → List PermView
+perms_in buckets = filter_map (λ b. perm_for b.bucket) buckets
+
+abbrev pub perms_of : TablesView → List PermView
+perms_of t = perms_in t.buckets

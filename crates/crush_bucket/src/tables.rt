@@ -2,12 +2,12 @@
 
 ghost use Rattle.std.specs.Prelude.{◌≡◌, ◌<◌, ◌<ℤ◌, ◌==◌, ◌^◌, pos, IfOk, IfSome, OnSome, All, length, map};
 ghost use Rattle.crush_bucket.specs.Bucket.{IsItemOf};
-ghost use Rattle.crush_bucket.specs.Private.Laid.{IsFit};
+ghost use Rattle.crush_bucket.specs.Private.Laid.{IsFit, AreSlots};
 ghost use Rattle.crush_bucket.specs.Tables.{tables_of, typed_bucket, bucket_numbered, bucket_at, type_at, kind_at, size_at, pick_at, has_device, perms_of, IsBelow};
 
 use crate::index::index_of;
 use crate::number::{BucketNo, index_place};
-use crate::row::Row;
+use crate::row::{Picking, Row};
 use crate::scratch::Scratch;
 use crush_map::{Bucket, CrushMap, Device, ItemId, Kind, Tunables, buckets_are_sound};
 use std::alloc::{AllocError, Global};
@@ -17,6 +17,7 @@ use std::marker::Model;
 #[derive(Drop)]
 pub struct Tables {
     rows: Vec<Row>,
+    slots: Vec<usize>,
     index: Vec<Option<BucketNo>>,
     devices: Vec<u32>,
     tunables: Tunables,
@@ -24,7 +25,7 @@ pub struct Tables {
 
 impl Model for Tables {
     ghost use Rattle.crush_bucket.specs.Tables.{TablesView};
-    ghost use Rattle.crush_bucket.specs.Private.Laid.{IsLaid, IsIndexOf};
+    ghost use Rattle.crush_bucket.specs.Private.Laid.{IsLaid, AreSlots, IsIndexOf};
     ghost use Rattle.std.specs.List.Sorted.{IsStrictlyIncreasing};
 
     ghost Value = { TablesView };
@@ -33,6 +34,7 @@ impl Model for Tables {
 
     ghost invariant = { λ a. record {
       laid : IsLaid (record { buckets = a.rows.items; devices = a.devices.items; tunables = a.tunables });
+      slots : AreSlots a.rows.items a.slots.items;
       index : IsIndexOf a.rows.items a.index.items;
       order : IsStrictlyIncreasing a.devices.items;
     } };
@@ -45,10 +47,12 @@ impl Tables {
     {
         buckets_are_sound();
         let rows = rows_of(alloc, map.buckets())?;
+        let slots = slots_of(alloc, &rows)?;
         let index = index_of(alloc, &rows)?;
         let devices = ids_of(alloc, map.devices())?;
         Ok(Tables {
             rows,
+            slots,
             index,
             devices,
             tunables: map.tunables(),
@@ -135,7 +139,12 @@ impl Tables {
         ensures same { scratch.new ≡ scratch.old }
     {
         let place = bucket.place();
-        scratch.pick(&self.rows[place], place, x, r)
+        match self.rows[place].picking() {
+            Picking::Empty { id: _, kind: _ } => unreachable!(),
+            Picking::Uniform(bucket) => scratch.pick(bucket, self.slots[place], x, r),
+            Picking::List(bucket) => bucket.item_for(x, r),
+            Picking::Tree(bucket) => bucket.item_for(x, r),
+        }
     }
 }
 
@@ -149,6 +158,21 @@ fn rows_of(alloc: Global, buckets: &[Bucket]) -> Result<Vec<Row>, AllocError>
         rows.push(Row::build(alloc, bucket)?)?;
     }
     Ok(rows)
+}
+
+/// For each bucket, how many uniform ones come before it: where a scratch has a uniform bucket's permutation. That of other buckets isn't asked for.
+fn slots_of(alloc: Global, rows: &[Row]) -> Result<Vec<usize>, AllocError>
+    ensures { IfOk result (λ slots. AreSlots rows.now slots.items) }
+{
+    let mut slots = Vec::with_capacity(alloc, rows.len())?;
+    let mut next = 0;
+    for row in rows {
+        slots.push(next)?;
+        if row.kind() == Kind::Uniform {
+            next += 1;
+        }
+    }
+    Ok(slots)
 }
 
 /// The ids of devices.

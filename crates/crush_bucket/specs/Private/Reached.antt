@@ -1,5 +1,6 @@
 -- How far a scratch has made a permutation, and the pairs that it keeps.
-use Rattle.std.specs.Prelude.{◌≡◌, ℕ, ◌+◌, ◌<◌, ◌≤◌, ◌^◌, List, length, take, slice_range, slice_index_or, Option, None, Some, max}
+use Rattle.std.specs.Prelude.{◌≡◌, ℕ, ◌+◌, ◌<◌, ◌≤◌, ◌^◌, List, length, take, slice_range, All, max}
+use Rattle.std.specs.List.{AllPairs}
 use Rattle.crush_bucket.specs.declared.reached.Reached.{Reached}
 use Rattle.crush_bucket.specs.declared.reached.Slot.{Slot}
 use Rattle.crush_bucket.specs.Permutation.{PermView, Remembered, after_swaps, differing}
@@ -24,9 +25,8 @@ room_of size = max size 2
 -- ---- permutations whose pairs stand in one row
 
 -- what a slot's permutation is of
-abbrev pub of_slot : Option Slot → Option PermView
-of_slot None = None
-of_slot (Some s) = Some (remembered_by s.reached).of
+abbrev pub of_slot : Slot → PermView
+of_slot s = (remembered_by s.reached).of
 
 -- where a slot's part of the row ends
 abbrev pub end_of : Slot → ℕ
@@ -37,31 +37,23 @@ pub record IsPart (s : Slot) (row : List Pair) : Type 0 where
   pub within : end_of s ≤ length row
   pub reached : IsReached s.reached (slice_range row s.start (end_of s))
 
--- a slot of a number
-abbrev pub HasSlot : List (Option Slot) → ℕ → Slot → Type 0
-HasSlot slots i s = slice_index_or slots i None ≡ Some s
-
--- no two slots have the same part
-abbrev pub AreApart : List (Option Slot) → Type 0
-AreApart slots = (i j : ℕ) (s t : Slot) → i < j → HasSlot slots i s → HasSlot slots j t → end_of s ≤ t.start
+-- each slot's part is before those of the later ones
+abbrev pub AreApart : List Slot → Type 0
+AreApart slots = AllPairs (λ s t. end_of s ≤ t.start) slots
 
 -- each slot has a part of the row for itself
-pub record AreParts (slots : List (Option Slot)) (row : List Pair) : Type 0 where
-  pub each : (i : ℕ) (s : Slot) → HasSlot slots i s → IsPart s row
+pub record AreParts (slots : List Slot) (row : List Pair) : Type 0 where
+  pub each : All (λ s. IsPart s row) slots
   pub apart : AreApart slots
 
--- no exchange is made in a slot
-pub record IsNew (s : Slot) : Type 0 where
+-- no exchange is made in a slot, and its part ends here at the latest
+pub record IsNew (end : ℕ) (s : Slot) : Type 0 where
   pub len : s.reached.len ≡ 0
   pub swaps : s.reached.swaps ≡ 0
   pub small : s.reached.size < 2 ^ 32
+  pub within : end_of s ≤ end
 
--- a new slot, or none, has its part between these places
-abbrev pub IsBetween : Option Slot → ℕ → ℕ → Type 0
-IsBetween None from to = from ≡ to
-IsBetween (Some s) from to = IsNew s × (s.start ≡ from) × (end_of s ≡ to)
-
--- each slot is new and has its part before an end
-pub record AreNew (slots : List (Option Slot)) (end : ℕ) : Type 0 where
-  pub each : (i : ℕ) (s : Slot) → HasSlot slots i s → IsNew s × (end_of s ≤ end)
+-- each slot is new and has a part for itself before an end
+pub record AreNew (slots : List Slot) (end : ℕ) : Type 0 where
+  pub each : All (IsNew end) slots
   pub apart : AreApart slots

@@ -1,28 +1,31 @@
-use Rattle.std.proofs.Common.{◌≡◌, ◌+◌, [], ◌∷◌, ◌++◌, List, Option, length, map, take, refl, ap, sym, ◌∙◌, arith, subst}
-use Rattle.std.proofs.lemmas.List.{take_more, map-append}
-use Rattle.crush_bucket.specs.declared.reached.Slot.{Slot}
-use Rattle.crush_bucket.specs.Pick.{perm_for}
-use Rattle.crush_bucket.specs.Tables.{TypedBucket}
-use Rattle.crush_bucket.specs.Private.Reached.{AreNew, of_slot}
+use Rattle.std.proofs.Common.{◌≡◌, ◌≢◌, ◌<◌, ◌++◌, ◌∷◌, [], length, sym, ◌∙◌, arith, rules, subst}
+use Rattle.crush_map.specs.declared.Kind.TheVariants.{Uniform}
+use Rattle.crush_bucket.specs.Private.Reached.{AreNew}
 use Rattle.crush_bucket.proofs.Parts.{new_more, new_parts}
+use Rattle.crush_bucket.proofs.Slots.{perms_uniform, perms_other, mapped_push}
 use Rattle.crush_bucket.proofs.scratch.Scratch.build.Goals as goal
-
--- one element more on both sides
-mapped_more : (slots : List (Option Slot)) (slot : Option Slot) (rows done : List TypedBucket) (row : TypedBucket) → map of_slot slots ≡ map (λ (b : TypedBucket). perm_for b.bucket) rows → of_slot slot ≡ perm_for row.bucket → done ≡ rows ++ row ∷ []
-    → map of_slot (slots ++ slot ∷ []) ≡ map (λ (b : TypedBucket). perm_for b.bucket) done
-mapped_more slots slot rows done row so of more =
-    let step : map of_slot slots ++ of_slot slot ∷ [] ≡ map (λ (b : TypedBucket). perm_for b.bucket) rows ++ perm_for row.bucket ∷ [] = rw (so, of) refl in
-    map-append of_slot slots (slot ∷ []) ∙ step ∙ sym (ap (λ (l : List TypedBucket). map (λ (b : TypedBucket). perm_for b.bucket) l) more ∙ map-append (λ (b : TypedBucket). perm_for b.bucket) rows (row ∷ []))
+use Rattle.crush_bucket.proofs.scratch.Scratch.build.Goals.{then-eq+in_ok-slot+in_ok-push, else-eq}
 
 pub loop-row-preserved : goal.loop-row-preserved
 loop-row-preserved c =
     let rows = c.rows-rows.result.now in
+    let l = c.loop-row in
     let row = c.row-item.result in
-    let more : take (c.loop-row.row-index + 1) rows ≡ take c.loop-row.row-index rows ++ row ∷ [] = take_more rows c.loop-row.row-index row (omega arith) ∙ ap (λ (r : TypedBucket). take c.loop-row.row-index rows ++ r ∷ []) (sym c.row-item.is) in
-    record {
-      of = rw c.in_ok-push.ensures.items (mapped_more c.loop-row.slots.items c.in_ok-slot.slot (take c.loop-row.row-index rows) (take (c.loop-row.row-index + 1) rows) row c.loop-row.invariant.of c.in_ok-slot.ensures.of more);
-      new = rw c.in_ok-push.ensures.items (new_more c.loop-row.slots.items c.in_ok-slot.slot c.loop-row.end c.in_ok-slot.next c.loop-row.invariant.new c.in_ok-slot.ensures.between);
-    }
+    let low : l.row-index < length rows = omega arith in
+    elim c.if-eq.branch [
+      | then-eq+in_ok-slot+in_ok-push w ↦
+          let kind : row.bucket.kind ≡ Uniform = search rules in
+          let slot = w.in_ok-slot.slot in
+          let is = w.in_ok-slot.ensures {u = tt} in
+          let more : c.if-eq.slots.items ≡ l.slots.items ++ slot ∷ [] = rw w.slots-is w.in_ok-push.ensures.items in
+          record {
+            of = mapped_push rows l.slots.items c.if-eq.slots.items l.row-index slot row more l.invariant.of is.of (perms_uniform rows l.row-index row low c.row-item.is kind);
+            new = rw (more, w.end-is) (new_more l.slots.items slot l.end w.in_ok-slot.next l.invariant.new is.new is.start);
+          }
+      | else-eq w ↦
+          let kind : row.bucket.kind ≢ Uniform = search rules in
+          record { of = rw w.slots-is (l.invariant.of ∙ sym (perms_other rows l.row-index row low c.row-item.is kind)); new = rw (w.slots-is, w.end-is) l.invariant.new }
+    ]
 
 pub invariant_of-result : goal.invariant_of-result
 invariant_of-result c =
