@@ -77,96 +77,37 @@ const FIRST: &[(Kind, &[(i32, u32)], i32)] = &[
     (List, &[(0, ONE), (1, 23 * ONE)], 1),
 ];
 
-/// The kind and the items of a bucket -1, and the item that it picks for every input at every attempt: a list without weight
-/// has 1, 7, 8, 9, 16 and 17 items, below, at and above full eights.
+/// The kind and the items of a bucket -1, and the item that it picks for every input at every attempt.
 const ALWAYS: &[(Kind, &[(i32, u32)], i32)] = &[
     (List, &[(4, ONE), (9, 0)], 4),
     (List, &[(4, 0), (9, ONE)], 9),
     (List, &[(4, 0), (9, 0)], 4),
     (Tree, &[(10, 0), (11, 0), (12, 0)], 12),
     (Tree, &[(10, 0), (11, ONE), (12, 0)], 11),
-    (List, &[(3, 0); 1], 3),
-    (
-        List,
-        &[(3, 0), (4, 0), (5, 0), (6, 0), (7, 0), (8, 0), (9, 0)],
-        3,
-    ),
-    (
-        List,
-        &[
-            (3, 0),
-            (4, 0),
-            (5, 0),
-            (6, 0),
-            (7, 0),
-            (8, 0),
-            (9, 0),
-            (10, 0),
-        ],
-        3,
-    ),
-    (
-        List,
-        &[
-            (3, 0),
-            (4, 0),
-            (5, 0),
-            (6, 0),
-            (7, 0),
-            (8, 0),
-            (9, 0),
-            (10, 0),
-            (11, 0),
-        ],
-        3,
-    ),
-    (
-        List,
-        &[
-            (3, 0),
-            (4, 0),
-            (5, 0),
-            (6, 0),
-            (7, 0),
-            (8, 0),
-            (9, 0),
-            (10, 0),
-            (11, 0),
-            (12, 0),
-            (13, 0),
-            (14, 0),
-            (15, 0),
-            (16, 0),
-            (17, 0),
-            (18, 0),
-        ],
-        3,
-    ),
-    (
-        List,
-        &[
-            (3, 0),
-            (4, 0),
-            (5, 0),
-            (6, 0),
-            (7, 0),
-            (8, 0),
-            (9, 0),
-            (10, 0),
-            (11, 0),
-            (12, 0),
-            (13, 0),
-            (14, 0),
-            (15, 0),
-            (16, 0),
-            (17, 0),
-            (18, 0),
-            (19, 0),
-        ],
-        3,
-    ),
 ];
 
+/// The items of a list without weight.
+const LIGHT: [(i32, u32); 17] = [
+    (3, 0),
+    (4, 0),
+    (5, 0),
+    (6, 0),
+    (7, 0),
+    (8, 0),
+    (9, 0),
+    (10, 0),
+    (11, 0),
+    (12, 0),
+    (13, 0),
+    (14, 0),
+    (15, 0),
+    (16, 0),
+    (17, 0),
+    (18, 0),
+    (19, 0),
+];
+
+/// The list without weight has 1, 7, 8, 9, 16 and 17 items, below, at and above full eights.
 #[test]
 fn buckets_answer_the_worked_rows(rt: HostRuntime) -> Result<(), AllocError> {
     let alloc = rt.alloc();
@@ -176,7 +117,16 @@ fn buckets_answer_the_worked_rows(rt: HostRuntime) -> Result<(), AllocError> {
         many.push((x, x % 7))?;
     }
     let first = [(0, 0)];
-    for (rows, questions) in [(FIRST, &first[..]), (ALWAYS, many.as_slice())] {
+    let light = [
+        (List, &LIGHT[..1], 3),
+        (List, &LIGHT[..7], 3),
+        (List, &LIGHT[..8], 3),
+        (List, &LIGHT[..9], 3),
+        (List, &LIGHT[..16], 3),
+        (List, &LIGHT[..], 3),
+    ];
+    let many = many.as_slice();
+    for (rows, questions) in [(FIRST, &first[..]), (ALWAYS, many), (&light[..], many)] {
         for (case, (kind, items, want)) in rows.iter().enumerate() {
             let entries = entries(alloc, items)?;
             for pick in picked(&rt, alloc, *kind, ItemId(-1), &entries, questions)? {
@@ -234,7 +184,7 @@ fn random_entries(
     Ok(entries)
 }
 
-fn random_id(seed: &mut u64) -> ItemId {
+pub(crate) fn random_id(seed: &mut u64) -> ItemId {
     ItemId(-1 - (next(seed) % 1_000) as i32)
 }
 

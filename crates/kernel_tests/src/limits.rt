@@ -1,7 +1,7 @@
 //! A map at the limits of its numbers, with 1,024 devices and 1,024 buckets: what is built of it answers.
 
 use crate::drafts::{ONE, SOUND, Short, bucket, choose, generated};
-use crate::rules::{TAKE, ask};
+use crate::rules::ask;
 use crush_map::{Bucket, ItemId, Kind, Listed, Step};
 use std::alloc::{AllocError, Global};
 use std::test::Fail;
@@ -52,39 +52,17 @@ fn all_buckets(alloc: Global) -> Result<Listed<Bucket>, AllocError> {
 
 const ONE_DEVICE: Step = choose!(true, false, 1, 0);
 
+/// Steps that choose a device from each of these buckets.
+macro_rules! a_device_of_each {
+    ($($bucket:expr),*) => {
+        &[$(Step::Take(ItemId($bucket)), ONE_DEVICE, Step::Emit),*]
+    };
+}
+
 /// A device from the root, and then one from each of nine racks, each third one.
-const STEPS: &[Step] = &[
-    TAKE,
-    ONE_DEVICE,
-    Step::Emit,
-    Step::Take(ItemId(-994)),
-    ONE_DEVICE,
-    Step::Emit,
-    Step::Take(ItemId(-997)),
-    ONE_DEVICE,
-    Step::Emit,
-    Step::Take(ItemId(-1000)),
-    ONE_DEVICE,
-    Step::Emit,
-    Step::Take(ItemId(-1003)),
-    ONE_DEVICE,
-    Step::Emit,
-    Step::Take(ItemId(-1006)),
-    ONE_DEVICE,
-    Step::Emit,
-    Step::Take(ItemId(-1009)),
-    ONE_DEVICE,
-    Step::Emit,
-    Step::Take(ItemId(-1012)),
-    ONE_DEVICE,
-    Step::Emit,
-    Step::Take(ItemId(-1015)),
-    ONE_DEVICE,
-    Step::Emit,
-    Step::Take(ItemId(-1018)),
-    ONE_DEVICE,
-    Step::Emit,
-];
+const STEPS: &[Step] = a_device_of_each!(
+    -1, -994, -997, -1000, -1003, -1006, -1009, -1012, -1015, -1018
+);
 
 /// Devices with an even number are out, the others are in.
 fn reweights(alloc: Global) -> Result<Vec<(u32, u32)>, AllocError> {

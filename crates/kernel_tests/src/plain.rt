@@ -40,6 +40,27 @@ pub(crate) fn pick(
     }
 }
 
+/// The list of the places 0, 1, .. after so many exchanges; after as many as there are places it is the permutation.
+pub(crate) fn exchanged(
+    alloc: Global,
+    id: ItemId,
+    size: usize,
+    x: u32,
+    exchanges: usize,
+) -> Result<Vec<usize>, AllocError> {
+    let mut places = Vec::new(alloc);
+    for place in 0..size {
+        places.push(place)?;
+    }
+    for place in 0..exchanges {
+        if place < places.len() {
+            let i = hash3(x, id.word(), (place % 65_536) as u32) as usize % (places.len() - place);
+            places.swap(place, place + i);
+        }
+    }
+    Ok(places)
+}
+
 /// The whole permutation is made for each question.
 pub(crate) fn uniform(
     alloc: Global,
@@ -52,18 +73,8 @@ pub(crate) fn uniform(
     if size == 0 {
         return Ok(NOTHING);
     }
-    let mut places = Vec::new(alloc);
-    for place in 0..size {
-        places.push(place)?;
-    }
-    for place in 0..size {
-        let word = (place % 65_536) as u32;
-        let i = hash3(x, id.word(), word) as usize % (size - place);
-        if place + i < places.len() && place < places.len() {
-            places.swap(place, place + i);
-        }
-    }
-    Ok(match places.as_slice().get(r as usize % size) {
+    let places = exchanged(alloc, id, size, x, size)?;
+    Ok(match places.get(r as usize % size) {
         Some(place) => item_at(entries, *place),
         None => NOTHING,
     })

@@ -1,10 +1,12 @@
 //! Rules that run on maps of drafts: worked examples, and what Ceph 16's `crush_do_rule` answers.
 
 ghost use Rattle.std.specs.Prelude.{◌≡◌, ◌≤◌};
-ghost use Rattle.crush_bucket.specs.Tables.{perms_of};
+ghost use Rattle.crush_bucket.specs.Tables.{perms_of, tables_of};
 ghost use Rattle.crush_choose.specs.Rules.{CanRun};
 
-use crate::drafts::{JEWEL, ONE, SOUND, Short, ShortBucket, bucket, choose, draft, generated};
+use crate::drafts::{
+    JEWEL, ONE, SOUND, Short, ShortBucket, bucket, choose, draft, generated, map_of,
+};
 use Kind::{List, Tree, Uniform};
 use crush_bucket::{Scratch, Tables};
 use crush_choose::{Out, Slot, Weights, is_in, laws, run_rule};
@@ -20,7 +22,7 @@ const LEGACY: Tunables = Tunables {
     stable: 0,
 };
 
-pub(crate) const TAKE: Step = Step::Take(ItemId(-1));
+const TAKE: Step = Step::Take(ItemId(-1));
 
 /// The wanted answer and trace of each input, where they are the same.
 pub(crate) type Wanted<'a> = Option<(&'a [Slot], &'a [u32])>;
@@ -54,6 +56,16 @@ fn ask_all(
     sum
 }
 
+/// The one rule of a map.
+pub(crate) fn rule_of<'a>(rt: &impl Abort, map: &'a CrushMap) -> &'a Rule
+    ensures { CanRun (tables_of map.now) result.now }
+{
+    let rules = map.rules();
+    assert_eq!(rt; rules.len(), 1);
+    laws::rules_of_a_map_can_run();
+    &rules[0]
+}
+
 /// The folded answers of the rule of a map.
 pub(crate) fn ask(
     rt: &impl Abort,
@@ -65,22 +77,16 @@ pub(crate) fn ask(
     want: Wanted<'_>,
 ) -> Result<u64, Fail> {
     assert!(rt; 1 <= size && size <= 32);
-    let answer = CrushMap::check(alloc, draft)?;
-    assert!(rt; answer.is_ok());
-    let map = answer.ok().unwrap();
+    let map = map_of(alloc, draft)?;
     let tables = Tables::build(alloc, &map)?;
     let mut scratch = Scratch::build(alloc, &tables)?;
     let weights = Weights::build(alloc, &map, given)?;
     let mut out = Out::build(alloc)?;
-    let rules = map.rules();
-    assert_eq!(rt; rules.len(), 1);
-    laws::rules_of_a_map_can_run();
-    let rule = &rules[0];
     Ok(ask_all(
         rt,
         &tables,
         &mut scratch,
-        rule,
+        rule_of(rt, &map),
         size,
         &weights,
         &mut out,
@@ -284,17 +290,15 @@ fn rules_answer_the_worked_examples(rt: HostRuntime) -> Result<(), Fail> {
 }
 
 /// The reweights that are given to a map of the devices 0 and 3.
-fn weights(rt: &impl Abort, alloc: Global, given: &[(u32, u32)]) -> Result<Weights, Fail> {
-    match CrushMap::check(alloc, draft(alloc, SOUND)?)? {
-        Ok(map) => Ok(Weights::build(alloc, &map, given)?),
-        Err(_) => rt.abort(),
-    }
+fn weights(alloc: Global, given: &[(u32, u32)]) -> Result<Weights, Fail> {
+    let map = map_of(alloc, draft(alloc, SOUND)?)?;
+    Ok(Weights::build(alloc, &map, given)?)
 }
 
 #[test]
 fn a_device_is_in_from_above_its_draw(rt: HostRuntime) -> Result<(), Fail> {
     for (reweight, want) in &[(0, false), (55_335, false), (55_336, true), (ONE, true)] {
-        let weights = weights(&rt, rt.alloc(), &[(1, *reweight), (1, ONE)])?;
+        let weights = weights(rt.alloc(), &[(1, *reweight), (1, ONE)])?;
         assert_eq!(rt;
             (weights.get(0), weights.get(1), weights.get(2)),
             (ONE, *reweight, ONE)
@@ -307,7 +311,7 @@ fn a_device_is_in_from_above_its_draw(rt: HostRuntime) -> Result<(), Fail> {
 #[test]
 fn a_reweight_counts_for_an_id_that_is_no_device_of_the_map(rt: HostRuntime) -> Result<(), Fail> {
     let given = [(7, 1_000), (65_535, 5), (65_536, 9), (7, 3)];
-    let weights = weights(&rt, rt.alloc(), &given)?;
+    let weights = weights(rt.alloc(), &given)?;
     for (id, want) in &[
         (0, ONE),
         (7, 1_000),

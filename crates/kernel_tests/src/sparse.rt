@@ -1,9 +1,9 @@
 //! The places that a permutation keeps.
 
-use crate::buckets::next;
+use crate::buckets::{next, random_id};
 use crate::drafts::{ONE, entries};
+use crate::plain;
 use crush_bucket::{ListBucket, Perm, Picker, TreeBucket, UniformBucket, can_be_asked};
-use crush_hash::hash3;
 use crush_map::{ItemId, has_equal_weights};
 use std::alloc::{AllocError, Global};
 use std::process::Abort;
@@ -49,26 +49,16 @@ fn lists_and_trees_keep_nothing(rt: HostRuntime) -> Result<(), AllocError> {
     Ok(())
 }
 
-/// At how many places a list differs from 0, 1, .. after so many exchanges, the whole list being made.
+/// At how many places a permutation differs from 0, 1, .. after so many exchanges.
 fn plain_kept(
     alloc: Global,
     id: ItemId,
     size: usize,
     x: u32,
-    swaps: usize,
+    exchanges: usize,
 ) -> Result<usize, AllocError> {
-    let mut places = Vec::new(alloc);
-    for place in 0..size {
-        places.push(place)?;
-    }
-    for place in 0..swaps {
-        if place < places.len() {
-            let i = hash3(x, id.word(), (place % 65_536) as u32) as usize % (places.len() - place);
-            places.swap(place, place + i);
-        }
-    }
     Ok(
-        places
+        plain::exchanged(alloc, id, size, x, exchanges)?
             .iter()
             .enumerate()
             .filter(|(n, place)| *n != **place)
@@ -83,19 +73,19 @@ fn a_perm_keeps_what_its_plain_form_moves(rt: HostRuntime) -> Result<(), AllocEr
     let mut seed = 2_027;
     for _ in 0..200 {
         let size = 1 + (next(&mut seed) % 64) as usize;
-        let id = ItemId(-1 - (next(&mut seed) % 1_000) as i32);
+        let id = random_id(&mut seed);
         let mut perm = Perm::build(alloc, id, size)?;
-        let (mut last, mut swaps) = (0, 0);
+        let (mut last, mut exchanges) = (0, 0);
         'questions: for _ in 0..10 {
             let (x, place) = (next(&mut seed) % 3, next(&mut seed) as usize % size);
             perm.member(x, place);
             if x != last {
-                swaps = 0;
+                exchanges = 0;
                 assert!(rt; perm.kept() <= 2 * (place + 1));
             }
-            swaps = swaps.max((place + 1).min(size - 1));
+            exchanges = exchanges.max((place + 1).min(size - 1));
             last = x;
-            assert_eq!(rt; perm.kept(), plain_kept(alloc, id, size, x, swaps)?);
+            assert_eq!(rt; perm.kept(), plain_kept(alloc, id, size, x, exchanges)?);
         }
     }
     Ok(())

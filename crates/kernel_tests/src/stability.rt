@@ -4,10 +4,11 @@ ghost use Rattle.std.specs.Prelude.{◌≡◌};
 ghost use Rattle.crush_bucket.specs.Tables.{perms_of};
 ghost use Rattle.crush_choose.specs.Rules.{CanRun};
 
-use crate::drafts::{ONE, SOUND, Short, choose, draft};
+use crate::drafts::{ONE, SOUND, Short, choose, draft, map_of};
+use crate::rules::rule_of;
 use crush_bucket::{Scratch, Tables};
-use crush_choose::{Out, Weights, laws, run_rule};
-use crush_map::{CrushMap, ItemId, Kind, Rule, Step};
+use crush_choose::{Out, Weights, run_rule};
+use crush_map::{ItemId, Kind, Rule, Step};
 use std::alloc::{AllocError, Global};
 use std::process::Abort;
 use std::test::Fail;
@@ -74,18 +75,13 @@ fn assert_all_move_from_0(
 #[test]
 fn what_does_not_have_a_lowered_device_in_its_trace_stays(rt: HostRuntime) -> Result<(), Fail> {
     let alloc = rt.alloc();
-    let answer = CrushMap::check(alloc, draft(alloc, TWO_DEVICES)?)?;
-    assert!(rt; answer.is_ok());
-    let map = answer.ok().unwrap();
+    let map = map_of(alloc, draft(alloc, TWO_DEVICES)?)?;
     let tables = Tables::build(alloc, &map)?;
     let mut scratch = Scratch::build(alloc, &tables)?;
     let full = Weights::build(alloc, &map, &[])?;
     let lowered = Weights::build(alloc, &map, &[(0, 0)])?;
     let mut out = Out::build(alloc)?;
-    let rules = map.rules();
-    assert_eq!(rt; rules.len(), 1);
-    laws::rules_of_a_map_can_run();
-    let rule = &rules[0];
+    let rule = rule_of(&rt, &map);
     assert_all_move_from_0(&rt, &tables, &mut scratch, rule, &full, &lowered, &mut out);
     Ok(())
 }

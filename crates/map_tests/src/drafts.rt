@@ -1,9 +1,11 @@
 //! Drafts of maps, written shortly.
 
 use crush_map::{
-    Bucket, Device, ItemId, Kind, Listed, MapDraft, Rule, Step, Text, Tunables, TypeName, Weight,
+    Bucket, CrushMap, Device, ItemId, Kind, Listed, MapDraft, Rule, Step, Text, Tunables, TypeName,
+    Weight,
 };
 use std::alloc::{AllocError, Global};
+use std::test::Fail;
 
 /// The weight 1.0.
 pub const ONE: u32 = 65_536;
@@ -47,6 +49,8 @@ pub struct Short<'a> {
     pub devices: &'a [(u32, &'a str)],
     pub buckets: &'a [ShortBucket<'a>],
     pub rules: &'a [ShortRule<'a>],
+    /// Whether its rules are of erasure pools.
+    pub erasure: bool,
     /// choose_local_tries and choose_local_fallback_tries.
     pub local_tries: (u32, u32),
     pub tunables: Tunables,
@@ -58,27 +62,34 @@ pub const SOUND: Short<'static> = Short {
     devices: &[(3, "osd.3"), (0, "osd.0")],
     buckets: &[],
     rules: &[],
+    erasure: false,
     local_tries: (0, 0),
     tunables: JEWEL,
 };
 
-fn types(alloc: Global, short: &[(u32, &str)]) -> Result<Listed<TypeName>, AllocError> {
-    let mut types = Vec::new(alloc);
+/// Numbers with their names.
+fn named(alloc: Global, short: &[(u32, &str)]) -> Result<Vec<(u32, Text)>, AllocError> {
+    let mut named = Vec::new(alloc);
     for (number, name) in short {
-        let name = Text::copy(alloc, name)?;
-        types.push(TypeName {
-            number: *number,
-            name,
-        })?;
+        named.push((*number, Text::copy(alloc, name)?))?;
+    }
+    Ok(named)
+}
+
+/// Types of these numbers and names.
+pub fn types(alloc: Global, named: Vec<(u32, Text)>) -> Result<Listed<TypeName>, AllocError> {
+    let mut types = Vec::new(alloc);
+    for (number, name) in named {
+        types.push(TypeName { number, name })?;
     }
     Ok(Listed::new(types))
 }
 
-fn devices(alloc: Global, short: &[(u32, &str)]) -> Result<Listed<Device>, AllocError> {
+/// Devices of these ids and names.
+pub fn devices(alloc: Global, named: Vec<(u32, Text)>) -> Result<Listed<Device>, AllocError> {
     let mut devices = Vec::new(alloc);
-    for (id, name) in short {
-        let name = Text::copy(alloc, name)?;
-        devices.push(Device { id: *id, name })?;
+    for (id, name) in named {
+        devices.push(Device { id, name })?;
     }
     Ok(Listed::new(devices))
 }
@@ -107,14 +118,14 @@ fn buckets(alloc: Global, short: &[ShortBucket<'_>]) -> Result<Listed<Bucket>, A
     Ok(Listed::new(buckets))
 }
 
-fn rules(alloc: Global, short: &[ShortRule<'_>]) -> Result<Listed<Rule>, AllocError> {
+fn rules(alloc: Global, short: Short<'_>) -> Result<Listed<Rule>, AllocError> {
     let mut rules = Vec::new(alloc);
-    for (id, name, steps) in short {
+    for (id, name, steps) in short.rules {
         let name = Text::copy(alloc, name)?;
         rules.push(Rule {
             id: *id,
             name,
-            erasure: false,
+            erasure: short.erasure,
             steps: Listed::new(steps.to_vec(alloc)?),
         })?;
     }
@@ -124,38 +135,39 @@ fn rules(alloc: Global, short: &[ShortRule<'_>]) -> Result<Listed<Rule>, AllocEr
 /// The draft that is written so.
 pub fn draft(alloc: Global, short: Short<'_>) -> Result<MapDraft, AllocError> {
     Ok(MapDraft {
-        types: types(alloc, short.types)?,
-        devices: devices(alloc, short.devices)?,
+        types: types(alloc, named(alloc, short.types)?)?,
+        devices: devices(alloc, named(alloc, short.devices)?)?,
         buckets: buckets(alloc, short.buckets)?,
-        rules: rules(alloc, short.rules)?,
+        rules: rules(alloc, short)?,
         local_tries: short.local_tries.0,
         local_fallback_tries: short.local_tries.1,
         tunables: short.tunables,
     })
 }
 
-/// A draft with these buckets, and with the devices from 0 on.
+/// The same draft with these buckets, and with the devices from 0 on.
 pub fn generated(
     alloc: Global,
     short: Short<'_>,
     count: u32,
     buckets: Listed<Bucket>,
 ) -> Result<MapDraft, AllocError> {
-    let mut devices = Vec::new(alloc);
+    let mut named = Vec::new(alloc);
     for id in 0..count {
-        let name = Text::new(format!(in alloc; "osd.{id}")?);
-        devices.push(Device { id, name })?;
+        named.push((id, Text::new(format!(in alloc; "osd.{id}")?)))?;
     }
-    let rules = rules(alloc, short.rules)?;
-    Ok(MapDraft {
-        types: types(alloc, short.types)?,
-        devices: Listed::new(devices),
-        buckets,
-        rules,
-        local_tries: 0,
-        local_fallback_tries: 0,
-        tunables: short.tunables,
-    })
+    let mut made = draft(alloc, short)?;
+    made.devices = devices(alloc, named)?;
+    made.buckets = buckets;
+    Ok(made)
+}
+
+/// The map of a draft without a fault.
+pub fn map_of(alloc: Global, draft: MapDraft) -> Result<CrushMap, Fail> {
+    match CrushMap::check(alloc, draft)? {
+        Ok(map) => Ok(map),
+        Err(_) => Err(Fail::new("the draft has a fault")),
+    }
 }
 
 /// A bucket that is named by its id.

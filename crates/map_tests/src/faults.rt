@@ -3,7 +3,9 @@
 //! No name has both M15 and M3, and no number of a type, device or rule both M12 and M2: what is there already is of the
 //! form and in range.
 
-use crate::drafts::{EMIT, JEWEL, ONE, SOUND, Short, ShortBucket, ShortRule, choose, draft};
+use crate::drafts::{
+    EMIT, JEWEL, ONE, SOUND, Short, ShortBucket, ShortRule, choose, draft, map_of,
+};
 use Element::{Buckets, Devices, End, Rules, Types};
 use FaultCode::{M1, M2, M3, M4, M5, M6, M7, M8, M9, M10, M11, M12, M13, M14, M15};
 use Kind::{List, Uniform};
@@ -345,9 +347,7 @@ const OUT_OF_ORDER: Short<'static> = Short {
 #[test]
 fn a_map_is_in_order(rt: HostRuntime) -> Result<(), Fail> {
     let alloc = rt.alloc();
-    let Ok(map) = CrushMap::check(alloc, draft(alloc, OUT_OF_ORDER)?)? else {
-        return rt.abort();
-    };
+    let map = map_of(alloc, draft(alloc, OUT_OF_ORDER)?)?;
     for (one, number) in map.types().iter().zip([0, 1, 3, 10]) {
         assert_eq!(rt; one.number, number);
     }

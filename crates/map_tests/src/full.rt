@@ -1,10 +1,9 @@
 //! Drafts at the limits of their counts, and past them.
 
-use crate::drafts::{JEWEL, ONE};
+use crate::drafts::{ONE, SOUND, devices, draft, map_of, types};
 use crate::faults::assert_first;
 use crush_map::{
-    Bucket, CrushMap, Device, Element, FaultCode, ItemId, Kind, Listed, MapDraft, Rule, Step, Text,
-    TypeName, Weight,
+    Bucket, Element, FaultCode, ItemId, Kind, Listed, MapDraft, Rule, Step, Text, Weight,
 };
 use std::alloc::{AllocError, Global};
 use std::process::Abort;
@@ -37,22 +36,6 @@ fn numbered(
         pairs.push(pair)?;
     }
     Ok(pairs)
-}
-
-fn types(alloc: Global, counts: Counts) -> Result<Listed<TypeName>, AllocError> {
-    let mut types = Vec::new(alloc);
-    for (number, name) in numbered(alloc, 't', counts.types, counts.wrong)? {
-        types.push(TypeName { number, name })?;
-    }
-    Ok(Listed::new(types))
-}
-
-fn devices(alloc: Global, counts: Counts) -> Result<Listed<Device>, AllocError> {
-    let mut devices = Vec::new(alloc);
-    for (id, name) in numbered(alloc, 'd', counts.devices, counts.wrong)? {
-        devices.push(Device { id, name })?;
-    }
-    Ok(Listed::new(devices))
 }
 
 /// Buckets of all devices.
@@ -89,19 +72,14 @@ fn rules(alloc: Global, counts: Counts) -> Result<Listed<Rule>, AllocError> {
 }
 
 fn full(alloc: Global, counts: Counts) -> Result<MapDraft, AllocError> {
-    let types = types(alloc, counts)?;
-    let devices = devices(alloc, counts)?;
-    let buckets = buckets(alloc, counts)?;
-    let rules = rules(alloc, counts)?;
-    Ok(MapDraft {
-        types,
-        devices,
-        buckets,
-        rules,
-        local_tries: 0,
-        local_fallback_tries: 0,
-        tunables: JEWEL,
-    })
+    let named_types = numbered(alloc, 't', counts.types, counts.wrong)?;
+    let named_devices = numbered(alloc, 'd', counts.devices, counts.wrong)?;
+    let mut made = draft(alloc, SOUND)?;
+    made.types = types(alloc, named_types)?;
+    made.devices = devices(alloc, named_devices)?;
+    made.buckets = buckets(alloc, counts)?;
+    made.rules = rules(alloc, counts)?;
+    Ok(made)
 }
 
 /// No element is wrong.
@@ -116,9 +94,7 @@ const MOST: Counts = Counts {
 #[test]
 fn a_draft_at_every_limit_is_a_map(rt: HostRuntime) -> Result<(), Fail> {
     let alloc = rt.alloc();
-    let Ok(map) = CrushMap::check(alloc, full(alloc, MOST)?)? else {
-        return rt.abort();
-    };
+    let map = map_of(alloc, full(alloc, MOST)?)?;
     assert_eq!(rt; (map.types().len(), map.devices().len()), (32, 1_024));
     assert_eq!(rt; (map.buckets().len(), map.rules().len()), (1_024, 64));
     Ok(())

@@ -1,6 +1,6 @@
 //! Placements of groups: the rule's answer, the devices of it that are up, and the primary.
 
-use crate::maps::{DEVICE_0, DEVICE_7, THREE, asked, left_by};
+use crate::maps::{THREE, asked};
 use crate::pools::{Short, TWELVE, pool};
 use crate::states::{DOWN_0, DOWN_1, DOWN_2};
 use crush_choose::Slot;
@@ -9,6 +9,7 @@ use crush_pool::{DeviceState, PoolFault};
 use std::alloc::Global;
 use std::process::Abort;
 use std::test::Fail;
+use text_tests::texts::{DEVICE_0, DEVICE_7};
 
 /// A group of a pool, on the map of a text with these states, and its placement.
 #[derive(Clone, Copy)]
@@ -25,11 +26,12 @@ struct Case {
 
 fn assert_placed(rt: &impl Abort, alloc: Global, case: Case) -> Result<(), Fail> {
     let pool = pool(rt, alloc, case.pool)?;
-    let answer = asked(rt, alloc, case.text, &pool, case.states, case.group)?;
+    let (answer, out) = asked(rt, alloc, case.text, &pool, case.states, case.group)?;
     assert!(rt; answer.is_ok());
     let placement = answer.ok().unwrap();
     assert_eq!(rt; placement.seed, case.seed);
     assert_eq!(rt; placement.raw.as_slice(), case.raw);
+    assert_eq!(rt; out.items(), case.raw);
     assert_eq!(rt; placement.up.as_slice(), case.up);
     assert_eq!(rt; placement.primary, case.primary);
     Ok(())
@@ -291,7 +293,7 @@ fn groups_end_below_pg_num(rt: HostRuntime) -> Result<(), Fail> {
     };
     assert_placed(&rt, alloc, last)?;
     let pool = pool(&rt, alloc, TWELVE)?;
-    let past = asked(&rt, alloc, DEVICE_0, &pool, &[], 12)?;
+    let (past, _) = asked(&rt, alloc, DEVICE_0, &pool, &[], 12)?;
     assert_eq!(rt; past.err(), Some(PoolFault::P2));
     Ok(())
 }
@@ -299,10 +301,10 @@ fn groups_end_below_pg_num(rt: HostRuntime) -> Result<(), Fail> {
 #[test]
 fn placements_leave_an_answer_and_a_trace(rt: HostRuntime) -> Result<(), Fail> {
     let alloc = rt.alloc();
-    let chosen = left_by(&rt, alloc, DEVICE_7, &pool(&rt, alloc, TWELVE)?, 5)?;
+    let (_, chosen) = asked(&rt, alloc, DEVICE_7, &pool(&rt, alloc, TWELVE)?, &[], 5)?;
     assert_eq!(rt; chosen.items(), &[SEVEN][..]);
     assert_eq!(rt; chosen.trace(), &[7][..]);
-    let taken = left_by(&rt, alloc, THREE, &pool(&rt, alloc, OF_THREE)?, 5)?;
+    let (_, taken) = asked(&rt, alloc, THREE, &pool(&rt, alloc, OF_THREE)?, &[], 5)?;
     assert_eq!(rt; taken.items(), ALL_UP.raw);
     assert!(rt; taken.trace().is_empty());
     Ok(())

@@ -3,7 +3,6 @@
 ghost use Rattle.std.specs.Prelude.{◌≡◌, is_some, true};
 ghost use Rattle.crush_pool.specs.Placements.{rule_numbered};
 
-use crate::maps::{DEVICE_0, DEVICE_7, map_of};
 use crate::pools::{Short, TWELVE, pool};
 use crate::states::DOWN_0;
 use crush_map::CrushMap;
@@ -11,6 +10,7 @@ use crush_pool::{DeviceState, Pool, rule_with_id};
 use crush_report::{impact, moves, moves_csv, usage, usage_csv};
 use std::process::Abort;
 use std::test::Fail;
+use text_tests::texts::{DEVICE_0, DEVICE_7, map_of};
 
 /// A pool of two groups.
 const OF_TWO: Short = Short {
@@ -37,7 +37,7 @@ fn a_pool_of_one_device_is_used_by_it_alone(rt: HostRuntime) -> Result<(), Fail>
         pgp_num: 8,
         ..OF_TWO
     };
-    let (map, pool) = (map_of(&rt, alloc, DEVICE_0)?, pool(&rt, alloc, eight)?);
+    let (map, pool) = (map_of(alloc, DEVICE_0)?, pool(&rt, alloc, eight)?);
     assert_rule(&rt, &map, &pool);
     let rows = usage(alloc, &map, &pool, &[])?;
     let text = usage_csv(alloc, rows.as_slice())?;
@@ -55,7 +55,7 @@ fn a_pool_of_one_device_is_used_by_it_alone(rt: HostRuntime) -> Result<(), Fail>
 #[test]
 fn groups_move_to_the_device_of_another_map(rt: HostRuntime) -> Result<(), Fail> {
     let alloc = rt.alloc();
-    let (from, to) = (map_of(&rt, alloc, DEVICE_0)?, map_of(&rt, alloc, DEVICE_7)?);
+    let (from, to) = (map_of(alloc, DEVICE_0)?, map_of(alloc, DEVICE_7)?);
     let pool = pool(&rt, alloc, OF_TWO)?;
     assert_rule(&rt, &from, &pool);
     assert_rule(&rt, &to, &pool);
@@ -77,7 +77,7 @@ fn a_device_that_is_down_can_touch_groups_and_one_that_is_out_none(
     rt: HostRuntime,
 ) -> Result<(), Fail> {
     let alloc = rt.alloc();
-    let (map, pool) = (map_of(&rt, alloc, DEVICE_0)?, pool(&rt, alloc, OF_TWO)?);
+    let (map, pool) = (map_of(alloc, DEVICE_0)?, pool(&rt, alloc, OF_TWO)?);
     assert_rule(&rt, &map, &pool);
     for (states, device, wanted) in [
         (&[][..], 0, &[0, 1][..]),

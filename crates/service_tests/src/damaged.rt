@@ -5,12 +5,13 @@ ghost use Rattle.tenant_state.specs.State.{fresh};
 ghost use Rattle.service_tests.specs.Damaged.{begins_with};
 
 use crate::maps::FIRST;
+use crate::rows::{Row, assert_requests};
 use crush_app::Service;
 use std::alloc::{AllocError, Global};
 use std::rc::Rc;
 use std::test::Fail;
 use tenant_core::{StoreFault, TenantStore};
-use tenant_messages::{Call, CallParts};
+use tenant_messages::Call;
 use tenant_state::{Change, TenantState};
 
 fn begins_with(byte: u8, name: &str) -> bool
@@ -73,94 +74,89 @@ impl TenantStore for PartlyDamaged {
     ghost one_state = { λ store t s u honest is also. is.1 ∙ sym also.1 };
 }
 
+/// Calls of tenants whose data is damaged, and of others.
+const ROWS: &[Row] = &[
+    ("GET", "/t/d", "", 500, "{\"error\":\"store_damaged\"}"),
+    ("PUT", "/t/da", "", 500, "{\"error\":\"store_damaged\"}"),
+    ("DELETE", "/t/d", "", 500, "{\"error\":\"store_damaged\"}"),
+    (
+        "POST",
+        "/t/d/maps",
+        IMPORT,
+        500,
+        "{\"error\":\"store_damaged\"}",
+    ),
+    (
+        "POST",
+        "/t/d/test",
+        RULE_TEST,
+        500,
+        "{\"error\":\"store_damaged\"}",
+    ),
+    (
+        "GET",
+        "/t/d/maps/1",
+        "",
+        500,
+        "{\"error\":\"store_damaged\"}",
+    ),
+    ("GET", "/t/d/maps/x", "", 400, "{\"error\":\"bad_request\"}"),
+    (
+        "POST",
+        "/t/d/maps",
+        "{}",
+        400,
+        "{\"error\":\"bad_request\"}",
+    ),
+    (
+        "POST",
+        "/t/b/maps",
+        IMPORT,
+        422,
+        "{\"error\":\"map_refused\",\"fault\":\"M4\",\"line\":1}",
+    ),
+    (
+        "POST",
+        "/t/b/maps",
+        FIRST,
+        503,
+        "{\"error\":\"store_failed\"}",
+    ),
+    (
+        "GET",
+        "/t/b",
+        "",
+        200,
+        "{\"devices\":0,\"epoch\":0,\"pools\":0,\"tenant\":\"b\",\"versions\":0}",
+    ),
+    (
+        "POST",
+        "/t/b/test",
+        RULE_TEST,
+        404,
+        "{\"error\":\"no_version\"}",
+    ),
+    (
+        "POST",
+        "/t/a/test",
+        RULE_TEST,
+        404,
+        "{\"error\":\"no_tenant\"}",
+    ),
+    ("GET", "/t/d!", "", 400, "{\"error\":\"bad_request\"}"),
+    ("POST", "/t/d", "", 405, "{\"error\":\"method\"}"),
+    ("GET", "/x/d", "", 404, "{\"error\":\"no_path\"}"),
+    ("GET", "/t/a", "", 404, "{\"error\":\"no_tenant\"}"),
+    ("DELETE", "/t/a", "", 404, "{\"error\":\"no_tenant\"}"),
+    ("PUT", "/t/a", "", 503, "{\"error\":\"store_failed\"}"),
+    ("PUT", "/t/b", "", 409, "{\"error\":\"exists\"}"),
+    ("DELETE", "/t/b", "", 503, "{\"error\":\"store_failed\"}"),
+];
+
 #[test]
 fn a_damaged_tenant_is_answered_500_and_others_as_ever(rt: HostRuntime) -> Result<(), Fail> {
     let alloc = rt.alloc();
     let mut service = Service::over(alloc, PartlyDamaged { alloc })?;
-    for (method, path, asked, status, body) in [
-        ("GET", "/t/d", "", 500, "{\"error\":\"store_damaged\"}"),
-        ("PUT", "/t/da", "", 500, "{\"error\":\"store_damaged\"}"),
-        ("DELETE", "/t/d", "", 500, "{\"error\":\"store_damaged\"}"),
-        (
-            "POST",
-            "/t/d/maps",
-            IMPORT,
-            500,
-            "{\"error\":\"store_damaged\"}",
-        ),
-        (
-            "POST",
-            "/t/d/test",
-            RULE_TEST,
-            500,
-            "{\"error\":\"store_damaged\"}",
-        ),
-        (
-            "GET",
-            "/t/d/maps/1",
-            "",
-            500,
-            "{\"error\":\"store_damaged\"}",
-        ),
-        ("GET", "/t/d/maps/x", "", 400, "{\"error\":\"bad_request\"}"),
-        (
-            "POST",
-            "/t/d/maps",
-            "{}",
-            400,
-            "{\"error\":\"bad_request\"}",
-        ),
-        (
-            "POST",
-            "/t/b/maps",
-            IMPORT,
-            422,
-            "{\"error\":\"map_refused\",\"fault\":\"M4\",\"line\":1}",
-        ),
-        (
-            "POST",
-            "/t/b/maps",
-            FIRST,
-            503,
-            "{\"error\":\"store_failed\"}",
-        ),
-        (
-            "GET",
-            "/t/b",
-            "",
-            200,
-            "{\"devices\":0,\"epoch\":0,\"pools\":0,\"tenant\":\"b\",\"versions\":0}",
-        ),
-        (
-            "POST",
-            "/t/b/test",
-            RULE_TEST,
-            404,
-            "{\"error\":\"no_version\"}",
-        ),
-        (
-            "POST",
-            "/t/a/test",
-            RULE_TEST,
-            404,
-            "{\"error\":\"no_tenant\"}",
-        ),
-        ("GET", "/t/d!", "", 400, "{\"error\":\"bad_request\"}"),
-        ("POST", "/t/d", "", 405, "{\"error\":\"method\"}"),
-        ("GET", "/x/d", "", 404, "{\"error\":\"no_path\"}"),
-        ("GET", "/t/a", "", 404, "{\"error\":\"no_tenant\"}"),
-        ("DELETE", "/t/a", "", 404, "{\"error\":\"no_tenant\"}"),
-        ("PUT", "/t/a", "", 503, "{\"error\":\"store_failed\"}"),
-        ("PUT", "/t/b", "", 409, "{\"error\":\"exists\"}"),
-        ("DELETE", "/t/b", "", 503, "{\"error\":\"store_failed\"}"),
-    ] {
-        let reply = service.request(CallParts {
-            method: method.as_bytes(),
-            path,
-            body: asked.as_bytes(),
-        });
-        assert_eq!(rt; reply.status, status, "{method} {path}");
-        assert_eq!(rt; reply.body.as_str(), body, "{method} {path}");
-    }
+    assert_requests(&rt, &mut service, ROWS);
     Ok(())
 }

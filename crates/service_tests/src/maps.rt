@@ -1,6 +1,8 @@
 //! Imports, versions and rule tests over a store in memory, and the bodies that ask for them.
 
-use crate::rows::{Row, assert_each_alone};
+use crate::rows::{
+    CREATION_OF_A, CREATION_OF_B, IMPORT_BY_A, IMPORT_BY_B, Row, assert_each_alone, assert_requests,
+};
 use crush_app::{MemoryStore, Service};
 use std::alloc::{AllocError, Global};
 use std::test::Fail;
@@ -47,22 +49,12 @@ const CANONICAL: &str =
 
 // Calls that are made twice, with the same reply each time.
 
-const CREATION_OF_A: Row = ("PUT", "/t/a", "", 201, "{\"epoch\":0,\"tenant\":\"a\"}");
-
-const IMPORT_BY_A: Row = (
+const SECOND_IMPORT_BY_A: Row = (
     "POST",
     "/t/a/maps",
-    FIRST,
+    SECOND,
     201,
-    "{\"epoch\":1,\"version\":1}",
-);
-
-const IMPORT_BY_B: Row = (
-    "POST",
-    "/t/b/maps",
-    OTHER,
-    201,
-    "{\"epoch\":1,\"version\":1}",
+    "{\"epoch\":2,\"version\":2}",
 );
 
 const TEST_BY_B: Row = (
@@ -78,7 +70,7 @@ const ROWS: [Row; 24] = [
     CREATION_OF_A,
     ("POST", "/t/b/maps", FIRST, 404, "{\"error\":\"no_tenant\"}"),
     IMPORT_BY_A,
-    ("PUT", "/t/b", "", 201, "{\"epoch\":0,\"tenant\":\"b\"}"),
+    CREATION_OF_B,
     (
         "POST",
         "/t/b/test",
@@ -109,13 +101,7 @@ const ROWS: [Row; 24] = [
         200,
         "{\"devices\":0,\"epoch\":1,\"pools\":0,\"tenant\":\"a\",\"versions\":1}",
     ),
-    (
-        "POST",
-        "/t/a/maps",
-        SECOND,
-        201,
-        "{\"epoch\":2,\"version\":2}",
-    ),
+    SECOND_IMPORT_BY_A,
     IMPORT_BY_B,
     (
         "POST",
@@ -168,30 +154,20 @@ fn tenants_in_turn_are_answered_as_each_alone(rt: HostRuntime) -> Result<(), Fai
     Ok(())
 }
 
+/// A map is read after a second was imported.
+const TWO_VERSIONS: [Row; 4] = [
+    CREATION_OF_A,
+    IMPORT_BY_A,
+    SECOND_IMPORT_BY_A,
+    ("GET", "/t/a/maps/1", "", 200, CANONICAL),
+];
+
 /// The canonical text is of another form than the text that was imported.
 #[test]
 fn a_version_is_read_as_its_canonical_text(rt: HostRuntime) -> Result<(), Fail> {
     let alloc = rt.alloc();
     let mut service = Service::in_memory(alloc)?;
-    for (method, path, body, status) in [
-        ("PUT", "/t/a", "", 201),
-        ("POST", "/t/a/maps", FIRST, 201),
-        ("POST", "/t/a/maps", SECOND, 201),
-    ] {
-        let reply = service.request(CallParts {
-            method: method.as_bytes(),
-            path,
-            body: body.as_bytes(),
-        });
-        assert_eq!(rt; reply.status, status, "{method} {path}");
-    }
-    let reply = service.request(CallParts {
-        method: b"GET",
-        path: "/t/a/maps/1",
-        body: b"",
-    });
-    assert_eq!(rt; reply.status, 200);
-    assert_eq!(rt; reply.body.as_str(), CANONICAL);
+    assert_requests(&rt, &mut service, &TWO_VERSIONS);
     Ok(())
 }
 

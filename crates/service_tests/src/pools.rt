@@ -1,12 +1,12 @@
 //! Devices, pools and groups over a store in memory.
 
-use crate::maps::{FIRST, OTHER};
-use crate::rows::{Row, assert_each_alone};
+use crate::rows::{
+    CREATION_OF_A, CREATION_OF_B, IMPORT_BY_A, IMPORT_BY_B, Row, assert_each_alone, pool,
+};
 use std::test::Fail;
 
 /// A pool of eight groups, two items in each, by rule 0.
-const POOL: &str =
-    "{\"request\":\"p1\",\"id\":1,\"name\":\"p\",\"kind\":\"replicated\",\"size\":2,\"rule\":0,\"pg_num\":8,\"pgp_num\":8,\"hashpspool\":true}";
+const POOL: &str = pool!(2, 8);
 
 /// Takes device 0 down.
 const DOWN: &str = "{\"request\":\"d1\",\"devices\":[{\"id\":0,\"up\":false}]}";
@@ -26,8 +26,8 @@ const GONE: &str = "{\"request\":\"e1\",\"id\":1}";
 
 /// Calls of two tenants in turn. The hash of 0 and 1, which is the seed of group 0 of pool 1, is 91478055.
 const ROWS: [Row; 24] = [
-    ("PUT", "/t/a", "", 201, "{\"epoch\":0,\"tenant\":\"a\"}"),
-    ("PUT", "/t/b", "", 201, "{\"epoch\":0,\"tenant\":\"b\"}"),
+    CREATION_OF_A,
+    CREATION_OF_B,
     (
         "POST",
         "/t/a/pools",
@@ -35,20 +35,8 @@ const ROWS: [Row; 24] = [
         404,
         "{\"error\":\"no_version\"}",
     ),
-    (
-        "POST",
-        "/t/a/maps",
-        FIRST,
-        201,
-        "{\"epoch\":1,\"version\":1}",
-    ),
-    (
-        "POST",
-        "/t/b/maps",
-        OTHER,
-        201,
-        "{\"epoch\":1,\"version\":1}",
-    ),
+    IMPORT_BY_A,
+    IMPORT_BY_B,
     ("POST", "/t/a/pools", POOL, 201, "{\"epoch\":2,\"pool\":1}"),
     ("POST", "/t/b/pools", POOL, 201, "{\"epoch\":2,\"pool\":1}"),
     (
@@ -143,7 +131,7 @@ const ROWS: [Row; 24] = [
         "{\"devices\":1,\"epoch\":5,\"pools\":0,\"tenant\":\"a\",\"versions\":1}",
     ),
     ("DELETE", "/t/a", "", 200, "{\"dropped\":\"a\"}"),
-    ("PUT", "/t/a", "", 201, "{\"epoch\":0,\"tenant\":\"a\"}"),
+    CREATION_OF_A,
     (
         "GET",
         "/t/a",

@@ -1,12 +1,13 @@
 //! Reports on pools, and states of devices as CSV, over a store in memory.
 
-use crate::maps::{FIRST, OTHER, SECOND};
-use crate::rows::{Row, assert_each_alone};
+use crate::maps::SECOND;
+use crate::rows::{
+    CREATION_OF_A, CREATION_OF_B, IMPORT_BY_A, IMPORT_BY_B, Row, assert_each_alone, pool,
+};
 use std::test::Fail;
 
 /// A pool of two groups, one item in each, by rule 0.
-const POOL: &str =
-    "{\"request\":\"p1\",\"id\":1,\"name\":\"p\",\"kind\":\"replicated\",\"size\":1,\"rule\":0,\"pg_num\":2,\"pgp_num\":2,\"hashpspool\":true}";
+const POOL: &str = pool!(1, 2);
 
 /// Takes device 0 down.
 const DOWN: &str = "{\"request\":\"c1\",\"csv\":\"id,reweight,up\\n0,65536,0\\n\"}";
@@ -22,8 +23,8 @@ const NOTHING: &str = "{\"request\":\"c2\",\"csv\":\"\"}";
 
 /// Calls of two tenants in turn.
 const ROWS: [Row; 27] = [
-    ("PUT", "/t/a", "", 201, "{\"epoch\":0,\"tenant\":\"a\"}"),
-    ("PUT", "/t/b", "", 201, "{\"epoch\":0,\"tenant\":\"b\"}"),
+    CREATION_OF_A,
+    CREATION_OF_B,
     (
         "GET",
         "/t/a/pools/1/usage",
@@ -38,20 +39,8 @@ const ROWS: [Row; 27] = [
         404,
         "{\"error\":\"no_version\"}",
     ),
-    (
-        "POST",
-        "/t/a/maps",
-        FIRST,
-        201,
-        "{\"epoch\":1,\"version\":1}",
-    ),
-    (
-        "POST",
-        "/t/b/maps",
-        OTHER,
-        201,
-        "{\"epoch\":1,\"version\":1}",
-    ),
+    IMPORT_BY_A,
+    IMPORT_BY_B,
     ("POST", "/t/a/pools", POOL, 201, "{\"epoch\":2,\"pool\":1}"),
     ("POST", "/t/b/pools", POOL, 201, "{\"epoch\":2,\"pool\":1}"),
     (

@@ -1,11 +1,10 @@
 //! Scripts and runs on the service over a store in memory.
 
-use crate::rows::call;
+use crate::rows::{CREATION_OF_A, CREATION_OF_B, Row, assert_requests, assert_run};
 use crush_app::{ScriptEnd, Service, script_run};
 use std::alloc::{AllocError, Global};
 use std::io::{self, ErrorKind, Read, Write};
 use std::test::Fail;
-use tenant_messages::CallParts;
 
 const SCRIPT: &str =
     "PUT /t/a\nPOST /t/a/pick {\"bucket\":{\"id\":-1,\"items\":[{\"item\":4,\"weight\":0},{\"item\":9,\"weight\":65536}],\"kind\":\"list\"},\"r\":0,\"x\":5}\r\nGET\n\nGET /t/a\nPUT /t/a\nDELETE /t/a\nGET /t/a";
@@ -105,6 +104,27 @@ fn a_write_fault_leaves_a_front_of_the_replies(rt: HostRuntime) -> Result<(), Fa
     Ok(())
 }
 
+const FRESH_B: Row = (
+    "GET",
+    "/t/b",
+    "",
+    200,
+    "{\"devices\":0,\"epoch\":0,\"pools\":0,\"tenant\":\"b\",\"versions\":0}",
+);
+
+/// Two tenants that were just made, and one that wasn't.
+const TWO_OF_THREE: [Row; 3] = [
+    (
+        "GET",
+        "/t/a",
+        "",
+        200,
+        "{\"devices\":0,\"epoch\":0,\"pools\":0,\"tenant\":\"a\",\"versions\":0}",
+    ),
+    FRESH_B,
+    ("GET", "/t/c", "", 404, "{\"error\":\"no_tenant\"}"),
+];
+
 #[test]
 fn no_later_line_is_served_after_a_write_fault(rt: HostRuntime) -> Result<(), Fail> {
     let alloc = rt.alloc();
@@ -120,39 +140,25 @@ fn no_later_line_is_served_after_a_write_fault(rt: HostRuntime) -> Result<(), Fa
     };
     let end = script_run(alloc, &mut service, &mut reader, &mut writer)?;
     assert_eq!(rt; end, ScriptEnd::WriteFault);
-    for (path, status) in [("/t/a", 200), ("/t/b", 200), ("/t/c", 404)] {
-        let reply = service.request(CallParts {
-            method: b"GET",
-            path,
-            body: b"",
-        });
-        assert_eq!(rt; reply.status, status, "{path}");
-    }
+    assert_requests(&rt, &mut service, &TWO_OF_THREE);
     Ok(())
 }
 
+/// Calls of two tenants, and others.
+const TWO_TENANTS: [Row; 9] = [
+    CREATION_OF_A,
+    CREATION_OF_B,
+    ("DELETE", "/t/a", "", 200, "{\"dropped\":\"a\"}"),
+    ("GET", "/t/a", "", 404, "{\"error\":\"no_tenant\"}"),
+    FRESH_B,
+    ("PUT", "/t/b", "", 409, "{\"error\":\"exists\"}"),
+    ("GET", "/x", "", 404, "{\"error\":\"no_path\"}"),
+    ("POST", "/t/b", "", 405, "{\"error\":\"method\"}"),
+    ("PUT", "/t/b!", "", 400, "{\"error\":\"bad_request\"}"),
+];
+
 #[test]
 fn a_run_answers_each_tenant_from_its_own_state(rt: HostRuntime) -> Result<(), Fail> {
-    let alloc = rt.alloc();
-    let asked = [
-        ("PUT", "/t/a", 201),
-        ("PUT", "/t/b", 201),
-        ("DELETE", "/t/a", 200),
-        ("GET", "/t/a", 404),
-        ("GET", "/t/b", 200),
-        ("PUT", "/t/b", 409),
-        ("GET", "/x", 404),
-        ("POST", "/t/b", 405),
-        ("PUT", "/t/b!", 400),
-    ];
-    let mut calls = Vec::new(alloc);
-    for (method, path, _) in asked {
-        calls.push(call(alloc, method, path, "")?)?;
-    }
-    let replies = Service::in_memory(alloc)?.run(&calls)?;
-    assert_eq!(rt; replies.len(), asked.len());
-    for (reply, (method, path, status)) in replies.iter().zip(asked) {
-        assert_eq!(rt; reply.status, status, "{method} {path}");
-    }
+    assert_run(&rt, rt.alloc(), &TWO_TENANTS)?;
     Ok(())
 }

@@ -1,7 +1,8 @@
 //! Texts and their first faults of form, with their lines.
 
 use crate::jewel::WRITTEN_BY_CRUSHTOOL;
-use crate::tiny::{TINY, tiny_lines, tiny_with_line};
+use crate::lines::{lines_within, with_line};
+use crate::texts::DEVICE_0;
 use crush_grammar::{TextCode, read_declarations};
 use std::alloc::Global;
 use std::test::Fail;
@@ -19,7 +20,7 @@ fn texts_of_the_form_have_no_fault(rt: HostRuntime) -> Result<(), Fail> {
     let alloc = rt.alloc();
     for text in [
         "",
-        TINY,
+        DEVICE_0,
         WRITTEN_BY_CRUSHTOOL,
         "# nothing\n",
         "device 0 osd.0",
@@ -57,7 +58,7 @@ fn one_wrong_line_is_named(rt: HostRuntime) -> Result<(), Fail> {
         (24, "class", (24, TextCode::X1)),
         (8, "type 0 osd class", (8, TextCode::X1)),
     ] {
-        let text = tiny_with_line(alloc, number, line)?;
+        let text = with_line(alloc, number, line)?;
         assert_eq!(rt; fault(alloc, text.as_str())?, Some(want), "{line}");
     }
     Ok(())
@@ -66,7 +67,7 @@ fn one_wrong_line_is_named(rt: HostRuntime) -> Result<(), Fail> {
 #[test]
 fn a_text_that_ends_early_is_named_by_its_last_line(rt: HostRuntime) -> Result<(), Fail> {
     let alloc = rt.alloc();
-    let text = tiny_lines(alloc, 1, 15)?;
+    let text = lines_within(alloc, 1, 15)?;
     assert_eq!(rt; fault(alloc, text.as_str())?, Some((15, TextCode::X1)));
     for text in [
         "device 0 osd.0 class",

@@ -1,17 +1,16 @@
-//! A map with the tunables of Jewel: its text as crushtool writes it, and its canonical text.
+//! A map that crushtool and this library write, and what it is with one device more.
 
-use crate::maps::canonical;
+use crate::texts::{map_of, map_text};
+use crush_text::write_map;
+use std::alloc::Global;
+use std::process::Abort;
 use std::test::Fail;
 
-/// With two tunables, a class, sizes and remarks that are dropped.
-pub const WRITTEN_BY_CRUSHTOOL: &str = "# begin crush map
-tunable choose_local_tries 0
-tunable choose_local_fallback_tries 0
-tunable choose_total_tries 50
-tunable chooseleaf_descend_once 1
-tunable chooseleaf_vary_r 1
-tunable chooseleaf_stable 1
-tunable straw_calc_version 1
+/// The text as crushtool writes it: with two tunables, a class, sizes and remarks that are dropped.
+pub(crate) const WRITTEN_BY_CRUSHTOOL: &str = map_text!(
+    "# begin crush map
+",
+    "tunable straw_calc_version 1
 tunable allowed_bucket_algs 54
 
 # devices
@@ -43,20 +42,21 @@ rule data {
 }
 
 # end crush map
-";
+"
+);
 
-/// The canonical text of the same map.
-pub const CANONICAL: &str = "# begin crush map
-tunable choose_local_tries 0
-tunable choose_local_fallback_tries 0
-tunable choose_total_tries 50
-tunable chooseleaf_descend_once 1
-tunable chooseleaf_vary_r 1
-tunable chooseleaf_stable 1
-
+/// The canonical text, with a line for a further device and one for a further item.
+macro_rules! canonical_text {
+    ($device:literal, $item:literal) => {
+        map_text!(
+            "# begin crush map
+",
+            "
 # devices
 device 0 osd.0
-
+",
+            $device,
+            "
 # types
 type 0 osd
 type 1 host
@@ -67,7 +67,9 @@ host a {
 \talg list
 \thash 0
 \titem osd.0 weight 1.00000
-}
+",
+            $item,
+            "}
 
 # rules
 rule data {
@@ -79,14 +81,35 @@ rule data {
 }
 
 # end crush map
-";
+"
+        )
+    };
+}
+
+/// The canonical text of the same map.
+pub(crate) const CANONICAL: &str = canonical_text!("", "");
+
+/// The canonical text of a map with two devices.
+pub(crate) const TWO_DEVICES: &str = canonical_text!(
+    "device 1 osd.1\n",
+    "\titem osd.1 weight 2.00000\n"
+);
+
+/// A text is read, and written as this canonical text.
+pub(crate) fn assert_canonical(
+    rt: &impl Abort,
+    alloc: Global,
+    text: &str,
+    canonical: &str,
+) -> Result<(), Fail> {
+    let written = write_map(alloc, &map_of(alloc, text)?)?;
+    assert_eq!(rt; written.as_slice(), canonical.as_bytes());
+    Ok(())
+}
 
 #[test]
 fn a_text_of_crushtool_is_written_as_its_canonical_text(rt: HostRuntime) -> Result<(), Fail> {
     let alloc = rt.alloc();
-    for text in [WRITTEN_BY_CRUSHTOOL, CANONICAL] {
-        let written = canonical(alloc, text.as_bytes())?;
-        assert_eq!(rt; written.as_slice(), CANONICAL.as_bytes());
-    }
-    Ok(())
+    assert_canonical(&rt, alloc, WRITTEN_BY_CRUSHTOOL, CANONICAL)?;
+    assert_canonical(&rt, alloc, CANONICAL, CANONICAL)
 }

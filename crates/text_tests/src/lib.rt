@@ -1,4 +1,4 @@
-//! Tests of `crush_words`, `crush_grammar` and `crush_text`. They stand apart, so that the crates themselves are proved once.
+//! Tests of `crush_words`, `crush_grammar` and `crush_text`, and texts of maps, which `pool_tests` uses too. They stand apart, so that the crates themselves are proved once.
 #![tactic(auto)]
 
 #[cfg(test)]
@@ -6,11 +6,10 @@ mod form;
 #[cfg(test)]
 mod jewel;
 #[cfg(test)]
-mod maps;
+mod lines;
 #[cfg(test)]
 mod read;
-#[cfg(test)]
-mod tiny;
+pub mod texts;
 #[cfg(test)]
 mod words;
 #[cfg(test)]

@@ -1,54 +1,78 @@
 //! Canonical texts, byte for byte, and read again.
 
-use crate::jewel::CANONICAL;
-use crate::maps::{ShortBucket, ShortRule, canonical, map};
+use crate::jewel::{CANONICAL, assert_canonical};
+use crate::texts::map_text;
 use crush_map::{ItemId, Kind, Step};
 use crush_text::write_map;
+use map_tests::drafts::{ONE, SOUND, Short, choose, draft, map_of};
+use std::alloc::Global;
+use std::process::Abort;
 use std::test::Fail;
+
+/// The map of a draft is written as this text, and that text, read again, as itself.
+fn assert_written(
+    rt: &impl Abort,
+    alloc: Global,
+    short: Short<'_>,
+    text: &str,
+) -> Result<(), Fail> {
+    let written = write_map(alloc, &map_of(alloc, draft(alloc, short)?)?)?;
+    assert_eq!(rt; written.as_slice(), text.as_bytes());
+    assert_canonical(rt, alloc, text, text)
+}
+
+/// A map with the tunables of Jewel.
+const ONE_DEVICE: Short<'static> = Short {
+    types: &[(1, "host"), (0, "osd")],
+    devices: &[(0, "osd.0")],
+    buckets: &[(-2, "a", 1, Kind::List, &[(0, ONE)])],
+    rules: &[(
+        0,
+        "data",
+        &[
+            Step::Take(ItemId(-2)),
+            choose!(true, false, 0, 0),
+            Step::Emit,
+        ],
+    )],
+    ..SOUND
+};
 
 #[test]
 fn a_map_with_jewels_tunables_is_written(rt: HostRuntime) -> Result<(), Fail> {
-    let alloc = rt.alloc();
-    let host = ShortBucket {
-        id: -2,
-        name: "a",
-        kind_of: 1,
-        alg: Kind::List,
-        items: &[(0, 65_536)],
-    };
-    let choose = Step::Choose {
-        firstn: true,
-        leaf: false,
-        n: 0,
-        wanted: 0,
-    };
-    let rule = ShortRule {
-        id: 0,
-        name: "data",
-        erasure: false,
-        steps: &[Step::Take(ItemId(-2)), choose, Step::Emit],
-    };
-    let map = map(
-        alloc,
-        &[(1, "host"), (0, "osd")],
-        &[(0, "osd.0")],
-        &[host],
-        &[rule],
-    )?;
-    let text = write_map(alloc, &map)?;
-    assert_eq!(rt; text.as_slice(), CANONICAL.as_bytes());
-    Ok(())
+    assert_written(&rt, rt.alloc(), ONE_DEVICE, CANONICAL)
 }
 
-/// The canonical text of a map with each kind of line.
-const EACH_KIND_OF_LINE: &str = "# begin crush map
-tunable choose_local_tries 0
-tunable choose_local_fallback_tries 0
-tunable choose_total_tries 50
-tunable chooseleaf_descend_once 1
-tunable chooseleaf_vary_r 1
-tunable chooseleaf_stable 1
+/// A map whose text has each kind of line.
+const EACH_KIND: Short<'static> = Short {
+    types: &[(0, "osd"), (10, "root"), (1, "host")],
+    devices: &[(7, "x.7"), (1, "x.1")],
+    buckets: &[
+        (-3, "h", 1, Kind::Uniform, &[(7, 6_553), (1, 6_553)]),
+        (-1, "r", 10, Kind::Tree, &[(-3, 4_294_967_295)]),
+        (-65_536, "e", 10, Kind::List, &[]),
+    ],
+    rules: &[(
+        255,
+        "q",
+        &[
+            Step::SetChooseTries(100),
+            Step::SetLeafTries(5),
+            Step::SetVaryR(8),
+            Step::SetStable(0),
+            Step::Take(ItemId(7)),
+            choose!(false, true, -2, 1),
+        ],
+    )],
+    erasure: true,
+    ..SOUND
+};
 
+/// Its canonical text.
+const EACH_KIND_OF_LINE: &str = map_text!(
+    "# begin crush map
+",
+    "
 # devices
 device 1 x.1
 device 7 x.7
@@ -91,61 +115,10 @@ rule q {
 }
 
 # end crush map
-";
+"
+);
 
 #[test]
 fn each_kind_of_line_is_written(rt: HostRuntime) -> Result<(), Fail> {
-    let alloc = rt.alloc();
-    let host = ShortBucket {
-        id: -3,
-        name: "h",
-        kind_of: 1,
-        alg: Kind::Uniform,
-        items: &[(7, 6_553), (1, 6_553)],
-    };
-    let root = ShortBucket {
-        id: -1,
-        name: "r",
-        kind_of: 10,
-        alg: Kind::Tree,
-        items: &[(-3, 4_294_967_295)],
-    };
-    let empty = ShortBucket {
-        id: -65_536,
-        name: "e",
-        kind_of: 10,
-        alg: Kind::List,
-        items: &[],
-    };
-    let leaf = Step::Choose {
-        firstn: false,
-        leaf: true,
-        n: -2,
-        wanted: 1,
-    };
-    let rule = ShortRule {
-        id: 255,
-        name: "q",
-        erasure: true,
-        steps: &[
-            Step::SetChooseTries(100),
-            Step::SetLeafTries(5),
-            Step::SetVaryR(8),
-            Step::SetStable(0),
-            Step::Take(ItemId(7)),
-            leaf,
-        ],
-    };
-    let map = map(
-        alloc,
-        &[(0, "osd"), (10, "root"), (1, "host")],
-        &[(7, "x.7"), (1, "x.1")],
-        &[host, root, empty],
-        &[rule],
-    )?;
-    let text = write_map(alloc, &map)?;
-    assert_eq!(rt; text.as_slice(), EACH_KIND_OF_LINE.as_bytes());
-    let again = canonical(alloc, EACH_KIND_OF_LINE.as_bytes())?;
-    assert_eq!(rt; again.as_slice(), EACH_KIND_OF_LINE.as_bytes());
-    Ok(())
+    assert_written(&rt, rt.alloc(), EACH_KIND, EACH_KIND_OF_LINE)
 }
