@@ -76,7 +76,7 @@ no_slots = record { each = λ i d within. absurd (omega (arith, within)); apart 
 
 pub new_more : (slots : List Slot) (last : Slot) (end next : ℕ) → AreNew slots end → IsNew next last → last.start ≡ end → AreNew (slots ++ last ∷ []) next
 new_more slots last end next new is start = record {
-  each = All-push (IsNew next) slots last (λ i d within. (let old = new.each i d within in record { len = old.len; swaps = old.swaps; small = old.small; within = omega (arith, old.within, is.within, start) })) is;
+  each = All-push (IsNew next) slots last (λ i d within. (let old = new.each i d within in record { empty = old.empty; small = old.small; within = omega (arith, old.within, is.within, start) })) is;
   apart = all_pairs_push (λ (s t : Slot). end_of s ≤ t.start) slots last new.apart (λ i d within. (let old = new.each i d within in omega (arith, old.within, start)));
 }
 
@@ -88,7 +88,7 @@ new_parts slots row new = record {
       let is = new.each i d within in
       let rest = length-drop s.start row in
       let part : length (slice_range row s.start (end_of s)) ≡ end_of s - s.start = length-take-le (end_of s - s.start) (drop s.start row) (omega (arith, rest, is.within)) in
-      record { within = is.within; reached = new_is s.reached (slice_range row s.start (end_of s)) is.len is.swaps is.small (omega (arith, part)) });
+      record { within = is.within; reached = new_is s.reached (slice_range row s.start (end_of s)) is.empty is.small (omega (arith, part)) });
   apart = new.apart;
 }
 

@@ -1,21 +1,24 @@
 -- The pairs of a permutation as far as it is made.
-use Rattle.std.proofs.Common.{◌≡◌, ◌≢◌, ℕ, ◌+◌, ◌-◌, ◌<◌, ◌≤◌, ◌^◌, min, List, [], ◌∷◌, length, take, slice_index, slice_set, refl, ap, sym, ◌∙◌, arith, inl, inr}
+use Rattle.std.proofs.Common.{◌≡◌, ◌≢◌, ℕ, ◌+◌, ◌-◌, ◌<◌, ◌≤◌, ◌^◌, Bool, true, false, min, List, [], ◌∷◌, length, take, slice_index, slice_set, refl, ap, sym, ◌∙◌, arith, inl, inr}
 use Rattle.std.specs.List.{swap}
+use Rattle.std.proofs.lemmas.Bool.{false≢true}
+use Rattle.std.proofs.lemmas.List.{length-take-le}
 use Rattle.crush_map.specs.declared.ItemId.{ItemId}
 use Rattle.crush_bucket.specs.declared.reached.Reached.{Reached}
 use Rattle.crush_bucket.specs.Permutation.{differing, after_swaps, partner}
 use Rattle.crush_bucket.specs.Private.Pairs.{Pair, IsRising, member_at}
-use Rattle.crush_bucket.specs.Private.Reached.{IsReached, room_of}
-use Rattle.crush_bucket.proofs.Members.{after_swaps_more, length-after_swaps}
-use Rattle.crush_bucket.proofs.Differing.{differing_range, rising_differing, member_of_list, either_way, swap_same, first_pairs, no_pairs}
+use Rattle.crush_bucket.specs.Private.Reached.{IsReached, IsEmpty, swaps_of, len_by, room_of}
+use Rattle.crush_bucket.proofs.Members.{after_swaps_more, length-after_swaps, partner_within}
+use Rattle.crush_bucket.proofs.Differing.{differing_range, rising_differing, member_of_list, either_way, swap_same, first_pairs, no_pairs, is_same, is_other}
 use Rattle.crush_bucket.proofs.Exchanging.{own_differs}
 
 -- before the first exchange there are no pairs
-pub new_is : (r : Reached) (row : List Pair) → r.len ≡ 0 → r.swaps ≡ 0 → r.size < 2 ^ 32 → room_of r.size ≤ length row → IsReached r row
-new_is r row len swaps small room = record {
-  pairs = rw (len, swaps) (sym (differing_range 0 r.size));
-  len = omega (arith, len);
-  made = omega (arith, swaps);
+pub new_is : (r : Reached) (row : List Pair) → IsEmpty r → r.size < 2 ^ 32 → room_of r.size ≤ length row → IsReached r row
+new_is r row empty small room = record {
+  pairs = λ written. rw (empty.len, written, empty.swaps) (sym (differing_range 0 r.size));
+  known = λ e. absurd (false≢true (sym e ∙ empty.written));
+  len = omega (arith, empty.len);
+  made = rw (empty.written, empty.swaps) (omega arith);
   room = omega (arith, room);
   two = omega (arith, room);
   small = small;
@@ -60,3 +63,17 @@ first_is id size x q pairs is low none two = elim (either_way q 0) [
   | inl own ↦ none own ∙ sym (no_pairs id size x q (min 1 (size - 1)) is own (omega arith) (omega arith))
   | inr other ↦ two other ∙ sym (first_pairs id size x q is low other)
 ]
+
+-- so many pairs are counted, written or not
+counted : (r : Reached) (row : List Pair) (written : Bool) → r.written ≡ written → IsReached r row → len_by r ≡ length (differing 0 (after_swaps r.hashes r.size r.x (swaps_of r)))
+counted r row true is reached = rw is (sym (length-take-le r.len row reached.len) ∙ ap (λ (ps : List Pair). length ps) (reached.pairs is ∙ rw is refl))
+counted r row false is reached =
+    let known = reached.known is in
+    let w = partner_within r.hashes r.size r.x 0 known.1 in
+    rw is (elim (either_way r.first 0) [
+      | inl own ↦ rw (is_same r.first 0 own, no_pairs r.hashes r.size r.x r.first (min 1 (r.size - 1)) known.0 own known.1 (omega arith)) refl
+      | inr other ↦ rw (is_other r.first 0 other, first_pairs r.hashes r.size r.x r.first known.0 (omega (arith, known.0, w)) other) refl
+    ])
+
+pub counted_pairs : (r : Reached) (row : List Pair) → IsReached r row → len_by r ≡ length (differing 0 (after_swaps r.hashes r.size r.x (swaps_of r)))
+counted_pairs r row reached = counted r row r.written refl reached

@@ -49,6 +49,9 @@ impl Perm {
         ensures within { result < self.old.of.size }
         ensures asked { self.new ≡ asked self.old x place }
     {
+        if !self.reached.needs_row(x, place) {
+            return self.reached.first(x) as usize;
+        }
         self.reached.member(self.row.as_mut_slice(), x, place) as usize
     }
 

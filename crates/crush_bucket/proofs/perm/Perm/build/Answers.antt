@@ -7,4 +7,4 @@ pub invariant_of-result : goal.invariant_of-result
 invariant_of-result c =
     let of = c.new.ensures.remembered in
     let size = ap (λ (m : Remembered). m.of.size) of in
-    new_is c.new.result c.in_ok-row.row.items c.new.ensures.len (ap (λ (m : Remembered). m.swaps) of) (omega (arith, size, c.requires)) (omega (arith, size, c.room_of.ensures, c.in_ok-row.ensures))
+    new_is c.new.result c.in_ok-row.row.items c.new.ensures.empty (omega (arith, size, c.requires)) (omega (arith, size, c.room_of.ensures, c.in_ok-row.ensures))

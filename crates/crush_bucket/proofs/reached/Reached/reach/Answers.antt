@@ -1,6 +1,7 @@
-use Rattle.std.proofs.Common.{◌≡◌, ◌+◌, ◌-◌, ◌≤◌, min, max, take, slice_index, ap, arith, ◌∙◌}
+use Rattle.std.proofs.Common.{◌≡◌, ◌+◌, ◌-◌, ◌≤◌, min, max, take, slice_index, refl, ap, arith, ◌∙◌}
 use Rattle.std.proofs.lemmas.Grind.{common_steps}
 use Rattle.crush_bucket.specs.Permutation.{Remembered, after_swaps, differing}
+use Rattle.crush_bucket.specs.Private.Reached.{swaps_of}
 use Rattle.crush_bucket.proofs.Members.{member_is}
 use Rattle.crush_bucket.proofs.Reaching.{rising_of, member_of}
 use Rattle.crush_bucket.proofs.reached.Reached.reach.Goals as goal
@@ -16,7 +17,7 @@ returns-then-place-wanted-clause-member c =
 
 pub member_at-requires : goal.member_at-requires
 member_at-requires c =
-    rising_of c.loop-n.self.hashes c.loop-n.self.size c.loop-n.self.x c.loop-n.self.swaps (take c.loop-n.self.len c.loop-n.row) c.loop-n.invariant.reached.pairs
+    rising_of c.loop-n.self.hashes c.loop-n.self.size c.loop-n.self.x (swaps_of c.loop-n.self) (take c.loop-n.self.len c.loop-n.row) (c.loop-n.invariant.reached.pairs c.loop-n.invariant.written)
 
 pub returns-clause-member : goal.returns-clause-member
 returns-clause-member c =
@@ -29,13 +30,15 @@ returns-clause-member c =
     let x = ap (λ (m : Remembered). m.x) now in
     let swaps = ap (λ (m : Remembered). m.swaps) now in
     let pairs = take c.loop-n.self.len c.loop-n.row in
-    let has : pairs ≡ differing 0 (after_swaps s.hashes s.size s.x n) = rw (← id, ← size, ← x, ← swaps) c.loop-n.invariant.reached.pairs in
-    let few : n ≤ s.size = grind (arith, common_steps, c.requires.reached.made) in
+    let has : pairs ≡ differing 0 (after_swaps s.hashes s.size s.x n) = rw (← id, ← size, ← x, ← swaps) (c.loop-n.invariant.reached.pairs c.loop-n.invariant.written) in
+    let before : swaps_of s ≡ s.swaps = rw c.requires.written refl in
+    let few : n ≤ s.size = grind (arith, common_steps, before, c.requires.reached.made) in
     let enough : min (place + 1) (s.size - 1) ≤ n = grind (arith, common_steps) in
     c.member_at.ensures ∙ member_of s.hashes s.size s.x n place pairs has c.requires.within ∙ member_is s.hashes s.size s.x place n c.requires.within few enough
 
 pub returns-clause-remembered : goal.returns-clause-remembered
 returns-clause-remembered c =
     let s = c.args.self.now in
-    let made : c.loop-n.n ≡ max s.swaps (min (c.args.place + 1) (s.size - 1)) = grind (arith, common_steps, c.loop-n.invariant.most) in
+    let before : swaps_of s ≡ s.swaps = rw c.requires.written refl in
+    let made : c.loop-n.n ≡ max (swaps_of s) (min (c.args.place + 1) (s.size - 1)) = grind (arith, common_steps, before, c.loop-n.invariant.most) in
     rw (← made) c.loop-n.invariant.remembered
