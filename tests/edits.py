@@ -1,6 +1,6 @@
 """Edits that must fail, and the record of what refused them.
 
-crates/NAME/must-fail/WHAT_IT_DOES.edit is a wrong body: the prover must refuse the crate with that edit. Trying one takes 10 to 40
+crates/NAME/must-fail/WHAT_IT_DOES.edit is a wrong body: the prover must refuse the crate with that edit. Trying one takes 30 to 60
 seconds, so a crate's edits are tried when the crate changed. REFUSED.md beside them records the last time: a digest of all that the
 outcome rests on in the crate, with the toolchain's version, and for each edit the goal that refused it. A record counts only
 while its digest fits; it is written by tests/wrong (make wrong), never by hand, from a run of its own or from the gate's last run.

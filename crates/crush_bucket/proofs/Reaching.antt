@@ -48,8 +48,8 @@ same_pairs id size x n q pairs has is own low =
     let same : xs ≡ after_swaps id size x (n + 1) = sym (swap_same xs n (omega (arith, len))) ∙ (ap (λ k. swap xs n k) (sym itself) ∙ after_swaps_more id size x n) in
     has ∙ ap (λ ys. differing 0 ys) same
 
--- the first two places of a row
-pub two_first : (row : List Pair) (a b : Pair) → 2 ≤ length row → take 2 (slice_set (slice_set row 0 a) 1 b) ≡ a ∷ b ∷ []
+-- the first two places of a row of pairs
+pub two_first : (pairs : List Pair) (a b : Pair) → 2 ≤ length pairs → take 2 (slice_set (slice_set pairs 0 a) 1 b) ≡ a ∷ b ∷ []
 two_first [] a b low = absurd (omega arith)
 two_first (c ∷ []) a b low = absurd (omega arith)
 two_first (c ∷ d ∷ rest) a b low = refl
