@@ -1,5 +1,5 @@
 -- What a bucket picks is an item of it, and on the tables of a map it is below the bucket.
-use Rattle.std.proofs.Common.{◌≡◌, ◌≢◌, ℕ, ◌<◌, ◌%◌, ◌-◌, ◌==◌, List, length, min, slice_index, slice_index_or, Bool, false, Option, Some, None, unwrap_or, refl, ap, sym, ◌∙◌, arith, MatchOption}
+use Rattle.std.proofs.Common.{◌≡◌, ◌≢◌, ℕ, ◌<◌, ◌%◌, ◌-◌, ◌==◌, List, length, min, slice_index, slice_index_or, Bool, false, Option, Some, None, unwrap_or, refl, ap, sym, arith, MatchOption}
 use Rattle.std.proofs.lemmas.List.{get_or-map, length-map}
 use Rattle.crush_map.specs.declared.draft.Bucket.{Bucket}
 use Rattle.crush_map.specs.declared.word.ItemId.{ItemId}

@@ -21,8 +21,6 @@ pub(crate) struct Reached {
     swaps: usize,
     len: usize,
     written: bool,
-    /// Whether that input was asked more than once: then the next one may be too.
-    again: bool,
     hashes: PlaceHashes,
 }
 
@@ -39,7 +37,6 @@ impl Reached {
             swaps: 0,
             len: 0,
             written: true,
-            again: false,
             hashes: PlaceHashes::new(id),
         }
     }
@@ -79,10 +76,8 @@ impl Reached {
         ensures reached { (row : List Pair) → IsReached self.old row → IsReached self.new row }
     {
         if x != self.x {
-            let others = self.again;
-            return self.begin(x, others);
+            return self.begin(x, self.written);
         }
-        self.again = true;
         self.first
     }
 
@@ -97,9 +92,7 @@ impl Reached {
         ensures reached { IsReached self.new row.new }
         ensures room { length row.new ≡ length row.old }
     {
-        if x == self.x {
-            self.again = true;
-        } else {
+        if x != self.x {
             self.begin(x, true);
         }
         self.write(row);
@@ -125,7 +118,6 @@ impl Reached {
         self.x = x;
         self.first = first;
         self.written = false;
-        self.again = false;
         first
     }
 

@@ -1,5 +1,5 @@
 -- Permutations whose pairs stand in one row.
-use Rattle.std.specs.Prelude.{◌≡◌, ℕ, ◌+◌, ◌<◌, ◌≤◌, ◌^◌, List, length, slice_range, All}
+use Rattle.std.specs.Prelude.{ℕ, ◌+◌, ◌<◌, ◌≤◌, ◌^◌, List, length, slice_range, All}
 use Rattle.std.specs.List.{AllPairs}
 use Rattle.crush_permutation.specs.declared.perms.Slot.{Slot}
 use Rattle.crush_permutation.specs.Permutation.{PermView}

@@ -1,5 +1,5 @@
 -- How far a scratch has made a permutation, and the pairs that it keeps.
-use Rattle.std.specs.Prelude.{◌≡◌, ℕ, ◌+◌, ◌-◌, ◌<◌, ◌≤◌, ◌^◌, true, false, ◌==◌, if◌then◌else◌, List, length, take, min, max}
+use Rattle.std.specs.Prelude.{◌≡◌, ℕ, ◌-◌, ◌<◌, ◌≤◌, ◌^◌, true, false, ◌==◌, if◌then◌else◌, List, length, take, min, max}
 use Rattle.crush_permutation.specs.declared.reached.Reached.{Reached}
 use Rattle.crush_permutation.specs.Permutation.{Remembered, after_swaps, differing, partner}
 use Rattle.crush_permutation.specs.Private.Pairs.{Pair}

@@ -1,4 +1,4 @@
-use Rattle.std.proofs.Common.{◌≡◌, ◌<◌, ◌+◌, ◌++◌, ◌∷◌, [], length, map, take, slice_index_or, pos, refl, arith, subst}
+use Rattle.std.proofs.Common.{◌≡◌, ◌<◌, ◌+◌, ◌++◌, ◌∷◌, [], length, take, slice_index_or, pos, refl, arith, subst}
 use Rattle.std.proofs.lemmas.List.{take_more, map-append}
 use Rattle.crush_permutation.specs.Permutation.{perm_view}
 use Rattle.crush_permutation.specs.Private.Parts.{AreNew, of_slot}

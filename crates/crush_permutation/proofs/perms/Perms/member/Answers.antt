@@ -1,6 +1,6 @@
-use Rattle.std.proofs.Common.{◌≡◌, ◌<◌, ◌-◌, length, take, drop, List, map, slice_index, ap, arith, sym, ◌∙◌}
+use Rattle.std.proofs.Common.{◌≡◌, ◌<◌, length, take, drop, List, map, ap, arith, sym, ◌∙◌}
 use Rattle.std.proofs.Math.Seq.{map-set_same}
-use Rattle.crush_permutation.specs.Permutation.{PermView, permutation, perm_at}
+use Rattle.crush_permutation.specs.Permutation.{PermView, perm_at}
 use Rattle.crush_permutation.specs.Private.Pairs.{Pair}
 use Rattle.crush_permutation.specs.Private.Parts.{IsPart, of_slot, end_of}
 use Rattle.crush_permutation.proofs.Parts.{slot_low, slot_of, whole, parts_after}
