@@ -1,16 +1,11 @@
 pub mod Eight
 pub mod Greatest
 pub mod Appended
-pub mod Differing
-pub mod Exchanging
 pub mod Heights
 pub mod Lanes
-pub mod Members
 pub mod Nodes
 pub mod Numbered
-pub mod Parts
 pub mod Picking
-pub mod Reaching
 pub mod Slots
 pub mod Validity
 pub mod Weights

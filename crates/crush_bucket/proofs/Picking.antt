@@ -1,10 +1,6 @@
 -- What a bucket picks is an item of it, and on the tables of a map it is below the bucket.
-use Rattle.std.proofs.Common.{◌≡◌, ◌≢◌, ℕ, ◌<◌, ◌%◌, ◌-◌, ◌==◌, List, length, min, slice_index, slice_index_or, Bool, false, Option, Some, None, unwrap_or, refl, ap, sym, ◌∙◌, arith, MatchOption}
-use Rattle.std.specs.List.{range_with_len}
+use Rattle.std.proofs.Common.{◌≡◌, ◌≢◌, ℕ, ◌<◌, ◌%◌, ◌-◌, ◌==◌, List, length, min, slice_index, slice_index_or, Bool, false, Option, Some, None, unwrap_or, refl, ap, sym, arith, MatchOption}
 use Rattle.std.proofs.lemmas.List.{get_or-map, length-map}
-use Rattle.std.proofs.lemmas.List.FromFn.{length-range_with_len, get_or-range_with_len}
-use Rattle.std.proofs.lemmas.List.Sorted.{IsPermutation-sym, Contains-permutation, length_permutation}
-use Rattle.std.proofs.lemmas.List.Elements.{Contains-get_or}
 use Rattle.crush_map.specs.declared.draft.Bucket.{Bucket}
 use Rattle.crush_map.specs.declared.word.ItemId.{ItemId}
 use Rattle.crush_map.specs.declared.word.Kind.{Kind}
@@ -12,13 +8,12 @@ use Rattle.crush_map.specs.declared.word.Kind.TheVariants.{Uniform, List as List
 use Rattle.crush_map.specs.Map.{Map}
 use Rattle.crush_bucket.specs.Bucket.{BucketView, Entry, item_at, IsItemOf}
 use Rattle.crush_bucket.specs.Kinds.{uniform_pick, takes, greatest, list_pick, place_within, height_of, tree_pick}
-use Rattle.crush_bucket.specs.Permutation.{permutation}
+use Rattle.crush_permutation.specs.Permutation.{permutation}
 use Rattle.crush_bucket.specs.Pick.{pick, pick_as}
 use Rattle.crush_bucket.specs.Private.Laid.{IsLaid}
 use Rattle.crush_bucket.specs.Laws.{IsGreatest, NonePasses, PicksBelow, HasNoDeviceBucket}
 use Rattle.crush_bucket.specs.Tables.{TypedBucket, TablesView, tables_of, typed_bucket, no_bucket, bucket_at, type_at, pick_at}
 use Rattle.crush_bucket.proofs.Greatest.{greatest_is}
-use Rattle.crush_bucket.proofs.Members.{IsPermutation-permutation}
 use Rattle.crush_bucket.proofs.Numbered.{numbered_within}
 use Rattle.crush_bucket.proofs.Validity.{HasSoundBuckets, sound_at, no_declaration, is_laid}
 
@@ -27,19 +22,13 @@ at_place : (entries : List Entry) (place : ℕ) → place < length entries → I
 at_place entries place lt = (place, lt, refl)
 
 -- each member of a permutation is a place
-member_within : (id : ItemId) (size x place : ℕ) → place < size → slice_index (permutation id size x) place < size
-member_within id size x place within =
-    let perm = IsPermutation-permutation id size x in
-    let len : length (permutation id size x) ≡ size = length_permutation (range_with_len 0 size) (permutation id size x) perm ∙ length-range_with_len 0 size in
-    let at = Contains-permutation (permutation id size x) (range_with_len 0 size) (slice_index (permutation id size x) place) (IsPermutation-sym (range_with_len 0 size) (permutation id size x) perm) (Contains-get_or (permutation id size x) place 0 (omega (arith, len))) in
-    let k = at.0 in
-    let low : k < size = omega (arith, at.1, length-range_with_len 0 size) in
-    omega (arith, at.2, get_or-range_with_len 0 size k (slice_index (permutation id size x) place) low)
+abbrev pub HasPlaces : Type 0
+HasPlaces = (id : ItemId) (size x place : ℕ) → place < size → slice_index (permutation id size x) place < size
 
-uniform_item : (id : ItemId) (entries : List Entry) (x r : ℕ) → 0 < length entries → IsItemOf entries (uniform_pick id entries x r)
+uniform_item : HasPlaces → (id : ItemId) (entries : List Entry) (x r : ℕ) → 0 < length entries → IsItemOf entries (uniform_pick id entries x r)
 unfolding uniform_pick
-uniform_item id entries x r some =
-    at_place entries _ (member_within id (length entries) x (r % length entries) (omega arith))
+uniform_item places id entries x r some =
+    at_place entries _ (places id (length entries) x (r % length entries) (omega arith))
 
 found_within : (p : ℕ → Bool) (n : ℕ) (found : Option ℕ) → 0 < n → MatchOption found (NonePasses p n) (IsGreatest p n) → unwrap_or found 0 < n
 found_within p n None some is = some
@@ -55,25 +44,25 @@ unfolding tree_pick
 tree_item id entries x r some =
     at_place entries (min (place_within id entries x r 0 (height_of (length entries))) (length entries - 1)) (omega arith)
 
-as_item : (kind : Kind) (b : BucketView) (x r : ℕ) → 0 < length b.entries → IsItemOf b.entries (pick_as kind b x r)
-as_item Uniform b x r some = uniform_item b.id b.entries x r some
-as_item ListKind b x r some = list_item b.id b.entries x r some
-as_item Tree b x r some = tree_item b.id b.entries x r some
+as_item : HasPlaces → (kind : Kind) (b : BucketView) (x r : ℕ) → 0 < length b.entries → IsItemOf b.entries (pick_as kind b x r)
+as_item places Uniform b x r some = uniform_item places b.id b.entries x r some
+as_item places ListKind b x r some = list_item b.id b.entries x r some
+as_item places Tree b x r some = tree_item b.id b.entries x r some
 
-pub pick_item : (b : BucketView) (x r : ℕ) → 0 < length b.entries → IsItemOf b.entries (pick b x r)
+pub pick_item : HasPlaces → (b : BucketView) (x r : ℕ) → 0 < length b.entries → IsItemOf b.entries (pick b x r)
 unfolding pick
-pick_item b x r some = as_item b.kind b x r some
+pick_item places b x r some = as_item places b.kind b x r some
 
 -- ---- the tables of a map
 
-laid_below : (t : TablesView) → IsLaid t → PicksBelow t
+laid_below : HasPlaces → (t : TablesView) → IsLaid t → PicksBelow t
 unfolding pick_at
-laid_below t laid bucket x r lt some =
-    let is = pick_item (bucket_at t bucket) x r some in
+laid_below places t laid bucket x r lt some =
+    let is = pick_item places (bucket_at t bucket) x r some in
     rw is.2 at (laid.below bucket is.0 lt is.1)
 
-pub picks_below : (m : Map) → HasSoundBuckets m → PicksBelow (tables_of m)
-picks_below m are = laid_below (tables_of m) (is_laid m are)
+pub picks_below : HasPlaces → (m : Map) → HasSoundBuckets m → PicksBelow (tables_of m)
+picks_below places m are = laid_below places (tables_of m) (is_laid m are)
 
 type_is : (m : Map) (i : ℕ) (d : Bucket) → i < length m.buckets → type_at (tables_of m) i ≡ (slice_index_or m.buckets i d).kind_of
 type_is m i d below = ap (λ (b : TypedBucket). b.of_type) (get_or-map typed_bucket m.buckets i d no_bucket below)

@@ -2,18 +2,17 @@
 use Rattle.std.proofs.Common.{◌≡◌, ◌≢◌, ℕ, ◌+◌, ◌<◌, List, [], ◌∷◌, ◌++◌, length, take, drop, slice_index, slice_index_or, slice_get, Option, None, Some, map, refl, ap, sym, ◌∙◌, arith, ◌⊎◌, inl, inr}
 use Rattle.std.proofs.lemmas.List.{take_more, drop_more, take-append-drop, length-append, append-nil, map-append}
 use Rattle.std.proofs.lemmas.List.Elements.{filter_map-append}
-use Rattle.std.proofs.lemmas.Option.{slice_get-get_or}
+use Rattle.std.proofs.lemmas.Option.{slice_get-get_or, get_or_from_slice_get}
 use Rattle.std.proofs.Math.ListN.{get_or-append}
 use Rattle.std.proofs.Math.Seq.{get_or-append_seam}
+use Rattle.crush_map.specs.declared.ItemId.{ItemId}
 use Rattle.crush_map.specs.declared.Kind.{Kind}
 use Rattle.crush_map.specs.declared.Kind.TheVariants.{Uniform}
 use Rattle.crush_map.specs.declared.Kind.TheVariants as kinds
 use Rattle.crush_bucket.specs.Bucket.{BucketView}
-use Rattle.crush_bucket.specs.Permutation.{PermView}
+use Rattle.crush_permutation.specs.Permutation.{PermView, perm_view, perm_at, no_perm}
 use Rattle.crush_bucket.specs.Pick.{perm_for, perm_of, perm_as}
 use Rattle.crush_bucket.specs.Tables.{TypedBucket, perms_in}
-use Rattle.crush_bucket.specs.declared.reached.Slot.{Slot}
-use Rattle.crush_bucket.specs.Private.Reached.{of_slot}
 use Rattle.crush_bucket.specs.Private.Laid.{AreSlots, IsSlotOf}
 
 -- the permutation that a bucket needs
@@ -73,7 +72,13 @@ slots_push rows slots after i next more size is each n low =
           ap (λ k. slice_index (slots ++ next ∷ []) k) place ∙ get_or-append_seam slots next [] 0 ∙ is ∙ ap (λ k. length (perms_in (take k rows))) (sym last)
     ]
 
--- one permutation more
-pub mapped_push : (rows : List TypedBucket) (slots after : List Slot) (i : ℕ) (slot : Slot) (row : TypedBucket) → after ≡ slots ++ slot ∷ [] → map of_slot slots ≡ perms_in (take i rows) → of_slot slot ≡ perm_of row.bucket
-    → perms_in (take (i + 1) rows) ≡ perms_in (take i rows) ++ perm_of row.bucket ∷ [] → map of_slot after ≡ perms_in (take (i + 1) rows)
-mapped_push rows slots after i slot row more are of one = rw more (map-append of_slot slots (slot ∷ []) ∙ rw (are, of) (sym one))
+-- one uniform bucket more
+pub mapped_push : (rows : List TypedBucket) (uniform after : List (ItemId × ℕ)) (i : ℕ) (one : ItemId × ℕ) (row : TypedBucket) → after ≡ uniform ++ one ∷ [] → map perm_view uniform ≡ perms_in (take i rows) → perm_view one ≡ perm_of row.bucket
+    → perms_in (take (i + 1) rows) ≡ perms_in (take i rows) ++ perm_of row.bucket ∷ [] → map perm_view after ≡ perms_in (take (i + 1) rows)
+mapped_push rows uniform after i one row more are of next = rw more (map-append perm_view uniform (one ∷ []) ∙ rw (are, of) (sym next))
+
+-- ---- what a look-up finds
+
+-- the permutation of a uniform bucket's slot is the bucket's
+pub perm_is : (perms : List PermView) (slot : ℕ) (b : BucketView) → IsSlotOf perms slot b → b.kind ≡ Uniform → perm_at perms slot ≡ perm_of b
+perm_is perms slot b fits kind = get_or_from_slice_get perms slot (perm_of b) no_perm (fits (perm_of b) (rw kind refl))

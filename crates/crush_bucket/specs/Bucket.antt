@@ -1,7 +1,7 @@
 -- A bucket of a CRUSH map, as its pick sees it.
 use Rattle.std.specs.Prelude.{◌≡◌, ℕ, ◌<◌, ◌^◌, List, length, take, drop, slice_index_or, SomeIndex, All, pos}
-use Rattle.std.specs.Int.{cast_unsigned, w32}
 pub use Rattle.crush_map.specs.Weights.{total_weight}
+pub use Rattle.crush_permutation.specs.Permutation.{word}
 use Rattle.crush_map.specs.declared.ItemId.{ItemId}
 use Rattle.crush_map.specs.declared.Weight.{Weight}
 use Rattle.crush_map.specs.declared.Kind.{Kind}
@@ -15,10 +15,6 @@ pub record BucketView : Type 0 where
   pub id : ItemId
   pub kind : Kind
   pub entries : List Entry
-
--- the word by which an id enters a hash: its two's complement
-abbrev pub word : ItemId → ℕ
-word item = cast_unsigned w32 item.0
 
 -- what stands where there is no entry
 abbrev pub no_entry : Entry

@@ -3,7 +3,7 @@ use Rattle.std.specs.Prelude.{ℕ, zero, suc, ◌+◌, ◌-◌, ◌*◌, ◌/◌
 use Rattle.crush_hash.specs.Hash.{hash4}
 use Rattle.crush_map.specs.declared.ItemId.{ItemId}
 use Rattle.crush_bucket.specs.Bucket.{Entry, word, item_at, weight_at, weight_within}
-use Rattle.crush_bucket.specs.Permutation.{permutation}
+use Rattle.crush_permutation.specs.Permutation.{permutation}
 
 -- ---- uniform: the item at a place of the permutation
 

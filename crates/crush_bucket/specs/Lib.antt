@@ -1,7 +1,6 @@
 pub mod Bucket
 pub mod Kinds
 pub mod Laws
-pub mod Permutation
 pub mod Appended
 pub mod Pick
 pub mod Private

@@ -4,7 +4,7 @@ use Rattle.crush_map.specs.declared.ItemId.{ItemId}
 use Rattle.crush_map.specs.declared.Kind.{Kind}
 use Rattle.crush_map.specs.declared.Kind.TheVariants.{Uniform, List, Tree}
 use Rattle.crush_bucket.specs.Bucket.{BucketView}
-use Rattle.crush_bucket.specs.Permutation.{PermView, Remembered, asked}
+use Rattle.crush_permutation.specs.Permutation.{PermView, Remembered, asked}
 use Rattle.crush_bucket.specs.Kinds.{uniform_pick, list_pick, tree_pick}
 
 -- what a bucket would pick if it were of this kind

@@ -2,6 +2,4 @@
 pub mod Descent
 pub mod Kept
 pub mod Laid
-pub mod Pairs
-pub mod Reached
 pub mod Rows

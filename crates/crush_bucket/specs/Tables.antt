@@ -9,7 +9,7 @@ use Rattle.crush_map.specs.declared.draft.Bucket.{Bucket}
 use Rattle.crush_map.specs.declared.draft.Tunables.{Tunables}
 use Rattle.crush_map.specs.Map.{Map}
 use Rattle.crush_bucket.specs.Bucket.{BucketView}
-use Rattle.crush_bucket.specs.Permutation.{PermView}
+use Rattle.crush_permutation.specs.Permutation.{PermView}
 use Rattle.crush_bucket.specs.Pick.{pick, perm_for}
 
 -- a bucket and the number of its type

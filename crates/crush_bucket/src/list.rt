@@ -6,10 +6,10 @@ ghost use Rattle.crush_bucket.specs.Pick.{pick};
 ghost use Rattle.crush_bucket.specs.Kinds.{list_place, greatest, takes};
 ghost use Rattle.crush_bucket.specs.Private.Kept.{AreSums};
 
-use crate::perm::Perm;
 use crate::picker::Picker;
 use crush_hash::hash4_lanes;
 use crush_map::{ItemId, Kind, Weight};
+use crush_permutation::Perm;
 use std::alloc::{AllocError, Global};
 use std::marker::Model;
 

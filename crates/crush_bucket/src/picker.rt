@@ -4,8 +4,8 @@ ghost use Rattle.std.specs.Prelude.{◌≡◌};
 ghost use Rattle.crush_bucket.specs.Bucket.{BucketView, IsItemOf};
 ghost use Rattle.crush_bucket.specs.Pick.{pick, perm_of, after_pick};
 
-use crate::perm::Perm;
 use crush_map::ItemId;
+use crush_permutation::Perm;
 
 /// A bucket that picks one of its items.
 pub trait Picker {

@@ -1,38 +1,33 @@
 //! The scratch of all buckets of a map.
 
-ghost use Rattle.std.specs.Prelude.{◌≡◌, IfOk, length};
+ghost use Rattle.std.specs.Prelude.{◌≡◌, IfOk, length, map};
+ghost use Rattle.crush_permutation.specs.Permutation.{perm_view};
 ghost use Rattle.crush_bucket.specs.Bucket.{IsItemOf};
-ghost use Rattle.crush_bucket.specs.Pick.{pick, perm_of};
+ghost use Rattle.crush_bucket.specs.Pick.{pick};
 ghost use Rattle.crush_bucket.specs.Tables.{perms_in, perms_of};
 ghost use Rattle.crush_bucket.specs.Private.Laid.{IsSlotOf};
-ghost use Rattle.crush_bucket.specs.Private.Reached.{of_slot, IsNew};
 
-use crate::pairs::Pair;
-use crate::reached::{Slot, room_of};
 use crate::row::Row;
 use crate::tables::Tables;
 use crate::uniform::UniformBucket;
 use crush_map::{ItemId, Kind};
+use crush_permutation::Perms;
 use std::alloc::{AllocError, Global};
 use std::marker::Model;
 
-/// A permutation for each uniform bucket of tables, in order of number; one row has the pairs of all of them. Contracts see each bucket's id and size, never which input was asked last.
+/// A permutation for each uniform bucket of tables, in order of number. Contracts see each bucket's id and size, never which input was asked last.
 #[derive(Drop)]
 pub struct Scratch {
-    slots: Vec<Slot>,
-    row: Vec<Pair>,
+    perms: Perms,
 }
 
 impl Model for Scratch {
-    ghost use Rattle.std.specs.Prelude.{List, map};
-    ghost use Rattle.crush_bucket.specs.Permutation.{PermView};
-    ghost use Rattle.crush_bucket.specs.Private.Reached.{of_slot, AreParts};
+    ghost use Rattle.std.specs.Prelude.{List};
+    ghost use Rattle.crush_permutation.specs.Permutation.{PermView};
 
     ghost Value = { List PermView };
 
-    ghost view = { λ a. map of_slot a.slots.items };
-
-    ghost invariant = { λ a. AreParts a.slots.items a.row.items };
+    ghost view = { λ a. a.perms };
 }
 
 impl Scratch {
@@ -40,18 +35,10 @@ impl Scratch {
     pub fn build(alloc: Global, tables: &Tables) -> Result<Self, AllocError>
         ensures { IfOk result (λ s. s ≡ perms_of tables.now) }
     {
-        let rows = tables.rows();
-        let mut slots = Vec::with_capacity(alloc, perm_count(rows))?;
-        let mut end = 0;
-        for row in rows {
-            if row.kind() == Kind::Uniform {
-                let (slot, next) = slot_for(row, end)?;
-                slots.push(slot)?;
-                end = next;
-            }
-        }
-        let row = vec![in alloc; (0, 0); end]?;
-        Ok(Scratch { slots, row })
+        let uniform = uniform_of(alloc, tables.rows())?;
+        Ok(Scratch {
+            perms: Perms::build(alloc, &uniform)?,
+        })
     }
 
     /// The item that a uniform bucket picks with the permutation of its slot.
@@ -62,21 +49,21 @@ impl Scratch {
         ensures same { self.new ≡ self.old }
     {
         let asked = bucket.asked_place(r);
-        let slot = &mut self.slots[slot];
-        let member = slot.member(self.row.as_mut_slice(), x, asked);
-        bucket.item(member as usize)
+        bucket.item(self.perms.member(slot, x, asked))
     }
 }
 
-/// The slot of a uniform bucket whose part of the row begins here, and where that part ends. A row that is too long for a number can't be had.
-fn slot_for(row: &Row, start: usize) -> Result<(Slot, usize), AllocError>
-    ensures of { IfOk result (λ s. of_slot s.0 ≡ perm_of row.now.bucket) }
-    ensures new { IfOk result (λ s. IsNew s.1 s.0) }
-    ensures start { IfOk result (λ s. s.0.start ≡ start) }
+/// The id and the size of each uniform bucket.
+fn uniform_of(alloc: Global, rows: &[Row]) -> Result<Vec<(ItemId, u32)>, AllocError>
+    ensures { IfOk result (λ uniform. map perm_view uniform.items ≡ perms_in rows.now) }
 {
-    let size = row.size();
-    let end = start.checked_add(room_of(size)).ok_or(AllocError)?;
-    Ok((Slot::new(row.id(), size, start), end))
+    let mut uniform = Vec::with_capacity(alloc, perm_count(rows))?;
+    for row in rows {
+        if row.kind() == Kind::Uniform {
+            uniform.push((row.id(), row.size() as u32))?;
+        }
+    }
+    Ok(uniform)
 }
 
 /// How many of these buckets are uniform.

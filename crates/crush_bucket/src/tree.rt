@@ -7,10 +7,10 @@ ghost use Rattle.crush_bucket.specs.Kinds.{height_of, place_within};
 ghost use Rattle.crush_bucket.specs.Private.Kept.{AreNodes, HasNodes, node_weights};
 
 use crate::descent::{down, last_down, places};
-use crate::perm::Perm;
 use crate::picker::Picker;
 use crate::sums::weight_within;
 use crush_map::{ItemId, Kind, Weight};
+use crush_permutation::Perm;
 use std::alloc::{AllocError, Global};
 use std::marker::Model;
 

@@ -4,9 +4,9 @@ ghost use Rattle.std.specs.Prelude.{◌≡◌, ◌<◌, ◌%◌, ◌^◌, IfOk, 
 ghost use Rattle.crush_bucket.specs.Bucket.{HasEqualWeights, IsItemOf, item_at, total_weight};
 ghost use Rattle.crush_bucket.specs.Pick.{pick};
 
-use crate::perm::Perm;
 use crate::picker::Picker;
 use crush_map::{ItemId, Kind, Weight};
+use crush_permutation::Perm;
 use std::alloc::{AllocError, Global};
 use std::marker::Model;
 

@@ -5,7 +5,7 @@ use Rattle.std.specs.Ordering.{int_eq}
 use Rattle.crush_map.specs.declared.draft.Bucket.{Bucket}
 use Rattle.crush_map.specs.declared.word.Kind.TheVariants.{Uniform}
 use Rattle.crush_bucket.specs.Bucket.{BucketView, item_at, total_weight, HasEqualWeights}
-use Rattle.crush_bucket.specs.Permutation.{PermView}
+use Rattle.crush_permutation.specs.Permutation.{PermView}
 use Rattle.crush_bucket.specs.Pick.{perm_for}
 use Rattle.crush_bucket.specs.Tables.{TypedBucket, TablesView, bucket_at, size_at, perms_in, IsBelow}
 

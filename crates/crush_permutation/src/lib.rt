@@ -1,0 +1,14 @@
+//! The permutations by which uniform buckets pick, kept as the places at which they differ from the identity.
+//!
+//! Source: `bucket_perm_choose` of Ceph's `src/crush/mapper.c`. Its tests are the crate `kernel_tests`.
+#![tactic(auto)]
+
+pub mod laws;
+mod pairs;
+mod perm;
+mod perms;
+mod place_hashes;
+mod reached;
+
+pub use perm::Perm;
+pub use perms::Perms;
