@@ -9,7 +9,7 @@ build: crushcalc
 	@echo 'The program is ./crushcalc.'
 
 help:
-	@echo 'make build     proves the crates of the program and builds it as ./crushcalc, optimised (the first time: some 30 minutes)'
+	@echo 'make build     proves the crates of the program and builds it as ./crushcalc, optimised (the first time: some 35 minutes)'
 	@echo 'make try       plays examples/first.script in a minute, with no proof'
 	@echo 'make run       builds, and serves examples/first.script: each request with its reply'
 	@echo 'make test      every proof from nothing, tests, the program from end to end, and the edits that must fail of each crate that changed'
@@ -43,8 +43,9 @@ tools:
 # the crates are proved side by side; then rt run builds crates/crushcalc/out/crushcalc by LLVM at -O3, and runs it
 crushcalc: $(SOURCES) crates.txt HANDLES | tools
 	@mkdir -p build
-	@echo 'Proving the crates and building ./crushcalc: the first time some 30 minutes on four cores, later what changed.'
-	@RT='$(RT)' python3 tools/prove crushcalc build/build.log || { tail -n 30 build/build.log; echo 'The proofs failed; the whole log is build/build.log.' >&2; exit 1; }
+	@echo 'Proving the crates and building ./crushcalc: the first time some 35 minutes on four cores, later what changed.'
+	@{ (cd crates/crushcalc && $(RT) all check --jobs $$(nproc)) 2>&1; echo "$$?" >build/build.status; } | tee build/build.log | awk -v crate=crushcalc -f tools/progress.awk crates.txt -
+	@[ "$$(cat build/build.status)" = 0 ] || { tail -n 30 build/build.log; echo 'The proofs failed; the whole log is build/build.log.' >&2; exit 1; }
 	@(cd crates/crushcalc && $(RT) run -- --help) >build/help.txt 2>>build/build.log || { tail -n 30 build/build.log; echo 'The build failed; the whole log is build/build.log.' >&2; exit 1; }
 	@cp crates/crushcalc/out/crushcalc crushcalc
 	@echo 'Built ./crushcalc.'

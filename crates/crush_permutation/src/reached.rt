@@ -81,8 +81,8 @@ impl Reached {
         self.first
     }
 
-    /// The member of the permutation for x at a place.
-    #[inline]
+    /// The member of the permutation for x at a place. Not inlined, so that a question for place 0 alone, which needs no row, doesn't spill the registers that this one uses.
+    #[inline(never)]
     pub(crate) fn member(&mut self, row: &mut [Pair], x: u32, place: usize) -> u32
         requires within { place < self.old.size }
         requires reached { IsReached self.old row.old }
