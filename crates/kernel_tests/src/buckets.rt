@@ -2,6 +2,7 @@
 
 ghost use Rattle.std.specs.Prelude.{◌≡◌, ◌<◌, ◌^◌};
 ghost use Rattle.crush_bucket.specs.Pick.{perm_of};
+ghost use Rattle.crush_bucket.specs.Tables.{perms_of};
 
 use crate::drafts::{ONE, SOUND, Short, draft, entries};
 use crate::plain;
@@ -224,13 +225,8 @@ const SMALL: Short<'static> = Short {
     ..SOUND
 };
 
-/// Tables of the small map, and a scratch of them, are what its draft says and pick what the plain forms pick.
-fn assert_tables(rt: &impl Abort, alloc: Global) -> Result<(), AllocError> {
-    let Ok(map) = CrushMap::check(alloc, draft(alloc, SMALL)?)? else {
-        return rt.abort();
-    };
-    let tables = Tables::build(alloc, &map)?;
-    let mut scratch = Scratch::build(alloc, &tables)?;
+/// Tables of the small map are what its draft says.
+fn assert_small(rt: &impl Abort, tables: &Tables) {
     assert!(rt; tables.has_device(2) && !tables.has_device(3));
     assert!(rt; tables.bucket_of(ItemId(-5)).is_none() && tables.bucket_of(ItemId(2)).is_none());
     assert_eq!(rt; tables.tunables().total_tries, 50);
@@ -248,19 +244,45 @@ fn assert_tables(rt: &impl Abort, alloc: Global) -> Result<(), AllocError> {
     );
     assert!(rt; tables.kind(root) == Uniform && !tables.is_empty(root));
     assert!(rt; list.place() == 0 && !tables.is_empty(list));
+}
+
+/// With a scratch they pick what the plain forms pick.
+fn assert_picks(
+    rt: &impl Abort,
+    alloc: Global,
+    tables: &Tables,
+    scratch: &mut Scratch,
+) -> Result<(), AllocError>
+    requires fits { scratch.old ≡ perms_of tables.now }
+{
+    let (Some(root), Some(list)) = (tables.bucket_of(ItemId(-1)), tables.bucket_of(ItemId(-2)))
+    else {
+        return rt.abort();
+    };
+    assert!(rt; !tables.is_empty(root) && !tables.is_empty(list));
     let hosts = [(ItemId(-2), Weight(ONE)), (ItemId(-3), Weight(ONE))];
-    let host = tables.pick(root, &mut scratch, 7, 3);
+    let host = tables.pick(root, scratch, 7, 3);
     assert_eq!(rt; host, plain::uniform(alloc, ItemId(-1), &hosts, 7, 3)?);
     let devices = [(ItemId(0), Weight(ONE)), (ItemId(1), Weight(ONE))];
-    let device = tables.pick(list, &mut scratch, 7, 3);
+    let device = tables.pick(list, scratch, 7, 3);
     assert_eq!(rt; device, plain::list(ItemId(-2), &devices, 7, 3));
     let Some(below) = tables.bucket_of(host) else {
         return rt.abort();
     };
     assert!(rt; below.place() < 2 && !tables.is_empty(below));
-    let device = tables.pick(below, &mut scratch, 7, 3);
+    let device = tables.pick(below, scratch, 7, 3);
     assert!(rt; 0 <= device.0 && device.0 < 3);
     Ok(())
+}
+
+fn assert_tables(rt: &impl Abort, alloc: Global) -> Result<(), AllocError> {
+    let Ok(map) = CrushMap::check(alloc, draft(alloc, SMALL)?)? else {
+        return rt.abort();
+    };
+    let tables = Tables::build(alloc, &map)?;
+    let mut scratch = Scratch::build(alloc, &tables)?;
+    assert_small(rt, &tables);
+    assert_picks(rt, alloc, &tables, &mut scratch)
 }
 
 /// Where memory is refused once, at whichever growth, the next try has it and answers as ever.

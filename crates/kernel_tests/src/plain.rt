@@ -53,9 +53,12 @@ pub(crate) fn exchanged(
         places.push(place)?;
     }
     for place in 0..exchanges {
-        if place < places.len() {
-            let i = hash3(x, id.word(), (place % 65_536) as u32) as usize % (places.len() - place);
-            places.swap(place, place + i);
+        let left = size.saturating_sub(place).max(1);
+        let other = place.wrapping_add(
+            hash3(x, id.word(), (place % 65_536) as u32) as usize % left,
+        );
+        if place < places.len() && other < places.len() {
+            places.swap(place, other);
         }
     }
     Ok(places)

@@ -10,7 +10,7 @@ use Element::{Buckets, Devices, End, Rules, Types};
 use FaultCode::{M1, M2, M3, M4, M5, M6, M7, M8, M9, M10, M11, M12, M13, M14, M15};
 use Kind::{List, Uniform};
 use crush_map::{CrushMap, Element, FaultCode, ItemId, Kind, MapDraft, MapFault, Step, Tunables};
-use std::alloc::Global;
+use std::alloc::{AllocError, Global};
 use std::process::Abort;
 use std::test::Fail;
 
@@ -344,26 +344,33 @@ const OUT_OF_ORDER: Short<'static> = Short {
     ..SOUND
 };
 
+/// The numbers of a map's types, and the ids of its devices, buckets and rules, as they stand in its lists.
+fn numbers_of(alloc: Global, map: &CrushMap) -> Result<Vec<i64>, AllocError> {
+    let mut numbers = Vec::new(alloc);
+    for one in map.types() {
+        numbers.push(i64::from(one.number))?;
+    }
+    for one in map.devices() {
+        numbers.push(i64::from(one.id))?;
+    }
+    for one in map.buckets() {
+        numbers.push(i64::from(one.id.0))?;
+    }
+    for one in map.rules() {
+        numbers.push(i64::from(one.id))?;
+    }
+    Ok(numbers)
+}
+
 #[test]
 fn a_map_is_in_order(rt: HostRuntime) -> Result<(), Fail> {
     let alloc = rt.alloc();
     let map = map_of(alloc, draft(alloc, OUT_OF_ORDER)?)?;
-    for (one, number) in map.types().iter().zip([0, 1, 3, 10]) {
-        assert_eq!(rt; one.number, number);
-    }
-    for (one, id) in map.devices().iter().zip([0, 3]) {
-        assert_eq!(rt; one.id, id);
-    }
-    for (one, id) in map.buckets().iter().zip([-65_536, -9]) {
-        assert_eq!(rt; one.id.0, id);
-    }
-    for (one, id) in map.rules().iter().zip([0, 255]) {
-        assert_eq!(rt; one.id, id);
-    }
-    let counts = (map.types().len(), map.devices().len());
-    assert_eq!(rt; counts, (4, 2));
-    let counts = (map.buckets().len(), map.rules().len());
-    assert_eq!(rt; counts, (2, 2));
+    let numbers = numbers_of(alloc, &map)?;
+    assert_eq!(rt;
+        numbers.as_slice(),
+        [0, 1, 3, 10, 0, 3, -65_536, -9, 0, 255].as_slice()
+    );
     assert_eq!(rt; map.tunables().total_tries, 999);
     Ok(())
 }

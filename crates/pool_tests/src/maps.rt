@@ -1,12 +1,17 @@
 //! A map text, and placements on the maps of texts.
 
+ghost use Rattle.std.specs.Prelude.{◌≡◌};
+ghost use Rattle.crush_bucket.specs.Tables.{perms_of};
+ghost use Rattle.crush_choose.specs.Rules.{CanRun};
+
 use crush_bucket::{Scratch, Tables};
 use crush_choose::{Out, Weights};
+use crush_map::Rule;
 use crush_pool::{
     DeviceState, DeviceStates, Placement, Pool, PoolFault, place, place_with, reweights_of,
     rule_with_id,
 };
-use std::alloc::Global;
+use std::alloc::{AllocError, Global};
 use std::process::Abort;
 use std::test::Fail;
 use text_tests::texts::{map_of, map_text};
@@ -63,7 +68,31 @@ rule twice {
 "
 );
 
-/// A group's placement with these states on the map of a text, and the answer and the trace that a placement of it leaves.
+/// A group's placement, and the answer and the trace that a placement of it leaves.
+fn placed(
+    rt: &impl Abort,
+    alloc: Global,
+    tables: &Tables,
+    scratch: &mut Scratch,
+    pool: &Pool,
+    rule: &Rule,
+    weights: &Weights,
+    states: &DeviceStates,
+    group: u32,
+) -> Result<(Result<Placement, PoolFault>, Out), AllocError>
+    requires rule { CanRun tables.now rule.now }
+    requires fits { scratch.old ≡ perms_of tables.now }
+{
+    let placed = place(alloc, tables, scratch, pool, rule, weights, states, group)?;
+    let mut out = Out::build(alloc)?;
+    let left = place_with(
+        alloc, tables, scratch, pool, rule, weights, states, group, &mut out,
+    )?;
+    assert_eq!(rt; left.is_ok(), placed.is_ok());
+    Ok((placed, out))
+}
+
+/// The same with these states on the map of a text.
 pub(crate) fn asked(
     rt: &impl Abort,
     alloc: Global,
@@ -73,14 +102,15 @@ pub(crate) fn asked(
     group: u32,
 ) -> Result<(Result<Placement, PoolFault>, Out), Fail> {
     let map = map_of(alloc, text)?;
+    let Some(rule) = rule_with_id(&map, pool.parts().rule) else {
+        return rt.abort();
+    };
     let tables = Tables::build(alloc, &map)?;
     let mut scratch = Scratch::build(alloc, &tables)?;
     let weights = Weights::of(alloc, &reweights_of(alloc, states)?)?;
     let states = DeviceStates::build(alloc, states)?;
-    let Some(rule) = rule_with_id(&map, pool.parts().rule) else {
-        return rt.abort();
-    };
-    let placed = place(
+    Ok(placed(
+        rt,
         alloc,
         &tables,
         &mut scratch,
@@ -89,19 +119,5 @@ pub(crate) fn asked(
         &weights,
         &states,
         group,
-    )?;
-    let mut out = Out::build(alloc)?;
-    let left = place_with(
-        alloc,
-        &tables,
-        &mut scratch,
-        pool,
-        rule,
-        &weights,
-        &states,
-        group,
-        &mut out,
-    )?;
-    assert_eq!(rt; left.is_ok(), placed.is_ok());
-    Ok((placed, out))
+    )?)
 }

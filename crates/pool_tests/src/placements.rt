@@ -1,19 +1,20 @@
-//! Placements of groups: the rule's answer, the devices of it that are up, and the primary.
+//! Placements of groups: the rule's answer, the devices of it that are up, the primary, and the trace that is left.
 
 use crate::maps::{THREE, asked};
 use crate::pools::{Short, TWELVE, pool};
 use crate::states::{DOWN_0, DOWN_1, DOWN_2};
 use crush_choose::Slot;
 use crush_map::ItemId;
-use crush_pool::{DeviceState, PoolFault};
+use crush_pool::{DeviceState, Placement, PoolFault};
 use std::alloc::Global;
 use std::process::Abort;
 use std::test::Fail;
 use text_tests::texts::{DEVICE_0, DEVICE_7};
 
-/// A group of a pool, on the map of a text with these states, and its placement.
+/// A group of a pool, on the map of a text with these states, and its placement with the trace that is left.
 #[derive(Clone, Copy)]
 struct Case {
+    what: &'static str,
     text: &'static str,
     pool: Short,
     states: &'static [DeviceState],
@@ -22,18 +23,25 @@ struct Case {
     raw: &'static [Slot],
     up: &'static [Slot],
     primary: Slot,
+    trace: &'static [u32],
 }
 
-fn assert_placed(rt: &impl Abort, alloc: Global, case: Case) -> Result<(), Fail> {
+fn assert_placement(rt: &impl Abort, placement: &Placement, case: &Case) {
+    assert_eq!(rt; placement.seed, case.seed, "seed: {}", case.what);
+    assert_eq!(rt; placement.raw.as_slice(), case.raw, "raw: {}", case.what);
+    assert_eq!(rt; placement.up.as_slice(), case.up, "up: {}", case.what);
+    assert_eq!(rt; placement.primary, case.primary, "primary: {}", case.what);
+}
+
+fn assert_placed(rt: &impl Abort, alloc: Global, case: &Case) -> Result<(), Fail> {
     let pool = pool(rt, alloc, case.pool)?;
     let (answer, out) = asked(rt, alloc, case.text, &pool, case.states, case.group)?;
-    assert!(rt; answer.is_ok());
-    let placement = answer.ok().unwrap();
-    assert_eq!(rt; placement.seed, case.seed);
-    assert_eq!(rt; placement.raw.as_slice(), case.raw);
-    assert_eq!(rt; out.items(), case.raw);
-    assert_eq!(rt; placement.up.as_slice(), case.up);
-    assert_eq!(rt; placement.primary, case.primary);
+    match answer {
+        Ok(placement) => assert_placement(rt, &placement, case),
+        Err(_) => return rt.abort(),
+    }
+    assert_eq!(rt; out.items(), case.raw, "answer: {}", case.what);
+    assert_eq!(rt; out.trace(), case.trace, "trace: {}", case.what);
     Ok(())
 }
 
@@ -45,8 +53,9 @@ const TWO: Slot = Some(ItemId(2));
 
 const SEVEN: Slot = Some(ItemId(7));
 
-/// Of 12 groups the one that an object without a name falls into.
+/// The group of an object without a name.
 const NAMELESS: Case = Case {
+    what: "of 12 groups, that of an object without a name",
     text: DEVICE_0,
     pool: TWELVE,
     states: &[],
@@ -55,25 +64,12 @@ const NAMELESS: Case = Case {
     raw: &[ZERO],
     up: &[ZERO],
     primary: ZERO,
+    trace: &[0],
 };
 
-#[test]
-fn objects_are_placed(rt: HostRuntime) -> Result<(), Fail> {
-    let alloc = rt.alloc();
-    let pool = pool(&rt, alloc, TWELVE)?;
-    assert_eq!(rt; pool.group_of(b""), NAMELESS.group);
-    assert_placed(&rt, alloc, NAMELESS)?;
-    let named = Case {
-        group: 8,
-        seed: 9,
-        ..NAMELESS
-    };
-    assert_eq!(rt; pool.group_of(b"a"), named.group);
-    assert_placed(&rt, alloc, named)
-}
-
-/// A group that is placed by a hash.
+/// A group whose seed is a hash.
 const HASHED: Case = Case {
+    what: "a group that is placed by a hash",
     pool: Short {
         pg_num: 8,
         pgp_num: 8,
@@ -85,19 +81,6 @@ const HASHED: Case = Case {
     ..NAMELESS
 };
 
-#[test]
-fn maps_of_one_device_answer_it(rt: HostRuntime) -> Result<(), Fail> {
-    let other = Case {
-        text: DEVICE_7,
-        raw: &[SEVEN],
-        up: &[SEVEN],
-        primary: SEVEN,
-        ..HASHED
-    };
-    assert_placed(&rt, rt.alloc(), HASHED)?;
-    assert_placed(&rt, rt.alloc(), other)
-}
-
 /// A pool on the map of three devices.
 const OF_THREE: Short = Short { size: 3, ..TWELVE };
 
@@ -107,113 +90,36 @@ const CODED: Short = Short {
     ..OF_THREE
 };
 
-/// A group of three devices that are all up.
+/// Three devices that are taken, and not chosen.
 const ALL_UP: Case = Case {
+    what: "three devices that are up",
     text: THREE,
     pool: OF_THREE,
     raw: &[ZERO, ONE, TWO],
     up: &[ZERO, ONE, TWO],
+    trace: &[],
     ..NAMELESS
 };
 
-#[test]
-fn devices_that_are_up_are_kept_in_order(rt: HostRuntime) -> Result<(), Fail> {
-    let coded = Case {
-        pool: CODED,
-        ..ALL_UP
-    };
-    assert_placed(&rt, rt.alloc(), ALL_UP)?;
-    assert_placed(&rt, rt.alloc(), coded)
-}
-
-/// Devices that are down leave the list of a replicated pool.
-const WITHOUT_1: Case = Case {
-    states: &[DOWN_1],
-    up: &[ZERO, TWO],
-    ..ALL_UP
+/// An erasure pool whose rule finds one device for two places.
+const OF_ONE: Short = Short {
+    rule: 1,
+    size: 2,
+    ..CODED
 };
 
-#[test]
-fn devices_that_are_down_leave_a_replicated_list(rt: HostRuntime) -> Result<(), Fail> {
-    let without_0 = Case {
-        states: &[DOWN_0],
-        up: &[ONE, TWO],
-        primary: ONE,
-        ..ALL_UP
-    };
-    let without_all = Case {
-        states: &[DOWN_2, DOWN_0, DOWN_1],
-        up: &[],
-        primary: None,
-        ..ALL_UP
-    };
-    assert_placed(&rt, rt.alloc(), WITHOUT_1)?;
-    assert_placed(&rt, rt.alloc(), without_0)?;
-    assert_placed(&rt, rt.alloc(), without_all)
-}
-
-/// Their places in the list of an erasure pool are empty.
-const HOLE_AT_1: Case = Case {
-    pool: CODED,
-    states: &[DOWN_1],
-    up: &[ZERO, None, TWO],
-    ..ALL_UP
-};
-
-#[test]
-fn devices_that_are_down_leave_holes_in_an_erasure_list(rt: HostRuntime) -> Result<(), Fail> {
-    let hole_at_0 = Case {
-        states: &[DOWN_0],
-        up: &[None, ONE, TWO],
-        primary: ONE,
-        ..HOLE_AT_1
-    };
-    let holes = Case {
-        states: &[DOWN_2, DOWN_0, DOWN_1],
-        up: &[None, None, None],
-        primary: None,
-        ..HOLE_AT_1
-    };
-    assert_placed(&rt, rt.alloc(), HOLE_AT_1)?;
-    assert_placed(&rt, rt.alloc(), hole_at_0)?;
-    assert_placed(&rt, rt.alloc(), holes)
-}
-
-/// A rule that finds one device for two places, in an erasure pool.
 const SHORT: Case = Case {
-    pool: Short {
-        rule: 1,
-        size: 2,
-        ..CODED
-    },
+    what: "of an erasure pool, a place without a device",
+    pool: OF_ONE,
     raw: &[ZERO, None],
     up: &[ZERO, None],
+    trace: &[0],
     ..ALL_UP
 };
-
-#[test]
-fn places_without_a_device_stay_in_an_erasure_list_alone(rt: HostRuntime) -> Result<(), Fail> {
-    let replicated = Case {
-        pool: Short {
-            erasure: false,
-            ..SHORT.pool
-        },
-        up: &[ZERO],
-        ..SHORT
-    };
-    let none = Case {
-        states: &[DOWN_0],
-        up: &[None, None],
-        primary: None,
-        ..SHORT
-    };
-    assert_placed(&rt, rt.alloc(), SHORT)?;
-    assert_placed(&rt, rt.alloc(), replicated)?;
-    assert_placed(&rt, rt.alloc(), none)
-}
 
 /// A rule that answers a bucket and a device.
 const BUCKET: Case = Case {
+    what: "a bucket in the answer is never up",
     pool: Short {
         rule: 2,
         ..OF_THREE
@@ -224,41 +130,6 @@ const BUCKET: Case = Case {
     ..ALL_UP
 };
 
-#[test]
-fn a_bucket_is_never_up(rt: HostRuntime) -> Result<(), Fail> {
-    let coded = Case {
-        pool: Short { rule: 2, ..CODED },
-        up: &[None, TWO],
-        ..BUCKET
-    };
-    assert_placed(&rt, rt.alloc(), BUCKET)?;
-    assert_placed(&rt, rt.alloc(), coded)
-}
-
-/// A rule that answers a device twice, and a pool that wants one device of three.
-const TWICE: Case = Case {
-    pool: Short {
-        rule: 3,
-        ..OF_THREE
-    },
-    raw: &[ONE, ONE],
-    up: &[ONE, ONE],
-    primary: ONE,
-    ..ALL_UP
-};
-
-#[test]
-fn answers_are_as_long_as_rule_and_size_say(rt: HostRuntime) -> Result<(), Fail> {
-    let one = Case {
-        pool: TWELVE,
-        raw: &[ZERO],
-        up: &[ZERO],
-        ..ALL_UP
-    };
-    assert_placed(&rt, rt.alloc(), TWICE)?;
-    assert_placed(&rt, rt.alloc(), one)
-}
-
 /// The device 0 is out and up.
 const OUT: &[DeviceState] = &[DeviceState {
     device: 0,
@@ -266,46 +137,150 @@ const OUT: &[DeviceState] = &[DeviceState {
     up: true,
 }];
 
-#[test]
-fn a_device_that_is_out_is_not_chosen(rt: HostRuntime) -> Result<(), Fail> {
-    let out = Case {
+const CASES: &[Case] = &[
+    NAMELESS,
+    Case {
+        what: "that of the object a",
+        group: 8,
+        seed: 9,
+        ..NAMELESS
+    },
+    Case {
+        what: "the last group",
+        group: 11,
+        seed: 12,
+        ..NAMELESS
+    },
+    HASHED,
+    Case {
+        what: "another device",
+        text: DEVICE_7,
+        raw: &[SEVEN],
+        up: &[SEVEN],
+        primary: SEVEN,
+        trace: &[7],
+        ..HASHED
+    },
+    ALL_UP,
+    Case {
+        what: "three devices that are up, of an erasure pool",
+        pool: CODED,
+        ..ALL_UP
+    },
+    Case {
+        what: "the second is down",
+        states: &[DOWN_1],
+        up: &[ZERO, TWO],
+        ..ALL_UP
+    },
+    Case {
+        what: "the first is down",
+        states: &[DOWN_0],
+        up: &[ONE, TWO],
+        primary: ONE,
+        ..ALL_UP
+    },
+    Case {
+        what: "all are down",
+        states: &[DOWN_2, DOWN_0, DOWN_1],
+        up: &[],
+        primary: None,
+        ..ALL_UP
+    },
+    Case {
+        what: "of an erasure pool the second is down",
+        pool: CODED,
+        states: &[DOWN_1],
+        up: &[ZERO, None, TWO],
+        ..ALL_UP
+    },
+    Case {
+        what: "of an erasure pool the first is down",
+        pool: CODED,
+        states: &[DOWN_0],
+        up: &[None, ONE, TWO],
+        primary: ONE,
+        ..ALL_UP
+    },
+    Case {
+        what: "of an erasure pool all are down",
+        pool: CODED,
+        states: &[DOWN_2, DOWN_0, DOWN_1],
+        up: &[None, None, None],
+        primary: None,
+        ..ALL_UP
+    },
+    SHORT,
+    Case {
+        what: "of a replicated pool, a place without a device",
+        pool: Short {
+            erasure: false,
+            ..OF_ONE
+        },
+        up: &[ZERO],
+        ..SHORT
+    },
+    Case {
+        what: "a place without a device, and a device that is down",
+        states: &[DOWN_0],
+        up: &[None, None],
+        primary: None,
+        ..SHORT
+    },
+    BUCKET,
+    Case {
+        what: "of an erasure pool, a bucket in the answer is never up",
+        pool: Short { rule: 2, ..CODED },
+        up: &[None, TWO],
+        ..BUCKET
+    },
+    Case {
+        what: "a rule that answers a device twice, and nothing else",
+        pool: Short {
+            rule: 3,
+            ..OF_THREE
+        },
+        raw: &[ONE, ONE],
+        up: &[ONE, ONE],
+        primary: ONE,
+        ..ALL_UP
+    },
+    Case {
+        what: "a pool that wants one device of three",
+        pool: TWELVE,
+        raw: &[ZERO],
+        up: &[ZERO],
+        ..ALL_UP
+    },
+    Case {
+        what: "a device that is out isn't chosen",
         states: OUT,
         raw: &[],
         up: &[],
         primary: None,
+        trace: &[],
         ..NAMELESS
-    };
-    let taken = Case {
+    },
+    Case {
+        what: "a device that is out is taken",
         states: OUT,
         ..ALL_UP
-    };
-    assert_placed(&rt, rt.alloc(), out)?;
-    assert_placed(&rt, rt.alloc(), taken)
+    },
+];
+
+#[test]
+fn groups_are_placed(rt: HostRuntime) -> Result<(), Fail> {
+    for case in CASES {
+        assert_placed(&rt, rt.alloc(), case)?;
+    }
+    Ok(())
 }
 
 #[test]
 fn groups_end_below_pg_num(rt: HostRuntime) -> Result<(), Fail> {
     let alloc = rt.alloc();
-    let last = Case {
-        group: 11,
-        seed: 12,
-        ..NAMELESS
-    };
-    assert_placed(&rt, alloc, last)?;
     let pool = pool(&rt, alloc, TWELVE)?;
     let (past, _) = asked(&rt, alloc, DEVICE_0, &pool, &[], 12)?;
     assert_eq!(rt; past.err(), Some(PoolFault::P2));
-    Ok(())
-}
-
-#[test]
-fn placements_leave_an_answer_and_a_trace(rt: HostRuntime) -> Result<(), Fail> {
-    let alloc = rt.alloc();
-    let (_, chosen) = asked(&rt, alloc, DEVICE_7, &pool(&rt, alloc, TWELVE)?, &[], 5)?;
-    assert_eq!(rt; chosen.items(), &[SEVEN][..]);
-    assert_eq!(rt; chosen.trace(), &[7][..]);
-    let (_, taken) = asked(&rt, alloc, THREE, &pool(&rt, alloc, OF_THREE)?, &[], 5)?;
-    assert_eq!(rt; taken.items(), ALL_UP.raw);
-    assert!(rt; taken.trace().is_empty());
     Ok(())
 }
