@@ -1,12 +1,13 @@
 //! Imports, versions and rule tests over a store in memory, and the bodies that ask for them.
 
+use crate::requests::decided;
 use crate::rows::{
     CREATION_OF_A, CREATION_OF_B, IMPORT_BY_A, IMPORT_BY_B, Row, assert_each_alone, assert_requests,
 };
 use crush_app::{MemoryStore, Service};
 use std::alloc::{AllocError, Global};
 use std::test::Fail;
-use tenant_core::{Decision, Effect, Routes, TenantStore, decide, read_request};
+use tenant_core::{Decision, Effect, TenantStore};
 use tenant_messages::CallParts;
 use tenant_state::{Change, TenantState};
 
@@ -173,23 +174,27 @@ fn a_version_is_read_as_its_canonical_text(rt: HostRuntime) -> Result<(), Fail> 
 
 /// The change that an import makes of a tenant that was just created.
 fn change_by(alloc: Global, body: &str) -> Result<Option<Change>, AllocError> {
-    let routes = Routes::build(alloc)?;
     let call = CallParts {
         method: b"POST",
         path: "/t/a/maps",
         body: body.as_bytes(),
     };
-    let Ok(request) = read_request(alloc, &routes, call) else {
-        return Ok(None);
-    };
     let state = TenantState::fresh(alloc)?;
+    match decided(alloc, call, Some(&state))? {
+        Ok(decision) => Ok(change_of(decision)),
+        Err(_) => Ok(None),
+    }
+}
+
+/// The change that a decision asks the store for.
+fn change_of(decision: Decision) -> Option<Change> {
     let Decision {
         effect,
         reply: _reply,
-    } = decide(alloc, "a", Some(&state), &request.action)?;
+    } = decision;
     match effect {
-        Effect::Change(change) => Ok(Some(change)),
-        _ => Ok(None),
+        Effect::Change(change) => Some(change),
+        _ => None,
     }
 }
 

@@ -1,26 +1,38 @@
 //! Requests as `tenant_core` reads and decides them.
 
 use std::alloc::{AllocError, Global};
+use std::process::Abort;
 use std::test::Fail;
-use tenant_core::{Effect, Routes, StoreFault, decide, read_request, store_fault};
-use tenant_messages::{CallParts, Refusal, refused};
+use tenant_core::{Decision, Effect, Routes, StoreFault, decide, read_request, store_fault};
+use tenant_messages::{CallParts, Problem, Refusal, Reply, refused};
 use tenant_state::TenantState;
+
+/// The decision on a call of tenant a, which has this state or is absent, where the call is a request. It is a function of its own since what holds both a request
+/// and a decision takes long to prove.
+pub(crate) fn decided(
+    alloc: Global,
+    call: CallParts<'_>,
+    state: Option<&TenantState>,
+) -> Result<Result<Decision, Problem>, AllocError> {
+    let routes = Routes::build(alloc)?;
+    match read_request(alloc, &routes, call) {
+        Ok(request) => Ok(Ok(decide(alloc, "a", state, &request.action)?)),
+        Err(Refusal::Problem(problem)) => Ok(Err(problem)),
+        Err(Refusal::NoMemory) => Err(AllocError),
+    }
+}
 
 /// The status and the body of the reply to a POST of this body to a tenant's picks.
 fn pick_reply(alloc: Global, body: &str) -> Result<(u16, String), AllocError> {
-    let routes = Routes::build(alloc)?;
     let call = CallParts {
         method: b"POST",
         path: "/t/a/pick",
         body: body.as_bytes(),
     };
-    let reply = match read_request(alloc, &routes, call) {
-        Err(Refusal::Problem(problem)) => refused(alloc, problem)?,
-        Err(Refusal::NoMemory) => return Err(AllocError),
-        Ok(request) => {
-            let state = TenantState::fresh(alloc)?;
-            decide(alloc, "a", Some(&state), &request.action)?.reply
-        }
+    let state = TenantState::fresh(alloc)?;
+    let reply = match decided(alloc, call, Some(&state))? {
+        Ok(decision) => decision.reply,
+        Err(problem) => refused(alloc, problem)?,
     };
     Ok((reply.status, reply.body.into_string()))
 }
@@ -39,17 +51,19 @@ fn pick_body(
     )
 }
 
-/// Items with these weights in JSON, numbered from `first` on.
-fn items(alloc: Global, first: u32, weights: &[u32]) -> Result<String, AllocError> {
-    let mut text = String::new(alloc);
-    for (place, weight) in weights.iter().enumerate() {
-        if place > 0 {
-            text.push(',')?;
-        }
-        let item = first.saturating_add((place % 1024) as u32);
-        text.push_str(&format!(in alloc; "{{\"item\":{item},\"weight\":{weight}}}")?)?;
-    }
-    Ok(text)
+/// Items with their weights in JSON.
+macro_rules! items {
+    ($item:literal $weight:literal $(, $more:literal $other:literal)*) => {
+        concat!("{\"item\":", $item, ",\"weight\":", $weight, "}" $(, ",{\"item\":", $more, ",\"weight\":", $other, "}")*)
+    };
+}
+
+/// The pick that a body asks for is this item.
+fn assert_picked(rt: &impl Abort, alloc: Global, body: &str, picked: i32) -> Result<(), Fail> {
+    let (status, text) = pick_reply(alloc, body)?;
+    assert_eq!(rt; status, 200, "{body}");
+    assert_eq!(rt; text, format!(in alloc; "{{\"item\":{picked}}}")?, "{body}");
+    Ok(())
 }
 
 /// What follows from the rules alone: where no draw is below a weight of 0, and one hash of Ceph's `crush_hash32_4` (0, 1, 0, -1
@@ -57,72 +71,65 @@ fn items(alloc: Global, first: u32, weights: &[u32]) -> Result<String, AllocErro
 #[test]
 fn buckets_pick_as_worked_out_by_hand(rt: HostRuntime) -> Result<(), Fail> {
     let alloc = rt.alloc();
-    for (kind, first, weights, picked) in [
-        ("list", 4, [65536, 0, 0].as_slice(), 4),
-        ("list", 4, [0, 65536, 0].as_slice(), 5),
-        ("list", 4, [0, 0].as_slice(), 4),
-        ("tree", 10, [0, 0, 0].as_slice(), 12),
-        ("tree", 10, [0, 65536, 0].as_slice(), 11),
-        ("uniform", 7, [3].as_slice(), 7),
+    for (kind, items, picked) in [
+        ("list", items!(4 65536, 5 0, 6 0), 4),
+        ("list", items!(4 0, 5 65536, 6 0), 5),
+        ("list", items!(4 0, 5 0), 4),
+        ("tree", items!(10 0, 11 0, 12 0), 12),
+        ("tree", items!(10 0, 11 65536, 12 0), 11),
+        ("uniform", items!(7 3), 7),
     ] {
         for (x, r) in [(0, 0), (5, 0), (7, 3), (4_294_967_295, 2_147_483_647)] {
-            let items = items(alloc, first, weights)?;
-            let (status, text) = pick_reply(alloc, &pick_body(alloc, -7, &items, kind, x, r)?)?;
-            assert_eq!(rt; status, 200);
-            assert_eq!(rt;
-                text,
-                format!(in alloc; "{{\"item\":{picked}}}")?,
-                "{kind} {weights:?} at {x} {r}"
-            );
+            let body = pick_body(alloc, -7, items, kind, x, r)?;
+            assert_picked(&rt, alloc, &body, picked)?;
         }
     }
-    for (kind, first, weights, picked) in [
-        ("list", 0, [65536, 65536].as_slice(), 0),
-        ("list", 0, [65536, 22 * 65536].as_slice(), 0),
-        ("list", 0, [65536, 23 * 65536].as_slice(), 1),
-        ("uniform", 5, [65536, 65536, 65536].as_slice(), 7),
+    for (kind, items, picked) in [
+        ("list", items!(0 65536, 1 65536), 0),
+        ("list", items!(0 65536, 1 1441792), 0),
+        ("list", items!(0 65536, 1 1507328), 1),
+        ("uniform", items!(5 65536, 6 65536, 7 65536), 7),
     ] {
-        let items = items(alloc, first, weights)?;
-        let (_, text) = pick_reply(alloc, &pick_body(alloc, -1, &items, kind, 0, 0)?)?;
-        assert_eq!(rt;
-            text,
-            format!(in alloc; "{{\"item\":{picked}}}")?,
-            "{kind} {weights:?}"
-        );
+        let body = pick_body(alloc, -1, items, kind, 0, 0)?;
+        assert_picked(&rt, alloc, &body, picked)?;
     }
-    let (status, _) = pick_reply(
-        alloc,
-        &pick_body(alloc, -1, &items(alloc, 5, &[1, 2])?, "uniform", 0, 0)?,
-    )?;
+    let differ = pick_body(alloc, -1, items!(5 1, 6 2), "uniform", 0, 0)?;
+    let (status, _) = pick_reply(alloc, &differ)?;
     assert_eq!(rt; status, 400, "weights of a uniform bucket that differ");
     Ok(())
 }
 
+/// Whether a decision changes what is stored, and its reply.
+fn taken_apart(decision: Decision) -> (bool, Reply) {
+    let Decision { effect, reply } = decision;
+    (!matches!(effect, Effect::Keep), reply)
+}
+
+/// The same of the decision on a request without a body to the path of tenant a, which was just created or is absent.
+fn changed(alloc: Global, method: &str, there: bool) -> Result<(bool, Reply), Fail> {
+    let call = CallParts {
+        method: method.as_bytes(),
+        path: "/t/a",
+        body: b"",
+    };
+    let state = TenantState::fresh(alloc)?;
+    match decided(alloc, call, if there { Some(&state) } else { None })? {
+        Ok(decision) => Ok(taken_apart(decision)),
+        Err(_) => Err(Fail::new("the call isn't a request")),
+    }
+}
+
 #[test]
 fn a_tenant_is_made_and_dropped(rt: HostRuntime) -> Result<(), Fail> {
-    let alloc = rt.alloc();
-    let routes = Routes::build(alloc)?;
     for (method, there, body) in [
         ("PUT", false, "{\"epoch\":0,\"tenant\":\"a\"}"),
         ("PUT", true, "{\"error\":\"exists\"}"),
         ("DELETE", true, "{\"dropped\":\"a\"}"),
         ("DELETE", false, "{\"error\":\"no_tenant\"}"),
     ] {
-        let call = CallParts {
-            method: method.as_bytes(),
-            path: "/t/a",
-            body: b"",
-        };
-        let Ok(request) = read_request(alloc, &routes, call) else {
-            assert!(rt; false, "{method} is a request");
-            return Ok(());
-        };
-        let state = TenantState::fresh(alloc)?;
-        let state = if there { Some(&state) } else { None };
-        let decision = decide(alloc, "a", state, &request.action)?;
-        assert_eq!(rt; decision.reply.body.as_str(), body, "{method} {there}");
-        let changes = !matches!(decision.effect, Effect::Keep);
-        assert_eq!(rt; changes, decision.reply.status < 300, "{method} {there}");
+        let (changes, reply) = changed(rt.alloc(), method, there)?;
+        assert_eq!(rt; reply.body.as_str(), body, "{method} {there}");
+        assert_eq!(rt; changes, reply.status < 300, "{method} {there}");
     }
     Ok(())
 }
