@@ -366,6 +366,10 @@ fn numbers_of(alloc: Global, map: &CrushMap) -> Result<Vec<i64>, AllocError> {
 fn a_map_is_in_order(rt: HostRuntime) -> Result<(), Fail> {
     let alloc = rt.alloc();
     let map = map_of(alloc, draft(alloc, OUT_OF_ORDER)?)?;
+    let counts = (map.types().len(), map.devices().len());
+    assert_eq!(rt; counts, (4, 2));
+    let counts = (map.buckets().len(), map.rules().len());
+    assert_eq!(rt; counts, (2, 2));
     let numbers = numbers_of(alloc, &map)?;
     assert_eq!(rt;
         numbers.as_slice(),
