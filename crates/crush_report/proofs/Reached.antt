@@ -1,14 +1,18 @@
 -- The records of a text, from those that a reader has reached.
 use Rattle.std.proofs.Common.{◌≡◌, ◌≤◌, ◌<◌, ◌+◌, ◌-◌, ◌++◌, ◌∷◌, ◌∙◌, [], ℕ, zero, suc, List, Bool, true, false, Some, None, length, take, refl, sym, ap, arith}
-use Rattle.std.specs.Prelude.{◌==◌, ◌||◌, if◌then◌else◌}
+use Rattle.std.specs.Prelude.{◌==◌, ◌||◌, if◌then◌else◌, Option}
+use Rattle.std.proofs.lemmas.Bool.{false≢true}
 use Rattle.std.proofs.Math.Seq.{take-append_seam}
 use Rattle.std.proofs.lemmas.List.{append-nil, take_all}
 use Rattle.csv.specs.Machine.{Read, ends_at_end, is_end, next_record, step, in_field, start_field, start_record, fields_after, field_after}
-use Rattle.csv.specs.Reading.{AreRecords, Reached, default_config, records, records_from}
+use Rattle.csv.specs.Reading.{AreRecords, ExplainsRead, Reached, default_config, is_flexible, records, records_from, stops_reader}
+use Rattle.csv.specs.declared.error.ErrorKind.{ErrorKind}
+use Rattle.csv.specs.declared.error.ErrorKind.TheVariants as kind
 use Rattle.csv.specs.declared.parser.Action.{Action}
 use Rattle.csv.specs.declared.parser.Action.TheVariants as act
 use Rattle.csv.specs.declared.parser.State.{State}
 use Rattle.csv.specs.declared.parser.State.TheVariants as st
+use Rattle.csv.specs.declared.reader.Reader.{Reader}
 
 -- ---- a record ends between records
 
@@ -143,3 +147,14 @@ pub reached_are_first : (n : ℕ) (rows : List (List (List ℕ))) (s2 : State) (
 reached_are_first n rows s2 xs ys e h =
     let (more, all) = reached_prefix rows s2 xs ys h in
     rw (all, ← e) (sym (take-append_seam rows more))
+
+-- ---- errors
+
+-- where records may have any length, an error is of the reader underneath or of memory
+pub stops_if_flexible : {R : Type 0} (rem : R → Option (List ℕ)) (a b : Reader R) (why : ErrorKind) → is_flexible a ≡ true → ExplainsRead rem a b false why → stops_reader why ≡ true
+stops_if_flexible rem a b (kind.Io e) any h = refl
+stops_if_flexible rem a b kind.OutOfMemory any h = refl
+stops_if_flexible rem a b (kind.UnequalLengths pos expected len) any h = absurd (false≢true (sym h.0 ∙ any))
+stops_if_flexible rem a b (kind.Utf8 pos err) any h = absurd (false≢true h.0)
+stops_if_flexible rem a b (kind.Serialize text) any h = absurd h
+stops_if_flexible rem a b (kind.Deserialize pos err) any h = absurd h

@@ -1,16 +1,19 @@
 -- Counts of up lists stay far below 2^32: there are at most 65,536 lists of at most 32 slots.
-use Rattle.std.proofs.Common.{◌≡◌, ℕ, zero, suc, ◌+◌, ◌*◌, ◌^◌, ◌<◌, ◌≤◌, ◌&&◌, nat_lt, Bool, true, false, List, [], ◌∷◌, length, map, is_some, refl, ap, arith, length-append, inl, inr}
-use Rattle.std.specs.List.{list_all, range_with_len}
-use Rattle.std.proofs.lemmas.Bool.{false≢true}
+use Rattle.std.proofs.Common.{◌≡◌, ℕ, zero, suc, ◌+◌, ◌*◌, ◌^◌, ◌<◌, ◌≤◌, max, nat_lt, Bool, true, false, List, [], ◌∷◌, length, map, take, get_or, is_some, Less, Equal, Greater, nat_cmp, refl, ap, arith, length-append, inl, inr}
+use Rattle.std.specs.Prelude.{◌==◌, cond}
+use Rattle.std.specs.Ordering.{is_lt, ord_max}
+use Rattle.std.specs.List.{range_with_len}
 use Rattle.std.proofs.lemmas.Bool.Decides.{nat_tests}
+use Rattle.std.proofs.Math.Nat.{le-max_left, le-max_right}
 use Rattle.crush_map.specs.declared.draft.Device.{Device}
 use Rattle.std.proofs.lemmas.Bool.{cases_lt}
-use Rattle.std.proofs.lemmas.List.{get_or_past}
+use Rattle.std.proofs.lemmas.List.{get_or_past, take_more}
+use Rattle.std.proofs.lemmas.List.Recursion.{max_push}
 use Rattle.crush_choose.specs.Firstn.{has, slot_has}
 use Rattle.crush_choose.specs.Marks.{Slot}
 use Rattle.crush_pool.specs.Placements.{primary_of}
 use Rattle.crush_report.proofs.Short.{filter_few}
-use Rattle.crush_report.specs.Private.Tallies.{count_at, HasRoom, TallyView, IsTally, row_by}
+use Rattle.crush_report.specs.Private.Tallies.{count_at, HasRoom, TallyView, IsTally, id_bound, row_by}
 use Rattle.crush_report.specs.Usage.{device_item, all_entries, entries_of, usage_row, usage_rows}
 use Rattle.crush_report.specs.declared.rows.UsageRow.{UsageRow}
 
@@ -60,15 +63,36 @@ filled_room bound n ups t is few most = omega (arith, few, most, filter_few is_s
 row_is : (bound : ℕ) (ups : List (List Slot)) (t : TallyView) (id : ℕ) → IsTally bound ups t → id < bound → row_by t id ≡ usage_row ups id
 row_is bound ups t id is lt = rw (is.groups id lt, is.entries id lt, is.primaries id lt, is.filled) refl
 
-both : (b c : Bool) → (b && c) ≡ true → (b ≡ true) × (c ≡ true)
-both true true e = (refl, refl)
-both true false e = absurd (false≢true e)
-both false c e = absurd (false≢true e)
+-- what `max` answers
+pub greater_of : (a b : ℕ) → ord_max nat_cmp a b ≡ max a b
+greater_of a b = by (nat_lt b a) (b == a) refl
+  where
+    by : (t s : Bool) → nat_lt b a ≡ t → cond (is_lt (cond t Less (cond s Equal Greater))) a b ≡ max a b
+    by true s h = (let lt : b < a = grind (arith, nat_tests, h) in omega (arith, lt))
+    by false true h = (let le : a ≤ b = grind (arith, nat_tests, h) in omega (arith, le))
+    by false false h = (let le : a ≤ b = grind (arith, nat_tests, h) in omega (arith, le))
 
-pub rows_are : (bound : ℕ) (ups : List (List Slot)) (t : TallyView) (devices : List Device) → IsTally bound ups t → list_all (λ d. nat_lt d.id bound) devices ≡ true
+pub bound_none : (devices : List Device) → 0 ≡ id_bound (take 0 devices)
+unfolding id_bound
+bound_none [] = refl
+bound_none (d ∷ devices) = refl
+
+-- the bound of one device more
+pub bound_more : (devices : List Device) (i : ℕ) (d : Device) → i < length devices → d ≡ get_or devices i d → id_bound (take (i + 1) devices) ≡ max (id_bound (take i devices)) (d.id + 1)
+unfolding id_bound
+bound_more devices i d low is = rw (take_more devices i d low, ← is) (max_push id_bound (λ (e : Device). e.id + 1) refl (λ e es. refl) (take i devices) d)
+
+rows_below : (bound : ℕ) (ups : List (List Slot)) (t : TallyView) (devices : List Device) → IsTally bound ups t → id_bound devices ≤ bound
     → map (λ d. row_by t d.id) devices ≡ usage_rows devices ups
-rows_are bound ups t [] is below = refl
-rows_are bound ups t (d ∷ devices) is below =
-    let tests = both (nat_lt d.id bound) (list_all (λ d. nat_lt d.id bound) devices) below in
-    let lt : d.id < bound = grind (arith, nat_tests, tests.0) in
-    rw (row_is bound ups t d.id is lt) (ap (λ (rows : List UsageRow). usage_row ups d.id ∷ rows) (rows_are bound ups t devices is tests.1))
+unfolding id_bound
+rows_below bound ups t [] is below = refl
+rows_below bound ups t (d ∷ devices) is below =
+    let here : d.id + 1 ≤ max (d.id + 1) (id_bound devices) = le-max_left (d.id + 1) (id_bound devices) in
+    let others : id_bound devices ≤ max (d.id + 1) (id_bound devices) = le-max_right (d.id + 1) (id_bound devices) in
+    let lt : d.id < bound = omega (arith, here, below) in
+    let le : id_bound devices ≤ bound = omega (arith, others, below) in
+    rw (row_is bound ups t d.id is lt) (ap (λ (rows : List UsageRow). usage_row ups d.id ∷ rows) (rows_below bound ups t devices is le))
+
+-- the counts of devices give their rows
+pub rows_are : (ups : List (List Slot)) (t : TallyView) (devices : List Device) → IsTally (id_bound devices) ups t → map (λ d. row_by t d.id) devices ≡ usage_rows devices ups
+rows_are ups t devices is = rows_below (id_bound devices) ups t devices is (omega arith)

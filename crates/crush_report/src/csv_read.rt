@@ -1,13 +1,13 @@
 //! Changes of devices from CSV (RFC 4180).
 
-ghost use Rattle.std.specs.Prelude.{◌≡◌, take, map, option_map, Some, None, IfOk, IfErr};
-ghost use Rattle.csv.specs.Reading.{default_config, records, strip_bom};
+ghost use Rattle.std.specs.Prelude.{◌≡◌, true, take, map, option_map, Some, None, IfOk, IfErr};
+ghost use Rattle.csv.specs.Reading.{default_config, error_kind, records, stops_reader, strip_bom};
 ghost use Rattle.csv.specs.Records.{fields_of};
 ghost use Rattle.crush_report.specs.DeviceCsv as spec;
 
 use crate::changes::{DeviceChange, is_valid};
 use crush_words::number_from_text;
-use csv::{ByteRecord, ReaderBuilder};
+use csv::{ByteRecord, Error, ErrorKind, ReaderBuilder};
 use std::alloc::{AllocError, Global};
 
 /// Why a CSV wasn't read.
@@ -119,6 +119,21 @@ fn changes_under_head(
 
 // ---- texts
 
+/// The answer for an error that stopped a reader.
+///
+/// `Io` stands here since `csv` doesn't say when it comes; std's reader of bytes in memory never fails.
+fn allocation_error(error: &Error) -> AllocError
+    requires { stops_reader (error_kind error.now) ≡ true }
+{
+    match error.kind() {
+        ErrorKind::OutOfMemory | ErrorKind::Io(_) => AllocError,
+        ErrorKind::UnequalLengths { .. } => unreachable!(),
+        ErrorKind::Utf8 { .. } => unreachable!(),
+        ErrorKind::Serialize(_) => unreachable!(),
+        ErrorKind::Deserialize { .. } => unreachable!(),
+    }
+}
+
 /// The first records of a text: one more than a text of the form has at most.
 fn first_records(alloc: Global, text: &[u8]) -> Result<Vec<ByteRecord>, AllocError>
     ensures { IfOk result (λ found. map fields_of found.items ≡ take 1026 (records default_config (strip_bom text.now))) }
@@ -132,10 +147,10 @@ fn first_records(alloc: Global, text: &[u8]) -> Result<Vec<ByteRecord>, AllocErr
         if found.len() == 1026 {
             break;
         }
-        let Ok(row) = next else {
-            return Err(AllocError);
-        };
-        found.push(row)?;
+        match next {
+            Ok(row) => found.push(row)?,
+            Err(error) => return Err(allocation_error(&error)),
+        }
     }
     Ok(found)
 }

@@ -18,7 +18,7 @@ fn new_writer(alloc: Global) -> Writer<Vec<u8>>
     WriterBuilder::new().from_writer(Vec::new(alloc))
 }
 
-/// Writes a record.
+/// Writes a record. `csv` doesn't say which errors of a writer come: each is answered by `AllocError`.
 fn write(writer: &mut Writer<Vec<u8>>, fields: &[&[u8]]) -> Result<(), AllocError>
     ensures { (text : List ℕ) → HasWritten (λ v. Some v.items) text writer.old
         → OnOk result (HasWritten (λ v. Some v.items) (text ++ row_text default_writer (map (λ f. f.now) fields.now)) writer.new) }

@@ -1,7 +1,6 @@
 //! How much of a pool lies on each device.
 
-ghost use Rattle.std.specs.Prelude.{◌≡◌, ◌<◌, ◌≤◌, ◌*◌, ◌^◌, ℕ, List, Some, IfOk, length, map, nat_lt, true};
-ghost use Rattle.std.specs.List.{list_all};
+ghost use Rattle.std.specs.Prelude.{◌≡◌, ◌<◌, ◌≤◌, ◌*◌, ◌^◌, ℕ, List, Some, IfOk, length, map};
 ghost use Rattle.crush_map.specs.Map.{Map};
 ghost use Rattle.crush_bucket.specs.Tables.{tables_of};
 ghost use Rattle.crush_choose.specs.Rules.{CanRun};
@@ -10,7 +9,7 @@ ghost use Rattle.crush_choose.specs.Weights.{weights_of};
 ghost use Rattle.crush_pool.specs.Placements.{primary_of, rule_numbered};
 ghost use Rattle.crush_pool.specs.States.{flags_of, reweights};
 ghost use Rattle.crush_pool.specs.declared.states.DeviceState.{DeviceState};
-ghost use Rattle.crush_report.specs.Private.Tallies.{IsTally, count_at, row_by};
+ghost use Rattle.crush_report.specs.Private.Tallies.{IsTally, count_at, id_bound, row_by};
 ghost use Rattle.crush_report.specs.Usage as spec;
 ghost use Rattle.crush_report.specs.Reports.{groups, up_list, usage};
 
@@ -109,24 +108,22 @@ fn permille(part: u32, whole: u32) -> u32
     if whole == 0 { 0 } else { 1000 * part / whole }
 }
 
-/// A number above the id of each device.
+/// One more than the greatest id of the devices; 0 without a device.
 fn bound_of(devices: &[Device]) -> usize
-    ensures { list_all (λ d. nat_lt d.id result) devices.now ≡ true }
+    ensures { result ≡ id_bound devices.now }
 {
-    let mut rest = devices;
-    let mut bound: usize = 0;
-    while let [device, others @ ..] = rest {
+    let mut bound = 0;
+    for device in devices {
         bound = bound.max(device.id as usize + 1);
-        rest = others;
     }
     bound
 }
 
-/// What is counted of the up lists of all groups of a pool.
+/// What is counted of the up lists of all groups of a pool, for these devices.
 #[tactic(auto, using(crate::proofs::Groups::lists_more))]
 fn tally_of(
     alloc: Global,
-    bound: usize,
+    devices: &[Device],
     tables: &Tables,
     pool: &Pool,
     rule: &Rule,
@@ -135,11 +132,11 @@ fn tally_of(
 ) -> Result<Tally, AllocError>
     requires rule { CanRun tables.now rule.now }
     ensures few { IfOk result (λ t. (id : ℕ) → 1000 * count_at t.entries id < 2 ^ 32) }
-    ensures tally { IfOk result (λ t. IsTally bound (map (up_list tables.now weights.now states.now rule.now.steps pool.now) (groups pool.now)) t) }
+    ensures tally { IfOk result (λ t. IsTally (id_bound devices.now) (map (up_list tables.now weights.now states.now rule.now.steps pool.now) (groups pool.now)) t) }
 {
     let mut scratch = Scratch::build(alloc, tables)?;
     let mut out = Out::build(alloc)?;
-    let mut tally = Tally::new(alloc, bound)?;
+    let mut tally = Tally::new(alloc, bound_of(devices))?;
     for group in 0..pool.parts().pg_num {
         let placement = placement_of(
             alloc,
@@ -187,8 +184,7 @@ pub fn usage_with(
     ensures map { (m : Map) (given : List DeviceState) → devices.now ≡ m.devices → tables.now ≡ tables_of m → weights.now ≡ weights_of (reweights given) → states.now ≡ flags_of given
         → rule_numbered m pool.now.rule ≡ Some rule.now → IfOk result (λ rows. Some rows ≡ usage m given pool.now) }
 {
-    let bound = bound_of(devices);
-    let tally = tally_of(alloc, bound, tables, pool, rule, weights, states)?;
+    let tally = tally_of(alloc, devices, tables, pool, rule, weights, states)?;
     let rows = rows_of(alloc, devices, &tally)?;
     Ok(rows)
 }

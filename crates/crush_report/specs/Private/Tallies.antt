@@ -1,5 +1,6 @@
 -- Counts by the id of a device.
-use Rattle.std.specs.Prelude.{◌≡◌, ◌<◌, ◌+◌, ◌^◌, ℕ, Bool, false, List, Some, None, length, slice_index_or}
+use Rattle.std.specs.Prelude.{◌≡◌, ◌<◌, ◌+◌, ◌^◌, ℕ, Bool, false, List, [], ◌∷◌, Some, None, length, max, slice_index_or}
+use Rattle.crush_map.specs.declared.draft.Device.{Device}
 use Rattle.crush_choose.specs.Firstn.{has}
 use Rattle.crush_choose.specs.Marks.{Slot}
 use Rattle.crush_report.specs.Usage.{entries_of, groups_of, primaries_of, entry_count, permille}
@@ -8,6 +9,11 @@ use Rattle.crush_report.specs.declared.rows.UsageRow.{UsageRow}
 -- the count of a device; 0 past the end
 abbrev pub count_at : List ℕ → ℕ → ℕ
 count_at counts id = slice_index_or counts id 0
+
+-- one more than the greatest id of the devices, and 0 without a device: so many counts are kept
+unfoldable pub id_bound : List Device → ℕ
+id_bound [] = 0
+id_bound (d ∷ rest) = max (d.id + 1) (id_bound rest)
 
 -- each count can grow by so much
 abbrev pub HasRoom : List ℕ → ℕ → Type 0

@@ -5,6 +5,7 @@ use Rattle.crush_pool.specs.Placements.{primary_of}
 use Rattle.crush_report.proofs.Groups.{lists_more}
 use Rattle.crush_report.proofs.Short.{up_short, size_few, groups_few}
 use Rattle.crush_report.proofs.Tallies.{entries_few, entries_most, entries_room, groups_room, primaries_room, filled_room}
+use Rattle.crush_report.specs.Private.Tallies.{id_bound}
 use Rattle.crush_report.specs.Reports.{up_list}
 use Rattle.crush_report.proofs.usage_counts.tally_of.Goals as goal
 
@@ -17,7 +18,7 @@ add-requires-clause-groups c =
     let n = c.loop-group.group in
     let below : n < c.args.pool.now.pg_num = rw c.parts.ensures.same at c.loop-group-test.true in
     let most : n ≤ 65536 = omega (arith, below, groups_few c.args.pool.now c.parts.ensures.valid) in
-    groups_room c.args.bound n (map up (range_with_len 0 n)) c.loop-group.tally c.loop-group.invariant.tally (omega (arith, length-map-range_with_len up 0 n)) most
+    groups_room (id_bound c.args.devices.now) n (map up (range_with_len 0 n)) c.loop-group.tally c.loop-group.invariant.tally (omega (arith, length-map-range_with_len up 0 n)) most
 
 pub add-requires-clause-entries : goal.add-requires-clause-entries
 add-requires-clause-entries c =
@@ -26,7 +27,7 @@ add-requires-clause-entries c =
     let below : n < c.args.pool.now.pg_num = rw c.parts.ensures.same at c.loop-group-test.true in
     let most : n ≤ 65536 = omega (arith, below, groups_few c.args.pool.now c.parts.ensures.valid) in
     let few = entries_few up 0 n (λ group. omega (arith, up_short c.args.tables.now c.args.weights.now c.args.states.now c.args.rule.now.steps c.args.pool.now group, size_few c.args.pool.now c.parts.ensures.valid)) in
-    entries_room c.args.bound n (map up (range_with_len 0 n)) c.loop-group.tally c.loop-group.invariant.tally few most
+    entries_room (id_bound c.args.devices.now) n (map up (range_with_len 0 n)) c.loop-group.tally c.loop-group.invariant.tally few most
 
 pub add-requires-clause-primaries : goal.add-requires-clause-primaries
 add-requires-clause-primaries c =
@@ -34,7 +35,7 @@ add-requires-clause-primaries c =
     let n = c.loop-group.group in
     let below : n < c.args.pool.now.pg_num = rw c.parts.ensures.same at c.loop-group-test.true in
     let most : n ≤ 65536 = omega (arith, below, groups_few c.args.pool.now c.parts.ensures.valid) in
-    primaries_room c.args.bound n (map up (range_with_len 0 n)) c.loop-group.tally c.loop-group.invariant.tally (omega (arith, length-map-range_with_len up 0 n)) most
+    primaries_room (id_bound c.args.devices.now) n (map up (range_with_len 0 n)) c.loop-group.tally c.loop-group.invariant.tally (omega (arith, length-map-range_with_len up 0 n)) most
 
 pub add-requires-clause-filled : goal.add-requires-clause-filled
 add-requires-clause-filled c =
@@ -43,7 +44,7 @@ add-requires-clause-filled c =
     let below : n < c.args.pool.now.pg_num = rw c.parts.ensures.same at c.loop-group-test.true in
     let most : n ≤ 65536 = omega (arith, below, groups_few c.args.pool.now c.parts.ensures.valid) in
     let few = entries_few up 0 n (λ group. omega (arith, up_short c.args.tables.now c.args.weights.now c.args.states.now c.args.rule.now.steps c.args.pool.now group, size_few c.args.pool.now c.parts.ensures.valid)) in
-    filled_room c.args.bound n (map up (range_with_len 0 n)) c.loop-group.tally c.loop-group.invariant.tally few most
+    filled_room (id_bound c.args.devices.now) n (map up (range_with_len 0 n)) c.loop-group.tally c.loop-group.invariant.tally few most
 
 pub loop-group-preserved : goal.loop-group-preserved
 loop-group-preserved c =
@@ -51,7 +52,7 @@ loop-group-preserved c =
     let n = c.loop-group.group in
     let is : c.as_slice.result.now ≡ up n = c.as_slice.ensures ∙ c.in_ok-placement.ensures.up in
     let primary = c.in_ok-placement.ensures.primary ∙ sym (ap primary_of c.as_slice.ensures) in
-    let one = c.add.ensures c.args.bound (map up (range_with_len 0 n)) primary c.loop-group.invariant.tally in
+    let one = c.add.ensures (id_bound c.args.devices.now) (map up (range_with_len 0 n)) primary c.loop-group.invariant.tally in
     record { fits = c.placement_of.ensures.fits; tally = rw (lists_more up n) (rw is at one) }
 
 pub returns-clause-few : goal.returns-clause-few
@@ -61,7 +62,7 @@ returns-clause-few c id =
     let end : n ≤ c.args.pool.now.pg_num = rw c.parts.ensures.same at c.loop-group.auto.group-end in
     let most : n ≤ 65536 = omega (arith, end, groups_few c.args.pool.now c.parts.ensures.valid) in
     let few = entries_few up 0 n (λ group. omega (arith, up_short c.args.tables.now c.args.weights.now c.args.states.now c.args.rule.now.steps c.args.pool.now group, size_few c.args.pool.now c.parts.ensures.valid)) in
-    omega (arith, most, entries_most c.args.bound n (map up (range_with_len 0 n)) c.loop-group.tally c.loop-group.invariant.tally few id)
+    omega (arith, most, entries_most (id_bound c.args.devices.now) n (map up (range_with_len 0 n)) c.loop-group.tally c.loop-group.invariant.tally few id)
 
 pub returns-clause-tally : goal.returns-clause-tally
 returns-clause-tally c =
