@@ -1,5 +1,5 @@
 -- The reweights of all ids, from a table that has those of the first ids.
-use Rattle.std.proofs.Common.{◌≡◌, ℕ, ◌+◌, ◌-◌, max, map, drop, ◌<◌, ◌≤◌, ◌==◌, List, ◌∷◌, length, replicate, slice_index_or, true, false, nat_lt, refl, sym, ◌∙◌, arith, inl, inr, length-append}
+use Rattle.std.proofs.Common.{◌≡◌, ℕ, suc, add-one, ◌+◌, ◌-◌, max, map, drop, ◌<◌, ◌≤◌, ◌==◌, List, ◌∷◌, length, replicate, slice_index_or, true, false, nat_lt, refl, sym, ◌∙◌, arith, inl, inr, length-append}
 use Rattle.std.specs.List.{Contains}
 use Rattle.std.proofs.Math.ListN.{get_or-append}
 use Rattle.std.proofs.Math.Seq.{drop-cons}
@@ -24,7 +24,7 @@ passed_over given rest id other = let test : (given.0 == id) ≡ false = grind (
 
 -- the pair at a place is skipped by those from it on
 pub passed_at : (given : List (ℕ × ℕ)) (k id : ℕ) → k < length given → ((slice_index_or given k (0, 0)).0 ≡ id → ⊥) → first_given (drop k given) id ≡ first_given (drop (k + 1) given) id
-passed_at given k id lt other = rw (drop-cons given k (0, 0) lt) (passed_over (slice_index_or given k (0, 0)) (drop (k + 1) given) id other)
+passed_at given k id lt other = rw (add-one k, drop-cons given k (0, 0) lt) (passed_over (slice_index_or given k (0, 0)) (drop (suc k) given) id other)
 
 -- ---- how long a table is
 

@@ -1,4 +1,4 @@
-use Rattle.std.proofs.Common.{rules, ◌≡◌, ◌≤◌, ◌∙◌, arith}
+use Rattle.std.proofs.Common.{rules, ◌≤◌, ◌∙◌, arith}
 use Rattle.crush_choose.proofs.Padding.{passed_at, needed}
 use Rattle.crush_choose.proofs.weights.bound_of.Goals as goal
 use Rattle.crush_choose.proofs.weights.bound_of.Goals.{then-id-lt-IDS, else-id-lt-IDS}

@@ -1,4 +1,4 @@
-use Rattle.std.proofs.Common.{◌≡◌, ℕ, ◌+◌, ◌<◌, ◌≤◌, List, map, drop}
+use Rattle.std.proofs.Common.{◌≡◌, ℕ, ◌+◌, ◌<◌, ◌≤◌, map, drop}
 use Rattle.std.specs.List.{Contains}
 use Rattle.crush_choose.specs.Weights.{first_given, ids}
 use Rattle.crush_choose.proofs.weights.bound_of.Given as goal
