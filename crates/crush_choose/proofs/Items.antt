@@ -1,5 +1,5 @@
 -- What holds of each pick of the buckets and of each item that is taken holds of each item of a rule's answer, and what holds of each pick of each device of its trace.
-use Rattle.std.proofs.Common.{◌≡◌, ℕ, ℤ, pos, negsuc, zero, suc, ◌+◌, ◌<◌, ◌-◌, ◌==◌, ◌&&◌, nat_lt, List, [], ◌∷◌, ◌++◌, length, map, take, Bool, true, false, not, if◌then◌else◌, Option, Some, None, option_map, slice_index_or, IfSome, refl, arith}
+use Rattle.std.proofs.Common.{◌≡◌, ℕ, ℤ, pos, negsuc, zero, suc, ◌+◌, ◌<◌, ◌-◌, ◌==◌, ◌&&◌, nat_lt, List, [], ◌∷◌, length, map, take, Bool, true, false, not, if◌then◌else◌, Option, Some, None, option_map, slice_index_or, IfSome, refl, arith}
 use Rattle.std.specs.Bool.{then_some}
 use Rattle.std.specs.List.{All}
 use Rattle.std.proofs.lemmas.Bool.Decides.{nat_tests}
