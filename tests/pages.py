@@ -61,8 +61,11 @@ def wrong_quotes(blocks):
         source = TOP / quoted[1]
         if not source.is_file():
             yield f"line {number}: there is no file {quoted[1]}"
-        elif "\n" + "\n".join(lines) + "\n" not in "\n" + source.read_text():
-            yield f"line {number}: the block doesn't stand so in {quoted[1]}"
+            continue
+        text = source.read_text()
+        if "\n" + "\n".join(lines) + "\n" not in "\n" + text:
+            other = next((line for line in lines if line not in text.splitlines()), None)
+            yield f"line {number}: the block isn't in {quoted[1]}" + ("" if other is None else f", which has no line {other!r}")
 
 
 def anchors(text):
