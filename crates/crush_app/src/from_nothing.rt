@@ -19,7 +19,7 @@ use std::io::{Read, Write};
 /// contracts know its bytes.
 /// The only `Err` is that an allocation for the service or for the script itself failed: then no
 /// line was served.
-#[tactic(auto, using(crate::proofs::FromNothing::script_done, crate::proofs::FromNothing::script_cut, crate::proofs::FromNothing::script_headline))]
+#[tactic(auto, using(crate::proofs::FromNothing::script_headline))]
 pub fn script_in_memory<R: Read, W: Write>(
     alloc: Global,
     reader: &mut R,
