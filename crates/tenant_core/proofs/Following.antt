@@ -8,12 +8,11 @@ use Rattle.tenant_messages.specs.declared.reply.Reply.{Reply}
 use Rattle.tenant_messages.specs.declared.reply.Problem.{Problem}
 use Rattle.tenant_messages.specs.declared.reply.Problem.TheVariants.{BadRequest, TooLarge}
 use Rattle.tenant_core.specs.declared.request.Action.{Action}
-use Rattle.tenant_core.specs.declared.request.Request.{Request}
+use Rattle.tenant_core.specs.Request.{Request, tenant_in, on_route, on_target, request_of, body_limit}
 use Rattle.tenant_core.specs.declared.route.Route.{Route}
 use Rattle.tenant_state.specs.State.{TenantState}
 use Rattle.tenant_core.specs.declared.store.StoreFault.{StoreFault}
 use Rattle.tenant_core.specs.declared.store.StoreFault.TheVariants.{NoMemory, Full, Damaged, Failed}
-use Rattle.tenant_core.specs.Request.{tenant_in, on_route, on_target, request_of, body_limit}
 use Rattle.tenant_messages.specs.Reply.{refused, reply}
 use Rattle.tenant_core.specs.Route.{read, route_of}
 use Rattle.tenant_core.specs.Router.{target_of}

@@ -4,14 +4,13 @@ use Rattle.std.proofs.lemmas.Map.Text.{is_eq-slice_cmp}
 use Rattle.std.proofs.lemmas.Slice.Eq.{bytes_eq-Decides}
 use Rattle.std.specs.Cmp.Lexicographic.{slice_cmp}
 use Rattle.std.specs.Ordering.{match_ordering}
-use Rattle.tenant_core.specs.Commands.{decision, on_receipt, change_or_refusal, order_on, again, receipt_for, receipt_limit}
+use Rattle.tenant_core.specs.Commands.{decision, on_receipt, change_or_refusal, order_on, again, receipt_for, receipt_limit, Command}
 use Rattle.tenant_core.specs.Effects.{Decided, decided}
 use Rattle.tenant_resources.specs.Orders.{Accepted}
 use Rattle.tenant_state.specs.Receipts.{Receipts, receipt_of, with_receipt}
 use Rattle.tenant_messages.specs.Reply.{refused, repeated, reply}
 use Rattle.tenant_state.specs.State.{TenantState, Change, after, epoch}
 use Rattle.tenant_core.specs.Step.{decision_on}
-use Rattle.tenant_core.specs.declared.commands.Command.{Command}
 use Rattle.tenant_state.specs.declared.receipts.Receipt.{Receipt}
 use Rattle.tenant_messages.specs.declared.reply.Problem.{Problem}
 use Rattle.tenant_messages.specs.declared.reply.Problem.TheVariants.{TenantLimit}

@@ -9,10 +9,9 @@ use Rattle.crush_pool.specs.Placements.{rule_numbered, placement}
 use Rattle.crush_pool.specs.declared.pool.PoolParts.{PoolParts}
 use Rattle.crush_text.specs.Reading.{map_of_text}
 use Rattle.tenant_core.proofs.Once.{only_commands_change}
-use Rattle.tenant_core.specs.Commands.{decision, on_receipt, change_or_refusal, order_on, receipt_limit}
+use Rattle.tenant_core.specs.Commands.{decision, on_receipt, change_or_refusal, order_on, receipt_limit, Command}
 use Rattle.tenant_core.specs.Effects.{decided}
 use Rattle.tenant_core.specs.Step.{decision_on}
-use Rattle.tenant_core.specs.declared.commands.Command.{Command}
 use Rattle.tenant_core.specs.declared.commands.Order.{Order}
 use Rattle.tenant_core.specs.declared.commands.Order.TheVariants.{ImportMap, ChangeDevices, CreatePool, RemovePool}
 use Rattle.tenant_core.specs.declared.decision.Effect.TheVariants as effect

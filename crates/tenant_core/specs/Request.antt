@@ -5,11 +5,16 @@ use Rattle.crush_map.specs.Faults.{is_name}
 use Rattle.tenant_core.specs.Route.{read, route_of}
 use Rattle.tenant_core.specs.Router.{target_of}
 use Rattle.tenant_core.specs.Target.{Target, methods_in, parameter}
-use Rattle.tenant_core.specs.declared.request.Request.{Request}
+use Rattle.tenant_core.specs.declared.request.Action.{Action}
 use Rattle.tenant_core.specs.declared.route.Route.{Route}
 use Rattle.tenant_messages.specs.declared.call.Call.{Call}
 use Rattle.tenant_messages.specs.declared.reply.Problem.{Problem}
 use Rattle.tenant_messages.specs.declared.reply.Problem.TheVariants.{BadRequest, NoPath, Method, TooLarge}
+
+-- what is asked of a tenant
+pub record Request : Type 0 where
+  pub tenant : List ℕ
+  pub action : Action
 
 -- ---- the tenant
 

@@ -5,13 +5,12 @@ use Rattle.std.specs.Str.{bytes_eq}
 use Rattle.tenant_core.specs.Commands as commands
 use Rattle.tenant_core.specs.Effects.{Decided, decided, after_effect, if_present}
 use Rattle.tenant_core.specs.Queries as queries
-use Rattle.tenant_core.specs.Request.{tenant_in, request_of}
+use Rattle.tenant_core.specs.Request.{tenant_in, request_of, Request}
 use Rattle.tenant_core.specs.Router.{target_of}
 use Rattle.tenant_core.specs.Tenants as tenants
 use Rattle.tenant_core.specs.declared.decision.Effect.TheVariants.{Keep, Remove}
 use Rattle.tenant_core.specs.declared.request.Action.{Action}
 use Rattle.tenant_core.specs.declared.request.Action.TheVariants.{CreateTenant, ShowTenant, DropTenant, Command, Query}
-use Rattle.tenant_core.specs.declared.request.Request.{Request}
 use Rattle.tenant_messages.specs.Reply.{refused, reply, success}
 use Rattle.tenant_messages.specs.declared.call.Call.{Call}
 use Rattle.tenant_messages.specs.declared.reply.Problem.{Problem}

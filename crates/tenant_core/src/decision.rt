@@ -66,7 +66,7 @@ pub fn decide(
     alloc: Global,
     tenant: &str,
     state: Option<&TenantState>,
-    action: &Action,
+    action: &Action<'_>,
 ) -> Result<Decision, AllocError>
     ensures effect { IfOk result (λ d. d.effect ≡ (decision_on tenant.now action.now (option_map (λ s. s.now) state.entry)).effect) }
     ensures reply { IfOk result (λ d. d.reply ≡ reply (decision_on tenant.now action.now (option_map (λ s. s.now) state.entry)).answer) }

@@ -10,13 +10,14 @@ use crate::commands::Command;
 use crate::queries::Query;
 use crate::route::{Route, read};
 use crate::router::{Routes, Target};
-use crush_map::{Text, is_name};
+use crush_map::is_name;
 use std::alloc::Global;
+use std::marker::Model;
 use tenant_messages::{CallParts, Problem, ReadError, Refusal};
 
 /// What a request asks for.
 #[derive(Drop)]
-pub enum Action {
+pub enum Action<'a> {
     /// That the tenant is created.
     CreateTenant,
     /// How much the tenant has.
@@ -24,17 +25,25 @@ pub enum Action {
     /// That the tenant is removed, with everything of it.
     DropTenant,
     /// A change of the tenant's state.
-    Command(Command),
+    Command(Command<'a>),
     /// An answer from the tenant's state.
     Query(Query),
 }
 
-/// What is asked of a tenant.
+/// What is asked of a tenant. Its call lends the tenant's name, and the path and the body of a command.
 #[derive(Drop)]
-pub struct Request {
+pub struct Request<'a> {
     /// The tenant's name: 1 to 64 bytes of `A-Z a-z 0-9 . _ -`.
-    pub tenant: Text,
-    pub action: Action,
+    pub tenant: &'a str,
+    pub action: Action<'a>,
+}
+
+impl<'a> Model for Request<'a> {
+    ghost use Rattle.tenant_core.specs.Request.{Request};
+
+    ghost Value = { Request };
+
+    ghost view = { λ a. record { tenant = a.tenant.now; action = a.action } };
 }
 
 // ---- the tenant
@@ -48,20 +57,17 @@ fn tenant_in<'p>(target: &Target<'_, 'p>) -> Option<&'p str>
 
 // ---- all of it
 
-fn in_form(
+fn in_form<'p>(
     alloc: Global,
-    target: &Target<'_, '_>,
-    body: &[u8],
+    target: &Target<'_, 'p>,
+    body: &'p [u8],
     route: Route,
-) -> Result<Request, ReadError>
+) -> Result<Request<'p>, ReadError>
     ensures { Reads (λ r. r) result (spec.in_form target.now body.now route) }
 {
-    let name = tenant_in(target).ok_or(ReadError::Malformed)?;
+    let tenant = tenant_in(target).ok_or(ReadError::Malformed)?;
     let action = read(alloc, route, target, body)?;
-    Ok(Request {
-        tenant: Text::copy(alloc, name)?,
-        action,
-    })
+    Ok(Request { tenant, action })
 }
 
 /// The longest body, in bytes.
@@ -70,7 +76,11 @@ const BODY_LIMIT: usize = 1_048_576;
 /// The request of a call, or the problem of its first check that fails, in the order: length of the body, route, method,
 /// the tenant's name, numbers in the path, form of the body. Or there is no memory.
 #[tactic(auto, unfolding(crate::specs::Request::request_of))]
-pub fn read_request(alloc: Global, routes: &Routes, call: CallParts<'_>) -> Result<Request, Refusal>
+pub fn read_request<'a>(
+    alloc: Global,
+    routes: &Routes,
+    call: CallParts<'a>,
+) -> Result<Request<'a>, Refusal>
     ensures { Gives (λ r. r) result (spec.request_of (call_of call.entry)) }
 {
     if call.body.len() > BODY_LIMIT {

@@ -1,17 +1,17 @@
 //! All routes: the paths with their methods, and what each asks for.
 
-ghost use Rattle.std.specs.Prelude.{◌≡◌, IfOk};
+ghost use Rattle.std.specs.Prelude.{◌≡◌};
 ghost use Rattle.tenant_messages.specs.Reading.{Reads};
 ghost use Rattle.tenant_core.specs.Route as spec;
 ghost use Rattle.tenant_core.specs.Target.{path_number};
 
-use crate::commands::{Command, Order, copied};
+use crate::commands::{Command, Order};
 use crate::queries::Query;
 use crate::request::Action;
 use crate::router::Target;
 use crush_map::Text;
 use crush_words::number_from_text;
-use std::alloc::{AllocError, Global};
+use std::alloc::Global;
 use tenant_messages::ReadError;
 use tenant_reports::device_csv;
 use tenant_resources::{devices, groups, maps, picks, pools, rule_tests};
@@ -110,8 +110,8 @@ fn number(target: &Target<'_, '_>, key: &str) -> Result<u64, ReadError>
 }
 
 /// An action whose body is empty.
-fn if_empty(body: &[u8], action: Action) -> Result<Action, ReadError>
-    ensures { Reads (λ a. a) result (spec.if_empty body.now action) }
+fn if_empty<'p>(body: &[u8], action: Action<'p>) -> Result<Action<'p>, ReadError>
+    ensures { Reads (λ a. a) result (spec.if_empty body.now action.entry) }
 {
     if body.is_empty() {
         Ok(action)
@@ -121,30 +121,24 @@ fn if_empty(body: &[u8], action: Action) -> Result<Action, ReadError>
 }
 
 /// A changing request, with its path and its body, by which a repeat is known.
-fn command(
-    alloc: Global,
-    target: &Target<'_, '_>,
-    body: &[u8],
-    number: Text,
-    order: Order,
-) -> Result<Action, AllocError>
-    ensures { IfOk result (λ a. a ≡ spec.command_of target.now body.now number order) }
+fn command<'p>(target: &Target<'_, 'p>, body: &'p [u8], number: Text, order: Order) -> Action<'p>
+    ensures { result ≡ spec.command_of target.now body.now number order }
 {
-    Ok(Action::Command(Command {
+    Action::Command(Command {
         number,
-        path: Text::copy(alloc, target.path())?,
-        body: copied(alloc, body)?,
+        path: target.path(),
+        body,
         order,
-    }))
+    })
 }
 
 /// What a route asks for, by the parts of the path and the body.
-pub(crate) fn read(
+pub(crate) fn read<'p>(
     alloc: Global,
     route: Route,
-    target: &Target<'_, '_>,
-    body: &[u8],
-) -> Result<Action, ReadError>
+    target: &Target<'_, 'p>,
+    body: &'p [u8],
+) -> Result<Action<'p>, ReadError>
     ensures { Reads (λ a. a) result (spec.read route target.now body.now) }
 {
     match route {
@@ -153,24 +147,24 @@ pub(crate) fn read(
         Route::DropTenant => if_empty(body, Action::DropTenant),
         Route::ImportMap => {
             let (number, text) = maps::read_import(alloc, body)?;
-            Ok(command(alloc, target, body, number, Order::ImportMap(text))?)
+            Ok(command(target, body, number, Order::ImportMap(text)))
         }
         Route::Version => if_empty(body, Action::Query(Query::Version(number(target, "v")?))),
         Route::ChangeDevices => {
             let (number, changes) = devices::read_changes(alloc, body)?;
-            Ok(command(alloc, target, body, number, Order::ChangeDevices(changes))?)
+            Ok(command(target, body, number, Order::ChangeDevices(changes)))
         }
         Route::ChangeDevicesByCsv => {
             let (number, changes) = device_csv::read_changes(alloc, body)?;
-            Ok(command(alloc, target, body, number, Order::ChangeDevices(changes))?)
+            Ok(command(target, body, number, Order::ChangeDevices(changes)))
         }
         Route::CreatePool => {
             let (number, pool) = pools::read_pool(alloc, body)?;
-            Ok(command(alloc, target, body, number, Order::CreatePool(pool))?)
+            Ok(command(target, body, number, Order::CreatePool(pool)))
         }
         Route::RemovePool => {
             let (number, id) = pools::read_removal(alloc, body)?;
-            Ok(command(alloc, target, body, number, Order::RemovePool(id))?)
+            Ok(command(target, body, number, Order::RemovePool(id)))
         }
         Route::Group => {
             let (pool, group) = (number(target, "p")?, number(target, "g")?);
