@@ -1,7 +1,7 @@
 use Rattle.std.proofs.Common.{◌≡◌, Some}
 use Rattle.std.specs.Result.{result_ok}
 use Rattle.tenant_core.proofs.Targets.{from_ok, text_ascii}
-use Rattle.tenant_core.proofs.route.Routes.find.Goals as goal
+use Rattle.tenant_core.proofs.router.Routes.find.Goals as goal
 
 -- a row of the table was found for this path
 pub invariant_of-result : goal.invariant_of-result
