@@ -1,4 +1,5 @@
--- All routes: the paths with their methods, and what each asks for, by the parts of its path and its body.
+-- All routes: the paths with their methods, and what each asks for, by the parts of the path and
+-- the body.
 use Rattle.std.specs.Prelude.{ℕ, ◌==◌, List, [], ◌∷◌, length, if◌then◌else◌, Option, Some, None, option_map, option_and_then, codes}
 use Rattle.std.specs.Str.{bytes_eq}
 use Rattle.tenant_reports.specs.DeviceCsv as device_csv

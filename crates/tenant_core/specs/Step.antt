@@ -19,7 +19,8 @@ use Rattle.tenant_state.specs.State.{TenantState}
 
 -- ---- one request
 
--- the decision on an action, from the state of its tenant, or from its absence. A query keeps the state
+-- the decision on an action, from the state of its tenant, or from its absence. A query keeps the
+-- state
 abbrev pub decision_on : List ℕ → Action → Option TenantState → Decided
 decision_on tenant CreateTenant found = tenants.created_on tenant found
 decision_on tenant ShowTenant found = if_present found (λ state. decided Keep (success (tenants.summary tenant state)))

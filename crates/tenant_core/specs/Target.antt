@@ -15,8 +15,9 @@ pub record Target : Type 0 where
 abbrev pub methods_in : Target → Methods
 methods_in target = target.row.value
 
--- the part of the path that a parameter of the route took, as the router says. A path with a byte that isn't ASCII has no
--- parameters: a name and a number are ASCII, and what the routes write out is too
+-- the part of the path that a parameter of the route took, as the router says. A path with a byte
+-- that isn't ASCII has no parameters: a name and a number are ASCII, and what the routes write out
+-- is too
 abbrev pub parameter : List ℕ → Target → Option (List ℕ)
 parameter key target =
     if list_all is_ascii target.path then named key (walk target.row.pattern target.row.text target.path target.row.names 0 0) else None

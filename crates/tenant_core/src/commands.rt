@@ -33,7 +33,8 @@ pub enum Order {
     RemovePool(u32),
 }
 
-/// A changing request. Its path and body are those of its call, which lends them; a repeat is known by them.
+/// A changing request. Its path and body are those of its call, which lends them; a repeat is known
+/// by them.
 #[derive(Drop)]
 pub struct Command<'a> {
     /// The request number: 1 to 64 bytes.

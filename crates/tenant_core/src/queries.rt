@@ -21,7 +21,8 @@ pub enum Query {
     Object(u64, ObjectName),
     /// How much of the pool with this number lies on each device.
     Usage(u64),
-    /// Which groups, of the pool with the first number, move from the version with the second to that with the third.
+    /// Which groups, of the pool with the first number, move from the version with the second to
+    /// that with the third.
     Moves(u64, u64, u64),
     /// Which groups, of the pool with the first number, the device with the second can touch.
     Impact(u64, u64),
@@ -31,7 +32,8 @@ pub enum Query {
     Test(RuleTest),
 }
 
-/// The reply to a query, from the state of its tenant: the table of all queries. The error says that an allocation failed.
+/// The reply to a query, from the state of its tenant: the table of all queries. The error says that
+/// an allocation failed.
 pub fn answer(alloc: Global, state: &TenantState, query: &Query) -> Result<Reply, AllocError>
     ensures { IfOk result (λ r. r ≡ reply (spec.answer query.now state.now)) }
 {

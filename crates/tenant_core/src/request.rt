@@ -30,7 +30,8 @@ pub enum Action<'a> {
     Query(Query),
 }
 
-/// What is asked of a tenant. Its call lends the tenant's name, and the path and the body of a command.
+/// What is asked of a tenant. Its call lends the tenant's name, and the path and the body of a
+/// command.
 #[derive(Drop)]
 pub struct Request<'a> {
     /// The tenant's name: 1 to 64 bytes of `A-Z a-z 0-9 . _ -`.

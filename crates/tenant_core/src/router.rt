@@ -89,7 +89,8 @@ impl<'r, 'p> Target<'r, 'p> {
         self.path
     }
 
-    /// The part of the path that a parameter took. A path with a byte that isn't ASCII has no parameters.
+    /// The part of the path that a parameter took. A path with a byte that isn't ASCII has no
+    /// parameters.
     pub fn parameter(&self, key: &str) -> Option<&'p str>
         ensures { option_map (λ text. text.now) result ≡ parameter key.now self.now }
     {
