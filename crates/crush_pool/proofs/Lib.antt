@@ -2,3 +2,4 @@ mod Masks
 pub mod Padding
 mod Ranges
 mod Uplists
+pub mod ValidChanges

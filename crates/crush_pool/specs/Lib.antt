@@ -1,5 +1,6 @@
 pub mod Groups
 pub mod Pools
 pub mod States
+pub mod Changes
 pub mod Placements
 pub mod Private

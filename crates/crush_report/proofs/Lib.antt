@@ -12,5 +12,4 @@ pub mod DeviceTexts
 pub mod CsvTexts
 pub mod Reached
 pub mod ReadBack
-pub mod ValidChanges
 pub mod DeviceForms

@@ -4,7 +4,6 @@
 //! Its tests are in the crate `pool_tests`.
 #![tactic(auto)]
 
-mod changes;
 mod counts;
 mod csv_laws;
 mod csv_read;
@@ -18,7 +17,7 @@ mod touched_groups;
 mod usage_counts;
 pub mod usage_laws;
 
-pub use changes::{DeviceChange, is_valid};
+pub use crush_pool::{DeviceChange, are_valid_changes};
 pub use csv_laws::{device_csvs_are_of_the_form, reports_are_read_back};
 pub use csv_read::{CsvFault, read_device_csv};
 pub use csv_write::{moves_csv, usage_csv};
