@@ -3,4 +3,5 @@ pub mod Pools
 pub mod States
 pub mod Changes
 pub mod Placements
+pub mod Placers
 pub mod Private

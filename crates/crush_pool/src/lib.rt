@@ -7,12 +7,14 @@
 mod changes;
 mod group;
 pub mod laws;
+mod placer;
 mod placing;
 mod pool;
 mod states;
 
 pub use changes::{DeviceChange, are_valid_changes};
 pub use group::{mask_of, stable_mod};
-pub use placing::{Placement, place, place_with, rule_with_id};
+pub use placer::Placer;
+pub use placing::{Placement, place, primary_of, rule_with_id};
 pub use pool::{Pool, PoolFault, PoolParts};
 pub use states::{DeviceState, DeviceStates, reweights_of};

@@ -4,6 +4,7 @@ mod Groups
 mod Items
 mod Moving
 mod OfMap
+mod OnMaps
 mod Short
 mod Sums
 mod Tallies

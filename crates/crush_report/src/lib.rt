@@ -10,7 +10,6 @@ mod csv_read;
 mod csv_write;
 pub mod laws;
 mod moved_groups;
-mod placing;
 mod reports;
 mod rows;
 mod touched_groups;
