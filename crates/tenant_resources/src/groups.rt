@@ -1,6 +1,6 @@
 //! Groups of pools: at `/t/{t}/pools/{p}/groups/{g}` GET reads where a group lies, and at `/t/{t}/pools/{p}/locate` POST asks where an object lies.
 
-ghost use Rattle.std.specs.Prelude.{◌≡◌, ◌<◌, ◌≤◌, ◌^◌, Some, IfOk, length, map};
+ghost use Rattle.std.specs.Prelude.{◌≡◌, ◌<◌, ◌^◌, IfOk, length, map};
 ghost use Rattle.serde_json.specs.View.{view};
 ghost use Rattle.tenant_messages.specs.Reading.{Reads};
 ghost use Rattle.tenant_messages.specs.Refusals.{Answers, Gives};
