@@ -201,6 +201,8 @@ def refusals():
         (b'POST /t/b/maps {"request":"m","text":""}', NO_TENANT),
         (import_of(tiny(), "r" * 64), imported(1, 1)),
         (b"GET /t/a/maps/0000000001", version_of(canonical_tiny(), 1)),
+        (b"GET /t/a/maps/4294967297", NO_VERSION),  # 2^32 + 1: numbers are compared as a whole
+        (b"GET /t/a/maps/4294967296", NO_VERSION),
     ]
 
 
@@ -246,6 +248,9 @@ def rule_tests():
         (test_of(x=4294967296), BAD),
         (test_of(version=None), BAD),
         (test_of(version=-1), BAD),
+        (test_of(version=4294967297), BAD),
+        (test_of(rule=4294967296), BAD),
+        (test_of(size=4294967297), BAD),
         (test_of(more=0), BAD),
         (b'POST /t/a/test {"rule":0,"size":1}', BAD),
         (b"GET /t/a/test", METHOD),
@@ -314,6 +319,14 @@ def repeats():
         (import_of(tiny(6), "\u00e9" * 32), imported(6, 6)),
         (b"PUT /t/a", EXISTS),
         (b"GET /t/a", summary(6, 6)),
+        (import_of(tiny(6), "\0"), imported(7, 7)),  # a NUL is a byte as any other
+        (import_of(tiny(6), "\0"), imported(7, 7)),
+        (import_of(tiny(7), "\0"), REUSED),
+        (import_of(tiny(6), "\0\0"), imported(8, 8)),
+        (import_of(tiny(6), "m1\0"), imported(9, 9)),
+        (import_of(tiny(6), "\0"), imported(7, 7)),
+        (import_of(tiny(6), ""), BAD),
+        (b"GET /t/a", summary(9, 9)),
     ]
 
 
@@ -337,6 +350,62 @@ def canonical_texts():
     ]
 
 
+def legacy_text(buckets="", rules=""):
+    """The canonical text of a map that names the local tunables alone, and has two types, three devices and these buckets and rules."""
+    return f"""# begin crush map
+tunable choose_local_tries 0
+tunable choose_local_fallback_tries 0
+tunable choose_total_tries 19
+tunable chooseleaf_descend_once 0
+tunable chooseleaf_vary_r 0
+tunable chooseleaf_stable 0
+
+# devices
+device 0 a
+device 1 b
+device 2 c
+
+# types
+type 0 osd
+type 1 host
+
+# buckets
+{buckets}
+# rules
+{rules}
+# end crush map
+"""
+
+
+def legacy_bucket(*items, name="h", number=-1, alg="list"):
+    """A bucket of it, whose items are given with their weights."""
+    return f"host {name} {{\n\tid {number}\n\talg {alg}\n\thash 0\n" + "".join(f"\titem {it}\n" for it in items) + "}\n"
+
+
+def texts_as_they_are_read():
+    """Values that a text leaves out, places, and what is dropped, as the canonical text shows them."""
+    head = "tunable choose_local_tries 0 tunable choose_local_fallback_tries 0 type 0 osd type 1 host device 0 a device 1 b device 2 c "
+    of = {it: f"{it} weight 1.00000" for it in "abc"}
+    emits = "rule q {\n\tid 0\n\ttype erasure\n" + "\tstep emit\n" * 32 + "}\n"
+    texts = [
+        ("", legacy_text()),  # the other tunables have their legacy values
+        ("host h { id -1 alg list item a item b pos 1 item c }", legacy_text(legacy_bucket(of["a"], of["b"], of["c"]))),
+        ("host h { id -1 alg list item a pos 2 item b item c }", legacy_text(legacy_bucket(of["b"], of["c"], of["a"]))),
+        ("host h { id -1 alg list item a item b pos 0 }", legacy_text(legacy_bucket(of["b"], of["a"]))),  # also where the place is named later
+        ("host e { id -2 alg uniform } host h { id -1 alg list item e item a }", legacy_text(legacy_bucket(name="e", number=-2, alg="uniform") + legacy_bucket("e weight 0.00000", of["a"]))),
+        ("host h { id 5 class ssd id -1 id -9999999999 class hdd alg list }", legacy_text(legacy_bucket())),
+        ("rule q { id 0 type erasure " + "step emit " * 32 + "step set_choose_local_tries 0 }", legacy_text(rules=emits)),
+    ]
+    rows = list(START)
+    for number, (text, canonical) in enumerate(texts, 1):
+        rows += [(import_of(head + text, f"m{number}"), imported(number, number)), (b"GET /t/a/maps/%d" % number, version_of(canonical, number))]
+    return rows + [
+        (import_of(head.replace("choose_local_tries 0", "straw_calc_version 0"), "m"), refused("M13", 1)),  # one of the local tunables isn't named
+        (import_of(head.replace("choose_local_fallback_tries 0", "straw_calc_version 0"), "m"), refused("M13", 1)),
+        (import_of(head + "rule q { id 0 type erasure " + "step emit " * 33 + "}", "m"), refused("M1", 1)),
+    ]
+
+
 def version_limit():
     """256 versions; a repeat is answered before the limit, and the limit comes before a fault of the text."""
     rows = START + [(import_of(tiny(), f"m{n}"), imported(n, n)) for n in range(1, 257)]
@@ -351,5 +420,5 @@ def version_limit():
 
 
 def cases():
-    for make in (receipts, repeats, tenants_apart, refusals, rule_tests, canonical_texts, version_limit):
+    for make in (receipts, repeats, tenants_apart, refusals, rule_tests, canonical_texts, texts_as_they_are_read, version_limit):
         yield make.__name__, make()

@@ -178,6 +178,8 @@ def reweights():
         (test_of(size=3), tested([0, None, None], [0], 7, 3)),
         (test_of(size=2), tested([None, None], [], 7, 3)),
         (test_of(size=2, rule=1), tested([0, None], [0], 7, 3)),
+        (test_of(x=7, version=1), tested([], [], 7, 1)),  # its one device is out by now
+        (test_of(x=7, version=2), tested([0], [0], 7, 2)),
     ]
     return rows
 
@@ -334,9 +336,12 @@ def own_checks():
         (group_of(8, 2), NO_GROUP),
         (group_of(8, 3), NO_POOL),  # before no group
         (group_of(9999999999), NO_GROUP),
+        (group_of(4294967296), NO_GROUP),  # 2^32: numbers are compared as a whole
         (group_of(0, 0), NO_POOL),
         (group_of(0, 9999999999), NO_POOL),
+        (group_of(0, 4294967297), NO_POOL),
         (object_of("a", 0), NO_POOL),
+        (object_of("a", 4294967297), NO_POOL),
         (b"GET /t/a/pools/0000000001/groups/0000000000", lies(3, 0, SEED, [0])),
         (b"GET /t/a", summary(3, 1, 0, 2)),
         (removal_of("t", 2), removed(4, 2)),

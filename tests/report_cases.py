@@ -71,6 +71,7 @@ def usage():
         (pool_of("p1"), created(2)),
         (usage_of(), b'200 {"epoch":2,"pool":1,"rows":[{"device":0,"entries":8,"groups":8,"permille":1000,"primaries":8}],"version":1}'),
         (usage_of(2), NO_POOL),
+        (usage_of(4294967297), NO_POOL),  # 2^32 + 1: numbers are compared as a whole
         (devices_of("d1", state(0, up=False)), accepted(1, 3)),
         (usage_of(), used(3, (0, 0, 0, 0, 0))),
         (devices_of("d2", state(0, up=True)), accepted(1, 4)),

@@ -1,5 +1,5 @@
 -- The line for a text, and how a check ends.
-use Rattle.std.proofs.Common.{◌≡◌, ◌↔◌, ℕ, ◌<◌, List, [], ◌∷◌, ◌++◌, length, codes, decimal, refl, sym, ap, subst, ◌∙◌, inl, inr, arith, Bool, true, false, Option, Some, None, IfSome}
+use Rattle.std.proofs.Common.{◌≡◌, ◌↔◌, ℕ, ◌<◌, List, [], ◌∷◌, ◌++◌, length, codes, decimal, refl, sym, ap, subst, ◌∙◌, inl, inr, arith, Bool, true, false, Option}
 use Rattle.std.specs.Io.KnownBytes.{Appends}
 use Rattle.crush_map.specs.Map.{Map}
 use Rattle.crush_map.specs.declared.draft.Device.{Device}
@@ -9,9 +9,11 @@ use Rattle.crush_grammar.specs.declared.code.TextFault.{TextFault}
 use Rattle.crush_grammar.specs.declared.code.TextCode.TheVariants.{X7}
 use Rattle.crush_text.specs.Codes.{code_text}
 use Rattle.crush_text.specs.MapText.{IsShort, IsTextOf, HasFirstFault, IsRefusedFor}
+use Rattle.crush_app.specs.Input.{OfInput}
 use Rattle.crush_app.specs.Play.{AppendsPart}
 use Rattle.crush_app.specs.Check.{accepted_line, refused_line, IsLineFor}
 use Rattle.crush_app.specs.Private.Verdict.{IsVerdict}
+use Rattle.crush_app.proofs.Inputs.{of_input}
 use Rattle.crush_app.proofs.LongTexts.{exactly_long}
 
 -- ---- lines
@@ -30,26 +32,31 @@ long_line line is text long = record { fault = record { line = 1; code = X7 }; r
 
 -- ---- what is written, of what was read
 
-pub accepted_end : (known old new : Option (List ℕ)) (line : List ℕ) (accepted : Bool) → accepted ≡ true → IfSome known (λ input. IsVerdict accepted input line) → Appends old new line
-    → IfSome known (λ input. (m : Map) × IsShort input × IsTextOf input m × Appends old new (accepted_line m))
-accepted_end None old new line accepted same says written = tt
-accepted_end (Some input) old new line true same says written = (says.map, says.short, says.text, rw says.is at written)
-accepted_end (Some input) old new line false same says written = let both : false ≡ true = same in cc
+accepted_says : (old new : Option (List ℕ)) (line : List ℕ) (accepted : Bool) → accepted ≡ true → Appends old new line
+    → (input : List ℕ) → IsVerdict accepted input line → (m : Map) × IsShort input × IsTextOf input m × Appends old new (accepted_line m)
+accepted_says old new line true same written input says = (says.map, says.short, says.text, rw says.is at written)
+accepted_says old new line false same written input says = let both : false ≡ true = same in cc
 
-pub refused_end : (known old new : Option (List ℕ)) (line : List ℕ) (accepted : Bool) → accepted ≡ false → IfSome known (λ input. IsVerdict accepted input line) → Appends old new line
-    → IfSome known (λ input. (f : TextFault) × IsRefusedFor input f × ((f.code ≡ X7) ↔ (524288 < length input)) × Appends old new (refused_line f))
-refused_end None old new line accepted same says written = tt
-refused_end (Some input) old new line false same says written = (says.fault, says.refused, exactly_long input says.fault says.refused, rw says.is at written)
-refused_end (Some input) old new line true same says written = let both : true ≡ false = same in cc
+pub accepted_end : (known old new : Option (List ℕ)) (line : List ℕ) (accepted : Bool) → accepted ≡ true → OfInput known (λ input. IsVerdict accepted input line) → Appends old new line
+    → OfInput known (λ input. (m : Map) × IsShort input × IsTextOf input m × Appends old new (accepted_line m))
+accepted_end known old new line accepted same read written = of_input known (accepted_says old new line accepted same written) read
+
+refused_says : (old new : Option (List ℕ)) (line : List ℕ) (accepted : Bool) → accepted ≡ false → Appends old new line
+    → (input : List ℕ) → IsVerdict accepted input line → (f : TextFault) × IsRefusedFor input f × ((f.code ≡ X7) ↔ (524288 < length input)) × Appends old new (refused_line f)
+refused_says old new line false same written input says = (says.fault, says.refused, exactly_long input says.fault says.refused, rw says.is at written)
+refused_says old new line true same written input says = let both : true ≡ false = same in cc
+
+pub refused_end : (known old new : Option (List ℕ)) (line : List ℕ) (accepted : Bool) → accepted ≡ false → OfInput known (λ input. IsVerdict accepted input line) → Appends old new line
+    → OfInput known (λ input. (f : TextFault) × IsRefusedFor input f × ((f.code ≡ X7) ↔ (524288 < length input)) × Appends old new (refused_line f))
+refused_end known old new line accepted same read written = of_input known (refused_says old new line accepted same written) read
 
 line_for : (accepted : Bool) (input line : List ℕ) → IsVerdict accepted input line → IsLineFor input line
 line_for true input line says = inl says
 line_for false input line says = inr says
 
-pub cut_end : (known old new : Option (List ℕ)) (line : List ℕ) (accepted : Bool) → IfSome known (λ input. IsVerdict accepted input line) → AppendsPart old new line
-    → IfSome known (λ input. (l : List ℕ) × IsLineFor input l × AppendsPart old new l)
-cut_end None old new line accepted says part = tt
-cut_end (Some input) old new line accepted says part = (line, line_for accepted input line says, part)
+pub cut_end : (known old new : Option (List ℕ)) (line : List ℕ) (accepted : Bool) → OfInput known (λ input. IsVerdict accepted input line) → AppendsPart old new line
+    → OfInput known (λ input. (l : List ℕ) × IsLineFor input l × AppendsPart old new l)
+cut_end known old new line accepted read part = of_input known (λ input says. (line, line_for accepted input line says, part)) read
 
 -- ---- conversely, what was read says what is written
 
@@ -63,24 +70,33 @@ not_refused : NoFault → (input : List ℕ) (m : Map) (f : TextFault) → IsSho
 not_refused none input m f short says (inl (long, is)) = omega (arith, short, long)
 not_refused none input m f short says (inr (also, fault)) = none input m f says fault
 
-pub map_accepted : OneMap → NoFault → {A : Type 0} (r : A) (known old new : Option (List ℕ)) (line : List ℕ) (accepted : Bool) → accepted ≡ true → IfSome known (λ input. IsVerdict accepted input line) → Appends old new line
-    → IfSome known (λ input. (m : Map) → IsShort input → IsTextOf input m → (r ≡ r) × Appends old new (accepted_line m))
-map_accepted one none r None old new line accepted same read written = tt
-map_accepted one none r (Some input) old new line true same read written =
+map_accepted_says : OneMap → {A : Type 0} (r : A) (old new : Option (List ℕ)) (line : List ℕ) (accepted : Bool) → accepted ≡ true → Appends old new line
+    → (input : List ℕ) → IsVerdict accepted input line → (m : Map) → IsShort input → IsTextOf input m → (r ≡ r) × Appends old new (accepted_line m)
+map_accepted_says one r old new line true same written input read =
     λ m short says. (refl, subst (λ l. Appends old new l) (read.is ∙ ap accepted_line (one input read.map m read.text says)) written)
-map_accepted one none r (Some input) old new line false same read written = let both : false ≡ true = same in cc
+map_accepted_says one r old new line false same written input read = let both : false ≡ true = same in cc
 
-pub map_refused : NoFault → {A : Type 0} (r s : A) (known old new : Option (List ℕ)) (line : List ℕ) (accepted : Bool) → accepted ≡ false → IfSome known (λ input. IsVerdict accepted input line)
-    → IfSome known (λ input. (m : Map) → IsShort input → IsTextOf input m → (r ≡ s) × Appends old new (accepted_line m))
-map_refused none r s None old new line accepted same read = tt
-map_refused none r s (Some input) old new line false same read = λ m short says. absurd (not_refused none input m read.fault short says read.refused)
-map_refused none r s (Some input) old new line true same read = let both : true ≡ false = same in cc
+pub map_accepted : OneMap → {A : Type 0} (r : A) (known old new : Option (List ℕ)) (line : List ℕ) (accepted : Bool) → accepted ≡ true → OfInput known (λ input. IsVerdict accepted input line) → Appends old new line
+    → OfInput known (λ input. (m : Map) → IsShort input → IsTextOf input m → (r ≡ r) × Appends old new (accepted_line m))
+map_accepted one r known old new line accepted same read written = of_input known (map_accepted_says one r old new line accepted same written) read
 
-pub fault_accepted : NoFault → {A : Type 0} (r s : A) (known old new : Option (List ℕ)) (line : List ℕ) (accepted : Bool) → accepted ≡ true → IfSome known (λ input. IsVerdict accepted input line)
-    → IfSome known (λ input. (f : TextFault) → IsRefusedFor input f → (r ≡ s) × Appends old new (refused_line f))
-fault_accepted none r s None old new line accepted same read = tt
-fault_accepted none r s (Some input) old new line true same read = λ f refused. absurd (not_refused none input read.map f read.short read.text refused)
-fault_accepted none r s (Some input) old new line false same read = let both : false ≡ true = same in cc
+map_refused_says : NoFault → {A : Type 0} (r s : A) (old new : Option (List ℕ)) (line : List ℕ) (accepted : Bool) → accepted ≡ false
+    → (input : List ℕ) → IsVerdict accepted input line → (m : Map) → IsShort input → IsTextOf input m → (r ≡ s) × Appends old new (accepted_line m)
+map_refused_says none r s old new line false same input read = λ m short says. absurd (not_refused none input m read.fault short says read.refused)
+map_refused_says none r s old new line true same input read = let both : true ≡ false = same in cc
+
+pub map_refused : NoFault → {A : Type 0} (r s : A) (known old new : Option (List ℕ)) (line : List ℕ) (accepted : Bool) → accepted ≡ false → OfInput known (λ input. IsVerdict accepted input line)
+    → OfInput known (λ input. (m : Map) → IsShort input → IsTextOf input m → (r ≡ s) × Appends old new (accepted_line m))
+map_refused none r s known old new line accepted same read = of_input known (map_refused_says none r s old new line accepted same) read
+
+fault_accepted_says : NoFault → {A : Type 0} (r s : A) (old new : Option (List ℕ)) (line : List ℕ) (accepted : Bool) → accepted ≡ true
+    → (input : List ℕ) → IsVerdict accepted input line → (f : TextFault) → IsRefusedFor input f → (r ≡ s) × Appends old new (refused_line f)
+fault_accepted_says none r s old new line true same input read = λ f refused. absurd (not_refused none input read.map f read.short read.text refused)
+fault_accepted_says none r s old new line false same input read = let both : false ≡ true = same in cc
+
+pub fault_accepted : NoFault → {A : Type 0} (r s : A) (known old new : Option (List ℕ)) (line : List ℕ) (accepted : Bool) → accepted ≡ true → OfInput known (λ input. IsVerdict accepted input line)
+    → OfInput known (λ input. (f : TextFault) → IsRefusedFor input f → (r ≡ s) × Appends old new (refused_line f))
+fault_accepted none r s known old new line accepted same read = of_input known (fault_accepted_says none r s old new line accepted same) read
 
 abbrev pub OneFault : Type 0
 OneFault = (text : List ℕ) (f g : TextFault) → HasFirstFault text f → HasFirstFault text g → f ≡ g
@@ -91,9 +107,12 @@ one_refusal one input f g (inl (long, is)) (inr (short, fault)) = absurd (omega 
 one_refusal one input f g (inr (short, fault)) (inl (long, is)) = absurd (omega (arith, short, long))
 one_refusal one input f g (inr (short, fault)) (inr (also, other)) = one input f g fault other
 
-pub fault_refused : OneFault → {A : Type 0} (r : A) (known old new : Option (List ℕ)) (line : List ℕ) (accepted : Bool) → accepted ≡ false → IfSome known (λ input. IsVerdict accepted input line) → Appends old new line
-    → IfSome known (λ input. (f : TextFault) → IsRefusedFor input f → (r ≡ r) × Appends old new (refused_line f))
-fault_refused one r None old new line accepted same read written = tt
-fault_refused one r (Some input) old new line false same read written =
+fault_refused_says : OneFault → {A : Type 0} (r : A) (old new : Option (List ℕ)) (line : List ℕ) (accepted : Bool) → accepted ≡ false → Appends old new line
+    → (input : List ℕ) → IsVerdict accepted input line → (f : TextFault) → IsRefusedFor input f → (r ≡ r) × Appends old new (refused_line f)
+fault_refused_says one r old new line false same written input read =
     λ f refused. (refl, subst (λ l. Appends old new l) (read.is ∙ ap refused_line (one_refusal one input read.fault f read.refused refused)) written)
-fault_refused one r (Some input) old new line true same read written = let both : true ≡ false = same in cc
+fault_refused_says one r old new line true same written input read = let both : true ≡ false = same in cc
+
+pub fault_refused : OneFault → {A : Type 0} (r : A) (known old new : Option (List ℕ)) (line : List ℕ) (accepted : Bool) → accepted ≡ false → OfInput known (λ input. IsVerdict accepted input line) → Appends old new line
+    → OfInput known (λ input. (f : TextFault) → IsRefusedFor input f → (r ≡ r) × Appends old new (refused_line f))
+fault_refused one r known old new line accepted same read written = of_input known (fault_refused_says one r old new line accepted same written) read

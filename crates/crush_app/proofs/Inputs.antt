@@ -1,14 +1,46 @@
--- An input that is read up to a limit.
-use Rattle.std.proofs.Common.{◌≡◌, ℕ, ◌+◌, ◌≤◌, List, length, take, Option, Some, None, IfSome, option_map, arith, length-take}
-use Rattle.std.proofs.lemmas.List.{take_all}
+-- An input that is read up to a limit, and what is said of it.
+use Rattle.std.proofs.Common.{◌≡◌, ℕ, ◌+◌, ◌≤◌, ◌<◌, List, [], ◌++◌, length, Option, Some, None, IfSome, refl, subst, sym, ap, ◌∙◌, arith, length-append}
+use Rattle.std.proofs.lemmas.List.{append-nil}
+use Rattle.crush_app.specs.Input.{OfInput}
+use Rattle.crush_app.specs.Script.{OfScript, input_limit}
+use Rattle.crush_app.specs.Private.Reading.{IsReadUpTo}
 
--- where one more element than the limit would be taken, and none is too many, all were taken
-all_taken : (limit : ℕ) (xs : List ℕ) → length (take (limit + 1) xs) ≤ limit → (take (limit + 1) xs ≡ xs) × (length xs ≤ limit)
-all_taken limit xs few =
-    let short : length xs ≤ limit = omega (arith, few, length-take (limit + 1) xs) in (take_all (limit + 1) xs (omega (arith, short)), short)
+-- what was read is the whole input, where it isn't one byte more than the limit
+pub whole_input : (limit : ℕ) (bytes : List ℕ) (old new : Option (List ℕ)) → IsReadUpTo (limit + 1) bytes old new → length bytes ≤ limit
+    → OfInput old (λ input. (bytes ≡ input) × (length input ≤ limit))
+whole_input limit bytes None new read few = record { input = bytes; same = tt; holds = (refl, few) }
+whole_input limit bytes (Some xs) None read few = absurd read.taken
+whole_input limit bytes (Some xs) (Some ys) read few =
+    record { input = bytes; same = sym (read.taken ∙ ap (λ l. bytes ++ l) (read.end (omega (arith, few))) ∙ append-nil bytes); holds = (refl, few) }
 
--- what was read is then the whole input
-pub whole_input : (known : Option (List ℕ)) (read : List ℕ) (limit : ℕ) → IfSome (option_map (take (limit + 1)) known) (λ taken. read ≡ taken) → length read ≤ limit
-    → IfSome known (λ input. (read ≡ input) × (length input ≤ limit))
-whole_input None read limit same few = tt
-whole_input (Some input) read limit same few = rw same (all_taken limit input (rw same at few))
+-- and there is more than the limit otherwise
+pub long_input : (limit : ℕ) (bytes : List ℕ) (old new : Option (List ℕ)) → IsReadUpTo (limit + 1) bytes old new → limit < length bytes → OfInput old (λ input. limit < length input)
+long_input limit bytes None new read long = record { input = bytes; same = tt; holds = long }
+long_input limit bytes (Some xs) None read long = absurd read.taken
+long_input limit bytes (Some xs) (Some ys) read long = record { input = xs; same = refl; holds = rw read.taken (simp length-append (omega (arith, long))) }
+
+-- ---- what is said of an input
+
+-- what follows from what holds of it
+pub of_input : (known : Option (List ℕ)) {P Q : List ℕ → Type 0} → ((input : List ℕ) → P input → Q input) → OfInput known P → OfInput known Q
+of_input known follows said = record { input = said.input; same = said.same; holds = follows said.input said.holds }
+
+-- what holds of it holds of known bytes
+of_known : (known : Option (List ℕ)) (P : List ℕ → Type 0) → OfInput known P → IfSome known P
+of_known None P said = tt
+of_known (Some xs) P said = subst P said.same said.holds
+
+-- what holds of the bytes that were read
+pub of_read : (known : Option (List ℕ)) (P : List ℕ → Type 0) (read : List ℕ) → OfInput known (λ input. (read ≡ input) × (length input ≤ input_limit)) → P read → OfScript known P
+of_read known P read said holds = of_input known (λ input both. (both.1, subst P both.0 holds)) said
+
+-- known bytes are then as short, or as long
+pub known_short : (known : Option (List ℕ)) (read : List ℕ) (limit : ℕ) → OfInput known (λ input. (read ≡ input) × (length input ≤ limit)) → IfSome known (λ input. length input ≤ limit)
+known_short known read limit said = of_known known (λ input. length input ≤ limit) (of_input known (λ input both. both.1) said)
+
+pub known_long : (known : Option (List ℕ)) (limit : ℕ) → OfInput known (λ input. limit < length input) → IfSome known (λ input. limit < length input)
+known_long known limit said = of_known known (λ input. limit < length input) said
+
+-- what follows from what holds of a script
+pub of_script : (known : Option (List ℕ)) {P Q : List ℕ → Type 0} → ((input : List ℕ) → P input → Q input) → OfScript known P → OfScript known Q
+of_script known follows said = of_input known (λ input both. (both.0, follows input both.1)) said

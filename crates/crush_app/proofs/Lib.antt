@@ -1,4 +1,5 @@
 pub mod Checking
+pub mod FromNothing
 pub mod Inputs
 pub mod Kept
 pub mod LineLemmas

@@ -48,3 +48,11 @@ WritesNothing (Ok Refused) = ⊥
 WritesNothing (Ok ReadFault) = ⊤
 WritesNothing (Ok WriteFault) = ⊥
 WritesNothing (Err e) = ⊤
+
+-- a text was judged: its line was written, whole or in part
+abbrev pub HasVerdict : Result CheckEnd AllocError → Type 0
+HasVerdict (Ok Accepted) = ⊤
+HasVerdict (Ok Refused) = ⊤
+HasVerdict (Ok ReadFault) = ⊥
+HasVerdict (Ok WriteFault) = ⊤
+HasVerdict (Err e) = ⊥

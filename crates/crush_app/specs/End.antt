@@ -19,3 +19,11 @@ ServesNone (Ok WriteFault) = ⊥
 ServesNone (Ok TooLong) = ⊤
 ServesNone (Ok ReadFault) = ⊤
 ServesNone (Err e) = ⊤
+
+-- the input was read: whole, or so far that it is known to be too long
+abbrev pub ReadsInput : Result ScriptEnd AllocError → Type 0
+ReadsInput (Ok Done) = ⊤
+ReadsInput (Ok WriteFault) = ⊤
+ReadsInput (Ok TooLong) = ⊤
+ReadsInput (Ok ReadFault) = ⊥
+ReadsInput (Err e) = ⊥

@@ -22,15 +22,15 @@ pub record AppendsPart (old new : Option (List ℕ)) (bytes : List ℕ) : Type 0
 
 -- ---- messages
 
--- the messages were served: their calls as the definition says, and their lines were written
-pub record Plays (old new : States) (ms : List (Option Call)) (from to : Option (List ℕ)) : Type 0 where
+-- the messages were served, so that this is met by their calls and the replies, and their lines were written
+pub record PlaysBy (Meets : List Call → List Reply → Type 0) (ms : List (Option Call)) (from to : Option (List ℕ)) : Type 0 where
   pub replies : List Reply
-  pub meets : MeetsDefinition old new (calls_in ms) replies
+  pub meets : Meets (calls_in ms) replies
   pub written : Appends from to (output ms replies)
 
 -- the messages before one were served and their lines written whole; that one was served, and its line was written
 -- in part; no later message was served
-pub record PlaysUpTo (old new : States) (ms : List (Option Call)) (from to : Option (List ℕ)) : Type 0 where
+pub record PlaysUpToBy (Meets : List Call → List Reply → Type 0) (ms : List (Option Call)) (from to : Option (List ℕ)) : Type 0 where
   pub before : List (Option Call)
   pub cut : Option Call
   pub later : List (Option Call)
@@ -38,20 +38,34 @@ pub record PlaysUpTo (old new : States) (ms : List (Option Call)) (from to : Opt
   pub replies : List Reply
   pub last : List Reply
   pub count : length replies ≡ length (calls_in before)
-  pub meets : MeetsDefinition old new (calls_in (before ++ cut ∷ [])) (replies ++ last)
+  pub meets : Meets (calls_in (before ++ cut ∷ [])) (replies ++ last)
   pub line : List ℕ
   pub rest : List ℕ
   pub some : 0 < length rest
   pub part : line ++ rest ≡ output (cut ∷ []) last
   pub written : Appends from to (output before replies ++ line)
 
--- the headline: what was written is a first part of the lines for the first messages and the replies to their calls,
--- and for every tenant those of these replies other than 503 are the definition's
-pub record WritesHeadline (old : States) (ms : List (Option Call)) (from to : Option (List ℕ)) : Type 0 where
+-- what was written is a first part of the lines for the first messages and the replies to their calls, and this is
+-- met by these calls and replies
+pub record WritesFirst (Meets : List Call → List Reply → Type 0) (ms : List (Option Call)) (from to : Option (List ℕ)) : Type 0 where
   pub served : List (Option Call)
   pub later : List (Option Call)
   pub all : served ++ later ≡ ms
   pub replies : List Reply
   pub rest : List ℕ
   pub written : AppendsUpTo rest from to (output served replies)
-  pub headline : Headline old (calls_in served) replies
+  pub headline : Meets (calls_in served) replies
+
+-- ---- messages, and the states of tenants
+
+-- the messages were served as the definition says, and their lines were written
+abbrev pub Plays : States → States → List (Option Call) → Option (List ℕ) → Option (List ℕ) → Type 0
+Plays old new ms from to = PlaysBy (MeetsDefinition old new) ms from to
+
+-- the same up to a message whose line was written in part
+abbrev pub PlaysUpTo : States → States → List (Option Call) → Option (List ℕ) → Option (List ℕ) → Type 0
+PlaysUpTo old new ms from to = PlaysUpToBy (MeetsDefinition old new) ms from to
+
+-- the headline of what was written: for every tenant the replies other than 503 are the definition's
+abbrev pub WritesHeadline : States → List (Option Call) → Option (List ℕ) → Option (List ℕ) → Type 0
+WritesHeadline old ms from to = WritesFirst (Headline old) ms from to

@@ -1,8 +1,9 @@
 -- A script: the lines of an input as calls, and replies as lines.
-use Rattle.std.specs.Prelude.{ℕ, ◌==◌, List, [], ◌∷◌, ◌++◌, length, map, filter, Bool, nat_lt, if◌then◌else◌, Option, Some, None, option_map, codes, decimal}
+use Rattle.std.specs.Prelude.{ℕ, ◌==◌, ◌≤◌, List, [], ◌∷◌, ◌++◌, length, map, filter, Bool, nat_lt, if◌then◌else◌, Option, Some, None, option_map, codes, decimal}
 use Rattle.std.specs.List.{list_any, before_first, after_first}
 use Rattle.std.specs.Str.{is_utf8}
 use Rattle.std.specs.Str.Lines.{lines}
+use Rattle.crush_app.specs.Input.{OfInput}
 use Rattle.tenant_messages.specs.Reply.{reply, refused}
 use Rattle.tenant_messages.specs.declared.call.Call.{Call}
 use Rattle.tenant_messages.specs.declared.reply.Reply.{Reply}
@@ -62,6 +63,12 @@ output (None ∷ ms) replies = wire bad_line ++ output ms replies
 output (Some call ∷ ms) [] = []
 output (Some call ∷ ms) (replied ∷ replies) = wire replied ++ output ms replies
 
+-- ---- the input
+
 -- the longest input, in bytes
 abbrev pub input_limit : ℕ
 input_limit = 67108864
+
+-- this holds of an input that isn't too long, which is what the reader had, where its bytes are known
+abbrev pub OfScript : Option (List ℕ) → (List ℕ → Type 0) → Type 0
+OfScript bytes Holds = OfInput bytes (λ input. (length input ≤ input_limit) × Holds input)

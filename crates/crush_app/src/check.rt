@@ -6,8 +6,9 @@ ghost use Rattle.crush_map.specs.Map.{Map};
 ghost use Rattle.crush_text.specs.MapText.{IsShort, IsTextOf, IsRefusedFor};
 ghost use Rattle.crush_grammar.specs.declared.code.TextCode.TheVariants.{X7};
 ghost use Rattle.crush_grammar.specs.declared.code.TextFault as spec_fault;
+ghost use Rattle.crush_app.specs.Input.{OfInput, DropsFirst};
 ghost use Rattle.crush_app.specs.Play.{AppendsPart};
-ghost use Rattle.crush_app.specs.Check.{accepted_line as line_of_map, refused_line as line_of_fault, IsLineFor, WritesLine, WritesNothing};
+ghost use Rattle.crush_app.specs.Check.{accepted_line as line_of_map, refused_line as line_of_fault, IsLineFor, WritesLine, WritesNothing, HasVerdict};
 ghost use Rattle.crush_app.specs.Private.Verdict.{IsVerdict};
 
 use crate::input::{InputFault, read_input};
@@ -93,7 +94,8 @@ fn too_long(alloc: Global) -> Result<Verdict, AllocError>
 
 /// The verdict on what is read; none if it can't be read.
 fn read_verdict<R: Read>(alloc: Global, reader: &mut R) -> Result<Option<Verdict>, AllocError>
-    ensures { IfOk result (λ found. IfSome found (λ v. IfSome (R.remaining reader.old) (λ input. IsVerdict v.accepted input (string_bytes v.line)))) }
+    ensures verdict { IfOk result (λ found. IfSome found (λ v. OfInput (R.remaining reader.old) (λ input. IsVerdict v.accepted input (string_bytes v.line)))) }
+    ensures rest { IfOk result (λ found. IfSome found (λ _. DropsFirst 524289 (R.remaining reader.old) (R.remaining reader.new))) }
 {
     match read_input(alloc, reader, TEXT_LIMIT) {
         Ok(text) => Ok(Some(verdict_on(alloc, text.as_slice())?)),
@@ -105,7 +107,9 @@ fn read_verdict<R: Read>(alloc: Global, reader: &mut R) -> Result<Option<Verdict
 
 /// Reads a whole text and writes one line: `ok devices D buckets B rules R` if it is a map's, else `refused line L code C` with
 /// its first fault. Of a text over 524,288 bytes (X7) it reads one byte more than these.
-/// The only `Err` is want of memory: then nothing was written.
+///
+/// The clauses speak of an input, which is what the reader had where contracts know its bytes.
+/// The only `Err` is that an allocation failed: then nothing was written.
 #[tactic(auto, using(crate::proofs::Checking::accepted_end, crate::proofs::Checking::refused_end, crate::proofs::Checking::cut_end))]
 pub fn check_run<R: Read, W: Write>(
     alloc: Global,
@@ -113,22 +117,25 @@ pub fn check_run<R: Read, W: Write>(
     writer: &mut W,
 ) -> Result<CheckEnd, AllocError>
     // `Accepted`: the input is a text of a map that may be imported, and the line of that map was written.
-    ensures accepted { result ≡ Ok CheckEnd.Accepted → IfSome (R.remaining reader.old)
+    ensures accepted { result ≡ Ok CheckEnd.Accepted → OfInput (R.remaining reader.old)
         (λ input. (m : Map) × IsShort input × IsTextOf input m × Appends (W.contents writer.old) (W.contents writer.new) (line_of_map m)) }
 
     // `Refused`: the input is refused for a fault, which is X7 exactly if it is over 524,288 bytes, and the line of that fault was written.
-    ensures refused { result ≡ Ok CheckEnd.Refused → IfSome (R.remaining reader.old)
+    ensures refused { result ≡ Ok CheckEnd.Refused → OfInput (R.remaining reader.old)
         (λ input. (f : spec_fault.TextFault) × IsRefusedFor input f × ((f.code ≡ X7) ↔ (524288 < length input)) × Appends (W.contents writer.old) (W.contents writer.new) (line_of_fault f)) }
 
     // Conversely, where a line was written: if the input is a text of a map it is the line of that map, and if it is refused for a fault, of that fault.
-    ensures of_map { WritesLine result → IfSome (R.remaining reader.old)
+    ensures of_map { WritesLine result → OfInput (R.remaining reader.old)
         (λ input. (m : Map) → IsShort input → IsTextOf input m → (result ≡ Ok CheckEnd.Accepted) × Appends (W.contents writer.old) (W.contents writer.new) (line_of_map m)) }
-    ensures of_fault { WritesLine result → IfSome (R.remaining reader.old)
+    ensures of_fault { WritesLine result → OfInput (R.remaining reader.old)
         (λ input. (f : spec_fault.TextFault) → IsRefusedFor input f → (result ≡ Ok CheckEnd.Refused) × Appends (W.contents writer.old) (W.contents writer.new) (line_of_fault f)) }
 
     // `WriteFault`: the line for the input was written in part.
-    ensures cut { result ≡ Ok CheckEnd.WriteFault → IfSome (R.remaining reader.old)
+    ensures cut { result ≡ Ok CheckEnd.WriteFault → OfInput (R.remaining reader.old)
         (λ input. (line : List ℕ) × IsLineFor input line × AppendsPart (W.contents writer.old) (W.contents writer.new) line) }
+
+    // In each of these cases, of what the reader had its first 524,289 bytes were read, and the rest is left.
+    ensures rest { HasVerdict result → DropsFirst 524289 (R.remaining reader.old) (R.remaining reader.new) }
 
     // Otherwise nothing was written.
     ensures silent { WritesNothing result → KeepsBytes (W.contents writer.old) (W.contents writer.new) }

@@ -2,6 +2,7 @@
 #![tactic(auto)]
 
 mod check;
+mod from_nothing;
 mod input;
 pub mod laws;
 mod memory_store;
@@ -11,6 +12,7 @@ mod service;
 mod wire;
 
 pub use check::{CheckEnd, check_run};
+pub use from_nothing::script_in_memory;
 pub use memory_store::MemoryStore;
 pub use play::{ScriptEnd, script_run};
 pub use service::Service;

@@ -1,13 +1,14 @@
 //! Scripts: the service serves each line of an input, and its reply is written.
 
-ghost use Rattle.std.specs.Prelude.{◌≡◌, ◌≤◌, ◌<◌, ◌∷◌, [], length, IsTrue, IfSome, option_map};
+ghost use Rattle.std.specs.Prelude.{◌≡◌, ◌≤◌, ◌<◌, ◌∷◌, ◌+◌, [], length, IsTrue, IfSome, option_map};
 ghost use Rattle.std.specs.Bool.{IsFalse};
 ghost use Rattle.std.specs.Io.KnownBytes.{Keeps as KeepsBytes};
 ghost use Rattle.tenant_messages.specs.CallParts.{call_of};
 ghost use Rattle.tenant_core.specs.States.{Same};
-ghost use Rattle.crush_app.specs.End.{ServesLines, ServesNone};
+ghost use Rattle.crush_app.specs.Input.{DropsFirst};
+ghost use Rattle.crush_app.specs.End.{ServesLines, ServesNone, ReadsInput};
 ghost use Rattle.crush_app.specs.Play.{Plays, PlaysUpTo, WritesHeadline};
-ghost use Rattle.crush_app.specs.Script.{bad_line, messages, messages_in, input_limit};
+ghost use Rattle.crush_app.specs.Script.{bad_line, messages, messages_in, input_limit, OfScript};
 
 use crate::input::{InputFault, read_input};
 use crate::script::{call_of_line, first_line};
@@ -96,7 +97,10 @@ fn play<T: TenantStore, W: Write>(
 }
 
 /// Reads a whole script, serves its lines in order and writes a line for each reply. An empty line has no reply.
-/// The only `Err` is want of memory for the script itself: then no line was served.
+///
+/// The clauses speak of an input, which is what the reader had where contracts know its bytes.
+/// The only `Err` is that an allocation for the script itself failed: then no line was served.
+#[tactic(auto, using(crate::proofs::Playing::script_played, crate::proofs::Playing::script_cut_off, crate::proofs::Playing::script_written, crate::proofs::Inputs::known_short, crate::proofs::Inputs::known_long))]
 pub fn script_run<T: TenantStore, R: Read, W: Write>(
     alloc: Global,
     service: &mut Service<T>,
@@ -104,21 +108,25 @@ pub fn script_run<T: TenantStore, R: Read, W: Write>(
     writer: &mut W,
 ) -> Result<ScriptEnd, AllocError>
     // `Done`: all lines of the input were served; their replies were written, and nothing else.
-    ensures done { T.is_honest service.new → result ≡ Ok ScriptEnd.Done → IfSome (R.remaining reader.old)
+    ensures done { T.is_honest service.new → result ≡ Ok ScriptEnd.Done → OfScript (R.remaining reader.old)
         (λ input. Plays (T.has_state service.old) (T.has_state service.new) (messages input) (W.contents writer.old) (W.contents writer.new)) }
 
     // `WriteFault`: the replies before the failed one were written whole, that one in part, and no later line was served.
-    ensures cut { T.is_honest service.new → result ≡ Ok ScriptEnd.WriteFault → IfSome (R.remaining reader.old)
+    ensures cut { T.is_honest service.new → result ≡ Ok ScriptEnd.WriteFault → OfScript (R.remaining reader.old)
         (λ input. PlaysUpTo (T.has_state service.old) (T.has_state service.new) (messages input) (W.contents writer.old) (W.contents writer.new)) }
 
     // The headline: for every tenant, the written replies other than 503 are those of the definition, run over just the calls
     // that have such a reply, from the state that the tenant had.
-    ensures headline { T.is_honest service.new → ServesLines result → IfSome (R.remaining reader.old)
+    ensures headline { T.is_honest service.new → ServesLines result → OfScript (R.remaining reader.old)
         (λ input. WritesHeadline (T.has_state service.old) (messages input) (W.contents writer.old) (W.contents writer.new)) }
 
     // An input is too long exactly by its length.
     ensures short { ServesLines result → IfSome (R.remaining reader.old) (λ input. length input ≤ input_limit) }
     ensures long { result ≡ Ok ScriptEnd.TooLong → IfSome (R.remaining reader.old) (λ input. input_limit < length input) }
+
+    // Served or too long: of what the reader had the first 67,108,865 bytes were read, and the rest
+    // is left.
+    ensures rest { ReadsInput result → DropsFirst (input_limit + 1) (R.remaining reader.old) (R.remaining reader.new) }
 
     // Otherwise no state changed, and nothing was written.
     ensures none { T.is_honest service.new → ServesNone result → Same (T.has_state service.old) (T.has_state service.new) }

@@ -18,3 +18,5 @@ pub mod Lowering
 pub mod Staying
 pub mod OneTrace
 pub mod OneOrder
+pub mod Items
+pub mod OfMap

@@ -1,9 +1,11 @@
 -- The reweights of all ids, from a table that has those of the first ids.
-use Rattle.std.proofs.Common.{◌≡◌, ℕ, ◌-◌, ◌<◌, ◌≤◌, ◌==◌, List, ◌∷◌, length, replicate, slice_index_or, true, false, nat_lt, refl, sym, ◌∙◌, arith, inl, inr, length-append}
+use Rattle.std.proofs.Common.{◌≡◌, ℕ, suc, add-one, ◌+◌, ◌-◌, max, map, drop, ◌<◌, ◌≤◌, ◌==◌, List, ◌∷◌, length, replicate, slice_index_or, true, false, nat_lt, refl, sym, ◌∙◌, arith, inl, inr, length-append}
+use Rattle.std.specs.List.{Contains}
 use Rattle.std.proofs.Math.ListN.{get_or-append}
+use Rattle.std.proofs.Math.Seq.{drop-cons}
 use Rattle.std.proofs.lemmas.Bool.{cases_lt}
 use Rattle.std.proofs.lemmas.Bool.Decides.{nat_tests}
-use Rattle.std.proofs.lemmas.List.{ext_get_or, get_or_past, length-replicate, get_or-replicate, get_or-append_right}
+use Rattle.std.proofs.lemmas.List.{ext_get_or, get_or-map, get_or_past, length-map, length-replicate, get_or-replicate, get_or-append_right}
 use Rattle.std.proofs.lemmas.List.FromFn.{length-map-range_with_len, get_or-map-range_with_len}
 use Rattle.crush_choose.specs.Weights.{first_given, reweight_of, weights_of, weight_at, full, ids}
 use Rattle.crush_choose.specs.Private.Weights.{padded}
@@ -19,6 +21,21 @@ above_ids given id le = let test : nat_lt id ids ≡ false = grind (arith, nat_t
 -- a pair for another id is skipped
 pub passed_over : (given : ℕ × ℕ) (rest : List (ℕ × ℕ)) (id : ℕ) → (given.0 ≡ id → ⊥) → first_given (given ∷ rest) id ≡ first_given rest id
 passed_over given rest id other = let test : (given.0 == id) ≡ false = grind (arith, nat_tests, other) in rw test refl
+
+-- the pair at a place is skipped by those from it on
+pub passed_at : (given : List (ℕ × ℕ)) (k id : ℕ) → k < length given → ((slice_index_or given k (0, 0)).0 ≡ id → ⊥) → first_given (drop k given) id ≡ first_given (drop (k + 1) given) id
+passed_at given k id lt other = rw (add-one k, drop-cons given k (0, 0) lt) (passed_over (slice_index_or given k (0, 0)) (drop (suc k) given) id other)
+
+-- ---- how long a table is
+
+-- one more than a given id is no more than a table needs
+pub needed : (given : List (ℕ × ℕ)) (first before bound k : ℕ) → k < length given → (first < before → Contains (map (λ (pair : ℕ × ℕ). pair.0 + 1) given) before)
+    → bound ≡ max before ((slice_index_or given k (0, 0)).0 + 1) → first < bound → Contains (map (λ (pair : ℕ × ℕ). pair.0 + 1) given) bound
+needed given first before bound k lt has is longer =
+    elim (cases_lt before ((slice_index_or given k (0, 0)).0 + 1)) [
+      | inl low ↦ (let e : (slice_index_or given k (0, 0)).0 + 1 ≡ bound = omega (arith, is, low) in (k, omega (arith, lt, length-map given (λ (pair : ℕ × ℕ). pair.0 + 1)), get_or-map (λ (pair : ℕ × ℕ). pair.0 + 1) given k (0, 0) bound lt ∙ e))
+      | inr high ↦ (let e : bound ≡ before = omega (arith, is, high) in rw e (has (omega (arith, e, longer))))
+    ]
 
 -- ---- all ids
 

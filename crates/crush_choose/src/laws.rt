@@ -1,6 +1,6 @@
 //! Laws of the definitions. A call does nothing; its contract is the law.
 
-ghost use Rattle.std.specs.Prelude.{◌≡◌, ◌↔◌, ◌<◌, ℕ, ℤ, List, length, slice_get, Option, Some, None, true, false};
+ghost use Rattle.std.specs.Prelude.{◌≡◌, ◌↔◌, ◌<◌, ℕ, ℤ, List, All, Contains, length, map, slice_get, Option, Some, None, true, false};
 ghost use Rattle.crush_map.specs.declared.draft.Rule.{Rule};
 ghost use Rattle.crush_map.specs.declared.draft.Step.TheVariants.{Choose};
 ghost use Rattle.crush_map.specs.declared.draft.Tunables.{Tunables};
@@ -22,6 +22,7 @@ ghost use Rattle.crush_choose.specs.Laws.{reach_after_pick};
 ghost use Rattle.crush_choose.specs.Entries.{Entry, AreEntries, AreFirstnEntries, entries};
 
 use crush_bucket::laws::{buckets_of_a_map_pick_below, no_bucket_of_a_map_has_type_0};
+use crush_map::buckets_are_sound;
 
 /// The value of `least` is that of a try below the bound before which no try has one; where `least` has none, no try below the bound has one.
 pub fn least_is_first()
@@ -90,3 +91,11 @@ pub fn chooseleaf_of_devices_is_choose()
 pub fn traces_ascend()
     ensures { (t : TablesView) (w : List ℕ) (steps : List Step) (x size : ℕ) (trace : List ℕ) → IsTrace t w steps x size trace ↔ (trace ≡ rule_trace t w steps x size) }
 {}
+
+/// The trace of a run on the tables of a map has devices of the map alone: for any steps, so for those of each of its rules, and for any reweights.
+pub fn traces_are_of_the_map()
+    ensures { (m : Map) (w : List ℕ) (steps : List Step) (x size : ℕ) → IsMap m → All (Contains (map (λ d. d.id) m.devices)) (rule_trace (tables_of m) w steps x size) }
+{
+    buckets_of_a_map_pick_below();
+    buckets_are_sound();
+}

@@ -1,6 +1,6 @@
 //! Reweights of devices, and the device test.
 
-ghost use Rattle.std.specs.Prelude.{◌≡◌, ◌<◌, ◌≤◌, ◌^◌, IfOk, length, slice_index_or, ℕ};
+ghost use Rattle.std.specs.Prelude.{◌≡◌, ◌<◌, ◌≤◌, ◌+◌, ◌^◌, IfOk, Contains, length, map, slice_index_or, ℕ};
 ghost use Rattle.crush_choose.specs.Weights as spec;
 ghost use Rattle.crush_choose.specs.Weights.{weights_of, weight_at, reweight_of, first_given, is_device_in};
 
@@ -78,9 +78,10 @@ impl Weights {
     }
 }
 
-/// A length for the table: at least `first`, and above each given id up to 65535.
+/// A length for the table: `first`, as far as there are so many ids, or above that one more than the greatest given id up to 65535.
 fn bound_of(first: usize, given: &[(u32, u32)]) -> usize
     ensures few { result ≤ spec.ids }
+    ensures least { first < result → Contains (map (λ pair. pair.0 + 1) given.now) result }
     ensures above { (id : ℕ) → result ≤ id → id < spec.ids → first_given given.now id ≡ spec.full }
 {
     let mut bound = first.min(IDS);

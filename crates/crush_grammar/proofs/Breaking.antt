@@ -7,12 +7,12 @@ use Rattle.std.proofs.lemmas.Bool.Decides.{nat_tests}
 use Rattle.crush_grammar.proofs.Written.{is_written, declares_from}
 use Rattle.crush_words.specs.Words.{Word}
 use Rattle.crush_grammar.specs.Syntax.{Declares}
-use Rattle.crush_grammar.specs.Fronts.{is, IsWhole, HasCode, IsCut, FrontDeclares, last_line, Breaks}
+use Rattle.crush_grammar.specs.Fronts.{is, IsWhole, HasCode, word, BeginsOne, FrontDeclares, last_line, Breaks}
 use Rattle.crush_grammar.specs.Automaton.{State, reading, step, text, to, begun, at_end, device_at}
 use Rattle.crush_grammar.specs.Automaton.State.{Between, DeviceName, ClassWord}
 use Rattle.crush_grammar.specs.declared.code.TextFault.{TextFault}
 use Rattle.crush_grammar.specs.declared.declaration.Declaration.{Declaration}
-use Rattle.crush_grammar.proofs.Endings.{is_dead, Ends, say, is_open, finish, word, given, ending, run, ends_on, is_device, done_at}
+use Rattle.crush_grammar.proofs.Endings.{is_dead, Ends, say, is_open, finish, given, ending, run, ends_on, is_device, done_at}
 use Rattle.crush_grammar.proofs.Cuts.{onto, out, out_on, said, Whole, whole}
 use Rattle.crush_grammar.proofs.Lines.{Stuck, WrongFrom, wrong_from, to_front, from_front, open_ends, is_text_open}
 use Rattle.crush_grammar.proofs.Codes.{code_is}
@@ -32,8 +32,8 @@ or_other true b h e = cc
 or_other false b h e = h
 
 -- words that break off a declaration are cut there
-pub cut_at : (xs ys : List Word) (b : Bool) (q : State) → run (Between b) ys ≡ q → out (Between b) ys ≡ [] → is_dead q ≡ false → is_open q ≡ false → IsCut xs ys
-cut_at xs ys b q e o alive shut =
+pub cut_at : (ys : List Word) (b : Bool) (q : State) → run (Between b) ys ≡ q → out (Between b) ys ≡ [] → is_dead q ≡ false → is_open q ≡ false → BeginsOne ys
+cut_at ys b q e o alive shut =
     let line = last_line 1 ys in
     let f = finish q alive line in
     let one = just_one (reading q line (say f.0)).decls (or_other (is_open q) _ f.1.1 shut) in
@@ -45,9 +45,9 @@ pub not_whole : (front : List Word) → is_open (run (Between true) front) ≡ f
 not_whole front shut = λ (ds, h). let e = is_text_open front ds h in cc
 
 pub shut_by : (front : List Word) → is_dead (run (Between true) front) ≡ false → is_open (run (Between true) front) ≡ false → Whole (Between true) 1 front →
-    (xs : List Word) × (ys : List Word) × (front ≡ xs ++ ys) × Declares xs (out (Between true) front) × IsCut xs ys
-shut_by front alive shut (inl none) = ([], front, refl, text_of [] (out (Between true) front) (rw none refl), cut_at [] front true (run (Between true) front) refl none alive shut)
-shut_by front alive shut (inr (xs, ys, b, a, r, s, o)) = (xs, ys, a, text_of xs (out (Between true) front) r, cut_at xs ys b (run (Between true) front) s o alive shut)
+    (xs : List Word) × (ys : List Word) × (front ≡ xs ++ ys) × Declares xs (out (Between true) front) × BeginsOne ys
+shut_by front alive shut (inl none) = ([], front, refl, text_of [] (out (Between true) front) (rw none refl), cut_at front true (run (Between true) front) refl none alive shut)
+shut_by front alive shut (inr (xs, ys, b, a, r, s, o)) = (xs, ys, a, text_of xs (out (Between true) front) r, cut_at ys b (run (Between true) front) s o alive shut)
 
 pub front_shut : (front : List Word) → is_dead (run (Between true) front) ≡ false → is_open (run (Between true) front) ≡ false → FrontDeclares front (out (Between true) front)
 front_shut front alive shut = inr (not_whole front shut, shut_by front alive shut (whole (Between true) 1 front))

@@ -7,8 +7,8 @@ use Rattle.crush_map.specs.WeightText.{weight_of}
 use Rattle.crush_words.specs.Words.{Word}
 use Rattle.crush_words.specs.Numbers.{number_of, integer_of}
 use Rattle.crush_grammar.specs.Sayings.{name_of, type_of, tunable_of, alg_of, hash_of, rule_id_of, erasure_of, firstn_of, setting_of}
-use Rattle.crush_grammar.specs.Fronts.{is, is_token, IsStraw, IsClassOfTake, IsChooseArgs, IsNoWeight, HasCode, last_line}
-use Rattle.crush_grammar.specs.Automaton.{State, Move, reading, step, text, with_item, with_step, to, wrong, on, first, begun_bucket, begun, in_lines, plain, in_items, in_pos, in_steps, at_max, action}
+use Rattle.crush_grammar.specs.Fronts.{is, is_token, word, one_half, IsStraw, IsClassOfTake, IsChooseArgs, IsNoWeight, HasCode, last_line}
+use Rattle.crush_grammar.specs.Automaton.{State, Move, reading, step, text, with_item, with_step, named, to, wrong, on, first, begun_bucket, begun, in_lines, plain, in_items, in_pos, in_steps, at_max, action}
 use Rattle.crush_grammar.specs.Automaton.State.{Between, TunableWord, TunableKey, DeviceWord, DeviceNumber, DeviceName, ClassWord, TypeWord, TypeNumber, BucketType, BucketName, IdLines, IdWord, IdNumber, IdClass, AlgWord, Hashes, HashWord, Items, ItemWord, ItemName, WeightWord, ItemWeight, PosWord, RuleWord, RuleName, RuleOpen, RuleId, RuleNumber, RuleType, RuleKind, MinWord, RuleMin, MaxWord, RuleMax, StepWord, TakeWord, Taken, SetWord, ChooseWord, ChooseHow, ChooseNumber, ChooseType, Steps, Dead}
 use Rattle.crush_grammar.specs.declared.code.TextCode.{TextCode}
 use Rattle.crush_grammar.specs.declared.code.TextCode.TheVariants.{X1, X2, X3, X4, X6}
@@ -18,11 +18,12 @@ use Rattle.crush_grammar.specs.declared.declaration.DeclaredBucket.{DeclaredBuck
 use Rattle.crush_grammar.specs.declared.declaration.DeclaredStep.{DeclaredStep}
 use Rattle.crush_grammar.specs.declared.declaration.DeclaredRule.{DeclaredRule}
 use Rattle.crush_grammar.specs.declared.declaration.Declaration.{Declaration}
+use Rattle.crush_map.specs.declared.word.Kind.TheVariants as kinds
 use Rattle.crush_grammar.specs.declared.declaration.DeclaredStep.TheVariants as steps
 use Rattle.crush_grammar.specs.declared.declaration.Declaration.TheVariants as declarations
-use Rattle.crush_grammar.proofs.Endings.{Ends, is_open, word, straw, is_taken, wants, code_at, run, ends_on, ends_off}
+use Rattle.crush_grammar.proofs.Endings.{Ends, is_open, straw, is_taken, wants_alg, wants_weight, code_at, run, ends_on, ends_off}
 use Rattle.crush_grammar.proofs.Cuts.{out, out_on}
-use Rattle.crush_grammar.proofs.Lines.{both, wanted, unwanted, is_open_text, is_text_open, and_on}
+use Rattle.crush_grammar.proofs.Lines.{both, is_open_text, is_text_open, and_on}
 
 pub last_same : {A : Type 0} (xs ys : List A) (a b : A) → xs ++ a ∷ [] ≡ ys ++ b ∷ [] → a ≡ b
 last_same [] [] a b h = cc
@@ -209,6 +210,119 @@ take_before front x (class, (ds, r, before, name, h, s)) =
     let q = run (Between true) front in
     is_taken_by q r (run_good (Between true) front tt) (at_rule q (last_line 1 front) r (out (Between true) front) ds (ends_off (Between true) 1 front brace f) d) (before, name, s)
 
+-- ---- an algorithm and a weight
+
+abbrev pub closed_by : List ℕ → List Word
+closed_by text = word text ∷ brace
+
+pub same_bucket : (c b : DeclaredBucket) (xs ds : List Declaration) → xs ++ declarations.Bucket c ∷ [] ≡ ds ++ declarations.Bucket b ∷ [] → c ≡ b
+same_bucket c b xs ds h = let e = last_same xs ds (declarations.Bucket c) (declarations.Bucket b) h in cc
+
+pub no_rule : (r : DeclaredRule) (b : DeclaredBucket) (xs ds : List Declaration) → xs ++ declarations.Rule r ∷ [] ≡ ds ++ declarations.Bucket b ∷ [] → ⊥
+no_rule r b xs ds h = let e = last_same xs ds (declarations.Rule r) (declarations.Bucket b) h in cc
+
+pub some_items : (items : List DeclaredItem) (item : DeclaredItem) → items ++ item ∷ [] ≡ [] → ⊥
+some_items [] item h = cc
+some_items (x ∷ items) item h = cc
+
+-- a bucket whose last item has this name alone has no weight there
+pub no_weight : (c : DeclaredBucket) (text : List ℕ) (b : DeclaredBucket) (before : List DeclaredItem) (item : DeclaredItem) → with_item c (named text) ≡ b → b.items ≡ before ++ item ∷ [] → item.weight ≡ Some one_half → ⊥
+no_weight c text b before item e h w =
+    let s : c.items ++ named text ∷ [] ≡ b.items = ap (λ z. z.items) e in
+    let l : named text ≡ item = last_same c.items before (named text) item (s ∙ h) in
+    let m : None ≡ item.weight = ap (λ z. z.weight) l in
+    cc
+
+-- list and a brace end a bucket without items where an algorithm is wanted, and nowhere else
+pub at_alg : (q : State) (line : ℕ) (b : DeclaredBucket) (xs ds : List Declaration) → Ends q line (closed_by (codes "list")) →
+    xs ++ (reading q line (closed_by (codes "list"))).decls ≡ ds ++ declarations.Bucket b ∷ [] → b.items ≡ [] → wants_alg q ≡ true
+unfolding step number_of weight_of integer_of name_of type_of tunable_of alg_of hash_of rule_id_of erasure_of firstn_of setting_of
+at_alg (AlgWord h i) line b xs ds e d none = refl
+at_alg (ItemWord c) line b xs ds e d none = absurd (some_items c.items (named (codes "list")) (ap (λ z. z.items) (same_bucket (with_item c (named (codes "list"))) b xs ds d) ∙ none))
+at_alg (TakeWord r) line b xs ds e d none = absurd (no_rule (with_step r (steps.Take (codes "list"))) b xs ds d)
+at_alg (ChooseType r leaf h n) line b xs ds e d none = absurd (no_rule (with_step r (steps.Choose h leaf n (codes "list"))) b xs ds d)
+at_alg (IdLines x None) line b xs ds e d none = cc
+at_alg (IdLines x (Some i)) line b xs ds e d none = cc
+at_alg (IdNumber x None i) line b xs ds e d none = cc
+at_alg (IdNumber x (Some j) i) line b xs ds e d none = cc
+at_alg (IdClass x None) line b xs ds e d none = cc
+at_alg (IdClass x (Some i)) line b xs ds e d none = cc
+at_alg other line b xs ds e d none = cc
+
+-- 0.5 and a brace end a bucket whose last item has that weight where a weight is wanted, and nowhere else
+pub at_weight : (q : State) (line : ℕ) (b : DeclaredBucket) (before : List DeclaredItem) (item : DeclaredItem) (xs ds : List Declaration) → Ends q line (closed_by (codes "0.5")) →
+    xs ++ (reading q line (closed_by (codes "0.5"))).decls ≡ ds ++ declarations.Bucket b ∷ [] → b.items ≡ before ++ item ∷ [] → item.weight ≡ Some one_half → wants_weight q ≡ true
+unfolding step number_of weight_of integer_of name_of type_of tunable_of alg_of hash_of rule_id_of erasure_of firstn_of setting_of
+at_weight (WeightWord c i) line b before item xs ds e d last half = refl
+at_weight (ItemWord c) line b before item xs ds e d last half = absurd (no_weight c (codes "0.5") b before item (same_bucket (with_item c (named (codes "0.5"))) b xs ds d) last half)
+at_weight (TakeWord r) line b before item xs ds e d last half = absurd (no_rule (with_step r (steps.Take (codes "0.5"))) b xs ds d)
+at_weight (ChooseType r leaf h n) line b before item xs ds e d last half = absurd (no_rule (with_step r (steps.Choose h leaf n (codes "0.5"))) b xs ds d)
+at_weight (IdLines x None) line b before item xs ds e d last half = cc
+at_weight (IdLines x (Some i)) line b before item xs ds e d last half = cc
+at_weight (IdNumber x None i) line b before item xs ds e d last half = cc
+at_weight (IdNumber x (Some j) i) line b before item xs ds e d last half = cc
+at_weight (IdClass x None) line b before item xs ds e d last half = cc
+at_weight (IdClass x (Some i)) line b before item xs ds e d last half = cc
+at_weight other line b before item xs ds e d last half = cc
+
+-- what a bucket is with the algorithm list and a brace
+abbrev pub with_list : BucketHead → ℤ → DeclaredBucket
+with_list h i = record { head = h; id = i; alg = kinds.List; items = [] }
+
+pub alg_is : (q : State) → wants_alg q ≡ true → (h : BucketHead) × (i : ℤ) × (q ≡ AlgWord h i)
+alg_is (AlgWord h i) e = (h, i, refl)
+alg_is other e = cc
+
+pub straw_stands : (front : List Word) (x : Word) (h : BucketHead) (i : ℤ) → run (Between true) front ≡ AlgWord h i → straw x ≡ true → IsStraw front x
+unfolding step alg_of
+straw_stands front x h i e s =
+    let ys = closed_by (codes "list") in
+    let ends : Ends (Between true) 1 (front ++ ys) = ends_on (Between true) 1 front ys (rw e refl) in
+    let d : (text (front ++ ys)).decls ≡ out (Between true) front ++ declarations.Bucket (with_list h i) ∷ [] = out_on (Between true) 1 front ys ∙ rw e refl in
+    (s, (out (Between true) front, with_list h i, rw d at (is_written (front ++ ys) ends), refl))
+
+pub after_alg : (front : List Word) (x : Word) → wants_alg (run (Between true) front) ≡ true → straw x ≡ true → IsStraw front x
+after_alg front x a s =
+    let t = alg_is (run (Between true) front) a in
+    straw_stands front x t.0 t.1 t.2 s
+
+pub alg_before : (front : List Word) (x : Word) → IsStraw front x → wants_alg (run (Between true) front) ≡ true
+alg_before front x (s, (ds, b, h, none)) =
+    let ys = closed_by (codes "list") in
+    let e = is_read (front ++ ys) (ds ++ declarations.Bucket b ∷ []) h in
+    let f : Ends (Between true) 1 (front ++ ys) = ap (λ t. t.fault) e in
+    let d = sym (out_on (Between true) 1 front ys) ∙ ap (λ t. t.decls) e in
+    at_alg (run (Between true) front) (last_line 1 front) b (out (Between true) front) ds (ends_off (Between true) 1 front ys f) d none
+
+-- what an item is with the weight 0.5
+abbrev pub with_half : DeclaredBucket → DeclaredItem → DeclaredBucket
+with_half b i = with_item b (record i { weight = Some one_half })
+
+pub weight_is : (q : State) → wants_weight q ≡ true → (b : DeclaredBucket) × (i : DeclaredItem) × (q ≡ WeightWord b i)
+weight_is (WeightWord b i) e = (b, i, refl)
+weight_is other e = cc
+
+pub weight_stands : (front : List Word) (x : Word) (c : DeclaredBucket) (i : DeclaredItem) → run (Between true) front ≡ WeightWord c i → is_token x ≡ true → IsNoWeight front x
+unfolding step weight_of
+weight_stands front x c i e s =
+    let ys = closed_by (codes "0.5") in
+    let ends : Ends (Between true) 1 (front ++ ys) = ends_on (Between true) 1 front ys (rw e refl) in
+    let d : (text (front ++ ys)).decls ≡ out (Between true) front ++ declarations.Bucket (with_half c i) ∷ [] = out_on (Between true) 1 front ys ∙ rw e refl in
+    (s, (out (Between true) front, with_half c i, c.items, record i { weight = Some one_half }, rw d at (is_written (front ++ ys) ends), refl, refl))
+
+pub after_weight : (front : List Word) (x : Word) → wants_weight (run (Between true) front) ≡ true → is_token x ≡ true → IsNoWeight front x
+after_weight front x a s =
+    let t = weight_is (run (Between true) front) a in
+    weight_stands front x t.0 t.1 t.2 s
+
+pub weight_before : (front : List Word) (x : Word) → IsNoWeight front x → wants_weight (run (Between true) front) ≡ true
+weight_before front x (s, (ds, b, before, item, h, last, half)) =
+    let ys = closed_by (codes "0.5") in
+    let e = is_read (front ++ ys) (ds ++ declarations.Bucket b ∷ []) h in
+    let f : Ends (Between true) 1 (front ++ ys) = ap (λ t. t.fault) e in
+    let d = sym (out_on (Between true) 1 front ys) ∙ ap (λ t. t.decls) e in
+    at_weight (run (Between true) front) (last_line 1 front) b before item (out (Between true) front) ds (ends_off (Between true) 1 front ys f) d last half
+
 abbrev pub code_of : Bool → Bool → Bool → Bool → TextCode
 code_of a m n k = if a then X6 else (if m then X2 else (if n then X4 else (if k then X3 else X1)))
 
@@ -223,14 +337,14 @@ has_code front x false false false false six two four three six1 two1 four1 thre
 pub code_is : (front : List Word) (x : Word) → HasCode front x (code_at (run (Between true) front) x)
 code_is front x =
     let q = run (Between true) front in
-    let a = wants q (codes "0.5") in
-    let b = wants q (codes "tree") in
+    let a = wants_weight q in
+    let b = wants_alg q in
     has_code front x (a && is_token x) (b && straw x) (is_open q && is (codes "choose_args") x) (is_taken q && is (codes "class") x)
-    (λ h. let e = both a (is_token x) h in (e.1, wanted front (codes "0.5") e.0))
-    (λ h. let e = both b (straw x) h in (e.1, wanted front (codes "tree") e.0))
+    (λ h. let e = both a (is_token x) h in after_weight front x e.0 e.1)
+    (λ h. let e = both b (straw x) h in after_alg front x e.0 e.1)
     (λ h. let e = both (is_open q) (is (codes "choose_args") x) h in (e.1, is_open_text front e.0))
     (λ h. let e = both (is_taken q) (is (codes "class") x) h in after_take front x e.0 e.1)
-    (λ h. and_on a (is_token x) (unwanted front (codes "0.5") h.1) h.0)
-    (λ h. and_on b (straw x) (unwanted front (codes "tree") h.1) h.0)
+    (λ h. and_on a (is_token x) (weight_before front x h) h.0)
+    (λ h. and_on b (straw x) (alg_before front x h) h.0)
     (λ h. and_on (is_open q) (is (codes "choose_args") x) (is_text_open front h.1.0 h.1.1) h.0)
     (λ h. and_on (is_taken q) (is (codes "class") x) (take_before front x h) h.0)

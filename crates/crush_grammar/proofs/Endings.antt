@@ -1,5 +1,5 @@
 -- What ends a text behind a state, and with which code a state dies of a word.
-use Rattle.std.proofs.Common.{ℤ, ◌==◌, ◌≡◌, ◌∙◌, ℕ, List, [], ◌∷◌, ◌++◌, length, Option, Some, None, Bool, true, false, not, ◌&&◌, ◌||◌, refl, bytes_eq, if◌then◌else◌}
+use Rattle.std.proofs.Common.{ℤ, ◌==◌, ◌≡◌, ◌∙◌, ℕ, List, [], ◌∷◌, ◌++◌, length, Option, Some, None, Bool, true, false, ◌&&◌, ◌||◌, refl, bytes_eq, if◌then◌else◌}
 use Rattle.std.specs.Prelude.{codes}
 use Rattle.std.proofs.lemmas.Slice.Eq.{bytes_eq-Decides}
 use Rattle.crush_grammar.proofs.States.{dead}
@@ -115,9 +115,6 @@ finish (ChooseType r leaf x n) h line = (codes "a" ∷ close, (refl, refl))
 finish (Steps r) h line = (close, (refl, refl))
 finish (Dead f) h line = cc
 
-abbrev pub word : List ℕ → Word
-word t = record { line = 0; text = t }
-
 abbrev pub straw : Word → Bool
 straw x = is (codes "straw") x || is (codes "straw2") x
 
@@ -125,15 +122,19 @@ abbrev pub is_taken : State → Bool
 is_taken (Taken r) = true
 is_taken other = false
 
-abbrev pub lives : State → List ℕ → Bool
-lives q t = not (is_dead (step q (word t)).state)
+-- the algorithm of a bucket is wanted
+abbrev pub wants_alg : State → Bool
+wants_alg (AlgWord h i) = true
+wants_alg other = false
 
-abbrev pub wants : State → List ℕ → Bool
-wants q t = lives q t && not (lives q (codes "a"))
+-- the weight of an item is wanted
+abbrev pub wants_weight : State → Bool
+wants_weight (WeightWord b e) = true
+wants_weight other = false
 
 -- what is wrong with a word at a state
 abbrev pub code_at : State → Word → TextCode
-code_at q x = if wants q (codes "0.5") && is_token x then X6 else (if wants q (codes "tree") && straw x then X2 else (if is_open q && is (codes "choose_args") x then X4 else (if is_taken q && is (codes "class") x then X3 else X1)))
+code_at q x = if wants_weight q && is_token x then X6 else (if wants_alg q && straw x then X2 else (if is_open q && is (codes "choose_args") x then X4 else (if is_taken q && is (codes "class") x then X3 else X1)))
 
 -- a dead state has the line of the word, and this code
 abbrev pub At : TextCode → Word → State → Type 0

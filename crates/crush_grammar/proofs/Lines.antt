@@ -1,19 +1,18 @@
 -- Where words leave the grammar, and what is declared before.
-use Rattle.std.proofs.Common.{◌≡◌, ◌∙◌, ℕ, suc, ◌<◌, ◌⊎◌, inl, inr, List, [], ◌∷◌, ◌++◌, length, take, Option, Some, None, Bool, true, false, not, ◌&&◌, refl, append_assoc, arith, ap, IfSome, slice_get}
-use Rattle.std.specs.Prelude.{codes}
+use Rattle.std.proofs.Common.{◌≡◌, ◌∙◌, ℕ, suc, ◌<◌, ◌⊎◌, inl, inr, List, [], ◌∷◌, ◌++◌, length, take, Option, Some, None, Bool, true, false, ◌&&◌, refl, arith, ap, IfSome, slice_get}
 use Rattle.std.proofs.lemmas.List.{append-nil}
 use Rattle.crush_grammar.proofs.IsRead.{is_read}
 use Rattle.crush_grammar.proofs.Written.{is_written}
 use Rattle.crush_grammar.proofs.States.{dead}
 use Rattle.crush_words.specs.Words.{Word}
 use Rattle.crush_grammar.specs.Syntax.{Declares}
-use Rattle.crush_grammar.specs.Fronts.{IsFront, MayStand, Wants, last_line}
+use Rattle.crush_grammar.specs.Fronts.{IsFront, last_line}
 use Rattle.crush_grammar.specs.Automaton.{State, reading, step, text, at_end}
 use Rattle.crush_grammar.specs.Automaton.State.{Between, DeviceName, Dead}
 use Rattle.crush_grammar.specs.declared.code.TextCode.TheVariants.{X1}
 use Rattle.crush_grammar.specs.declared.code.TextFault.{TextFault}
 use Rattle.crush_grammar.specs.declared.declaration.Declaration.{Declaration}
-use Rattle.crush_grammar.proofs.Endings.{is_dead, Ends, is_open, word, lives, wants, code_at, step_at, dead_ends, given, on_word, off_word, ending, short, dead_is, run, ends_on, ends_off}
+use Rattle.crush_grammar.proofs.Endings.{is_dead, Ends, is_open, code_at, step_at, dead_ends, given, on_word, off_word, ending, short, dead_is, run, ends_on, ends_off}
 use Rattle.crush_grammar.proofs.Cuts.{onto, out, onto_append, given_decls}
 
 abbrev pub FaultIs : State → TextFault → Word → Type 0
@@ -71,44 +70,9 @@ to_front ws (more, h) = (more, (text (ws ++ more)).decls, is_written (ws ++ more
 pub from_front : (ws : List Word) → IsFront ws → (more : List Word) × Ends (Between true) 1 (ws ++ more)
 from_front ws (more, ds, h) = (more, ap (λ r. r.fault) (is_read (ws ++ more) ds h))
 
-pub not_true : (k : Bool) → not k ≡ true → k ≡ false
-not_true true h = cc
-not_true false h = refl
-
 pub both : (a b : Bool) → (a && b) ≡ true → (a ≡ true) × (b ≡ true)
 both true b h = (refl, h)
 both false b h = cc
-
--- a word may stand where the state does not die of it
-pub may : (front : List Word) (t : List ℕ) → lives (run (Between true) front) t ≡ true → MayStand front t
-may front t h =
-    let q = run (Between true) front in
-    let e = ending (step q (word t)).state (not_true (is_dead (step q (word t)).state) h) 0 in
-    to_front (front ++ word t ∷ []) (e.0, rw (append_assoc front (word t ∷ []) e.0) (ends_on (Between true) 1 front (word t ∷ e.0) (on_word q (last_line 1 front) (word t) e.0 e.1)))
-
-pub may_by : (front : List Word) (t : List ℕ) (k : Bool) → is_dead (step (run (Between true) front) (word t)).state ≡ k → MayStand front t → not k ≡ true
-may_by front t false e m = refl
-may_by front t true e m =
-    let q = run (Between true) front in
-    let g = from_front (front ++ word t ∷ []) m in
-    let h = ends_off (Between true) 1 front (word t ∷ g.0) (rw (append_assoc front (word t ∷ []) g.0) at g.1) in
-    absurd (dead_ends (step q (word t)).state e 0 g.0 (off_word q (last_line 1 front) (word t) g.0 h))
-
-pub may_not : (front : List Word) (t : List ℕ) → MayStand front t → lives (run (Between true) front) t ≡ true
-may_not front t m = may_by front t (is_dead (step (run (Between true) front) (word t)).state) refl m
-
-pub wanted : (front : List Word) (t : List ℕ) → wants (run (Between true) front) t ≡ true → Wants front t
-wanted front t h =
-    let q = run (Between true) front in
-    let b = both (lives q t) (not (lives q (codes "a"))) h in
-    (may front t b.0, λ m. let e = not_true (lives q (codes "a")) b.1 in let f = may_not front (codes "a") m in cc)
-
-pub wants_by : (front : List Word) (t : List ℕ) (k : Bool) → lives (run (Between true) front) (codes "a") ≡ k → Wants front t → (lives (run (Between true) front) t && not k) ≡ true
-wants_by front t true e h = absurd (h.1 (may front (codes "a") e))
-wants_by front t false e h = rw (may_not front t h.0) refl
-
-pub unwanted : (front : List Word) (t : List ℕ) → Wants front t → wants (run (Between true) front) t ≡ true
-unwanted front t h = wants_by front t (lives (run (Between true) front) (codes "a")) refl h
 
 pub open_ends : (q : State) (line : ℕ) → is_open q ≡ true → Ends q line []
 open_ends (Between b) line h = refl

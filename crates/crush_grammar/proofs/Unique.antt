@@ -21,10 +21,10 @@ use Rattle.crush_grammar.specs.declared.declaration.DeclaredRule.{DeclaredRule}
 use Rattle.crush_grammar.specs.declared.declaration.Declaration.{Declaration}
 use Rattle.crush_grammar.proofs.IsRead.{is_read}
 use Rattle.crush_grammar.proofs.Written.{is_written}
-use Rattle.crush_grammar.proofs.Endings.{Ends, is_dead, is_open, is_taken, wants, straw, code_at, run, ends_off, off_word, dead_ends}
+use Rattle.crush_grammar.proofs.Endings.{Ends, is_dead, is_open, is_taken, wants_alg, wants_weight, straw, code_at, run, ends_off, off_word, dead_ends}
 use Rattle.crush_grammar.proofs.Cuts.{onto, out, out_on, given_decls, said}
-use Rattle.crush_grammar.proofs.Lines.{unwanted, is_open_text, is_text_open, and_on, dead_decls}
-use Rattle.crush_grammar.proofs.Codes.{code_of, code_is, take_before}
+use Rattle.crush_grammar.proofs.Lines.{is_open_text, is_text_open, and_on, dead_decls}
+use Rattle.crush_grammar.proofs.Codes.{code_of, code_is, alg_before, take_before, weight_before}
 use Rattle.crush_grammar.proofs.Breaking.{breaks}
 use Rattle.crush_grammar.proofs.Whole.{one_place, not_both}
 
@@ -38,12 +38,12 @@ one_of false false true d = not d
 one_of false false false d = true
 
 -- a state wants a weight, or an algorithm, or may begin a declaration, or is behind a take, and no two of these
-pub one_at : (q : State) → one_of (wants q (codes "0.5")) (wants q (codes "tree")) (is_open q) (is_taken q) ≡ true
-unfolding step number_of weight_of integer_of name_of type_of tunable_of alg_of hash_of rule_id_of erasure_of firstn_of setting_of
-one_at (IdLines h None) = refl
-one_at (IdLines h (Some i)) = refl
-one_at (IdNumber h None i) = refl
-one_at (IdNumber h (Some j) i) = refl
+pub one_at : (q : State) → one_of (wants_weight q) (wants_alg q) (is_open q) (is_taken q) ≡ true
+one_at (AlgWord h i) = refl
+one_at (WeightWord b e) = refl
+one_at (Between early) = refl
+one_at (DeviceName l n x) = refl
+one_at (Taken r) = refl
 one_at other = refl
 
 pub six_is : (a m n k : Bool) → a ≡ true → X6 ≡ code_of a m n k
@@ -87,21 +87,21 @@ pub same_code : (front : List Word) (x : Word) (c : TextCode) → HasCode front 
 same_code front x X1 h = one_is front x (code_at (run (Between true) front) x) (code_is front x) h
 same_code front x X2 h =
     let q = run (Between true) front in
-    let b = and_on (wants q (codes "tree")) (straw x) (unwanted front (codes "tree") h.1) h.0 in
-    two_is (wants q (codes "0.5")) (wants q (codes "tree")) (is_open q) (is_taken q) (is_token x) (straw x) (is (codes "choose_args") x) (is (codes "class") x) (one_at q) b
+    let b = and_on (wants_alg q) (straw x) (alg_before front x h) h.0 in
+    two_is (wants_weight q) (wants_alg q) (is_open q) (is_taken q) (is_token x) (straw x) (is (codes "choose_args") x) (is (codes "class") x) (one_at q) b
 same_code front x X3 h =
     let q = run (Between true) front in
     let d = and_on (is_taken q) (is (codes "class") x) (take_before front x h) h.0 in
-    three_is (wants q (codes "0.5")) (wants q (codes "tree")) (is_open q) (is_taken q) (is_token x) (straw x) (is (codes "choose_args") x) (is (codes "class") x) (one_at q) d
+    three_is (wants_weight q) (wants_alg q) (is_open q) (is_taken q) (is_token x) (straw x) (is (codes "choose_args") x) (is (codes "class") x) (one_at q) d
 same_code front x X4 h =
     let q = run (Between true) front in
     let c = and_on (is_open q) (is (codes "choose_args") x) (is_text_open front h.1.0 h.1.1) h.0 in
-    four_is (wants q (codes "0.5")) (wants q (codes "tree")) (is_open q) (is_taken q) (is_token x) (straw x) (is (codes "choose_args") x) (is (codes "class") x) (one_at q) c
+    four_is (wants_weight q) (wants_alg q) (is_open q) (is_taken q) (is_token x) (straw x) (is (codes "choose_args") x) (is (codes "class") x) (one_at q) c
 same_code front x X5 h = absurd h
 same_code front x X6 h =
     let q = run (Between true) front in
-    let a = and_on (wants q (codes "0.5")) (is_token x) (unwanted front (codes "0.5") h.1) h.0 in
-    six_is (wants q (codes "0.5") && is_token x) (wants q (codes "tree") && straw x) (is_open q && is (codes "choose_args") x) (is_taken q && is (codes "class") x) a
+    let a = and_on (wants_weight q) (is_token x) (weight_before front x h) h.0 in
+    six_is (wants_weight q && is_token x) (wants_alg q && straw x) (is_open q && is (codes "choose_args") x) (is_taken q && is (codes "class") x) a
 same_code front x X7 h = absurd h
 same_code front x (Map c) h = absurd h
 

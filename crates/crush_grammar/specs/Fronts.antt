@@ -1,16 +1,19 @@
 -- Where words leave the grammar, and what is declared before.
-use Rattle.std.specs.Prelude.{◌≡◌, ℕ, suc, ◌<◌, ◌||◌, ◌⊎◌, true, codes, bytes_eq, Bool, List, [], ◌∷◌, ◌++◌, length, take, slice_get, IsSomeAnd, is_some}
+use Rattle.std.specs.Prelude.{◌≡◌, ℕ, suc, ◌<◌, ◌||◌, ◌⊎◌, true, codes, bytes_eq, Bool, List, [], ◌∷◌, ◌++◌, length, take, slice_get, Some, IsSomeAnd, is_some}
+use Rattle.crush_map.specs.declared.word.Weight.{Weight}
 use Rattle.crush_words.specs.Words.{Word}
 use Rattle.crush_grammar.specs.Sayings.{name_of}
 use Rattle.crush_grammar.specs.Syntax.{Declares}
 use Rattle.crush_grammar.specs.declared.code.TextCode.{TextCode}
 use Rattle.crush_grammar.specs.declared.code.TextCode.TheVariants.{X1, X2, X3, X4, X6}
 use Rattle.crush_grammar.specs.declared.code.TextFault.{TextFault}
+use Rattle.crush_grammar.specs.declared.declaration.DeclaredBucket.{DeclaredBucket}
+use Rattle.crush_grammar.specs.declared.declaration.DeclaredItem.{DeclaredItem}
 use Rattle.crush_grammar.specs.declared.declaration.DeclaredRule.{DeclaredRule}
 use Rattle.crush_grammar.specs.declared.declaration.DeclaredStep.{DeclaredStep}
 use Rattle.crush_grammar.specs.declared.declaration.DeclaredStep.TheVariants.{Take}
 use Rattle.crush_grammar.specs.declared.declaration.Declaration.{Declaration}
-use Rattle.crush_grammar.specs.declared.declaration.Declaration.TheVariants.{Rule}
+use Rattle.crush_grammar.specs.declared.declaration.Declaration.TheVariants.{Bucket, Rule}
 
 -- the words are the front of a text: with some words after them they are a text
 abbrev pub IsFront : List Word → Type 0
@@ -33,32 +36,41 @@ is text w = bytes_eq w.text text
 abbrev pub is_token : Word → Bool
 is_token w = is_some (name_of w.text) || is (codes "{") w || is (codes "}") w
 
--- a word with this text may stand after the front
-abbrev pub MayStand : List Word → List ℕ → Type 0
-MayStand front text = IsFront (front ++ record { line = 0; text = text } ∷ [])
+-- a word with this text; no line of a word decides whether words are a text
+abbrev pub word : List ℕ → Word
+word text = record { line = 0; text = text }
 
--- such a word may stand there, and the name a may not
-abbrev pub Wants : List Word → List ℕ → Type 0
-Wants front text = MayStand front text × ¬ (MayStand front (codes "a"))
-
--- straw or straw2 where the algorithm of a bucket is wanted
+-- straw or straw2 as the algorithm of a bucket: with list and a brace after it, the front is a text
+-- that ends with a bucket without items, so that list is the algorithm there
 abbrev pub IsStraw : List Word → Word → Type 0
-IsStraw front w = ((is (codes "straw") w || is (codes "straw2") w) ≡ true) × Wants front (codes "tree")
+IsStraw front w =
+    ((is (codes "straw") w || is (codes "straw2") w) ≡ true)
+    × ((ds : List Declaration) × (b : DeclaredBucket)
+    × Declares (front ++ word (codes "list") ∷ word (codes "}") ∷ []) (ds ++ Bucket b ∷ []) × (b.items ≡ []))
 
 -- class after a take step: with a brace after it, the front is a text that ends with a rule whose last step is that take
 abbrev pub IsClassOfTake : List Word → Word → Type 0
 IsClassOfTake front w =
     (is (codes "class") w ≡ true)
     × ((ds : List Declaration) × (r : DeclaredRule) × (before : List DeclaredStep) × (name : List ℕ)
-    × Declares (front ++ record { line = 0; text = codes "}" } ∷ []) (ds ++ Rule r ∷ []) × (r.steps ≡ before ++ Take name ∷ []))
+    × Declares (front ++ word (codes "}") ∷ []) (ds ++ Rule r ∷ []) × (r.steps ≡ before ++ Take name ∷ []))
 
 -- choose_args where a declaration may begin
 abbrev pub IsChooseArgs : List Word → Word → Type 0
 IsChooseArgs front w = (is (codes "choose_args") w ≡ true) × IsWhole front
 
--- a word where a weight is wanted
+-- 0.5 in 16.16 fixed point
+abbrev pub one_half : Weight
+one_half = record { 0 = 32768 }
+
+-- a name or a brace as the weight of an item: with 0.5 and a brace after it, the front is a text
+-- that ends with a bucket whose last item has the weight 0.5, so that 0.5 is the weight there
 abbrev pub IsNoWeight : List Word → Word → Type 0
-IsNoWeight front w = (is_token w ≡ true) × Wants front (codes "0.5")
+IsNoWeight front w =
+    (is_token w ≡ true)
+    × ((ds : List Declaration) × (b : DeclaredBucket) × (before : List DeclaredItem) × (item : DeclaredItem)
+    × Declares (front ++ word (codes "0.5") ∷ word (codes "}") ∷ []) (ds ++ Bucket b ∷ [])
+    × (b.items ≡ before ++ item ∷ []) × (item.weight ≡ Some one_half))
 
 -- the code of a word that leaves the grammar after a front
 abbrev pub HasCode : List Word → Word → TextCode → Type 0
@@ -71,14 +83,14 @@ HasCode front w other = ⊥
 
 -- ---- what is declared before a fault
 
--- the words xs are whole, and the words ys after them begin one more declaration
-abbrev pub IsCut : List Word → List Word → Type 0
-IsCut xs ys = (more : List Word) × (d : Declaration) × Declares (ys ++ more) (d ∷ [])
+-- the words begin one declaration: with some words after them they are a text that declares it alone
+abbrev pub BeginsOne : List Word → Type 0
+BeginsOne ys = (more : List Word) × (d : Declaration) × Declares (ys ++ more) (d ∷ [])
 
 -- what a front declares: all, if it is whole; else all declarations before the one that it breaks off.
 -- So a word that does not continue a device that is whole belongs to the next declaration.
 abbrev pub FrontDeclares : List Word → List Declaration → Type 0
-FrontDeclares front ds = Declares front ds ⊎ (¬ (IsWhole front) × ((xs : List Word) × (ys : List Word) × (front ≡ xs ++ ys) × Declares xs ds × IsCut xs ys))
+FrontDeclares front ds = Declares front ds ⊎ (¬ (IsWhole front) × ((xs : List Word) × (ys : List Word) × (front ≡ xs ++ ys) × Declares xs ds × BeginsOne ys))
 
 -- ---- faults of the form
 

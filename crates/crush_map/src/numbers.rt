@@ -14,7 +14,8 @@ pub const NUMBERS: usize = 65_536;
 /// The longest list without a table: to search it takes less time than to clear a table.
 const SHORT: usize = 64;
 
-/// Numbers in the order in which they were added. The table is empty as long as the list is short.
+/// Numbers in the order in which they were added. The table may be empty only as long as the list is
+/// short.
 #[derive(Drop)]
 pub struct Numbers {
     alloc: Global,
@@ -92,11 +93,12 @@ impl Numbers {
         requires { number < NUMBERS }
         ensures { OnOk result (self.new ≡ self.old ++ number ∷ []) }
     {
+        if self.table.is_empty() && self.order.len() >= SHORT {
+            self.table = table_of(self.alloc, self.order.as_slice())?;
+        }
         self.order.push(number)?;
         if !self.table.is_empty() {
             self.table[number as usize] = true;
-        } else if self.order.len() > SHORT {
-            self.table = table_of(self.alloc, self.order.as_slice())?;
         }
         Ok(())
     }

@@ -1,6 +1,6 @@
 //! Laws of the definitions: each contract holds of the definitions alone.
 
-ghost use Rattle.std.specs.Prelude.{◌≡◌, ◌≢◌, ◌<◌, ◌≤◌, ◌+◌, ◌*◌, ℕ, slice_index};
+ghost use Rattle.std.specs.Prelude.{◌≡◌, ◌≢◌, ◌⊎◌, ◌<◌, ◌≤◌, ◌+◌, ◌*◌, ℕ, slice_index};
 ghost use Rattle.std.specs.List.{range_with_len};
 ghost use Rattle.std.specs.List.Sorted.{IsPermutation};
 ghost use Rattle.crush_map.specs.declared.ItemId.{ItemId};
@@ -12,8 +12,9 @@ pub fn permutation_has_each_place()
     ensures places { (id : ItemId) (size x place : ℕ) → place < size → slice_index (permutation id size x) place < size }
 {}
 
-/// What a question for a new input makes a scratch keep: at most twice as many places as exchanges, and none before the first question.
+/// A new scratch keeps no place. The first question for an input makes it keep at most twice as many places as exchanges; for a new scratch each
+/// input is asked for the first time, 0 too, which it remembers without an exchange.
 pub fn a_perm_keeps_few_places()
     ensures none { (of : PermView) (x : ℕ) → kept (record { of = of; x = x; swaps = 0 }) ≡ 0 }
-    ensures few { (m : Remembered) (x place : ℕ) → m.x ≢ x → place < m.of.size → kept (asked m x place) ≤ 2 * (place + 1) }
+    ensures few { (m : Remembered) (x place : ℕ) → m.x ≢ x ⊎ m.swaps ≡ 0 → place < m.of.size → kept (asked m x place) ≤ 2 * (place + 1) }
 {}

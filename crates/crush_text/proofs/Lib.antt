@@ -20,3 +20,4 @@ pub mod FirstOfName
 pub mod Named
 pub mod Faultless
 pub mod Texts
+mod ReadBack

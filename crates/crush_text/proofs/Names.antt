@@ -14,7 +14,7 @@ use Rattle.crush_map.specs.declared.draft.MapDraft.{MapDraft}
 use Rattle.crush_map.specs.Map.{Map}
 use Rattle.crush_map.specs.Sound.{IsEachOnce, same_id, has_type, has_item, has_device, has_bucket}
 use Rattle.crush_writing.specs.Canonical.{type_name, device_name, bucket_name, item_name}
-use Rattle.crush_text.specs.Judging.{item_named, of_device, of_bucket, undeclared}
+use Rattle.crush_text.specs.Judging.{item_named, of_device, of_bucket, undeclared, undeclared_number}
 use Rattle.crush_text.proofs.Found.{any_named, first_name, find_none, find_once, get_before, get_behind, get_mapped}
 
 -- ---- names are those of the first
@@ -70,11 +70,11 @@ by_name name xs wanted i x at is once =
     (get_mapped name xs i x at ∙ ap (λ n. Some n) (sym is)))
 
 pub type_comes_back : (types : List TypeName) (n : ℕ) → IsEachOnce (map (λ t. t.name) types) → has_type types n ≡ true →
-    option_map_or (λ t. t.number) (find (λ t. bytes_eq t.name (type_name types n)) types) 65536 ≡ n
+    option_map_or (λ t. t.number) (find (λ t. bytes_eq t.name (type_name types n)) types) undeclared_number ≡ n
 type_comes_back types n once has =
     let w = any_named (λ t. t.number == n) (λ t. t.name) types [] has in
     let name : type_name types n ≡ w.element.name = type_first types n ∙ (ap (first_name (λ t. t.number == n) (λ t. t.name)) (sym (append-nil types)) ∙ w.is) in
-    ap (λ o. option_map_or (λ t. t.number) o 65536) (by_name (λ t. t.name) types (type_name types n) w.place w.element w.at name once) ∙ is_same w.element.number n w.passes
+    ap (λ o. option_map_or (λ t. t.number) o undeclared_number) (by_name (λ t. t.name) types (type_name types n) w.place w.element w.at name once) ∙ is_same w.element.number n w.passes
 
 -- ---- items
 

@@ -1,7 +1,7 @@
 -- What declarations make of a map, and the first of them that has a fault.
 --
 -- They are judged in the order of the text, each behind those before it, by the checks by which the elements of a draft are judged.
-use Rattle.std.specs.Prelude.{ℕ, ℤ, pos, negsuc, min, ◌==◌, ◌&&◌, not, Bool, true, false, List, [], ◌∷◌, ◌++◌, map, fold, find, filter_map, bytes_eq, unwrap_or, option_map, Option, Some, None}
+use Rattle.std.specs.Prelude.{ℕ, ℤ, pos, negsuc, min, ◌+◌, ◌==◌, ◌&&◌, not, Bool, true, false, List, [], ◌∷◌, ◌++◌, map, fold, find, filter_map, bytes_eq, unwrap_or, option_map, Option, Some, None}
 use Rattle.std.specs.Option.{option_map_or}
 use Rattle.crush_map.specs.declared.fault.FaultCode.{FaultCode}
 use Rattle.crush_map.specs.declared.fault.FaultCode.TheVariants.{M3, M12, M13}
@@ -15,7 +15,7 @@ use Rattle.crush_map.specs.declared.draft.MapDraft.{MapDraft}
 use Rattle.crush_map.specs.declared.word.ItemId.{ItemId}
 use Rattle.crush_map.specs.declared.word.Weight.{Weight}
 use Rattle.crush_map.specs.Weights.{total_weight}
-use Rattle.crush_map.specs.Faults.{◌when◌, or_else, first_of, Known, nothing, has_number, are_in_range, type_fault, device_fault, bucket_fault, rule_head_fault, step_fault, end_fault, with_type, with_device, with_bucket, with_rule}
+use Rattle.crush_map.specs.Faults.{number_limit, ◌when◌, or_else, first_of, Known, nothing, has_number, are_in_range, type_fault, device_fault, bucket_fault, rule_head_fault, step_fault, end_fault, with_type, with_device, with_bucket, with_rule}
 use Rattle.crush_text.specs.Places.{wrong_place, in_place}
 use Rattle.crush_grammar.specs.declared.code.TextCode.TheVariants.{X5, Map}
 use Rattle.crush_grammar.specs.declared.code.TextFault.{TextFault}
@@ -64,10 +64,14 @@ abbrev pub fitted_integer : ℤ → ℤ
 fitted_integer (pos n) = pos (min n 2147483647)
 fitted_integer (negsuc n) = negsuc (min n 2147483647)
 
--- ---- names: one that is not declared stands for 65536, which is the number of no type and the id of no item
+-- ---- names: one that is not declared stands for the number past the limit
+
+-- no type has this number, and no item has it as its id
+abbrev pub undeclared_number : ℕ
+undeclared_number = number_limit + 1
 
 abbrev pub type_number : MapDraft → List ℕ → ℕ
-type_number d name = option_map_or (λ t. t.number) (find (λ t. bytes_eq t.name name) d.types) 65536
+type_number d name = option_map_or (λ t. t.number) (find (λ t. bytes_eq t.name name) d.types) undeclared_number
 
 -- an id, and the weight of an item where none is said: 1.0 for a device, the sum of its items for a bucket
 abbrev pub of_device : Device → ItemId × Weight
@@ -77,7 +81,7 @@ abbrev pub of_bucket : Bucket → ItemId × Weight
 of_bucket b = (b.id, record { 0 = total_weight b.items })
 
 abbrev pub undeclared : ItemId × Weight
-undeclared = (record { 0 = pos 65536 }, record { 0 = 65536 })
+undeclared = (record { 0 = pos undeclared_number }, record { 0 = 65536 })
 
 abbrev pub item_named : MapDraft → List ℕ → ItemId × Weight
 item_named d name = option_map_or of_device (find (λ x. bytes_eq x.name name) d.devices) (option_map_or of_bucket (find (λ b. bytes_eq b.name name) d.buckets) undeclared)

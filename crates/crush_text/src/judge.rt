@@ -12,7 +12,7 @@ ghost use Rattle.crush_grammar.specs.declared.code.TextCode.TheVariants as codes
 
 use crate::fit::{fitted, fitted_integer};
 use crate::places::{arranged, free_places, with_item, wrong_place};
-use crate::tables::{BucketTable, DeviceTable, type_number};
+use crate::tables::{BucketTable, DeviceTable, UNDECLARED, type_number};
 use crush_grammar::{
     Declaration, DeclaredBucket, DeclaredDevice, DeclaredItem, DeclaredRule, DeclaredStep,
     DeclaredTunable, DeclaredType, Setting, TextCode, TextFault, TunableName,
@@ -226,7 +226,7 @@ impl Judge {
             Some(item) => item,
             None => match self.buckets.item(name) {
                 Some(item) => item,
-                None => (ItemId(65_536), Weight(65_536)),
+                None => (ItemId(UNDECLARED as i32), Weight(65_536)),
             },
         }
     }

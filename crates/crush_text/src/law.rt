@@ -1,6 +1,6 @@
 //! What holds of every text of a map. A call does nothing: its caller learns the law.
 
-ghost use Rattle.std.specs.Prelude.{◌≡◌, ◌↔◌, ◌⊎◌, ℕ, List, Ok, Err};
+ghost use Rattle.std.specs.Prelude.{◌≡◌, ◌↔◌, ◌⊎◌, ℕ, List, Result, Ok, Err, IfOk, IfErr};
 ghost use Rattle.std.specs.Str.{IsAscii, IsUtf8};
 ghost use Rattle.crush_grammar.specs.declared.code.TextFault.{TextFault};
 ghost use Rattle.crush_map.specs.Map.{Map, IsMap};
@@ -72,5 +72,22 @@ pub fn texts_have_a_map_or_one_fault()
     ensures either { (text : List ℕ) → ((m : Map) × IsTextOf text m) ⊎ ((f : TextFault) × HasFirstFault text f) }
     ensures one_fault { (text : List ℕ) (f g : TextFault) → HasFirstFault text f → HasFirstFault text g → f ≡ g }
 {
+    texts_are_read_as_they_say();
+}
+
+/// What is written of a map is read back as that map: by `read_stored`, and by `read_map` where it
+/// isn't over the length limit of an import.
+///
+/// `imported` and `stored` say so of the functions of a text. `by_read_map` and `by_read_stored` say
+/// so of the calls: on what `write_map` writes of a map, each answer that their contracts allow is
+/// that map.
+pub fn written_maps_are_read_back()
+    ensures imported { (m : Map) → IsMap m → IsShort (canonical m) → map_of_text (canonical m) ≡ Ok m }
+    ensures stored { (m : Map) → IsMap m → map_of_stored_text (canonical m) ≡ Ok m }
+    ensures by_read_map { (m : Map) (answer : Result Map TextFault) → IsMap m → IsShort (canonical m) → IfOk answer (λ n. IsShort (canonical m) × IsTextOf (canonical m) n) → IfErr answer (λ f. IsRefusedFor (canonical m) f) → answer ≡ Ok m }
+    ensures by_read_stored { (m : Map) (answer : Result Map TextFault) → IsMap m → IfOk answer (λ n. IsTextOf (canonical m) n) → IfErr answer (λ f. HasFirstFault (canonical m) f) → answer ≡ Ok m }
+{
+    canonical_texts_are_read();
+    texts_of_maps_have_no_fault();
     texts_are_read_as_they_say();
 }

@@ -16,6 +16,7 @@ pub use crush_writing::write_map;
 pub use law::{
     canonical_texts_are_ascii, canonical_texts_are_read, texts_are_read_as_they_say,
     texts_have_a_map_or_one_fault, texts_of_maps_have_no_fault, texts_say_one_map,
+    written_maps_are_read_back,
 };
 pub use name::code_text;
 pub use read::{read_map, read_stored};

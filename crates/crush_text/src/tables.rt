@@ -4,24 +4,29 @@ ghost use Rattle.std.specs.Prelude.{◌≡◌, ◌≤◌, ◌++◌, ◌∷◌, [
 ghost use Rattle.std.specs.BTreeMap.{get_by_text};
 ghost use Rattle.std.specs.Option.{option_map_or};
 ghost use Rattle.crush_map.specs.Weights.{total_weight};
-ghost use Rattle.crush_text.specs.Judging.{of_bucket, of_device};
+ghost use Rattle.crush_text.specs.Judging.{of_bucket, of_device, undeclared_number};
 ghost use Rattle.crush_text.specs.Private.Tables.{first_value};
 
+use crush_map::limits::NUMBER_LIMIT;
 use crush_map::{Bucket, Device, ItemId, TypeName, Weight, total_weight};
 use std::alloc::{AllocError, Global};
 use std::collections::BTreeMap;
 use std::marker::Model;
 
-/// The number of the type of a name, or 65536. A map has at most 32 types, so they are looked through.
+/// The number that no type has, and no item as its id. A name that isn't declared stands for it.
+pub(crate) const UNDECLARED: u32 = NUMBER_LIMIT + 1;
+
+/// The number of the type of a name, or `UNDECLARED`. A map has at most 32 types, so they are
+/// looked through.
 pub(crate) fn type_number(types: &[TypeName], name: &str) -> u32
-    ensures { result ≡ option_map_or (λ t. t.number) (find (λ t. bytes_eq t.name name.now) types.now) 65536 }
+    ensures { result ≡ option_map_or (λ t. t.number) (find (λ t. bytes_eq t.name name.now) types.now) undeclared_number }
 {
     for declared in types {
         if declared.name.as_str() == name {
             return declared.number;
         }
     }
-    65_536
+    UNDECLARED
 }
 
 /// Adds the item of a name, unless the name has one. After `AllocError` the index is as it was.

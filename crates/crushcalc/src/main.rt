@@ -3,7 +3,7 @@
 
 use clap::error::ErrorKind;
 use clap::{Arg, ArgAction, Command, Error};
-use crush_app::{CheckEnd, ScriptEnd, Service, check_run, script_run};
+use crush_app::{CheckEnd, ScriptEnd, check_run, script_in_memory};
 use std::alloc::{AllocError, Global};
 use std::fs::File;
 use std::process::ExitCode;
@@ -105,9 +105,7 @@ fn read_arguments(alloc: Global, arguments: &[String]) -> Result<Invocation<'_>,
 
 /// Serves the lines of standard input, with no tenant at first.
 fn run_script<R: AllocGlobal + Input + Print>(rt: &R) -> Result<(), Stop> {
-    let alloc = rt.alloc();
-    let mut service = Service::in_memory(alloc)?;
-    match script_run(alloc, &mut service, &mut rt.reader(), &mut io::writer(rt))? {
+    match script_in_memory(rt.alloc(), &mut rt.reader(), &mut io::writer(rt))? {
         ScriptEnd::Done => Ok(()),
         ScriptEnd::TooLong => Err(Stop::TooLong),
         ScriptEnd::ReadFault => Err(Stop::ReadFault),

@@ -158,6 +158,17 @@ const LIGHT_HOST: Example<'static> = Example {
     ..NOTHING
 };
 
+/// Hosts of one device each, and a root of the hosts -2 and -3 of which the second has no weight, so that it is never chosen.
+const SINGLE_HOSTS: Example<'static> = Example {
+    buckets: &[
+        (-1, "first", 1, Uniform, &[(0, ONE)]),
+        (-2, "second", 1, List, &[(1, ONE)]),
+        (-3, "light", 1, List, &[(2, ONE)]),
+        (-4, "root", 10, List, &[(-2, ONE), (-3, 0)]),
+    ],
+    ..NOTHING
+};
+
 /// A leaf of indep starts from the attempt of its bucket: an even attempt for the leaf picks device 1, which is out, and an odd one device 0.
 const LEAVES: Example<'static> = Example {
     buckets: &[
@@ -252,6 +263,69 @@ const EXAMPLES: &[Example] = &[
         items: &[Some(ItemId(0)), None],
         trace: &[0],
         ..LEAVES
+    },
+    // a leaf that doesn't descend once has as many tries as are set for items, here one, and not those of the map's tunables
+    Example {
+        tunables: LEGACY,
+        steps: &[
+            Step::SetChooseTries(1),
+            Step::Take(ItemId(-2)),
+            choose!(true, true, 1, 1),
+            Step::Emit,
+        ],
+        ..LEAVES
+    },
+    Example {
+        tunables: LEGACY,
+        steps: &[
+            Step::SetChooseTries(2),
+            Step::Take(ItemId(-2)),
+            choose!(true, true, 1, 1),
+            Step::Emit,
+        ],
+        items: &[Some(ItemId(0))],
+        trace: &[0],
+        ..LEAVES
+    },
+    // a choose step passes over a device of the working list
+    Example {
+        steps: &[
+            Step::Take(ItemId(0)),
+            choose!(true, false, 1, 0),
+            Step::Emit,
+        ],
+        ..NOTHING
+    },
+    // device 0 of the first choose step is dropped by the second take, and stays in the trace
+    Example {
+        steps: &[
+            TAKE,
+            choose!(true, false, 1, 0),
+            Step::Take(ItemId(-4)),
+            choose!(true, false, 2, 1),
+            choose!(true, false, 1, 0),
+            Step::Emit,
+        ],
+        size: 2,
+        items: &[Some(ItemId(1))],
+        trace: &[0, 1],
+        ..SINGLE_HOSTS
+    },
+    // device 1 is dropped where the third choose step passes over it
+    Example {
+        steps: &[
+            TAKE,
+            choose!(true, false, 1, 0),
+            Step::Emit,
+            Step::Take(ItemId(-4)),
+            choose!(true, true, 1, 1),
+            choose!(true, false, 1, 0),
+            Step::Emit,
+        ],
+        size: 2,
+        items: &[Some(ItemId(0))],
+        trace: &[0, 1],
+        ..SINGLE_HOSTS
     },
 ];
 

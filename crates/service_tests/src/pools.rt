@@ -1,5 +1,6 @@
 //! Devices, pools and groups over a store in memory.
 
+use crate::maps::SECOND;
 use crate::rows::{
     CREATION_OF_A, CREATION_OF_B, IMPORT_BY_A, IMPORT_BY_B, Row, assert_each_alone, pool,
 };
@@ -21,11 +22,17 @@ const OBJECT: &str = "{\"name\":\"a\"}";
 const BARE: &str =
     "{\"request\":\"m4\",\"text\":\"tunable choose_local_tries 0 tunable choose_local_fallback_tries 0 type 0 osd\"}";
 
+/// Takes device 3 out. The request number is one byte, a NUL.
+const OUT_BY_NUL: &str = "{\"request\":\"\\u0000\",\"devices\":[{\"id\":3,\"reweight\":0}]}";
+
+/// Takes it in under the same number.
+const IN_BY_NUL: &str = "{\"request\":\"\\u0000\",\"devices\":[{\"id\":3,\"reweight\":65536}]}";
+
 /// Removes the pool.
 const GONE: &str = "{\"request\":\"e1\",\"id\":1}";
 
 /// Calls of two tenants in turn. The hash of 0 and 1, which is the seed of group 0 of pool 1, is 91478055.
-const ROWS: [Row; 24] = [
+const ROWS: [Row; 35] = [
     CREATION_OF_A,
     CREATION_OF_B,
     (
@@ -45,6 +52,49 @@ const ROWS: [Row; 24] = [
         "",
         200,
         "{\"epoch\":2,\"group\":0,\"primary\":0,\"raw\":[0],\"seed\":91478055,\"up\":[0],\"version\":1}",
+    ),
+    // numbers of 2^32 and 2^32 + 1, which are compared as a whole
+    (
+        "GET",
+        "/t/a/maps/4294967297",
+        "",
+        404,
+        "{\"error\":\"no_version\"}",
+    ),
+    (
+        "GET",
+        "/t/a/maps/4294967296",
+        "",
+        404,
+        "{\"error\":\"no_version\"}",
+    ),
+    (
+        "GET",
+        "/t/a/pools/1/groups/4294967296",
+        "",
+        404,
+        "{\"error\":\"no_group\"}",
+    ),
+    (
+        "GET",
+        "/t/a/pools/4294967297/groups/0",
+        "",
+        404,
+        "{\"error\":\"no_pool\"}",
+    ),
+    (
+        "POST",
+        "/t/a/pools/4294967297/locate",
+        OBJECT,
+        404,
+        "{\"error\":\"no_pool\"}",
+    ),
+    (
+        "GET",
+        "/t/a/pools/4294967297/usage",
+        "",
+        404,
+        "{\"error\":\"no_pool\"}",
     ),
     (
         "POST",
@@ -145,6 +195,42 @@ const ROWS: [Row; 24] = [
         "",
         200,
         "{\"devices\":0,\"epoch\":2,\"pools\":1,\"tenant\":\"b\",\"versions\":1}",
+    ),
+    (
+        "POST",
+        "/t/b/devices",
+        OUT_BY_NUL,
+        200,
+        "{\"devices\":1,\"epoch\":3}",
+    ),
+    (
+        "POST",
+        "/t/b/maps",
+        SECOND,
+        201,
+        "{\"epoch\":4,\"version\":2}",
+    ),
+    // an older version, with the states of devices as they are now
+    (
+        "POST",
+        "/t/b/test",
+        "{\"rule\":0,\"size\":2,\"version\":1,\"x\":5}",
+        200,
+        "{\"epoch\":4,\"items\":[null,null],\"trace\":[],\"version\":1}",
+    ),
+    (
+        "POST",
+        "/t/b/devices",
+        OUT_BY_NUL,
+        200,
+        "{\"devices\":1,\"epoch\":3}",
+    ),
+    (
+        "POST",
+        "/t/b/devices",
+        IN_BY_NUL,
+        409,
+        "{\"error\":\"request_reused\"}",
     ),
 ];
 

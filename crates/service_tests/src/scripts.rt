@@ -1,7 +1,7 @@
 //! Scripts and runs on the service over a store in memory.
 
 use crate::rows::{CREATION_OF_A, CREATION_OF_B, Row, assert_requests, assert_run};
-use crush_app::{ScriptEnd, Service, script_run};
+use crush_app::{ScriptEnd, Service, script_in_memory, script_run};
 use std::alloc::{AllocError, Global};
 use std::io::{self, ErrorKind, Read, Write};
 use std::test::Fail;
@@ -78,6 +78,22 @@ fn a_script_is_played_whatever_one_read_and_one_write_take(rt: HostRuntime) -> R
     let (end, written) = play(rt.alloc(), 10_000, 10_000)?;
     assert_eq!(rt; end, ScriptEnd::Done);
     assert_eq!(rt; written.as_slice(), REPLIES.as_bytes());
+    Ok(())
+}
+
+#[test]
+fn a_script_is_played_in_memory_from_nothing(rt: HostRuntime) -> Result<(), Fail> {
+    let mut reader = Reader {
+        rest: SCRIPT.as_bytes(),
+        reads: 10_000,
+    };
+    let mut writer = Writer {
+        taken: Vec::new(rt.alloc()),
+        writes: 10_000,
+    };
+    let end = script_in_memory(rt.alloc(), &mut reader, &mut writer)?;
+    assert_eq!(rt; end, ScriptEnd::Done);
+    assert_eq!(rt; writer.taken.as_slice(), REPLIES.as_bytes());
     Ok(())
 }
 

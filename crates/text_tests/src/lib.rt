@@ -6,6 +6,8 @@ mod form;
 #[cfg(test)]
 mod jewel;
 #[cfg(test)]
+mod legacy;
+#[cfg(test)]
 mod lines;
 #[cfg(test)]
 mod read;

@@ -50,6 +50,43 @@ const OF_FORM: &[Row] = &[
         4,
         X6,
     ),
+    // bytes that are no blanks here
+    ("device\x0c0 a", 1, X1),
+    ("device\x0b0 a", 1, X1),
+    ("device\x000 a", 1, X1),
+    // at most one min_size, and behind it at most one max_size
+    (
+        "rule q { id 0 type erasure max_size 3 min_size 1 step emit }",
+        1,
+        X1,
+    ),
+    (
+        "rule q { id 0 type erasure min_size 1 min_size 1 step emit }",
+        1,
+        X1,
+    ),
+    (
+        "rule q { id 0 type erasure\nmax_size 1\nmax_size 1\nstep emit }",
+        3,
+        X1,
+    ),
+    ("rule q { id 0 type erasure\nstep take r\nclass ssd", 3, X3),
+    // a place is compared as a whole number, and its line is that of the number
+    (
+        "root default {\n id -1\n alg list\n item osd.0 pos 4294967296\n}",
+        4,
+        X5,
+    ),
+    (
+        "root default {\n id -1\n alg list\n item b pos 1\n item a pos\n 1\n}",
+        6,
+        X5,
+    ),
+    (
+        "root default {\n id -1\n alg list\n item b pos 1\n item a\n pos\n 1\n}",
+        7,
+        X5,
+    ),
 ];
 
 #[test]
@@ -109,6 +146,23 @@ const OF_DECLARATIONS: &[Row] = &[
     ),
     ("type 0 rule", 1, Map(M15)),
     ("type 0 osd\ntype 1 rule", 2, Map(M15)),
+    // the line is that of the first word
+    ("tunable\nchoose_total_tries 1000", 1, Map(M12)),
+    ("device\n65536 a", 1, Map(M12)),
+    ("type 0 osd\ntype\n65536 host", 2, Map(M12)),
+    ("type 0 osd\nosd\na { id -1 alg list }", 2, Map(M9)),
+    (
+        "type 0 osd\nrule\nq { id 256 type replicated step emit }",
+        2,
+        Map(M12),
+    ),
+    // both local tunables have to be named
+    ("tunable choose_local_tries 0\ntype 0 osd", 2, Map(M13)),
+    (
+        "tunable choose_local_fallback_tries 0\ntype 0 osd",
+        2,
+        Map(M13),
+    ),
 ];
 
 #[test]

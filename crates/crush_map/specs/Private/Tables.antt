@@ -8,10 +8,15 @@ pub record IsTableOf (numbers : List ℕ) (table : List Bool) : Type 0 where
   pub size : length table ≡ 65536
   pub seen : (n : ℕ) → slice_index_or table n false ≡ has_number numbers n
 
--- the same, where a list may have an empty table
+-- the longest list that may have an empty table
+abbrev pub short_list : ℕ
+short_list = 64
+
+-- the same, where a short list may have an empty table, and a longer one has its table
 pub record IsIndexOf (numbers : List ℕ) (table : List Bool) : Type 0 where
   pub below : All (λ n. n < 65536) numbers
   pub flags : 0 < length table → IsTableOf numbers table
+  pub long : short_list < length numbers → 0 < length table
 
 -- -65536 to 65535: the ids of which a table is kept
 abbrev pub is_id : ℤ → Bool

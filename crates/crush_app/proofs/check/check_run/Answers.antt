@@ -5,7 +5,7 @@ use Rattle.crush_app.proofs.check.check_run.Goals as goal
 -- the input is a text of a map
 pub returns-then-verdict-clause-of_map : goal.returns-then-verdict-clause-of_map
 returns-then-verdict-clause-of_map g c =
-    λ _. map_accepted c.texts_say_one_map.ensures c.texts_of_maps_have_no_fault.ensures _ _ _ _ (string_bytes c.in-Some.verdict.line) c.in-Some.verdict.accepted c.if-verdict.true (search rules) (search rules)
+    λ _. map_accepted c.texts_say_one_map.ensures _ _ _ _ (string_bytes c.in-Some.verdict.line) c.in-Some.verdict.accepted c.if-verdict.true (search rules) (search rules)
 
 pub returns-then-verdict-clause-of_fault : goal.returns-then-verdict-clause-of_fault
 returns-then-verdict-clause-of_fault g c = λ _. fault_accepted c.texts_of_maps_have_no_fault.ensures _ _ _ _ _ (string_bytes c.in-Some.verdict.line) c.in-Some.verdict.accepted c.if-verdict.true (search rules)

@@ -1,0 +1,11 @@
+-- The store in memory is honest and has no tenant at first, so each premise of `script_run` holds.
+use Rattle.crush_app.proofs.FromNothing.{script_done, script_cut}
+use Rattle.crush_app.proofs.from_nothing.script_in_memory.Goals as goal
+
+pub returns-clause-done : goal.returns-clause-done
+returns-clause-done g c done =
+    script_done _ _ _ _ _ c.in_ok-service.ensures (c.script_run.ensures.done (c.memory_stores_are_honest.ensures.honest c.script_run.new.service) done)
+
+pub returns-clause-cut : goal.returns-clause-cut
+returns-clause-cut g c cut =
+    script_cut _ _ _ _ _ c.in_ok-service.ensures (c.script_run.ensures.cut (c.memory_stores_are_honest.ensures.honest c.script_run.new.service) cut)

@@ -1,0 +1,56 @@
+//! Scripts that are played from nothing: a service over a new store serves their lines.
+
+ghost use Rattle.std.specs.Prelude.{◌≡◌, ◌≤◌, ◌<◌, ◌+◌, length, IfSome};
+ghost use Rattle.std.specs.Io.KnownBytes.{Keeps as KeepsBytes};
+ghost use Rattle.crush_app.specs.Input.{DropsFirst};
+ghost use Rattle.crush_app.specs.End.{ServesLines, ServesNone, ReadsInput};
+ghost use Rattle.crush_app.specs.FromNothing.{PlaysFromNothing, PlaysUpToFromNothing, WritesHeadlineFromNothing};
+ghost use Rattle.crush_app.specs.Script.{messages, input_limit, OfScript};
+
+use crate::laws::memory_stores_are_honest;
+use crate::play::{ScriptEnd, script_run};
+use crate::service::Service;
+use std::alloc::{AllocError, Global};
+use std::io::{Read, Write};
+
+/// Plays a script on a service over a new store in memory, as `script_run` does. The service is gone afterwards.
+///
+/// The clauses have no premise. They speak of an input, which is what the reader had where
+/// contracts know its bytes.
+/// The only `Err` is that an allocation for the service or for the script itself failed: then no
+/// line was served.
+#[tactic(auto, using(crate::proofs::FromNothing::script_headline))]
+pub fn script_in_memory<R: Read, W: Write>(
+    alloc: Global,
+    reader: &mut R,
+    writer: &mut W,
+) -> Result<ScriptEnd, AllocError>
+    // The headline, from nothing: for every tenant, the written replies other than 503 are those of
+    // the definition, run over just the calls that have such a reply.
+    ensures headline { ServesLines result → OfScript (R.remaining reader.old)
+        (λ input. WritesHeadlineFromNothing (messages input) (W.contents writer.old) (W.contents writer.new)) }
+
+    // `Done`: all lines of the input were served; their replies were written, and nothing else.
+    ensures done { result ≡ Ok ScriptEnd.Done → OfScript (R.remaining reader.old)
+        (λ input. PlaysFromNothing (messages input) (W.contents writer.old) (W.contents writer.new)) }
+
+    // `WriteFault`: the replies before the failed one were written whole, that one in part, and no
+    // later line was served.
+    ensures cut { result ≡ Ok ScriptEnd.WriteFault → OfScript (R.remaining reader.old)
+        (λ input. PlaysUpToFromNothing (messages input) (W.contents writer.old) (W.contents writer.new)) }
+
+    // An input is too long exactly by its length.
+    ensures short { ServesLines result → IfSome (R.remaining reader.old) (λ input. length input ≤ input_limit) }
+    ensures long { result ≡ Ok ScriptEnd.TooLong → IfSome (R.remaining reader.old) (λ input. input_limit < length input) }
+
+    // Served or too long: of what the reader had the first 67,108,865 bytes were read, and the rest
+    // is left.
+    ensures rest { ReadsInput result → DropsFirst (input_limit + 1) (R.remaining reader.old) (R.remaining reader.new) }
+
+    // Otherwise nothing was written.
+    ensures silent { ServesNone result → KeepsBytes (W.contents writer.old) (W.contents writer.new) }
+{
+    memory_stores_are_honest();
+    let mut service = Service::in_memory(alloc)?;
+    script_run(alloc, &mut service, reader, writer)
+}
