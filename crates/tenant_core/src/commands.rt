@@ -11,8 +11,7 @@ ghost use Rattle.tenant_messages.specs.Reply.{reply};
 ghost use Rattle.tenant_state.specs.State.{TenantState};
 
 use crush_map::{Listed, Text};
-use crush_pool::Pool;
-use crush_report::DeviceChange;
+use crush_pool::{DeviceChange, Pool};
 use std::alloc::{AllocError, Global};
 use std::marker::Model;
 use std::rc::Rc;

@@ -4,8 +4,8 @@ use Rattle.std.specs.Bool.{Decides}
 use Rattle.std.specs.List.{All, AllPairs, list_any}
 use Rattle.std.proofs.lemmas.Bool.Decides.{nat_tests, Decides-and, Decides-by_and, Decides-eqb, Decides-like, Decides-not}
 use Rattle.std.proofs.lemmas.List.Kept.{AllPairs-cons}
-use Rattle.crush_report.specs.Changes.{is_of_device, are_distinct, is_valid}
-use Rattle.crush_report.specs.declared.changes.DeviceChange.{DeviceChange}
+use Rattle.crush_pool.specs.Changes.{is_of_device, are_distinct, are_valid_changes}
+use Rattle.crush_pool.specs.declared.changes.DeviceChange.{DeviceChange}
 
 Decides-leb : (a b : ℕ) → Decides (nat_le a b) (a ≤ b)
 Decides-leb a b = (λ h. grind (arith, nat_tests), λ h. grind (arith, nat_tests))
@@ -35,14 +35,14 @@ Decides-distinct (c ∷ cs) =
     (λ is. (pairs-head c cs is, pairs-tail c cs is))
     (Decides-and (not (list_any (is_of_device c.device) cs)) (are_distinct cs) (Decides-none c.device cs) (Decides-distinct cs))
 
-pub record IsValid (cs : List DeviceChange) : Type 0 where
+pub record AreValidChanges (cs : List DeviceChange) : Type 0 where
   pub some : 1 ≤ length cs
   pub few : length cs ≤ 1024
   pub distinct : AllPairs Differ cs
 
-pub Decides-is_valid : (cs : List DeviceChange) → Decides (is_valid cs) (IsValid cs)
-Decides-is_valid cs =
-    Decides-like (is_valid cs) (λ is. record { some = is.0.0; few = is.0.1; distinct = is.1 }) (λ is. ((is.some, is.few), is.distinct))
+pub Decides-are_valid_changes : (cs : List DeviceChange) → Decides (are_valid_changes cs) (AreValidChanges cs)
+Decides-are_valid_changes cs =
+    Decides-like (are_valid_changes cs) (λ is. record { some = is.0.0; few = is.0.1; distinct = is.1 }) (λ is. ((is.some, is.few), is.distinct))
     (Decides-and _ (are_distinct cs)
     (Decides-and (nat_le 1 (length cs)) (nat_le (length cs) 1024) (Decides-leb 1 (length cs)) (Decides-leb (length cs) 1024))
     (Decides-distinct cs))

@@ -2,7 +2,7 @@
 
 ghost use Rattle.std.specs.Prelude.{◌≡◌};
 ghost use Rattle.std.specs.List.{list_any};
-ghost use Rattle.crush_report.specs.Changes as spec;
+ghost use Rattle.crush_pool.specs.Changes as spec;
 
 /// What is asked of a device. What is missing stays as it is.
 #[derive(Clone, Copy, Debug, PartialEq, Eq)]
@@ -36,9 +36,12 @@ fn are_distinct(changes: &[DeviceChange]) -> bool
     true
 }
 
+/// The most changes that are made at once.
+const CHANGE_LIMIT: usize = 1024;
+
 /// Whether these are 1 to 1,024 changes, each of another device.
-pub fn is_valid(changes: &[DeviceChange]) -> bool
-    ensures { result ≡ spec.is_valid changes.now }
+pub fn are_valid_changes(changes: &[DeviceChange]) -> bool
+    ensures { result ≡ spec.are_valid_changes changes.now }
 {
-    !changes.is_empty() && changes.len() <= 1024 && are_distinct(changes)
+    !changes.is_empty() && changes.len() <= CHANGE_LIMIT && are_distinct(changes)
 }
