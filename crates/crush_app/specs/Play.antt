@@ -22,14 +22,15 @@ pub record AppendsPart (old new : Option (List ℕ)) (bytes : List ℕ) : Type 0
 
 -- ---- messages
 
--- the messages were served, so that this is met by their calls and the replies, and their lines were written
+-- the messages were served, so that this is met by their calls and the replies, and their lines
+-- were written
 pub record PlaysBy (Meets : List Call → List Reply → Type 0) (ms : List (Option Call)) (from to : Option (List ℕ)) : Type 0 where
   pub replies : List Reply
   pub meets : Meets (calls_in ms) replies
   pub written : Appends from to (output ms replies)
 
--- the messages before one were served and their lines written whole; that one was served, and its line was written
--- in part; no later message was served
+-- the messages before one were served and their lines written whole; that one was served, and its
+-- line was written in part; no later message was served
 pub record PlaysUpToBy (Meets : List Call → List Reply → Type 0) (ms : List (Option Call)) (from to : Option (List ℕ)) : Type 0 where
   pub before : List (Option Call)
   pub cut : Option Call
@@ -45,8 +46,8 @@ pub record PlaysUpToBy (Meets : List Call → List Reply → Type 0) (ms : List 
   pub part : line ++ rest ≡ output (cut ∷ []) last
   pub written : Appends from to (output before replies ++ line)
 
--- what was written is a first part of the lines for the first messages and the replies to their calls, and this is
--- met by these calls and replies
+-- what was written is a first part of the lines for the first messages and the replies to their
+-- calls, and this is met by these calls and replies
 pub record WritesFirst (Meets : List Call → List Reply → Type 0) (ms : List (Option Call)) (from to : Option (List ℕ)) : Type 0 where
   pub served : List (Option Call)
   pub later : List (Option Call)
@@ -66,6 +67,7 @@ Plays old new ms from to = PlaysBy (MeetsDefinition old new) ms from to
 abbrev pub PlaysUpTo : States → States → List (Option Call) → Option (List ℕ) → Option (List ℕ) → Type 0
 PlaysUpTo old new ms from to = PlaysUpToBy (MeetsDefinition old new) ms from to
 
--- the headline of what was written: for every tenant the replies other than 503 are the definition's
+-- the headline of what was written: for every tenant the replies other than 503 are the
+-- definition's
 abbrev pub WritesHeadline : States → List (Option Call) → Option (List ℕ) → Option (List ℕ) → Type 0
 WritesHeadline old ms from to = WritesFirst (Headline old) ms from to

@@ -28,11 +28,13 @@ call_of_line line =
 abbrev pub is_nonempty : List ℕ → Bool
 is_nonempty line = nat_lt 0 (length line)
 
--- the messages of some lines: for each that isn't empty its call, or none where it doesn't have the form of one
+-- the messages of some lines: for each that isn't empty its call, or none where it doesn't have the
+-- form of one
 abbrev pub messages_in : List (List ℕ) → List (Option Call)
 messages_in ls = map call_of_line (filter is_nonempty ls)
 
--- the messages of an input. Its lines end with LF, one CR before an LF is dropped, and the last LF may be missing
+-- the messages of an input. Its lines end with LF, one CR before an LF is dropped, and the last LF
+-- may be missing
 abbrev pub messages : List ℕ → List (Option Call)
 messages input = messages_in (lines input)
 
@@ -69,6 +71,7 @@ output (Some call ∷ ms) (replied ∷ replies) = wire replied ++ output ms repl
 abbrev pub input_limit : ℕ
 input_limit = 67108864
 
--- this holds of an input that isn't too long, which is what the reader had, where its bytes are known
+-- this holds of an input that isn't too long, which is what the reader had, where its bytes are
+-- known
 abbrev pub OfScript : Option (List ℕ) → (List ℕ → Type 0) → Type 0
 OfScript bytes Holds = OfInput bytes (λ input. (length input ≤ input_limit) × Holds input)

@@ -105,8 +105,9 @@ fn read_verdict<R: Read>(alloc: Global, reader: &mut R) -> Result<Option<Verdict
     }
 }
 
-/// Reads a whole text and writes one line: `ok devices D buckets B rules R` if it is a map's, else `refused line L code C` with
-/// its first fault. Of a text over 524,288 bytes (X7) it reads one byte more than these.
+/// Reads a whole text and writes one line: `ok devices D buckets B rules R` if it is a map's, else
+/// `refused line L code C` with its first fault. Of a text over 524,288 bytes (X7) it reads one
+/// byte more than these.
 ///
 /// The clauses speak of an input, which is what the reader had where contracts know its bytes.
 /// The only `Err` is that an allocation failed: then nothing was written.
@@ -116,15 +117,18 @@ pub fn check_run<R: Read, W: Write>(
     reader: &mut R,
     writer: &mut W,
 ) -> Result<CheckEnd, AllocError>
-    // `Accepted`: the input is a text of a map that may be imported, and the line of that map was written.
+    // `Accepted`: the input is a text of a map that may be imported, and the line of that map was
+    // written.
     ensures accepted { result ≡ Ok CheckEnd.Accepted → OfInput (R.remaining reader.old)
         (λ input. (m : Map) × IsShort input × IsTextOf input m × Appends (W.contents writer.old) (W.contents writer.new) (line_of_map m)) }
 
-    // `Refused`: the input is refused for a fault, which is X7 exactly if it is over 524,288 bytes, and the line of that fault was written.
+    // `Refused`: the input is refused for a fault, which is X7 exactly if it is over 524,288 bytes,
+    // and the line of that fault was written.
     ensures refused { result ≡ Ok CheckEnd.Refused → OfInput (R.remaining reader.old)
         (λ input. (f : spec_fault.TextFault) × IsRefusedFor input f × ((f.code ≡ X7) ↔ (524288 < length input)) × Appends (W.contents writer.old) (W.contents writer.new) (line_of_fault f)) }
 
-    // Conversely, where a line was written: if the input is a text of a map it is the line of that map, and if it is refused for a fault, of that fault.
+    // Conversely, where a line was written: if the input is a text of a map it is the line of that
+    // map, and if it is refused for a fault, of that fault.
     ensures of_map { WritesLine result → OfInput (R.remaining reader.old)
         (λ input. (m : Map) → IsShort input → IsTextOf input m → (result ≡ Ok CheckEnd.Accepted) × Appends (W.contents writer.old) (W.contents writer.new) (line_of_map m)) }
     ensures of_fault { WritesLine result → OfInput (R.remaining reader.old)
@@ -134,7 +138,8 @@ pub fn check_run<R: Read, W: Write>(
     ensures cut { result ≡ Ok CheckEnd.WriteFault → OfInput (R.remaining reader.old)
         (λ input. (line : List ℕ) × IsLineFor input line × AppendsPart (W.contents writer.old) (W.contents writer.new) line) }
 
-    // In each of these cases, of what the reader had its first 524,289 bytes were read, and the rest is left.
+    // In each of these cases, of what the reader had its first 524,289 bytes were read, and the
+    // rest is left.
     ensures rest { HasVerdict result → DropsFirst 524289 (R.remaining reader.old) (R.remaining reader.new) }
 
     // Otherwise nothing was written.

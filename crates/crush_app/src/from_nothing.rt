@@ -13,7 +13,8 @@ use crate::service::Service;
 use std::alloc::{AllocError, Global};
 use std::io::{Read, Write};
 
-/// Plays a script on a service over a new store in memory, as `script_run` does. The service is gone afterwards.
+/// Plays a script on a service over a new store in memory, as `script_run` does. The service is
+/// gone afterwards.
 ///
 /// The clauses have no premise. They speak of an input, which is what the reader had where
 /// contracts know its bytes.

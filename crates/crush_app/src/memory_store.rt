@@ -13,8 +13,8 @@ use tenant_state::{Change, TenantState};
 
 type States = BTreeMap<String, Rc<TenantState>>;
 
-/// Makes a change of a shared state: in place where it has no other owner, and else on a copy, which shares versions and receipts.
-/// Where memory is wanting, nothing is changed.
+/// Makes a change of a shared state: in place where it has no other owner, and else on a copy,
+/// which shares versions and receipts. Where memory is wanting, nothing is changed.
 fn change_shared(
     alloc: Global,
     shared: &mut Rc<TenantState>,
@@ -33,7 +33,8 @@ fn change_shared(
     }
 }
 
-/// Makes a change of the state of a name, if it has one. Where memory is wanting, nothing is changed.
+/// Makes a change of the state of a name, if it has one. Where memory is wanting, nothing is
+/// changed.
 fn change_named(
     alloc: Global,
     states: &mut States,

@@ -96,7 +96,8 @@ fn play<T: TenantStore, W: Write>(
     true
 }
 
-/// Reads a whole script, serves its lines in order and writes a line for each reply. An empty line has no reply.
+/// Reads a whole script, serves its lines in order and writes a line for each reply. An empty line
+/// has no reply.
 ///
 /// The clauses speak of an input, which is what the reader had where contracts know its bytes.
 /// The only `Err` is that an allocation for the script itself failed: then no line was served.
@@ -111,12 +112,14 @@ pub fn script_run<T: TenantStore, R: Read, W: Write>(
     ensures done { T.is_honest service.new → result ≡ Ok ScriptEnd.Done → OfScript (R.remaining reader.old)
         (λ input. Plays (T.has_state service.old) (T.has_state service.new) (messages input) (W.contents writer.old) (W.contents writer.new)) }
 
-    // `WriteFault`: the replies before the failed one were written whole, that one in part, and no later line was served.
+    // `WriteFault`: the replies before the failed one were written whole, that one in part, and no
+    // later line was served.
     ensures cut { T.is_honest service.new → result ≡ Ok ScriptEnd.WriteFault → OfScript (R.remaining reader.old)
         (λ input. PlaysUpTo (T.has_state service.old) (T.has_state service.new) (messages input) (W.contents writer.old) (W.contents writer.new)) }
 
-    // The headline: for every tenant, the written replies other than 503 are those of the definition, run over just the calls
-    // that have such a reply, from the state that the tenant had.
+    // The headline: for every tenant, the written replies other than 503 are those of the
+    // definition, run over just the calls that have such a reply, from the state that the tenant
+    // had.
     ensures headline { T.is_honest service.new → ServesLines result → OfScript (R.remaining reader.old)
         (λ input. WritesHeadline (T.has_state service.old) (messages input) (W.contents writer.old) (W.contents writer.new)) }
 

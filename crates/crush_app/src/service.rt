@@ -95,8 +95,8 @@ impl<T: TenantStore> Model for Service<T> {
 impl Service<MemoryStore> {
     ghost use Rattle.std.specs.Prelude.{ℕ, List, None, IfOk};
 
-    /// A service over a store in memory, with no tenant. By `memory_stores_are_honest` the headline holds of this service
-    /// without a premise.
+    /// A service over a store in memory, with no tenant. By `memory_stores_are_honest` the headline
+    /// holds of this service without a premise.
     pub fn in_memory(alloc: Global) -> Result<Self, AllocError>
         ensures { IfOk result (λ service. (name : List ℕ) → ⟦<MemoryStore as TenantStore>⟧.has_state service name None) }
     {
@@ -125,8 +125,9 @@ impl<T: TenantStore> Service<T> {
     ghost use Rattle.tenant_messages.specs.CallParts.{call_of};
     ghost use Rattle.tenant_core.specs.States.{Same, Serves, MeetsDefinition, Headline, Leaves, ServesCallsOfNobody, KeepsDamaged, NamesCause};
 
-    /// Serves a call. The reply is the definition's for the state of the call's tenant, which then has the definition's
-    /// new state, and every other tenant keeps its own; or the reply is 503, and every tenant keeps its state.
+    /// Serves a call. The reply is the definition's for the state of the call's tenant, which then
+    /// has the definition's new state, and every other tenant keeps its own; or the reply is 503,
+    /// and every tenant keeps its state.
     pub fn request(&mut self, call: CallParts<'_>) -> Reply
         ensures serves { T.is_honest self.new → Serves (call_of call.entry) (T.has_state self.old) (T.has_state self.new) result }
         ensures honest { T.is_honest self.new → T.is_honest self.old }
@@ -155,8 +156,9 @@ impl<T: TenantStore> Service<T> {
 
     /// Serves the calls in order. Where there is no memory for the list of replies, none is served.
     ///
-    /// The headline: for every list of calls and every tenant, the replies to that tenant other than 503 are those of the
-    /// definition, run over just the calls that have such a reply, from the state that the tenant had (`None`: it was absent).
+    /// The headline: for every list of calls and every tenant, the replies to that tenant other
+    /// than 503 are those of the definition, run over just the calls that have such a reply, from
+    /// the state that the tenant had (`None`: it was absent).
     pub fn run(&mut self, calls: &[Call]) -> Result<Vec<Reply>, AllocError>
         ensures count { IfOk result (λ replies. length replies.items ≡ length calls.now) }
         ensures headline { T.is_honest self.new → IfOk result (λ replies. Headline (T.has_state self.old) calls.now replies.items) }

@@ -9,7 +9,8 @@ ghost use Rattle.crush_app.specs.Script as spec;
 use std::io::Write;
 use tenant_messages::Reply;
 
-/// Writes the bytes, all or a first part: it ends at the first error, or where a write accepts no byte.
+/// Writes the bytes, all or a first part: it ends at the first error, or where a write accepts no
+/// byte.
 pub(crate) fn write_whole<W: Write>(writer: &mut W, bytes: &[u8]) -> bool
     ensures whole { IsTrue result → Appends (W.contents writer.old) (W.contents writer.new) bytes.now }
     ensures part { IsFalse result → AppendsPart (W.contents writer.old) (W.contents writer.new) bytes.now }

@@ -39,7 +39,8 @@ pub(crate) fn check<R: AllocGlobal + Clock>(rt: &R) -> io::Result<Checked> {
     Ok(Checked { fault, took })
 }
 
-/// The greatest number of types, of devices, of buckets that have all devices as items, and of rules with all steps, each with a name of 64 bytes.
+/// The greatest number of types, of devices, of buckets that have all devices as items, and of
+/// rules with all steps, each with a name of 64 bytes.
 fn fullest(alloc: Global) -> Result<MapDraft, AllocError> {
     Ok(MapDraft {
         types: types(alloc)?,

@@ -110,7 +110,8 @@ fn rewritten<R: AllocGlobal + Input + Print + Eprint>(rt: &R) -> io::Result<Exit
     }
 }
 
-/// Prints the checksum of the mappings of the map whose text is on standard input, and on standard error the microseconds of one mapping.
+/// Prints the checksum of the mappings of the map whose text is on standard input, and on standard
+/// error the microseconds of one mapping.
 fn mapped<R: AllocGlobal + Clock + Input + Print + Eprint>(
     rt: &R,
     size: Size,

@@ -12,7 +12,8 @@ pub(crate) fn read<R: AllocGlobal + Input>(rt: &R) -> io::Result<Result<CrushMap
     Ok(read_map(rt.alloc(), text.as_slice())?)
 }
 
-/// Writes the canonical text of the map whose text is on standard input, or gives that text's first fault.
+/// Writes the canonical text of the map whose text is on standard input, or gives that text's first
+/// fault.
 pub(crate) fn rewrite<R: AllocGlobal + Input + Print>(rt: &R) -> io::Result<Option<TextFault>> {
     match read(rt)? {
         Ok(map) => {

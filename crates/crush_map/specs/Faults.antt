@@ -109,7 +109,8 @@ abbrev pub has_id : Ids → ℤ → Bool
 has_id ids (pos n) = has_number ids.devices n
 has_id ids (negsuc n) = has_number ids.buckets n
 
--- what is declared so far: numbers of types, ids of items and of rules, and names; devices and buckets share one list of names
+-- what is declared so far: numbers of types, ids of items and of rules, and names; devices and
+-- buckets share one list of names
 pub record Known : Type 0 where
   pub types : List ℕ
   pub type_names : List (List ℕ)
@@ -142,7 +143,8 @@ is_reserved name = list_any (λ word. bytes_eq word name) (codes "tunable" ∷ c
 
 -- ---- types
 
--- of a type: there are 32 already; its number is out of range, or declared already; its name isn't of the form, or is reserved, or declared already
+-- of a type: there are 32 already; its number is out of range, or declared already; its name isn't
+-- of the form, or is reserved, or declared already
 abbrev pub type_checks : Known → TypeName → List (Option FaultCode)
 type_checks known t =
     (M1 when nat_le type_limit (length known.types))
@@ -162,7 +164,8 @@ with_type known t = record known { types = known.types ++ t.number ∷ []; type_
 
 -- ---- devices
 
--- of a device: there are 1,024 already; its id is out of range, or declared already; its name isn't of the form, or is declared already
+-- of a device: there are 1,024 already; its id is out of range, or declared already; its name isn't
+-- of the form, or is declared already
 abbrev pub device_checks : Known → Device → List (Option FaultCode)
 device_checks known d =
     (M1 when nat_le device_limit (length known.items.devices))
@@ -187,7 +190,8 @@ abbrev pub is_bucket_id : ℤ → Bool
 is_bucket_id (pos id) = false
 is_bucket_id (negsuc n) = nat_le n number_limit
 
--- the first fault of a bucket's items from here on; `before` has the ids of the bucket's earlier items
+-- the first fault of a bucket's items from here on; `before` has the ids of the bucket's earlier
+-- items
 unfoldable pub items_fault : Known → Ids → List (ItemId × Weight) → Option FaultCode
 items_fault known before [] = None
 items_fault known before (item ∷ items) = first_of (
@@ -210,8 +214,9 @@ contents_fault known alg items = first_of (
     ∷ (M7 when nat_lt total_weight_limit (total_weight items))
     ∷ [])
 
--- of a bucket: there are 1,024 already; its id is out of range, or declared already; its name isn't of the form, or is declared already; its type
--- isn't declared, or is that of devices; it has over 1,024 items; its items and weights
+-- of a bucket: there are 1,024 already; its id is out of range, or declared already; its name isn't
+-- of the form, or is declared already; its type isn't declared, or is that of devices; it has over
+-- 1,024 items; its items and weights
 abbrev pub bucket_checks : Known → Bucket → List (Option FaultCode)
 bucket_checks known b =
     (M1 when nat_le bucket_limit (length known.items.buckets))
@@ -239,7 +244,8 @@ with_bucket known b = record known { items = with_id known.items b.id.0; item_na
 abbrev pub is_count : ℤ → Bool
 is_count n = int_le (negsuc 63) n && int_le n (pos 64)
 
--- of a choose step: its type isn't declared; its count is out of range; it is chooseleaf indep of type 0
+-- of a choose step: its type isn't declared; its count is out of range; it is chooseleaf indep of
+-- type 0
 unfoldable pub choose_fault : Known → Bool → Bool → ℤ → ℕ → Option FaultCode
 choose_fault known firstn leaf n wanted = first_of (
     (M11 when not (has_number known.types wanted))
@@ -261,8 +267,8 @@ step_fault known Emit = None
 abbrev pub steps_fault : Known → List Step → Option FaultCode
 steps_fault known steps = first_of (map (step_fault known) steps)
 
--- of a rule apart from its steps: there are 64 already; its id is out of range, or declared already; its name isn't of the form, or is declared
--- already; it has no step, or over 32
+-- of a rule apart from its steps: there are 64 already; its id is out of range, or declared
+-- already; its name isn't of the form, or is declared already; it has no step, or over 32
 abbrev pub rule_head_checks : Known → Rule → List (Option FaultCode)
 rule_head_checks known r =
     (M1 when nat_le rule_limit (length known.rules))
@@ -291,11 +297,13 @@ with_rule known r = record known { rules = known.rules ++ r.id ∷ []; rule_name
 
 -- ---- the end
 
--- choose_total_tries up to 999, chooseleaf_descend_once up to 1, chooseleaf_vary_r up to 8, chooseleaf_stable up to 1
+-- choose_total_tries up to 999, chooseleaf_descend_once up to 1, chooseleaf_vary_r up to 8,
+-- chooseleaf_stable up to 1
 abbrev pub are_in_range : Tunables → Bool
 are_in_range t = nat_le t.total_tries 999 && nat_le t.descend_once 1 && nat_le t.vary_r vary_r_limit && nat_le t.stable 1
 
--- at the end: there is no type 0; a tunable is out of range; local tries or local fallback tries are not 0
+-- at the end: there is no type 0; a tunable is out of range; local tries or local fallback tries
+-- are not 0
 abbrev pub end_checks : Known → Tunables → ℕ → ℕ → List (Option FaultCode)
 end_checks known tunables local_tries local_fallback_tries =
     (M4 when not (has_number known.types 0))
@@ -318,12 +326,14 @@ abbrev pub at_place : Element → ℕ → Option FaultCode → Option MapFault
 at_place element place None = None
 at_place element place (Some code) = Some (at element place code)
 
--- the first fault of a list whose first element has this place: each element is checked against what is declared before it, and then added
+-- the first fault of a list whose first element has this place: each element is checked against
+-- what is declared before it, and then added
 unfoldable pub first_in : {X : Type 0} → Element → (Known → X → Option FaultCode) → (Known → X → Known) → ℕ → Known → List X → Option MapFault
 first_in element check with place known [] = None
 first_in element check with place known (x ∷ xs) = or_else (at_place element place (check known x)) (first_in element check with (place + 1) (with known x) xs)
 
--- what is declared after the types of a draft, after its devices too, after its buckets too, and after its rules too
+-- what is declared after the types of a draft, after its devices too, after its buckets too, and
+-- after its rules too
 abbrev pub known_types : MapDraft → Known
 known_types d = fold with_type nothing d.types
 
@@ -336,7 +346,8 @@ known_buckets d = fold with_bucket (known_devices d) d.buckets
 abbrev pub known_rules : MapDraft → Known
 known_rules d = fold with_rule (known_buckets d) d.rules
 
--- the first fault of the elements of a draft: of its types, then of its devices, its buckets and its rules
+-- the first fault of the elements of a draft: of its types, then of its devices, its buckets and
+-- its rules
 unfoldable pub element_fault : MapDraft → Option MapFault
 element_fault d =
     or_else (first_in Types type_fault with_type 0 nothing d.types)

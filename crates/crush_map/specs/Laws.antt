@@ -12,7 +12,8 @@ use Rattle.crush_map.specs.Map.{Map}
 abbrev pub Pass : {X : Type 0} → (Known → X → Option FaultCode) → (Known → X → Known) → Known → List X → Type 0
 Pass check with known xs = (i : ℕ) → IfSome (slice_get xs i) (λ x. check (fold with known (take i xs)) x ≡ None)
 
--- the element at this place has this fault, and no element before it has one, each checked against what is declared before it
+-- the element at this place has this fault, and no element before it has one, each checked against
+-- what is declared before it
 abbrev pub FailsFirst : {X : Type 0} → (Known → X → Option FaultCode) → (Known → X → Known) → Known → List X → ℕ → FaultCode → Type 0
 FailsFirst check with known xs i code =
     IsSomeAnd (slice_get xs i) (λ x. check (fold with known (take i xs)) x ≡ Some code)

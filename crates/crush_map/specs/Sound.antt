@@ -37,7 +37,8 @@ abbrev pub has_item : List Device → List Bucket → ℤ → Bool
 has_item devices buckets (pos n) = has_device devices n
 has_item devices buckets (negsuc n) = has_bucket buckets (negsuc n)
 
--- the item at place j of the bucket at place i: a device, or a bucket before that one; and none of the items before it
+-- the item at place j of the bucket at place i: a device, or a bucket before that one; and none of
+-- the items before it
 pub record IsItemAt (m : Map) (i j : ℕ) (items : List (ItemId × Weight)) (id : ℤ) : Type 0 where
   pub declared : has_item m.devices (take i m.buckets) id ≡ true
   pub once : list_any (λ item. same_id item.0.0 id) (take j items) ≡ false

@@ -15,7 +15,8 @@ is_point byte = byte == 46
 abbrev pub are_digits : ℕ → ℕ → List ℕ → Bool
 are_digits low high text = nat_le low (length text) && nat_le (length text) high && list_all is_digit text
 
--- the number that digits write: each counts ten times as much as the one after it, the last one once
+-- the number that digits write: each counts ten times as much as the one after it, the last one
+-- once
 abbrev pub number : List ℕ → ℕ
 number [] = 0
 number (digit ∷ digits) = (digit - 48) * 10 ^ length digits + number digits
@@ -46,7 +47,8 @@ weight_cut_at text (Some place) =
 unfoldable pub weight_of : List ℕ → Option Weight
 weight_of text = weight_cut_at text (position is_point text)
 
--- a text writes this weight: it is 1 to 10 digits, alone or followed by a point and 1 to 20 digits, and their value rounded down is the weight
+-- a text writes this weight: it is 1 to 10 digits, alone or followed by a point and 1 to 20 digits,
+-- and their value rounded down is the weight
 pub record Writes (text : List ℕ) (weight : Weight) : Type 0 where
   pub whole : List ℕ
   pub fraction : List ℕ

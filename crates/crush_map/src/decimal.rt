@@ -58,7 +58,8 @@ fn first_point(text: &[u8]) -> Option<usize>
     text.iter().position(|byte| *byte == b'.')
 }
 
-/// Reads a weight: 1 to 10 digits, or 1 to 10 digits, a point and 1 to 20 digits, rounded down to 16.16 fixed point.
+/// Reads a weight: 1 to 10 digits, or 1 to 10 digits, a point and 1 to 20 digits, rounded down to
+/// 16.16 fixed point.
 ///
 /// None if the text has another form, or if its value is 65536 or more.
 #[tactic(auto, unfolding(crate::specs::WeightText::weight_of))]
@@ -87,7 +88,8 @@ fn hundred_thousandths(weight: Weight) -> u64
     (u64::from(weight.0) * 100_000).div_ceil(65_536)
 }
 
-/// The decimal text of a weight, with five decimals, rounded up: `weight_from_text` reads the same weight from it.
+/// The decimal text of a weight, with five decimals, rounded up: `weight_from_text` reads the same
+/// weight from it.
 pub fn weight_text(alloc: Global, weight: Weight) -> Result<String, AllocError>
     ensures { IfOk result (λ text. string_bytes text ≡ spec.text_of weight) }
 {
@@ -108,8 +110,8 @@ pub fn weight_texts_are_read()
     ensures { (text : List ℕ) (weight : Weight) → spec.weight_of text ≡ Some weight ↔ spec.Writes text weight }
 {}
 
-/// The text of a weight has the least number of hundred-thousandths that is at least the weight; it has the form of a name, and the same weight
-/// is read from it.
+/// The text of a weight has the least number of hundred-thousandths that is at least the weight; it
+/// has the form of a name, and the same weight is read from it.
 pub fn weight_comes_back()
     ensures least { (weight : Weight) (n : ℕ) → spec.hundred_thousandths weight ≤ n ↔ weight.0 * 100000 ≤ n * 65536 }
     ensures word { (weight : Weight) → weight.0 < 2 ^ 32 → is_name (spec.text_of weight) ≡ true }

@@ -1,7 +1,7 @@
 //! What a map is declared from, before it is checked.
 //!
-//! Source: Ceph's CRUSH map manual. Each number has a type that can hold values out of its range, so that a draft can be
-//! refused for them.
+//! Source: Ceph's CRUSH map manual. Each number has a type that can hold values out of its range,
+//! so that a draft can be refused for them.
 
 use crate::list::Listed;
 use crate::text::Text;
@@ -46,7 +46,8 @@ pub enum Step {
     Take(ItemId),
     /// Sets the tries of the choose steps that follow, 0..1000 in a map; 0 has no effect.
     SetChooseTries(u32),
-    /// Sets the tries for a leaf in the chooseleaf steps that follow, 0..1000 in a map; 0 has no effect.
+    /// Sets the tries for a leaf in the chooseleaf steps that follow, 0..1000 in a map; 0 has no
+    /// effect.
     SetLeafTries(u32),
     /// Sets `chooseleaf_vary_r` for the steps that follow, 0..8 in a map.
     SetVaryR(u32),
@@ -58,7 +59,8 @@ pub enum Step {
         firstn: bool,
         /// Whether it is a chooseleaf step; else it is a choose step.
         leaf: bool,
-        /// How many items; a number of 0 or below is added to the size of the answer. -64..64 in a map.
+        /// How many items; a number of 0 or below is added to the size of the answer. -64..64 in a
+        /// map.
         n: i32,
         /// The number of the wanted type.
         wanted: u32,

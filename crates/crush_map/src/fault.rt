@@ -31,7 +31,8 @@ pub enum FaultCode {
     M13,
     /// A chooseleaf indep step of type 0.
     M14,
-    /// A name isn't of the form, or a type is named tunable, device, type, rule, choose_args or class.
+    /// A name isn't of the form, or a type is named tunable, device, type, rule, choose_args or
+    /// class.
     M15,
 }
 

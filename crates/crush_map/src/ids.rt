@@ -9,7 +9,8 @@ use crate::word::ItemId;
 use std::alloc::{AllocError, Global};
 use std::marker::Model;
 
-/// Ids of devices and ids of buckets, each in the order in which they were added. The id `-1 - n` of a bucket is kept as `n`.
+/// Ids of devices and ids of buckets, each in the order in which they were added. The id `-1 - n`
+/// of a bucket is kept as `n`.
 #[derive(Drop)]
 pub struct Ids {
     devices: Numbers,

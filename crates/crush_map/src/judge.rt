@@ -19,7 +19,8 @@ fn fault_at(element: Element, index: usize, code: FaultCode) -> MapFault
     }
 }
 
-/// The first fault of types, each checked behind those before it; where there is none, all are declared.
+/// The first fault of types, each checked behind those before it; where there is none, all are
+/// declared.
 #[tactic(auto, unfolding(crate::specs::Faults::first_in))]
 fn judge_types(
     alloc: Global,
@@ -37,7 +38,8 @@ fn judge_types(
     Ok(None)
 }
 
-/// The first fault of devices, each checked behind those before it; where there is none, all are declared.
+/// The first fault of devices, each checked behind those before it; where there is none, all are
+/// declared.
 #[tactic(auto, unfolding(crate::specs::Faults::first_in))]
 fn judge_devices(
     alloc: Global,
@@ -55,7 +57,8 @@ fn judge_devices(
     Ok(None)
 }
 
-/// The first fault of buckets, each checked behind those before it; where there is none, all are declared.
+/// The first fault of buckets, each checked behind those before it; where there is none, all are
+/// declared.
 #[tactic(auto, unfolding(crate::specs::Faults::first_in))]
 fn judge_buckets(
     alloc: Global,
@@ -74,7 +77,8 @@ fn judge_buckets(
     Ok(None)
 }
 
-/// The first fault of rules, each checked behind those before it; where there is none, all are declared.
+/// The first fault of rules, each checked behind those before it; where there is none, all are
+/// declared.
 #[tactic(auto, unfolding(crate::specs::Faults::first_in))]
 fn judge_rules(
     alloc: Global,
@@ -93,7 +97,8 @@ fn judge_rules(
     Ok(None)
 }
 
-/// The first fault of a draft's types, devices, buckets and rules; where there is none, all are declared.
+/// The first fault of a draft's types, devices, buckets and rules; where there is none, all are
+/// declared.
 #[tactic(auto, unfolding(crate::specs::Faults::element_fault))]
 fn judge_elements(
     alloc: Global,

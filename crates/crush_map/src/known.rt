@@ -19,7 +19,8 @@ use crate::word::{ItemId, Kind, Weight};
 use std::alloc::{AllocError, Global};
 use std::marker::Model;
 
-/// The numbers, ids and names declared so far. Contracts see them as lists, in order of declaration.
+/// The numbers, ids and names declared so far. Contracts see them as lists, in order of
+/// declaration.
 #[derive(Drop)]
 pub struct Known {
     types: Numbers,
@@ -53,7 +54,8 @@ impl Known {
         }
     }
 
-    /// The fault of a type that is declared next; where it has none, it is declared. After `AllocError` nothing is said of what is declared.
+    /// The fault of a type that is declared next; where it has none, it is declared. After
+    /// `AllocError` nothing is said of what is declared.
     #[tactic(auto, unfolding(crate::specs::Faults::type_fault))]
     pub fn declare_type(
         &mut self,
@@ -81,7 +83,8 @@ impl Known {
         Ok(Some(fault))
     }
 
-    /// The fault of a device that is declared next; where it has none, it is declared. After `AllocError` nothing is said of what is declared.
+    /// The fault of a device that is declared next; where it has none, it is declared. After
+    /// `AllocError` nothing is said of what is declared.
     #[tactic(auto, unfolding(crate::specs::Faults::device_fault))]
     pub fn declare_device(
         &mut self,
@@ -109,7 +112,8 @@ impl Known {
         Ok(Some(fault))
     }
 
-    /// The fault of a bucket, if it is declared next. Memory is needed to find an item that is listed twice.
+    /// The fault of a bucket, if it is declared next. Memory is needed to find an item that is
+    /// listed twice.
     #[tactic(auto, unfolding(crate::specs::Faults::bucket_fault))]
     pub fn bucket_fault(
         &self,
@@ -290,7 +294,8 @@ impl Known {
         self.rules.add(declared.id)
     }
 
-    /// The fault of a whole draft whose elements have none: no type 0, a tunable out of range, or local tries.
+    /// The fault of a whole draft whose elements have none: no type 0, a tunable out of range, or
+    /// local tries.
     #[tactic(auto, unfolding(crate::specs::Faults::end_fault))]
     pub fn end_fault(
         &self,

@@ -1,4 +1,5 @@
-//! Laws: statements that hold for every draft or every map. A call does nothing; its contract is the law.
+//! Laws: statements that hold for every draft or every map. A call does nothing; its contract is
+//! the law.
 
 ghost use Rattle.std.specs.Prelude.{◌≡◌, ℕ, true, ◌++◌, map, Some, None, slice_get, IfSome};
 ghost use Rattle.crush_map.specs.declared.draft.MapDraft.{MapDraft};
@@ -8,13 +9,15 @@ ghost use Rattle.crush_map.specs.Map.{Map, IsMap, IsMapOf};
 ghost use Rattle.crush_map.specs.Sound.{IsBucketAt, IsRuleAt, IsTypeAt, IsDeviceAt, IsEachOnce, has_type};
 ghost use Rattle.crush_map.specs.Laws.{IsFirstFault, HasNoFault, IsInOrder};
 
-/// The element that a draft's first fault names has that fault, and nothing before it has one; a draft without a first fault has none at all.
+/// The element that a draft's first fault names has that fault, and nothing before it has one; a
+/// draft without a first fault has none at all.
 pub fn first_fault_is_first()
     ensures fault { (d : MapDraft) (f : MapFault) → spec.first_fault d ≡ Some f → IsFirstFault d f.element f.index f.code }
     ensures none { (d : MapDraft) → spec.first_fault d ≡ None → HasNoFault d }
 {}
 
-/// The elements of a draft without a fault are a map, once its types, devices and rules are in order of number.
+/// The elements of a draft without a fault are a map, once its types, devices and rules are in
+/// order of number.
 pub fn drafts_declare_maps()
     ensures { (d : MapDraft) (m : Map) → spec.first_fault d ≡ None → IsMapOf d m → IsInOrder m → IsMap m }
 {}

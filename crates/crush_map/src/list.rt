@@ -4,7 +4,8 @@ ghost use Rattle.std.specs.Prelude.{◌≡◌};
 
 use std::marker::Model;
 
-/// A list. Contracts see its elements, so lists with the same elements are equal, whatever their capacity.
+/// A list. Contracts see its elements, so lists with the same elements are equal, whatever their
+/// capacity.
 #[derive(Drop)]
 pub struct Listed<T> {
     elements: Vec<T>,

@@ -12,8 +12,8 @@ use crate::judge::first_fault;
 use std::alloc::{AllocError, Global};
 use std::marker::Model;
 
-/// A map without a fault. Contracts see its lists and its tunables. Types, devices and rules are in ascending order of
-/// number, buckets in order of declaration.
+/// A map without a fault. Contracts see its lists and its tunables. Types, devices and rules are in
+/// ascending order of number, buckets in order of declaration.
 #[derive(Drop)]
 pub struct CrushMap {
     types: Vec<TypeName>,
@@ -36,8 +36,8 @@ impl Model for CrushMap {
 impl CrushMap {
     /// The map that a draft declares, or the draft and its first fault.
     ///
-    /// Types are checked first, then devices, buckets and rules, each list in order, and last what concerns the whole draft.
-    /// `AllocError`: memory was refused, and the draft is gone.
+    /// Types are checked first, then devices, buckets and rules, each list in order, and last what
+    /// concerns the whole draft. `AllocError`: memory was refused, and the draft is gone.
     pub fn check(
         alloc: Global,
         draft: MapDraft,

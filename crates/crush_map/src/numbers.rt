@@ -1,4 +1,5 @@
-//! A list of numbers below 65,536. A short list is searched; a longer one has a table of flags by which a number is looked up in one step.
+//! A list of numbers below 65,536. A short list is searched; a longer one has a table of flags by
+//! which a number is looked up in one step.
 
 ghost use Rattle.std.specs.Prelude.{◌≡◌, ◌<◌, ◌≤◌, ◌++◌, ◌∷◌, [], ℕ, IfOk, IsTrue, OnOk, length, slice_index_or, false};
 ghost use Rattle.std.specs.List.{All};
@@ -14,8 +15,8 @@ pub const NUMBERS: usize = 65_536;
 /// The longest list without a table: to search it takes less time than to clear a table.
 const SHORT: usize = 64;
 
-/// Numbers in the order in which they were added. The table may be empty only as long as the list is
-/// short.
+/// Numbers in the order in which they were added. The table may be empty only as long as the list
+/// is short.
 #[derive(Drop)]
 pub struct Numbers {
     alloc: Global,

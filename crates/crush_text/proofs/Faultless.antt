@@ -46,7 +46,8 @@ one_more e check with i known [] x h k = both_none _ _ (place_none e i (check kn
 one_more e check with i known (y ∷ xs) x h k =
     both_none _ _ (first_none (at_place e i (check known y)) _ h) (one_more e check with (i + 1) (with known y) xs x (second_none (at_place e i (check known y)) _ h) k)
 
--- elements have no fault behind other knowledge, where each check and each further knowledge goes over to it
+-- elements have no fault behind other knowledge, where each check and each further knowledge goes
+-- over to it
 as_well : {X : Type 0} (e : Element) (check : Known → X → Option FaultCode) (with : Known → X → Known) (other : Known → Known) →
     ((known : Known) (x : X) → check known x ≡ None → check (other known) x ≡ None) → ((known : Known) (x : X) → with (other known) x ≡ other (with known x)) →
     (i : ℕ) (known : Known) (xs : List X) → first_in e check with i known xs ≡ None → first_in e check with i (other known) xs ≡ None
@@ -147,7 +148,8 @@ rule_as_well b known r h =
 
 -- ---- tunables, types and devices
 
--- no bucket and no rule is declared yet; no type and no device has a fault, and they are what is known
+-- no bucket and no rule is declared yet; no type and no device has a fault, and they are what is
+-- known
 pub record EarlySound (s : Declared) : Type 0 where
   pub no_buckets : s.draft.buckets ≡ []
   pub no_rules : s.draft.rules ≡ []

@@ -1,6 +1,7 @@
 -- What declarations make of a map, and the first of them that has a fault.
 --
--- They are judged in the order of the text, each behind those before it, by the checks by which the elements of a draft are judged.
+-- They are judged in the order of the text, each behind those before it, by the checks by which the
+-- elements of a draft are judged.
 use Rattle.std.specs.Prelude.{ℕ, ℤ, pos, negsuc, min, ◌+◌, ◌==◌, ◌&&◌, not, Bool, true, false, List, [], ◌∷◌, ◌++◌, map, fold, find, filter_map, bytes_eq, unwrap_or, option_map, Option, Some, None}
 use Rattle.std.specs.Option.{option_map_or}
 use Rattle.crush_map.specs.declared.fault.FaultCode.{FaultCode}
@@ -33,7 +34,8 @@ use Rattle.crush_grammar.specs.declared.declaration.DeclaredRule.{DeclaredRule}
 use Rattle.crush_grammar.specs.declared.declaration.Declaration.{Declaration}
 use Rattle.crush_grammar.specs.declared.declaration.Declaration.TheVariants as declarations
 
--- what was declared so far: a draft of the map, what is known by then, and the tunables that were named
+-- what was declared so far: a draft of the map, what is known by then, and the tunables that were
+-- named
 pub record Declared : Type 0 where
   pub draft : MapDraft
   pub known : Known
@@ -73,7 +75,8 @@ undeclared_number = number_limit + 1
 abbrev pub type_number : MapDraft → List ℕ → ℕ
 type_number d name = option_map_or (λ t. t.number) (find (λ t. bytes_eq t.name name) d.types) undeclared_number
 
--- an id, and the weight of an item where none is said: 1.0 for a device, the sum of its items for a bucket
+-- an id, and the weight of an item where none is said: 1.0 for a device, the sum of its items for a
+-- bucket
 abbrev pub of_device : Device → ItemId × Weight
 of_device d = (record { 0 = pos d.id }, record { 0 = 65536 })
 

@@ -10,7 +10,8 @@ use Rattle.crush_grammar.specs.declared.code.TextCode.TheVariants.{X7}
 use Rattle.crush_grammar.specs.declared.code.TextFault.{TextFault}
 use Rattle.crush_grammar.specs.declared.declaration.Declaration.{Declaration}
 
--- the words are of the grammar, no declaration and nothing at the end has a fault, and the map is the one that is declared
+-- the words are of the grammar, no declaration and nothing at the end has a fault, and the map is
+-- the one that is declared
 pub record SaysMap (ws : List Word) (m : Map) : Type 0 where
   pub declarations : List Declaration
   pub form : Declares ws declarations
@@ -25,7 +26,8 @@ pub record HasMapFault (ws : List Word) (f : TextFault) : Type 0 where
   pub form : Declares ws declarations
   pub first : or_else (declared_fault declarations) (last_fault (last_line 1 ws) (declared declarations)) ≡ Some f
 
--- the words leave the grammar; a declaration before that has this fault, or else it is that of the form
+-- the words leave the grammar; a declaration before that has this fault, or else it is that of the
+-- form
 pub record HasFormFault (ws : List Word) (f : TextFault) : Type 0 where
   pub declarations : List Declaration
   pub at : TextFault

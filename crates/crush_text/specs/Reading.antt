@@ -1,6 +1,8 @@
--- The map of a text, or the first fault for which it has none, as a function of its bytes: a means, and no part of what texts are.
+-- The map of a text, or the first fault for which it has none, as a function of its bytes: a means,
+-- and no part of what texts are.
 --
--- The law `texts_are_read_as_they_say` joins it to `IsTextOf`, `HasFirstFault` and `IsRefusedFor` both ways, so that no reader has to believe it.
+-- The law `texts_are_read_as_they_say` joins it to `IsTextOf`, `HasFirstFault` and `IsRefusedFor`
+-- both ways, so that no reader has to believe it.
 use Rattle.std.specs.Prelude.{ℕ, nat_le, nat_lt, List, [], ◌∷◌, length, Option, Some, None, Result, Ok, Err, if◌then◌else◌}
 use Rattle.crush_map.specs.Faults.{or_else}
 use Rattle.crush_map.specs.Map.{Map}
@@ -50,6 +52,7 @@ map_of_words ws = fault_or_map (fault_of_words ws (read ws)) (map_of_draft (decl
 unfoldable pub map_of_stored_text : List ℕ → Result Map TextFault
 map_of_stored_text bytes = map_of_words (words bytes)
 
--- the map of a text that may be imported, or else the fault for which it is refused: its length before all else
+-- the map of a text that may be imported, or else the fault for which it is refused: its length
+-- before all else
 unfoldable pub map_of_text : List ℕ → Result Map TextFault
 map_of_text bytes = if nat_le (length bytes) 524288 then map_of_stored_text bytes else Err (record { line = 1; code = X7 })

@@ -24,7 +24,8 @@ use crush_map::{
 use std::alloc::{AllocError, Global};
 use std::marker::Model;
 
-/// What was declared so far. A contract sees the draft of the map, what is known by then, and the tunables that were named.
+/// What was declared so far. A contract sees the draft of the map, what is known by then, and the
+/// tunables that were named.
 #[derive(Drop)]
 pub(crate) struct Judge {
     known: Known,

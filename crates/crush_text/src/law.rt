@@ -78,9 +78,9 @@ pub fn texts_have_a_map_or_one_fault()
 /// What is written of a map is read back as that map: by `read_stored`, and by `read_map` where it
 /// isn't over the length limit of an import.
 ///
-/// `imported` and `stored` say so of the functions of a text. `by_read_map` and `by_read_stored` say
-/// so of the calls: on what `write_map` writes of a map, each answer that their contracts allow is
-/// that map.
+/// `imported` and `stored` say so of the functions of a text. `by_read_map` and `by_read_stored`
+/// say so of the calls: on what `write_map` writes of a map, each answer that their contracts allow
+/// is that map.
 pub fn written_maps_are_read_back()
     ensures imported { (m : Map) → IsMap m → IsShort (canonical m) → map_of_text (canonical m) ≡ Ok m }
     ensures stored { (m : Map) → IsMap m → map_of_stored_text (canonical m) ≡ Ok m }

@@ -1,4 +1,5 @@
-//! Map texts: reading a text as a map, or its first fault by line and code; the laws of reading and of writing (`crush_writing`).
+//! Map texts: reading a text as a map, or its first fault by line and code; the laws of reading and
+//! of writing (`crush_writing`).
 //!
 //! Source: Ceph's CRUSH map manual, which shows the text that `crushtool -d` writes.
 #![tactic(auto)]

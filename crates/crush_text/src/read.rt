@@ -31,8 +31,9 @@ fn map_of(text: &[u8], judge: Judge) -> Result<CrushMap, TextFault>
 
 /// The map of a stored text, whatever its length, or else its first fault, by line and code.
 ///
-/// Declarations are judged in the order of the text, each behind those before it; a word out of the grammar is a fault
-/// behind what is declared before it. `AllocError` comes where memory was refused.
+/// Declarations are judged in the order of the text, each behind those before it; a word out of the
+/// grammar is a fault behind what is declared before it. `AllocError` comes where memory was
+/// refused.
 pub fn read_stored(alloc: Global, text: &[u8]) -> Result<Result<CrushMap, TextFault>, AllocError>
     ensures map { IfOk result (λ answer. IfOk answer (λ m. IsTextOf text.now m)) }
     ensures refused { IfOk result (λ answer. IfErr answer (λ f. HasFirstFault text.now f)) }
@@ -50,7 +51,8 @@ pub fn read_stored(alloc: Global, text: &[u8]) -> Result<Result<CrushMap, TextFa
 
 /// The map of a text that may be imported, or else its first fault, by line and code.
 ///
-/// A text of over 524,288 bytes is refused (X7 on line 1) before it is read. `AllocError` comes where memory was refused.
+/// A text of over 524,288 bytes is refused (X7 on line 1) before it is read. `AllocError` comes
+/// where memory was refused.
 pub fn read_map(alloc: Global, text: &[u8]) -> Result<Result<CrushMap, TextFault>, AllocError>
     ensures map { IfOk result (λ answer. IfOk answer (λ m. IsShort text.now × IsTextOf text.now m)) }
     ensures refused { IfOk result (λ answer. IfErr answer (λ f. IsRefusedFor text.now f)) }

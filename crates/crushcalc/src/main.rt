@@ -10,10 +10,12 @@ use std::process::ExitCode;
 use std::rt::{Env, Files};
 use std::{env, io};
 
-/// The program's version, and the line of `rt version` of the toolchain that proves and builds it (`tests/run` compares it).
+/// The program's version, and the line of `rt version` of the toolchain that proves and builds it
+/// (`tests/run` compares it).
 const VERSION: &str = "0.1.0\nrattle-kit-13b logic dac8208d650f15bf";
 
-/// The end of the help of `check`: its line, and each code in a line of its own (`docs/MAPS.md` has more of each).
+/// The end of the help of `check`: its line, and each code in a line of its own (`docs/MAPS.md` has
+/// more of each).
 const CODES: &str =
     "It prints 'ok devices D buckets B rules R', or 'refused line L code C' with the first fault.
 With a code X, L is the line of the wrong word. With a code M it is the first line of the tunable, device, type, bucket or
@@ -142,7 +144,8 @@ fn run<R: AllocGlobal + Input + Print + Env + Files>(rt: &R) -> Result<ExitCode,
     }
 }
 
-/// Writes help or the version to standard output, or to standard error why the program stops, and gives the exit status.
+/// Writes help or the version to standard output, or to standard error why the program stops, and
+/// gives the exit status.
 fn report<R: Print + Eprint>(rt: &R, stop: Stop) -> io::Result<ExitCode> {
     let why = match stop {
         Stop::Arguments(error) => {

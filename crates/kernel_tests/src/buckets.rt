@@ -70,7 +70,8 @@ fn picked(
     Ok(picks)
 }
 
-/// The kind and the items of a bucket -1, and the item that it picks for the input 0 at the attempt 0.
+/// The kind and the items of a bucket -1, and the item that it picks for the input 0 at the attempt
+/// 0.
 const FIRST: &[(Kind, &[(i32, u32)], i32)] = &[
     (Uniform, &[(5, ONE), (6, ONE), (7, ONE)], 7),
     (List, &[(0, ONE), (1, ONE)], 0),
@@ -78,7 +79,8 @@ const FIRST: &[(Kind, &[(i32, u32)], i32)] = &[
     (List, &[(0, ONE), (1, 23 * ONE)], 1),
 ];
 
-/// The kind and the items of a bucket -1, and the item that it picks for every input at every attempt.
+/// The kind and the items of a bucket -1, and the item that it picks for every input at every
+/// attempt.
 const ALWAYS: &[(Kind, &[(i32, u32)], i32)] = &[
     (List, &[(4, ONE), (9, 0)], 4),
     (List, &[(4, 0), (9, ONE)], 9),

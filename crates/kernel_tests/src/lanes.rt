@@ -4,7 +4,8 @@ use crate::buckets::next;
 use crush_hash::{hash3, hash3_lanes, hash4, hash4_lanes};
 use std::process::Abort;
 
-/// What Ceph 16's `crush_hash32_4` answers stands in the third lane; each lane is the hash of its item.
+/// What Ceph 16's `crush_hash32_4` answers stands in the third lane; each lane is the hash of its
+/// item.
 #[test]
 fn lanes_hash_as_one_by_one(rt: HostRuntime) {
     assert_eq!(rt;
@@ -25,7 +26,8 @@ fn lanes_hash_as_one_by_one(rt: HostRuntime) {
     }
 }
 
-/// What Ceph 16's `crush_hash32_3` answers stands in the last lane; each lane is the hash of its place.
+/// What Ceph 16's `crush_hash32_3` answers stands in the last lane; each lane is the hash of its
+/// place.
 #[test]
 fn places_hash_as_one_by_one(rt: HostRuntime) {
     assert_eq!(rt; hash3_lanes(1, 2, &[0, 1, 2, 3])[3], 1_935_332_395);

@@ -1,4 +1,5 @@
-//! Tests of `crush_bucket` and `crush_choose`, on maps of drafts. They stand apart, so that these crates are proved once.
+//! Tests of `crush_bucket` and `crush_choose`, on maps of drafts. They stand apart, so that these
+//! crates are proved once.
 #![tactic(auto)]
 
 #[cfg(test)]

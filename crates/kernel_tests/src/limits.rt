@@ -1,4 +1,5 @@
-//! A map at the limits of its numbers, with 1,024 devices and 1,024 buckets: what is built of it answers.
+//! A map at the limits of its numbers, with 1,024 devices and 1,024 buckets: what is built of it
+//! answers.
 
 use crate::drafts::{ONE, SOUND, Short, bucket, choose, generated};
 use crate::rules::ask;
@@ -22,7 +23,8 @@ fn spread(
     bucket(alloc, id, kind_of, alg, &items)
 }
 
-/// The host of a device: uniform with that device alone, or, for the first 32, a list that has a further device without weight behind it.
+/// The host of a device: uniform with that device alone, or, for the first 32, a list that has a
+/// further device without weight behind it.
 fn host(alloc: Global, device: i32) -> Result<Bucket, AllocError> {
     let id = (-2i32).wrapping_sub(device);
     let both = [(device, ONE), (device.wrapping_add(992), 0)];
@@ -33,8 +35,9 @@ fn host(alloc: Global, device: i32) -> Result<Bucket, AllocError> {
     }
 }
 
-/// 992 hosts -2 - device. 31 racks -994 - k, trees of 32 hosts: rack k has those of the devices from 32 k on, and all its weight
-/// is in that of device 33 k. A root of the racks, all of whose weight is in rack 17.
+/// 992 hosts -2 - device. 31 racks -994 - k, trees of 32 hosts: rack k has those of the devices
+/// from 32 k on, and all its weight is in that of device 33 k. A root of the racks, all of whose
+/// weight is in rack 17.
 fn all_buckets(alloc: Global) -> Result<Listed<Bucket>, AllocError> {
     let mut all = Vec::new(alloc);
     for device in 0..992i32 {

@@ -1,4 +1,5 @@
-//! What each kind picks, worked out plainly on the whole list: slow, and written apart from the buckets.
+//! What each kind picks, worked out plainly on the whole list: slow, and written apart from the
+//! buckets.
 
 use crush_hash::{hash3, hash4};
 use crush_map::{ItemId, Kind, Weight};
@@ -40,7 +41,8 @@ pub(crate) fn pick(
     }
 }
 
-/// The list of the places 0, 1, .. after so many exchanges; after as many as there are places it is the permutation.
+/// The list of the places 0, 1, .. after so many exchanges; after as many as there are places it is
+/// the permutation.
 pub(crate) fn exchanged(
     alloc: Global,
     id: ItemId,

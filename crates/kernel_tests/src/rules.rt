@@ -158,7 +158,8 @@ const LIGHT_HOST: Example<'static> = Example {
     ..NOTHING
 };
 
-/// Hosts of one device each, and a root of the hosts -2 and -3 of which the second has no weight, so that it is never chosen.
+/// Hosts of one device each, and a root of the hosts -2 and -3 of which the second has no weight,
+/// so that it is never chosen.
 const SINGLE_HOSTS: Example<'static> = Example {
     buckets: &[
         (-1, "first", 1, Uniform, &[(0, ONE)]),
@@ -169,7 +170,8 @@ const SINGLE_HOSTS: Example<'static> = Example {
     ..NOTHING
 };
 
-/// A leaf of indep starts from the attempt of its bucket: an even attempt for the leaf picks device 1, which is out, and an odd one device 0.
+/// A leaf of indep starts from the attempt of its bucket: an even attempt for the leaf picks device
+/// 1, which is out, and an odd one device 0.
 const LEAVES: Example<'static> = Example {
     buckets: &[
         (-1, "host", 1, Uniform, &[(0, ONE), (1, ONE)]),
@@ -264,7 +266,8 @@ const EXAMPLES: &[Example] = &[
         trace: &[0],
         ..LEAVES
     },
-    // a leaf that doesn't descend once has as many tries as are set for items, here one, and not those of the map's tunables
+    // a leaf that doesn't descend once has as many tries as are set for items, here one, and not
+    // those of the map's tunables
     Example {
         tunables: LEGACY,
         steps: &[
@@ -412,7 +415,8 @@ fn row(first: i32, step: i32, weight: u32) -> [(i32, u32); 4] {
     ]
 }
 
-/// A root of 3 racks of 4 hosts of 3 devices, with a kind for each level; ids fall from -2 on, and the root has -1.
+/// A root of 3 racks of 4 hosts of 3 devices, with a kind for each level; ids fall from -2 on, and
+/// the root has -1.
 fn three_levels(alloc: Global, kinds: [Kind; 3]) -> Result<Listed<Bucket>, AllocError> {
     let [of_root, of_racks, of_hosts] = kinds;
     let mut all = Vec::new(alloc);
@@ -438,8 +442,8 @@ const MAPS: [([Kind; 3], Tunables); 4] = [
     ([Uniform, List, Tree], JEWEL),
 ];
 
-/// Rules, the size of their answers, and for each map the answers of Ceph 16's `crush_do_rule` for the inputs 0 to 255, folded:
-/// each answer's length, then its items.
+/// Rules, the size of their answers, and for each map the answers of Ceph 16's `crush_do_rule` for
+/// the inputs 0 to 255, folded: each answer's length, then its items.
 const CEPH: &[(&[Step], u32, [u64; 4])] = &[
     (
         &[TAKE, choose!(true, true, 0, 1), Step::Emit],

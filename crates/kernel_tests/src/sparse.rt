@@ -66,7 +66,8 @@ fn plain_kept(
     )
 }
 
-/// 200 permutations, each asked ten times for few inputs: what is kept is what the exchanges moved, and after a first question few places.
+/// 200 permutations, each asked ten times for few inputs: what is kept is what the exchanges moved,
+/// and after a first question few places.
 #[test]
 fn a_perm_keeps_what_its_plain_form_moves(rt: HostRuntime) -> Result<(), AllocError> {
     let alloc = rt.alloc();

@@ -29,7 +29,8 @@ const TWO_DEVICES: Short<'static> = Short {
     ..SOUND
 };
 
-/// Each of 64 inputs has one device in its trace, and each device is in some. With the device 0 out its inputs move to the device 1, and no other changes.
+/// Each of 64 inputs has one device in its trace, and each device is in some. With the device 0 out
+/// its inputs move to the device 1, and no other changes.
 fn assert_all_move_from_0(
     rt: &impl Abort,
     tables: &Tables,

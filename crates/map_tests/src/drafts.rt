@@ -21,7 +21,8 @@ pub const JEWEL: Tunables = Tunables {
 /// The steps of a rule that answers nothing.
 pub const EMIT: &[Step] = &[Step::Emit];
 
-/// A choose step: whether it is firstn, whether it is chooseleaf, its count, and the number of the wanted type.
+/// A choose step: whether it is firstn, whether it is chooseleaf, its count, and the number of the
+/// wanted type.
 #[macro_export]
 macro_rules! choose {
     ($firstn:expr, $leaf:expr, $n:expr, $wanted:expr) => {

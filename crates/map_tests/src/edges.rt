@@ -9,7 +9,8 @@ use std::alloc::Global;
 use std::process::Abort;
 use std::test::Fail;
 
-/// What the second of a draft's types, devices, buckets or rules has; in what is wanted a type stands before the others.
+/// What the second of a draft's types, devices, buckets or rules has; in what is wanted a type
+/// stands before the others.
 #[derive(Clone, Copy)]
 struct Second<'a> {
     number: u32,
@@ -72,8 +73,9 @@ const NUMBERS: &[(u32, i32, u32, Option<FaultCode>)] = &[
     (70_000, 0, 300, Some(M12)),
 ];
 
-/// Names, and the fault of a type, and of all else, that has it: one byte, 64 bytes, the bounds of each range of bytes;
-/// none, 65 bytes, the bytes beside those ranges, and bytes above 127; the six words that name no type, and words beside them.
+/// Names, and the fault of a type, and of all else, that has it: one byte, 64 bytes, the bounds of
+/// each range of bytes; none, 65 bytes, the bytes beside those ranges, and bytes above 127; the six
+/// words that name no type, and words beside them.
 const NAMES: &[(&str, Option<FaultCode>, Option<FaultCode>)] = &[
     ("a", None, None),
     (
@@ -171,7 +173,8 @@ fn numbers_of_steps_end_at_their_bounds(rt: HostRuntime) -> Result<(), Fail> {
     Ok(())
 }
 
-/// Tunables, local tries, and the fault: choose_total_tries, chooseleaf_descend_once, chooseleaf_vary_r and chooseleaf_stable alone.
+/// Tunables, local tries, and the fault: choose_total_tries, chooseleaf_descend_once,
+/// chooseleaf_vary_r and chooseleaf_stable alone.
 const TUNABLES: &[((u32, u32, u32, u32), (u32, u32), Option<FaultCode>)] = &[
     ((999, 1, 1, 1), (0, 0), None),
     ((1_000, 1, 1, 1), (0, 0), Some(M12)),

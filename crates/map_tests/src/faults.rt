@@ -1,7 +1,7 @@
 //! Drafts, each with its first fault by the table of faults and the order of their checks.
 //!
-//! No name has both M15 and M3, and no number of a type, device or rule both M12 and M2: what is there already is of the
-//! form and in range.
+//! No name has both M15 and M3, and no number of a type, device or rule both M12 and M2: what is
+//! there already is of the form and in range.
 
 use crate::drafts::{
     EMIT, JEWEL, ONE, SOUND, Short, ShortBucket, ShortRule, choose, draft, map_of,
@@ -83,7 +83,8 @@ const HOST: ShortBucket<'static> = (-1, "host", 1, List, &[(0, ONE), (3, ONE)]);
 /// The greatest weight.
 const MOST: u32 = 4_294_967_295;
 
-/// Buckets, the last of which has the fault: by its id, its name, its type, its items by place, weights that differ, and their sum.
+/// Buckets, the last of which has the fault: by its id, its name, its type, its items by place,
+/// weights that differ, and their sum.
 const BUCKETS: &[(&[ShortBucket], FaultCode)] = &[
     (&[(1, "", 7, List, &[])], M12),
     (&[HOST, (-65_537, "b", 1, List, &[])], M12),
@@ -122,7 +123,8 @@ fn first_faults_of_buckets(rt: HostRuntime) -> Result<(), Fail> {
     Ok(())
 }
 
-/// Buckets of 1,025 items that aren't declared, behind the host: what is wrong with the bucket itself comes first.
+/// Buckets of 1,025 items that aren't declared, behind the host: what is wrong with the bucket
+/// itself comes first.
 const CROWDED: &[(i32, &str, u32, FaultCode)] = &[
     (3, "osd.3", 7, M12),
     (-65_537, "", 7, M12),
@@ -160,7 +162,8 @@ const WRONG: &[Step] = &[Step::SetStable(2); 33];
 
 const FIRST: ShortRule<'static> = (7, "a", EMIT);
 
-/// Rules, the last of which has the fault: by its id, its name, the number of its steps, then the first step that has a fault.
+/// Rules, the last of which has the fault: by its id, its name, the number of its steps, then the
+/// first step that has a fault.
 const RULES: &[(&[ShortRule], FaultCode)] = &[
     (&[(256, "", EMIT)], M12),
     (&[FIRST, (7, "", EMIT)], M2),
@@ -256,7 +259,8 @@ const TRIES: Short<'static> = Short {
     ..SOUND
 };
 
-/// Drafts with faults in several lists, which are checked in this order: types, devices, buckets, rules, the end.
+/// Drafts with faults in several lists, which are checked in this order: types, devices, buckets,
+/// rules, the end.
 const LISTS: &[(Short, (FaultCode, Element, usize))] = &[
     (AT_THE_END, (M12, End, 0)),
     (IN_RULES, (M1, Rules, 0)),
@@ -344,7 +348,8 @@ const OUT_OF_ORDER: Short<'static> = Short {
     ..SOUND
 };
 
-/// The numbers of a map's types, and the ids of its devices, buckets and rules, as they stand in its lists.
+/// The numbers of a map's types, and the ids of its devices, buckets and rules, as they stand in
+/// its lists.
 fn numbers_of(alloc: Global, map: &CrushMap) -> Result<Vec<i64>, AllocError> {
     let mut numbers = Vec::new(alloc);
     for one in map.types() {

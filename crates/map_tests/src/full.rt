@@ -9,7 +9,8 @@ use std::alloc::{AllocError, Global};
 use std::process::Abort;
 use std::test::Fail;
 
-/// How many elements each list of a draft has, and which of them, if it is there, has no name and a number out of range.
+/// How many elements each list of a draft has, and which of them, if it is there, has no name and a
+/// number out of range.
 #[derive(Clone, Copy)]
 struct Counts {
     types: u32,

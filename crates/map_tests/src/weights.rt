@@ -3,7 +3,8 @@
 use crush_map::{Weight, weight_from_text, weight_text};
 use std::test::Fail;
 
-/// Texts, and the weight that each is, rounded down to a word; none where it isn't of the form or too large.
+/// Texts, and the weight that each is, rounded down to a word; none where it isn't of the form or
+/// too large.
 const READ: &[(&[u8], Option<u32>)] = &[
     (b"0", Some(0)),
     (b"1", Some(65_536)),

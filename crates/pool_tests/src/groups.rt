@@ -30,7 +30,8 @@ fn masks_have_just_enough_bits(rt: HostRuntime) {
     }
 }
 
-/// A number of groups, a number, and the group that it falls into (Ceph's `ceph_stable_mod`): what would be no group loses its highest bit.
+/// A number of groups, a number, and the group that it falls into (Ceph's `ceph_stable_mod`): what
+/// would be no group loses its highest bit.
 const FOLDED: &[(u32, u32, u32)] = &[
     (1, 5, 0),
     (3, 2, 2),
@@ -59,7 +60,8 @@ fn numbers_fall_into_their_groups(rt: HostRuntime) {
     }
 }
 
-/// A name, its hash (Ceph's `ceph_str_hash_rjenkins`), a number of groups, and the group of the object with that name.
+/// A name, its hash (Ceph's `ceph_str_hash_rjenkins`), a number of groups, and the group of the
+/// object with that name.
 const OBJECTS: &[(&str, u32, u32, u32)] = &[
     ("", 3_175_731_469, 12, 5),
     ("", 3_175_731_469, 13, 5),

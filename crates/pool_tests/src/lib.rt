@@ -1,4 +1,5 @@
-//! Tests of `crush_pool` and `crush_report`, on maps that are written as texts. They stand apart, so that the crates themselves are proved once.
+//! Tests of `crush_pool` and `crush_report`, on maps that are written as texts. They stand apart,
+//! so that the crates themselves are proved once.
 #![tactic(auto)]
 
 #[cfg(test)]

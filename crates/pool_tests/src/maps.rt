@@ -16,8 +16,8 @@ use std::process::Abort;
 use std::test::Fail;
 use text_tests::texts::{map_of, map_text};
 
-/// A map of three devices. Its rules answer, whatever the input is: the devices 0, 1 and 2; the device 0 and none; the root and then the device 2; the
-/// device 1 twice.
+/// A map of three devices. Its rules answer, whatever the input is: the devices 0, 1 and 2; the
+/// device 0 and none; the root and then the device 2; the device 1 twice.
 pub(crate) const THREE: &str = map_text!(
     "",
     "device 0 osd.0

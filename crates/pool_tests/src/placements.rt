@@ -1,4 +1,5 @@
-//! Placements of groups: the rule's answer, the devices of it that are up, the primary, and the trace that is left.
+//! Placements of groups: the rule's answer, the devices of it that are up, the primary, and the
+//! trace that is left.
 
 use crate::maps::{THREE, asked};
 use crate::pools::{Short, TWELVE, pool};
@@ -11,7 +12,8 @@ use std::process::Abort;
 use std::test::Fail;
 use text_tests::texts::{DEVICE_0, DEVICE_7};
 
-/// A group of a pool, on the map of a text with these states, and its placement with the trace that is left.
+/// A group of a pool, on the map of a text with these states, and its placement with the trace that
+/// is left.
 #[derive(Clone, Copy)]
 struct Case {
     what: &'static str,

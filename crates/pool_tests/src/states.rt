@@ -41,7 +41,8 @@ const STATES: &[DeviceState] = &[
     },
 ];
 
-/// The devices, and whether they are up: the first state counts, and what has none is up, as is an id that no device can have.
+/// The devices, and whether they are up: the first state counts, and what has none is up, as is an
+/// id that no device can have.
 const UP: &[(u32, bool)] = &[
     (0, true),
     (1, false),

@@ -34,7 +34,8 @@ const IMPORT: &str = "{\"request\":\"m1\",\"text\":\"\"}";
 
 const RULE_TEST: &str = "{\"rule\":0,\"size\":1,\"x\":0}";
 
-/// A full store in which the data of each name that begins with `d` is damaged, and each that begins with `b` is a tenant.
+/// A full store in which the data of each name that begins with `d` is damaged, and each that
+/// begins with `b` is a tenant.
 #[derive(Drop)]
 struct PartlyDamaged {
     alloc: Global,

@@ -1,5 +1,6 @@
-//! Tests of `tenant_core` and `crush_app`: requests, scripts, imports, rule tests, pools, states of devices and reports, and a store whose data is damaged in part. They stand apart, so
-//! that these crates are proved once.
+//! Tests of `tenant_core` and `crush_app`: requests, scripts, imports, rule tests, pools, states of
+//! devices and reports, and a store whose data is damaged in part. They stand apart, so that these
+//! crates are proved once.
 #![tactic(auto)]
 
 #[cfg(test)]

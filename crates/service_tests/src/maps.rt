@@ -11,7 +11,8 @@ use tenant_core::{Decision, Effect, TenantStore};
 use tenant_messages::CallParts;
 use tenant_state::{Change, TenantState};
 
-/// The body of an import of a map with one device, under a request number: the device, its bucket's kind, and how the rule chooses.
+/// The body of an import of a map with one device, under a request number: the device, its bucket's
+/// kind, and how the rule chooses.
 macro_rules! import {
     ($number:literal, $device:literal, $alg:literal, $choose:literal) => {
         concat!(
@@ -148,7 +149,8 @@ const ROWS: [Row; 24] = [
     ),
 ];
 
-/// The headline by example: the calls of both tenants in turn, and those of each alone, have the same replies.
+/// The headline by example: the calls of both tenants in turn, and those of each alone, have the
+/// same replies.
 #[test]
 fn tenants_in_turn_are_answered_as_each_alone(rt: HostRuntime) -> Result<(), Fail> {
     assert_each_alone(&rt, rt.alloc(), &ROWS)?;
@@ -198,7 +200,8 @@ fn change_of(decision: Decision) -> Option<Change> {
     }
 }
 
-/// The epochs of a state of tenant a that was held while an import changed the store, and of the state that the store then has.
+/// The epochs of a state of tenant a that was held while an import changed the store, and of the
+/// state that the store then has.
 fn held_and_changed(
     alloc: Global,
     store: &mut MemoryStore,
@@ -219,7 +222,8 @@ fn held_and_changed(
     }
 }
 
-/// The epoch of a state of tenant a that was held while the tenant was removed, if the store then has no such tenant.
+/// The epoch of a state of tenant a that was held while the tenant was removed, if the store then
+/// has no such tenant.
 fn held_and_removed(store: &mut MemoryStore) -> Option<u64> {
     let Ok(Some(held)) = store.load("a") else {
         return None;

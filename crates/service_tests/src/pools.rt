@@ -31,7 +31,8 @@ const IN_BY_NUL: &str = "{\"request\":\"\\u0000\",\"devices\":[{\"id\":3,\"rewei
 /// Removes the pool.
 const GONE: &str = "{\"request\":\"e1\",\"id\":1}";
 
-/// Calls of two tenants in turn. The hash of 0 and 1, which is the seed of group 0 of pool 1, is 91478055.
+/// Calls of two tenants in turn. The hash of 0 and 1, which is the seed of group 0 of pool 1, is
+/// 91478055.
 const ROWS: [Row; 35] = [
     CREATION_OF_A,
     CREATION_OF_B,

@@ -7,8 +7,9 @@ use tenant_core::{Decision, Effect, Routes, StoreFault, decide, read_request, st
 use tenant_messages::{CallParts, Problem, Refusal, Reply, refused};
 use tenant_state::TenantState;
 
-/// The decision on a call of tenant a, which has this state or is absent, where the call is a request. It is a function of its own since what holds both a request
-/// and a decision takes long to prove.
+/// The decision on a call of tenant a, which has this state or is absent, where the call is a
+/// request. It is a function of its own since what holds both a request and a decision takes long
+/// to prove.
 pub(crate) fn decided(
     alloc: Global,
     call: CallParts<'_>,
@@ -66,8 +67,9 @@ fn assert_picked(rt: &impl Abort, alloc: Global, body: &str, picked: i32) -> Res
     Ok(())
 }
 
-/// What follows from the rules alone: where no draw is below a weight of 0, and one hash of Ceph's `crush_hash32_4` (0, 1, 0, -1
-/// is 2425877818, its lower half 62778) and of `crush_hash32_3` (0, -1, 0 is 573963155, 2 modulo 3).
+/// What follows from the rules alone: where no draw is below a weight of 0, and one hash of Ceph's
+/// `crush_hash32_4` (0, 1, 0, -1 is 2425877818, its lower half 62778) and of `crush_hash32_3` (0,
+/// -1, 0 is 573963155, 2 modulo 3).
 #[test]
 fn buckets_pick_as_worked_out_by_hand(rt: HostRuntime) -> Result<(), Fail> {
     let alloc = rt.alloc();
@@ -105,7 +107,8 @@ fn taken_apart(decision: Decision) -> (bool, Reply) {
     (!matches!(effect, Effect::Keep), reply)
 }
 
-/// The same of the decision on a request without a body to the path of tenant a, which was just created or is absent.
+/// The same of the decision on a request without a body to the path of tenant a, which was just
+/// created or is absent.
 fn changed(alloc: Global, method: &str, there: bool) -> Result<(bool, Reply), Fail> {
     let call = CallParts {
         method: method.as_bytes(),

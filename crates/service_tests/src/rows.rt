@@ -8,7 +8,8 @@ use std::process::Abort;
 use tenant_core::TenantStore;
 use tenant_messages::{Bytes, Call, CallParts, Reply};
 
-/// A method, a path and a body, and the status and the body of the reply that the rules of requests give them.
+/// A method, a path and a body, and the status and the body of the reply that the rules of requests
+/// give them.
 pub(crate) type Row = (&'static str, &'static str, &'static str, u16, &'static str);
 
 pub(crate) const CREATION_OF_A: Row = ("PUT", "/t/a", "", 201, "{\"epoch\":0,\"tenant\":\"a\"}");
@@ -92,7 +93,8 @@ pub(crate) fn assert_run(rt: &impl Abort, alloc: Global, rows: &[Row]) -> Result
     Ok(())
 }
 
-/// The calls of the tenants a and b in turn, and those of each alone, have the replies of their rows.
+/// The calls of the tenants a and b in turn, and those of each alone, have the replies of their
+/// rows.
 pub(crate) fn assert_each_alone(
     rt: &impl Abort,
     alloc: Global,

@@ -57,7 +57,8 @@ impl Write for Writer {
     }
 }
 
-/// How the script ends with a reader and a writer that fail after so many calls, and what was written.
+/// How the script ends with a reader and a writer that fail after so many calls, and what was
+/// written.
 fn play(alloc: Global, reads: usize, writes: usize) -> Result<(ScriptEnd, Vec<u8>), AllocError> {
     let mut service = Service::in_memory(alloc)?;
     let mut reader = Reader {

@@ -3,7 +3,8 @@ use Rattle.std.specs.Prelude.{◌≡◌, ◌<◌, ℕ, ℤ, pos, negsuc, nat_le,
 use Rattle.std.specs.List.{All}
 use Rattle.crush_map.specs.Faults.{number_limit, has_number}
 
--- a table of 65,536 flags: the flag at n is true if n is in the list, and every number of the list is below 65,536
+-- a table of 65,536 flags: the flag at n is true if n is in the list, and every number of the list
+-- is below 65,536
 pub record IsTableOf (numbers : List ℕ) (table : List Bool) : Type 0 where
   pub size : length table ≡ 65536
   pub seen : (n : ℕ) → slice_index_or table n false ≡ has_number numbers n
