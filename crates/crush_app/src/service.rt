@@ -41,14 +41,14 @@ fn carry_out_effect<T: TenantStore>(
 fn perform<T: TenantStore>(
     alloc: Global,
     store: &mut T,
-    request: &Request,
+    request: &Request<'_>,
 ) -> Result<Reply, StoreFault>
     ensures ok { T.is_honest store.new → IfOk result (Performs request.now (T.has_state store.old) (T.has_state store.new)) }
     ensures err { T.is_honest store.new → OnErr result (Same (T.has_state store.old) (T.has_state store.new)) }
     ensures damaged { T.is_honest store.new → result ≡ Err StoreFault.Damaged → IsDamaged (T.has_state store.old) request.now.tenant }
     ensures honest { T.is_honest store.new → T.is_honest store.old }
 {
-    let tenant = request.tenant.as_str();
+    let tenant = request.tenant;
     let state = store.load(tenant)?;
     let decision = decide(alloc, tenant, state.as_deref(), &request.action)?;
     // drops the shared state first, so that the store may change it in place

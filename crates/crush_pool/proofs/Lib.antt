@@ -1,4 +1,6 @@
 mod Masks
 pub mod Padding
+mod Placed
 mod Ranges
 mod Uplists
+pub mod ValidChanges

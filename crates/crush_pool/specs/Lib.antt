@@ -1,5 +1,7 @@
 pub mod Groups
 pub mod Pools
 pub mod States
+pub mod Changes
 pub mod Placements
+pub mod Placers
 pub mod Private

@@ -1,9 +1,9 @@
 //! Placements: the devices of a group.
 
-ghost use Rattle.std.specs.Prelude.{◌≡◌, ◌<◌, ◌≤◌, List, Some, IfOk, IfErr, IfSome, is_ok, nat_lt, length, option_map};
+ghost use Rattle.std.specs.Prelude.{◌≡◌, ◌<◌, ◌≤◌, List, Some, IfOk, IfErr, IfSome, OnOk, is_ok, nat_lt, length, option_map};
 ghost use Rattle.crush_map.specs.Map.{Map};
 ghost use Rattle.crush_bucket.specs.Tables.{perms_of, tables_of};
-ghost use Rattle.crush_choose.specs.Rules.{CanRun, IsTrace};
+ghost use Rattle.crush_choose.specs.Rules.{CanRun, IsTrace, rule_answer};
 ghost use Rattle.crush_choose.specs.Weights.{weights_of};
 ghost use Rattle.crush_pool.specs.States.{flags_of, reweights};
 ghost use Rattle.crush_pool.specs.Placements as spec;
@@ -50,16 +50,16 @@ fn is_up(states: &DeviceStates, slot: Slot) -> bool
     }
 }
 
-/// The up list of a replicated or an erasure pool.
-fn up_of(
-    alloc: Global,
+/// Makes `up` the up list of a replicated or an erasure pool.
+pub(crate) fn up_into(
     erasure: bool,
     states: &DeviceStates,
     raw: &[Slot],
-) -> Result<Vec<Slot>, AllocError>
-    ensures { IfOk result (λ up. up.items ≡ spec.up_of erasure states.now raw.now) }
+    up: &mut Vec<Slot>,
+) -> Result<(), AllocError>
+    ensures { OnOk result (up.new.items ≡ spec.up_of erasure states.now raw.now) }
 {
-    let mut up = Vec::with_capacity(alloc, raw.len())?;
+    up.clear();
     for slot in raw {
         if is_up(states, *slot) {
             up.push(*slot)?;
@@ -67,11 +67,11 @@ fn up_of(
             up.push(None)?;
         }
     }
-    Ok(up)
+    Ok(())
 }
 
 /// The first slot that isn't empty.
-fn primary_of(up: &[Slot]) -> Slot
+pub fn primary_of(up: &[Slot]) -> Slot
     ensures { result ≡ spec.primary_of up.now }
 {
     for slot in up {
@@ -93,49 +93,56 @@ fn copied(alloc: Global, slots: &[Slot]) -> Result<Vec<Slot>, AllocError>
     Ok(copy)
 }
 
-/// The placement of a group, or `P2` where the pool has no such group. `out` has the rule's answer and the trace of its run afterwards, and stays as it was at `P2`.
+/// Runs the rule of a pool for a group: sets `out` to its answer and to the trace of the run.
 ///
-/// Tables and weights are those of the pool's map and of the states' reweights, and the rule is the map's rule that the pool names.
-#[tactic(auto, unfolding(crate::specs::Placements::placed))]
-pub fn place_with(
-    alloc: Global,
+/// The rule is the one of the map that the pool names.
+pub(crate) fn run(
     tables: &Tables,
     scratch: &mut Scratch,
     pool: &Pool,
     rule: &Rule,
     weights: &Weights,
-    states: &DeviceStates,
     group: u32,
     out: &mut Out,
-) -> Result<Result<Placement, PoolFault>, AllocError>
+)
     requires rule { CanRun tables.now rule.now }
     requires fits { scratch.old ≡ perms_of tables.now }
-    ensures there { IfOk result (λ answer. is_ok answer ≡ nat_lt group pool.now.pg_num) }
-    ensures placed { IfOk result (λ answer. IfOk answer (λ p. p ≡ spec.placed tables.now weights.now states.now rule.now.steps pool.now group)) }
-    ensures fault { IfOk result (λ answer. IfErr answer (λ fault. fault ≡ PoolFault.P2)) }
-    ensures items { IfOk result (λ answer. IfOk answer (λ p. out.new.items ≡ p.raw)) }
-    ensures trace { IfOk result (λ answer. IfOk answer (λ p. IsTrace tables.now weights.now rule.now.steps p.seed pool.now.size out.new.trace)) }
-    ensures kept { IfOk result (λ answer. IfErr answer (λ fault. out.new ≡ out.old)) }
+    ensures items { out.new.items ≡ rule_answer tables.now weights.now rule.now.steps (seed_of pool.now group) pool.now.size }
+    ensures trace { IsTrace tables.now weights.now rule.now.steps (seed_of pool.now group) pool.now.size out.new.trace }
     ensures fits { scratch.new ≡ perms_of tables.now }
 {
-    let parts = pool.parts();
-    if group >= parts.pg_num {
-        return Ok(Err(PoolFault::P2));
-    }
     let seed = pool.seed_of(group);
-    run_rule(tables, scratch, rule, seed, parts.size, weights, out);
+    let size = pool.parts().size;
+    run_rule(tables, scratch, rule, seed, size, weights, out);
+}
+
+/// The placement of a group by what the pool's rule answered for it.
+pub(crate) fn placement_by(
+    alloc: Global,
+    pool: &Pool,
+    states: &DeviceStates,
+    group: u32,
+    out: &Out,
+) -> Result<Placement, AllocError>
+    ensures seed { IfOk result (λ p. p.seed ≡ seed_of pool.now group) }
+    ensures raw { IfOk result (λ p. p.raw ≡ out.now.items) }
+    ensures up { IfOk result (λ p. p.up ≡ spec.up_of pool.now.erasure states.now out.now.items) }
+    ensures primary { IfOk result (λ p. p.primary ≡ spec.primary_of p.up) }
+{
     let raw = copied(alloc, out.items())?;
-    let up = up_of(alloc, parts.erasure, states, &raw)?;
+    let mut up = Vec::with_capacity(alloc, raw.len())?;
+    up_into(pool.parts().erasure, states, &raw, &mut up)?;
     let primary = primary_of(&up);
-    Ok(Ok(Placement {
-        seed,
+    Ok(Placement {
+        seed: pool.seed_of(group),
         raw: Listed::new(raw),
         up: Listed::new(up),
         primary,
-    }))
+    })
 }
 
 /// The placement of a group, or `P2` where the pool has no such group.
+#[tactic(auto, unfolding(crate::specs::Placements::placed))]
 pub fn place(
     alloc: Global,
     tables: &Tables,
@@ -154,8 +161,10 @@ pub fn place(
     ensures fits { scratch.new ≡ perms_of tables.now }
     ensures map { (m : Map) (given : List DeviceState) → tables.now ≡ tables_of m → weights.now ≡ weights_of (reweights given) → states.now ≡ flags_of given → spec.rule_numbered m pool.now.rule ≡ Some rule.now → IfOk result (λ answer. IfOk answer (λ p. Some p ≡ spec.placement m given pool.now group)) }
 {
+    if group >= pool.parts().pg_num {
+        return Ok(Err(PoolFault::P2));
+    }
     let mut out = Out::build(alloc)?;
-    place_with(
-        alloc, tables, scratch, pool, rule, weights, states, group, &mut out,
-    )
+    run(tables, scratch, pool, rule, weights, group, &mut out);
+    Ok(Ok(placement_by(alloc, pool, states, group, &out)?))
 }

@@ -8,10 +8,10 @@ use Rattle.std.proofs.lemmas.Bool.Decides.{nat_tests, Decides-and}
 use Rattle.std.proofs.lemmas.Slice.Eq.{bytes_eq-Decides}
 use Rattle.csv.specs.Reading.{default_config, records, strip_bom}
 use Rattle.crush_words.specs.Numbers.{number_of}
-use Rattle.crush_report.specs.Changes.{is_valid}
+use Rattle.crush_pool.specs.Changes.{are_valid_changes}
 use Rattle.crush_report.specs.DeviceCsv.{IsChangeRecord, IsDeviceCsv, IsFlag, IsNumber, Says, before, change_of, change_of_fields, change_with, changes_of, changes_under_head, device_changes_of, device_head, flag_of, if_valid, is_head, number_up_to, three_of}
-use Rattle.crush_report.specs.declared.changes.DeviceChange.{DeviceChange}
-use Rattle.crush_report.proofs.ValidChanges.{Decides-is_valid}
+use Rattle.crush_pool.specs.declared.changes.DeviceChange.{DeviceChange}
+use Rattle.crush_pool.proofs.ValidChanges.{Decides-are_valid_changes}
 
 -- ---- fields
 
@@ -137,17 +137,17 @@ pub text_says : (text : List ℕ) (cs : List DeviceChange) → device_changes_of
 text_says text cs e = on_records (records default_config (strip_bom text)) refl e
   where
     on_valid : (b : Bool) (found : List DeviceChange) (rows : List (List (List ℕ))) → records default_config (strip_bom text) ≡ device_head ∷ rows → changes_of rows ≡ Some found
-        → is_valid found ≡ b → (if b then Some found else None) ≡ Some cs → IsDeviceCsv text cs
+        → are_valid_changes found ≡ b → (if b then Some found else None) ≡ Some cs → IsDeviceCsv text cs
     on_valid false found rows f g t e = cc
     on_valid true found rows f g t e =
         let same : found ≡ cs = cc in
-        let valid = (Decides-is_valid found).0 t in
+        let valid = (Decides-are_valid_changes found).0 t in
         rw (← same) (record { rows = rows; table = f; each = changes_say rows found g; some = valid.some; few = valid.few; distinct = valid.distinct })
 
     on_changes : (found : Option (List DeviceChange)) (rows : List (List (List ℕ))) → records default_config (strip_bom text) ≡ device_head ∷ rows → changes_of rows ≡ found
         → option_and_then if_valid found ≡ Some cs → IsDeviceCsv text cs
     on_changes None rows f g e = cc
-    on_changes (Some found) rows f g e = on_valid (is_valid found) found rows f g refl e
+    on_changes (Some found) rows f g e = on_valid (are_valid_changes found) found rows f g refl e
 
     on_head : (b : Bool) (head : List (List ℕ)) (rows : List (List (List ℕ))) → records default_config (strip_bom text) ≡ head ∷ rows → is_head head ≡ b
         → (if b then option_and_then if_valid (changes_of rows) else None) ≡ Some cs → IsDeviceCsv text cs
@@ -160,5 +160,5 @@ text_says text cs e = on_records (records default_config (strip_bom text)) refl 
 
 pub text_found : (text : List ℕ) (cs : List DeviceChange) → IsDeviceCsv text cs → device_changes_of text ≡ Some cs
 text_found text cs is =
-    let valid : is_valid cs ≡ true = (Decides-is_valid cs).1 (record { some = is.some; few = is.few; distinct = is.distinct }) in
+    let valid : are_valid_changes cs ≡ true = (Decides-are_valid_changes cs).1 (record { some = is.some; few = is.few; distinct = is.distinct }) in
     rw (is.table, head_found, changes_found is.rows cs is.each, valid) refl

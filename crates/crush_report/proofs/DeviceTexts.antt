@@ -4,9 +4,9 @@ use Rattle.std.specs.Prelude.{Option, Bool, nat_le, if◌then◌else◌, option_
 use Rattle.std.proofs.lemmas.Bool.{cases_Bool}
 use Rattle.std.proofs.lemmas.List.{length-take-le, take_all}
 use Rattle.csv.specs.Records.{field_at}
-use Rattle.crush_report.specs.Changes.{are_distinct}
+use Rattle.crush_pool.specs.Changes.{are_distinct}
 use Rattle.crush_report.specs.DeviceCsv.{before, change_of, changes_of, changes_under_head, if_valid, is_head, three_of}
-use Rattle.crush_report.specs.declared.changes.DeviceChange.{DeviceChange}
+use Rattle.crush_pool.specs.declared.changes.DeviceChange.{DeviceChange}
 
 pub no_three : (fields : List (List ℕ)) → (length fields ≡ 3 → ⊥) → three_of fields ≡ None
 unfolding three_of

@@ -4,6 +4,7 @@ mod Groups
 mod Items
 mod Moving
 mod OfMap
+mod OnMaps
 mod Short
 mod Sums
 mod Tallies
@@ -12,5 +13,4 @@ pub mod DeviceTexts
 pub mod CsvTexts
 pub mod Reached
 pub mod ReadBack
-pub mod ValidChanges
 pub mod DeviceForms

@@ -8,8 +8,8 @@ use Rattle.std.specs.Option.{option_map_or}
 use Rattle.std.specs.Str.{bytes_eq}
 use Rattle.csv.specs.Reading.{default_config, records, strip_bom}
 use Rattle.crush_words.specs.Numbers.{number_of}
-use Rattle.crush_report.specs.Changes.{is_valid}
-use Rattle.crush_report.specs.declared.changes.DeviceChange.{DeviceChange}
+use Rattle.crush_pool.specs.Changes.{are_valid_changes}
+use Rattle.crush_pool.specs.declared.changes.DeviceChange.{DeviceChange}
 
 -- ---- the form
 
@@ -95,7 +95,7 @@ abbrev pub is_head : List (List ℕ) → Bool
 is_head fields = option_map_or is_head_of_three (three_of fields) false
 
 abbrev pub if_valid : List DeviceChange → Option (List DeviceChange)
-if_valid cs = if is_valid cs then Some cs else None
+if_valid cs = if are_valid_changes cs then Some cs else None
 
 -- the head first, and then 1 to 1,024 changes, each of another device
 abbrev pub changes_under_head : List (List (List ℕ)) → Option (List DeviceChange)

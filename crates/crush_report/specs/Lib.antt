@@ -3,6 +3,5 @@ pub mod Moves
 pub mod Impact
 pub mod Reports
 pub mod Csv
-pub mod Changes
 pub mod DeviceCsv
 pub mod Private

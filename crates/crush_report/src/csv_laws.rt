@@ -4,7 +4,7 @@ ghost use Rattle.std.specs.Prelude.{◌≡◌, ◌↔◌, ℕ, List, None, Some}
 ghost use Rattle.csv.specs.Reading.{default_config, records, strip_bom};
 ghost use Rattle.crush_report.specs.Csv as spec;
 ghost use Rattle.crush_report.specs.DeviceCsv.{IsDeviceCsv, device_changes_of};
-ghost use Rattle.crush_report.specs.declared.changes.DeviceChange.{DeviceChange};
+ghost use Rattle.crush_pool.specs.declared.changes.DeviceChange.{DeviceChange};
 ghost use Rattle.crush_report.specs.declared.rows.MoveRow.{MoveRow};
 ghost use Rattle.crush_report.specs.declared.rows.UsageRow.{UsageRow};
 

@@ -5,7 +5,7 @@ ghost use Rattle.csv.specs.Reading.{default_config, error_kind, records, stops_r
 ghost use Rattle.csv.specs.Records.{fields_of};
 ghost use Rattle.crush_report.specs.DeviceCsv as spec;
 
-use crate::changes::{DeviceChange, is_valid};
+use crush_pool::{DeviceChange, are_valid_changes};
 use crush_words::number_from_text;
 use csv::{ByteRecord, Error, ErrorKind, ReaderBuilder};
 use std::alloc::{AllocError, Global};
@@ -112,7 +112,7 @@ fn changes_under_head(
         return Ok(None);
     }
     match changes(alloc, others)? {
-        Some(changes) if is_valid(&changes) => Ok(Some(changes)),
+        Some(changes) if are_valid_changes(&changes) => Ok(Some(changes)),
         _ => Ok(None),
     }
 }

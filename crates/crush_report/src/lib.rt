@@ -4,21 +4,19 @@
 //! Its tests are in the crate `pool_tests`.
 #![tactic(auto)]
 
-mod changes;
 mod counts;
 mod csv_laws;
 mod csv_read;
 mod csv_write;
 pub mod laws;
 mod moved_groups;
-mod placing;
 mod reports;
 mod rows;
 mod touched_groups;
 mod usage_counts;
 pub mod usage_laws;
 
-pub use changes::{DeviceChange, is_valid};
+pub use crush_pool::{DeviceChange, are_valid_changes};
 pub use csv_laws::{device_csvs_are_of_the_form, reports_are_read_back};
 pub use csv_read::{CsvFault, read_device_csv};
 pub use csv_write::{moves_csv, usage_csv};

@@ -1,22 +1,14 @@
 //! The groups of a pool whose up lists differ between two maps.
 
-ghost use Rattle.std.specs.Prelude.{◌≡◌, ◌<◌, ◌≤◌, ◌^◌, List, Some, IfOk};
-ghost use Rattle.crush_map.specs.Map.{Map};
-ghost use Rattle.crush_bucket.specs.Tables.{tables_of};
-ghost use Rattle.crush_choose.specs.Rules.{CanRun};
-ghost use Rattle.crush_choose.specs.Weights.{weights_of};
-ghost use Rattle.crush_pool.specs.Placements.{rule_numbered};
-ghost use Rattle.crush_pool.specs.States.{flags_of, reweights};
-ghost use Rattle.crush_pool.specs.declared.states.DeviceState.{DeviceState};
+ghost use Rattle.std.specs.Prelude.{◌≡◌, ◌<◌, ◌≤◌, ◌^◌, Some, IfOk};
 ghost use Rattle.crush_report.specs.Moves as spec;
-ghost use Rattle.crush_report.specs.Reports.{groups, up_list, moves};
+ghost use Rattle.crush_report.specs.Reports.{moves};
 
-use crate::placing::placement_of;
 use crate::rows::MoveRow;
-use crush_bucket::{Scratch, Tables};
-use crush_choose::{Out, Slot, Weights, has, slot_has};
-use crush_map::{Listed, Rule};
-use crush_pool::{DeviceStates, Placement, Pool};
+use crush_bucket::Scratch;
+use crush_choose::{Out, Slot, has, slot_has};
+use crush_map::Listed;
+use crush_pool::{Placement, Placer};
 use std::alloc::{AllocError, Global};
 
 /// Whether two slots are the same.
@@ -103,54 +95,24 @@ pub fn gained_in(rows: &[MoveRow]) -> u64
     total
 }
 
-/// The groups whose up lists differ between two maps, in order, on prepared tables.
-///
-/// The first rule is the one of the first map that the pool names, the second that of the second map; weights and states are those of the same states of devices.
+/// The groups of a pool whose up lists differ between two maps, in order. The states of devices are
+/// the same on both.
 #[tactic(auto, using(crate::proofs::Groups::moves_more))]
-pub fn moves_with(
-    alloc: Global,
-    from: &Tables,
-    first: &Rule,
-    to: &Tables,
-    second: &Rule,
-    pool: &Pool,
-    weights: &Weights,
-    states: &DeviceStates,
-) -> Result<Listed<MoveRow>, AllocError>
-    requires runs_first { CanRun from.now first.now }
-    requires runs_second { CanRun to.now second.now }
-    ensures rows { IfOk result (λ rows. rows ≡ spec.move_rows (up_list from.now weights.now states.now first.now.steps pool.now) (up_list to.now weights.now states.now second.now.steps pool.now) (groups pool.now)) }
+pub fn moves_with(alloc: Global, from: &Placer, to: &Placer) -> Result<Listed<MoveRow>, AllocError>
+    requires states { to.now.states ≡ from.now.states }
+    requires pool { to.now.pool ≡ from.now.pool }
+    ensures rows { IfOk result (λ rows. Some rows ≡ moves from.now.map to.now.map from.now.states from.now.pool) }
     ensures gained { IfOk result (λ rows. spec.gained_in rows ≤ 2097152) }
-    ensures maps { (before after : Map) (given : List DeviceState) → from.now ≡ tables_of before → to.now ≡ tables_of after → weights.now ≡ weights_of (reweights given) → states.now ≡ flags_of given
-        → rule_numbered before pool.now.rule ≡ Some first.now → rule_numbered after pool.now.rule ≡ Some second.now → IfOk result (λ rows. Some rows ≡ moves before after given pool.now) }
 {
-    let mut old_scratch = Scratch::build(alloc, from)?;
-    let mut new_scratch = Scratch::build(alloc, to)?;
+    let _first = from.map();
+    let _second = to.map();
+    let mut old_scratch = Scratch::build(alloc, from.tables())?;
+    let mut new_scratch = Scratch::build(alloc, to.tables())?;
     let mut out = Out::build(alloc)?;
     let mut rows = Vec::new(alloc);
-    for group in 0..pool.parts().pg_num {
-        let old = placement_of(
-            alloc,
-            from,
-            &mut old_scratch,
-            pool,
-            first,
-            weights,
-            states,
-            group,
-            &mut out,
-        )?;
-        let new = placement_of(
-            alloc,
-            to,
-            &mut new_scratch,
-            pool,
-            second,
-            weights,
-            states,
-            group,
-            &mut out,
-        )?;
+    for group in 0..from.pool().parts().pg_num {
+        let old = from.place_with(alloc, &mut old_scratch, &mut out, group)?;
+        let new = to.place_with(alloc, &mut new_scratch, &mut out, group)?;
         if let Some(row) = move_between(group, old, new) {
             rows.push(row)?;
         }

@@ -3,7 +3,7 @@
 ghost use Rattle.std.specs.Prelude.{◌≡◌, Some, IfOk, is_some, true};
 ghost use Rattle.crush_choose.specs.Weights.{weights_of};
 ghost use Rattle.crush_pool.specs.Placements.{rule_numbered};
-ghost use Rattle.crush_pool.specs.States.{reweights};
+ghost use Rattle.crush_pool.specs.States.{flags_of, reweights};
 ghost use Rattle.crush_report.specs.Reports as spec;
 
 use crate::moved_groups::moves_with;
@@ -13,7 +13,7 @@ use crate::usage_counts::usage_with;
 use crush_bucket::Tables;
 use crush_choose::Weights;
 use crush_map::{CrushMap, Listed};
-use crush_pool::{DeviceState, DeviceStates, Pool, reweights_of, rule_with_id};
+use crush_pool::{DeviceState, DeviceStates, Placer, Pool, reweights_of};
 use std::alloc::{AllocError, Global};
 
 /// The reweights of devices in these states.
@@ -33,13 +33,37 @@ pub fn usage(
     requires { is_some (rule_numbered map.now pool.now.rule) ≡ true }
     ensures { IfOk result (λ rows. Some rows ≡ spec.usage map.now states.now pool.now) }
 {
-    let Some(rule) = rule_with_id(map, pool.parts().rule) else {
-        unreachable!();
-    };
     let tables = Tables::build(alloc, map)?;
     let weights = weights_of(alloc, states)?;
     let flags = DeviceStates::build(alloc, states)?;
-    usage_with(alloc, map.devices(), &tables, pool, rule, &weights, &flags)
+    match Placer::new(map, &tables, states, &weights, &flags, pool) {
+        Some(placer) => usage_with(alloc, &placer),
+        None => unreachable!(),
+    }
+}
+
+/// The groups whose up lists differ between the map of a placer and another map.
+fn moves_to(
+    alloc: Global,
+    old: &Placer,
+    to: &CrushMap,
+    states: &[DeviceState],
+    weights: &Weights,
+    flags: &DeviceStates,
+    pool: &Pool,
+) -> Result<Listed<MoveRow>, AllocError>
+    requires rule { is_some (rule_numbered to.now pool.now.rule) ≡ true }
+    requires states { states.now ≡ old.now.states }
+    requires pool { pool.now ≡ old.now.pool }
+    requires weights { weights.now ≡ weights_of (reweights states.now) }
+    requires flags { flags.now ≡ flags_of states.now }
+    ensures { IfOk result (λ rows. Some rows ≡ spec.moves old.now.map to.now old.now.states old.now.pool) }
+{
+    let tables = Tables::build(alloc, to)?;
+    match Placer::new(to, &tables, states, weights, flags, pool) {
+        Some(new) => moves_with(alloc, old, &new),
+        None => unreachable!(),
+    }
 }
 
 /// The groups of a pool whose up lists differ between two maps, in order. Both maps have the pool's rule.
@@ -54,26 +78,13 @@ pub fn moves(
     requires second { is_some (rule_numbered to.now pool.now.rule) ≡ true }
     ensures { IfOk result (λ rows. Some rows ≡ spec.moves from.now to.now states.now pool.now) }
 {
-    let Some(first) = rule_with_id(from, pool.parts().rule) else {
-        unreachable!();
-    };
-    let Some(second) = rule_with_id(to, pool.parts().rule) else {
-        unreachable!();
-    };
     let old_tables = Tables::build(alloc, from)?;
-    let new_tables = Tables::build(alloc, to)?;
     let weights = weights_of(alloc, states)?;
     let flags = DeviceStates::build(alloc, states)?;
-    moves_with(
-        alloc,
-        &old_tables,
-        first,
-        &new_tables,
-        second,
-        pool,
-        &weights,
-        &flags,
-    )
+    match Placer::new(from, &old_tables, states, &weights, &flags, pool) {
+        Some(old) => moves_to(alloc, &old, to, states, &weights, &flags, pool),
+        None => unreachable!(),
+    }
 }
 
 /// The groups of a pool in whose trace a device is, in order. The map has the pool's rule.
@@ -90,10 +101,11 @@ pub fn impact(
     requires { is_some (rule_numbered map.now pool.now.rule) ≡ true }
     ensures { IfOk result (λ groups. Some groups ≡ spec.impact map.now states.now pool.now device) }
 {
-    let Some(rule) = rule_with_id(map, pool.parts().rule) else {
-        unreachable!();
-    };
     let tables = Tables::build(alloc, map)?;
     let weights = weights_of(alloc, states)?;
-    impact_with(alloc, &tables, pool, rule, &weights, device)
+    let flags = DeviceStates::build(alloc, states)?;
+    match Placer::new(map, &tables, states, &weights, &flags, pool) {
+        Some(placer) => impact_with(alloc, &placer, device),
+        None => unreachable!(),
+    }
 }

@@ -1,22 +1,16 @@
 //! Which groups of a pool a device can touch.
 
-ghost use Rattle.std.specs.Prelude.{◌≡◌, List, Some, IfOk};
+ghost use Rattle.std.specs.Prelude.{◌≡◌, Some, IfOk};
 ghost use Rattle.crush_map.specs.Faults.{has_number};
-ghost use Rattle.crush_map.specs.Map.{Map};
 ghost use Rattle.crush_bucket.specs.Tables.{perms_of, tables_of};
-ghost use Rattle.crush_choose.specs.Rules.{CanRun};
-ghost use Rattle.crush_choose.specs.Weights.{weights_of};
-ghost use Rattle.crush_pool.specs.Placements.{rule_numbered};
-ghost use Rattle.crush_pool.specs.States.{reweights};
-ghost use Rattle.crush_pool.specs.declared.states.DeviceState.{DeviceState};
-ghost use Rattle.crush_report.specs.Impact as spec;
-ghost use Rattle.crush_report.specs.Reports.{groups, impact};
+ghost use Rattle.crush_report.specs.Private.OnMaps.{trace_on};
+ghost use Rattle.crush_report.specs.Reports.{impact};
 
-use crush_bucket::{Scratch, Tables};
+use crush_bucket::Scratch;
+use crush_choose::Out;
 use crush_choose::laws::traces_ascend;
-use crush_choose::{Out, Weights, run_rule};
-use crush_map::{Listed, Rule};
-use crush_pool::Pool;
+use crush_map::Listed;
+use crush_pool::Placer;
 use std::alloc::{AllocError, Global};
 
 /// Whether a number is in a list.
@@ -28,59 +22,35 @@ fn has_number(numbers: &[u32], number: u32) -> bool
 
 /// Whether a device is in the trace of a group.
 fn is_touched(
-    tables: &Tables,
+    placer: &Placer,
     scratch: &mut Scratch,
-    pool: &Pool,
-    rule: &Rule,
-    weights: &Weights,
+    out: &mut Out,
     device: u32,
     group: u32,
-    out: &mut Out,
 ) -> bool
-    requires rule { CanRun tables.now rule.now }
-    requires fits { scratch.old ≡ perms_of tables.now }
-    ensures touched { result ≡ has_number (spec.trace_of tables.now weights.now rule.now.steps pool.now group) device }
-    ensures fits { scratch.new ≡ perms_of tables.now }
+    requires fits { scratch.old ≡ perms_of (tables_of placer.now.map) }
+    ensures touched { result ≡ has_number (trace_on placer.now group) device }
+    ensures fits { scratch.new ≡ perms_of (tables_of placer.now.map) }
 {
     traces_ascend();
-    let seed = pool.seed_of(group);
-    let size = pool.parts().size;
-    run_rule(tables, scratch, rule, seed, size, weights, out);
+    placer.run(scratch, out, group);
     has_number(out.trace(), device)
 }
 
-/// The groups in whose trace a device is, in order, on prepared tables.
+/// The groups of a pool in whose trace a device is, in order.
 ///
-/// The rule is the one of the map that the pool names. Lower reweights of the device leave every other group where the rule puts it
+/// Lower reweights of the device leave every other group where the rule puts it
 /// (`crush_choose::run_rule`).
 #[tactic(auto, using(crate::proofs::Groups::touched_more))]
-pub fn impact_with(
-    alloc: Global,
-    tables: &Tables,
-    pool: &Pool,
-    rule: &Rule,
-    weights: &Weights,
-    device: u32,
-) -> Result<Listed<u32>, AllocError>
-    requires rule { CanRun tables.now rule.now }
-    ensures groups { IfOk result (λ found. found ≡ spec.touched tables.now weights.now rule.now.steps pool.now device (groups pool.now)) }
-    ensures map { (m : Map) (given : List DeviceState) → tables.now ≡ tables_of m → weights.now ≡ weights_of (reweights given)
-        → rule_numbered m pool.now.rule ≡ Some rule.now → IfOk result (λ found. Some found ≡ impact m given pool.now device) }
+pub fn impact_with(alloc: Global, placer: &Placer, device: u32) -> Result<Listed<u32>, AllocError>
+    ensures { IfOk result (λ found. Some found ≡ impact placer.now.map placer.now.states placer.now.pool device) }
 {
-    let mut scratch = Scratch::build(alloc, tables)?;
+    let _map = placer.map();
+    let mut scratch = Scratch::build(alloc, placer.tables())?;
     let mut out = Out::build(alloc)?;
     let mut found = Vec::new(alloc);
-    for group in 0..pool.parts().pg_num {
-        if is_touched(
-            tables,
-            &mut scratch,
-            pool,
-            rule,
-            weights,
-            device,
-            group,
-            &mut out,
-        ) {
+    for group in 0..placer.pool().parts().pg_num {
+        if is_touched(placer, &mut scratch, &mut out, device, group) {
             found.push(group)?;
         }
     }

@@ -1,25 +1,17 @@
 //! How much of a pool lies on each device.
 
 ghost use Rattle.std.specs.Prelude.{◌≡◌, ◌<◌, ◌≤◌, ◌*◌, ◌^◌, ℕ, List, Some, IfOk, length, map};
-ghost use Rattle.crush_map.specs.Map.{Map};
-ghost use Rattle.crush_bucket.specs.Tables.{tables_of};
-ghost use Rattle.crush_choose.specs.Rules.{CanRun};
-ghost use Rattle.crush_choose.specs.Marks.{Slot};
-ghost use Rattle.crush_choose.specs.Weights.{weights_of};
-ghost use Rattle.crush_pool.specs.Placements.{primary_of, rule_numbered};
-ghost use Rattle.crush_pool.specs.States.{flags_of, reweights};
-ghost use Rattle.crush_pool.specs.declared.states.DeviceState.{DeviceState};
+ghost use Rattle.crush_report.specs.Private.OnMaps.{up_on};
 ghost use Rattle.crush_report.specs.Private.Tallies.{IsTally, count_at, id_bound, row_by};
 ghost use Rattle.crush_report.specs.Usage as spec;
-ghost use Rattle.crush_report.specs.Reports.{groups, up_list, usage};
+ghost use Rattle.crush_report.specs.Reports.{groups, usage};
 
 use crate::counts::{count_entries, count_group, count_slot, filled};
-use crate::placing::placement_of;
 use crate::rows::UsageRow;
-use crush_bucket::{Scratch, Tables};
-use crush_choose::{Out, Slot, Weights};
-use crush_map::{Device, Listed, Rule};
-use crush_pool::{DeviceStates, Pool};
+use crush_bucket::Scratch;
+use crush_choose::{Out, Slot};
+use crush_map::{Device, Listed};
+use crush_pool::{Placer, primary_of};
 use std::alloc::{AllocError, Global};
 use std::marker::Model;
 
@@ -119,37 +111,21 @@ fn bound_of(devices: &[Device]) -> usize
     bound
 }
 
-/// What is counted of the up lists of all groups of a pool, for these devices.
-#[tactic(auto, using(crate::proofs::Groups::lists_more))]
-fn tally_of(
-    alloc: Global,
-    devices: &[Device],
-    tables: &Tables,
-    pool: &Pool,
-    rule: &Rule,
-    weights: &Weights,
-    states: &DeviceStates,
-) -> Result<Tally, AllocError>
-    requires rule { CanRun tables.now rule.now }
+/// What is counted of the up lists of all groups of a pool, for these devices. The lists have one
+/// memory, one after the other.
+fn tally_of(alloc: Global, devices: &[Device], placer: &Placer) -> Result<Tally, AllocError>
     ensures few { IfOk result (λ t. (id : ℕ) → 1000 * count_at t.entries id < 2 ^ 32) }
-    ensures tally { IfOk result (λ t. IsTally (id_bound devices.now) (map (up_list tables.now weights.now states.now rule.now.steps pool.now) (groups pool.now)) t) }
+    ensures tally { IfOk result (λ t. IsTally (id_bound devices.now) (map (up_on placer.now) (groups placer.now.pool)) t) }
 {
-    let mut scratch = Scratch::build(alloc, tables)?;
+    let mut scratch = Scratch::build(alloc, placer.tables())?;
     let mut out = Out::build(alloc)?;
+    let mut up = Vec::new(alloc);
     let mut tally = Tally::new(alloc, bound_of(devices))?;
-    for group in 0..pool.parts().pg_num {
-        let placement = placement_of(
-            alloc,
-            tables,
-            &mut scratch,
-            pool,
-            rule,
-            weights,
-            states,
-            group,
-            &mut out,
-        )?;
-        tally.add(placement.up.as_slice(), placement.primary);
+    for group in 0..placer.pool().parts().pg_num {
+        placer.run(&mut scratch, &mut out, group);
+        placer.up_into(&out, &mut up)?;
+        let listed = up.as_slice();
+        tally.add(listed, primary_of(listed));
     }
     Ok(tally)
 }
@@ -166,25 +142,12 @@ fn rows_of(alloc: Global, devices: &[Device], tally: &Tally) -> Result<Listed<Us
     Ok(Listed::new(rows))
 }
 
-/// How much of a pool lies on each device, in the order of the devices, on prepared tables.
-///
-/// The devices are the map's, and the rule is the one of the map that the pool names; weights and states are those of the same states of
-/// devices.
-pub fn usage_with(
-    alloc: Global,
-    devices: &[Device],
-    tables: &Tables,
-    pool: &Pool,
-    rule: &Rule,
-    weights: &Weights,
-    states: &DeviceStates,
-) -> Result<Listed<UsageRow>, AllocError>
-    requires rule { CanRun tables.now rule.now }
-    ensures rows { IfOk result (λ rows. rows ≡ spec.usage_rows devices.now (map (up_list tables.now weights.now states.now rule.now.steps pool.now) (groups pool.now))) }
-    ensures map { (m : Map) (given : List DeviceState) → devices.now ≡ m.devices → tables.now ≡ tables_of m → weights.now ≡ weights_of (reweights given) → states.now ≡ flags_of given
-        → rule_numbered m pool.now.rule ≡ Some rule.now → IfOk result (λ rows. Some rows ≡ usage m given pool.now) }
+/// How much of a pool lies on each device of a map, in the order of the devices.
+pub fn usage_with(alloc: Global, placer: &Placer) -> Result<Listed<UsageRow>, AllocError>
+    ensures { IfOk result (λ rows. Some rows ≡ usage placer.now.map placer.now.states placer.now.pool) }
 {
-    let tally = tally_of(alloc, devices, tables, pool, rule, weights, states)?;
+    let devices = placer.map().devices();
+    let tally = tally_of(alloc, devices, placer)?;
     let rows = rows_of(alloc, devices, &tally)?;
     Ok(rows)
 }

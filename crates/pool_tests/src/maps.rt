@@ -1,14 +1,12 @@
 //! A map text, and placements on the maps of texts.
 
-ghost use Rattle.std.specs.Prelude.{◌≡◌};
-ghost use Rattle.crush_bucket.specs.Tables.{perms_of};
-ghost use Rattle.crush_choose.specs.Rules.{CanRun};
+ghost use Rattle.std.specs.Prelude.{◌≡◌, ◌<◌};
+ghost use Rattle.crush_bucket.specs.Tables.{perms_of, tables_of};
 
 use crush_bucket::{Scratch, Tables};
 use crush_choose::{Out, Weights};
-use crush_map::Rule;
 use crush_pool::{
-    DeviceState, DeviceStates, Placement, Pool, PoolFault, place, place_with, reweights_of,
+    DeviceState, DeviceStates, Placement, Placer, Pool, PoolFault, place, reweights_of,
     rule_with_id,
 };
 use std::alloc::{AllocError, Global};
@@ -68,56 +66,70 @@ rule twice {
 "
 );
 
-/// A group's placement, and the answer and the trace that a placement of it leaves.
-fn placed(
+/// The placer places a group as it is placed elsewhere; the answer and the trace that it leaves.
+fn left(
     rt: &impl Abort,
     alloc: Global,
-    tables: &Tables,
+    placer: &Placer,
     scratch: &mut Scratch,
-    pool: &Pool,
-    rule: &Rule,
-    weights: &Weights,
-    states: &DeviceStates,
     group: u32,
-) -> Result<(Result<Placement, PoolFault>, Out), AllocError>
-    requires rule { CanRun tables.now rule.now }
-    requires fits { scratch.old ≡ perms_of tables.now }
+    placed: &Placement,
+) -> Result<Out, AllocError>
+    requires there { group < placer.now.pool.pg_num }
+    requires fits { scratch.old ≡ perms_of (tables_of placer.now.map) }
 {
-    let placed = place(alloc, tables, scratch, pool, rule, weights, states, group)?;
     let mut out = Out::build(alloc)?;
-    let left = place_with(
-        alloc, tables, scratch, pool, rule, weights, states, group, &mut out,
-    )?;
-    assert_eq!(rt; left.is_ok(), placed.is_ok());
-    Ok((placed, out))
+    let left = placer.place_with(alloc, scratch, &mut out, group)?;
+    assert_eq!(rt; left.seed, placed.seed);
+    assert_eq!(rt; left.raw.as_slice(), placed.raw.as_slice());
+    assert_eq!(rt; left.up.as_slice(), placed.up.as_slice());
+    assert_eq!(rt; left.primary, placed.primary);
+    Ok(out)
 }
 
-/// The same with these states on the map of a text.
-pub(crate) fn asked(
+/// A group's placement, with these states on the map of a text, and the answer and the trace that a placement of it leaves.
+pub(crate) fn asked<'a>(
     rt: &impl Abort,
     alloc: Global,
     text: &str,
-    pool: &Pool,
-    states: &[DeviceState],
+    pool: &'a Pool,
+    given: &'a [DeviceState],
     group: u32,
 ) -> Result<(Result<Placement, PoolFault>, Out), Fail> {
     let map = map_of(alloc, text)?;
+    let tables = Tables::build(alloc, &map)?;
+    let mut scratch = Scratch::build(alloc, &tables)?;
+    let weights = Weights::of(alloc, &reweights_of(alloc, given)?)?;
+    let flags = DeviceStates::build(alloc, given)?;
     let Some(rule) = rule_with_id(&map, pool.parts().rule) else {
         return rt.abort();
     };
-    let tables = Tables::build(alloc, &map)?;
-    let mut scratch = Scratch::build(alloc, &tables)?;
-    let weights = Weights::of(alloc, &reweights_of(alloc, states)?)?;
-    let states = DeviceStates::build(alloc, states)?;
-    Ok(placed(
-        rt,
+    let Some(placer) = Placer::new(&map, &tables, given, &weights, &flags, pool) else {
+        return rt.abort();
+    };
+    match place(
         alloc,
         &tables,
         &mut scratch,
         pool,
         rule,
         &weights,
-        &states,
+        &flags,
         group,
-    )?)
+    )? {
+        Ok(placed) => {
+            let out = left(rt, alloc, &placer, &mut scratch, group, &placed)?;
+            Ok((Ok(placed), out))
+        }
+        Err(fault) => Ok((Err(fault), Out::build(alloc)?)),
+    }
+}
+
+/// Whether a pool without states of devices can be placed on the map of a text.
+pub(crate) fn has_placer(alloc: Global, text: &str, pool: &Pool) -> Result<bool, Fail> {
+    let map = map_of(alloc, text)?;
+    let tables = Tables::build(alloc, &map)?;
+    let weights = Weights::of(alloc, &[])?;
+    let flags = DeviceStates::build(alloc, &[])?;
+    Ok(Placer::new(&map, &tables, &[], &weights, &flags, pool).is_some())
 }

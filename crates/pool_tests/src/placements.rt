@@ -1,7 +1,7 @@
 //! Placements of groups: the rule's answer, the devices of it that are up, the primary, and the
 //! trace that is left.
 
-use crate::maps::{THREE, asked};
+use crate::maps::{THREE, asked, has_placer};
 use crate::pools::{Short, TWELVE, pool};
 use crate::states::{DOWN_0, DOWN_1, DOWN_2};
 use crush_choose::Slot;
@@ -284,5 +284,15 @@ fn groups_end_below_pg_num(rt: HostRuntime) -> Result<(), Fail> {
     let pool = pool(&rt, alloc, TWELVE)?;
     let (past, _) = asked(&rt, alloc, DEVICE_0, &pool, &[], 12)?;
     assert_eq!(rt; past.err(), Some(PoolFault::P2));
+    Ok(())
+}
+
+#[test]
+fn a_pool_has_a_placer_where_the_map_has_its_rule(rt: HostRuntime) -> Result<(), Fail> {
+    let alloc = rt.alloc();
+    for (rule, there) in [(0, true), (3, true), (4, false)] {
+        let pool = pool(&rt, alloc, Short { rule, ..TWELVE })?;
+        assert_eq!(rt; has_placer(alloc, THREE, &pool)?, there, "the rule {rule}");
+    }
     Ok(())
 }

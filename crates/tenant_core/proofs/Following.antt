@@ -8,14 +8,15 @@ use Rattle.tenant_messages.specs.declared.reply.Reply.{Reply}
 use Rattle.tenant_messages.specs.declared.reply.Problem.{Problem}
 use Rattle.tenant_messages.specs.declared.reply.Problem.TheVariants.{BadRequest, TooLarge}
 use Rattle.tenant_core.specs.declared.request.Action.{Action}
-use Rattle.tenant_core.specs.declared.request.Operation.{Operation}
-use Rattle.tenant_core.specs.declared.request.Request.{Request}
+use Rattle.tenant_core.specs.Request.{Request, tenant_in, on_route, on_target, request_of, body_limit}
+use Rattle.tenant_core.specs.declared.route.Route.{Route}
 use Rattle.tenant_state.specs.State.{TenantState}
 use Rattle.tenant_core.specs.declared.store.StoreFault.{StoreFault}
 use Rattle.tenant_core.specs.declared.store.StoreFault.TheVariants.{NoMemory, Full, Damaged, Failed}
-use Rattle.tenant_core.specs.Request.{tenant_in, action_of, on_operation, on_target, operation_of, request_of, body_limit}
 use Rattle.tenant_messages.specs.Reply.{refused, reply}
-use Rattle.tenant_core.specs.Route.{Target, target_of, route_in}
+use Rattle.tenant_core.specs.Route.{read, route_of}
+use Rattle.tenant_core.specs.Router.{target_of}
+use Rattle.tenant_core.specs.Target.{Target, methods_in}
 use Rattle.tenant_core.specs.States.{States, IsDamaged, Same, Follows, Serves}
 use Rattle.tenant_core.specs.Step.{decision, decision_or_refusal, step_of, step, tenant_of, is_of}
 use Rattle.tenant_core.specs.StoreReply.{no_memory, store_damaged, store_fault, refused_or_damaged}
@@ -33,11 +34,11 @@ named-by None a r h = cc
 
 named : (method body : List ℕ) (found : Option Target) (r : Request) → on_target method body found ≡ Ok r → option_and_then tenant_in found ≡ Some r.tenant
 named method body None r h = cc
-named method body (Some target) r h = named-at (operation_of (route_in target) method) h
+named method body (Some target) r h = named-at (route_of method (methods_in target)) h
   where
-    named-at : (o : Option Operation) → on_operation target body o ≡ Ok r → tenant_in target ≡ Some r.tenant
+    named-at : (o : Option Route) → on_route target body o ≡ Ok r → tenant_in target ≡ Some r.tenant
     named-at None h = cc
-    named-at (Some o) h = named-by (tenant_in target) (action_of target o body) r h
+    named-at (Some route) h = named-by (tenant_in target) (read route target body) r h
 
 named-small : (call : Call) (r : Request) (large : Bool) → (if large then Err TooLarge else on_target call.method call.body (target_of call.path)) ≡ Ok r → tenant_of call ≡ Some r.tenant
 named-small call r true h = cc

@@ -4,21 +4,18 @@ use Rattle.std.proofs.lemmas.Map.Text.{is_eq-slice_cmp}
 use Rattle.std.proofs.lemmas.Slice.Eq.{bytes_eq-Decides}
 use Rattle.std.specs.Cmp.Lexicographic.{slice_cmp}
 use Rattle.std.specs.Ordering.{match_ordering}
-use Rattle.tenant_core.specs.Commands.{decision, on_receipt, change_or_refusal, order_on, again, receipt_for, receipt_limit}
+use Rattle.tenant_core.specs.Commands.{decision, on_receipt, change_or_refusal, order_on, again, receipt_for, receipt_limit, Command}
 use Rattle.tenant_core.specs.Effects.{Decided, decided}
 use Rattle.tenant_resources.specs.Orders.{Accepted}
 use Rattle.tenant_state.specs.Receipts.{Receipts, receipt_of, with_receipt}
 use Rattle.tenant_messages.specs.Reply.{refused, repeated, reply}
 use Rattle.tenant_state.specs.State.{TenantState, Change, after, epoch}
 use Rattle.tenant_core.specs.Step.{decision_on}
-use Rattle.tenant_core.specs.declared.commands.Command.{Command}
 use Rattle.tenant_state.specs.declared.receipts.Receipt.{Receipt}
 use Rattle.tenant_messages.specs.declared.reply.Problem.{Problem}
 use Rattle.tenant_messages.specs.declared.reply.Problem.TheVariants.{TenantLimit}
 use Rattle.tenant_core.specs.declared.request.Action.{Action}
 use Rattle.tenant_core.specs.declared.request.Action.TheVariants as action
-use Rattle.tenant_core.specs.declared.tenants.TenantOperation.{TenantOperation}
-use Rattle.tenant_core.specs.declared.tenants.TenantOperation.TheVariants.{Create as CreateTenant, Read, Remove as RemoveTenant}
 use Rattle.tenant_core.specs.declared.decision.Effect.TheVariants as effect
 
 -- ---- bytes
@@ -124,19 +121,14 @@ repeats k s u c h there = let a = accepts k s c h in rw there (ap (decided effec
 
 -- ---- of all actions
 
-pub tenant_changes_nothing : (tenant : List ℕ) (o : TenantOperation) (s : TenantState) (c : Change) → (decision_on tenant (action.Tenant o) (Some s)).effect ≡ effect.Change c → ⊥
-tenant_changes_nothing tenant CreateTenant s c h = cc
-tenant_changes_nothing tenant Read s c h = cc
-tenant_changes_nothing tenant RemoveTenant s c h = cc
+-- an action that changes the state is a command
+pub only_commands_change : (P : Change → Type 0) (tenant : List ℕ) (a : Action) (s : TenantState) (c : Change) → (decision_on tenant a (Some s)).effect ≡ effect.Change c
+    → ((k : Command) → (decision k s).effect ≡ effect.Change c → P c) → P c
+only_commands_change P tenant action.CreateTenant s c h by = cc
+only_commands_change P tenant action.ShowTenant s c h by = cc
+only_commands_change P tenant action.DropTenant s c h by = cc
+only_commands_change P tenant (action.Command k) s c h by = by k h
+only_commands_change P tenant (action.Query q) s c h by = cc
 
 pub action_grows : (tenant : List ℕ) (a : Action) (s : TenantState) (c : Change) → (decision_on tenant a (Some s)).effect ≡ effect.Change c → epoch (after c s) ≡ suc (epoch s)
-action_grows tenant (action.Tenant o) s c h = absurd (tenant_changes_nothing tenant o s c h)
-action_grows tenant (action.Command k) s c h = epoch_grows k s c h
-action_grows tenant (action.ReadVersion v) s c h = cc
-action_grows tenant (action.ReadGroup id group) s c h = cc
-action_grows tenant (action.Locate id name) s c h = cc
-action_grows tenant (action.ReportUsage id) s c h = cc
-action_grows tenant (action.ReportMoves id from to) s c h = cc
-action_grows tenant (action.ReportImpact id device) s c h = cc
-action_grows tenant (action.Pick p) s c h = cc
-action_grows tenant (action.Test t) s c h = cc
+action_grows tenant a s c h = only_commands_change (λ c. epoch (after c s) ≡ suc (epoch s)) tenant a s c h (λ k is. epoch_grows k s c is)

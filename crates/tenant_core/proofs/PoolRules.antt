@@ -5,19 +5,18 @@ use Rattle.std.specs.List.{list_all, list_any}
 use Rattle.crush_grammar.specs.declared.code.TextFault.{TextFault}
 use Rattle.crush_map.specs.Map.{Map}
 use Rattle.crush_map.specs.declared.draft.Rule.{Rule}
-use Rattle.crush_pool.specs.Placements.{rule_numbered, placement}
+use Rattle.crush_pool.specs.Placements.{rule_numbered}
+use Rattle.crush_pool.specs.declared.changes.DeviceChange.{DeviceChange}
 use Rattle.crush_pool.specs.declared.pool.PoolParts.{PoolParts}
 use Rattle.crush_text.specs.Reading.{map_of_text}
-use Rattle.tenant_core.proofs.Once.{tenant_changes_nothing}
-use Rattle.tenant_core.specs.Commands.{decision, on_receipt, change_or_refusal, order_on, receipt_limit}
+use Rattle.tenant_core.proofs.Once.{only_commands_change}
+use Rattle.tenant_core.specs.Commands.{decision, on_receipt, change_or_refusal, order_on, receipt_limit, Command}
 use Rattle.tenant_core.specs.Effects.{decided}
 use Rattle.tenant_core.specs.Step.{decision_on}
-use Rattle.tenant_core.specs.declared.commands.Command.{Command}
 use Rattle.tenant_core.specs.declared.commands.Order.{Order}
 use Rattle.tenant_core.specs.declared.commands.Order.TheVariants.{ImportMap, ChangeDevices, CreatePool, RemovePool}
 use Rattle.tenant_core.specs.declared.decision.Effect.TheVariants as effect
 use Rattle.tenant_core.specs.declared.request.Action.{Action}
-use Rattle.tenant_core.specs.declared.request.Action.TheVariants as action
 use Rattle.tenant_messages.specs.Reply.{refused}
 use Rattle.tenant_messages.specs.declared.reply.Problem.{Problem}
 use Rattle.tenant_messages.specs.declared.reply.Problem.TheVariants.{TenantLimit, RuleInUse, NoDevice, Exists}
@@ -28,10 +27,9 @@ use Rattle.tenant_resources.specs.Maps as maps
 use Rattle.tenant_resources.specs.Orders.{Accepted}
 use Rattle.tenant_resources.specs.Pools as pools
 use Rattle.tenant_resources.specs.Pools.{rule_of, have_rules}
-use Rattle.crush_report.specs.declared.changes.DeviceChange.{DeviceChange}
 use Rattle.tenant_state.specs.Ordered.{with_element, without}
 use Rattle.tenant_state.specs.Receipts.{receipt_of}
-use Rattle.tenant_state.specs.State.{TenantState, Made, NewVersion, NewStates, NewPool, RemovedPool, Change, after, with_made, version, newest, pool}
+use Rattle.tenant_state.specs.State.{TenantState, Made, NewVersion, NewStates, NewPool, RemovedPool, Change, after, with_made, version, newest, on_version, if_there, pool}
 use Rattle.tenant_state.specs.declared.receipts.Receipt.{Receipt}
 
 -- ---- tests of all elements
@@ -174,16 +172,7 @@ command_leaves k s c h had =
     let m = makes k s c h in subst (λ x. have_rules (with_made x s) ≡ true) (sym m.made) (leaves k.order s m.accepted m.is had)
 
 pub action_leaves : (tenant : List ℕ) (a : Action) (s : TenantState) (c : Change) → (decision_on tenant a (Some s)).effect ≡ effect.Change c → have_rules s ≡ true → have_rules (after c s) ≡ true
-action_leaves tenant (action.Tenant o) s c h had = absurd (tenant_changes_nothing tenant o s c h)
-action_leaves tenant (action.Command k) s c h had = command_leaves k s c h had
-action_leaves tenant (action.ReadVersion v) s c h had = cc
-action_leaves tenant (action.ReadGroup id group) s c h had = cc
-action_leaves tenant (action.Locate id name) s c h had = cc
-action_leaves tenant (action.ReportUsage id) s c h had = cc
-action_leaves tenant (action.ReportMoves id from to) s c h had = cc
-action_leaves tenant (action.ReportImpact id device) s c h had = cc
-action_leaves tenant (action.Pick p) s c h had = cc
-action_leaves tenant (action.Test t) s c h had = cc
+action_leaves tenant a s c h had = only_commands_change (λ c. have_rules (after c s) ≡ true) tenant a s c h (λ k is. command_leaves k s c is had)
 
 -- ---- so each group is placed
 
@@ -196,11 +185,11 @@ found-passes t test (y ∷ ys) x all h =
     at true one rest is = let same : y ≡ x = cc in subst (λ z. t z ≡ true) same one
     at false one rest is = rest is
 
-ruled : (m : Map) (s : TenantState) (p : PoolParts) (group : ℕ) (o : Option Rule) → rule_numbered m p.rule ≡ o → is_some o ≡ true → is_ok (groups.or_no_rule (placement m s.devices p group)) ≡ true
+ruled : (m : Map) (s : TenantState) (p : PoolParts) (group : ℕ) (o : Option Rule) → rule_numbered m p.rule ≡ o → is_some o ≡ true → is_ok (groups.on_map group (on_version s p m)) ≡ true
 ruled m s p group None is h = cc
-ruled m s p group (Some r) is h = rw is refl
+ruled m s p group (Some r) is h = rw is (rw is refl)
 
-placed_on : (s : TenantState) (p : PoolParts) (group : ℕ) (o : Option Map) → is_some (option_and_then (λ m. rule_numbered m p.rule) o) ≡ true → is_ok (groups.on_version s p group o) ≡ true
+placed_on : (s : TenantState) (p : PoolParts) (group : ℕ) (o : Option Map) → is_some (option_and_then (λ m. rule_numbered m p.rule) o) ≡ true → is_ok (groups.on_map group (if_there s p o)) ≡ true
 placed_on s p group None h = cc
 placed_on s p group (Some m) h = ruled m s p group (rule_numbered m p.rule) refl h
 

@@ -11,13 +11,14 @@ use Rattle.matchit.specs.Params.{AllText, named, part_of, walk}
 use Rattle.matchit.specs.Router.{RouteOf}
 use Rattle.matchit.specs.Rows.{param_token, catch_all_token}
 use Rattle.matchit.specs.Seek.{first, has_slash, longest_suffix, or_else, own, param_step, same_text, seek, segment, step, with_suffix}
-use Rattle.tenant_core.specs.Route.{Table, Target, parameter, table}
-use Rattle.tenant_core.specs.declared.route.Route.{Route}
+use Rattle.tenant_core.specs.Router.{Table, table}
+use Rattle.tenant_core.specs.Target.{Target, parameter}
+use Rattle.tenant_core.specs.declared.route.Methods.{Methods}
 
 -- ---- a row that is found is a row of the table
 
 abbrev Row : Type 0
-Row = RouteOf Route
+Row = RouteOf Methods
 
 abbrev All : (Row → Type 0) → Table → Type 0
 All P [] = Unit {0}

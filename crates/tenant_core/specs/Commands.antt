@@ -1,5 +1,5 @@
 -- Changing requests: each has a request number, and acts once.
-use Rattle.std.specs.Prelude.{ℕ, length, nat_le, if◌then◌else◌, Option, Some, None, Result, Ok, Err}
+use Rattle.std.specs.Prelude.{ℕ, List, length, nat_le, if◌then◌else◌, Option, Some, None, Result, Ok, Err}
 use Rattle.serde_json.specs.Written.{compact_text}
 use Rattle.tenant_core.specs.Effects.{Decided, decided}
 use Rattle.tenant_resources.specs.Orders.{Accepted}
@@ -9,13 +9,19 @@ use Rattle.tenant_resources.specs.Pools as pools
 use Rattle.tenant_state.specs.Receipts.{receipt_of, is_repeat}
 use Rattle.tenant_messages.specs.Reply.{Answer, refused, answered, repeated}
 use Rattle.tenant_state.specs.State.{TenantState}
-use Rattle.tenant_core.specs.declared.commands.Command.{Command}
 use Rattle.tenant_core.specs.declared.commands.Order.{Order}
 use Rattle.tenant_core.specs.declared.commands.Order.TheVariants.{ImportMap, ChangeDevices, CreatePool, RemovePool}
 use Rattle.tenant_state.specs.declared.receipts.Receipt.{Receipt}
 use Rattle.tenant_messages.specs.declared.reply.Problem.{Problem}
 use Rattle.tenant_messages.specs.declared.reply.Problem.TheVariants.{RequestReused, TenantLimit}
 use Rattle.tenant_core.specs.declared.decision.Effect.TheVariants.{Keep, Change}
+
+-- a changing request: its number, its path and body as they came, and what it asks for
+pub record Command : Type 0 where
+  pub number : List ℕ
+  pub path : List ℕ
+  pub body : List ℕ
+  pub order : Order
 
 -- what an order does, or why nothing: the table of all orders
 abbrev pub order_on : Order → TenantState → Result Accepted Problem

@@ -1,7 +1,10 @@
 pub mod Effects
 pub mod Tenants
 pub mod Commands
+pub mod Queries
+pub mod Target
 pub mod Route
+pub mod Router
 pub mod Request
 pub mod Step
 pub mod Alone

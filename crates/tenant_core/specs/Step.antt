@@ -4,40 +4,29 @@ use Rattle.std.specs.Option.{option_map_or}
 use Rattle.std.specs.Str.{bytes_eq}
 use Rattle.tenant_core.specs.Commands as commands
 use Rattle.tenant_core.specs.Effects.{Decided, decided, after_effect, if_present}
-use Rattle.tenant_reports.specs.Impact as impact
-use Rattle.tenant_reports.specs.Moves as moves
-use Rattle.tenant_reports.specs.Usage as usage
-use Rattle.tenant_resources.specs.Groups as groups
-use Rattle.tenant_resources.specs.Maps as maps
-use Rattle.tenant_resources.specs.Picks as picks
-use Rattle.tenant_messages.specs.Reply.{refused, reply}
-use Rattle.tenant_core.specs.Request.{tenant_in, request_of}
-use Rattle.tenant_core.specs.Route.{target_of}
-use Rattle.tenant_resources.specs.RuleTests as rule_tests
+use Rattle.tenant_core.specs.Queries as queries
+use Rattle.tenant_core.specs.Request.{tenant_in, request_of, Request}
+use Rattle.tenant_core.specs.Router.{target_of}
 use Rattle.tenant_core.specs.Tenants as tenants
-use Rattle.tenant_messages.specs.declared.call.Call.{Call}
-use Rattle.tenant_messages.specs.declared.reply.Reply.{Reply}
-use Rattle.tenant_messages.specs.declared.reply.Problem.{Problem}
+use Rattle.tenant_core.specs.declared.decision.Effect.TheVariants.{Keep, Remove}
 use Rattle.tenant_core.specs.declared.request.Action.{Action}
-use Rattle.tenant_core.specs.declared.request.Action.TheVariants as action
-use Rattle.tenant_core.specs.declared.request.Request.{Request}
-use Rattle.tenant_core.specs.declared.decision.Effect.TheVariants.{Keep}
+use Rattle.tenant_core.specs.declared.request.Action.TheVariants.{CreateTenant, ShowTenant, DropTenant, Command, Query}
+use Rattle.tenant_messages.specs.Reply.{refused, reply, success}
+use Rattle.tenant_messages.specs.declared.call.Call.{Call}
+use Rattle.tenant_messages.specs.declared.reply.Problem.{Problem}
+use Rattle.tenant_messages.specs.declared.reply.Reply.{Reply}
 use Rattle.tenant_state.specs.State.{TenantState}
 
 -- ---- one request
 
--- the decision on an action, from the state of its tenant, or from its absence: the table of all actions
+-- the decision on an action, from the state of its tenant, or from its absence. A query keeps the
+-- state
 abbrev pub decision_on : List ℕ → Action → Option TenantState → Decided
-decision_on tenant (action.Tenant operation) found = tenants.decision tenant operation found
-decision_on tenant (action.Command command) found = if_present found (commands.decision command)
-decision_on tenant (action.ReadVersion number) found = if_present found (λ state. decided Keep (maps.answer number state))
-decision_on tenant (action.ReadGroup id group) found = if_present found (λ state. decided Keep (groups.group_answer id group state))
-decision_on tenant (action.Locate id name) found = if_present found (λ state. decided Keep (groups.object_answer id name state))
-decision_on tenant (action.ReportUsage id) found = if_present found (λ state. decided Keep (usage.usage_answer id state))
-decision_on tenant (action.ReportMoves id from to) found = if_present found (λ state. decided Keep (moves.moves_answer id from to state))
-decision_on tenant (action.ReportImpact id device) found = if_present found (λ state. decided Keep (impact.impact_answer id device state))
-decision_on tenant (action.Pick p) found = if_present found (λ state. decided Keep (picks.answer p))
-decision_on tenant (action.Test t) found = if_present found (λ state. decided Keep (rule_tests.answer t state))
+decision_on tenant CreateTenant found = tenants.created_on tenant found
+decision_on tenant ShowTenant found = if_present found (λ state. decided Keep (success (tenants.summary tenant state)))
+decision_on tenant DropTenant found = if_present found (λ state. decided Remove (success (tenants.removal tenant)))
+decision_on tenant (Command command) found = if_present found (commands.decision command)
+decision_on tenant (Query query) found = if_present found (λ state. decided Keep (queries.answer query state))
 
 abbrev pub decision : Request → Option TenantState → Decided
 decision request state = decision_on request.tenant request.action state

@@ -1,11 +1,10 @@
 -- The replies where a call of the store fails.
 use Rattle.std.specs.Prelude.{◌≡◌, ◌⊎◌, Result, Ok, Err, codes}
 use Rattle.tenant_messages.specs.Reply.{written, error, refused, reply, no_memory as out_of_memory}
-use Rattle.tenant_core.specs.Request.{request_of}
+use Rattle.tenant_core.specs.Request.{request_of, Request}
 use Rattle.tenant_messages.specs.declared.call.Call.{Call}
 use Rattle.tenant_messages.specs.declared.reply.Problem.{Problem}
 use Rattle.tenant_messages.specs.declared.reply.Reply.{Reply}
-use Rattle.tenant_core.specs.declared.request.Request.{Request}
 use Rattle.tenant_core.specs.declared.store.StoreFault.{StoreFault}
 use Rattle.tenant_core.specs.declared.store.StoreFault.TheVariants.{NoMemory, Full, Damaged, Failed}
 

@@ -11,9 +11,9 @@ ghost use Rattle.tenant_messages.specs.Reply.{reply};
 ghost use Rattle.tenant_state.specs.State.{TenantState};
 
 use crush_map::{Listed, Text};
-use crush_pool::Pool;
-use crush_report::DeviceChange;
+use crush_pool::{DeviceChange, Pool};
 use std::alloc::{AllocError, Global};
+use std::marker::Model;
 use std::rc::Rc;
 use tenant_messages::{Bytes, Problem, Refusal, Reply, answered, refused, repeated};
 use tenant_resources::{Accepted, devices, maps, pools};
@@ -32,14 +32,23 @@ pub enum Order {
     RemovePool(u32),
 }
 
-/// A changing request. Its path and body are kept, since a repeat is known by them.
+/// A changing request. Its path and body are those of its call, which lends them; a repeat is known
+/// by them.
 #[derive(Drop)]
-pub struct Command {
+pub struct Command<'a> {
     /// The request number: 1 to 64 bytes.
     pub number: Text,
-    pub path: Text,
-    pub body: Bytes,
+    pub path: &'a str,
+    pub body: &'a [u8],
     pub order: Order,
+}
+
+impl<'a> Model for Command<'a> {
+    ghost use Rattle.tenant_core.specs.Commands.{Command};
+
+    ghost Value = { Command };
+
+    ghost view = { λ a. record { number = a.number; path = a.path.now; body = a.body.now; order = a.order } };
 }
 
 /// What an order makes, or why nothing: the table of all orders.
@@ -57,7 +66,7 @@ fn accept(alloc: Global, order: &Order, state: &TenantState) -> Result<Accepted,
 }
 
 /// A copy of some bytes.
-pub(crate) fn copied(alloc: Global, bytes: &[u8]) -> Result<Bytes, AllocError>
+fn copied(alloc: Global, bytes: &[u8]) -> Result<Bytes, AllocError>
     ensures { IfOk result (λ again. again ≡ bytes.now) }
 {
     let mut again = Vec::new(alloc);
@@ -68,7 +77,7 @@ pub(crate) fn copied(alloc: Global, bytes: &[u8]) -> Result<Bytes, AllocError>
 /// The change that an accepted order makes, with its receipt, and the reply.
 fn with_receipt(
     alloc: Global,
-    command: &Command,
+    command: &Command<'_>,
     accepted: Accepted,
 ) -> Result<(Option<Change>, Reply), AllocError>
     requires { has_float (view accepted.body) ≡ false }
@@ -77,8 +86,8 @@ fn with_receipt(
 {
     let reply = answered(alloc, accepted.status, &accepted.body)?;
     let receipt = Receipt {
-        path: Text::copy(alloc, command.path.as_str())?,
-        body: copied(alloc, command.body.as_slice())?,
+        path: Text::copy(alloc, command.path)?,
+        body: copied(alloc, command.body)?,
         status: accepted.status,
         reply: Text::copy(alloc, reply.body.as_str())?,
     };
@@ -97,7 +106,7 @@ const RECEIPT_LIMIT: usize = 100_000;
 fn apply_new(
     alloc: Global,
     state: &TenantState,
-    command: &Command,
+    command: &Command<'_>,
 ) -> Result<(Option<Change>, Reply), AllocError>
     ensures effect { IfOk result (λ p. effect_of p.0 ≡ (spec.on_receipt command.now state.now None).effect) }
     ensures reply { IfOk result (λ p. p.1 ≡ reply (spec.on_receipt command.now state.now None).answer) }
@@ -113,10 +122,10 @@ fn apply_new(
 }
 
 /// The reply to a request number with a receipt: that of the receipt again, or a refusal where another request left it.
-fn reply_again(alloc: Global, command: &Command, receipt: &Receipt) -> Result<Reply, AllocError>
+fn reply_again(alloc: Global, command: &Command<'_>, receipt: &Receipt) -> Result<Reply, AllocError>
     ensures { IfOk result (λ r. r ≡ reply (spec.again command.now receipt.now)) }
 {
-    if is_repeat(command.path.as_str(), command.body.as_slice(), receipt) {
+    if is_repeat(command.path, command.body, receipt) {
         repeated(alloc, receipt.status, receipt.reply.as_str())
     } else {
         refused(alloc, Problem::RequestReused)
@@ -129,7 +138,7 @@ fn reply_again(alloc: Global, command: &Command, receipt: &Receipt) -> Result<Re
 pub fn apply(
     alloc: Global,
     state: &TenantState,
-    command: &Command,
+    command: &Command<'_>,
 ) -> Result<(Option<Change>, Reply), AllocError>
     ensures effect { IfOk result (λ p. effect_of p.0 ≡ (spec.decision command.now state.now).effect) }
     ensures reply { IfOk result (λ p. p.1 ≡ reply (spec.decision command.now state.now).answer) }

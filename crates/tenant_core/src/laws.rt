@@ -2,14 +2,13 @@
 
 ghost use Rattle.std.specs.Prelude.{◌≡◌, ◌≢◌, ◌<◌, ℕ, suc, true, is_ok, List, Option, Some, None};
 ghost use Rattle.crush_pool.specs.declared.pool.PoolParts.{PoolParts};
-ghost use Rattle.tenant_core.specs.Commands.{decision};
+ghost use Rattle.tenant_core.specs.Commands.{decision, Command};
 ghost use Rattle.tenant_resources.specs.Groups.{placed};
 ghost use Rattle.tenant_resources.specs.Pools.{have_rules};
 ghost use Rattle.tenant_state.specs.Receipts.{receipt_of};
 ghost use Rattle.tenant_messages.specs.Reply.{reply};
 ghost use Rattle.tenant_core.specs.Step.{step, tenant_of, decision_on};
 ghost use Rattle.tenant_messages.specs.declared.call.Call.{Call};
-ghost use Rattle.tenant_core.specs.declared.commands.Command.{Command};
 ghost use Rattle.tenant_state.specs.declared.receipts.Receipt.{Receipt};
 ghost use Rattle.tenant_core.specs.declared.request.Action.{Action};
 ghost use Rattle.tenant_core.specs.declared.decision.Effect.{Effect};

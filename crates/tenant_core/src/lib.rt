@@ -4,14 +4,17 @@
 mod commands;
 mod decision;
 pub mod laws;
+mod queries;
 mod request;
 mod route;
+mod router;
 mod store;
 mod tenants;
 
 pub use commands::{Command, Order, apply};
 pub use decision::{Decision, Effect, decide};
-pub use request::{Action, Operation, Request, read_request};
-pub use route::{Route, Routes, Target};
+pub use queries::{Query, answer};
+pub use request::{Action, Request, read_request};
+pub use route::{Methods, Route};
+pub use router::{Routes, Target};
 pub use store::{StoreFault, TenantStore, store_fault};
-pub use tenants::TenantOperation;

@@ -1,176 +1,191 @@
-//! The table of all routes, and the route of a path.
+//! All routes: the paths with their methods, and what each asks for.
 
-ghost use Rattle.std.specs.Prelude.{◌≡◌, true, is_ok, OnOk};
-ghost use Rattle.std.specs.Char.{is_ascii};
-ghost use Rattle.std.specs.List.{list_all};
-ghost use Rattle.matchit.specs.Route.{parse_route};
-ghost use Rattle.tenant_core.specs.Private.Inserting.{is_new};
-ghost use Rattle.tenant_core.specs.Route.{table, with_route, path_number};
+ghost use Rattle.std.specs.Prelude.{◌≡◌};
+ghost use Rattle.tenant_messages.specs.Reading.{Reads};
+ghost use Rattle.tenant_core.specs.Route as spec;
+ghost use Rattle.tenant_core.specs.Target.{path_number};
 
-use crate::tenants;
+use crate::commands::{Command, Order};
+use crate::queries::Query;
+use crate::request::Action;
+use crate::router::Target;
+use crush_map::Text;
 use crush_words::number_from_text;
-use matchit::{InsertError, Params, Router};
-use std::alloc::{AllocError, Global};
-use std::marker::Model;
-use tenant_reports::{device_csv, impact, moves, usage};
+use std::alloc::Global;
+use tenant_messages::ReadError;
+use tenant_reports::device_csv;
 use tenant_resources::{devices, groups, maps, picks, pools, rule_tests};
 
-/// The routes: one for each thing that a path can name.
+/// The routes: what a method asks for at a path.
 #[derive(Clone, Copy, Debug, PartialEq, Eq)]
 pub enum Route {
-    /// `/t/{t}`
-    Tenant,
-    /// `/t/{t}/maps`
-    Maps,
-    /// `/t/{t}/maps/{v}`
+    CreateTenant,
+    ShowTenant,
+    DropTenant,
+    ImportMap,
     Version,
-    /// `/t/{t}/devices`
-    Devices,
-    /// `/t/{t}/devices/csv`
-    DeviceCsv,
-    /// `/t/{t}/pools`
-    Pools,
-    /// `/t/{t}/pools/remove`
-    PoolRemoval,
-    /// `/t/{t}/pools/{p}/groups/{g}`
+    ChangeDevices,
+    ChangeDevicesByCsv,
+    CreatePool,
+    RemovePool,
     Group,
-    /// `/t/{t}/pools/{p}/locate`
-    Locate,
-    /// `/t/{t}/pools/{p}/usage`
+    Object,
     Usage,
-    /// `/t/{t}/pools/{p}/moves/{v}/{w}`
     Moves,
-    /// `/t/{t}/pools/{p}/impact/{d}`
     Impact,
-    /// `/t/{t}/pick`
     Pick,
-    /// `/t/{t}/test`
     Test,
 }
 
-/// The table of all routes, built once.
-#[derive(Drop)]
-pub struct Routes {
-    router: Router<Route>,
-    ghost whole: { router ≡ table },
+/// The routes of a path: one for each method that the path has.
+#[derive(Clone, Copy, Debug, PartialEq, Eq)]
+pub struct Methods {
+    pub delete: Option<Route>,
+    pub get: Option<Route>,
+    pub post: Option<Route>,
+    pub put: Option<Route>,
 }
 
-impl Routes {
-    ghost use Rattle.std.specs.Prelude.{◌≡◌};
-    ghost use Rattle.tenant_core.specs.Route.{target_of};
-
-    /// The table of all routes.
-    pub fn build(alloc: Global) -> Result<Self, AllocError> {
-        let mut router = Router::new(alloc);
-        insert(&mut router, tenants::ROUTE, Route::Tenant)?;
-        insert(&mut router, maps::ROUTE, Route::Maps)?;
-        insert(&mut router, maps::VERSION_ROUTE, Route::Version)?;
-        insert(&mut router, devices::ROUTE, Route::Devices)?;
-        insert(&mut router, device_csv::ROUTE, Route::DeviceCsv)?;
-        insert(&mut router, pools::ROUTE, Route::Pools)?;
-        insert(&mut router, pools::REMOVAL_ROUTE, Route::PoolRemoval)?;
-        insert(&mut router, groups::GROUP_ROUTE, Route::Group)?;
-        insert(&mut router, groups::LOCATE_ROUTE, Route::Locate)?;
-        insert(&mut router, usage::ROUTE, Route::Usage)?;
-        insert(&mut router, moves::ROUTE, Route::Moves)?;
-        insert(&mut router, impact::ROUTE, Route::Impact)?;
-        insert(&mut router, picks::ROUTE, Route::Pick)?;
-        insert(&mut router, rule_tests::ROUTE, Route::Test)?;
-        Ok(Routes { router })
-    }
-
-    /// The route of a path with its parameters, if the path has a route.
-    pub fn find<'p>(&self, path: &'p str) -> Option<Target<'_, 'p>>
-        ensures { result ≡ target_of path.now }
-    {
-        let found = self.router.at(path).ok()?;
-        Some(Target {
-            route: *found.value,
-            path,
-            params: found.params,
-        })
-    }
+/// The methods of a path, each with the name of its route.
+macro_rules! methods {
+    ($($method:ident $route:ident),+) => {
+        Methods { $($method: Some(Route::$route),)+ ..NONE }
+    };
 }
 
-/// What a path names: a route, and the parts of the path that the route's parameters took.
-#[derive(Drop)]
-pub struct Target<'r, 'p> {
-    route: Route,
-    path: &'p str,
-    params: Params<'r, 'p>,
-}
+/// A path without a method.
+const NONE: Methods = Methods {
+    delete: None,
+    get: None,
+    post: None,
+    put: None,
+};
 
-impl<'r, 'p> Model for Target<'r, 'p> {
-    ghost use Rattle.std.specs.Prelude.{◌≡◌, true};
-    ghost use Rattle.std.specs.Char.{is_ascii};
-    ghost use Rattle.std.specs.List.{list_all};
-    ghost use Rattle.tenant_core.specs.Route.{Target};
+/// The table of all routes.
+pub(crate) const ROUTES: [(&str, Methods); 14] = [
+    (
+        "/t/{t}",
+        methods!(delete DropTenant, get ShowTenant, put CreateTenant),
+    ),
+    ("/t/{t}/maps", methods!(post ImportMap)),
+    ("/t/{t}/maps/{v}", methods!(get Version)),
+    ("/t/{t}/devices", methods!(post ChangeDevices)),
+    ("/t/{t}/devices/csv", methods!(post ChangeDevicesByCsv)),
+    ("/t/{t}/pools", methods!(post CreatePool)),
+    ("/t/{t}/pools/remove", methods!(post RemovePool)),
+    ("/t/{t}/pools/{p}/groups/{g}", methods!(get Group)),
+    ("/t/{t}/pools/{p}/locate", methods!(post Object)),
+    ("/t/{t}/pools/{p}/usage", methods!(get Usage)),
+    ("/t/{t}/pools/{p}/moves/{v}/{w}", methods!(get Moves)),
+    ("/t/{t}/pools/{p}/impact/{d}", methods!(get Impact)),
+    ("/t/{t}/pick", methods!(post Pick)),
+    ("/t/{t}/test", methods!(post Test)),
+];
 
-    ghost Value = { Target };
-
-    ghost view = { λ a. record {
-      row = record { pattern = a.params.pattern.now; text = a.params.text.now; names = a.params.names.now; value = a.route };
-      path = a.path.now;
-    } };
-
-    ghost invariant = { λ a. record {
-      path : a.params.path.now ≡ a.path.now;
-      text : list_all is_ascii a.params.text.now ≡ true;
-    } };
-}
-
-impl<'r, 'p> Target<'r, 'p> {
-    ghost use Rattle.std.specs.Prelude.{◌≡◌, option_map};
-    ghost use Rattle.tenant_core.specs.Route.{route_in, parameter};
-
-    /// The route.
-    pub fn route(&self) -> Route
-        ensures { result ≡ route_in self.now }
-    {
-        self.route
-    }
-
-    /// The path.
-    pub fn path(&self) -> &'p str
-        ensures { result.now ≡ self.now.path }
-    {
-        self.path
-    }
-
-    /// The part of the path that a parameter took. A path with a byte that isn't ASCII has no parameters.
-    pub fn parameter(&self, key: &str) -> Option<&'p str>
-        ensures { option_map (λ text. text.now) result ≡ parameter key.now self.now }
-    {
-        if is_ascii_text(self.path) {
-            self.params.get(key)
-        } else {
-            None
-        }
-    }
-}
-
-fn is_ascii_text(text: &str) -> bool
-    ensures { result ≡ list_all is_ascii text.now }
+/// The route of a method, if the path has the method.
+pub(crate) fn route_of(method: &[u8], methods: Methods) -> Option<Route>
+    ensures { result ≡ spec.route_of method.now methods }
 {
-    text.as_bytes().iter().all(|byte| byte.is_ascii())
-}
-
-/// Adds a route, which is well formed and conflicts with none in the router.
-fn insert(router: &mut Router<Route>, text: &str, route: Route) -> Result<(), AllocError>
-    requires read { is_ok (parse_route text.now) ≡ true }
-    requires new { is_new (parse_route text.now) router.old ≡ true }
-    ensures { OnOk result (router.new ≡ with_route router.old (text.now, route)) }
-{
-    match router.insert(text, route) {
-        Ok(()) => Ok(()),
-        Err(InsertError::OutOfMemory) => Err(AllocError),
-        Err(_) => unreachable!(),
+    if method == b"DELETE".as_slice() {
+        methods.delete
+    } else if method == b"GET".as_slice() {
+        methods.get
+    } else if method == b"POST".as_slice() {
+        methods.post
+    } else if method == b"PUT".as_slice() {
+        methods.put
+    } else {
+        None
     }
 }
+
+// ---- the parts of the path, and the body
 
 /// The number that a part of the path writes, in 1 to 10 digits.
-pub(crate) fn path_number(target: &Target<'_, '_>, key: &str) -> Option<u64>
-    ensures { result ≡ path_number key.now target.now }
+fn number(target: &Target<'_, '_>, key: &str) -> Result<u64, ReadError>
+    ensures { Reads (λ n. n) result (path_number key.now target.now) }
 {
-    number_from_text(target.parameter(key)?.as_bytes())
+    let part = target.parameter(key).ok_or(ReadError::Malformed)?;
+    number_from_text(part.as_bytes()).ok_or(ReadError::Malformed)
+}
+
+/// An action whose body is empty.
+fn if_empty<'p>(body: &[u8], action: Action<'p>) -> Result<Action<'p>, ReadError>
+    ensures { Reads (λ a. a) result (spec.if_empty body.now action.entry) }
+{
+    if body.is_empty() {
+        Ok(action)
+    } else {
+        Err(ReadError::Malformed)
+    }
+}
+
+/// A changing request, with its path and its body, by which a repeat is known.
+fn command<'p>(target: &Target<'_, 'p>, body: &'p [u8], number: Text, order: Order) -> Action<'p>
+    ensures { result ≡ spec.command_of target.now body.now number order }
+{
+    Action::Command(Command {
+        number,
+        path: target.path(),
+        body,
+        order,
+    })
+}
+
+/// What a route asks for, by the parts of the path and the body.
+pub(crate) fn read<'p>(
+    alloc: Global,
+    route: Route,
+    target: &Target<'_, 'p>,
+    body: &'p [u8],
+) -> Result<Action<'p>, ReadError>
+    ensures { Reads (λ a. a) result (spec.read route target.now body.now) }
+{
+    match route {
+        Route::CreateTenant => if_empty(body, Action::CreateTenant),
+        Route::ShowTenant => if_empty(body, Action::ShowTenant),
+        Route::DropTenant => if_empty(body, Action::DropTenant),
+        Route::ImportMap => {
+            let (number, text) = maps::read_import(alloc, body)?;
+            Ok(command(target, body, number, Order::ImportMap(text)))
+        }
+        Route::Version => if_empty(body, Action::Query(Query::Version(number(target, "v")?))),
+        Route::ChangeDevices => {
+            let (number, changes) = devices::read_changes(alloc, body)?;
+            Ok(command(target, body, number, Order::ChangeDevices(changes)))
+        }
+        Route::ChangeDevicesByCsv => {
+            let (number, changes) = device_csv::read_changes(alloc, body)?;
+            Ok(command(target, body, number, Order::ChangeDevices(changes)))
+        }
+        Route::CreatePool => {
+            let (number, pool) = pools::read_pool(alloc, body)?;
+            Ok(command(target, body, number, Order::CreatePool(pool)))
+        }
+        Route::RemovePool => {
+            let (number, id) = pools::read_removal(alloc, body)?;
+            Ok(command(target, body, number, Order::RemovePool(id)))
+        }
+        Route::Group => {
+            let (pool, group) = (number(target, "p")?, number(target, "g")?);
+            if_empty(body, Action::Query(Query::Group(pool, group)))
+        }
+        Route::Object => {
+            let pool = number(target, "p")?;
+            let name = groups::read_name(alloc, body)?;
+            Ok(Action::Query(Query::Object(pool, name)))
+        }
+        Route::Usage => if_empty(body, Action::Query(Query::Usage(number(target, "p")?))),
+        Route::Moves => {
+            let pool = number(target, "p")?;
+            let (from, to) = (number(target, "v")?, number(target, "w")?);
+            if_empty(body, Action::Query(Query::Moves(pool, from, to)))
+        }
+        Route::Impact => {
+            let (pool, device) = (number(target, "p")?, number(target, "d")?);
+            if_empty(body, Action::Query(Query::Impact(pool, device)))
+        }
+        Route::Pick => Ok(Action::Query(Query::Pick(picks::read_pick(alloc, body)?))),
+        Route::Test => Ok(Action::Query(Query::Test(rule_tests::read_test(alloc, body)?))),
+    }
 }

@@ -12,7 +12,7 @@ pub use json::{
     request_number, text,
 };
 pub use reply::{
-    Problem, Refusal, Reply, SuccessStatus, answered, created, error, no_memory, refused, repeated,
-    success, written,
+    Problem, Refusal, Reply, SuccessStatus, answered, created, error, no_memory, or_refused,
+    refused, repeated, success, written,
 };
 pub use slots::{ids_json, slot_json, slots_json};

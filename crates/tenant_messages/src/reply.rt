@@ -3,6 +3,7 @@
 ghost use Rattle.std.specs.Prelude.{◌≡◌, false, IfOk};
 ghost use Rattle.serde_json.specs.View.{view};
 ghost use Rattle.serde_json.specs.Written.{has_float};
+ghost use Rattle.tenant_messages.specs.Refusals.{Answers};
 ghost use Rattle.tenant_messages.specs.Reply as spec;
 
 use crush_map::Text;
@@ -199,6 +200,17 @@ pub fn refused(alloc: Global, problem: Problem) -> Result<Reply, AllocError>
     ensures { IfOk result (λ r. r ≡ spec.reply (spec.refused problem)) }
 {
     written(alloc, problem.status(), &problem_json(alloc, problem)?)
+}
+
+/// The reply, or the one to a call that is refused; an error where an allocation failed.
+pub fn or_refused(alloc: Global, reply: Result<Reply, Refusal>) -> Result<Reply, AllocError>
+    ensures { (answer : spec.Answer) → Answers reply answer → IfOk result (λ r. r ≡ spec.reply answer) }
+{
+    match reply {
+        Ok(reply) => Ok(reply),
+        Err(Refusal::Problem(problem)) => refused(alloc, problem),
+        Err(Refusal::NoMemory) => Err(AllocError),
+    }
 }
 
 // ---- answers

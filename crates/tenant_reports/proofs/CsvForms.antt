@@ -5,7 +5,7 @@ use Rattle.serde_json.specs.Data.{Data}
 use Rattle.serde_json.specs.Find.{as_str}
 use Rattle.crush_report.proofs.DeviceForms.{text_says, text_found}
 use Rattle.crush_report.specs.DeviceCsv.{device_changes_of}
-use Rattle.crush_report.specs.declared.changes.DeviceChange.{DeviceChange}
+use Rattle.crush_pool.specs.declared.changes.DeviceChange.{DeviceChange}
 use Rattle.tenant_messages.proofs.Finding.{Finds, finds_as, finds_both, finds_number, finds_object, finds_text, finds_under, is_there}
 use Rattle.tenant_reports.specs.DeviceCsv.{IsCsv, IsDeviceCsvBody, csv_of, changes_of}
 

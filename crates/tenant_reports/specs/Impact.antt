@@ -3,15 +3,16 @@ use Rattle.std.specs.Prelude.{ℕ, ◌==◌, List, [], ◌∷◌, map, Bool, Opt
 use Rattle.std.specs.Option.{ok_or}
 use Rattle.std.specs.Str.{bytes_eq}
 use Rattle.serde_json.specs.Data.{Data, object}
-use Rattle.crush_map.specs.Map.{Map}
 use Rattle.crush_map.specs.declared.draft.Device.{Device}
+use Rattle.crush_pool.specs.Placers.{PoolOnMap}
 use Rattle.crush_pool.specs.declared.pool.PoolParts.{PoolParts}
 use Rattle.crush_report.specs.Reports.{impact}
-use Rattle.tenant_messages.specs.Reply.{Answer, refused, success, members_of, natural}
+use Rattle.tenant_messages.specs.Refusals.{answer_with}
+use Rattle.tenant_messages.specs.Reply.{Answer, refused, members_of, natural}
 use Rattle.tenant_messages.specs.Slots.{list_json}
 use Rattle.tenant_messages.specs.declared.reply.Problem.{Problem}
-use Rattle.tenant_messages.specs.declared.reply.Problem.TheVariants.{NoVersion, NoPool, NoDevice, NoRule}
-use Rattle.tenant_state.specs.State.{TenantState, epoch, newest, version, pool}
+use Rattle.tenant_messages.specs.declared.reply.Problem.TheVariants.{NoPool, NoDevice, NoRule}
+use Rattle.tenant_state.specs.State.{TenantState, epoch, newest, on_newest, pool}
 
 -- ---- requests
 
@@ -35,26 +36,23 @@ abbrev pub id_of : List Device → ℕ → Option ℕ
 id_of [] number = None
 id_of (d ∷ devices) number = if d.id == number then Some d.id else id_of devices number
 
--- the groups that the device with an id can touch
-abbrev pub on_device : TenantState → PoolParts → Map → Option ℕ → Result (List ℕ) Problem
-on_device state p m None = Err NoDevice
-on_device state p m (Some device) = ok_or (impact m state.devices p device) NoRule
+-- the groups that a device can touch, which has to be one of the map
+abbrev pub on_device : PoolOnMap → Option ℕ → Result (List ℕ) Problem
+on_device p None = Err NoDevice
+on_device p (Some device) = ok_or (impact p.map p.states p.pool device) NoRule
 
--- the device has to be one of the newest version, which has the pool's rule (law `pools_have_their_rules`)
-abbrev pub on_version : TenantState → PoolParts → ℕ → Option Map → Result (List ℕ) Problem
-on_version state p device None = Err NoVersion
-on_version state p device (Some m) = on_device state p m (id_of m.devices device)
+-- the same on a map with the pool's rule, by the number of the device
+abbrev pub on_map : ℕ → Result PoolOnMap Problem → Result (List ℕ) Problem
+on_map number (Err problem) = Err problem
+on_map number (Ok p) = on_device p (id_of p.map.devices number)
 
+-- the same on the newest version
 abbrev pub groups_of : TenantState → PoolParts → ℕ → Result (List ℕ) Problem
-groups_of state p device = on_version state p device (version (newest state) state)
-
-abbrev pub answered : TenantState → ℕ → ℕ → Result (List ℕ) Problem → Answer
-answered state id device (Err problem) = refused problem
-answered state id device (Ok groups) = success (impact_reply state id device groups)
+groups_of state p number = on_map number (on_newest state p)
 
 abbrev pub impact_on : TenantState → ℕ → Option PoolParts → Answer
 impact_on state device None = refused NoPool
-impact_on state device (Some p) = answered state p.id device (groups_of state p device)
+impact_on state device (Some p) = answer_with (impact_reply state p.id device) (groups_of state p device)
 
 -- the groups of the pool with an id that a device can touch
 abbrev pub impact_answer : ℕ → ℕ → TenantState → Answer

@@ -4,15 +4,17 @@ use Rattle.std.specs.Option.{ok_or}
 use Rattle.std.specs.Str.{bytes_eq}
 use Rattle.serde_json.specs.Data.{Data, object}
 use Rattle.crush_map.specs.Map.{Map}
+use Rattle.crush_pool.specs.Placers.{PoolOnMap}
 use Rattle.crush_pool.specs.declared.pool.PoolParts.{PoolParts}
 use Rattle.crush_report.specs.Moves.{gained_in}
 use Rattle.crush_report.specs.Reports.{moves}
 use Rattle.crush_report.specs.declared.rows.MoveRow.{MoveRow}
-use Rattle.tenant_messages.specs.Reply.{Answer, refused, success, members_of, natural}
+use Rattle.tenant_messages.specs.Refusals.{answer_with}
+use Rattle.tenant_messages.specs.Reply.{Answer, refused, members_of, natural}
 use Rattle.tenant_messages.specs.Slots.{slot_json, list_json}
 use Rattle.tenant_messages.specs.declared.reply.Problem.{Problem}
 use Rattle.tenant_messages.specs.declared.reply.Problem.TheVariants.{NoVersion, NoPool, NoRule}
-use Rattle.tenant_state.specs.State.{TenantState, epoch, version, pool}
+use Rattle.tenant_state.specs.State.{TenantState, epoch, version, on_version, pool}
 
 -- ---- requests
 
@@ -37,22 +39,24 @@ moves_reply state id from to rows =
     object (members_of ((codes "epoch", natural (epoch state)) ∷ (codes "from", natural from) ∷ (codes "gained", natural (gained_in rows))
     ∷ (codes "moved", natural (length rows)) ∷ (codes "pool", natural id) ∷ (codes "rows", list_json (map row_json rows)) ∷ (codes "to", natural to) ∷ []))
 
--- both versions have to be there, and to have the pool's rule
+-- the groups that move between two maps with the pool's rule
+abbrev pub on_maps : Result PoolOnMap Problem → Result PoolOnMap Problem → Result (List MoveRow) Problem
+on_maps (Err problem) to = Err problem
+on_maps (Ok from) (Err problem) = Err problem
+on_maps (Ok from) (Ok to) = ok_or (moves from.map to.map from.states from.pool) NoRule
+
+-- both versions have to be there, and then to have the pool's rule
 abbrev pub on_versions : TenantState → PoolParts → Option Map → Option Map → Result (List MoveRow) Problem
-on_versions state p None second = Err NoVersion
-on_versions state p (Some first) None = Err NoVersion
-on_versions state p (Some first) (Some second) = ok_or (moves first second state.devices p) NoRule
+on_versions state p None to = Err NoVersion
+on_versions state p (Some from) None = Err NoVersion
+on_versions state p (Some from) (Some to) = on_maps (on_version state p from) (on_version state p to)
 
 abbrev pub rows_of : TenantState → PoolParts → ℕ → ℕ → Result (List MoveRow) Problem
 rows_of state p from to = on_versions state p (version from state) (version to state)
 
-abbrev pub answered : TenantState → ℕ → ℕ → ℕ → Result (List MoveRow) Problem → Answer
-answered state id from to (Err problem) = refused problem
-answered state id from to (Ok rows) = success (moves_reply state id from to rows)
-
 abbrev pub moves_on : TenantState → ℕ → ℕ → Option PoolParts → Answer
 moves_on state from to None = refused NoPool
-moves_on state from to (Some p) = answered state p.id from to (rows_of state p from to)
+moves_on state from to (Some p) = answer_with (moves_reply state p.id from to) (rows_of state p from to)
 
 -- the groups of the pool with an id that move from a version to another
 abbrev pub moves_answer : ℕ → ℕ → ℕ → TenantState → Answer

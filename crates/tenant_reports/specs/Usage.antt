@@ -3,15 +3,16 @@ use Rattle.std.specs.Prelude.{ℕ, List, [], ◌∷◌, map, Bool, Option, Some,
 use Rattle.std.specs.Option.{ok_or}
 use Rattle.std.specs.Str.{bytes_eq}
 use Rattle.serde_json.specs.Data.{Data, object}
-use Rattle.crush_map.specs.Map.{Map}
+use Rattle.crush_pool.specs.Placers.{PoolOnMap}
 use Rattle.crush_pool.specs.declared.pool.PoolParts.{PoolParts}
 use Rattle.crush_report.specs.Reports.{usage}
 use Rattle.crush_report.specs.declared.rows.UsageRow.{UsageRow}
-use Rattle.tenant_messages.specs.Reply.{Answer, refused, success, members_of, natural}
+use Rattle.tenant_messages.specs.Refusals.{answer_with}
+use Rattle.tenant_messages.specs.Reply.{Answer, refused, members_of, natural}
 use Rattle.tenant_messages.specs.Slots.{list_json}
 use Rattle.tenant_messages.specs.declared.reply.Problem.{Problem}
-use Rattle.tenant_messages.specs.declared.reply.Problem.TheVariants.{NoVersion, NoPool, NoRule}
-use Rattle.tenant_state.specs.State.{TenantState, epoch, newest, version, pool}
+use Rattle.tenant_messages.specs.declared.reply.Problem.TheVariants.{NoPool, NoRule}
+use Rattle.tenant_state.specs.State.{TenantState, epoch, newest, on_newest, pool}
 
 -- ---- requests
 
@@ -36,21 +37,18 @@ usage_reply state id rows =
     object (members_of ((codes "epoch", natural (epoch state)) ∷ (codes "pool", natural id) ∷ (codes "rows", list_json (map row_json rows))
     ∷ (codes "version", natural (newest state)) ∷ []))
 
--- the newest version has the pool's rule (law `pools_have_their_rules`)
-abbrev pub on_version : TenantState → PoolParts → Option Map → Result (List UsageRow) Problem
-on_version state p None = Err NoVersion
-on_version state p (Some m) = ok_or (usage m state.devices p) NoRule
+-- the counts on a map with the pool's rule
+abbrev pub on_map : Result PoolOnMap Problem → Result (List UsageRow) Problem
+on_map (Err problem) = Err problem
+on_map (Ok p) = ok_or (usage p.map p.states p.pool) NoRule
 
+-- the counts on the newest version, or why there are none
 abbrev pub rows_of : TenantState → PoolParts → Result (List UsageRow) Problem
-rows_of state p = on_version state p (version (newest state) state)
-
-abbrev pub answered : TenantState → ℕ → Result (List UsageRow) Problem → Answer
-answered state id (Err problem) = refused problem
-answered state id (Ok rows) = success (usage_reply state id rows)
+rows_of state p = on_map (on_newest state p)
 
 abbrev pub usage_on : TenantState → Option PoolParts → Answer
 usage_on state None = refused NoPool
-usage_on state (Some p) = answered state p.id (rows_of state p)
+usage_on state (Some p) = answer_with (usage_reply state p.id) (rows_of state p)
 
 -- the counts of the pool with an id
 abbrev pub usage_answer : ℕ → TenantState → Answer

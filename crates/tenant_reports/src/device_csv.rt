@@ -7,7 +7,8 @@ ghost use Rattle.tenant_messages.specs.Reading.{Reads};
 ghost use Rattle.tenant_reports.specs.DeviceCsv as spec;
 
 use crush_map::{Listed, Text};
-use crush_report::{DeviceChange, read_device_csv};
+use crush_pool::DeviceChange;
+use crush_report::read_device_csv;
 use serde_json::Value;
 use std::alloc::Global;
 use tenant_messages::{ReadError, has_keys, read_value, request_number, text};

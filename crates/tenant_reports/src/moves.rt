@@ -1,27 +1,23 @@
 //! Which groups of a pool move between two versions: at `/t/{t}/pools/{p}/moves/{v}/{w}` GET reads those whose up lists differ.
 
-ghost use Rattle.std.specs.Prelude.{◌≡◌, ◌≤◌, ◌++◌, Some, IfOk, OnOk, map, string_bytes};
+ghost use Rattle.std.specs.Prelude.{◌≡◌, ◌≤◌, ◌++◌, IfOk, OnOk, map, string_bytes};
 ghost use Rattle.std.specs.Fmt.{decimal};
 ghost use Rattle.serde_json.specs.View.{view};
 ghost use Rattle.serde_json.specs.Written.{comma_if, compact_text};
-ghost use Rattle.crush_bucket.specs.Tables.{tables_of};
-ghost use Rattle.crush_choose.specs.Rules.{CanRun};
-ghost use Rattle.crush_pool.specs.Placements.{rule_numbered};
 ghost use Rattle.crush_report.specs.Moves.{gained_in};
-ghost use Rattle.crush_report.specs.Reports.{moves};
-ghost use Rattle.tenant_messages.specs.Refusals.{Gives};
+ghost use Rattle.tenant_messages.specs.Refusals.{Answers, Gives};
 ghost use Rattle.tenant_messages.specs.Reply.{reply, success};
 ghost use Rattle.tenant_messages.specs.Slots.{list_json};
 ghost use Rattle.tenant_reports.specs.Moves as spec;
 ghost use Rattle.tenant_reports.specs.Private.Pieces.{head_text};
 
-use crush_map::{Listed, Rule, Text};
-use crush_pool::{Pool, rule_with_id};
+use crush_map::{Listed, Text};
+use crush_pool::Pool;
 use crush_report::{MoveRow, gained_in, moves_with};
 use serde_json::{Value, json};
 use std::alloc::{AllocError, Global};
-use tenant_messages::{Problem, Refusal, Reply, refused, slots_json};
-use tenant_state::{Devices, TenantState, Version};
+use tenant_messages::{Problem, Refusal, Reply, or_refused, slots_json};
+use tenant_state::TenantState;
 
 /// The route of moves.
 pub const ROUTE: &str = "/t/{t}/pools/{p}/moves/{v}/{w}";
@@ -35,35 +31,6 @@ pub fn has_method(method: &[u8]) -> bool
 
 // ---- the groups that move
 
-/// The rows between two versions, with these states of devices.
-fn rows_between(
-    alloc: Global,
-    from: &Version,
-    to: &Version,
-    devices: &Devices,
-    pool: &Pool,
-    first: &Rule,
-    second: &Rule,
-) -> Result<Listed<MoveRow>, AllocError>
-    requires first { rule_numbered from.now pool.now.rule ≡ Some first.now }
-    requires first_runs { CanRun (tables_of from.now) first.now }
-    requires second { rule_numbered to.now pool.now.rule ≡ Some second.now }
-    requires second_runs { CanRun (tables_of to.now) second.now }
-    ensures rows { IfOk result (λ rows. moves from.now to.now devices.now pool.now ≡ Some rows) }
-    ensures gained { IfOk result (λ rows. gained_in rows ≤ 2097152) }
-{
-    moves_with(
-        alloc,
-        from.tables(),
-        first,
-        to.tables(),
-        second,
-        pool,
-        devices.weights(),
-        devices.flags(),
-    )
-}
-
 /// The rows between the versions with two numbers, or why there are none.
 fn rows_of(
     alloc: Global,
@@ -75,19 +42,12 @@ fn rows_of(
     ensures rows { Gives (λ rows. rows) result (spec.rows_of state.now pool.now from to) }
     ensures gained { IfOk result (λ rows. gained_in rows ≤ 2097152) }
 {
-    let Some(before) = state.version(from) else {
-        return Err(Refusal::Problem(Problem::NoVersion));
-    };
-    let Some(after) = state.version(to) else {
-        return Err(Refusal::Problem(Problem::NoVersion));
-    };
-    let Some(first) = rule_with_id(before.map(), pool.parts().rule) else {
-        return Err(Refusal::Problem(Problem::NoRule));
-    };
-    let Some(second) = rule_with_id(after.map(), pool.parts().rule) else {
-        return Err(Refusal::Problem(Problem::NoRule));
-    };
-    Ok(rows_between(alloc, before, after, state.devices(), pool, first, second)?)
+    let before = state.version(from).ok_or(Problem::NoVersion)?;
+    let after = state.version(to).ok_or(Problem::NoVersion)?;
+    let old = state.on_version(before, pool)?;
+    let new = state.on_version(after, pool)?;
+    let rows = moves_with(alloc, &old, &new)?;
+    Ok(rows)
 }
 
 // ---- the answer
@@ -220,6 +180,17 @@ fn moves_reply(
     })
 }
 
+/// The reply with the groups, of the pool with an id, that move between the versions with two
+/// numbers; or why there are none.
+fn moved(alloc: Global, id: u64, from: u64, to: u64, state: &TenantState) -> Result<Reply, Refusal>
+    ensures { Answers result (spec.moves_answer id from to state.now) }
+{
+    let pool = state.pools().get(id).ok_or(Problem::NoPool)?;
+    let rows = rows_of(alloc, state, pool, from, to)?;
+    let written = moves_reply(alloc, state, pool.parts().id, from, to, rows.as_slice())?;
+    Ok(written)
+}
+
 /// The reply with the groups, of the pool with an id, that move between the versions with two numbers.
 pub fn answer(
     alloc: Global,
@@ -230,15 +201,5 @@ pub fn answer(
 ) -> Result<Reply, AllocError>
     ensures { IfOk result (λ r. r ≡ reply (spec.moves_answer id from to state.now)) }
 {
-    let Some(pool) = state.pools().get(id) else {
-        return refused(alloc, Problem::NoPool);
-    };
-    match rows_of(alloc, state, pool, from, to) {
-        Err(Refusal::Problem(problem)) => refused(alloc, problem),
-        Err(Refusal::NoMemory) => Err(AllocError),
-        Ok(rows) => {
-            let written = moves_reply(alloc, state, pool.parts().id, from, to, rows.as_slice())?;
-            Ok(written)
-        }
-    }
+    or_refused(alloc, moved(alloc, id, from, to, state))
 }

@@ -1,23 +1,19 @@
 //! How much of a pool lies on each device: at `/t/{t}/pools/{p}/usage` GET reads the counts of all groups on the newest version.
 
-ghost use Rattle.std.specs.Prelude.{◌≡◌, Some, IfOk, map};
+ghost use Rattle.std.specs.Prelude.{◌≡◌, IfOk, map};
 ghost use Rattle.serde_json.specs.View.{view};
-ghost use Rattle.crush_bucket.specs.Tables.{tables_of};
-ghost use Rattle.crush_choose.specs.Rules.{CanRun};
-ghost use Rattle.crush_pool.specs.Placements.{rule_numbered};
-ghost use Rattle.crush_report.specs.Reports.{usage};
-ghost use Rattle.tenant_messages.specs.Refusals.{Gives};
+ghost use Rattle.tenant_messages.specs.Refusals.{Answers, Gives};
 ghost use Rattle.tenant_messages.specs.Reply.{reply};
 ghost use Rattle.tenant_messages.specs.Slots.{list_json};
 ghost use Rattle.tenant_reports.specs.Usage as spec;
 
-use crush_map::{Listed, Rule};
-use crush_pool::{Pool, rule_with_id};
+use crush_map::Listed;
+use crush_pool::Pool;
 use crush_report::{UsageRow, usage_with};
 use serde_json::{Value, json};
 use std::alloc::{AllocError, Global};
-use tenant_messages::{Problem, Refusal, Reply, refused, success};
-use tenant_state::{Devices, TenantState, Version};
+use tenant_messages::{Problem, Refusal, Reply, or_refused, success};
+use tenant_state::TenantState;
 
 /// The route of usage.
 pub const ROUTE: &str = "/t/{t}/pools/{p}/usage";
@@ -31,41 +27,13 @@ pub fn has_method(method: &[u8]) -> bool
 
 // ---- the counts
 
-/// The rows on a version, with these states of devices.
-fn rows_on(
-    alloc: Global,
-    version: &Version,
-    devices: &Devices,
-    pool: &Pool,
-    rule: &Rule,
-) -> Result<Listed<UsageRow>, AllocError>
-    requires rule { rule_numbered version.now pool.now.rule ≡ Some rule.now }
-    requires runs { CanRun (tables_of version.now) rule.now }
-    ensures { IfOk result (λ rows. usage version.now devices.now pool.now ≡ Some rows) }
-{
-    let rows = usage_with(
-        alloc,
-        version.map().devices(),
-        version.tables(),
-        pool,
-        rule,
-        devices.weights(),
-        devices.flags(),
-    )?;
-    Ok(rows)
-}
-
 /// The rows on the newest version, or why there are none.
 fn rows_of(alloc: Global, state: &TenantState, pool: &Pool) -> Result<Listed<UsageRow>, Refusal>
     ensures { Gives (λ rows. rows) result (spec.rows_of state.now pool.now) }
 {
-    let Some(version) = state.version(state.newest()) else {
-        return Err(Refusal::Problem(Problem::NoVersion));
-    };
-    let Some(rule) = rule_with_id(version.map(), pool.parts().rule) else {
-        return Err(Refusal::Problem(Problem::NoRule));
-    };
-    Ok(rows_on(alloc, version, state.devices(), pool, rule)?)
+    let placer = state.on_newest(pool)?;
+    let rows = usage_with(alloc, &placer)?;
+    Ok(rows)
 }
 
 // ---- the answer
@@ -109,19 +77,19 @@ fn usage_reply(
     })
 }
 
+/// The reply with the counts of the pool with an id, or why there are none.
+fn counted(alloc: Global, id: u64, state: &TenantState) -> Result<Reply, Refusal>
+    ensures { Answers result (spec.usage_answer id state.now) }
+{
+    let pool = state.pools().get(id).ok_or(Problem::NoPool)?;
+    let rows = rows_of(alloc, state, pool)?;
+    let body = usage_reply(alloc, state, pool.parts().id, rows.as_slice())?;
+    Ok(success(alloc, &body)?)
+}
+
 /// The reply with the counts of the pool with an id.
 pub fn answer(alloc: Global, id: u64, state: &TenantState) -> Result<Reply, AllocError>
     ensures { IfOk result (λ r. r ≡ reply (spec.usage_answer id state.now)) }
 {
-    let Some(pool) = state.pools().get(id) else {
-        return refused(alloc, Problem::NoPool);
-    };
-    match rows_of(alloc, state, pool) {
-        Err(Refusal::Problem(problem)) => refused(alloc, problem),
-        Err(Refusal::NoMemory) => Err(AllocError),
-        Ok(rows) => success(
-            alloc,
-            &usage_reply(alloc, state, pool.parts().id, rows.as_slice())?,
-        ),
-    }
+    or_refused(alloc, counted(alloc, id, state))
 }

@@ -4,8 +4,8 @@ use Rattle.std.specs.Bool.{Decides}
 use Rattle.std.specs.List.{AllPairs}
 use Rattle.std.specs.Prelude.{codes}
 use Rattle.std.proofs.lemmas.Bool.Decides.{Decides-and, Decides-eqb, Decides-like, Decides-not}
-use Rattle.crush_report.proofs.ValidChanges.{IsValid, Decides-is_valid}
-use Rattle.crush_report.specs.Changes.{is_valid}
+use Rattle.crush_pool.proofs.ValidChanges.{AreValidChanges, Decides-are_valid_changes}
+use Rattle.crush_pool.specs.Changes.{are_valid_changes}
 use Rattle.tenant_messages.proofs.Finding.{Finds, finds_as, finds_boolean, finds_both, finds_list, finds_natural, finds_number, finds_object, finds_object_with, finds_tested, finds_under, is_there}
 use Rattle.tenant_messages.proofs.Objects.{are_different}
 use Rattle.tenant_messages.proofs.OptionalKeys.{finds_optional, found_if_any, all_found-append, present-if_any}
@@ -57,6 +57,6 @@ finds_changes = finds_as
     (λ d a is. (is.keys, ((is.request, is.devices), record { some = is.some; few = is.few; distinct = is.distinct })))
     (finds_object (codes "devices" ∷ codes "request" ∷ []) refl
     (λ d a is. (is_there (codes "devices") d a.1 is.0.1, (is_there (codes "request") d a.0 is.0.0, tt)))
-    (finds_tested (λ a. is_valid a.1) (λ a. IsValid a.1) (λ a. (Decides-is_valid a.1).0) (λ a. (Decides-is_valid a.1).1)
+    (finds_tested (λ a. are_valid_changes a.1) (λ a. AreValidChanges a.1) (λ a. (Decides-are_valid_changes a.1).0) (λ a. (Decides-are_valid_changes a.1).1)
     (finds_both (λ number changes. (number, changes)) (λ a. a.0) (λ a. a.1) (λ a b. refl) (λ a b. refl) (λ a. refl)
     (finds_under (codes "request") finds_number) (finds_under (codes "devices") (finds_list finds_change)))))

@@ -5,9 +5,11 @@ use Rattle.serde_json.specs.Data.{Data}
 use Rattle.crush_pool.specs.Pools.{group_of}
 use Rattle.crush_pool.specs.declared.placing.Placement.{Placement}
 use Rattle.crush_pool.specs.declared.pool.PoolParts.{PoolParts}
-use Rattle.tenant_messages.specs.Reply.{refused, success}
-use Rattle.tenant_messages.specs.declared.reply.Problem.{Problem}
-use Rattle.tenant_resources.specs.Groups.{placed, answered, group_reply, group_on, group_answer, object_reply, object_on, object_answer}
+use Rattle.tenant_messages.specs.Refusals.{Answers, Gives, answer_with}
+use Rattle.tenant_messages.specs.Reply.{success}
+use Rattle.tenant_messages.specs.declared.reply.Refusal.{Refusal}
+use Rattle.tenant_messages.specs.declared.reply.Refusal.TheVariants.{Problem, NoMemory}
+use Rattle.tenant_resources.specs.Groups.{placed, group_reply, group_on, group_answer, object_reply, object_on, object_answer}
 use Rattle.tenant_state.specs.State.{TenantState, pool}
 
 -- the pool with an id, among the pools of a state
@@ -16,27 +18,29 @@ pool_there id state pools p same found = sym (found ∙ ap (find (λ (p : PoolPa
 
 -- ---- groups
 
-pub group_refused : (id group : ℕ) (state : TenantState) (p : PoolParts) (problem : Problem) → pool id state ≡ Some p → placed state p group ≡ Err problem
-    → refused problem ≡ group_answer id group state
-group_refused id group state p problem there given = sym (ap (group_on state group) there ∙ ap (answered (group_reply state group)) given)
+pub group_refused : (id group : ℕ) (state : TenantState) (p : PoolParts) (why : Refusal) → pool id state ≡ Some p → Gives (λ q. q) (Err why) (placed state p group)
+    → Answers (Err why) (group_answer id group state)
+group_refused id group state p (Problem problem) there given = ap (group_on state group) there ∙ ap (answer_with (group_reply state group)) given
+group_refused id group state p NoMemory there given = tt
 
 pub group_placed : (id group : ℕ) (state : TenantState) (p : PoolParts) (placement : Placement) (body : Data) → pool id state ≡ Some p → placed state p group ≡ Ok placement
     → body ≡ group_reply state group placement → success body ≡ group_answer id group state
 group_placed id group state p placement body there given written =
-    ap success written ∙ sym (ap (group_on state group) there ∙ ap (answered (group_reply state group)) given)
+    ap success written ∙ sym (ap (group_on state group) there ∙ ap (answer_with (group_reply state group)) given)
 
 -- ---- objects
 
 abbrev name_reply : List ℕ → TenantState → PoolParts → Placement → Data
 name_reply name state p = object_reply name state (group_of p name)
 
-pub object_refused : (id : ℕ) (name : List ℕ) (state : TenantState) (p : PoolParts) (group : ℕ) (problem : Problem) → pool id state ≡ Some p → group ≡ group_of p name
-    → placed state p group ≡ Err problem → refused problem ≡ object_answer id name state
-object_refused id name state p group problem there own given =
-    sym (ap (object_on state name) there ∙ ap (answered (name_reply name state p)) (ap (placed state p) (sym own) ∙ given))
+pub object_refused : (id : ℕ) (name : List ℕ) (state : TenantState) (p : PoolParts) (group : ℕ) (why : Refusal) → pool id state ≡ Some p → group ≡ group_of p name
+    → Gives (λ q. q) (Err why) (placed state p group) → Answers (Err why) (object_answer id name state)
+object_refused id name state p group (Problem problem) there own given =
+    ap (object_on state name) there ∙ ap (answer_with (name_reply name state p)) (ap (placed state p) (sym own) ∙ given)
+object_refused id name state p group NoMemory there own given = tt
 
 pub object_placed : (id : ℕ) (name : List ℕ) (state : TenantState) (p : PoolParts) (text : List ℕ) (group : ℕ) (placement : Placement) (body : Data) → pool id state ≡ Some p
     → text ≡ name → group ≡ group_of p name → placed state p group ≡ Ok placement → body ≡ object_reply text state group placement → success body ≡ object_answer id name state
 object_placed id name state p text group placement body there same own given written =
     ap success (written ∙ (ap (λ t. object_reply t state group placement) same ∙ ap (λ g. object_reply name state g placement) own))
-    ∙ sym (ap (object_on state name) there ∙ ap (answered (name_reply name state p)) (ap (placed state p) (sym own) ∙ given))
+    ∙ sym (ap (object_on state name) there ∙ ap (answer_with (name_reply name state p)) (ap (placed state p) (sym own) ∙ given))

@@ -6,10 +6,10 @@ use Rattle.serde_json.specs.Data.{Data, object}
 use Rattle.serde_json.specs.Find.{as_bool}
 use Rattle.crush_choose.specs.Weights.{reweight_of}
 use Rattle.crush_map.specs.Map.{Map}
+use Rattle.crush_pool.specs.Changes.{are_valid_changes}
 use Rattle.crush_pool.specs.States.{is_up, reweights}
+use Rattle.crush_pool.specs.declared.changes.DeviceChange.{DeviceChange}
 use Rattle.crush_pool.specs.declared.states.DeviceState.{DeviceState}
-use Rattle.crush_report.specs.Changes.{is_valid}
-use Rattle.crush_report.specs.declared.changes.DeviceChange.{DeviceChange}
 use Rattle.tenant_messages.specs.Forms.{IsNatural, IsBoolean, IsListOf, IsOptional, if_any, HasExactly, IsUnder}
 use Rattle.tenant_messages.specs.Json.{value_of, natural_of, both, list_of, has_keys, under, optional, present}
 use Rattle.tenant_messages.specs.Numbers.{IsRequestNumber, request_number_of}
@@ -63,7 +63,7 @@ change_of d =
     (both (λ reweight up. (reweight, up)) (optional (codes "reweight") (natural_of 65536) d) (optional (codes "up") as_bool d))) else None
 
 abbrev pub if_valid : List ℕ × List DeviceChange → Option (List ℕ × List DeviceChange)
-if_valid asked = if is_valid asked.1 then Some asked else None
+if_valid asked = if are_valid_changes asked.1 then Some asked else None
 
 -- the request number, and the changes
 abbrev pub changes_of : Data → Option (List ℕ × List DeviceChange)

@@ -1,21 +1,22 @@
 -- Groups of pools: at `/t/{t}/pools/{p}/groups/{g}` GET reads where a group lies, and at `/t/{t}/pools/{p}/locate` POST asks where an object lies.
-use Rattle.std.specs.Prelude.{ℕ, ◌≤◌, List, [], ◌∷◌, length, map, Bool, nat_lt, nat_le, if◌then◌else◌, Option, Some, None, option_and_then, Result, Ok, Err, codes}
+use Rattle.std.specs.Prelude.{ℕ, ◌≤◌, List, [], ◌∷◌, length, map, Bool, nat_lt, nat_le, if◌then◌else◌, Option, Some, None, option_and_then, ok_or, Result, Ok, Err, codes}
 use Rattle.std.specs.Str.{bytes_eq}
 use Rattle.serde_json.specs.Data.{Data, object}
 use Rattle.serde_json.specs.Find.{as_str}
 use Rattle.crush_hash.specs.Hash.{name_hash}
-use Rattle.crush_map.specs.Map.{Map}
 use Rattle.crush_pool.specs.Placements.{placement}
+use Rattle.crush_pool.specs.Placers.{PoolOnMap}
 use Rattle.crush_pool.specs.Pools.{group_of}
 use Rattle.crush_pool.specs.declared.placing.Placement.{Placement}
 use Rattle.crush_pool.specs.declared.pool.PoolParts.{PoolParts}
 use Rattle.tenant_messages.specs.Forms.{IsText, HasExactly, IsUnder}
 use Rattle.tenant_messages.specs.Json.{value_of, has_keys, under}
-use Rattle.tenant_messages.specs.Reply.{Answer, refused, success, members_of, natural}
+use Rattle.tenant_messages.specs.Refusals.{answer_with}
+use Rattle.tenant_messages.specs.Reply.{Answer, refused, members_of, natural}
 use Rattle.tenant_messages.specs.declared.reply.Problem.{Problem}
-use Rattle.tenant_messages.specs.declared.reply.Problem.TheVariants.{NoVersion, NoPool, NoGroup, NoRule}
+use Rattle.tenant_messages.specs.declared.reply.Problem.TheVariants.{NoPool, NoGroup, NoRule}
 use Rattle.tenant_messages.specs.Slots.{slot_json, list_json}
-use Rattle.tenant_state.specs.State.{TenantState, epoch, newest, version, pool}
+use Rattle.tenant_state.specs.State.{TenantState, epoch, newest, on_newest, pool}
 
 -- ---- requests
 
@@ -66,26 +67,18 @@ object_reply name state group p =
     ∷ (codes "primary", slot_json p.primary) ∷ (codes "raw", list_json (map slot_json p.raw)) ∷ (codes "seed", natural p.seed)
     ∷ (codes "up", list_json (map slot_json p.up)) ∷ (codes "version", natural (newest state)) ∷ []))
 
--- a group is placed on the newest version, which has the pool's rule (law `pools_have_their_rules`)
-abbrev pub or_no_rule : Option Placement → Result Placement Problem
-or_no_rule None = Err NoRule
-or_no_rule (Some p) = Ok p
+-- a group is placed by the rule of its pool
+abbrev pub on_map : ℕ → Result PoolOnMap Problem → Result Placement Problem
+on_map group (Err problem) = Err problem
+on_map group (Ok p) = ok_or (placement p.map p.states p.pool group) NoRule
 
-abbrev pub on_version : TenantState → PoolParts → ℕ → Option Map → Result Placement Problem
-on_version state p group None = Err NoVersion
-on_version state p group (Some m) = or_no_rule (placement m state.devices p group)
-
--- the placement of a group, or why there is none
+-- the placement of a group on the newest version, or why there is none
 abbrev pub placed : TenantState → PoolParts → ℕ → Result Placement Problem
-placed state p group = if nat_lt group p.pg_num then on_version state p group (version (newest state) state) else Err NoGroup
-
-abbrev pub answered : (Placement → Data) → Result Placement Problem → Answer
-answered body (Err problem) = refused problem
-answered body (Ok p) = success (body p)
+placed state p group = if nat_lt group p.pg_num then on_map group (on_newest state p) else Err NoGroup
 
 abbrev pub group_on : TenantState → ℕ → Option PoolParts → Answer
 group_on state group None = refused NoPool
-group_on state group (Some p) = answered (group_reply state group) (placed state p group)
+group_on state group (Some p) = answer_with (group_reply state group) (placed state p group)
 
 -- the group with a number of the pool with an id
 abbrev pub group_answer : ℕ → ℕ → TenantState → Answer
@@ -93,7 +86,7 @@ group_answer id group state = group_on state group (pool id state)
 
 abbrev pub object_on : TenantState → List ℕ → Option PoolParts → Answer
 object_on state name None = refused NoPool
-object_on state name (Some p) = let group = group_of p name in answered (object_reply name state group) (placed state p group)
+object_on state name (Some p) = let group = group_of p name in answer_with (object_reply name state group) (placed state p group)
 
 -- the group of the object with a name, of the pool with an id
 abbrev pub object_answer : ℕ → List ℕ → TenantState → Answer

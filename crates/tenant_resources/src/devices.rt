@@ -14,8 +14,7 @@ ghost use Rattle.tenant_resources.specs.Orders.{accepted_of};
 
 use crate::accepted::Accepted;
 use crush_map::{Listed, Text};
-use crush_pool::DeviceState;
-use crush_report::{DeviceChange, is_valid};
+use crush_pool::{DeviceChange, DeviceState, are_valid_changes};
 use serde_json::{Value, json};
 use std::alloc::{AllocError, Global};
 use tenant_messages::{
@@ -89,7 +88,7 @@ fn changes_in(alloc: Global, value: &Value) -> Result<(Text, Listed<DeviceChange
         .and_then(Value::as_array)
         .ok_or(ReadError::Malformed)?;
     let found = changes(alloc, values)?;
-    if is_valid(&found) {
+    if are_valid_changes(&found) {
         Ok((Text::copy(alloc, number)?, Listed::new(found)))
     } else {
         Err(ReadError::Malformed)

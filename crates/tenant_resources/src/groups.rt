@@ -1,28 +1,26 @@
 //! Groups of pools: at `/t/{t}/pools/{p}/groups/{g}` GET reads where a group lies, and at `/t/{t}/pools/{p}/locate` POST asks where an object lies.
 
-ghost use Rattle.std.specs.Prelude.{◌≡◌, ◌<◌, ◌≤◌, ◌^◌, Some, IfOk, length, map};
+ghost use Rattle.std.specs.Prelude.{◌≡◌, ◌<◌, ◌^◌, IfOk, length, map};
 ghost use Rattle.serde_json.specs.View.{view};
-ghost use Rattle.crush_bucket.specs.Tables.{tables_of};
-ghost use Rattle.crush_choose.specs.Rules.{CanRun};
-ghost use Rattle.crush_pool.specs.Placements.{placement, rule_numbered};
 ghost use Rattle.tenant_messages.specs.Reading.{Reads};
-ghost use Rattle.tenant_messages.specs.Refusals.{Gives};
+ghost use Rattle.tenant_messages.specs.Refusals.{Answers, Gives};
 ghost use Rattle.tenant_messages.specs.Reply.{reply};
 ghost use Rattle.tenant_resources.specs.Groups as spec;
 ghost use Rattle.tenant_messages.specs.Slots.{slot_json, list_json};
 
 use crush_bucket::Scratch;
+use crush_choose::Out;
 use crush_hash::name_hash;
-use crush_map::{Rule, Text};
-use crush_pool::{Placement, Pool, place, rule_with_id};
+use crush_map::Text;
+use crush_pool::{Placement, Pool};
 use serde_json::{Value, json};
 use std::alloc::{AllocError, Global};
 use std::marker::Model;
 use tenant_messages::{
-    Problem, ReadError, Refusal, Reply, has_keys, read_value, refused, slot_json, slots_json,
+    Problem, ReadError, Refusal, Reply, has_keys, or_refused, read_value, slot_json, slots_json,
     success, text,
 };
-use tenant_state::{Devices, TenantState, Version};
+use tenant_state::TenantState;
 
 /// The route of groups.
 pub const GROUP_ROUTE: &str = "/t/{t}/pools/{p}/groups/{g}";
@@ -97,51 +95,16 @@ pub fn read_name(alloc: Global, body: &[u8]) -> Result<ObjectName, ReadError>
 
 // ---- placing a group
 
-/// The placement of a group on a version, with these states of devices.
-fn placed_on(
-    alloc: Global,
-    version: &Version,
-    devices: &Devices,
-    pool: &Pool,
-    rule: &Rule,
-    group: u32,
-) -> Result<Placement, AllocError>
-    requires there { group < pool.now.pg_num }
-    requires rule { rule_numbered version.now pool.now.rule ≡ Some rule.now }
-    requires runs { CanRun (tables_of version.now) rule.now }
-    ensures { IfOk result (λ p. placement version.now devices.now pool.now group ≡ Some p) }
-{
-    let tables = version.tables();
-    let mut scratch = Scratch::build(alloc, tables)?;
-    let weights = devices.weights();
-    let flags = devices.flags();
-    match place(
-        alloc,
-        tables,
-        &mut scratch,
-        pool,
-        rule,
-        weights,
-        flags,
-        group,
-    )? {
-        Ok(placement) => Ok(placement),
-        Err(_) => unreachable!(),
-    }
-}
-
 /// The placement of a group of a pool on the newest version, or why there is none.
 fn placed(alloc: Global, state: &TenantState, pool: &Pool, group: u32) -> Result<Placement, Refusal>
     requires { group < pool.now.pg_num }
     ensures { Gives (λ p. p) result (spec.placed state.now pool.now group) }
 {
-    let Some(version) = state.version(state.newest()) else {
-        return Err(Refusal::Problem(Problem::NoVersion));
-    };
-    let Some(rule) = rule_with_id(version.map(), pool.parts().rule) else {
-        return Err(Refusal::Problem(Problem::NoRule));
-    };
-    Ok(placed_on(alloc, version, state.devices(), pool, rule, group)?)
+    let placer = state.on_newest(pool)?;
+    let mut scratch = Scratch::build(alloc, placer.tables())?;
+    let mut out = Out::build(alloc)?;
+    let placement = placer.place_with(alloc, &mut scratch, &mut out, group)?;
+    Ok(placement)
 }
 
 // ---- the answers
@@ -201,6 +164,20 @@ fn object_reply(
     })
 }
 
+/// The reply with the placement of a group, of the pool with an id; or why there is none.
+fn group_located(alloc: Global, id: u64, group: u64, state: &TenantState) -> Result<Reply, Refusal>
+    ensures { Answers result (spec.group_answer id group state.now) }
+{
+    let pool = state.pools().get(id).ok_or(Problem::NoPool)?;
+    if group >= u64::from(pool.parts().pg_num) {
+        return Err(Refusal::Problem(Problem::NoGroup));
+    }
+    let group = group as u32;
+    let placement = placed(alloc, state, pool, group)?;
+    let body = group_reply(alloc, state, group, &placement)?;
+    Ok(success(alloc, &body)?)
+}
+
 /// The reply with the placement of a group, of the pool with an id.
 pub fn group_answer(
     alloc: Global,
@@ -210,18 +187,25 @@ pub fn group_answer(
 ) -> Result<Reply, AllocError>
     ensures { IfOk result (λ r. r ≡ reply (spec.group_answer id group state.now)) }
 {
-    let Some(pool) = state.pools().get(id) else {
-        return refused(alloc, Problem::NoPool);
-    };
-    if group >= u64::from(pool.parts().pg_num) {
-        return refused(alloc, Problem::NoGroup);
-    }
-    let group = group as u32;
-    match placed(alloc, state, pool, group) {
-        Err(Refusal::Problem(problem)) => refused(alloc, problem),
-        Err(Refusal::NoMemory) => Err(AllocError),
-        Ok(placement) => success(alloc, &group_reply(alloc, state, group, &placement)?),
-    }
+    or_refused(alloc, group_located(alloc, id, group, state))
+}
+
+/// The reply with the placement of the object with a name, in the pool with an id; or why there is
+/// none.
+fn object_located(
+    alloc: Global,
+    id: u64,
+    name: &ObjectName,
+    state: &TenantState,
+) -> Result<Reply, Refusal>
+    ensures { Answers result (spec.object_answer id name.now state.now) }
+{
+    let pool = state.pools().get(id).ok_or(Problem::NoPool)?;
+    let name = name.as_str();
+    let group = pool.group_of(name.as_bytes());
+    let placement = placed(alloc, state, pool, group)?;
+    let body = object_reply(alloc, name, state, group, &placement)?;
+    Ok(success(alloc, &body)?)
 }
 
 /// The reply with the placement of the object with a name, in the pool with an id.
@@ -233,14 +217,5 @@ pub fn object_answer(
 ) -> Result<Reply, AllocError>
     ensures { IfOk result (λ r. r ≡ reply (spec.object_answer id name.now state.now)) }
 {
-    let Some(pool) = state.pools().get(id) else {
-        return refused(alloc, Problem::NoPool);
-    };
-    let name = name.as_str();
-    let group = pool.group_of(name.as_bytes());
-    match placed(alloc, state, pool, group) {
-        Err(Refusal::Problem(problem)) => refused(alloc, problem),
-        Err(Refusal::NoMemory) => Err(AllocError),
-        Ok(placement) => success(alloc, &object_reply(alloc, name, state, group, &placement)?),
-    }
+    or_refused(alloc, object_located(alloc, id, name, state))
 }

@@ -1,8 +1,12 @@
 -- The state of a tenant, and its changes.
-use Rattle.std.specs.Prelude.{ℕ, ◌-◌, ◌==◌, List, [], ◌∷◌, ◌++◌, length, slice_get, find, fold, if◌then◌else◌, Option, None}
+use Rattle.std.specs.Prelude.{ℕ, ◌-◌, ◌==◌, List, [], ◌∷◌, ◌++◌, length, slice_get, find, fold, if◌then◌else◌, Option, Some, None, option_map, ok_or, Result, Err}
 use Rattle.crush_map.specs.Map.{Map}
+use Rattle.crush_pool.specs.Placements.{rule_numbered}
+use Rattle.crush_pool.specs.Placers.{PoolOnMap}
 use Rattle.crush_pool.specs.declared.pool.PoolParts.{PoolParts}
 use Rattle.crush_pool.specs.declared.states.DeviceState.{DeviceState}
+use Rattle.tenant_messages.specs.declared.reply.Problem.{Problem}
+use Rattle.tenant_messages.specs.declared.reply.Problem.TheVariants.{NoVersion, NoRule}
 use Rattle.tenant_state.specs.Ordered.{with_element, without}
 use Rattle.tenant_state.specs.Receipts.{Receipts, with_receipt}
 use Rattle.tenant_state.specs.declared.receipts.Receipt.{Receipt}
@@ -46,6 +50,20 @@ with_states changed states = fold with_state states changed
 -- the pool with an id
 abbrev pub pool : ℕ → TenantState → Option PoolParts
 pool id state = find (λ p. p.id == id) state.pools
+
+-- ---- a pool on a version, with the states of devices as they are now
+
+-- on a version, which has to have the pool's rule
+abbrev pub on_version : TenantState → PoolParts → Map → Result PoolOnMap Problem
+on_version state p m = ok_or (option_map (λ rule. record { map = m; states = state.devices; pool = p }) (rule_numbered m p.rule)) NoRule
+
+abbrev pub if_there : TenantState → PoolParts → Option Map → Result PoolOnMap Problem
+if_there state p None = Err NoVersion
+if_there state p (Some m) = on_version state p m
+
+-- on the newest version, which has the pool's rule (law `pools_have_their_rules`)
+abbrev pub on_newest : TenantState → PoolParts → Result PoolOnMap Problem
+on_newest state p = if_there state p (version (newest state) state)
 
 -- ---- changes
 

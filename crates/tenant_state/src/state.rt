@@ -5,10 +5,11 @@ use crate::pools::Pools;
 use crate::receipts::{Receipt, Receipts};
 use crate::version::Version;
 use crush_map::{Listed, Text};
-use crush_pool::{DeviceState, Pool};
+use crush_pool::{DeviceState, Placer, Pool};
 use std::alloc::{AllocError, Global};
 use std::marker::Model;
 use std::rc::Rc;
+use tenant_messages::Problem;
 
 // ---- changes
 
@@ -117,6 +118,38 @@ impl TenantState {
         ensures { result.now ≡ self.now.pools }
     {
         &self.pools
+    }
+
+    /// A pool on a version, with the states of devices as they are now. The problem is `NoRule`,
+    /// exactly where the version lacks the pool's rule.
+    pub fn on_version<'a>(
+        &'a self,
+        version: &'a Version,
+        pool: &'a Pool,
+    ) -> Result<Placer<'a>, Problem>
+        ensures { result ≡ spec.on_version self.now pool.now version.now }
+    {
+        let devices = self.devices();
+        Placer::new(
+            version.map(),
+            version.tables(),
+            devices.states(),
+            devices.weights(),
+            devices.flags(),
+            pool,
+        )
+        .ok_or(Problem::NoRule)
+    }
+
+    /// A pool on the newest version. The problem is `NoVersion` where there is no version, and
+    /// `NoRule` where the newest lacks the pool's rule.
+    pub fn on_newest<'a>(&'a self, pool: &'a Pool) -> Result<Placer<'a>, Problem>
+        ensures { result ≡ spec.on_newest self.now pool.now }
+    {
+        match self.version(self.newest()) {
+            Some(version) => self.on_version(version, pool),
+            None => Err(Problem::NoVersion),
+        }
     }
 
     /// The receipts.

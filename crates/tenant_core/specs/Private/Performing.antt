@@ -5,7 +5,7 @@ use Rattle.tenant_core.specs.States.{States}
 use Rattle.tenant_core.specs.Effects.{after_effect}
 use Rattle.tenant_core.specs.Step.{decision}
 use Rattle.tenant_messages.specs.declared.reply.Reply.{Reply}
-use Rattle.tenant_core.specs.declared.request.Request.{Request}
+use Rattle.tenant_core.specs.Request.{Request}
 use Rattle.tenant_state.specs.State.{TenantState}
 
 -- the state that was found decided the reply, and the state that the tenant has since; every other tenant keeps its own

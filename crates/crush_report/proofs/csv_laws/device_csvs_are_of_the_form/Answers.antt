@@ -1,7 +1,7 @@
 use Rattle.std.proofs.Common.{◌≡◌, ℕ, List, Some, None, refl}
 use Rattle.std.specs.Prelude.{Option}
 use Rattle.crush_report.specs.DeviceCsv.{IsDeviceCsv, device_changes_of}
-use Rattle.crush_report.specs.declared.changes.DeviceChange.{DeviceChange}
+use Rattle.crush_pool.specs.declared.changes.DeviceChange.{DeviceChange}
 use Rattle.crush_report.proofs.DeviceForms.{text_found, text_says}
 use Rattle.crush_report.proofs.csv_laws.device_csvs_are_of_the_form.Goals as goal
 

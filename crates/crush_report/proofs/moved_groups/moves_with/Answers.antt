@@ -1,21 +1,22 @@
-use Rattle.std.proofs.Common.{rules, arith, ◌≡◌, ◌≤◌, refl, sym, ◌∙◌}
+use Rattle.std.proofs.Common.{rules, arith, ◌≡◌, ◌≤◌, true, refl, sym, ◌∙◌}
 use Rattle.std.specs.List.{range_with_len}
+use Rattle.crush_pool.specs.Pools.{is_pool}
 use Rattle.crush_report.specs.Moves.{gained_in, move_between, move_rows}
-use Rattle.crush_report.specs.Reports.{up_list}
+use Rattle.crush_report.specs.Private.OnMaps.{up_on}
 use Rattle.crush_report.proofs.Gains.{gains_few}
 use Rattle.crush_report.proofs.Groups.{moves_more}
-use Rattle.crush_report.proofs.Short.{up_short, size_few, groups_few}
+use Rattle.crush_report.proofs.OnMaps.{moves_on, up_few, up_is}
+use Rattle.crush_report.proofs.Short.{groups_few}
 use Rattle.crush_report.proofs.moved_groups.moves_with.Goals as goal
 use Rattle.crush_report.proofs.moved_groups.moves_with.Goals.{in-Some+in_ok-push, in_default}
 
 pub loop-group-preserved : goal.loop-group-preserved
 loop-group-preserved c =
     let n = c.loop-group.group in
-    let old = up_list c.args.from.now c.args.weights.now c.args.states.now c.args.first.now.steps c.args.pool.now in
-    let new = up_list c.args.to.now c.args.weights.now c.args.states.now c.args.second.now.steps c.args.pool.now in
-    let more = moves_more old new n in
-    let row : c.move_between.result ≡ move_between n (old n) (new n) =
-    c.move_between.ensures ∙ rw c.in_ok-old.ensures.up (rw c.in_ok-new.ensures.up refl) in
+    let more = moves_more (up_on c.args.from.now) (up_on c.args.to.now) n in
+    let old = up_is c.args.from.now n c.in_ok-old.old c.in_ok-old.ensures.placed in
+    let new = up_is c.args.to.now n c.in_ok-new.new c.in_ok-new.ensures.placed in
+    let row : c.move_between.result ≡ move_between n (up_on c.args.from.now n) (up_on c.args.to.now n) = c.move_between.ensures ∙ rw (old, new) refl in
     elim c.match-move_between.branch [
       | in-Some+in_ok-push w ↦
           (let one = rw (sym row ∙ w.in-Some.is) at more in
@@ -25,13 +26,23 @@ loop-group-preserved c =
           search (rules, none))
     ]
 
+pub returns-clause-rows : goal.returns-clause-rows
+returns-clause-rows c =
+    let n = c.loop-group.group in
+    let end : n ≤ c.args.from.now.pool.pg_num = rw (c.parts.ensures.same ∙ c.pool.ensures) at c.loop-group.auto.group-end in
+    let above : c.args.from.now.pool.pg_num ≤ n = rw (c.parts.ensures.same ∙ c.pool.ensures) at c.loop-group-test.false in
+    let all : n ≡ c.args.from.now.pool.pg_num = omega (arith, end, above) in
+    let rows = rw all at (c.new.ensures ∙ c.loop-group.invariant.rows) in
+    rw rows (moves_on c.args.from.now c.args.to.now c.requires.states c.requires.pool c.map-first.ensures.rule c.map-second.ensures.rule)
+
 pub returns-clause-gained : goal.returns-clause-gained
 returns-clause-gained c =
-    let old = up_list c.args.from.now c.args.weights.now c.args.states.now c.args.first.now.steps c.args.pool.now in
-    let new = up_list c.args.to.now c.args.weights.now c.args.states.now c.args.second.now.steps c.args.pool.now in
+    let old = up_on c.args.from.now in
+    let new = up_on c.args.to.now in
     let n = c.loop-group.group in
-    let size = size_few c.args.pool.now c.parts.ensures.valid in
-    let end : n ≤ c.args.pool.now.pg_num = rw c.parts.ensures.same at c.loop-group.auto.group-end in
-    let few = gains_few old new 0 n (λ group. omega (arith, size, up_short c.args.to.now c.args.weights.now c.args.states.now c.args.second.now.steps c.args.pool.now group)) in
-    let all : gained_in (move_rows old new (range_with_len 0 n)) ≤ 2097152 = omega (arith, few, end, groups_few c.args.pool.now c.parts.ensures.valid) in
+    let valid : is_pool c.args.from.now.pool ≡ true = rw c.pool.ensures at c.parts.ensures.valid in
+    let also : is_pool c.args.to.now.pool ≡ true = rw c.requires.pool valid in
+    let end : n ≤ c.args.from.now.pool.pg_num = rw (c.parts.ensures.same ∙ c.pool.ensures) at c.loop-group.auto.group-end in
+    let few = gains_few old new 0 n (up_few c.args.to.now also) in
+    let all : gained_in (move_rows old new (range_with_len 0 n)) ≤ 2097152 = omega (arith, few, end, groups_few c.args.from.now.pool valid) in
     rw (c.new.ensures ∙ c.loop-group.invariant.rows) all

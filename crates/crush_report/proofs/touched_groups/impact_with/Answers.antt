@@ -1,15 +1,21 @@
-use Rattle.std.proofs.Common.{rules, ◌≡◌, sym, ◌∙◌, true, false}
+use Rattle.std.proofs.Common.{rules, arith, ◌≡◌, ◌≤◌, sym, ◌∙◌, true, false}
+use Rattle.crush_bucket.specs.Tables.{tables_of}
+use Rattle.crush_choose.specs.Weights.{weights_of}
 use Rattle.crush_map.specs.Faults.{has_number}
-use Rattle.crush_report.specs.Impact.{trace_of}
+use Rattle.crush_pool.specs.Placers.{steps_of}
+use Rattle.crush_pool.specs.States.{reweights}
 use Rattle.crush_report.proofs.Groups.{touched_more}
+use Rattle.crush_report.proofs.OnMaps.{impact_on}
+use Rattle.crush_report.specs.Private.OnMaps.{trace_on}
 use Rattle.crush_report.proofs.touched_groups.impact_with.Goals as goal
 use Rattle.crush_report.proofs.touched_groups.impact_with.Goals.{then-is_touched+in_ok-push, else-is_touched}
 
 pub loop-group-preserved : goal.loop-group-preserved
 loop-group-preserved c =
+    let p = c.args.placer.now in
     let n = c.loop-group.group in
-    let test = has_number (trace_of c.args.tables.now c.args.weights.now c.args.rule.now.steps c.args.pool.now n) c.args.device in
-    let more = touched_more c.args.tables.now c.args.weights.now c.args.rule.now.steps c.args.pool.now c.args.device n in
+    let test = has_number (trace_on p n) c.args.device in
+    let more = touched_more (tables_of p.map) (weights_of (reweights p.states)) (steps_of p) p.pool c.args.device n in
     elim c.if-is_touched.branch [
       | then-is_touched+in_ok-push w ↦
           (let hit : test ≡ true = sym c.is_touched.ensures.touched ∙ w.if-is_touched.true in
@@ -20,3 +26,13 @@ loop-group-preserved c =
           let none = rw miss at more in
           search (rules, none))
     ]
+
+pub returns : goal.returns
+returns c =
+    let p = c.args.placer.now in
+    let n = c.loop-group.group in
+    let end : n ≤ p.pool.pg_num = rw (c.parts.ensures.same ∙ c.pool.ensures) at c.loop-group.auto.group-end in
+    let above : p.pool.pg_num ≤ n = rw (c.parts.ensures.same ∙ c.pool.ensures) at c.loop-group-test.false in
+    let all : n ≡ p.pool.pg_num = omega (arith, end, above) in
+    let found = rw all at (c.new.ensures ∙ c.loop-group.invariant.found) in
+    rw found (impact_on p c.args.device c.map-map.ensures.rule)

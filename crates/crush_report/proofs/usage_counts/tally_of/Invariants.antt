@@ -1,12 +1,12 @@
 use Rattle.std.proofs.Common.{◌≡◌, map}
 use Rattle.std.specs.List.{range_with_len}
-use Rattle.crush_bucket.specs.Tables.{perms_of}
+use Rattle.crush_bucket.specs.Tables.{perms_of, tables_of}
+use Rattle.crush_report.specs.Private.OnMaps.{up_on}
 use Rattle.crush_report.specs.Private.Tallies.{IsTally, id_bound}
-use Rattle.crush_report.specs.Reports.{up_list}
 use Rattle.crush_report.proofs.usage_counts.tally_of.Given as goal
 
 abbrev pub invariant-loop-group : goal.invariant-loop-group
 invariant-loop-group l = record {
-  fits : l.scratch ≡ perms_of l.tables;
-  tally : IsTally (id_bound l.devices) (map (up_list l.tables l.weights l.states l.rule.steps l.pool) (range_with_len 0 l.group)) l.tally;
+  fits : l.scratch ≡ perms_of (tables_of l.placer.map);
+  tally : IsTally (id_bound l.devices) (map (up_on l.placer) (range_with_len 0 l.group)) l.tally;
 }

@@ -1,0 +1,10 @@
+use Rattle.crush_pool.proofs.Placed.{placed_by}
+use Rattle.crush_pool.proofs.placer.Placer.place_with.Goals as goal
+
+pub returns-clause-placed : goal.returns-clause-placed
+returns-clause-placed c =
+    let inside = c.self.inside in
+    let made = c.in_ok-placement.ensures in
+    rw (← c.self.view_is)
+    (placed_by inside.map.now inside.states.now inside.pool.now inside.rule.now c.args.group c.run.new.out.items c.in_ok-placement.placement c.self.invariant.rule
+    (rw (← c.self.view_is) at c.run.ensures.items) made.seed made.raw (rw c.self.invariant.flags at made.up) made.primary)

@@ -1,0 +1,162 @@
+//! What places the groups of a pool: the pool on a map, with states of devices.
+
+ghost use Rattle.std.specs.Prelude.{◌≡◌, option_map};
+ghost use Rattle.crush_bucket.specs.Tables.{tables_of};
+ghost use Rattle.crush_choose.specs.Weights.{weights_of};
+ghost use Rattle.crush_pool.specs.Placements.{rule_numbered};
+ghost use Rattle.crush_pool.specs.States.{flags_of, reweights};
+
+use crate::placing::{Placement, placement_by, rule_with_id, run, up_into};
+use crate::pool::Pool;
+use crate::states::{DeviceState, DeviceStates};
+use crush_bucket::{Scratch, Tables};
+use crush_choose::{Out, Slot, Weights};
+use crush_map::{CrushMap, Rule};
+use std::alloc::{AllocError, Global};
+use std::marker::Model;
+
+/// A pool on a map that has the pool's rule, with states of devices: all that it takes to place the
+/// pool's groups. Contracts see the map, the states and the pool.
+#[derive(Drop)]
+pub struct Placer<'a> {
+    map: &'a CrushMap,
+    tables: &'a Tables,
+    rule: &'a Rule,
+    states: &'a [DeviceState],
+    weights: &'a Weights,
+    flags: &'a DeviceStates,
+    pool: &'a Pool,
+}
+
+impl<'a> Model for Placer<'a> {
+    ghost use Rattle.std.specs.Prelude.{◌≡◌, Some};
+    ghost use Rattle.crush_bucket.specs.Tables.{tables_of};
+    ghost use Rattle.crush_choose.specs.Rules.{CanRun};
+    ghost use Rattle.crush_choose.specs.Weights.{weights_of};
+    ghost use Rattle.crush_pool.specs.Placements.{rule_numbered};
+    ghost use Rattle.crush_pool.specs.Placers.{PoolOnMap};
+    ghost use Rattle.crush_pool.specs.States.{flags_of, reweights};
+
+    ghost Value = { PoolOnMap };
+
+    ghost view = { λ a. record { map = a.map.now; states = a.states.now; pool = a.pool.now } };
+
+    ghost invariant = { λ a. record {
+      tables : a.tables.now ≡ tables_of a.map.now;
+      weights : a.weights.now ≡ weights_of (reweights a.states.now);
+      flags : a.flags.now ≡ flags_of a.states.now;
+      rule : rule_numbered a.map.now a.pool.now.rule ≡ Some a.rule.now;
+      runs : CanRun a.tables.now a.rule.now;
+    } };
+}
+
+impl<'a> Placer<'a> {
+    ghost use Rattle.std.specs.Prelude.{◌≡◌, ◌<◌, Some, IfOk, OnOk, is_some, true, option_map};
+    ghost use Rattle.crush_bucket.specs.Tables.{perms_of, tables_of};
+    ghost use Rattle.crush_choose.specs.Rules.{IsTrace, rule_answer};
+    ghost use Rattle.crush_choose.specs.Weights.{weights_of};
+    ghost use Rattle.crush_pool.specs.Placements.{placement, rule_numbered, up_of};
+    ghost use Rattle.crush_pool.specs.Placers.{steps_of};
+    ghost use Rattle.crush_pool.specs.Pools.{seed_of};
+    ghost use Rattle.crush_pool.specs.States.{flags_of, reweights};
+
+    /// The pool on the map, with these states of devices; none exactly where the map lacks the
+    /// pool's rule.
+    ///
+    /// The tables are those of the map, the weights those of the states' reweights, and the flags
+    /// the up and down of the states.
+    pub fn new(
+        map: &'a CrushMap,
+        tables: &'a Tables,
+        states: &'a [DeviceState],
+        weights: &'a Weights,
+        flags: &'a DeviceStates,
+        pool: &'a Pool,
+    ) -> Option<Placer<'a>>
+        requires tables { tables.now ≡ tables_of map.now }
+        requires weights { weights.now ≡ weights_of (reweights states.now) }
+        requires flags { flags.now ≡ flags_of states.now }
+        ensures { result ≡ option_map (λ rule. record { map = map.now; states = states.now; pool = pool.now }) (rule_numbered map.now pool.now.rule) }
+    {
+        let rule = rule_with_id(map, pool.parts().rule)?;
+        Some(Placer {
+            map,
+            tables,
+            rule,
+            states,
+            weights,
+            flags,
+            pool,
+        })
+    }
+
+    /// The map, which has the pool's rule.
+    pub fn map(&self) -> &'a CrushMap
+        ensures same { result.now ≡ self.now.map }
+        ensures rule { is_some (rule_numbered self.now.map self.now.pool.rule) ≡ true }
+    {
+        self.map
+    }
+
+    /// The tables of the map.
+    pub fn tables(&self) -> &'a Tables
+        ensures { result.now ≡ tables_of self.now.map }
+    {
+        self.tables
+    }
+
+    /// The pool.
+    pub fn pool(&self) -> &'a Pool
+        ensures { result.now ≡ self.now.pool }
+    {
+        self.pool
+    }
+
+    /// Runs the pool's rule for a group: sets `out` to its answer and to the trace of the run. It
+    /// takes no memory.
+    pub fn run(&self, scratch: &mut Scratch, out: &mut Out, group: u32)
+        requires fits { scratch.old ≡ perms_of (tables_of self.now.map) }
+        ensures items { out.new.items ≡ rule_answer (tables_of self.now.map) (weights_of (reweights self.now.states)) (steps_of self.now) (seed_of self.now.pool group) self.now.pool.size }
+        ensures trace { IsTrace (tables_of self.now.map) (weights_of (reweights self.now.states)) (steps_of self.now) (seed_of self.now.pool group) self.now.pool.size out.new.trace }
+        ensures fits { scratch.new ≡ perms_of (tables_of self.now.map) }
+    {
+        run(
+            self.tables,
+            scratch,
+            self.pool,
+            self.rule,
+            self.weights,
+            group,
+            out,
+        );
+    }
+
+    /// Makes `up` the up list of a group of the pool, from what the rule answered for it.
+    pub fn up_into(&self, out: &Out, up: &mut Vec<Slot>) -> Result<(), AllocError>
+        ensures { OnOk result (up.new.items ≡ up_of self.now.pool.erasure (flags_of self.now.states) out.now.items) }
+    {
+        up_into(self.pool.parts().erasure, self.flags, out.items(), up)?;
+        Ok(())
+    }
+
+    /// The placement of a group of the pool. `out` has the rule's answer and the trace of its run
+    /// afterwards.
+    pub fn place_with(
+        &self,
+        alloc: Global,
+        scratch: &mut Scratch,
+        out: &mut Out,
+        group: u32,
+    ) -> Result<Placement, AllocError>
+        requires there { group < self.now.pool.pg_num }
+        requires fits { scratch.old ≡ perms_of (tables_of self.now.map) }
+        ensures placed { IfOk result (λ p. placement self.now.map self.now.states self.now.pool group ≡ Some p) }
+        ensures items { IfOk result (λ p. out.new.items ≡ p.raw) }
+        ensures trace { IfOk result (λ p. IsTrace (tables_of self.now.map) (weights_of (reweights self.now.states)) (steps_of self.now) p.seed self.now.pool.size out.new.trace) }
+        ensures fits { scratch.new ≡ perms_of (tables_of self.now.map) }
+    {
+        self.run(scratch, out, group);
+        let placement = placement_by(alloc, self.pool, self.flags, group, out)?;
+        Ok(placement)
+    }
+}

@@ -1,0 +1,50 @@
+//! Queries: what is asked of a tenant's state, which stays as it is.
+
+ghost use Rattle.std.specs.Prelude.{◌≡◌, IfOk};
+ghost use Rattle.tenant_core.specs.Queries as spec;
+ghost use Rattle.tenant_messages.specs.Reply.{reply};
+
+use std::alloc::{AllocError, Global};
+use tenant_messages::Reply;
+use tenant_reports::{impact, moves, usage};
+use tenant_resources::{ObjectName, PickRequest, RuleTest, groups, maps, picks, rule_tests};
+use tenant_state::TenantState;
+
+/// What is asked of a tenant's state.
+#[derive(Drop)]
+pub enum Query {
+    /// The text of the version with this number.
+    Version(u64),
+    /// Where a group lies: in the pool with the first number, the group with the second.
+    Group(u64, u64),
+    /// Where the object with this name lies in the pool with this number.
+    Object(u64, ObjectName),
+    /// How much of the pool with this number lies on each device.
+    Usage(u64),
+    /// Which groups, of the pool with the first number, move from the version with the second to
+    /// that with the third.
+    Moves(u64, u64, u64),
+    /// Which groups, of the pool with the first number, the device with the second can touch.
+    Impact(u64, u64),
+    /// What a bucket picks.
+    Pick(PickRequest),
+    /// What a rule gives.
+    Test(RuleTest),
+}
+
+/// The reply to a query, from the state of its tenant: the table of all queries. The error says that
+/// an allocation failed.
+pub fn answer(alloc: Global, state: &TenantState, query: &Query) -> Result<Reply, AllocError>
+    ensures { IfOk result (λ r. r ≡ reply (spec.answer query.now state.now)) }
+{
+    match query {
+        Query::Version(number) => maps::answer(alloc, *number, state),
+        Query::Group(pool, group) => groups::group_answer(alloc, *pool, *group, state),
+        Query::Object(pool, name) => groups::object_answer(alloc, *pool, name, state),
+        Query::Usage(pool) => usage::answer(alloc, *pool, state),
+        Query::Moves(pool, from, to) => moves::answer(alloc, *pool, *from, *to, state),
+        Query::Impact(pool, device) => impact::answer(alloc, *pool, *device, state),
+        Query::Pick(pick) => picks::answer(alloc, pick),
+        Query::Test(test) => rule_tests::answer(alloc, test, state),
+    }
+}
