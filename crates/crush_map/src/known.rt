@@ -8,9 +8,8 @@ use crate::fault::FaultCode;
 use crate::form::{is_name, is_reserved};
 use crate::ids::Ids;
 use crate::limits::{
-    BUCKET_LIMIT, COUNT_LIMIT, DEVICE_LIMIT, ITEM_LIMIT, NUMBER_LIMIT,
-    RULE_ID_LIMIT, RULE_LIMIT, STEP_LIMIT, TOTAL_TRIES_LIMIT, TOTAL_WEIGHT_LIMIT, TRIES_LIMIT,
-    TYPE_LIMIT, VARY_R_LIMIT,
+    BUCKET_LIMIT, COUNT_LIMIT, DEVICE_LIMIT, ITEM_LIMIT, NUMBER_LIMIT, RULE_ID_LIMIT, RULE_LIMIT,
+    STEP_LIMIT, TOTAL_TRIES_LIMIT, TOTAL_WEIGHT_LIMIT, TRIES_LIMIT, TYPE_LIMIT, VARY_R_LIMIT,
 };
 use crate::names::Names;
 use crate::numbers::Numbers;

@@ -3,6 +3,7 @@
 //! Its tests are in the crate `map_tests`.
 #![tactic(auto)]
 
+mod by_device;
 mod decimal;
 mod draft;
 mod fault;
@@ -20,6 +21,7 @@ mod text;
 mod weights;
 mod word;
 
+pub use by_device::ByDevice;
 pub use decimal::{weight_comes_back, weight_from_text, weight_text, weight_texts_are_read};
 pub use draft::{Bucket, Device, Items, MapDraft, Rule, Step, Steps, Tunables, TypeName};
 pub use fault::{Element, FaultCode, MapFault};
