@@ -198,7 +198,7 @@ with_bucket known b = record known { items = with_id known.items b.id.0; item_na
 
 -- -COUNT_LIMIT to COUNT_LIMIT
 abbrev pub is_count : ℤ → Bool
-is_count n = int_le (neg_ℤ COUNT_LIMIT) n && int_le n COUNT_LIMIT
+is_count n = int_le (neg_ℤ (pos COUNT_LIMIT)) n && int_le n (pos COUNT_LIMIT)
 
 -- of a choose step: its type isn't declared; its count is out of range; it is chooseleaf indep of
 -- type 0

@@ -206,7 +206,7 @@ impl Known {
     {
         if !self.types.has(wanted) {
             Some(FaultCode::M11)
-        } else if n < -COUNT_LIMIT || n > COUNT_LIMIT {
+        } else if n.unsigned_abs() > COUNT_LIMIT {
             Some(FaultCode::M12)
         } else if leaf && !firstn && wanted == 0 {
             Some(FaultCode::M14)

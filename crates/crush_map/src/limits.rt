@@ -39,7 +39,7 @@ pub const ID_COUNT: usize = NUMBER_LIMIT as usize + 1;
 pub const RULE_ID_LIMIT: u32 = 255;
 
 /// The greatest |n| of a choose step's number of items n.
-pub const COUNT_LIMIT: i32 = 64;
+pub const COUNT_LIMIT: u32 = 64;
 
 /// The most tries that a step sets, for items or for leaves.
 pub const TRIES_LIMIT: u32 = 1_000;
@@ -49,3 +49,9 @@ pub const TOTAL_TRIES_LIMIT: u32 = 999;
 
 /// The greatest `chooseleaf_vary_r`, as a tunable or set by a step.
 pub const VARY_R_LIMIT: u32 = 8;
+
+/// The most digits of a number in a text, and of a weight before its point.
+pub const DIGIT_LIMIT: usize = 10;
+
+/// The most digits of a weight after its point.
+pub const FRACTION_DIGIT_LIMIT: usize = 20;
