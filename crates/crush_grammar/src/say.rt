@@ -109,13 +109,14 @@ pub(crate) fn name<'a>(word: &Word<'a>) -> Result<Name<'a>, ReadError>
 }
 
 /// The type of a bucket that a word names.
-#[tactic(auto, unfolding(crate::specs::Sayings::type_of, crate::specs::Sayings::name_of))]
+#[tactic(auto, unfolding(crate::specs::Sayings::type_of))]
 pub(crate) fn type_of<'a>(word: &Word<'a>) -> Option<Name<'a>>
     ensures { result ≡ spec.type_of word.now.text }
 {
-    match name_of(word) {
-        Some(name) if !is_reserved(name.as_str()) => Some(name),
-        _ => None,
+    if is_reserved(word.text()) {
+        None
+    } else {
+        name_of(word)
     }
 }
 

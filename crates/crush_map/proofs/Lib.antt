@@ -1,6 +1,5 @@
 pub mod DeviceValues
 mod Tables
-mod Words
 mod Checks
 mod Passing
 mod Alike

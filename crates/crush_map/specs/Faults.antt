@@ -99,8 +99,8 @@ is_reserved name = list_any (λ word. bytes_eq word name) (codes "tunable" ∷ c
 
 -- ---- types
 
--- of a type: there are TYPE_LIMIT already; its number is out of range, or declared already; its name isn't
--- of the form, or is reserved, or declared already
+-- of a type: there are TYPE_LIMIT already; its number is out of range, or declared already; its
+-- name isn't of the form, or is reserved, or declared already
 abbrev pub type_checks : Known → TypeName → List (Option FaultCode)
 type_checks known t =
     (M1 when nat_le TYPE_LIMIT (length known.types))
@@ -120,8 +120,8 @@ with_type known t = record known { types = known.types ++ t.number ∷ []; type_
 
 -- ---- devices
 
--- of a device: there are DEVICE_LIMIT already; its id is out of range, or declared already; its name isn't
--- of the form, or is declared already
+-- of a device: there are DEVICE_LIMIT already; its id is out of range, or declared already; its
+-- name isn't of the form, or is declared already
 abbrev pub device_checks : Known → Device → List (Option FaultCode)
 device_checks known d =
     (M1 when nat_le DEVICE_LIMIT (length known.items.devices))
@@ -170,9 +170,9 @@ contents_fault known alg items = first_of (
     ∷ (M7 when nat_lt TOTAL_WEIGHT_LIMIT (total_weight items))
     ∷ [])
 
--- of a bucket: there are BUCKET_LIMIT already; its id is out of range, or declared already; its name isn't
--- of the form, or is declared already; its type isn't declared, or is that of devices; it has over
--- ITEM_LIMIT items; its items and weights
+-- of a bucket: there are BUCKET_LIMIT already; its id is out of range, or declared already; its
+-- name isn't of the form, or is declared already; its type isn't declared, or is that of devices;
+-- it has more than ITEM_LIMIT items; its items and weights
 abbrev pub bucket_checks : Known → Bucket → List (Option FaultCode)
 bucket_checks known b =
     (M1 when nat_le BUCKET_LIMIT (length known.items.buckets))

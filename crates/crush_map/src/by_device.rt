@@ -12,7 +12,7 @@ use std::marker::Model;
 /// ids that were given none, and those of `ID_COUNT` or more.
 ///
 /// Contracts see the values of all ids that a device can have, in order, and that of the rest. The
-/// memory is that of the ids up to the greatest one that was given a value.
+/// table in memory reaches to the greatest id that was given a value.
 #[derive(Drop)]
 pub struct ByDevice<T> {
     rest: T,
@@ -49,8 +49,10 @@ fn reach<T: Copy>(table: &mut Vec<T>, len: usize, rest: T) -> Result<(), AllocEr
 }
 
 impl<T: Copy> ByDevice<T> {
-    /// The table in which each id has the value of the rest, with memory for the first `reached`
-    /// ids, as far as there are so many.
+    /// The table in which each id has the value of the rest. It has room for the first `reached`
+    /// ids, at most `ID_COUNT`.
+    ///
+    /// `Err(AllocError)`: an allocation failed; nothing is changed.
     pub fn new(alloc: Global, rest: T, reached: usize) -> Result<Self, AllocError>
         ensures all { IfOk result (λ t. t ≡ spec.all rest) }
         ensures none { IfOk result (λ t. t ≡ spec.values_of rest []) }
@@ -60,11 +62,13 @@ impl<T: Copy> ByDevice<T> {
         Ok(ByDevice { rest, table })
     }
 
-    /// The table of pairs of id and value, with memory for at least the first `reached` ids, as far
-    /// as there are so many.
+    /// The table of pairs of id and value. It has room for at least the first `reached` ids, at
+    /// most `ID_COUNT`.
     ///
     /// Of several pairs for one id the first counts. An id without a pair has the value of the
     /// rest, and so has each id of `ID_COUNT` or more.
+    ///
+    /// `Err(AllocError)`: an allocation failed; nothing is changed.
     pub fn of(
         alloc: Global,
         rest: T,

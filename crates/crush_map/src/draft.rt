@@ -1,7 +1,7 @@
 //! What a map is declared from, before it is checked.
 //!
 //! Source: Ceph's CRUSH map manual. Each number has a type that can hold values out of its range,
-//! so that a draft can be refused for them.
+//! so that a draft can be refused for them. The limits are in `limits`.
 
 use crate::list::Listed;
 use crate::text::Text;
@@ -10,7 +10,7 @@ use crate::word::{ItemId, Kind, Weight};
 /// A type of buckets; type 0 is that of devices.
 #[derive(Drop)]
 pub struct TypeName {
-    /// 0..65535 in a map.
+    /// 0..`NUMBER_LIMIT` in a map.
     pub number: u32,
     pub name: Text,
 }
@@ -18,7 +18,7 @@ pub struct TypeName {
 /// A device.
 #[derive(Drop)]
 pub struct Device {
-    /// 0..65535 in a map.
+    /// 0..`NUMBER_LIMIT` in a map.
     pub id: u32,
     pub name: Text,
 }
@@ -29,7 +29,7 @@ pub type Items = Listed<(ItemId, Weight)>;
 /// A bucket.
 #[derive(Drop)]
 pub struct Bucket {
-    /// -1..-65536 in a map.
+    /// -1 down to -1 - `NUMBER_LIMIT` in a map.
     pub id: ItemId,
     pub name: Text,
     /// The number of its type.
@@ -44,12 +44,13 @@ pub struct Bucket {
 pub enum Step {
     /// The working list becomes this item alone.
     Take(ItemId),
-    /// Sets the tries of the choose steps that follow, 0..1000 in a map; 0 has no effect.
+    /// Sets the tries of the choose steps that follow, 0..`TRIES_LIMIT` in a map; 0 has no effect.
     SetChooseTries(u32),
-    /// Sets the tries for a leaf in the chooseleaf steps that follow, 0..1000 in a map; 0 has no
-    /// effect.
+    /// Sets the tries for a leaf in the chooseleaf steps that follow, 0..`TRIES_LIMIT` in a map; 0
+    /// has no effect.
     SetLeafTries(u32),
-    /// Sets `chooseleaf_vary_r` for the steps that follow, 0..8 in a map.
+    /// Sets `chooseleaf_vary_r` for the steps that follow, 0..`VARY_R_LIMIT` in a
+    /// map.
     SetVaryR(u32),
     /// Sets `chooseleaf_stable` for the steps that follow, 0..1 in a map.
     SetStable(u32),
@@ -59,8 +60,8 @@ pub enum Step {
         firstn: bool,
         /// Whether it is a chooseleaf step; else it is a choose step.
         leaf: bool,
-        /// How many items; a number of 0 or below is added to the size of the answer. -64..64 in a
-        /// map.
+        /// How many items; a number of 0 or below is added to the size of the answer. |n| is at
+        /// most `COUNT_LIMIT` in a map.
         n: i32,
         /// The number of the wanted type.
         wanted: u32,
@@ -75,7 +76,7 @@ pub type Steps = Listed<Step>;
 /// A rule.
 #[derive(Drop)]
 pub struct Rule {
-    /// 0..255 in a map.
+    /// 0..`RULE_ID_LIMIT` in a map.
     pub id: u32,
     pub name: Text,
     /// Whether it is for erasure coded pools; else it is for replicated ones.
@@ -86,11 +87,11 @@ pub struct Rule {
 /// The tunables that choosing reads.
 #[derive(Clone, Copy, Debug, PartialEq, Eq)]
 pub struct Tunables {
-    /// `choose_total_tries`, 0..999 in a map.
+    /// `choose_total_tries`, 0..`TOTAL_TRIES_LIMIT` in a map.
     pub total_tries: u32,
     /// `chooseleaf_descend_once`, 0..1 in a map.
     pub descend_once: u32,
-    /// `chooseleaf_vary_r`, 0..8 in a map.
+    /// `chooseleaf_vary_r`, 0..`VARY_R_LIMIT` in a map.
     pub vary_r: u32,
     /// `chooseleaf_stable`, 0..1 in a map.
     pub stable: u32,

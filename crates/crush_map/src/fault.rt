@@ -3,7 +3,8 @@
 /// A fault of a draft.
 #[derive(Clone, Copy, Debug, PartialEq, Eq)]
 pub enum FaultCode {
-    /// More devices, types, buckets, items, rules or steps than the limit, or a rule without steps.
+    /// There are more devices, types, buckets, items, rules or steps than the limit, or a rule has
+    /// no step.
     M1,
     /// An id or number occurs twice among devices, buckets, types or rules.
     M2,
@@ -29,7 +30,7 @@ pub enum FaultCode {
     M12,
     /// Local tries or local fallback tries aren't 0.
     M13,
-    /// A chooseleaf indep step of type 0.
+    /// A chooseleaf indep step has type 0.
     M14,
     /// A name isn't of the form, or a type is named tunable, device, type, rule, choose_args or
     /// class.

@@ -1,6 +1,6 @@
 //! Which texts are names.
 
-ghost use Rattle.std.specs.Prelude.{◌≡◌};
+ghost use Rattle.std.specs.Prelude.{◌≡◌, bytes_eq};
 ghost use Rattle.std.specs.List.{list_all};
 ghost use Rattle.crush_map.specs.Faults as spec;
 
@@ -28,12 +28,21 @@ pub fn is_name(name: &str) -> bool
     1 <= bytes.len() && bytes.len() <= NAME_LIMIT && all_are_name_bytes(bytes)
 }
 
+/// Whether two texts are the same.
+fn is(word: &[u8], name: &[u8]) -> bool
+    ensures { result ≡ bytes_eq word.now name.now }
+{
+    word == name
+}
+
 /// Whether a text begins a declaration in a map's text, or is `class`: no type has such a name.
-pub fn is_reserved(name: &str) -> bool
+pub fn is_reserved(name: &[u8]) -> bool
     ensures { result ≡ spec.is_reserved name.now }
 {
-    matches!(
-        name,
-        "tunable" | "device" | "type" | "rule" | "choose_args" | "class"
-    )
+    is(b"tunable", name)
+        || is(b"device", name)
+        || is(b"type", name)
+        || is(b"rule", name)
+        || is(b"choose_args", name)
+        || is(b"class", name)
 }

@@ -27,7 +27,7 @@ impl Model for Ids {
 }
 
 impl Ids {
-    /// No ids.
+    /// The empty list.
     pub(crate) fn new(alloc: Global) -> Self
         ensures { result ≡ spec.no_ids }
     {
@@ -51,14 +51,16 @@ impl Ids {
         self.buckets.len()
     }
 
-    /// Whether there is this id of a device.
+    /// Whether a device with this id was added.
     pub(crate) fn has_device(&self, id: u32) -> bool
         ensures { result ≡ spec.has_number self.now.devices id }
     {
         self.devices.has(id)
     }
 
-    /// Adds the id of a device. After `AllocError` nothing is said of the ids.
+    /// Adds the id of a device.
+    ///
+    /// `Err(AllocError)`: an allocation failed; the value must not be used any more.
     pub(crate) fn add_device(&mut self, id: u32) -> Result<(), AllocError>
         requires { id ≤ NUMBER_LIMIT }
         ensures { OnOk result (self.new ≡ spec.with_id self.old (pos id)) }
@@ -66,7 +68,7 @@ impl Ids {
         self.devices.add(id)
     }
 
-    /// Whether there is this id.
+    /// Whether a device or bucket with this id was added.
     pub(crate) fn has(&self, id: ItemId) -> bool
         ensures value { result ≡ spec.has_id self.now id.0 }
         ensures known { IsTrue result → IsTrue (tables.is_id id.0) }
@@ -78,7 +80,9 @@ impl Ids {
         }
     }
 
-    /// Adds an id. After `AllocError` nothing is said of the ids.
+    /// Adds an id.
+    ///
+    /// `Err(AllocError)`: an allocation failed; the value must not be used any more.
     pub(crate) fn add(&mut self, id: ItemId) -> Result<(), AllocError>
         requires { IsTrue (tables.is_id id.0) }
         ensures { OnOk result (self.new ≡ spec.with_id self.old id.0) }

@@ -9,6 +9,7 @@ use crate::fault::{Element, FaultCode, MapFault};
 use crate::known::Known;
 use std::alloc::{AllocError, Global};
 
+/// The fault with this code at a place of a list.
 fn fault_at(element: Element, index: usize, code: FaultCode) -> MapFault
     ensures { result ≡ record { code = code; element = element; index = index } }
 {
@@ -19,7 +20,7 @@ fn fault_at(element: Element, index: usize, code: FaultCode) -> MapFault
     }
 }
 
-/// The first fault of types, each checked behind those before it; where there is none, all are
+/// The first fault of types, each checked against those before it; if there is none, all are
 /// declared.
 #[tactic(auto, unfolding(crate::specs::Faults::first_in))]
 fn judge_types(
@@ -38,7 +39,7 @@ fn judge_types(
     Ok(None)
 }
 
-/// The first fault of devices, each checked behind those before it; where there is none, all are
+/// The first fault of devices, each checked against those before it; if there is none, all are
 /// declared.
 #[tactic(auto, unfolding(crate::specs::Faults::first_in))]
 fn judge_devices(
@@ -57,7 +58,7 @@ fn judge_devices(
     Ok(None)
 }
 
-/// The first fault of buckets, each checked behind those before it; where there is none, all are
+/// The first fault of buckets, each checked against those before it; if there is none, all are
 /// declared.
 #[tactic(auto, unfolding(crate::specs::Faults::first_in))]
 fn judge_buckets(
@@ -77,7 +78,7 @@ fn judge_buckets(
     Ok(None)
 }
 
-/// The first fault of rules, each checked behind those before it; where there is none, all are
+/// The first fault of rules, each checked against those before it; if there is none, all are
 /// declared.
 #[tactic(auto, unfolding(crate::specs::Faults::first_in))]
 fn judge_rules(
@@ -97,7 +98,7 @@ fn judge_rules(
     Ok(None)
 }
 
-/// The first fault of a draft's types, devices, buckets and rules; where there is none, all are
+/// The first fault of a draft's types, devices, buckets and rules; if there is none, all are
 /// declared.
 #[tactic(auto, unfolding(crate::specs::Faults::element_fault))]
 fn judge_elements(

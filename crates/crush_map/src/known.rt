@@ -53,8 +53,9 @@ impl Known {
         }
     }
 
-    /// The fault of a type that is declared next; where it has none, it is declared. After
-    /// `AllocError` nothing is said of what is declared.
+    /// The fault of a type that is declared next; a type without a fault is declared.
+    ///
+    /// `Err(AllocError)`: an allocation failed; the value must not be used any more.
     #[tactic(auto, unfolding(crate::specs::Faults::type_fault))]
     pub fn declare_type(
         &mut self,
@@ -71,7 +72,7 @@ impl Known {
             FaultCode::M12
         } else if self.types.has(declared.number) {
             FaultCode::M2
-        } else if !is_name(name) || is_reserved(name) {
+        } else if !is_name(name) || is_reserved(name.as_bytes()) {
             FaultCode::M15
         } else if !self.type_names.insert(alloc, name)? {
             FaultCode::M3
@@ -82,8 +83,9 @@ impl Known {
         Ok(Some(fault))
     }
 
-    /// The fault of a device that is declared next; where it has none, it is declared. After
-    /// `AllocError` nothing is said of what is declared.
+    /// The fault of a device that is declared next; a device without a fault is declared.
+    ///
+    /// `Err(AllocError)`: an allocation failed; the value must not be used any more.
     #[tactic(auto, unfolding(crate::specs::Faults::device_fault))]
     pub fn declare_device(
         &mut self,
@@ -111,8 +113,9 @@ impl Known {
         Ok(Some(fault))
     }
 
-    /// The fault of a bucket, if it is declared next. Memory is needed to find an item that is
-    /// listed twice.
+    /// The fault of a bucket, if it is declared next.
+    ///
+    /// `Err(AllocError)`: an allocation failed; nothing is changed.
     #[tactic(auto, unfolding(crate::specs::Faults::bucket_fault))]
     pub fn bucket_fault(
         &self,
@@ -189,7 +192,9 @@ impl Known {
         Ok(None)
     }
 
-    /// Adds a bucket that has no fault. After `AllocError` nothing is said of what is declared.
+    /// Adds a bucket that has no fault.
+    ///
+    /// `Err(AllocError)`: an allocation failed; the value must not be used any more.
     #[tactic(auto, using(crate::proofs::Passing::bucket_is_new))]
     pub fn add_bucket(&mut self, alloc: Global, declared: &Bucket) -> Result<(), AllocError>
         requires { spec.bucket_fault self.old declared.now ≡ None }
@@ -283,7 +288,9 @@ impl Known {
         }
     }
 
-    /// Adds a rule that has no fault. After `AllocError` nothing is said of what is declared.
+    /// Adds a rule that has no fault.
+    ///
+    /// `Err(AllocError)`: an allocation failed; the value must not be used any more.
     #[tactic(auto, using(crate::proofs::Passing::rule_is_new))]
     pub fn add_rule(&mut self, alloc: Global, declared: &Rule) -> Result<(), AllocError>
         requires { spec.rule_fault self.old declared.now ≡ None }
@@ -293,8 +300,8 @@ impl Known {
         self.rules.add(declared.id)
     }
 
-    /// The fault of a whole draft whose elements have none: no type 0, a tunable out of range, or
-    /// local tries.
+    /// The fault of a whole draft whose elements have none: it has no type 0, a tunable is out of
+    /// its range, or its local tries or local fallback tries aren't 0.
     #[tactic(auto, unfolding(crate::specs::Faults::end_fault))]
     pub fn end_fault(
         &self,
@@ -316,18 +323,21 @@ impl Known {
     }
 }
 
+/// The fault with this code, if a check is broken.
 fn fault_if(broken: bool, code: FaultCode) -> Option<FaultCode>
     ensures { result ≡ (if broken then Some code else None) }
 {
     if broken { Some(code) } else { None }
 }
 
+/// Whether an id is one that a bucket of a map can have.
 fn is_bucket_id(id: ItemId) -> bool
     ensures { result ≡ spec.is_bucket_id id.0 }
 {
     id.0 < 0 && id.0.unsigned_abs() - 1 <= NUMBER_LIMIT
 }
 
+/// Whether all items of a bucket of this kind must have the same weight.
 fn is_uniform(alg: Kind) -> bool
     ensures { result ≡ spec.is_uniform alg }
 {

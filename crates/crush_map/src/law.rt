@@ -22,17 +22,17 @@ pub fn drafts_declare_maps()
     ensures { (d : MapDraft) (m : Map) → spec.first_fault d ≡ None → IsMapOf d m → IsInOrder m → IsMap m }
 {}
 
-/// What holds for each bucket of a map.
+/// Each bucket of a map is sound: what `IsBucketAt` says holds for it.
 pub fn buckets_are_sound()
     ensures { (m : Map) (i : ℕ) → IsMap m → IfSome (slice_get m.buckets i) (λ b. IsBucketAt m i b) }
 {}
 
-/// What holds for each rule of a map.
+/// Each rule of a map is sound: what `IsRuleAt` says holds for it.
 pub fn rules_are_sound()
     ensures { (m : Map) (i : ℕ) → IsMap m → IfSome (slice_get m.rules i) (λ r. IsRuleAt m i r) }
 {}
 
-/// What holds for the types, the devices and the tunables of a map.
+/// Types and devices of a map are sound, one type is 0, and each tunable is in its range.
 pub fn numbers_are_sound()
     ensures types { (m : Map) (i : ℕ) → IsMap m → IfSome (slice_get m.types i) (λ t. IsTypeAt i t) }
     ensures devices { (m : Map) (i : ℕ) → IsMap m → IfSome (slice_get m.devices i) (λ d. IsDeviceAt i d) }

@@ -37,7 +37,9 @@ impl CrushMap {
     /// The map that a draft declares, or the draft and its first fault.
     ///
     /// Types are checked first, then devices, buckets and rules, each list in order, and last what
-    /// concerns the whole draft. `AllocError`: memory was refused, and the draft is gone.
+    /// concerns the whole draft.
+    ///
+    /// `Err(AllocError)`: an allocation failed; the draft is dropped.
     pub fn check(
         alloc: Global,
         draft: MapDraft,
@@ -53,7 +55,7 @@ impl CrushMap {
         }
     }
 
-    /// The map of a draft that is known to have no fault. Takes no memory.
+    /// The map of a draft that is known to have no fault. Allocates nothing.
     pub fn of(draft: MapDraft) -> CrushMap
         requires { spec.first_fault draft ≡ None }
         ensures map { IsMapOf draft result }
@@ -100,7 +102,7 @@ impl CrushMap {
         self.rules.as_slice()
     }
 
-    /// The tunables.
+    /// The tunables that choosing reads.
     pub fn tunables(&self) -> Tunables
         ensures same { result ≡ self.now.tunables }
         ensures valid { IsMap self.now }
@@ -109,6 +111,7 @@ impl CrushMap {
     }
 }
 
+/// The types, in ascending order of number.
 fn in_order_of_number(mut types: Vec<TypeName>) -> Vec<TypeName>
     ensures same { IsPermutation types.items result.items }
     ensures order { IsNonDecreasingBy (λ t. t.number) result.items }
@@ -117,6 +120,7 @@ fn in_order_of_number(mut types: Vec<TypeName>) -> Vec<TypeName>
     types
 }
 
+/// The devices, in ascending order of id.
 fn in_order_of_id(mut devices: Vec<Device>) -> Vec<Device>
     ensures same { IsPermutation devices.items result.items }
     ensures order { IsNonDecreasingBy (λ d. d.id) result.items }
@@ -125,6 +129,7 @@ fn in_order_of_id(mut devices: Vec<Device>) -> Vec<Device>
     devices
 }
 
+/// The rules, in ascending order of id.
 fn rules_in_order(mut rules: Vec<Rule>) -> Vec<Rule>
     ensures same { IsPermutation rules.items result.items }
     ensures order { IsNonDecreasingBy (λ r. r.id) result.items }

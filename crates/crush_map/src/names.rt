@@ -45,8 +45,9 @@ impl Names {
         self.index.contains(name)
     }
 
-    /// Adds a name at the end, unless it is in the list, and says whether it was new. After
-    /// `AllocError` the list is as it was.
+    /// Adds a name at the end, unless it is in the list, and returns whether it was new.
+    ///
+    /// `Err(AllocError)`: an allocation failed; nothing is changed.
     pub(crate) fn insert(&mut self, alloc: Global, name: &str) -> Result<bool, AllocError>
         ensures new { IfOk result (λ new. new ≡ not (spec.has_name self.old name.now)) }
         ensures ok { IfOk result (λ new. self.new ≡ (if new then self.old ++ name.now ∷ [] else self.old)) }

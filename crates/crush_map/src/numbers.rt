@@ -1,5 +1,7 @@
-//! A list of numbers up to `NUMBER_LIMIT`. A short list is searched; a longer one has a table of flags by
-//! which a number is looked up in one step.
+//! A list of numbers up to `NUMBER_LIMIT`.
+//!
+//! A short list is searched; a longer one has a table of flags by which a number is looked up in
+//! one step.
 
 ghost use Rattle.std.specs.Prelude.{◌≡◌, ◌<◌, ◌≤◌, ◌++◌, ◌∷◌, [], ℕ, IfOk, IsTrue, OnOk, length, slice_index_or, false};
 ghost use Rattle.std.specs.List.{All};
@@ -87,7 +89,9 @@ impl Numbers {
         }
     }
 
-    /// Adds a number at the end. After `AllocError` nothing is said of the list.
+    /// Adds a number at the end.
+    ///
+    /// `Err(AllocError)`: an allocation failed; the value must not be used any more.
     pub(crate) fn add(&mut self, number: u32) -> Result<(), AllocError>
         requires { number < ID_COUNT }
         ensures { OnOk result (self.new ≡ self.old ++ number ∷ []) }

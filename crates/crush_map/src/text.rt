@@ -1,6 +1,7 @@
 //! Texts that are equal when their bytes are.
 //!
-//! A contract sees of a `String` where it lies in memory too; of a `Text` it sees the bytes alone.
+//! A contract sees of a `String` also where its bytes are in memory; of a `Text` it sees the bytes
+//! alone.
 
 ghost use Rattle.std.specs.Prelude.{string_bytes, ◌≡◌, IfOk};
 
@@ -22,14 +23,16 @@ impl Model for Text {
 }
 
 impl Text {
-    /// The text of a string. The string itself is kept, so this takes no memory.
+    /// The text of a string, which is kept. Allocates nothing.
     pub fn new(string: String) -> Self
         ensures { result ≡ string_bytes string }
     {
         Text { string }
     }
 
-    /// A copy, in memory of its own.
+    /// A copy of a text.
+    ///
+    /// `Err(AllocError)`: an allocation failed; nothing is changed.
     pub fn copy(alloc: Global, original: &str) -> Result<Self, AllocError>
         ensures { IfOk result (λ again. again ≡ original.now) }
     {
@@ -37,14 +40,14 @@ impl Text {
         Ok(Text { string })
     }
 
-    /// The text, for reading.
+    /// The text as a string slice.
     pub fn as_str(&self) -> &str
         ensures { result.now ≡ self.now }
     {
         self.string.as_str()
     }
 
-    /// The string that was kept. Takes no memory.
+    /// The string that was kept. Allocates nothing.
     pub fn into_string(self) -> String
         ensures { string_bytes result ≡ self }
     {

@@ -6,7 +6,7 @@ ghost use Rattle.crush_map.specs.Weights as spec;
 
 use crate::word::{ItemId, Weight};
 
-/// The sum of the weights, in 16.16 fixed point, of at most 65,535 items.
+/// The sum of the weights, in 16.16 fixed point, of fewer than 2^16 items: it fits in 64 bits.
 pub fn total_weight(items: &[(ItemId, Weight)]) -> u64
     requires { length items.now < 2 ^ 16 }
     ensures { result ≡ spec.total_weight items.now }
@@ -24,6 +24,7 @@ pub fn has_equal_weights(items: &[(ItemId, Weight)]) -> bool
     }
 }
 
+/// Whether each item has this weight.
 fn all_weigh(items: &[(ItemId, Weight)], weight: u32) -> bool
     ensures { result ≡ list_all (λ item. item.1.0 == weight) items.now }
 {

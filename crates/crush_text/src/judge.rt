@@ -1,4 +1,4 @@
-//! Judging what a text declares, in order.
+//! Checking what a text declares, in order.
 
 ghost use Rattle.std.specs.Prelude.{◌≡◌, ◌++◌, ◌∷◌, [], ◌<◌, ℕ, List, IfOk, OnOk, length, map, filter, filter_map, find, option_map, is_none, slice_index_or, None};
 ghost use Rattle.std.specs.Result.{result_err};
@@ -57,6 +57,7 @@ pub(crate) fn at_line(line: usize, code: FaultCode) -> TextFault
     }
 }
 
+/// A number for each tunable, by which two are compared.
 fn tunable_number(name: TunableName) -> u32
     ensures { result ≡ spec.tunable_number name }
 {
@@ -72,7 +73,7 @@ fn tunable_number(name: TunableName) -> u32
     }
 }
 
-/// Whether a tunable is among these.
+/// Whether a tunable is in a list.
 fn is_named(names: &[TunableName], name: TunableName) -> bool
     ensures { result ≡ spec.is_named names.now name }
 {
@@ -84,6 +85,7 @@ fn is_named(names: &[TunableName], name: TunableName) -> bool
     false
 }
 
+/// Whether a tunable is `choose_local_tries` or `choose_local_fallback_tries`.
 fn is_local(name: TunableName) -> bool
     ensures { result ≡ spec.is_local name }
 {
@@ -93,7 +95,8 @@ fn is_local(name: TunableName) -> bool
     )
 }
 
-/// The tunables that choosing reads, with this value of one; the others stay.
+/// The tunables that choosing reads, with this value for one of them. If it isn't one of them, they
+/// are the same.
 fn with_value(tunables: Tunables, name: TunableName, value: u32) -> Tunables
     ensures { (d : MapDraft) → d.tunables ≡ tunables → (spec.with_tunable d name value).tunables ≡ result }
 {
@@ -109,7 +112,7 @@ fn with_value(tunables: Tunables, name: TunableName, value: u32) -> Tunables
 }
 
 impl Judge {
-    /// Before the first declaration.
+    /// The state before the first declaration.
     pub(crate) fn new(alloc: Global) -> Self
         ensures { result ≡ spec.nothing_declared }
     {
@@ -162,7 +165,9 @@ impl Judge {
         }
     }
 
-    /// The fault of a tunable; where it has none, it is declared.
+    /// The fault of a tunable; a tunable without a fault is declared.
+    ///
+    /// `Err(AllocError)`: an allocation failed; the value must not be used any more.
     fn declare_tunable(
         &mut self,
         declared: &DeclaredTunable,
@@ -178,7 +183,9 @@ impl Judge {
         Ok(None)
     }
 
-    /// The fault of a device; where it has none, it is declared.
+    /// The fault of a device; a device without a fault is declared.
+    ///
+    /// `Err(AllocError)`: an allocation failed; the value must not be used any more.
     #[tactic(auto, using(crate::proofs::Kept::is_small))]
     fn declare_device(
         &mut self,
@@ -199,7 +206,9 @@ impl Judge {
         Ok(None)
     }
 
-    /// The fault of a type; where it has none, it is declared.
+    /// The fault of a type; a type without a fault is declared.
+    ///
+    /// `Err(AllocError)`: an allocation failed; the value must not be used any more.
     fn declare_type(
         &mut self,
         alloc: Global,
@@ -219,7 +228,7 @@ impl Judge {
         Ok(None)
     }
 
-    /// The id of an item, and its weight where none is said.
+    /// The id of the item with a name, and the weight that it has if a text gives none.
     fn item_named(&self, name: &str) -> (ItemId, Weight)
         ensures { result ≡ spec.item_named self.now.draft name.now }
     {
@@ -232,7 +241,7 @@ impl Judge {
         }
     }
 
-    /// An item with its weight.
+    /// The id and the weight of an item of a bucket.
     fn item_of(&self, item: &DeclaredItem<'_>) -> (ItemId, Weight)
         ensures { result ≡ spec.item_of self.now.draft item.now }
     {
@@ -240,7 +249,7 @@ impl Judge {
         (id, item.weight.unwrap_or(weight))
     }
 
-    /// For each place the first item that names it.
+    /// The first item that names each place, if one does.
     fn named_places(
         &self,
         alloc: Global,
@@ -291,7 +300,7 @@ impl Judge {
         arranged(alloc, places, rest)
     }
 
-    /// The bucket that is declared.
+    /// The bucket of a declaration, as the draft has it.
     fn bucket_of(&self, alloc: Global, declared: &DeclaredBucket<'_>) -> Result<Bucket, AllocError>
         ensures { IfOk result (λ bucket. bucket ≡ spec.bucket_of self.now.draft declared.now) }
     {
@@ -305,7 +314,7 @@ impl Judge {
         })
     }
 
-    /// The fault of a bucket, which makes this one of the draft.
+    /// The fault of a declared bucket, given the bucket that the draft has for it.
     #[tactic(auto, unfolding(crate::specs::Judging::declared_bucket_fault))]
     fn bucket_fault(
         &self,
@@ -328,7 +337,9 @@ impl Judge {
         }
     }
 
-    /// Adds a bucket that has no fault. After `AllocError` nothing is said of what is declared.
+    /// Adds a bucket that has no fault.
+    ///
+    /// `Err(AllocError)`: an allocation failed; the value must not be used any more.
     fn add_bucket(&mut self, alloc: Global, bucket: Bucket) -> Result<(), AllocError>
         requires { faults.bucket_fault self.old.known bucket ≡ None }
         ensures { OnOk result (self.new ≡ record self.old { draft = record self.old.draft { buckets = self.old.draft.buckets ++ bucket ∷ [] }; known = faults.with_bucket self.old.known bucket }) }
@@ -337,7 +348,9 @@ impl Judge {
         self.buckets.add(alloc, bucket)
     }
 
-    /// The fault of a bucket; where it has none, it is declared.
+    /// The fault of a bucket; a bucket without a fault is declared.
+    ///
+    /// `Err(AllocError)`: an allocation failed; the value must not be used any more.
     fn declare_bucket(
         &mut self,
         alloc: Global,
@@ -357,7 +370,7 @@ impl Judge {
         }
     }
 
-    /// The step that is declared; steps that set local tries are dropped.
+    /// The step of a declaration. `None`: the step sets local tries, and is dropped.
     fn step_of(&self, step: &DeclaredStep<'_>) -> Option<Step>
         ensures { result ≡ spec.step_of self.now.draft step.now }
     {
@@ -404,7 +417,7 @@ impl Judge {
         None
     }
 
-    /// The steps that are declared.
+    /// The steps of declarations, without those that are dropped.
     fn steps_of(&self, alloc: Global, steps: &[DeclaredStep<'_>]) -> Result<Vec<Step>, AllocError>
         ensures { IfOk result (λ v. v.items ≡ filter_map (spec.step_of self.now.draft) steps.now) }
     {
@@ -417,7 +430,7 @@ impl Judge {
         Ok(kept)
     }
 
-    /// The rule that is declared.
+    /// The rule of a declaration, as the draft has it.
     fn rule_of(&self, alloc: Global, declared: &DeclaredRule<'_>) -> Result<Rule, AllocError>
         ensures { IfOk result (λ rule. rule ≡ spec.rule_of self.now.draft declared.now) }
     {
@@ -430,7 +443,7 @@ impl Judge {
         })
     }
 
-    /// The fault of a rule, which makes this one of the draft.
+    /// The fault of a declared rule, given the rule that the draft has for it.
     #[tactic(auto, unfolding(crate::specs::Judging::declared_rule_fault))]
     fn rule_fault(&self, declared: &DeclaredRule<'_>, rule: &Rule) -> Option<FaultCode>
         requires { rule.now ≡ spec.rule_of self.now.draft declared.now }
@@ -442,7 +455,9 @@ impl Judge {
         }
     }
 
-    /// Adds a rule that has no fault. After `AllocError` nothing is said of what is declared.
+    /// Adds a rule that has no fault.
+    ///
+    /// `Err(AllocError)`: an allocation failed; the value must not be used any more.
     fn add_rule(&mut self, alloc: Global, rule: Rule) -> Result<(), AllocError>
         requires { faults.rule_fault self.old.known rule ≡ None }
         ensures { OnOk result (self.new ≡ record self.old { draft = record self.old.draft { rules = self.old.draft.rules ++ rule ∷ [] }; known = faults.with_rule self.old.known rule }) }
@@ -452,7 +467,9 @@ impl Judge {
         Ok(())
     }
 
-    /// The fault of a rule; where it has none, it is declared.
+    /// The fault of a rule; a rule without a fault is declared.
+    ///
+    /// `Err(AllocError)`: an allocation failed; the value must not be used any more.
     fn declare_rule(
         &mut self,
         alloc: Global,
@@ -471,7 +488,9 @@ impl Judge {
         }
     }
 
-    /// The fault of a declaration; where it has none, it is declared.
+    /// The fault of a declaration; what has no fault is declared.
+    ///
+    /// `Err(AllocError)`: an allocation failed; the value must not be used any more.
     fn declare(
         &mut self,
         alloc: Global,
@@ -489,7 +508,7 @@ impl Judge {
         }
     }
 
-    /// The fault at the end, when all is declared.
+    /// The fault at the end of a text, when all is declared.
     pub(crate) fn end_fault(&self) -> Option<FaultCode>
         ensures { result ≡ faults.end_fault self.now.known self.now.draft.tunables self.now.draft.local_tries self.now.draft.local_fallback_tries }
     {
@@ -497,7 +516,7 @@ impl Judge {
             .end_fault(self.tunables, self.local_tries, self.local_fallback_tries)
     }
 
-    /// The draft of the map. Takes no memory.
+    /// The draft of the map. Allocates nothing.
     pub(crate) fn into_draft(self) -> MapDraft
         ensures { result ≡ self.draft }
     {
@@ -523,7 +542,7 @@ impl Judge {
     }
 }
 
-/// The step that sets one of the settings that are kept.
+/// The step that sets a setting. `None`: it sets local tries, and is dropped.
 fn set_step(setting: Setting, n: u32) -> Option<Step>
     ensures { (d : MapDraft) (m : ℕ) → spec.fitted m ≡ n → result ≡ spec.step_of d (step_kinds.Set setting m) }
 {
@@ -536,7 +555,7 @@ fn set_step(setting: Setting, n: u32) -> Option<Step>
     }
 }
 
-/// What all declarations make, or the first fault of one.
+/// What all declarations make, or the first fault that one of them has.
 #[tactic(auto, unfolding(crate::specs::Judging::fault_from))]
 pub(crate) fn judge_all(
     alloc: Global,

@@ -1,4 +1,5 @@
-//! What holds of every text of a map. A call does nothing: its caller learns the law.
+//! Laws: statements that hold for every text or every map. A call does nothing; its contract is the
+//! law.
 
 ghost use Rattle.std.specs.Prelude.{◌≡◌, ◌↔◌, ◌⊎◌, ℕ, List, Result, Ok, Err, IfOk, IfErr};
 ghost use Rattle.std.specs.Str.{IsAscii, IsUtf8};
@@ -14,7 +15,7 @@ use crush_map::{
     numbers_are_sound, rules_are_sound, weight_comes_back,
 };
 
-/// A text is that of one map at most.
+/// A text is the text of at most one map.
 pub fn texts_say_one_map()
     ensures { (text : List ℕ) (m n : Map) → IsTextOf text m → IsTextOf text n → m ≡ n }
 {
@@ -67,7 +68,7 @@ pub fn texts_are_read_as_they_say()
     words_are_read_as_they_say();
 }
 
-/// Each text is that of a map or has a first fault, and has one first fault at most.
+/// Each text is the text of a map or has a first fault, and it has at most one first fault.
 pub fn texts_have_a_map_or_one_fault()
     ensures either { (text : List ℕ) → ((m : Map) × IsTextOf text m) ⊎ ((f : TextFault) × HasFirstFault text f) }
     ensures one_fault { (text : List ℕ) (f g : TextFault) → HasFirstFault text f → HasFirstFault text g → f ≡ g }
@@ -75,8 +76,8 @@ pub fn texts_have_a_map_or_one_fault()
     texts_are_read_as_they_say();
 }
 
-/// What is written of a map is read back as that map: by `read_stored`, and by `read_map` where it
-/// isn't over the length limit of an import.
+/// The text that is written of a map is read back as that map: by `read_stored`, and by `read_map`
+/// if it has at most `TEXT_LIMIT` bytes.
 ///
 /// `imported` and `stored` say so of the functions of a text. `by_read_map` and `by_read_stored`
 /// say so of the calls: on what `write_map` writes of a map, each answer that their contracts allow

@@ -1,4 +1,4 @@
-//! The places of a bucket's items, by a table.
+//! The places of a bucket's items, found by a table.
 
 ghost use Rattle.std.specs.Prelude.{◌≡◌, ◌<◌, ◌==◌, ℕ, List, IfOk, length, slice_index_or, false, Some, None, if◌then◌else◌};
 ghost use Rattle.std.specs.Option.{option_map_or, option_or};
@@ -11,7 +11,7 @@ use crush_grammar::{DeclaredItem, Place};
 use crush_map::{ItemId, Weight};
 use std::alloc::{AllocError, Global};
 
-/// A table of places of which none was named.
+/// A flag for each place: none was named yet.
 fn unnamed(alloc: Global, size: usize) -> Result<Vec<bool>, AllocError>
     ensures len { IfOk result (λ t. length t.items ≡ size) }
     ensures none { IfOk result (λ t. (k : ℕ) → slice_index_or t.items k false ≡ false) }
@@ -19,7 +19,7 @@ fn unnamed(alloc: Global, size: usize) -> Result<Vec<bool>, AllocError>
     Ok(vec![in alloc; false; size]?)
 }
 
-/// The line of the first place that its item can't have.
+/// The line of the first place that is past the items or was named before.
 #[tactic(auto, unfolding(crate::specs::Places::wrong_place))]
 pub(crate) fn wrong_place(
     alloc: Global,
@@ -39,7 +39,7 @@ pub(crate) fn wrong_place(
     Ok(None)
 }
 
-/// A table of places without an item.
+/// An entry for each place: none has an item yet.
 pub(crate) fn free_places(
     alloc: Global,
     size: usize,
@@ -50,7 +50,8 @@ pub(crate) fn free_places(
     Ok(vec![in alloc; None; size]?)
 }
 
-/// With an item at the place that it names, unless that is past the table or has an item already.
+/// The table with an item at the place that it names, unless that is past the table or has an item
+/// already.
 #[tactic(auto, using(crate::proofs::Named::named_steps))]
 pub(crate) fn with_item(
     mut named: Vec<Option<(ItemId, Weight)>>,

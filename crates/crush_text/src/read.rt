@@ -11,7 +11,7 @@ use crush_grammar::{TextCode, TextFault, last_line, read_declarations};
 use crush_map::CrushMap;
 use std::alloc::{AllocError, Global};
 
-/// The map of a text whose declarations have no fault, or else the fault at the end.
+/// The map of a text whose declarations have no fault, or else the fault at its end.
 fn map_of(text: &[u8], judge: Judge) -> Result<CrushMap, TextFault>
     requires { IsClean (words text.now) judge }
     ensures map { IfOk result (λ m. IsTextOf text.now m) }

@@ -1,4 +1,4 @@
-//! What is declared, with an index by which a name is looked up.
+//! Devices and buckets in order of declaration, with an index by which a name is looked up.
 
 ghost use Rattle.std.specs.Prelude.{◌≡◌, ◌≤◌, ◌++◌, ◌∷◌, [], ℕ, List, OnErr, OnOk, find, option_map, bytes_eq, length};
 ghost use Rattle.std.specs.BTreeMap.{get_by_text};
@@ -14,10 +14,10 @@ use std::alloc::{AllocError, Global};
 use std::collections::BTreeMap;
 use std::marker::Model;
 
-/// The number that no type has, and no item as its id. A name that isn't declared stands for it.
+/// The number of a name that isn't declared: no type has this number, and no item has this id.
 pub(crate) const UNDECLARED: u32 = NUMBER_LIMIT + 1;
 
-/// The number of the type of a name, or `UNDECLARED`. A map has few types (`TYPE_LIMIT`), so they
+/// The number of the type with a name, or `UNDECLARED`. A map has few types (`TYPE_LIMIT`), so they
 /// are looked through in order.
 pub(crate) fn type_number(types: &[TypeName], name: &str) -> u32
     ensures { result ≡ option_map_or (λ t. t.number) (find (λ t. bytes_eq t.name name.now) types.now) undeclared_number }
@@ -30,7 +30,9 @@ pub(crate) fn type_number(types: &[TypeName], name: &str) -> u32
     UNDECLARED
 }
 
-/// Adds the item of a name, unless the name has one. After `AllocError` the index is as it was.
+/// Adds the item of a name, unless the name has one.
+///
+/// `Err(AllocError)`: an allocation failed; nothing is changed.
 fn add_first(
     alloc: Global,
     index: &mut BTreeMap<String, (ItemId, Weight)>,
@@ -74,7 +76,7 @@ impl Model for DeviceTable {
 }
 
 impl DeviceTable {
-    /// No device.
+    /// The empty table.
     pub(crate) fn new(alloc: Global) -> Self
         ensures { result ≡ [] }
     {
@@ -84,14 +86,16 @@ impl DeviceTable {
         }
     }
 
-    /// The id of the device of a name, and the weight 1.0.
+    /// The id of the device with a name, and the weight 1.0. `None`: no device has the name.
     pub(crate) fn item(&self, name: &str) -> Option<(ItemId, Weight)>
         ensures { result ≡ option_map of_device (find (λ d. bytes_eq d.name name.now) self.now) }
     {
         self.index.get(name).copied()
     }
 
-    /// Adds a device at the end. After `AllocError` the devices are as they were.
+    /// Adds a device at the end.
+    ///
+    /// `Err(AllocError)`: an allocation failed; nothing is changed.
     pub(crate) fn add(&mut self, alloc: Global, declared: Device) -> Result<(), AllocError>
         requires { declared.id ≤ NUMBER_LIMIT }
         ensures ok { OnOk result (self.new ≡ self.old ++ declared ∷ []) }
@@ -104,7 +108,7 @@ impl DeviceTable {
         Ok(())
     }
 
-    /// The devices. Takes no memory.
+    /// The devices. Allocates nothing.
     pub(crate) fn into_vec(self) -> Vec<Device>
         ensures { result.items ≡ self }
     {
@@ -113,7 +117,7 @@ impl DeviceTable {
     }
 }
 
-/// A bucket as an item: its id, and the sum of its items.
+/// A bucket as an item: its id, and the sum of the weights of its items.
 fn bucket_item(declared: &Bucket) -> (ItemId, Weight)
     requires few { length declared.now.items ≤ ITEM_LIMIT }
     requires light { total_weight declared.now.items ≤ TOTAL_WEIGHT_LIMIT }
@@ -146,7 +150,7 @@ impl Model for BucketTable {
 }
 
 impl BucketTable {
-    /// No bucket.
+    /// The empty table.
     pub(crate) fn new(alloc: Global) -> Self
         ensures { result ≡ [] }
     {
@@ -156,14 +160,17 @@ impl BucketTable {
         }
     }
 
-    /// The id of the bucket of a name, and the sum of its items.
+    /// The id of the bucket with a name, and the sum of the weights of its items. `None`: no bucket
+    /// has the name.
     pub(crate) fn item(&self, name: &str) -> Option<(ItemId, Weight)>
         ensures { result ≡ option_map of_bucket (find (λ b. bytes_eq b.name name.now) self.now) }
     {
         self.index.get(name).copied()
     }
 
-    /// Adds a bucket at the end. After `AllocError` the buckets are as they were.
+    /// Adds a bucket at the end.
+    ///
+    /// `Err(AllocError)`: an allocation failed; nothing is changed.
     pub(crate) fn add(&mut self, alloc: Global, declared: Bucket) -> Result<(), AllocError>
         requires few { length declared.items ≤ ITEM_LIMIT }
         requires light { total_weight declared.items ≤ TOTAL_WEIGHT_LIMIT }
@@ -177,7 +184,7 @@ impl BucketTable {
         Ok(())
     }
 
-    /// The buckets. Takes no memory.
+    /// The buckets. Allocates nothing.
     pub(crate) fn into_vec(self) -> Vec<Bucket>
         ensures { result.items ≡ self }
     {

@@ -7,8 +7,8 @@ use crate::lex::first_word;
 use crate::word::Word;
 use std::marker::Model;
 
-/// The rest of a text that is read word by word. Contracts see the words that are left, and the line
-/// of the last word read.
+/// The rest of a text that is read word by word. Contracts see the words that are left, and the
+/// line of the last word read.
 #[derive(Drop)]
 pub struct Cursor<'a> {
     line: usize,

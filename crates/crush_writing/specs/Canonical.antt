@@ -1,6 +1,7 @@
 -- The canonical text of a map: the one text that is written of it.
 --
--- Source: what `crushtool -d` writes, with its headings and no other remark and with five decimals in a weight.
+-- Source: what `crushtool -d` writes, with its headings and no other remark and with five decimals
+-- in a weight.
 use Rattle.std.specs.Prelude.{ℕ, ℤ, pos, negsuc, ◌==◌, Bool, true, false, List, [], ◌∷◌, ◌++◌, codes, flat_map, if◌then◌else◌}
 use Rattle.std.specs.Ordering.{int_eq}
 use Rattle.std.specs.Fmt.{decimal, signed_decimal}

@@ -11,7 +11,7 @@ use crush_map::{
 };
 use std::alloc::{AllocError, Global};
 
-/// Each word, with a space before it.
+/// Writes each word, with a space before it.
 fn write_others(out: &mut Vec<u8>, words: &[&[u8]]) -> Result<(), AllocError>
     ensures { OnOk result (out.new.items ≡ out.old.items ++ flat_map (λ word. 32 ∷ word.now) words.now) }
 {
@@ -22,7 +22,7 @@ fn write_others(out: &mut Vec<u8>, words: &[&[u8]]) -> Result<(), AllocError>
     Ok(())
 }
 
-/// A line of words.
+/// Writes a line of words.
 #[tactic(auto, using(crate::proofs::Joins::two))]
 fn write_line(out: &mut Vec<u8>, first: &[u8], others: &[&[u8]]) -> Result<(), AllocError>
     ensures { OnOk result (out.new.items ≡ out.old.items ++ (first.now ++ flat_map (λ word. 32 ∷ word.now) others.now ++ 10 ∷ [])) }
@@ -33,7 +33,7 @@ fn write_line(out: &mut Vec<u8>, first: &[u8], others: &[&[u8]]) -> Result<(), A
     Ok(())
 }
 
-/// A line of words in braces.
+/// Writes a line of words inside braces, after a tab.
 #[tactic(auto, using(crate::proofs::Joins::tab))]
 fn write_inner_line(out: &mut Vec<u8>, first: &[u8], others: &[&[u8]]) -> Result<(), AllocError>
     ensures { OnOk result (out.new.items ≡ out.old.items ++ (9 ∷ (first.now ++ flat_map (λ word. 32 ∷ word.now) others.now ++ 10 ∷ []))) }
@@ -42,7 +42,7 @@ fn write_inner_line(out: &mut Vec<u8>, first: &[u8], others: &[&[u8]]) -> Result
     write_line(out, first, others)
 }
 
-/// A tunable.
+/// Writes the line of a tunable.
 #[tactic(auto, unfolding(crate::specs::Canonical::tunable_line))]
 fn write_tunable(alloc: Global, out: &mut Vec<u8>, name: &str, value: u32) -> Result<(), AllocError>
     ensures { OnOk result (out.new.items ≡ out.old.items ++ spec.tunable_line name.now value) }
@@ -51,7 +51,7 @@ fn write_tunable(alloc: Global, out: &mut Vec<u8>, name: &str, value: u32) -> Re
     write_line(out, b"tunable", &[name.as_bytes(), value.as_bytes()])
 }
 
-/// The tunables.
+/// Writes the lines of all tunables.
 fn write_tunables(alloc: Global, out: &mut Vec<u8>, tunables: Tunables) -> Result<(), AllocError>
     ensures { OnOk result (out.new.items ≡ out.old.items ++ spec.tunable_lines tunables) }
 {
@@ -64,7 +64,7 @@ fn write_tunables(alloc: Global, out: &mut Vec<u8>, tunables: Tunables) -> Resul
     Ok(())
 }
 
-/// A device.
+/// Writes the line of a device.
 #[tactic(auto, unfolding(crate::specs::Canonical::device_line))]
 fn write_device(alloc: Global, out: &mut Vec<u8>, device: &Device) -> Result<(), AllocError>
     ensures { OnOk result (out.new.items ≡ out.old.items ++ spec.device_line device.now) }
@@ -77,7 +77,7 @@ fn write_device(alloc: Global, out: &mut Vec<u8>, device: &Device) -> Result<(),
     )
 }
 
-/// The devices.
+/// Writes the lines of devices.
 fn write_devices(alloc: Global, out: &mut Vec<u8>, devices: &[Device]) -> Result<(), AllocError>
     ensures { OnOk result (out.new.items ≡ out.old.items ++ flat_map spec.device_line devices.now) }
 {
@@ -87,7 +87,7 @@ fn write_devices(alloc: Global, out: &mut Vec<u8>, devices: &[Device]) -> Result
     Ok(())
 }
 
-/// A type.
+/// Writes the line of a type.
 #[tactic(auto, unfolding(crate::specs::Canonical::type_line))]
 fn write_type(alloc: Global, out: &mut Vec<u8>, declared: &TypeName) -> Result<(), AllocError>
     ensures { OnOk result (out.new.items ≡ out.old.items ++ spec.type_line declared.now) }
@@ -100,7 +100,7 @@ fn write_type(alloc: Global, out: &mut Vec<u8>, declared: &TypeName) -> Result<(
     )
 }
 
-/// The types.
+/// Writes the lines of types.
 fn write_types(alloc: Global, out: &mut Vec<u8>, types: &[TypeName]) -> Result<(), AllocError>
     ensures { OnOk result (out.new.items ≡ out.old.items ++ flat_map spec.type_line types.now) }
 {
@@ -110,7 +110,7 @@ fn write_types(alloc: Global, out: &mut Vec<u8>, types: &[TypeName]) -> Result<(
     Ok(())
 }
 
-/// An item of a bucket.
+/// Writes the line of an item of a bucket.
 #[tactic(auto, unfolding(crate::specs::Canonical::item_line))]
 fn write_item(
     alloc: Global,
@@ -130,7 +130,7 @@ fn write_item(
     )
 }
 
-/// The items of a bucket.
+/// Writes the lines of a bucket's items.
 fn write_items(
     alloc: Global,
     out: &mut Vec<u8>,
@@ -145,7 +145,7 @@ fn write_items(
     Ok(())
 }
 
-/// The word of an algorithm.
+/// The word of a bucket's algorithm.
 fn alg_text(alg: Kind) -> &'static str
     ensures { result.now ≡ spec.alg_text alg }
 {
@@ -156,7 +156,7 @@ fn alg_text(alg: Kind) -> &'static str
     }
 }
 
-/// A bucket.
+/// Writes the lines of a bucket.
 #[tactic(auto, using(crate::proofs::Joins::six), unfolding(crate::specs::Canonical::bucket_lines))]
 fn write_bucket(
     alloc: Global,
@@ -177,7 +177,7 @@ fn write_bucket(
     write_line(out, b"}", &[])
 }
 
-/// The buckets.
+/// Writes the lines of all buckets.
 fn write_buckets(alloc: Global, out: &mut Vec<u8>, names: &Names<'_>) -> Result<(), AllocError>
     ensures { OnOk result (out.new.items ≡ out.old.items ++ flat_map (spec.bucket_lines names.now) names.now.buckets) }
 {
@@ -188,7 +188,7 @@ fn write_buckets(alloc: Global, out: &mut Vec<u8>, names: &Names<'_>) -> Result<
     Ok(())
 }
 
-/// A set step.
+/// Writes the line of a step that sets a number.
 fn write_set_step(
     alloc: Global,
     out: &mut Vec<u8>,
@@ -201,7 +201,7 @@ fn write_set_step(
     write_inner_line(out, b"step", &[setting.as_bytes(), value.as_bytes()])
 }
 
-/// A choose step.
+/// Writes the line of a choose step.
 fn write_choose_step<'a>(
     alloc: Global,
     out: &mut Vec<u8>,
@@ -226,7 +226,7 @@ fn write_choose_step<'a>(
     )
 }
 
-/// A step of a rule.
+/// Writes the line of a step of a rule.
 #[tactic(auto, unfolding(crate::specs::Canonical::step_line))]
 fn write_step(
     alloc: Global,
@@ -260,7 +260,7 @@ fn write_step(
     }
 }
 
-/// The steps of a rule.
+/// Writes the lines of a rule's steps.
 fn write_steps(
     alloc: Global,
     out: &mut Vec<u8>,
@@ -282,7 +282,7 @@ fn erasure_text(erasure: bool) -> &'static str
     if erasure { "erasure" } else { "replicated" }
 }
 
-/// A rule.
+/// Writes the lines of a rule.
 #[tactic(auto, using(crate::proofs::Joins::five), unfolding(crate::specs::Canonical::rule_lines))]
 fn write_rule(
     alloc: Global,
@@ -301,7 +301,7 @@ fn write_rule(
     write_line(out, b"}", &[])
 }
 
-/// The rules.
+/// Writes the lines of all rules.
 fn write_rules(alloc: Global, out: &mut Vec<u8>, names: &Names<'_>) -> Result<(), AllocError>
     ensures { OnOk result (out.new.items ≡ out.old.items ++ flat_map (spec.rule_lines names.now) names.now.rules) }
 {
@@ -312,7 +312,9 @@ fn write_rules(alloc: Global, out: &mut Vec<u8>, names: &Names<'_>) -> Result<()
     Ok(())
 }
 
-/// The canonical text of a map. `AllocError` comes where memory was refused.
+/// The canonical text of a map.
+///
+/// `Err(AllocError)`: an allocation failed; nothing is changed.
 #[tactic(auto, unfolding(crate::specs::Canonical::canonical))]
 pub fn write_map(alloc: Global, map: &CrushMap) -> Result<Vec<u8>, AllocError>
     ensures { IfOk result (λ text. text.items ≡ spec.canonical map.now) }

@@ -4,6 +4,9 @@ use crate::drafts::{EMIT, SOUND, Short, choose, draft};
 use crate::faults::assert_first;
 use FaultCode::{M12, M13, M15};
 use Kind::List;
+use crush_map::limits::{
+    COUNT_LIMIT, NUMBER_LIMIT, RULE_ID_LIMIT, TOTAL_TRIES_LIMIT, TRIES_LIMIT, VARY_R_LIMIT,
+};
 use crush_map::{Element, FaultCode, Kind, Step, Tunables};
 use std::alloc::Global;
 use std::process::Abort;
@@ -64,10 +67,18 @@ fn assert_second(
     Ok(())
 }
 
+/// The least id of a bucket.
+const LAST_BUCKET: i32 = -1 - NUMBER_LIMIT as i32;
+
 /// A number of a type and a device, a bucket's id and a rule's number, and the fault.
 const NUMBERS: &[(u32, i32, u32, Option<FaultCode>)] = &[
-    (65_535, -65_536, 255, None),
-    (65_536, -65_537, 256, Some(M12)),
+    (NUMBER_LIMIT, LAST_BUCKET, RULE_ID_LIMIT, None),
+    (
+        NUMBER_LIMIT + 1,
+        LAST_BUCKET - 1,
+        RULE_ID_LIMIT + 1,
+        Some(M12),
+    ),
     (4_294_967_295, -2_147_483_648, 4_294_967_295, Some(M12)),
     (1_000, -1, 0, None),
     (70_000, 0, 300, Some(M12)),
@@ -143,15 +154,18 @@ fn numbers_and_names_end_at_their_bounds(rt: HostRuntime) -> Result<(), Fail> {
     Ok(())
 }
 
+/// The greatest number of items of a choose step.
+const MOST: i32 = COUNT_LIMIT as i32;
+
 /// Each step that has a number: at its bound, and past it.
 const STEPS: &[(Step, Step)] = &[
-    (choose!(true, false, 64, 1), choose!(true, false, 65, 1)),
-    (choose!(true, true, -64, 1), choose!(true, true, -65, 1)),
-    (choose!(false, true, 64, 1), choose!(false, true, 65, 1)),
-    (choose!(false, false, -64, 0), choose!(false, false, -65, 0)),
-    (Step::SetChooseTries(1_000), Step::SetChooseTries(1_001)),
-    (Step::SetLeafTries(1_000), Step::SetLeafTries(1_001)),
-    (Step::SetVaryR(8), Step::SetVaryR(9)),
+    (choose!(true, false, MOST, 1), choose!(true, false, MOST + 1, 1)),
+    (choose!(true, true, -MOST, 1), choose!(true, true, -MOST - 1, 1)),
+    (choose!(false, true, MOST, 1), choose!(false, true, MOST + 1, 1)),
+    (choose!(false, false, -MOST, 0), choose!(false, false, -MOST - 1, 0)),
+    (Step::SetChooseTries(TRIES_LIMIT), Step::SetChooseTries(TRIES_LIMIT + 1)),
+    (Step::SetLeafTries(TRIES_LIMIT), Step::SetLeafTries(TRIES_LIMIT + 1)),
+    (Step::SetVaryR(VARY_R_LIMIT), Step::SetVaryR(VARY_R_LIMIT + 1)),
     (Step::SetStable(1), Step::SetStable(2)),
 ];
 
@@ -176,12 +190,12 @@ fn numbers_of_steps_end_at_their_bounds(rt: HostRuntime) -> Result<(), Fail> {
 /// Tunables, local tries, and the fault: choose_total_tries, chooseleaf_descend_once,
 /// chooseleaf_vary_r and chooseleaf_stable alone.
 const TUNABLES: &[((u32, u32, u32, u32), (u32, u32), Option<FaultCode>)] = &[
-    ((999, 1, 1, 1), (0, 0), None),
-    ((1_000, 1, 1, 1), (0, 0), Some(M12)),
+    ((TOTAL_TRIES_LIMIT, 1, 1, 1), (0, 0), None),
+    ((TOTAL_TRIES_LIMIT + 1, 1, 1, 1), (0, 0), Some(M12)),
     ((50, 1, 1, 1), (0, 0), None),
     ((50, 2, 1, 1), (0, 0), Some(M12)),
-    ((50, 1, 8, 1), (0, 0), None),
-    ((50, 1, 9, 1), (0, 0), Some(M12)),
+    ((50, 1, VARY_R_LIMIT, 1), (0, 0), None),
+    ((50, 1, VARY_R_LIMIT + 1, 1), (0, 0), Some(M12)),
     ((50, 1, 1, 2), (0, 0), Some(M12)),
     ((50, 1, 1, 1), (1, 0), Some(M13)),
     ((50, 1, 1, 1), (0, 1), Some(M13)),

@@ -9,6 +9,10 @@ use crate::drafts::{
 use Element::{Buckets, Devices, End, Rules, Types};
 use FaultCode::{M1, M2, M3, M4, M5, M6, M7, M8, M9, M10, M11, M12, M13, M14, M15};
 use Kind::{List, Uniform};
+use crush_map::limits::{
+    COUNT_LIMIT, ITEM_LIMIT, NUMBER_LIMIT, RULE_ID_LIMIT, STEP_LIMIT, TOTAL_TRIES_LIMIT,
+    TOTAL_WEIGHT_LIMIT, TRIES_LIMIT, VARY_R_LIMIT,
+};
 use crush_map::{CrushMap, Element, FaultCode, ItemId, Kind, MapDraft, MapFault, Step, Tunables};
 use std::alloc::{AllocError, Global};
 use std::process::Abort;
@@ -38,10 +42,16 @@ pub(crate) fn assert_first(
     Ok(())
 }
 
+/// The least id of a bucket.
+const LAST_BUCKET: i32 = -1 - NUMBER_LIMIT as i32;
+
+/// The greatest number of items of a choose step.
+const COUNT: i32 = COUNT_LIMIT as i32;
+
 /// Types, and which of them has the fault.
 const TYPES: &[(&[(u32, &str)], FaultCode, usize)] = &[
-    (&[(0, "a"), (65_536, "a")], M12, 1),
-    (&[(0, "a"), (65_536, "class")], M12, 1),
+    (&[(0, "a"), (NUMBER_LIMIT + 1, "a")], M12, 1),
+    (&[(0, "a"), (NUMBER_LIMIT + 1, "class")], M12, 1),
     (&[(0, "a"), (0, "a")], M2, 1),
     (&[(0, "a"), (0, "")], M2, 1),
     (&[(0, "a"), (1, "a")], M3, 1),
@@ -51,9 +61,9 @@ const TYPES: &[(&[(u32, &str)], FaultCode, usize)] = &[
 
 /// Devices, and which of them has the fault.
 const DEVICES: &[(&[(u32, &str)], FaultCode, usize)] = &[
-    (&[(65_536, "a b")], M12, 0),
-    (&[(5, "a"), (65_536, "")], M12, 1),
-    (&[(5, "a"), (65_536, "a")], M12, 1),
+    (&[(NUMBER_LIMIT + 1, "a b")], M12, 0),
+    (&[(5, "a"), (NUMBER_LIMIT + 1, "")], M12, 1),
+    (&[(5, "a"), (NUMBER_LIMIT + 1, "a")], M12, 1),
     (&[(5, "a"), (5, "a b")], M2, 1),
     (&[(5, "a"), (5, "a:")], M2, 1),
     (&[(5, "a"), (5, "a")], M2, 1),
@@ -81,13 +91,13 @@ fn first_faults_of_types_and_devices(rt: HostRuntime) -> Result<(), Fail> {
 const HOST: ShortBucket<'static> = (-1, "host", 1, List, &[(0, ONE), (3, ONE)]);
 
 /// The greatest weight.
-const MOST: u32 = 4_294_967_295;
+const MOST: u32 = TOTAL_WEIGHT_LIMIT as u32;
 
 /// Buckets, the last of which has the fault: by its id, its name, its type, its items by place,
 /// weights that differ, and their sum.
 const BUCKETS: &[(&[ShortBucket], FaultCode)] = &[
     (&[(1, "", 7, List, &[])], M12),
-    (&[HOST, (-65_537, "b", 1, List, &[])], M12),
+    (&[HOST, (LAST_BUCKET - 1, "b", 1, List, &[])], M12),
     (&[HOST, (-1, "", 1, List, &[])], M2),
     (&[HOST, (-2, "host/", 7, List, &[])], M15),
     (&[HOST, (-2, "host", 7, List, &[])], M3),
@@ -123,11 +133,11 @@ fn first_faults_of_buckets(rt: HostRuntime) -> Result<(), Fail> {
     Ok(())
 }
 
-/// Buckets of 1,025 items that aren't declared, behind the host: what is wrong with the bucket
-/// itself comes first.
+/// Buckets of more than `ITEM_LIMIT` items that aren't declared, behind the host: what is wrong
+/// with the bucket itself comes first.
 const CROWDED: &[(i32, &str, u32, FaultCode)] = &[
     (3, "osd.3", 7, M12),
-    (-65_537, "", 7, M12),
+    (LAST_BUCKET - 1, "", 7, M12),
     (-1, "b:", 7, M2),
     (-1, "host", 7, M2),
     (-2, "b:", 7, M15),
@@ -141,7 +151,7 @@ const CROWDED: &[(i32, &str, u32, FaultCode)] = &[
 #[test]
 fn first_faults_of_buckets_of_too_many_items(rt: HostRuntime) -> Result<(), Fail> {
     let alloc = rt.alloc();
-    let items: &[(i32, u32)] = &[(9, 1); 1_025];
+    let items: &[(i32, u32)] = &[(9, 1); ITEM_LIMIT + 1];
     for (case, (id, name, kind_of, code)) in CROWDED.iter().enumerate() {
         let buckets = [HOST, (*id, *name, *kind_of, List, items)];
         let short = Short {
@@ -158,23 +168,23 @@ fn first_faults_of_buckets_of_too_many_items(rt: HostRuntime) -> Result<(), Fail
 const UNKNOWN: Step = Step::Take(ItemId(9));
 
 /// Too many steps, each out of range.
-const WRONG: &[Step] = &[Step::SetStable(2); 33];
+const WRONG: &[Step] = &[Step::SetStable(2); STEP_LIMIT + 1];
 
 const FIRST: ShortRule<'static> = (7, "a", EMIT);
 
 /// Rules, the last of which has the fault: by its id, its name, the number of its steps, then the
 /// first step that has a fault.
 const RULES: &[(&[ShortRule], FaultCode)] = &[
-    (&[(256, "", EMIT)], M12),
+    (&[(RULE_ID_LIMIT + 1, "", EMIT)], M12),
     (&[FIRST, (7, "", EMIT)], M2),
     (&[FIRST, (8, "a ", EMIT)], M15),
     (&[(7, "host", EMIT), (8, "host", &[])], M3),
     (&[(7, "a", &[])], M1),
-    (&[(7, "a", &[UNKNOWN; 33])], M1),
+    (&[(7, "a", &[UNKNOWN; STEP_LIMIT + 1])], M1),
     (&[(7, "a", &[Step::Take(ItemId(-2))])], M10),
     (&[(7, "a", &[Step::SetStable(2), UNKNOWN])], M12),
-    (&[FIRST, (256, "a:", WRONG)], M12),
-    (&[FIRST, (256, "a", WRONG)], M12),
+    (&[FIRST, (RULE_ID_LIMIT + 1, "a:", WRONG)], M12),
+    (&[FIRST, (RULE_ID_LIMIT + 1, "a", WRONG)], M12),
     (&[FIRST, (7, "a:", WRONG)], M2),
     (&[FIRST, (7, "a", WRONG)], M2),
     (&[FIRST, (8, "a:", WRONG)], M15),
@@ -182,15 +192,15 @@ const RULES: &[(&[ShortRule], FaultCode)] = &[
     (&[FIRST, (8, "a", WRONG)], M3),
     (&[FIRST, (8, "a", &[])], M3),
     (&[FIRST, (8, "b", WRONG)], M1),
-    (&[(0, "one", &[Step::SetVaryR(9), UNKNOWN])], M12),
-    (&[(7, "a", &[choose!(true, true, 65, 2)])], M11),
-    (&[(7, "a", &[choose!(false, true, -65, 0)])], M12),
-    (&[(7, "a", &[choose!(false, true, 64, 0)])], M14),
-    (&[(0, "one", &[UNKNOWN, choose!(true, false, 65, 2)])], M10),
+    (&[(0, "one", &[Step::SetVaryR(VARY_R_LIMIT + 1), UNKNOWN])], M12),
+    (&[(7, "a", &[choose!(true, true, COUNT + 1, 2)])], M11),
+    (&[(7, "a", &[choose!(false, true, -COUNT - 1, 0)])], M12),
+    (&[(7, "a", &[choose!(false, true, COUNT, 0)])], M14),
+    (&[(0, "one", &[UNKNOWN, choose!(true, false, COUNT + 1, 2)])], M10),
     (&[(0, "one", &[choose!(true, false, 1, 2), UNKNOWN])], M11),
-    (&[(0, "one", &[choose!(false, true, 65, 2), UNKNOWN])], M11),
-    (&[(0, "one", &[choose!(false, true, 65, 0), UNKNOWN])], M12),
-    (&[(0, "one", &[choose!(false, true, 64, 0), UNKNOWN])], M14),
+    (&[(0, "one", &[choose!(false, true, COUNT + 1, 2), UNKNOWN])], M11),
+    (&[(0, "one", &[choose!(false, true, COUNT + 1, 0), UNKNOWN])], M12),
+    (&[(0, "one", &[choose!(false, true, COUNT, 0), UNKNOWN])], M14),
     (
         &[(0, "one", &[Step::Emit, choose!(false, true, 0, 0)])],
         M14,
@@ -199,7 +209,7 @@ const RULES: &[(&[ShortRule], FaultCode)] = &[
         &[(
             0,
             "one",
-            &[choose!(false, true, 1, 1), Step::SetLeafTries(1_001)],
+            &[choose!(false, true, 1, 1), Step::SetLeafTries(TRIES_LIMIT + 1)],
         )],
         M12,
     ),
@@ -252,7 +262,7 @@ const IN_DEVICES: Short<'static> = Short {
 /// Too many tries, and local tries.
 const TRIES: Short<'static> = Short {
     tunables: Tunables {
-        total_tries: 1_000,
+        total_tries: TOTAL_TRIES_LIMIT + 1,
         ..JEWEL
     },
     local_tries: (2, 5),
@@ -291,7 +301,7 @@ const LISTS: &[(Short, (FaultCode, Element, usize))] = &[
     (
         Short {
             types: &[(1, "host"), (1, "host")],
-            rules: &[(256, "", &[])],
+            rules: &[(RULE_ID_LIMIT + 1, "", &[])],
             ..TRIES
         },
         (M2, Types, 1),
@@ -320,29 +330,29 @@ fn first_faults_of_lists(rt: HostRuntime) -> Result<(), Fail> {
 /// Declared out of order, with numbers at their bounds.
 const OUT_OF_ORDER: Short<'static> = Short {
     buckets: &[
-        (-65_536, "host", 1, List, &[(0, 1), (3, 4_294_967_294)]),
-        (-9, "root", 10, List, &[(-65_536, 7), (3, 0)]),
+        (LAST_BUCKET, "host", 1, List, &[(0, 1), (3, MOST - 1)]),
+        (-9, "root", 10, List, &[(LAST_BUCKET, 7), (3, 0)]),
     ],
     rules: &[
         (
-            255,
+            RULE_ID_LIMIT,
             "second",
             &[
                 Step::Take(ItemId(-9)),
-                Step::SetChooseTries(1_000),
+                Step::SetChooseTries(TRIES_LIMIT),
                 Step::SetLeafTries(0),
-                Step::SetVaryR(8),
+                Step::SetVaryR(VARY_R_LIMIT),
                 Step::SetStable(1),
-                choose!(false, true, -64, 1),
+                choose!(false, true, -COUNT, 1),
                 Step::Emit,
             ],
         ),
         (0, "first", EMIT),
     ],
     tunables: Tunables {
-        total_tries: 999,
+        total_tries: TOTAL_TRIES_LIMIT,
         descend_once: 0,
-        vary_r: 8,
+        vary_r: VARY_R_LIMIT,
         stable: 0,
     },
     ..SOUND
@@ -378,8 +388,8 @@ fn a_map_is_in_order(rt: HostRuntime) -> Result<(), Fail> {
     let numbers = numbers_of(alloc, &map)?;
     assert_eq!(rt;
         numbers.as_slice(),
-        [0, 1, 3, 10, 0, 3, -65_536, -9, 0, 255].as_slice()
+        [0, 1, 3, 10, 0, 3, i64::from(LAST_BUCKET), -9, 0, i64::from(RULE_ID_LIMIT)].as_slice()
     );
-    assert_eq!(rt; map.tunables().total_tries, 999);
+    assert_eq!(rt; map.tunables().total_tries, TOTAL_TRIES_LIMIT);
     Ok(())
 }

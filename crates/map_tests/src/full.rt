@@ -2,12 +2,19 @@
 
 use crate::drafts::{ONE, SOUND, devices, draft, map_of, types};
 use crate::faults::assert_first;
+use crush_map::limits::{
+    BUCKET_LIMIT, DEVICE_LIMIT, ITEM_LIMIT, NUMBER_LIMIT, RULE_LIMIT, STEP_LIMIT, TYPE_LIMIT,
+};
 use crush_map::{
     Bucket, Element, FaultCode, ItemId, Kind, Listed, MapDraft, Rule, Step, Text, Weight,
 };
 use std::alloc::{AllocError, Global};
 use std::process::Abort;
 use std::test::Fail;
+
+/// The least number that is too large for a type, a device or a bucket; no list has so many
+/// elements.
+const OUT_OF_RANGE: u32 = NUMBER_LIMIT + 1;
 
 /// How many elements each list of a draft has, and which of them, if it is there, has no name and a
 /// number out of range.
@@ -30,7 +37,7 @@ fn numbered(
     let mut pairs = Vec::new(alloc);
     for number in 0..count {
         let pair = if number == wrong {
-            (70_000, Text::copy(alloc, "")?)
+            (OUT_OF_RANGE, Text::copy(alloc, "")?)
         } else {
             (number, Text::new(format!(in alloc; "{letter}{number}")?))
         };
@@ -39,16 +46,16 @@ fn numbered(
     Ok(pairs)
 }
 
-/// Buckets of all devices.
+/// Buckets of all devices, as far as a bucket may have so many items.
 fn buckets(alloc: Global, counts: Counts) -> Result<Listed<Bucket>, AllocError> {
     let mut buckets = Vec::new(alloc);
     for (number, name) in numbered(alloc, 'b', counts.buckets, counts.wrong)? {
         let mut items = Vec::new(alloc);
-        for id in 0..counts.devices {
-            items.push((ItemId(id.min(70_000) as i32), Weight(ONE)))?;
+        for id in 0..counts.devices.min(ITEM_LIMIT as u32) {
+            items.push((ItemId(id.min(OUT_OF_RANGE) as i32), Weight(ONE)))?;
         }
         buckets.push(Bucket {
-            id: ItemId(-1 - number.min(70_000) as i32),
+            id: ItemId(-1 - number.min(OUT_OF_RANGE) as i32),
             name,
             kind_of: 1,
             alg: Kind::Uniform,
@@ -58,7 +65,7 @@ fn buckets(alloc: Global, counts: Counts) -> Result<Listed<Bucket>, AllocError> 
     Ok(Listed::new(buckets))
 }
 
-/// Rules of 32 steps.
+/// Rules of as many steps as a rule may have.
 fn rules(alloc: Global, counts: Counts) -> Result<Listed<Rule>, AllocError> {
     let mut rules = Vec::new(alloc);
     for (id, name) in numbered(alloc, 'r', counts.rules, counts.wrong)? {
@@ -66,7 +73,7 @@ fn rules(alloc: Global, counts: Counts) -> Result<Listed<Rule>, AllocError> {
             id,
             name,
             erasure: true,
-            steps: Listed::new(vec![in alloc; Step::Emit; 32]?),
+            steps: Listed::new(vec![in alloc; Step::Emit; STEP_LIMIT]?),
         })?;
     }
     Ok(Listed::new(rules))
@@ -85,19 +92,21 @@ fn full(alloc: Global, counts: Counts) -> Result<MapDraft, AllocError> {
 
 /// No element is wrong.
 const MOST: Counts = Counts {
-    types: 32,
-    devices: 1_024,
-    buckets: 1_024,
-    rules: 64,
-    wrong: 70_000,
+    types: TYPE_LIMIT as u32,
+    devices: DEVICE_LIMIT as u32,
+    buckets: BUCKET_LIMIT as u32,
+    rules: RULE_LIMIT as u32,
+    wrong: OUT_OF_RANGE,
 };
 
 #[test]
 fn a_draft_at_every_limit_is_a_map(rt: HostRuntime) -> Result<(), Fail> {
     let alloc = rt.alloc();
     let map = map_of(alloc, full(alloc, MOST)?)?;
-    assert_eq!(rt; (map.types().len(), map.devices().len()), (32, 1_024));
-    assert_eq!(rt; (map.buckets().len(), map.rules().len()), (1_024, 64));
+    assert_eq!(rt; map.types().len(), TYPE_LIMIT);
+    assert_eq!(rt; map.devices().len(), DEVICE_LIMIT);
+    assert_eq!(rt; map.buckets().len(), BUCKET_LIMIT);
+    assert_eq!(rt; map.rules().len(), RULE_LIMIT);
     Ok(())
 }
 
@@ -111,25 +120,39 @@ const FEW: Counts = Counts {
 };
 
 /// One element more than a list may have, the list, and its limit.
-const PAST: &[(Counts, Element, u32)] = &[
-    (Counts { types: 33, ..FEW }, Element::Types, 32),
+const PAST: &[(Counts, Element, usize)] = &[
     (
         Counts {
-            devices: 1_025,
+            types: TYPE_LIMIT as u32 + 1,
+            ..FEW
+        },
+        Element::Types,
+        TYPE_LIMIT,
+    ),
+    (
+        Counts {
+            devices: DEVICE_LIMIT as u32 + 1,
             ..FEW
         },
         Element::Devices,
-        1_024,
+        DEVICE_LIMIT,
     ),
     (
         Counts {
-            buckets: 1_025,
+            buckets: BUCKET_LIMIT as u32 + 1,
             ..FEW
         },
         Element::Buckets,
-        1_024,
+        BUCKET_LIMIT,
     ),
-    (Counts { rules: 65, ..FEW }, Element::Rules, 64),
+    (
+        Counts {
+            rules: RULE_LIMIT as u32 + 1,
+            ..FEW
+        },
+        Element::Rules,
+        RULE_LIMIT,
+    ),
 ];
 
 /// The first element past its limit, also where it has a number out of range and no name.
@@ -137,10 +160,10 @@ const PAST: &[(Counts, Element, u32)] = &[
 fn one_too_many_comes_before_its_number(rt: HostRuntime) -> Result<(), Fail> {
     let alloc = rt.alloc();
     for (case, (counts, element, limit)) in PAST.iter().enumerate() {
-        let wanted = (Some(FaultCode::M1), *element, *limit as usize);
+        let wanted = (Some(FaultCode::M1), *element, *limit);
         assert_first(&rt, alloc, full(alloc, *counts)?, wanted, case)?;
         let wrong = Counts {
-            wrong: *limit,
+            wrong: *limit as u32,
             ..*counts
         };
         assert_first(&rt, alloc, full(alloc, wrong)?, wanted, case)?;

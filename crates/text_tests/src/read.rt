@@ -5,6 +5,7 @@ use crate::lines::{lines_within, with_line};
 use FaultCode::{M1, M2, M3, M4, M5, M6, M7, M8, M9, M10, M11, M12, M13, M14, M15};
 use TextCode::{Map, X1, X2, X3, X4, X5, X6, X7};
 use crush_map::FaultCode;
+use crush_text::limits::TEXT_LIMIT;
 use crush_text::{TextCode, read_map, read_stored};
 use std::alloc::Global;
 use std::process::Abort;
@@ -245,10 +246,10 @@ fn remark(alloc: Global, length: usize) -> Result<Vec<u8>, Fail> {
 }
 
 #[test]
-fn a_text_has_524288_bytes_at_most(rt: HostRuntime) -> Result<(), Fail> {
+fn a_text_has_at_most_the_limit_of_bytes(rt: HostRuntime) -> Result<(), Fail> {
     let alloc = rt.alloc();
-    let short = remark(alloc, 524_288)?;
-    let long = remark(alloc, 524_289)?;
+    let short = remark(alloc, TEXT_LIMIT)?;
+    let long = remark(alloc, TEXT_LIMIT + 1)?;
     assert_eq!(rt; fault(alloc, short.as_slice())?, Some((1, Map(M4))));
     assert_eq!(rt; fault(alloc, long.as_slice())?, Some((1, X7)));
     Ok(())
@@ -257,7 +258,7 @@ fn a_text_has_524288_bytes_at_most(rt: HostRuntime) -> Result<(), Fail> {
 #[test]
 fn a_stored_text_may_be_longer(rt: HostRuntime) -> Result<(), Fail> {
     let alloc = rt.alloc();
-    let mut text = remark(alloc, 524_288)?;
+    let mut text = remark(alloc, TEXT_LIMIT)?;
     text.push(b'\n')?;
     text.extend_from_slice(CANONICAL.as_bytes())?;
     assert_eq!(rt; fault(alloc, text.as_slice())?, Some((1, X7)));
