@@ -1,6 +1,8 @@
--- Reading a text word by word: a means, by which texts are read in one pass, and no part of what they are.
+-- Reading a text word by word: a means, by which texts are read in one pass, and no part of what
+-- they are.
 --
--- The law `words_are_read_as_they_say` joins it to the grammar both ways, so that no reader has to believe it.
+-- The law `words_are_read_as_they_say` joins it to the grammar both ways, so that no reader has to
+-- believe it.
 use Rattle.std.specs.Prelude.{ℕ, ℤ, ◌||◌, Bool, true, false, List, [], ◌∷◌, ◌++◌, Option, Some, None, if◌then◌else◌, codes}
 use Rattle.crush_map.specs.WeightText.{weight_of}
 use Rattle.crush_words.specs.Words.{Word}

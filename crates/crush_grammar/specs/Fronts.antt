@@ -48,7 +48,8 @@ IsStraw front w =
     × ((ds : List Declaration) × (b : DeclaredBucket)
     × Declares (front ++ word (codes "list") ∷ word (codes "}") ∷ []) (ds ++ Bucket b ∷ []) × (b.items ≡ []))
 
--- class after a take step: with a brace after it, the front is a text that ends with a rule whose last step is that take
+-- class after a take step: with a brace after it, the front is a text that ends with a rule whose
+-- last step is that take
 abbrev pub IsClassOfTake : List Word → Word → Type 0
 IsClassOfTake front w =
     (is (codes "class") w ≡ true)
@@ -83,12 +84,13 @@ HasCode front w other = ⊥
 
 -- ---- what is declared before a fault
 
--- the words begin one declaration: with some words after them they are a text that declares it alone
+-- the words begin one declaration: with some words after them they are a text that declares it
+-- alone
 abbrev pub BeginsOne : List Word → Type 0
 BeginsOne ys = (more : List Word) × (d : Declaration) × Declares (ys ++ more) (d ∷ [])
 
--- what a front declares: all, if it is whole; else all declarations before the one that it breaks off.
--- So a word that does not continue a device that is whole belongs to the next declaration.
+-- what a front declares: all, if it is whole; else all declarations before the one that it breaks
+-- off. So a word that does not continue a device that is whole belongs to the next declaration.
 abbrev pub FrontDeclares : List Word → List Declaration → Type 0
 FrontDeclares front ds = Declares front ds ⊎ (¬ (IsWhole front) × ((xs : List Word) × (ys : List Word) × (front ≡ xs ++ ys) × Declares xs ds × BeginsOne ys))
 

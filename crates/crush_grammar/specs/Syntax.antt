@@ -1,7 +1,8 @@
 -- The grammar of map texts: what can be written, word by word, and what it declares.
 --
--- A text of the form is the words of a tree whose leaves are the words themselves. A record is a rule of the grammar; its fields
--- stand in the order of their words. Source: Ceph's CRUSH map manual and its compiler of map texts.
+-- A text of the form is the words of a tree whose leaves are the words themselves. A record is a
+-- rule of the grammar; its fields stand in the order of their words. Source: Ceph's CRUSH map
+-- manual and its compiler of map texts.
 use Rattle.std.specs.Prelude.{◌≡◌, ℕ, true, false, List, [], ◌∷◌, ◌++◌, map, Option, Some, None, codes, flat_map, option_map}
 use Rattle.crush_map.specs.WeightText.{weight_of}
 use Rattle.crush_words.specs.Words.{Word}
@@ -26,11 +27,11 @@ pub record Saying {V : Type 0} (read : List ℕ → Option V) : Type 0 where
   pub value : V
   pub is : read word.text ≡ Some value
 
--- 1 to 10 digits
+-- 1 to DIGIT_LIMIT digits
 abbrev pub Number : Type 0
 Number = Saying number_of
 
--- 1 to 10 digits, with or without a minus before them
+-- 1 to DIGIT_LIMIT digits, with or without a minus before them
 abbrev pub Integer : Type 0
 Integer = Saying integer_of
 
@@ -194,7 +195,8 @@ pub record Step : Type 0 where
 abbrev pub step_words : Step → List Word
 step_words s = s.step.word ∷ action_words s.action
 
--- rule NAME {, id or ruleset NUMBER, type replicated or erasure, [min_size NUMBER], [max_size NUMBER], one or more steps, }
+-- rule NAME {, id or ruleset NUMBER, type replicated or erasure, [min_size NUMBER], [max_size
+-- NUMBER], one or more steps, }
 pub record Rule : Type 0 where
   pub rule : Keyword (codes "rule")
   pub name : Name

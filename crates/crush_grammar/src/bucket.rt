@@ -18,7 +18,7 @@ use crush_map::{Kind, Listed, Weight, weight_from_text};
 use crush_words::{Cursor, Name};
 use std::alloc::Global;
 
-/// The name of a bucket.
+/// Reads the name of a bucket.
 #[tactic(auto, using(crate::proofs::States::dead), unfolding(crate::specs::Automaton::step))]
 fn bucket_name<'a>(
     line: usize,
@@ -38,7 +38,7 @@ fn bucket_name<'a>(
     Ok((head, rest))
 }
 
-/// The brace that opens a bucket.
+/// Reads the brace that opens a bucket.
 #[tactic(auto, using(crate::proofs::States::dead), unfolding(crate::specs::Automaton::step))]
 fn bucket_open<'a>(
     head: BucketHead<'a>,
@@ -52,7 +52,7 @@ fn bucket_open<'a>(
     Ok((head, rest))
 }
 
-/// The number of an id line.
+/// Reads the number of an id line.
 #[tactic(auto, using(crate::proofs::States::dead), unfolding(crate::specs::Automaton::step))]
 fn id_number<'a>(
     head: &BucketHead<'a>,
@@ -67,7 +67,8 @@ fn id_number<'a>(
     Ok((id, rest))
 }
 
-/// What follows the number of an id line: a class, with which the line is dropped, or nothing, if no line before has none.
+/// Reads what follows the number of an id line: a class, with which the line is dropped, or
+/// nothing, if each line before has a class.
 #[tactic(auto, using(crate::proofs::States::dead), unfolding(crate::specs::Automaton::step))]
 fn id_class<'a>(
     head: &BucketHead<'a>,
@@ -90,7 +91,7 @@ fn id_class<'a>(
     }
 }
 
-/// An id line, after its first word: the id without a class so far.
+/// Reads an id line, after its first word. Returns the id without a class so far, if there is one.
 fn id_line<'a>(
     head: &BucketHead<'a>,
     before: Option<i64>,
@@ -103,7 +104,7 @@ fn id_line<'a>(
     id_class(head, before, id, cursor)
 }
 
-/// The id lines, up to the word alg: the one id without a class.
+/// Reads the id lines, up to the word alg. Returns the one id without a class.
 #[tactic(auto, using(crate::proofs::States::dead), unfolding(crate::specs::Automaton::step))]
 fn bucket_id<'a>(head: &BucketHead<'a>, cursor: Cursor<'a>) -> Result<(i64, Cursor<'a>), ReadError>
     ensures value { Leads (ahead (State.IdLines head.now None) cursor.entry) result (λ x. ahead (State.AlgWord head.now x.0) x.1) }
@@ -126,7 +127,7 @@ fn bucket_id<'a>(head: &BucketHead<'a>, cursor: Cursor<'a>) -> Result<(i64, Curs
     Err(out_of_grammar(cursor.line()))
 }
 
-/// The algorithm of a bucket.
+/// Reads the algorithm of a bucket.
 #[tactic(auto, using(crate::proofs::States::dead), unfolding(crate::specs::Automaton::step))]
 fn bucket_alg<'a>(
     head: &BucketHead<'a>,
@@ -157,7 +158,7 @@ struct BucketStart<'a> {
     alg: Kind,
 }
 
-/// The id lines and the algorithm of a bucket.
+/// Reads the id lines and the algorithm of a bucket.
 fn bucket_start<'a>(
     head: BucketHead<'a>,
     cursor: Cursor<'a>,
@@ -170,7 +171,7 @@ fn bucket_start<'a>(
     Ok((BucketStart { head, id, alg }, cursor))
 }
 
-/// The hash lines.
+/// Reads the hash lines.
 #[tactic(auto, using(crate::proofs::States::dead, crate::proofs::States::no_hash), unfolding(crate::specs::Automaton::step))]
 fn hashes<'a>(cursor: Cursor<'a>) -> Result<Cursor<'a>, ReadError>
     ensures value { (b : DeclaredBucket) → Leads (ahead (State.Hashes b) cursor.entry) result (λ c. ahead (State.Items b) c) }
@@ -188,7 +189,7 @@ fn hashes<'a>(cursor: Cursor<'a>) -> Result<Cursor<'a>, ReadError>
     Ok(cursor)
 }
 
-/// The name of an item.
+/// Reads the name of an item.
 #[tactic(auto, using(crate::proofs::States::dead), unfolding(crate::specs::Automaton::step))]
 fn item_name<'a>(cursor: &Cursor<'a>) -> Result<(Name<'a>, Cursor<'a>), ReadError>
     ensures value { (b : DeclaredBucket) → Leads (ahead (State.ItemWord b) cursor.now) result (λ x. ahead (State.ItemName b (named x.0)) x.1) }
@@ -199,7 +200,7 @@ fn item_name<'a>(cursor: &Cursor<'a>) -> Result<(Name<'a>, Cursor<'a>), ReadErro
     Ok((name, rest))
 }
 
-/// The weight of an item, if one is given.
+/// Reads the weight of an item, if one is given.
 #[tactic(auto, using(crate::proofs::States::dead, crate::proofs::States::no_weight), unfolding(crate::specs::Automaton::step))]
 fn item_weight<'a>(cursor: Cursor<'a>) -> Result<(Option<Weight>, Cursor<'a>), ReadError>
     ensures value { (b : DeclaredBucket) (name : List ℕ) → Leads (ahead (State.ItemName b (named name)) cursor.entry) result (λ x. ahead (State.ItemWeight b (record { name = name; weight = x.0; place = None })) x.1) }
@@ -222,7 +223,7 @@ fn item_weight<'a>(cursor: Cursor<'a>) -> Result<(Option<Weight>, Cursor<'a>), R
     }
 }
 
-/// The place of an item, if one is given.
+/// Reads the place of an item, if one is given.
 #[tactic(auto, using(crate::proofs::States::dead, crate::proofs::States::no_place), unfolding(crate::specs::Automaton::step))]
 fn item_place<'a>(cursor: Cursor<'a>) -> Result<(Option<Place>, Cursor<'a>), ReadError>
     ensures value { (b : DeclaredBucket) (name : List ℕ) (weight : Option Weight) → Leads (ahead (State.ItemWeight b (record { name = name; weight = weight; place = None })) cursor.entry) result (λ x. ahead (State.Items (with_item b (record { name = name; weight = weight; place = x.0 }))) x.1) }
@@ -242,7 +243,7 @@ fn item_place<'a>(cursor: Cursor<'a>) -> Result<(Option<Place>, Cursor<'a>), Rea
     Ok((Some(place), rest))
 }
 
-/// An item, after its first word.
+/// Reads an item, after its first word.
 fn item<'a>(cursor: &Cursor<'a>) -> Result<(DeclaredItem<'a>, Cursor<'a>), ReadError>
     ensures value { (b : DeclaredBucket) → Leads (ahead (State.ItemWord b) cursor.now) result (λ x. ahead (State.Items (with_item b x.0)) x.1) }
     ensures less { IfOk result (λ x. length x.1.words ≤ length cursor.now.words) }
@@ -260,7 +261,7 @@ fn item<'a>(cursor: &Cursor<'a>) -> Result<(DeclaredItem<'a>, Cursor<'a>), ReadE
     ))
 }
 
-/// The items of a bucket, and the brace that closes it.
+/// Reads the items of a bucket, and the brace that closes it.
 #[tactic(auto, using(crate::proofs::States::dead), unfolding(crate::specs::Automaton::step))]
 fn items<'a>(
     alloc: Global,
@@ -291,7 +292,7 @@ fn items<'a>(
     Err(out_of_grammar(cursor.line()))
 }
 
-/// A bucket, after the name of its type.
+/// Reads a bucket, after the name of its type.
 pub(crate) fn declared_bucket<'a>(
     alloc: Global,
     line: usize,

@@ -1,25 +1,25 @@
-//! Why a text is no map.
+//! Why a text is not a map.
 
 use crush_map::FaultCode;
 
 /// A fault of a text.
 #[derive(Clone, Copy, Debug, PartialEq, Eq)]
 pub enum TextCode {
-    /// A word out of the grammar, or a text that ends too early.
+    /// A word is not of the grammar, or the text ends too early.
     X1,
-    /// A straw or straw2 bucket.
+    /// A bucket is of the kind straw or straw2.
     X2,
-    /// A class after the item of a take step.
+    /// A class follows the item of a take step.
     X3,
-    /// `choose_args`.
+    /// The text has `choose_args`.
     X4,
-    /// A place that an item can't have.
+    /// An item names a place past the bucket's items, or one that another item names.
     X5,
-    /// A weight that isn't of the form.
+    /// A weight isn't of the form.
     X6,
-    /// A text over its length.
+    /// The text is longer than an imported text may be.
     X7,
-    /// What is declared makes no map.
+    /// What is declared is not a map, for this fault.
     Map(FaultCode),
 }
 

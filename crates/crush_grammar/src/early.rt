@@ -10,7 +10,7 @@ use crate::error::ReadError;
 use crate::say::{is, name, next, number, tunable};
 use crush_words::{Cursor, Name};
 
-/// The name of a tunable.
+/// Reads the name of a tunable.
 #[tactic(auto, using(crate::proofs::States::dead), unfolding(crate::specs::Automaton::step))]
 fn tunable_name<'a>(
     line: usize,
@@ -24,7 +24,7 @@ fn tunable_name<'a>(
     Ok((name, rest))
 }
 
-/// A tunable, after its first word.
+/// Reads a tunable, after its first word.
 #[tactic(auto, using(crate::proofs::States::dead), unfolding(crate::specs::Automaton::step))]
 pub(crate) fn declared_tunable<'a>(
     line: usize,
@@ -39,7 +39,7 @@ pub(crate) fn declared_tunable<'a>(
     Ok((DeclaredTunable { line, name, value }, rest))
 }
 
-/// The id of a device.
+/// Reads the id of a device.
 #[tactic(auto, using(crate::proofs::States::dead), unfolding(crate::specs::Automaton::step))]
 fn device_id<'a>(line: usize, cursor: &Cursor<'a>) -> Result<(u64, Cursor<'a>), ReadError>
     ensures value { Leads (ahead (State.DeviceWord line) cursor.now) result (λ x. ahead (State.DeviceNumber line x.0) x.1) }
@@ -50,7 +50,7 @@ fn device_id<'a>(line: usize, cursor: &Cursor<'a>) -> Result<(u64, Cursor<'a>), 
     Ok((id, rest))
 }
 
-/// The name of a device.
+/// Reads the name of a device.
 #[tactic(auto, using(crate::proofs::States::dead), unfolding(crate::specs::Automaton::step))]
 fn device_name<'a>(
     line: usize,
@@ -65,7 +65,7 @@ fn device_name<'a>(
     Ok((name, rest))
 }
 
-/// What follows the name of a device: its class, which is dropped, or nothing of it.
+/// Reads the class of a device, which is dropped, if one follows its name.
 #[tactic(auto, using(crate::proofs::States::dead), unfolding(crate::specs::Automaton::step))]
 fn device_class<'a>(
     device: DeclaredDevice<'a>,
@@ -85,7 +85,7 @@ fn device_class<'a>(
     Ok((device, rest))
 }
 
-/// A device, after its first word.
+/// Reads a device, after its first word.
 pub(crate) fn declared_device<'a>(
     line: usize,
     cursor: &Cursor<'a>,
@@ -98,7 +98,7 @@ pub(crate) fn declared_device<'a>(
     device_class(DeclaredDevice { line, id, name }, cursor)
 }
 
-/// The number of a type.
+/// Reads the number of a type.
 #[tactic(auto, using(crate::proofs::States::dead), unfolding(crate::specs::Automaton::step))]
 fn type_number<'a>(line: usize, cursor: &Cursor<'a>) -> Result<(u64, Cursor<'a>), ReadError>
     ensures value { Leads (ahead (State.TypeWord line) cursor.now) result (λ x. ahead (State.TypeNumber line x.0) x.1) }
@@ -109,7 +109,7 @@ fn type_number<'a>(line: usize, cursor: &Cursor<'a>) -> Result<(u64, Cursor<'a>)
     Ok((number, rest))
 }
 
-/// A type, after its first word.
+/// Reads a type, after its first word.
 #[tactic(auto, using(crate::proofs::States::dead), unfolding(crate::specs::Automaton::step))]
 pub(crate) fn declared_type<'a>(
     line: usize,

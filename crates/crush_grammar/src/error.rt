@@ -5,7 +5,7 @@ ghost use Rattle.std.specs.Prelude.{◌≡◌};
 use crate::code::TextFault;
 use std::alloc::{AllocError, AllocFailed};
 
-/// Memory was refused, or the text has a fault.
+/// Why reading stops: an allocation failed, or the text has a fault.
 #[derive(Debug, Drop)]
 pub(crate) enum ReadError {
     Memory,

@@ -1,4 +1,5 @@
-//! What holds of every text. A call does nothing: its caller learns the law.
+//! Laws: statements that hold for every list of words. A call does nothing; its contract is the
+//! law.
 
 ghost use Rattle.std.specs.Prelude.{◌≡◌, ◌⊎◌, ◌↔◌, ℕ, List, Some, None};
 ghost use Rattle.crush_words.specs.Words.{Word};
@@ -8,7 +9,7 @@ ghost use Rattle.crush_grammar.specs.Syntax.{Declares};
 ghost use Rattle.crush_grammar.specs.declared.code.TextFault.{TextFault};
 ghost use Rattle.crush_grammar.specs.declared.declaration.Declaration.{Declaration};
 
-/// The words of a text declare one list.
+/// Words of the grammar declare one list of declarations, and no other.
 pub fn words_declare_once()
     ensures { (ws : List Word) (ds es : List Declaration) → Declares ws ds → Declares ws es → ds ≡ es }
 {}
@@ -20,7 +21,7 @@ pub fn words_are_whole_or_break()
     ensures one_place { (ws : List Word) (i j : ℕ) → LeavesAt ws i → LeavesAt ws j → i ≡ j }
 {}
 
-/// Words break in one way only: with one fault, behind the same declarations.
+/// Words break in one way only: with one fault, after the same declarations.
 pub fn words_break_once()
     ensures { (ws : List Word) (ds es : List Declaration) (f g : TextFault) → Breaks ws ds f → Breaks ws es g → (ds ≡ es) × (f ≡ g) }
 {}

@@ -1,4 +1,5 @@
-//! The form of map texts: their grammar, what they declare, and their first fault of form, by name and line.
+//! The form of map texts: their grammar, what they declare, and their first fault of form, by code
+//! and line.
 //!
 //! Source: Ceph's CRUSH map manual, which shows the text that `crushtool -d` writes.
 #![tactic(auto)]

@@ -26,7 +26,7 @@ pub struct Declarations<'a> {
     pub fault: Option<TextFault>,
 }
 
-/// A tunable, a device or a type, of which this is the first word.
+/// Reads a tunable, a device or a type, of which this is the first word.
 #[tactic(auto, using(crate::proofs::States::dead), unfolding(crate::specs::Automaton::step))]
 fn early_declaration<'a>(
     word: &Word<'a>,
@@ -48,7 +48,7 @@ fn early_declaration<'a>(
     Ok((Declaration::TypeName(declared), rest))
 }
 
-/// A bucket or a rule, of which this is the first word.
+/// Reads a bucket or a rule, of which this is the first word.
 #[tactic(auto, using(crate::proofs::States::dead), unfolding(crate::specs::Automaton::step))]
 fn late_declaration<'a>(
     alloc: Global,
@@ -75,7 +75,7 @@ fn late_declaration<'a>(
     Ok((Declaration::Bucket(bucket), rest))
 }
 
-/// A declaration, of which this is the first word.
+/// Reads a declaration, of which this is the first word.
 #[tactic(auto, using(crate::proofs::States::dead), unfolding(crate::specs::Automaton::step))]
 fn declaration<'a>(
     alloc: Global,
@@ -97,14 +97,16 @@ fn declaration<'a>(
     }
 }
 
-/// Whether a declaration stands before all buckets and rules.
+/// Whether a declaration is one of those that come before all buckets and rules.
 fn is_early(declaration: &Declaration<'_>) -> bool
     ensures { result ≡ is_early declaration.now }
 {
     !matches!(declaration, Declaration::Bucket(_) | Declaration::Rule(_))
 }
 
-/// What was declared before an error.
+/// What was declared before an error, with its fault.
+///
+/// `Err(AllocError)`: the error is that an allocation failed.
 #[tactic(auto, using(crate::proofs::States::read_failed))]
 fn stopped<'a>(
     found: Vec<Declaration<'a>>,
@@ -121,7 +123,9 @@ fn stopped<'a>(
     }
 }
 
-/// What is read of a text.
+/// What a text declares, and its first fault of form, as the automaton reads them.
+///
+/// `Err(AllocError)`: an allocation failed; nothing is changed.
 fn read_words<'a>(alloc: Global, text: &'a [u8]) -> Result<Declarations<'a>, AllocError>
     ensures { IfOk result (λ r. record { decls = r.declarations; fault = r.fault } ≡ read_text (words text.now)) }
 {
@@ -146,7 +150,9 @@ fn read_words<'a>(alloc: Global, text: &'a [u8]) -> Result<Declarations<'a>, All
 
 /// What a text declares, up to its first fault of form, whatever its length.
 ///
-/// Its words are of the grammar where there is no fault. What is declared isn't judged. `AllocError` comes where memory was refused.
+/// If there is no fault, its words are of the grammar. What is declared isn't checked.
+///
+/// `Err(AllocError)`: an allocation failed; nothing is changed.
 pub fn read_declarations<'a>(alloc: Global, text: &'a [u8]) -> Result<Declarations<'a>, AllocError>
     ensures { IfOk result (λ r. MatchOption r.fault (Declares (words text.now) r.declarations) (λ f. Breaks (words text.now) r.declarations f)) }
 {

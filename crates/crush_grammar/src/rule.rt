@@ -16,7 +16,7 @@ use crush_map::Listed;
 use crush_words::{Cursor, Name};
 use std::alloc::Global;
 
-/// The name of a rule.
+/// Reads the name of a rule.
 #[tactic(auto, using(crate::proofs::States::dead), unfolding(crate::specs::Automaton::step))]
 fn rule_name<'a>(line: usize, cursor: &Cursor<'a>) -> Result<(Name<'a>, Cursor<'a>), ReadError>
     ensures value { Leads (ahead (State.RuleWord line) cursor.now) result (λ x. ahead (State.RuleName line x.0) x.1) }
@@ -27,7 +27,7 @@ fn rule_name<'a>(line: usize, cursor: &Cursor<'a>) -> Result<(Name<'a>, Cursor<'
     Ok((name, rest))
 }
 
-/// The brace that opens a rule, and the word before its id.
+/// Reads the brace that opens a rule, and the word before its id.
 #[tactic(auto, using(crate::proofs::States::dead), unfolding(crate::specs::Automaton::step))]
 fn rule_open<'a>(
     line: usize,
@@ -44,7 +44,7 @@ fn rule_open<'a>(
     Ok((name, rest))
 }
 
-/// The id of a rule, and the word before its type.
+/// Reads the id of a rule, and the word before its type.
 #[tactic(auto, using(crate::proofs::States::dead), unfolding(crate::specs::Automaton::step))]
 fn rule_number<'a>(
     line: usize,
@@ -61,7 +61,7 @@ fn rule_number<'a>(
     Ok((id, rest))
 }
 
-/// The type of a rule.
+/// Reads the type of a rule.
 #[tactic(auto, using(crate::proofs::States::dead), unfolding(crate::specs::Automaton::step))]
 fn rule_erasure<'a>(
     line: usize,
@@ -77,7 +77,7 @@ fn rule_erasure<'a>(
     Ok((erasure, rest))
 }
 
-/// The least size, if one is given; it is dropped.
+/// Reads the least size, if one is given; it is dropped.
 #[tactic(auto, using(crate::proofs::States::dead, crate::proofs::States::no_min), unfolding(crate::specs::Automaton::step))]
 fn min_size<'a>(cursor: Cursor<'a>) -> Result<Cursor<'a>, ReadError>
     ensures value { (r : DeclaredRule) → Leads (ahead (State.RuleKind r) cursor.entry) result (λ c. ahead (State.RuleMin r) c) }
@@ -94,7 +94,7 @@ fn min_size<'a>(cursor: Cursor<'a>) -> Result<Cursor<'a>, ReadError>
     Ok(rest)
 }
 
-/// The greatest size, if one is given; it is dropped.
+/// Reads the greatest size, if one is given; it is dropped.
 #[tactic(auto, using(crate::proofs::States::dead, crate::proofs::States::no_max), unfolding(crate::specs::Automaton::step))]
 fn max_size<'a>(cursor: Cursor<'a>) -> Result<Cursor<'a>, ReadError>
     ensures value { (r : DeclaredRule) → Leads (ahead (State.RuleMin r) cursor.entry) result (λ c. ahead (State.RuleMax r) c) }
@@ -111,7 +111,7 @@ fn max_size<'a>(cursor: Cursor<'a>) -> Result<Cursor<'a>, ReadError>
     Ok(rest)
 }
 
-/// The name after take, which no class may follow.
+/// Reads the name after take, which no class may follow.
 #[tactic(auto, using(crate::proofs::States::dead, crate::proofs::States::taken_end), unfolding(crate::specs::Automaton::step))]
 fn take_step<'a>(cursor: &Cursor<'a>) -> Result<(DeclaredStep<'a>, Cursor<'a>), ReadError>
     ensures value { (r : DeclaredRule) → Leads (ahead (State.TakeWord r) cursor.now) result (λ x. ahead (State.Steps (with_step r x.0)) x.1) }
@@ -130,7 +130,7 @@ fn take_step<'a>(cursor: &Cursor<'a>) -> Result<(DeclaredStep<'a>, Cursor<'a>), 
     Ok((DeclaredStep::Take(name), rest))
 }
 
-/// How many items a choose step chooses, and how.
+/// Reads how many items a choose step chooses, and how.
 #[tactic(auto, using(crate::proofs::States::dead), unfolding(crate::specs::Automaton::step))]
 fn choose_number<'a>(
     leaf: bool,
@@ -146,7 +146,7 @@ fn choose_number<'a>(
     Ok(((firstn, n), rest))
 }
 
-/// The type that a choose step wants.
+/// Reads the type that a choose step wants.
 #[tactic(auto, using(crate::proofs::States::dead), unfolding(crate::specs::Automaton::step))]
 fn choose_type<'a>(
     leaf: bool,
@@ -170,7 +170,7 @@ fn choose_type<'a>(
     Ok((step, rest))
 }
 
-/// A choose step, after its first word.
+/// Reads a choose step, after its first word.
 fn choose_step<'a>(
     leaf: bool,
     cursor: &Cursor<'a>,
@@ -182,7 +182,7 @@ fn choose_step<'a>(
     choose_type(leaf, firstn, n, &rest)
 }
 
-/// What a set step sets.
+/// Reads what a set step sets.
 #[tactic(auto, using(crate::proofs::States::dead), unfolding(crate::specs::Automaton::step))]
 fn set_value<'a>(
     setting: Setting,
@@ -196,7 +196,7 @@ fn set_value<'a>(
     Ok((DeclaredStep::Set(setting, value), rest))
 }
 
-/// A step, after the word step.
+/// Reads a step, after the word step.
 #[tactic(auto, using(crate::proofs::States::dead), unfolding(crate::specs::Automaton::step))]
 fn step<'a>(cursor: &Cursor<'a>) -> Result<(DeclaredStep<'a>, Cursor<'a>), ReadError>
     ensures value { (r : DeclaredRule) → Leads (ahead (State.StepWord r) cursor.now) result (λ x. ahead (State.Steps (with_step r x.0)) x.1) }
@@ -217,7 +217,7 @@ fn step<'a>(cursor: &Cursor<'a>) -> Result<(DeclaredStep<'a>, Cursor<'a>), ReadE
     }
 }
 
-/// The first step of a rule.
+/// Reads the first step of a rule.
 #[tactic(auto, using(crate::proofs::States::dead), unfolding(crate::specs::Automaton::step))]
 fn first_step<'a>(cursor: &Cursor<'a>) -> Result<(DeclaredStep<'a>, Cursor<'a>), ReadError>
     ensures value { (r : DeclaredRule) → Leads (ahead (State.RuleMax r) cursor.now) result (λ x. ahead (State.Steps (with_step r x.0)) x.1) }
@@ -228,7 +228,7 @@ fn first_step<'a>(cursor: &Cursor<'a>) -> Result<(DeclaredStep<'a>, Cursor<'a>),
     step(&rest)
 }
 
-/// The steps of a rule, and the brace that closes it.
+/// Reads the steps of a rule, and the brace that closes it.
 #[tactic(auto, using(crate::proofs::States::dead), unfolding(crate::specs::Automaton::step))]
 fn steps<'a>(
     alloc: Global,
@@ -265,7 +265,7 @@ fn steps<'a>(
     Err(out_of_grammar(cursor.line()))
 }
 
-/// A rule, after its first word.
+/// Reads a rule, after its first word.
 pub(crate) fn declared_rule<'a>(
     alloc: Global,
     line: usize,

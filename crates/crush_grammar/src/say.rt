@@ -15,7 +15,7 @@ use crate::error::ReadError;
 use crush_map::{Kind, all_are_name_bytes, is_reserved};
 use crush_words::{Cursor, Name, Word, integer_from_text, number_from_text};
 
-/// A word out of the grammar, or the end of a text, on this line.
+/// The error of a word that is not of the grammar, or of the end of a text, on this line.
 pub(crate) fn out_of_grammar(line: usize) -> ReadError
     ensures { result ≡ out_of_grammar line }
 {
@@ -25,7 +25,7 @@ pub(crate) fn out_of_grammar(line: usize) -> ReadError
     })
 }
 
-/// The next word, and what is left after it.
+/// The next word, and what is left after it. An error: no word is left.
 pub(crate) fn next<'a>(cursor: &Cursor<'a>) -> Result<(Word<'a>, Cursor<'a>), ReadError>
     ensures value { MatchResult result (λ r. (cursor.now.words ≡ r.0 ∷ r.1.words) × (r.1.line ≡ r.0.line)) (λ e. (cursor.now.words ≡ []) × (e ≡ out_of_grammar cursor.now.line)) }
 {
@@ -35,14 +35,14 @@ pub(crate) fn next<'a>(cursor: &Cursor<'a>) -> Result<(Word<'a>, Cursor<'a>), Re
     }
 }
 
-/// A word has this text.
+/// Whether a word has this text.
 pub(crate) fn is(text: &[u8], word: &Word<'_>) -> bool
     ensures { result ≡ fronts.is text.now word.now }
 {
     word.text() == text
 }
 
-/// A word has this text, or else is out of the grammar.
+/// Nothing if a word has this text, or else the error that it is not of the grammar.
 pub(crate) fn keyword(text: &[u8], word: &Word<'_>) -> Result<(), ReadError>
     ensures { MatchResult result (λ _. fronts.is text.now word.now ≡ true) (λ e. (fronts.is text.now word.now ≡ false) × (e ≡ out_of_grammar word.now.line)) }
 {
@@ -214,7 +214,8 @@ pub(crate) fn setting(word: &Word<'_>) -> Result<Setting, ReadError>
     }
 }
 
-/// A word names the hash that there is.
+/// Nothing if a word names the one hash that there is, or else the error that it is not of the
+/// grammar.
 #[tactic(auto, unfolding(crate::specs::Sayings::hash_of))]
 pub(crate) fn hash(word: &Word<'_>) -> Result<(), ReadError>
     ensures { MatchResult result (λ _. spec.hash_of word.now.text ≡ Some 0) (λ e. (spec.hash_of word.now.text ≡ None) × (e ≡ out_of_grammar word.now.line)) }
@@ -226,7 +227,8 @@ pub(crate) fn hash(word: &Word<'_>) -> Result<(), ReadError>
     }
 }
 
-/// A word stands before the id of a rule.
+/// Nothing if a word may be before the id of a rule, or else the error that it is not of the
+/// grammar.
 #[tactic(auto, unfolding(crate::specs::Sayings::rule_id_of))]
 pub(crate) fn rule_id(word: &Word<'_>) -> Result<(), ReadError>
     ensures { MatchResult result (λ _. spec.rule_id_of word.now.text ≡ Some 0) (λ e. (spec.rule_id_of word.now.text ≡ None) × (e ≡ out_of_grammar word.now.line)) }
@@ -238,7 +240,7 @@ pub(crate) fn rule_id(word: &Word<'_>) -> Result<(), ReadError>
     }
 }
 
-/// A word of names' bytes, or a brace.
+/// Whether a word is of the bytes of names, or is a brace.
 pub(crate) fn is_token(word: &Word<'_>) -> bool
     ensures { result ≡ fronts.is_token word.now }
 {

@@ -1,7 +1,8 @@
 -- Lists whose elements differ, with one more element.
-use Rattle.std.proofs.Common.{◌≡◌, Bool, true, false, ◌||◌, List, [], ◌∷◌, ◌++◌, refl}
+use Rattle.std.proofs.Common.{◌≡◌, Bool, true, false, List, [], ◌∷◌, ◌++◌, refl}
 use Rattle.std.specs.List.{list_any, AllByRecursion, IsDistinct}
 use Rattle.std.proofs.lemmas.Map.Keys.{IsDistinct-head, IsDistinct-tail, IsDistinct-cons}
+use Rattle.crush_map.proofs.Passing.{left_false, right_false}
 
 all_push : {K : Type 0} (P : K → Type 0) (xs : List K) (y : K) → AllByRecursion P xs → P y → AllByRecursion P (xs ++ y ∷ [])
 all_push P [] y h p = (p, tt)
@@ -11,21 +12,13 @@ all_at : {K : Type 0} (P : K → Type 0) (xs : List K) (y : K) (ys : List K) →
 all_at P [] y ys h = h.0
 all_at P (x ∷ xs) y ys h = all_at P xs y ys h.1
 
-neither_left : (a b : Bool) → (a || b) ≡ false → a ≡ false
-neither_left true b h = h
-neither_left false b h = refl
-
-neither_right : (a b : Bool) → (a || b) ≡ false → b ≡ false
-neither_right true b h = cc
-neither_right false b h = h
-
 -- adding an element that is none of the list
 pub distinct_push : {K : Type 0} (e : K → K → Bool) (xs : List K) (y : K) → IsDistinct e xs → list_any (λ x. e x y) xs ≡ false → IsDistinct e (xs ++ y ∷ [])
 distinct_push e [] y h new = IsDistinct-cons e y [] tt h
 distinct_push e (x ∷ xs) y h new =
     IsDistinct-cons e x (xs ++ y ∷ [])
-    (all_push (λ z. e x z ≡ false) xs y (IsDistinct-head e x xs h) (neither_left (e x y) _ new))
-    (distinct_push e xs y (IsDistinct-tail e x xs h) (neither_right (e x y) _ new))
+    (all_push (λ z. e x z ≡ false) xs y (IsDistinct-head e x xs h) (left_false (e x y) _ new))
+    (distinct_push e xs y (IsDistinct-tail e x xs h) (right_false (e x y) _ new))
 
 -- an element of such a list is none of the earlier ones
 pub new_at : {K : Type 0} (e : K → K → Bool) (xs : List K) (y : K) (ys : List K) → IsDistinct e (xs ++ y ∷ ys) → list_any (λ x. e x y) xs ≡ false

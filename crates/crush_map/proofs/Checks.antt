@@ -22,7 +22,7 @@ pub items-more : (known : Known) (before : Ids) (items : List (ItemId × Weight)
 items-more known before items i d short here new =
     ap (items_fault known before) (drop-cons items i d short) ∙ passed known before (get_or items i d) _ here new ∙ rw add-one refl
 
-last_of : (checks : List (Option FaultCode)) (check : Option FaultCode) → first_of (checks ++ check ∷ []) ≡ or_else (first_of checks) check
+pub last_of : (checks : List (Option FaultCode)) (check : Option FaultCode) → first_of (checks ++ check ∷ []) ≡ or_else (first_of checks) check
 last_of [] check = or_else-none check
 last_of (Some code ∷ checks) check = refl
 last_of (None ∷ checks) check = last_of checks check

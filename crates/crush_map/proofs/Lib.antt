@@ -1,7 +1,7 @@
 pub mod DeviceValues
 mod Tables
-mod Checks
-mod Passing
+pub mod Checks
+pub mod Passing
 mod Alike
 mod Apart
 mod Reordered

@@ -1,5 +1,5 @@
 -- What holds for elements without a fault.
-use Rattle.std.proofs.Common.{rules, ◌≡◌, ◌∙◌, Bool, true, false, not, Option, Some, None, List, [], ◌∷◌, ℕ, zero, suc, ℤ, pos, negsuc, refl, sym, IsTrue, slice_get, nat_lt}
+use Rattle.std.proofs.Common.{rules, ◌≡◌, ◌∙◌, Bool, true, false, not, ◌||◌, Option, Some, None, List, [], ◌∷◌, ℕ, zero, suc, ℤ, pos, negsuc, refl, sym, IsTrue, slice_get, nat_lt}
 use Rattle.crush_map.specs.declared.fault.FaultCode.{FaultCode}
 use Rattle.crush_map.specs.declared.fault.FaultCode.TheVariants.{M3, M12}
 use Rattle.crush_map.specs.declared.draft.Bucket.{Bucket}
@@ -28,6 +28,16 @@ passes (c ∷ checks) (suc i) check at h = passes checks i check at (second_none
 pub fails : (code : FaultCode) (test : Bool) → (code when test) ≡ None → test ≡ false
 fails code true h = cc
 fails code false h = refl
+
+-- ---- tests of which one or the other
+
+pub left_false : (a b : Bool) → (a || b) ≡ false → a ≡ false
+left_false true b h = h
+left_false false b h = refl
+
+pub right_false : (a b : Bool) → (a || b) ≡ false → b ≡ false
+right_false true b h = cc
+right_false false b h = h
 
 -- ---- numbers
 

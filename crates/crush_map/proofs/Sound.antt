@@ -21,7 +21,7 @@ use Rattle.crush_map.specs.Weights.{has_equal_weights, total_weight}
 use Rattle.crush_map.specs.Map.{Map, draft_of, IsMap}
 use Rattle.crush_map.specs.Laws.{Pass}
 use Rattle.crush_map.specs.Sound.{same_id, has_bucket, has_type, has_item, IsItemAt, IsBucketAt, IsStep, IsRuleAt, IsTypeAt, IsDeviceAt}
-use Rattle.crush_map.proofs.Passing.{passes, fails, first_none, second_none}
+use Rattle.crush_map.proofs.Passing.{left_false, right_false, passes, fails, first_none, second_none}
 use Rattle.crush_map.proofs.Numbered.{above, OwnRule, rule_splits, type_splits, device_splits}
 use Rattle.crush_map.proofs.Valid.{types_behind, devices_behind, rules_behind, rules_before, ids_before}
 use Rattle.crush_map.proofs.First.{none_stands}
@@ -31,14 +31,6 @@ use Rattle.crush_map.proofs.First.{none_stands}
 pub is_so : (b : Bool) → not b ≡ false → b ≡ true
 is_so true h = refl
 is_so false h = cc
-
-left_false : (a b : Bool) → (a || b) ≡ false → a ≡ false
-left_false true b h = h
-left_false false b h = refl
-
-right_false : (a b : Bool) → (a || b) ≡ false → b ≡ false
-right_false true b h = cc
-right_false false b h = h
 
 any_mapped : {X : Type 0} (f : X → ℕ) (xs : List X) (n : ℕ) → has_number (map f xs) n ≡ list_any (λ x. f x == n) xs
 any_mapped f [] n = refl

@@ -1,5 +1,5 @@
 -- What the declarations of a map make of each of its elements.
-use Rattle.std.proofs.Common.{◌≡◌, ◌∙◌, ℕ, ℤ, pos, negsuc, ◌+◌, ◌≤◌, min, nat_le, List, [], ◌∷◌, ◌++◌, length, map, true, refl, sym, ap, arith, Option, Some, None, is_none}
+use Rattle.std.proofs.Common.{◌≡◌, ◌∙◌, ℕ, ℤ, pos, negsuc, ◌+◌, ◌-◌, ◌≤◌, min, nat_le, List, [], ◌∷◌, ◌++◌, length, map, true, refl, sym, ap, arith, Option, Some, None, is_none}
 use Rattle.std.proofs.lemmas.Bool.Decides.{nat_tests}
 use Rattle.std.specs.List.{find, filter, filter_map, AllByRecursion}
 use Rattle.crush_map.specs.declared.limits.TheConstants.{COUNT_LIMIT, ID_COUNT, NUMBER_LIMIT, RULE_ID_LIMIT}
@@ -41,7 +41,7 @@ bucket_id_within (negsuc n) h = grind (arith, nat_tests)
 
 pub count_within : (z : ℤ) → is_count z ≡ true → IsWithin COUNT_LIMIT z
 count_within (pos n) h = grind (arith, nat_tests)
-count_within (negsuc n) h = let low = (both (nat_le (n + 1) COUNT_LIMIT) true h).0 in grind (arith, nat_tests)
+count_within (negsuc n) h = let low = (both (nat_le n (COUNT_LIMIT - 1)) true h).0 in grind (arith, nat_tests)
 
 pub wider : (z : ℤ) → IsWithin COUNT_LIMIT z → IsWithin ID_COUNT z
 wider (pos n) h = omega arith

@@ -159,13 +159,34 @@ const MOST: i32 = COUNT_LIMIT as i32;
 
 /// Each step that has a number: at its bound, and past it.
 const STEPS: &[(Step, Step)] = &[
-    (choose!(true, false, MOST, 1), choose!(true, false, MOST + 1, 1)),
-    (choose!(true, true, -MOST, 1), choose!(true, true, -MOST - 1, 1)),
-    (choose!(false, true, MOST, 1), choose!(false, true, MOST + 1, 1)),
-    (choose!(false, false, -MOST, 0), choose!(false, false, -MOST - 1, 0)),
-    (Step::SetChooseTries(TRIES_LIMIT), Step::SetChooseTries(TRIES_LIMIT + 1)),
-    (Step::SetLeafTries(TRIES_LIMIT), Step::SetLeafTries(TRIES_LIMIT + 1)),
-    (Step::SetVaryR(VARY_R_LIMIT), Step::SetVaryR(VARY_R_LIMIT + 1)),
+    (
+        choose!(true, false, MOST, 1),
+        choose!(true, false, MOST + 1, 1),
+    ),
+    (
+        choose!(true, true, -MOST, 1),
+        choose!(true, true, -MOST - 1, 1),
+    ),
+    (
+        choose!(false, true, MOST, 1),
+        choose!(false, true, MOST + 1, 1),
+    ),
+    (
+        choose!(false, false, -MOST, 0),
+        choose!(false, false, -MOST - 1, 0),
+    ),
+    (
+        Step::SetChooseTries(TRIES_LIMIT),
+        Step::SetChooseTries(TRIES_LIMIT + 1),
+    ),
+    (
+        Step::SetLeafTries(TRIES_LIMIT),
+        Step::SetLeafTries(TRIES_LIMIT + 1),
+    ),
+    (
+        Step::SetVaryR(VARY_R_LIMIT),
+        Step::SetVaryR(VARY_R_LIMIT + 1),
+    ),
     (Step::SetStable(1), Step::SetStable(2)),
 ];
 

@@ -192,15 +192,30 @@ const RULES: &[(&[ShortRule], FaultCode)] = &[
     (&[FIRST, (8, "a", WRONG)], M3),
     (&[FIRST, (8, "a", &[])], M3),
     (&[FIRST, (8, "b", WRONG)], M1),
-    (&[(0, "one", &[Step::SetVaryR(VARY_R_LIMIT + 1), UNKNOWN])], M12),
+    (
+        &[(0, "one", &[Step::SetVaryR(VARY_R_LIMIT + 1), UNKNOWN])],
+        M12,
+    ),
     (&[(7, "a", &[choose!(true, true, COUNT + 1, 2)])], M11),
     (&[(7, "a", &[choose!(false, true, -COUNT - 1, 0)])], M12),
     (&[(7, "a", &[choose!(false, true, COUNT, 0)])], M14),
-    (&[(0, "one", &[UNKNOWN, choose!(true, false, COUNT + 1, 2)])], M10),
+    (
+        &[(0, "one", &[UNKNOWN, choose!(true, false, COUNT + 1, 2)])],
+        M10,
+    ),
     (&[(0, "one", &[choose!(true, false, 1, 2), UNKNOWN])], M11),
-    (&[(0, "one", &[choose!(false, true, COUNT + 1, 2), UNKNOWN])], M11),
-    (&[(0, "one", &[choose!(false, true, COUNT + 1, 0), UNKNOWN])], M12),
-    (&[(0, "one", &[choose!(false, true, COUNT, 0), UNKNOWN])], M14),
+    (
+        &[(0, "one", &[choose!(false, true, COUNT + 1, 2), UNKNOWN])],
+        M11,
+    ),
+    (
+        &[(0, "one", &[choose!(false, true, COUNT + 1, 0), UNKNOWN])],
+        M12,
+    ),
+    (
+        &[(0, "one", &[choose!(false, true, COUNT, 0), UNKNOWN])],
+        M14,
+    ),
     (
         &[(0, "one", &[Step::Emit, choose!(false, true, 0, 0)])],
         M14,
@@ -209,7 +224,10 @@ const RULES: &[(&[ShortRule], FaultCode)] = &[
         &[(
             0,
             "one",
-            &[choose!(false, true, 1, 1), Step::SetLeafTries(TRIES_LIMIT + 1)],
+            &[
+                choose!(false, true, 1, 1),
+                Step::SetLeafTries(TRIES_LIMIT + 1),
+            ],
         )],
         M12,
     ),
@@ -388,7 +406,19 @@ fn a_map_is_in_order(rt: HostRuntime) -> Result<(), Fail> {
     let numbers = numbers_of(alloc, &map)?;
     assert_eq!(rt;
         numbers.as_slice(),
-        [0, 1, 3, 10, 0, 3, i64::from(LAST_BUCKET), -9, 0, i64::from(RULE_ID_LIMIT)].as_slice()
+        [
+            0,
+            1,
+            3,
+            10,
+            0,
+            3,
+            i64::from(LAST_BUCKET),
+            -9,
+            0,
+            i64::from(RULE_ID_LIMIT)
+        ]
+        .as_slice()
     );
     assert_eq!(rt; map.tunables().total_tries, TOTAL_TRIES_LIMIT);
     Ok(())

@@ -2,6 +2,8 @@
 //! They stand apart, so that `crush_map` is proved once.
 #![tactic(auto)]
 
+#[cfg(test)]
+mod by_device;
 pub mod drafts;
 #[cfg(test)]
 mod edges;

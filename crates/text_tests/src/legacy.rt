@@ -47,7 +47,7 @@ macro_rules! host {
     };
 }
 
-/// A rule with a step 32 times, between what stands before and behind it.
+/// A rule with one step as often as a rule may have steps, between what is before and after it.
 macro_rules! rule {
     ($before:literal, $step:literal, $behind:literal) => {
         concat!(

@@ -32,7 +32,7 @@ fn words_stand_on_their_lines(rt: HostRuntime) -> Result<(), Fail> {
 }
 
 #[test]
-fn numbers_have_1_to_10_digits(rt: HostRuntime) {
+fn numbers_have_at_most_the_limit_of_digits(rt: HostRuntime) {
     for (text, want) in [
         ("0", Some(0)),
         ("007", Some(7)),

@@ -1,4 +1,5 @@
--- How the functions that read a text go on from place to place: a means, and no part of what texts are.
+-- How the functions that read a text go on from place to place: a means, and no part of what texts
+-- are.
 use Rattle.std.specs.Prelude.{◌≡◌, ◌++◌, ℕ, ⊤, Bool, true, false, List, [], Option, Some, None, Result, Ok, Err}
 use Rattle.crush_words.specs.Words.{Word, Rest}
 use Rattle.crush_grammar.specs.Automaton.{State, Reading, reading, failed}
