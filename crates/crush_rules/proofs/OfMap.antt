@@ -104,7 +104,7 @@ below_is_of m sound bucket item (Some k) e is = bucket_is m sound item.0 (number
 sized_within : (t : TablesView) (bucket : ℕ) → 0 < size_at t bucket → bucket < length t.buckets
 sized_within t bucket some = elim (cases_lt bucket (length t.buckets)) [
   | inl lt ↦ lt
-  | inr ge ↦ (let past : slice_index_or t.buckets bucket no_bucket ≡ no_bucket = get_or_past t.buckets bucket no_bucket ge in let none : size_at t bucket ≡ 0 = ap (λ (b : TypedBucket). length b.bucket.entries) past in absurd (omega (arith, none, some)))
+  | inr ge ↦ (let past : slice_index_or t.buckets bucket no_bucket ≡ no_bucket = get_or_past t.buckets bucket no_bucket ge in let none : size_at t bucket ≡ 0 = ap (λ (b : TypedBucket). length b.bucket.items) past in absurd (omega (arith, none, some)))
 ]
 
 pub picks_of : (m : Map) → HasSoundBuckets m → PicksBelow (tables_of m) → ArePicks (IsOf m) (tables_of m)
