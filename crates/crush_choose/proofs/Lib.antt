@@ -1,5 +1,5 @@
 pub mod Least
-pub mod Padding
+pub mod Reweights
 pub mod Growing
 pub mod Placing
 pub mod Reaching
@@ -9,14 +9,3 @@ pub mod Answering
 pub mod Walking
 pub mod Entries
 pub mod Entering
-pub mod Tracing
-pub mod Running
-pub mod Faultless
-pub mod Devices
-pub mod Keeping
-pub mod Lowering
-pub mod Staying
-pub mod OneTrace
-pub mod OneOrder
-pub mod Items
-pub mod OfMap

@@ -1,10 +1,12 @@
-//! choose firstn: items in order, without gaps.
+//! `choose firstn`: items are chosen in order, without gaps.
 
 ghost use Rattle.std.specs.Prelude.{◌≡◌, ◌<◌, ◌≤◌, ◌+◌, ◌++◌, ◌∷◌, [], ◌^◌, length};
 ghost use Rattle.crush_bucket.specs.Tables.{perms_of, bucket_numbered};
 ghost use Rattle.crush_choose.specs.Firstn as spec;
 ghost use Rattle.crush_choose.specs.Firstn.{IsFirstnCall, IsFirstnAnswer};
 ghost use Rattle.crush_choose.specs.Marks.{Marks, items_of, leaves_of};
+ghost use Rattle.crush_map.specs.declared.limits.TheConstants.{TRIES_LIMIT, COUNT_LIMIT, VARY_R_LIMIT};
+ghost use Rattle.crush_choose.specs.declared.limits.TheConstants.{SIZE_LIMIT};
 
 use crate::mark::{Mark, Spot};
 use crate::row::{Row, Slot};
@@ -13,30 +15,30 @@ use crate::weights::{Weights, is_device_in};
 use crush_bucket::{BucketNo, Scratch, Tables};
 use crush_map::ItemId;
 
-/// The parameters of a choose firstn call.
+/// The parameters of a call of `choose_firstn`.
 #[derive(Clone, Copy)]
 pub struct FirstnCall {
     /// The bucket in which walks begin.
     pub bucket: BucketNo,
     /// The input.
     pub x: u32,
-    /// How many reps, 1..64.
+    /// How many reps there are: 1..`COUNT_LIMIT`.
     pub numrep: u32,
-    /// How many items at most, 0..32.
+    /// How many items are chosen at most: 0..`SIZE_LIMIT`.
     pub room: u32,
     /// The number of the wanted type.
     pub wanted: u32,
-    /// Tries of a rep, 1..1000.
+    /// How many tries a rep has: 1..`TRIES_LIMIT`.
     pub tries: u32,
-    /// Tries for a leaf, 0..1000; with 0 no leaf is wanted.
+    /// How many tries a leaf has: 0..`TRIES_LIMIT`; with 0 no leaf is wanted.
     pub leaf_tries: u32,
-    /// `chooseleaf_vary_r`, 0..8.
+    /// `chooseleaf_vary_r`, 0..`VARY_R_LIMIT`.
     pub vary_r: u32,
     /// `chooseleaf_stable`, 0..1.
     pub stable: u32,
 }
 
-/// Whether a slot has an item.
+/// Returns whether a slot has this item.
 pub fn slot_has(slot: Slot, item: ItemId) -> bool
     ensures { result ≡ spec.slot_has item slot }
 {
@@ -46,14 +48,14 @@ pub fn slot_has(slot: Slot, item: ItemId) -> bool
     }
 }
 
-/// Whether an item is in a list.
+/// Returns whether a slot of a list has this item.
 pub fn has(slots: &[Slot], item: ItemId) -> bool
     ensures { result ≡ spec.has slots.now item }
 {
     slots.iter().any(|slot| slot_has(*slot, item))
 }
 
-/// The leaf that one attempt finds below a bucket, if it finds one.
+/// Returns the leaf that one attempt finds below a bucket, if it finds one.
 #[tactic(auto, unfolding(crate::specs::Firstn::leaf_by))]
 fn leaf_by(
     tables: &Tables,
@@ -78,11 +80,12 @@ fn leaf_by(
     }
 }
 
-/// The first attempt for a leaf, from the number of items so far and the attempt that found the bucket.
+/// Returns the first attempt for a leaf below a bucket that attempt r found, after `count` items
+/// were chosen.
 fn leaf_start(call: &FirstnCall, count: u32, r: u32) -> u32
     requires low { r < 2 ^ 16 }
-    requires few { count ≤ 32 }
-    requires vary_r { call.now.vary_r ≤ 8 }
+    requires few { count ≤ SIZE_LIMIT }
+    requires vary_r { call.now.vary_r ≤ VARY_R_LIMIT }
     ensures value { result ≡ spec.leaf_start call.now count r }
     ensures low { result < 2 ^ 17 }
 {
@@ -95,7 +98,7 @@ fn leaf_start(call: &FirstnCall, count: u32, r: u32) -> u32
     base + sub
 }
 
-/// The leaf of the first attempt that finds one.
+/// Returns the leaf of the first attempt that finds one.
 #[tactic(auto, unfolding(crate::specs::Firstn::leaf_below))]
 fn leaf_below(
     tables: &Tables,
@@ -109,7 +112,7 @@ fn leaf_below(
     requires bucket { bucket < length tables.now.buckets }
     requires fits { scratch.old ≡ perms_of tables.now }
     requires low { start < 2 ^ 17 }
-    requires few { call.now.leaf_tries ≤ 1000 }
+    requires few { call.now.leaf_tries ≤ TRIES_LIMIT }
     ensures value { result ≡ spec.leaf_below tables.now weights.now call.now leaves.now bucket start }
     ensures fits { scratch.new ≡ perms_of tables.now }
 {
@@ -122,7 +125,7 @@ fn leaf_below(
     None
 }
 
-/// The leaf of an item that attempt r found, after `count` items were chosen.
+/// Returns the leaf of an item that attempt r found, after `count` items were chosen.
 fn leaf_of(
     tables: &Tables,
     scratch: &mut Scratch,
@@ -135,7 +138,7 @@ fn leaf_of(
 ) -> Option<ItemId>
     requires call { IsFirstnCall tables.now call.now }
     requires fits { scratch.old ≡ perms_of tables.now }
-    requires few { count ≤ 32 }
+    requires few { count ≤ SIZE_LIMIT }
     requires low { r < 2 ^ 16 }
     ensures value { result ≡ spec.leaf_of tables.now weights.now call.now leaves.now count item r (bucket_numbered tables.now item) }
     ensures fits { scratch.new ≡ perms_of tables.now }
@@ -150,7 +153,7 @@ fn leaf_of(
     }
 }
 
-/// One try of a rep, given the items and leaves of smaller reps; none if it fails.
+/// Makes one try of a rep, given the items and leaves of smaller reps. Returns `None` if it fails.
 #[tactic(auto, unfolding(crate::specs::Firstn::firstn_try))]
 fn firstn_try(
     tables: &Tables,
@@ -164,9 +167,9 @@ fn firstn_try(
 ) -> Option<Mark>
     requires call { IsFirstnCall tables.now call.now }
     requires fits { scratch.old ≡ perms_of tables.now }
-    requires few { length items.now ≤ 32 }
-    requires rep { rep ≤ 64 }
-    requires round { round ≤ 1000 }
+    requires few { length items.now ≤ SIZE_LIMIT }
+    requires rep { rep ≤ COUNT_LIMIT }
+    requires round { round ≤ TRIES_LIMIT }
     ensures value { result ≡ spec.firstn_try tables.now weights.now call.now items.now leaves.now rep round }
     ensures fits { scratch.new ≡ perms_of tables.now }
 {
@@ -191,7 +194,7 @@ fn firstn_try(
     Some(Mark::Placed(Spot { round, item, leaf }))
 }
 
-/// The mark of a rep: that of its first try that doesn't fail.
+/// Returns the mark of a rep: that of its first try that doesn't fail.
 #[tactic(auto, unfolding(crate::specs::Firstn::decided))]
 fn decide(
     tables: &Tables,
@@ -204,8 +207,8 @@ fn decide(
 ) -> Option<Mark>
     requires call { IsFirstnCall tables.now call.now }
     requires fits { scratch.old ≡ perms_of tables.now }
-    requires few { length items.now ≤ 32 }
-    requires rep { rep ≤ 64 }
+    requires few { length items.now ≤ SIZE_LIMIT }
+    requires rep { rep ≤ COUNT_LIMIT }
     ensures value { result ≡ spec.decided tables.now weights.now call.now items.now leaves.now rep }
     ensures fits { scratch.new ≡ perms_of tables.now }
 {
@@ -218,7 +221,7 @@ fn decide(
     None
 }
 
-/// The mark of a rep; none if no room is left.
+/// Returns the mark of a rep, and `None` where no room is left.
 fn mark_beside(
     tables: &Tables,
     scratch: &mut Scratch,
@@ -231,7 +234,7 @@ fn mark_beside(
     requires call { IsFirstnCall tables.now call.now }
     requires fits { scratch.old ≡ perms_of tables.now }
     requires few { length items.now ≤ call.now.room }
-    requires rep { rep ≤ 64 }
+    requires rep { rep ≤ COUNT_LIMIT }
     ensures value { result ≡ spec.mark_beside tables.now weights.now call.now items.now leaves.now rep }
     ensures room { length items.now + length (items_of (result ∷ [])) ≤ call.now.room }
     ensures fits { scratch.new ≡ perms_of tables.now }
@@ -245,7 +248,7 @@ fn mark_beside(
 
 /// Appends the item and the leaf of a mark, if it places one.
 fn add(items: &mut Row, leaves: &mut Row, mark: Option<Mark>)
-    requires room { length items.old + length (items_of (mark ∷ [])) ≤ 32 }
+    requires room { length items.old + length (items_of (mark ∷ [])) ≤ SIZE_LIMIT }
     requires even { length leaves.old ≡ length items.old }
     ensures items { items.new ≡ items.old ++ items_of (mark ∷ []) }
     ensures leaves { leaves.new ≡ leaves.old ++ leaves_of (mark ∷ []) }
@@ -260,7 +263,8 @@ fn add(items: &mut Row, leaves: &mut Row, mark: Option<Mark>)
     }
 }
 
-/// Chooses items of a type below a bucket, without gaps, and a leaf for each (`crush_choose_firstn` of Ceph's `mapper.c`).
+/// Chooses items of a type below a bucket, without gaps, and a leaf for each (`crush_choose_firstn`
+/// of Ceph's `mapper.c`).
 ///
 /// Where no leaf is wanted, or where an item is a device, the leaf is the item itself.
 #[tactic(auto, unfolding(crate::specs::Firstn::firstn))]

@@ -1,4 +1,4 @@
-//! choose indep: items at fixed positions, where one that can't be filled stays empty.
+//! `choose indep`: items are chosen at fixed positions; one that can't be filled stays empty.
 
 ghost use Rattle.std.specs.Prelude.{◌≡◌, ◌<◌, ◌≤◌, ◌+◌, ◌++◌, ◌^◌, length, map, None, is_some, replicate};
 ghost use Rattle.std.specs.List.{list_all};
@@ -6,7 +6,9 @@ ghost use Rattle.crush_bucket.specs.Tables.{perms_of, bucket_numbered};
 ghost use Rattle.crush_choose.specs.Marks.{Marks, item_at, leaf_at};
 ghost use Rattle.crush_choose.specs.Indep as spec;
 ghost use Rattle.crush_choose.specs.Indep.{IsIndepCall, IsIndepAnswer};
+ghost use Rattle.crush_map.specs.declared.limits.TheConstants.{TRIES_LIMIT};
 
+use crate::limits::SIZE_LIMIT;
 use crate::mark::{Mark, Spot};
 use crate::row::{Row, Slot};
 use crate::walk::{Attempts, Reached, reach};
@@ -14,26 +16,28 @@ use crate::weights::{Weights, is_device_in};
 use crush_bucket::{BucketNo, Scratch, Tables};
 use crush_map::ItemId;
 
-/// The parameters of a choose indep call.
+/// The parameters of a call of `choose_indep`.
 #[derive(Clone, Copy)]
 pub struct IndepCall {
     /// The bucket in which walks begin.
     pub bucket: BucketNo,
     /// The input.
     pub x: u32,
-    /// How many positions, at most 32 and at most `numrep`.
+    /// How many positions there are: at most `SIZE_LIMIT` and at most `numrep`.
     pub n: u32,
-    /// What each round adds to an attempt, 1..64; one more at some uniform buckets.
+    /// What each round adds to an attempt: 1..`COUNT_LIMIT`. At some uniform buckets it adds one
+    /// more.
     pub numrep: u32,
     /// The number of the wanted type.
     pub wanted: u32,
-    /// How many rounds, 1..1000.
+    /// How many rounds there are: 1..`TRIES_LIMIT`.
     pub tries: u32,
-    /// How many rounds for a leaf, 0..1000; with 0 no leaf is wanted.
+    /// How many rounds a leaf has: 0..`TRIES_LIMIT`; with 0 no leaf is wanted.
     pub leaf_tries: u32,
 }
 
-/// Whether the mark of position q placed the item before the try of position `pos` in this round.
+/// Returns whether the mark of position q placed the item before the try of position `pos` in this
+/// round.
 fn is_taken_at(mark: Option<Mark>, q: u32, round: u32, pos: u32, item: ItemId) -> bool
     ensures { result ≡ spec.is_of item (spec.earlier round pos q mark) }
 {
@@ -49,10 +53,10 @@ fn is_taken_at(mark: Option<Mark>, q: u32, round: u32, pos: u32, item: ItemId) -
     }
 }
 
-/// Whether some position got the item before the try of position `pos` in this round.
+/// Returns whether some position got the item before the try of position `pos` in this round.
 #[tactic(auto, unfolding(crate::specs::Indep::taken))]
 fn taken(marks: &[Option<Mark>], round: u32, pos: u32, item: ItemId) -> bool
-    requires { length marks.now ≤ 32 }
+    requires { length marks.now ≤ SIZE_LIMIT }
     ensures { result ≡ spec.taken marks.now round pos item }
 {
     for q in 0..marks.len() {
@@ -63,7 +67,7 @@ fn taken(marks: &[Option<Mark>], round: u32, pos: u32, item: ItemId) -> bool
     false
 }
 
-/// The leaf that one round finds below a bucket, if it finds one.
+/// Returns the leaf that one round finds below a bucket, if it finds one.
 #[tactic(auto, unfolding(crate::specs::Indep::indep_leaf_by))]
 fn leaf_by(
     tables: &Tables,
@@ -78,7 +82,7 @@ fn leaf_by(
     requires bucket { bucket < length tables.now.buckets }
     requires fits { scratch.old ≡ perms_of tables.now }
     requires low { start < 2 ^ 20 }
-    requires soon { round ≤ 1000 }
+    requires soon { round ≤ TRIES_LIMIT }
     ensures value { result ≡ spec.indep_leaf_by tables.now weights.now call.now bucket start round }
     ensures fits { scratch.new ≡ perms_of tables.now }
 {
@@ -94,7 +98,7 @@ fn leaf_by(
     }
 }
 
-/// The leaf of the first round that finds one.
+/// Returns the leaf of the first round that finds one.
 #[tactic(auto, unfolding(crate::specs::Indep::indep_leaf))]
 fn leaf_below(
     tables: &Tables,
@@ -120,7 +124,7 @@ fn leaf_below(
     None
 }
 
-/// The leaf of an item that attempt r found for a position.
+/// Returns the leaf of an item that attempt r found for a position.
 fn leaf_of(
     tables: &Tables,
     scratch: &mut Scratch,
@@ -132,7 +136,7 @@ fn leaf_of(
 ) -> Option<ItemId>
     requires call { IsIndepCall tables.now call.now }
     requires fits { scratch.old ≡ perms_of tables.now }
-    requires pos { pos < 32 }
+    requires pos { pos < SIZE_LIMIT }
     requires low { r < 2 ^ 16 }
     ensures value { result ≡ spec.indep_leaf_of tables.now weights.now call.now pos item r (bucket_numbered tables.now item) }
     ensures fits { scratch.new ≡ perms_of tables.now }
@@ -144,7 +148,7 @@ fn leaf_of(
     }
 }
 
-/// One try of a position, given the marks of all positions; none if it fails.
+/// Makes one try of a position, given the marks of all positions. Returns `None` if it fails.
 #[tactic(auto, unfolding(crate::specs::Indep::indep_try))]
 fn indep_try(
     tables: &Tables,
@@ -157,9 +161,9 @@ fn indep_try(
 ) -> Option<Mark>
     requires call { IsIndepCall tables.now call.now }
     requires fits { scratch.old ≡ perms_of tables.now }
-    requires few { length marks.now ≤ 32 }
-    requires pos { pos < 32 }
-    requires soon { round ≤ 1000 }
+    requires few { length marks.now ≤ SIZE_LIMIT }
+    requires pos { pos < SIZE_LIMIT }
+    requires soon { round ≤ TRIES_LIMIT }
     ensures value { result ≡ spec.indep_try tables.now weights.now call.now marks.now pos round }
     ensures fits { scratch.new ≡ perms_of tables.now }
 {
@@ -192,9 +196,9 @@ fn try_position(
 )
     requires call { IsIndepCall tables.now call.now }
     requires fits { scratch.old ≡ perms_of tables.now }
-    requires few { length marks.old ≤ 32 }
+    requires few { length marks.old ≤ SIZE_LIMIT }
     requires pos { pos < length marks.old }
-    requires soon { round ≤ 1000 }
+    requires soon { round ≤ TRIES_LIMIT }
     ensures value { marks.new ≡ spec.after_try (spec.indep_try tables.now weights.now call.now) round pos marks.old }
     ensures fits { scratch.new ≡ perms_of tables.now }
 {
@@ -203,7 +207,7 @@ fn try_position(
     }
 }
 
-/// One round: a try of each undecided position, in order.
+/// Makes one round: it tries each undecided position, in order.
 fn run_round(
     tables: &Tables,
     scratch: &mut Scratch,
@@ -215,7 +219,7 @@ fn run_round(
     requires call { IsIndepCall tables.now call.now }
     requires fits { scratch.old ≡ perms_of tables.now }
     requires places { length marks.old ≡ call.now.n }
-    requires soon { round ≤ 1000 }
+    requires soon { round ≤ TRIES_LIMIT }
     ensures value { marks.new ≡ spec.in_round (spec.indep_try tables.now weights.now call.now) round call.now.n marks.old }
     ensures places { length marks.new ≡ call.now.n }
     ensures fits { scratch.new ≡ perms_of tables.now }
@@ -231,7 +235,7 @@ fn all_decided(marks: &[Option<Mark>]) -> bool
     marks.iter().all(|mark| mark.is_some())
 }
 
-/// The rounds, until each position is decided or there is none left.
+/// Makes the rounds, until each position is decided or there is none left.
 #[tactic(auto, unfolding(crate::specs::Indep::indep))]
 fn run_rounds(
     tables: &Tables,
@@ -277,7 +281,7 @@ fn leaf_at(mark: Option<Mark>) -> Slot
 
 /// Puts the items and the leaves of marks into rows.
 fn fill(items: &mut Row, leaves: &mut Row, marks: &[Option<Mark>])
-    requires { length marks.now ≤ 32 }
+    requires { length marks.now ≤ SIZE_LIMIT }
     ensures items { items.new ≡ map item_at marks.now }
     ensures leaves { leaves.new ≡ map leaf_at marks.now }
 {
@@ -289,8 +293,8 @@ fn fill(items: &mut Row, leaves: &mut Row, marks: &[Option<Mark>])
     }
 }
 
-/// Chooses items of a type below a bucket, each at its position, and a leaf for each; a position for which no try succeeds is left empty
-/// (`crush_choose_indep` of Ceph's `mapper.c`).
+/// Chooses items of a type below a bucket, each at its position, and a leaf for each; a position
+/// for which no try succeeds is left empty (`crush_choose_indep` of Ceph's `mapper.c`).
 ///
 /// Where no leaf is wanted, or where an item is a device, the leaf is the item itself.
 pub fn choose_indep(
@@ -311,7 +315,7 @@ pub fn choose_indep(
     ensures even { length leaves.new ≡ call.now.n }
     ensures fits { scratch.new ≡ perms_of tables.now }
 {
-    let mut row = [None; 32];
+    let mut row = [None; SIZE_LIMIT];
     let marks = &mut row[..call.n as usize];
     run_rounds(tables, scratch, weights, call, marks);
     fill(items, leaves, marks);
