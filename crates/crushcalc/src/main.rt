@@ -12,7 +12,7 @@ use std::{env, io};
 
 /// The program's version, and the line of `rt version` of the toolchain that proves and builds it
 /// (`tests/run` compares it).
-const VERSION: &str = "0.1.0\nrattle-kit-13b logic dac8208d650f15bf";
+const VERSION: &str = "0.1.0\nrattle-kit-13f logic dac8208d650f15bf";
 
 /// The end of the help of `check`: its line, and each code in a line of its own (`docs/MAPS.md` has
 /// more of each).
