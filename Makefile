@@ -12,8 +12,8 @@ build: crushcalc
 
 help:
 	@echo 'make build     proves the crates of the program and builds it as ./crushcalc, optimised (the first time: some 35 minutes)'
-	@echo 'make try       plays examples/first.script, or the file SCRIPT=FILE, with no proof: each request with its reply, in a minute'
-	@echo 'make cases     plays the scripts of tests/cases, or those with CASES=WORD in their names, with no proof, and compares their replies, in a minute'
+	@echo 'make try       plays examples/first.script, or the file SCRIPT=FILE, with no proof: each request with its reply, in a minute or two'
+	@echo 'make cases     plays the scripts of tests/cases, or those with CASES=WORD in their names, with no proof, and compares their replies, in a minute or two'
 	@echo 'make run       builds, and serves examples/first.script or SCRIPT=FILE: each request with its reply'
 	@echo 'make test      every proof from nothing, tests, the program from end to end, and the edits that must fail of each crate that changed'
 	@echo 'make gate      the same with every edit that must fail'
@@ -66,7 +66,7 @@ SHOW = awk '$$0 != "" && $$0 != "\r" { print "> " $$0; getline reply <"build/rep
 try: tools
 	@mkdir -p build
 	@[ -r '$(SCRIPT)' ] || { echo "There is no file '$(SCRIPT)' to play." >&2; exit 1; }
-	@echo 'Playing $(SCRIPT) with no proof: 20 to 60 seconds. Nothing is proved by this; make run proves the program and builds it.'
+	@echo 'Playing $(SCRIPT) with no proof: a minute or two. Nothing is proved by this; make run proves the program and builds it.'
 	@script=$$(realpath '$(SCRIPT)') && cd crates/crushcalc && $(RT) try -- script <"$$script" >../../build/replies 2>../../build/try.log || { tail -n 30 build/try.log; exit 1; }
 	@$(SHOW)
 
@@ -75,7 +75,7 @@ cases: tools
 	@rm -rf build/cases && mkdir -p build/cases
 	@for it in tests/cases/*$(CASES)*.in; do name=$$(basename "$$it" .in); \
 	  cp "tests/cases/$$name.in" "build/cases/$$name" && cp "tests/cases/$$name.out" "build/cases/$$name.stdout" || exit 1; done
-	@echo 'Playing $(if $(CASES),the scripts of tests/cases with $(CASES) in their names,the scripts of tests/cases) with no proof: a minute.'
+	@echo 'Playing $(if $(CASES),the scripts of tests/cases with $(CASES) in their names,the scripts of tests/cases) with no proof: a minute or two.'
 	@cd crates/crushcalc && $(RT) try --cases ../../build/cases -- script
 
 run: build
