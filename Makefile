@@ -3,6 +3,8 @@
 RT = rt
 PREFIX = /usr/local
 CRATES =
+SCRIPT = examples/first.script
+CASES =
 SOURCES = $(shell find crates -name out -prune -o \( -name '*.rt' -o -name '*.antt' \) -print)
 
 build: crushcalc
@@ -10,8 +12,9 @@ build: crushcalc
 
 help:
 	@echo 'make build     proves the crates of the program and builds it as ./crushcalc, optimised (the first time: some 35 minutes)'
-	@echo 'make try       plays examples/first.script in a minute, with no proof'
-	@echo 'make run       builds, and serves examples/first.script: each request with its reply'
+	@echo 'make try       plays examples/first.script, or the file SCRIPT=FILE, with no proof: each request with its reply, in a minute or two'
+	@echo 'make cases     plays the scripts of tests/cases, or those with CASES=WORD in their names, with no proof, and compares their replies, in a minute or two'
+	@echo 'make run       builds, and serves examples/first.script or SCRIPT=FILE: each request with its reply'
 	@echo 'make test      every proof from nothing, tests, the program from end to end, and the edits that must fail of each crate that changed'
 	@echo 'make gate      the same with every edit that must fail'
 	@echo 'make wrong     tries the edits of the crates that changed, or of CRATES="NAME..", and records what refused them;'
@@ -57,18 +60,27 @@ build/crush_bench: $(SOURCES) crates.txt HANDLES | tools
 	@(cd crates/crush_bench && $(RT) run -- small) >build/bench.txt 2>build/bench.log || { tail -n 30 build/bench.log; echo 'The build failed; the whole log is build/bench.log.' >&2; exit 1; }
 	@cp crates/crush_bench/out/crush_bench build/crush_bench
 
-# a script's lines, each with its reply
-SHOW = awk '$$0 != "" { print "> " $$0; getline reply <"build/first.replies"; print reply }' examples/first.script
+# a script's lines, each with its reply; an empty line has none
+SHOW = awk '$$0 != "" && $$0 != "\r" { print "> " $$0; getline reply <"build/replies"; print reply }' '$(SCRIPT)'
 
 try: tools
 	@mkdir -p build
-	@echo 'Playing examples/first.script with no proof: 20 to 60 seconds. Nothing is proved by this; make run proves the program and builds it.'
-	@(cd crates/crushcalc && $(RT) try -- script <../../examples/first.script) >build/first.replies 2>build/try.log || { tail -n 30 build/try.log; exit 1; }
+	@[ -r '$(SCRIPT)' ] || { echo "There is no file '$(SCRIPT)' to play." >&2; exit 1; }
+	@echo 'Playing $(SCRIPT) with no proof: a minute or two. Nothing is proved by this; make run proves the program and builds it.'
+	@script=$$(realpath '$(SCRIPT)') && cd crates/crushcalc && $(RT) try -- script <"$$script" >../../build/replies 2>../../build/try.log || { tail -n 30 build/try.log; exit 1; }
 	@$(SHOW)
 
+# rt try takes a folder of inputs, each beside what has to be written
+cases: tools
+	@rm -rf build/cases && mkdir -p build/cases
+	@for it in tests/cases/*$(CASES)*.in; do name=$$(basename "$$it" .in); \
+	  cp "tests/cases/$$name.in" "build/cases/$$name" && cp "tests/cases/$$name.out" "build/cases/$$name.stdout" || exit 1; done
+	@echo 'Playing $(if $(CASES),the scripts of tests/cases with $(CASES) in their names,the scripts of tests/cases) with no proof: a minute or two.'
+	@cd crates/crushcalc && $(RT) try --cases ../../build/cases -- script
+
 run: build
-	@echo 'Serving examples/first.script:'
-	@./crushcalc script <examples/first.script >build/first.replies
+	@echo 'Serving $(SCRIPT):'
+	@./crushcalc script <'$(SCRIPT)' >build/replies
 	@$(SHOW)
 
 test: tools
@@ -113,4 +125,4 @@ clean:
 	@echo 'Removing ./crushcalc, build/ and crates/*/out; the next build proves everything anew.'
 	@rm -rf crushcalc build crates/*/out
 
-.PHONY: build help tools try run test gate wrong form install serve ceph-check bench bench-deps clean
+.PHONY: build help tools try cases run test gate wrong form install serve ceph-check bench bench-deps clean

@@ -1,19 +1,27 @@
 #!/usr/bin/env python3
-"""Checks the pages (*.md), which needs no built program: their lines are short, what they quote is what stands in the sources, and their
-links lead somewhere.
+"""Checks the pages (*.md) and the comments of the sources, which needs no built program.
 
-usage: tests/pages.py [WORD..]      with WORDs only the pages whose names have one
+usage: tests/pages.py [WORD..]      with WORDs only the checks whose names have one, as REQUESTS, limits or crush_map
 
 - A line has at most 100 characters. Tables, code and a line that is one link may be longer.
 - A fenced block whose first line ends in 'from FILE', as in ```rust from crates/crush_app/src/play.rt, is a quote. Its lines stand together
   in that file, whose path begins at the top of the repository, blanks and all.
 - A link to a file, or to a heading of a page, leads to one that is there.
+- The table of limits in docs/REQUESTS.md has a row for each limit, with its const and crate: `pub const NAME: TYPE = NUMBER;` in
+  crates/CRATE/src/limits.rt. The numbers are the same. (A const that is computed from others has no row.)
+- README and some pages of docs/ have a greatest number of lines, and the table of words in docs/ARCHITECTURE.md one of rows.
+- A comment in crates/*/src, specs and proofs has at most 100 characters a line.
+- docs/DEFINITIONS.md lists the definitions that public clauses cite (cited.py).
 
-tests/run runs these checks with its own. The last line is 'N passed, M failed', pages.
+tests/run runs these checks with its own. The last line is 'N passed, M failed': pages, the limits, crates, and the list of definitions.
 """
 import pathlib
 import re
 import sys
+
+sys.dont_write_bytecode = True
+sys.path.insert(0, str(pathlib.Path(__file__).resolve().parent))
+import cited  # noqa: E402
 
 TOP = pathlib.Path(__file__).resolve().parent.parent
 FOLDERS = ("docs", "examples", "bench", "tests")
@@ -21,6 +29,13 @@ LONGEST = 100
 FENCE, INDENT = "```", ("    ", "\t")
 QUOTED = re.compile(r"^```\w* from (\S+)$")
 LINK = re.compile(r"\[[^\]]*\]\(([^)\s]*)\)")
+CONST = re.compile(r"^pub const (\w+): \w+ = (-?[\d_]+);$")
+LIMITED = re.compile(r"^\|[^|]*\| (-?[\d,]+) \| `(\w+)` \| `(\w+)` \|$")
+LIMITS = "docs/REQUESTS.md"
+WORDS = "## Words that mean something special here"
+MOST_LINES = {"README.md": 110, "docs/ARCHITECTURE.md": 130, "docs/STATUS.md": 40}
+MOST_WORDS = 25
+COMMENTS = {".rt": ("//",), ".antt": ("--",)}
 LINK_ALONE = re.compile(r"^[-\s]*\[[^\]]*\]\([^)]*\)[.,;:]?$")
 
 
@@ -89,30 +104,96 @@ def wrong_links(page, prose):
                 yield f"line {number}: the link {target} leads to no heading"
 
 
-def faults(page):
-    prose, blocks = parts((TOP / page).read_text())
+def long_page(page, text):
+    lines = len(text.splitlines())
+    if lines > MOST_LINES.get(page, lines):
+        yield f"line {lines}: the page may have {MOST_LINES[page]} lines"
+    if WORDS in text:
+        first = text[: text.index(WORDS)].count("\n") + 1
+        rows = [line for line in text.split(WORDS)[1].split("\n## ")[0].splitlines() if line.startswith("|")][2:]
+        words = [word for row in rows for word in row.split("|")[1].split(",")]
+        if len(words) > MOST_WORDS:
+            yield f"line {first}: the table has {len(words)} words, of which it may have {MOST_WORDS}"
+
+
+def page_faults(page):
+    text = (TOP / page).read_text()
+    prose, blocks = parts(text)
     yield from long_lines(prose)
     yield from wrong_quotes(blocks)
     yield from wrong_links(page, prose)
+    yield from long_page(page, text)
+
+
+def limits():
+    """The limits of the sources: of each crate and const, where it stands and its number."""
+    for source in sorted(TOP.glob("crates/*/src/limits.rt")):
+        for number, line in enumerate(source.read_text().splitlines(), 1):
+            const = CONST.match(line)
+            if const:
+                yield (source.parts[-3], const[1]), (f"{source.relative_to(TOP)}: line {number}", int(const[2]))
+
+
+def limit_faults():
+    there, listed = dict(limits()), set()
+    for number, line in enumerate((TOP / LIMITS).read_text().splitlines(), 1):
+        row = LIMITED.match(line)
+        if row is None:
+            continue
+        place, value, key = f"{LIMITS}: line {number}", int(row[1].replace(",", "")), (row[3], row[2])
+        if key in listed:
+            yield f"{place}: {row[2]} of {row[3]} has a second row"
+        elif key not in there:
+            yield f"{place}: there is no number {row[2]} in crates/{row[3]}/src/limits.rt"
+        elif there[key][1] != value:
+            yield f"{place}: {row[2]} is {there[key][1]:,} in {there[key][0]}"
+        listed.add(key)
+    for (crate, name), (place, _) in there.items():
+        if (crate, name) not in listed:
+            yield f"{place}: {name} of {crate} has no row in {LIMITS}"
+
+
+def comment_faults(crate):
+    """Lines of comments that are too long, in the sources, definitions and proofs of a crate."""
+    for part in ("src", "specs", "proofs"):
+        for source in sorted((TOP / "crates" / crate / part).rglob("*")):
+            for number, line in enumerate(source.read_text().splitlines() if source.suffix in COMMENTS else (), 1):
+                if len(line) > LONGEST and line.lstrip().startswith(COMMENTS[source.suffix]):
+                    yield f"{source.relative_to(TOP)}: line {number} is a comment of {len(line)} characters"
+
+
+def cited_faults():
+    why = cited.wrong()
+    if why:
+        yield f"docs/DEFINITIONS.md: {why}"
+
+
+def checks():
+    """What is checked: its name, and its faults, each with its place."""
+    for page in pages():
+        yield f"the page {page}", (f"{page}: {why}" for why in page_faults(page))
+    yield "the table of limits", limit_faults()
+    yield "the definitions that are cited", cited_faults()
+    for crate in sorted(path.name for path in (TOP / "crates").iterdir() if path.is_dir()):
+        yield f"the comments of {crate}", comment_faults(crate)
 
 
 def outcomes(words):
-    """Each page, or those whose names have one of the words: what is checked, and its first fault, or None."""
-    for page in pages():
-        name = f"the page {page}"
+    """Each check, or those whose names have one of the words: what is checked, and its first fault, or None."""
+    for name, faults in checks():
         if not words or any(it in name for it in words):
-            yield name, next(faults(page), None)
+            yield name, next(faults, None)
 
 
 def main(words):
     passed = failed = 0
-    for page in pages():
-        if words and not any(it in page for it in words):
+    for name, faults in checks():
+        if words and not any(it in name for it in words):
             continue
-        found = list(faults(page))
+        found = list(faults)
         passed, failed = passed + (not found), failed + bool(found)
         for why in found:
-            print(f"FAIL {page}: {why}")
+            print(f"FAIL {why}")
     print(f"{passed} passed, {failed} failed")
     return 1 if failed or not passed else 0
 

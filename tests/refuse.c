@@ -1,5 +1,5 @@
-/* Refuses memory once: preloaded into a program (LD_PRELOAD), this answers its REFUSE_AT-th growth with NULL, and writes a
-   zero byte to the file descriptor REFUSE_FD as it does. A growth is a call of malloc or realloc with a size above 0, the
+/* Refuses memory once: preloaded into a program (LD_PRELOAD), this answers its REFUSE_AT-th allocation with NULL, and writes a
+   zero byte to the file descriptor REFUSE_FD as it does. An allocation is a call of malloc or realloc with a size above 0, the
    first has number 1, and none is refused without REFUSE_AT. Counting begins when this library is started: the loader has
    done its work by then, and what follows is the program. Takes glibc's own names of both functions, and no header. */
 typedef __SIZE_TYPE__ size;
@@ -13,7 +13,7 @@ __PTRDIFF_TYPE__ write(int, const void *, size);
 
 enum { NO_MEMORY = 12 };
 
-static int refuse_at, refuse_fd, growths;
+static int refuse_at, refuse_fd, allocations;
 
 __attribute__((constructor)) static void start(void)
 {
@@ -24,7 +24,7 @@ __attribute__((constructor)) static void start(void)
 
 static int is_refused(size bytes)
 {
-    if (refuse_at == 0 || bytes == 0 || ++growths != refuse_at)
+    if (refuse_at == 0 || bytes == 0 || ++allocations != refuse_at)
         return 0;
     write(refuse_fd, "", 1);
     *__errno_location() = NO_MEMORY;

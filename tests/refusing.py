@@ -1,4 +1,4 @@
-"""Runs of a program with one of its growths of memory refused, by the library that refuse.c is compiled to."""
+"""Runs of a program with one of its allocations refused, by the library that refuse.c is compiled to."""
 import functools
 import os
 import pathlib
@@ -28,8 +28,8 @@ def refuser():
     return top, library
 
 
-def refused_run(command, growth, mark, seconds, stdin=None):
-    """Runs a command with this growth refused, if it comes to it: a zero byte then goes to the file descriptor `mark`."""
+def refused_run(command, allocation, mark, seconds, stdin=None):
+    """Runs a command with this allocation refused, if it comes to it: a zero byte then goes to the file descriptor `mark`."""
     top, library = refuser()
-    env = {**os.environ, "LD_PRELOAD": library, "REFUSE_AT": str(growth), "REFUSE_FD": str(mark)}
+    env = {**os.environ, "LD_PRELOAD": library, "REFUSE_AT": str(allocation), "REFUSE_FD": str(mark)}
     return subprocess.run(command, stdin=stdin, stdout=subprocess.PIPE, stderr=subprocess.PIPE, cwd=top, env=env, timeout=seconds)

@@ -9,6 +9,7 @@ use Rattle.crush_grammar.specs.declared.code.TextFault.{TextFault}
 use Rattle.crush_grammar.specs.declared.code.TextCode.TheVariants.{X7}
 use Rattle.crush_text.specs.Codes.{code_text}
 use Rattle.crush_text.specs.MapText.{IsShort, IsTextOf, HasFirstFault, IsRefusedFor}
+use Rattle.crush_app.specs.declared.limits.TheConstants.{TEXT_LIMIT}
 use Rattle.crush_app.specs.Input.{OfInput}
 use Rattle.crush_app.specs.Play.{AppendsPart}
 use Rattle.crush_app.specs.Check.{accepted_line, refused_line, IsLineFor}
@@ -27,7 +28,7 @@ refused_is code f same = rw same refl
 
 -- ---- long texts
 
-pub long_line : (line : List ℕ) → line ≡ refused_line (record { line = 1; code = X7 }) → (text : List ℕ) → 524288 < length text → IsVerdict false text line
+pub long_line : (line : List ℕ) → line ≡ refused_line (record { line = 1; code = X7 }) → (text : List ℕ) → TEXT_LIMIT < length text → IsVerdict false text line
 long_line line is text long = record { fault = record { line = 1; code = X7 }; refused = inl (long, refl); is = is }
 
 -- ---- what is written, of what was read
@@ -42,12 +43,12 @@ pub accepted_end : (known old new : Option (List ℕ)) (line : List ℕ) (accept
 accepted_end known old new line accepted same read written = of_input known (accepted_says old new line accepted same written) read
 
 refused_says : (old new : Option (List ℕ)) (line : List ℕ) (accepted : Bool) → accepted ≡ false → Appends old new line
-    → (input : List ℕ) → IsVerdict accepted input line → (f : TextFault) × IsRefusedFor input f × ((f.code ≡ X7) ↔ (524288 < length input)) × Appends old new (refused_line f)
+    → (input : List ℕ) → IsVerdict accepted input line → (f : TextFault) × IsRefusedFor input f × ((f.code ≡ X7) ↔ (TEXT_LIMIT < length input)) × Appends old new (refused_line f)
 refused_says old new line false same written input says = (says.fault, says.refused, exactly_long input says.fault says.refused, rw says.is at written)
 refused_says old new line true same written input says = let both : true ≡ false = same in cc
 
 pub refused_end : (known old new : Option (List ℕ)) (line : List ℕ) (accepted : Bool) → accepted ≡ false → OfInput known (λ input. IsVerdict accepted input line) → Appends old new line
-    → OfInput known (λ input. (f : TextFault) × IsRefusedFor input f × ((f.code ≡ X7) ↔ (524288 < length input)) × Appends old new (refused_line f))
+    → OfInput known (λ input. (f : TextFault) × IsRefusedFor input f × ((f.code ≡ X7) ↔ (TEXT_LIMIT < length input)) × Appends old new (refused_line f))
 refused_end known old new line accepted same read written = of_input known (refused_says old new line accepted same written) read
 
 line_for : (accepted : Bool) (input line : List ℕ) → IsVerdict accepted input line → IsLineFor input line

@@ -2,7 +2,8 @@
 use Rattle.std.proofs.Common.{◌≡◌, ℕ, ◌+◌, ◌≤◌, ◌<◌, List, [], ◌++◌, length, Option, Some, None, IfSome, refl, subst, sym, ap, ◌∙◌, arith, length-append}
 use Rattle.std.proofs.lemmas.List.{append-nil}
 use Rattle.crush_app.specs.Input.{OfInput}
-use Rattle.crush_app.specs.Script.{OfScript, input_limit}
+use Rattle.crush_app.specs.declared.limits.TheConstants.{SCRIPT_LIMIT}
+use Rattle.crush_app.specs.Script.{OfScript}
 use Rattle.crush_app.specs.Private.Reading.{IsReadUpTo}
 
 -- what was read is the whole input, where it isn't one byte more than the limit
@@ -31,7 +32,7 @@ of_known None P said = tt
 of_known (Some xs) P said = subst P said.same said.holds
 
 -- what holds of the bytes that were read
-pub of_read : (known : Option (List ℕ)) (P : List ℕ → Type 0) (read : List ℕ) → OfInput known (λ input. (read ≡ input) × (length input ≤ input_limit)) → P read → OfScript known P
+pub of_read : (known : Option (List ℕ)) (P : List ℕ → Type 0) (read : List ℕ) → OfInput known (λ input. (read ≡ input) × (length input ≤ SCRIPT_LIMIT)) → P read → OfScript known P
 of_read known P read said holds = of_input known (λ input both. (both.1, subst P both.0 holds)) said
 
 -- known bytes are then as short, or as long

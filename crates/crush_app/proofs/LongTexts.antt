@@ -9,6 +9,7 @@ use Rattle.crush_grammar.specs.declared.code.TextCode.TheVariants.{X1, X2, X3, X
 use Rattle.crush_grammar.specs.declared.code.TextFault.{TextFault}
 use Rattle.crush_grammar.specs.declared.declaration.Declaration.{Declaration}
 use Rattle.crush_grammar.specs.declared.declaration.Declaration.TheVariants.{Tunable, Device, TypeName, Bucket, Rule}
+use Rattle.crush_app.specs.declared.limits.TheConstants.{TEXT_LIMIT}
 use Rattle.crush_text.specs.Judging.{Declared, nothing_declared, declared, declare, at_line, declaration_fault, declared_bucket_fault, fault_from, declared_fault, last_fault}
 use Rattle.crush_text.specs.MapText.{IsRefusedFor}
 
@@ -69,7 +70,7 @@ no_form ws ds f x (inr (front, whole, is, declares)) =
 
 -- ---- texts
 
-only_long : (input : List ℕ) (f : TextFault) → IsRefusedFor input f → f.code ≡ X7 → 524288 < length input
+only_long : (input : List ℕ) (f : TextFault) → IsRefusedFor input f → f.code ≡ X7 → TEXT_LIMIT < length input
 only_long input f (inl (long, is)) x = long
 only_long input f (inr (short, inl h)) x =
     absurd (neither (declared_fault h.declarations) (last_fault (last_line 1 (words input)) (declared h.declarations)) f
@@ -78,9 +79,9 @@ only_long input f (inr (short, inr h)) x =
     absurd (neither (declared_fault h.declarations) (Some h.at) f (no_declarations nothing_declared h.declarations f x)
     (λ e. let same : h.at ≡ f = cc in no_form (words input) h.declarations h.at (ap (λ g. g.code) same ∙ x) h.breaks) h.first)
 
-always_long : (input : List ℕ) (f : TextFault) → IsRefusedFor input f → 524288 < length input → f.code ≡ X7
+always_long : (input : List ℕ) (f : TextFault) → IsRefusedFor input f → TEXT_LIMIT < length input → f.code ≡ X7
 always_long input f (inl (also, is)) long = ap (λ g. g.code) is
 always_long input f (inr (short, fault)) long = absurd (omega (arith, short, long))
 
-pub exactly_long : (input : List ℕ) (f : TextFault) → IsRefusedFor input f → (f.code ≡ X7) ↔ (524288 < length input)
+pub exactly_long : (input : List ℕ) (f : TextFault) → IsRefusedFor input f → (f.code ≡ X7) ↔ (TEXT_LIMIT < length input)
 exactly_long input f refused = (only_long input f refused, always_long input f refused)

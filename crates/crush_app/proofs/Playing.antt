@@ -9,7 +9,8 @@ use Rattle.tenant_messages.specs.declared.reply.Reply.{Reply}
 use Rattle.tenant_core.proofs.Running.{run_both, run_one, run_none}
 use Rattle.crush_app.specs.Play.{Plays, PlaysUpTo, WritesHeadline, AppendsPart}
 use Rattle.crush_app.specs.Input.{OfInput}
-use Rattle.crush_app.specs.Script.{bad_line, call_of_line, calls_in, input_limit, is_nonempty, messages_in, messages, OfScript, output, wire}
+use Rattle.crush_app.specs.declared.limits.TheConstants.{SCRIPT_LIMIT}
+use Rattle.crush_app.specs.Script.{bad_line, call_of_line, calls_in, is_nonempty, messages_in, messages, OfScript, output, wire}
 use Rattle.crush_app.proofs.Inputs.{of_read}
 use Rattle.crush_app.proofs.Writing.{appends_both, appends_none}
 
@@ -203,14 +204,14 @@ headline_part old new ms a b plays = record {
 
 -- ---- the input that was read
 
-pub script_played : (known : Option (List ℕ)) (read : List ℕ) (old new : States) (a b : Option (List ℕ)) → OfInput known (λ input. (read ≡ input) × (length input ≤ input_limit))
+pub script_played : (known : Option (List ℕ)) (read : List ℕ) (old new : States) (a b : Option (List ℕ)) → OfInput known (λ input. (read ≡ input) × (length input ≤ SCRIPT_LIMIT))
     → Plays old new (messages read) a b → OfScript known (λ input. Plays old new (messages input) a b)
 script_played known read old new a b said plays = of_read known (λ input. Plays old new (messages input) a b) read said plays
 
-pub script_cut_off : (known : Option (List ℕ)) (read : List ℕ) (old new : States) (a b : Option (List ℕ)) → OfInput known (λ input. (read ≡ input) × (length input ≤ input_limit))
+pub script_cut_off : (known : Option (List ℕ)) (read : List ℕ) (old new : States) (a b : Option (List ℕ)) → OfInput known (λ input. (read ≡ input) × (length input ≤ SCRIPT_LIMIT))
     → PlaysUpTo old new (messages read) a b → OfScript known (λ input. PlaysUpTo old new (messages input) a b)
 script_cut_off known read old new a b said plays = of_read known (λ input. PlaysUpTo old new (messages input) a b) read said plays
 
-pub script_written : (known : Option (List ℕ)) (read : List ℕ) (old : States) (a b : Option (List ℕ)) → OfInput known (λ input. (read ≡ input) × (length input ≤ input_limit))
+pub script_written : (known : Option (List ℕ)) (read : List ℕ) (old : States) (a b : Option (List ℕ)) → OfInput known (λ input. (read ≡ input) × (length input ≤ SCRIPT_LIMIT))
     → WritesHeadline old (messages read) a b → OfScript known (λ input. WritesHeadline old (messages input) a b)
 script_written known read old a b said writes = of_read known (λ input. WritesHeadline old (messages input) a b) read said writes

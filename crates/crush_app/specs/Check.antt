@@ -41,7 +41,7 @@ WritesLine (Ok ReadFault) = ⊥
 WritesLine (Ok WriteFault) = ⊥
 WritesLine (Err e) = ⊥
 
--- the text was not read, or memory was wanting, so that no line was begun
+-- the text wasn't read, or an allocation failed, so that no line was begun
 abbrev pub WritesNothing : Result CheckEnd AllocError → Type 0
 WritesNothing (Ok Accepted) = ⊥
 WritesNothing (Ok Refused) = ⊥

@@ -4,6 +4,7 @@ use Rattle.std.specs.List.{list_any, before_first, after_first}
 use Rattle.std.specs.Str.{is_utf8}
 use Rattle.std.specs.Str.Lines.{lines}
 use Rattle.crush_app.specs.Input.{OfInput}
+use Rattle.crush_app.specs.declared.limits.TheConstants.{SCRIPT_LIMIT}
 use Rattle.tenant_messages.specs.Reply.{reply, refused}
 use Rattle.tenant_messages.specs.declared.call.Call.{Call}
 use Rattle.tenant_messages.specs.declared.reply.Reply.{Reply}
@@ -45,7 +46,8 @@ calls_in (Some call ∷ ms) = call ∷ calls_in ms
 
 -- ---- from replies to bytes
 
--- the body as it is written. A reply for want of memory has no body, so its text is put in here
+-- the body as it is written. A reply for a failed allocation has an empty body, and its text stands
+-- here
 abbrev pub shown_body : List ℕ → List ℕ
 shown_body [] = codes "{\"error\":\"no_memory\"}"
 shown_body (b ∷ body) = b ∷ body
@@ -67,11 +69,7 @@ output (Some call ∷ ms) (replied ∷ replies) = wire replied ++ output ms repl
 
 -- ---- the input
 
--- the longest input, in bytes
-abbrev pub input_limit : ℕ
-input_limit = 67108864
-
 -- this holds of an input that isn't too long, which is what the reader had, where its bytes are
 -- known
 abbrev pub OfScript : Option (List ℕ) → (List ℕ → Type 0) → Type 0
-OfScript bytes Holds = OfInput bytes (λ input. (length input ≤ input_limit) × Holds input)
+OfScript bytes Holds = OfInput bytes (λ input. (length input ≤ SCRIPT_LIMIT) × Holds input)

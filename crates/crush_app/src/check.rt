@@ -1,17 +1,19 @@
 //! Checks of map texts.
 
-ghost use Rattle.std.specs.Prelude.{◌≡◌, ◌≤◌, ◌<◌, ◌↔◌, ℕ, List, IfOk, IfSome, string_bytes, length};
+ghost use Rattle.std.specs.Prelude.{◌≡◌, ◌≤◌, ◌<◌, ◌+◌, ◌↔◌, ℕ, List, IfOk, IfSome, string_bytes, length};
 ghost use Rattle.std.specs.Io.KnownBytes.{Keeps as KeepsBytes, Appends};
 ghost use Rattle.crush_map.specs.Map.{Map};
 ghost use Rattle.crush_text.specs.MapText.{IsShort, IsTextOf, IsRefusedFor};
 ghost use Rattle.crush_grammar.specs.declared.code.TextCode.TheVariants.{X7};
 ghost use Rattle.crush_grammar.specs.declared.code.TextFault as spec_fault;
+ghost use Rattle.crush_app.specs.declared.limits.TheConstants.{TEXT_LIMIT};
 ghost use Rattle.crush_app.specs.Input.{OfInput, DropsFirst};
 ghost use Rattle.crush_app.specs.Play.{AppendsPart};
 ghost use Rattle.crush_app.specs.Check.{accepted_line as line_of_map, refused_line as line_of_fault, IsLineFor, WritesLine, WritesNothing, HasVerdict};
 ghost use Rattle.crush_app.specs.Private.Verdict.{IsVerdict};
 
 use crate::input::{InputFault, read_input};
+use crate::limits::TEXT_LIMIT;
 use crate::wire::write_whole;
 use crush_map::CrushMap;
 use crush_text::{
@@ -20,9 +22,6 @@ use crush_text::{
 };
 use std::alloc::{AllocError, Global};
 use std::io::{Read, Write};
-
-/// The longest text, in bytes.
-const TEXT_LIMIT: u32 = 524_288;
 
 /// How a check ended.
 #[derive(Clone, Copy, Debug, PartialEq, Eq)]
@@ -37,13 +36,15 @@ pub enum CheckEnd {
     WriteFault,
 }
 
-/// The line for a text, and whether the text is a map's.
+/// What a check says of a text: its line, and whether the text is a map's.
 #[derive(Drop)]
 struct Verdict {
     line: String,
     accepted: bool,
 }
 
+/// Returns the line of a map: how many devices, buckets and rules it has. `Err(AllocError)`: an
+/// allocation failed; nothing is changed.
 fn accepted_line(alloc: Global, map: &CrushMap) -> Result<String, AllocError>
     ensures { IfOk result (λ line. string_bytes line ≡ line_of_map map.now) }
 {
@@ -53,6 +54,8 @@ fn accepted_line(alloc: Global, map: &CrushMap) -> Result<String, AllocError>
     format!(in alloc; "ok devices {devices} buckets {buckets} rules {rules}\n")
 }
 
+/// Returns the line of a fault: the number of its line and its code. `Err(AllocError)`: an
+/// allocation failed; nothing is changed.
 fn refused_line(alloc: Global, fault: TextFault) -> Result<String, AllocError>
     ensures { IfOk result (λ line. string_bytes line ≡ line_of_fault fault) }
 {
@@ -61,6 +64,7 @@ fn refused_line(alloc: Global, fault: TextFault) -> Result<String, AllocError>
     format!(in alloc; "refused line {line} code {code}\n")
 }
 
+/// Returns the verdict on a text. `Err(AllocError)`: an allocation failed; nothing is changed.
 fn verdict_on(alloc: Global, text: &[u8]) -> Result<Verdict, AllocError>
     ensures { IfOk result (λ v. IsVerdict v.accepted text.now (string_bytes v.line)) }
 {
@@ -76,10 +80,11 @@ fn verdict_on(alloc: Global, text: &[u8]) -> Result<Verdict, AllocError>
     }
 }
 
-/// The verdict on a text that is too long to be read.
+/// Returns the verdict on a text that is longer than the limit. `Err(AllocError)`: an allocation
+/// failed; nothing is changed.
 #[tactic(auto, using(crate::proofs::Checking::long_line))]
 fn too_long(alloc: Global) -> Result<Verdict, AllocError>
-    ensures { IfOk result (λ v. (text : List ℕ) → 524288 < length text → IsVerdict v.accepted text (string_bytes v.line)) }
+    ensures { IfOk result (λ v. (text : List ℕ) → TEXT_LIMIT < length text → IsVerdict v.accepted text (string_bytes v.line)) }
 {
     let fault = TextFault {
         line: 1,
@@ -92,10 +97,11 @@ fn too_long(alloc: Global) -> Result<Verdict, AllocError>
     })
 }
 
-/// The verdict on what is read; none if it can't be read.
+/// Reads a text and returns the verdict on it, or none if it can't be read. `Err(AllocError)`: an
+/// allocation failed; the text may have been read in part.
 fn read_verdict<R: Read>(alloc: Global, reader: &mut R) -> Result<Option<Verdict>, AllocError>
     ensures verdict { IfOk result (λ found. IfSome found (λ v. OfInput (R.remaining reader.old) (λ input. IsVerdict v.accepted input (string_bytes v.line)))) }
-    ensures rest { IfOk result (λ found. IfSome found (λ _. DropsFirst 524289 (R.remaining reader.old) (R.remaining reader.new))) }
+    ensures rest { IfOk result (λ found. IfSome found (λ _. DropsFirst (TEXT_LIMIT + 1) (R.remaining reader.old) (R.remaining reader.new))) }
 {
     match read_input(alloc, reader, TEXT_LIMIT) {
         Ok(text) => Ok(Some(verdict_on(alloc, text.as_slice())?)),
@@ -105,12 +111,13 @@ fn read_verdict<R: Read>(alloc: Global, reader: &mut R) -> Result<Option<Verdict
     }
 }
 
-/// Reads a whole text and writes one line: `ok devices D buckets B rules R` if it is a map's, else
-/// `refused line L code C` with its first fault. Of a text over 524,288 bytes (X7) it reads one
-/// byte more than these.
+/// Reads a whole text, writes one line and returns how that ended. The line is
+/// `ok devices D buckets B rules R` if the text is a map's, else `refused line L code C` with its
+/// first fault. Of a text over `TEXT_LIMIT` bytes (X7) it reads one byte more than these.
 ///
 /// The clauses speak of an input, which is what the reader had where contracts know its bytes.
-/// The only `Err` is that an allocation failed: then nothing was written.
+/// `Err(AllocError)`: an allocation failed; nothing was written, and the text may have been read in
+/// part.
 #[tactic(auto, using(crate::proofs::Checking::accepted_end, crate::proofs::Checking::refused_end, crate::proofs::Checking::cut_end))]
 pub fn check_run<R: Read, W: Write>(
     alloc: Global,
@@ -122,10 +129,10 @@ pub fn check_run<R: Read, W: Write>(
     ensures accepted { result ≡ Ok CheckEnd.Accepted → OfInput (R.remaining reader.old)
         (λ input. (m : Map) × IsShort input × IsTextOf input m × Appends (W.contents writer.old) (W.contents writer.new) (line_of_map m)) }
 
-    // `Refused`: the input is refused for a fault, which is X7 exactly if it is over 524,288 bytes,
-    // and the line of that fault was written.
+    // `Refused`: the input is refused for a fault, which is X7 exactly if the input is over
+    // `TEXT_LIMIT` bytes, and the line of that fault was written.
     ensures refused { result ≡ Ok CheckEnd.Refused → OfInput (R.remaining reader.old)
-        (λ input. (f : spec_fault.TextFault) × IsRefusedFor input f × ((f.code ≡ X7) ↔ (524288 < length input)) × Appends (W.contents writer.old) (W.contents writer.new) (line_of_fault f)) }
+        (λ input. (f : spec_fault.TextFault) × IsRefusedFor input f × ((f.code ≡ X7) ↔ (TEXT_LIMIT < length input)) × Appends (W.contents writer.old) (W.contents writer.new) (line_of_fault f)) }
 
     // Conversely, where a line was written: if the input is a text of a map it is the line of that
     // map, and if it is refused for a fault, of that fault.
@@ -138,9 +145,9 @@ pub fn check_run<R: Read, W: Write>(
     ensures cut { result ≡ Ok CheckEnd.WriteFault → OfInput (R.remaining reader.old)
         (λ input. (line : List ℕ) × IsLineFor input line × AppendsPart (W.contents writer.old) (W.contents writer.new) line) }
 
-    // In each of these cases, of what the reader had its first 524,289 bytes were read, and the
-    // rest is left.
-    ensures rest { HasVerdict result → DropsFirst 524289 (R.remaining reader.old) (R.remaining reader.new) }
+    // In each of these cases, of what the reader had, a text of the greatest length and one byte
+    // were read, and the rest is left.
+    ensures rest { HasVerdict result → DropsFirst (TEXT_LIMIT + 1) (R.remaining reader.old) (R.remaining reader.new) }
 
     // Otherwise nothing was written.
     ensures silent { WritesNothing result → KeepsBytes (W.contents writer.old) (W.contents writer.new) }

@@ -5,7 +5,8 @@ ghost use Rattle.std.specs.Io.KnownBytes.{Keeps as KeepsBytes};
 ghost use Rattle.crush_app.specs.Input.{DropsFirst};
 ghost use Rattle.crush_app.specs.End.{ServesLines, ServesNone, ReadsInput};
 ghost use Rattle.crush_app.specs.FromNothing.{PlaysFromNothing, PlaysUpToFromNothing, WritesHeadlineFromNothing};
-ghost use Rattle.crush_app.specs.Script.{messages, input_limit, OfScript};
+ghost use Rattle.crush_app.specs.declared.limits.TheConstants.{SCRIPT_LIMIT};
+ghost use Rattle.crush_app.specs.Script.{messages, OfScript};
 
 use crate::laws::memory_stores_are_honest;
 use crate::play::{ScriptEnd, script_run};
@@ -13,13 +14,13 @@ use crate::service::Service;
 use std::alloc::{AllocError, Global};
 use std::io::{Read, Write};
 
-/// Plays a script on a service over a new store in memory, as `script_run` does. The service is
-/// gone afterwards.
+/// Plays a script on a service over a new store in memory, as `script_run` does, and returns how
+/// that ended. The service is gone afterwards.
 ///
 /// The clauses have no premise. They speak of an input, which is what the reader had where
 /// contracts know its bytes.
-/// The only `Err` is that an allocation for the service or for the script itself failed: then no
-/// line was served.
+/// `Err(AllocError)`: an allocation for the service or for the script itself failed; no line was
+/// served, nothing was written, and the script may have been read in part.
 #[tactic(auto, using(crate::proofs::FromNothing::script_headline))]
 pub fn script_in_memory<R: Read, W: Write>(
     alloc: Global,
@@ -41,12 +42,12 @@ pub fn script_in_memory<R: Read, W: Write>(
         (λ input. PlaysUpToFromNothing (messages input) (W.contents writer.old) (W.contents writer.new)) }
 
     // An input is too long exactly by its length.
-    ensures short { ServesLines result → IfSome (R.remaining reader.old) (λ input. length input ≤ input_limit) }
-    ensures long { result ≡ Ok ScriptEnd.TooLong → IfSome (R.remaining reader.old) (λ input. input_limit < length input) }
+    ensures short { ServesLines result → IfSome (R.remaining reader.old) (λ input. length input ≤ SCRIPT_LIMIT) }
+    ensures long { result ≡ Ok ScriptEnd.TooLong → IfSome (R.remaining reader.old) (λ input. SCRIPT_LIMIT < length input) }
 
-    // Served or too long: of what the reader had the first 67,108,865 bytes were read, and the rest
-    // is left.
-    ensures rest { ReadsInput result → DropsFirst (input_limit + 1) (R.remaining reader.old) (R.remaining reader.new) }
+    // Served or too long: of what the reader had, a script of the greatest length and one byte were
+    // read, and the rest is left.
+    ensures rest { ReadsInput result → DropsFirst (SCRIPT_LIMIT + 1) (R.remaining reader.old) (R.remaining reader.new) }
 
     // Otherwise nothing was written.
     ensures silent { ServesNone result → KeepsBytes (W.contents writer.old) (W.contents writer.new) }

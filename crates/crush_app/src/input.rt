@@ -12,15 +12,19 @@ use std::io::{self, ErrorKind, Read};
 /// The most bytes that one read asks for.
 const CHUNK: usize = 8_192;
 
-/// Why an input wasn't read as a whole.
+/// Why an input wasn't read whole.
 #[derive(Clone, Copy, Debug, PartialEq, Eq)]
 pub(crate) enum InputFault {
+    /// An allocation failed.
     NoMemory,
+    /// A read failed.
     Read,
+    /// The input is longer than its limit.
     TooLong,
 }
 
-/// Reads once. A read that a signal interrupts is made again.
+/// Reads once and returns the number of bytes read, 0 at the end of the input. A read that a signal
+/// interrupts is made again. Allocates nothing.
 fn read_once<R: Read>(reader: &mut R, buffer: &mut [u8]) -> io::Result<usize>
     ensures bound { ReadsAtMost result buffer.new }
     ensures bytes { ReadConsumes (R.remaining reader.old) (R.remaining reader.new) result buffer.new }
@@ -34,7 +38,8 @@ fn read_once<R: Read>(reader: &mut R, buffer: &mut [u8]) -> io::Result<usize>
     Err(ErrorKind::Interrupted.into())
 }
 
-/// Reads an input to its end, or its first `most` bytes.
+/// Reads an input to its end, or its first `most` bytes, and returns what was read. `Err`: a read
+/// or an allocation failed; the input was read in part.
 fn read_up_to<R: Read>(alloc: Global, reader: &mut R, most: usize) -> io::Result<Vec<u8>>
     ensures { IfOk result (λ v. IsReadUpTo most v.items (R.remaining reader.old) (R.remaining reader.new)) }
 {
@@ -51,7 +56,8 @@ fn read_up_to<R: Read>(alloc: Global, reader: &mut R, most: usize) -> io::Result
     Ok(input)
 }
 
-/// Reads a whole input of at most `limit` bytes. Of a longer one it reads one byte more than these.
+/// Reads and returns a whole input of at most `limit` bytes. Of a longer one (`Err(TooLong)`) it
+/// reads one byte more than these. After the other two errors the input was read in part.
 #[tactic(auto, using(crate::proofs::Inputs::whole_input, crate::proofs::Inputs::long_input))]
 pub(crate) fn read_input<R: Read>(
     alloc: Global,

@@ -5,6 +5,7 @@ mod check;
 mod from_nothing;
 mod input;
 pub mod laws;
+pub mod limits;
 mod memory_store;
 mod play;
 mod script;

@@ -5,6 +5,7 @@ ghost use Rattle.std.specs.Str.{bytes_eq};
 ghost use Rattle.std.specs.BTreeMap.{get_by_text};
 ghost use Rattle.tenant_state.specs.State.{after};
 
+use crate::service::Service;
 use std::alloc::{AllocError, Global};
 use std::collections::BTreeMap;
 use std::rc::Rc;
@@ -14,7 +15,7 @@ use tenant_state::{Change, TenantState};
 type States = BTreeMap<String, Rc<TenantState>>;
 
 /// Makes a change of a shared state: in place where it has no other owner, and else on a copy,
-/// which shares versions and receipts. Where memory is wanting, nothing is changed.
+/// which shares versions and receipts. `Err(AllocError)`: an allocation failed; nothing is changed.
 fn change_shared(
     alloc: Global,
     shared: &mut Rc<TenantState>,
@@ -33,8 +34,8 @@ fn change_shared(
     }
 }
 
-/// Makes a change of the state of a name, if it has one. Where memory is wanting, nothing is
-/// changed.
+/// Makes a change of the state of a name, if it has one. `Err(AllocError)`: an allocation failed;
+/// nothing is changed.
 fn change_named(
     alloc: Global,
     states: &mut States,
@@ -51,7 +52,7 @@ fn change_named(
     }
 }
 
-/// Sets the state of a name. Where memory is wanting, nothing is changed.
+/// Sets the state of a name. `Err(AllocError)`: an allocation failed; nothing is changed.
 fn put(alloc: Global, states: &mut States, name: &str, state: TenantState) -> Result<(), AllocError>
     ensures ok { OnOk result ((u : List ℕ) → option_map (λ r. r.value) (get_by_text states.new u)
         ≡ (if bytes_eq name.now u then Some state else option_map (λ r. r.value) (get_by_text states.old u))) }
@@ -63,7 +64,7 @@ fn put(alloc: Global, states: &mut States, name: &str, state: TenantState) -> Re
     Ok(())
 }
 
-/// Removes the state of a name.
+/// Removes the state of a name, if it has one. Allocates nothing.
 fn take_out(states: &mut States, name: &str)
     ensures { (u : List ℕ) → get_by_text states.new u
         ≡ (if bytes_eq name.now u then None else get_by_text states.old u) }
@@ -71,7 +72,7 @@ fn take_out(states: &mut States, name: &str)
     let _state = states.remove(name);
 }
 
-/// The states of all tenants, in memory: they are gone when it is dropped.
+/// A store that keeps the states of all tenants in memory: they are gone when it is dropped.
 #[derive(Drop)]
 pub struct MemoryStore {
     alloc: Global,
@@ -81,7 +82,7 @@ pub struct MemoryStore {
 impl MemoryStore {
     ghost use Rattle.std.specs.Prelude.{ℕ, List, None};
 
-    /// A store with no tenant. Allocates nothing.
+    /// Returns a store with no tenant. Allocates nothing.
     pub fn new(alloc: Global) -> Self
         ensures { (name : List ℕ) → ⟦<MemoryStore as TenantStore>⟧.has_state result name None }
     {
@@ -129,4 +130,17 @@ impl TenantStore for MemoryStore {
     }
 
     ghost one_state = { λ store t s u honest is also. sym is ∙ also };
+}
+
+impl Service<MemoryStore> {
+    ghost use Rattle.std.specs.Prelude.{ℕ, List, None, IfOk};
+
+    /// Returns a service over a new store in memory, which has no tenant. By
+    /// `memory_stores_are_honest` the headline holds of this service without a premise.
+    /// `Err(AllocError)`: an allocation failed; nothing is changed.
+    pub fn in_memory(alloc: Global) -> Result<Self, AllocError>
+        ensures { IfOk result (λ service. (name : List ℕ) → ⟦<MemoryStore as TenantStore>⟧.has_state service name None) }
+    {
+        Service::over(alloc, MemoryStore::new(alloc))
+    }
 }

@@ -8,9 +8,11 @@ ghost use Rattle.tenant_core.specs.States.{Same};
 ghost use Rattle.crush_app.specs.Input.{DropsFirst};
 ghost use Rattle.crush_app.specs.End.{ServesLines, ServesNone, ReadsInput};
 ghost use Rattle.crush_app.specs.Play.{Plays, PlaysUpTo, WritesHeadline};
-ghost use Rattle.crush_app.specs.Script.{bad_line, messages, messages_in, input_limit, OfScript};
+ghost use Rattle.crush_app.specs.declared.limits.TheConstants.{SCRIPT_LIMIT};
+ghost use Rattle.crush_app.specs.Script.{bad_line, messages, messages_in, OfScript};
 
 use crate::input::{InputFault, read_input};
+use crate::limits::SCRIPT_LIMIT;
 use crate::script::{call_of_line, first_line};
 use crate::service::Service;
 use crate::wire::write_line;
@@ -19,15 +21,12 @@ use std::io::{Read, Write};
 use tenant_core::TenantStore;
 use tenant_messages::{CallParts, Problem, Reply, refused};
 
-/// The longest script, in bytes.
-const SCRIPT_LIMIT: u32 = 67_108_864;
-
 /// How a script ended.
 #[derive(Clone, Copy, Debug, PartialEq, Eq)]
 pub enum ScriptEnd {
     /// Every line was served, and its reply written.
     Done,
-    /// The input is over 67,108,864 bytes. No line was served.
+    /// The input is over `SCRIPT_LIMIT` bytes. No line was served.
     TooLong,
     /// The input couldn't be read. No line was served.
     ReadFault,
@@ -35,6 +34,8 @@ pub enum ScriptEnd {
     WriteFault,
 }
 
+/// Serves the call of a line and writes its reply, or, for a line that is no call, the reply `bad`.
+/// Returns whether the line was written whole.
 fn play_message<T: TenantStore, W: Write>(
     service: &mut Service<T>,
     bad: &Reply,
@@ -55,6 +56,8 @@ fn play_message<T: TenantStore, W: Write>(
     }
 }
 
+/// Serves a line, as `play_message` does; an empty line has no reply. Returns whether its reply was
+/// written whole.
 fn play_line<T: TenantStore, W: Write>(
     service: &mut Service<T>,
     bad: &Reply,
@@ -73,6 +76,8 @@ fn play_line<T: TenantStore, W: Write>(
     }
 }
 
+/// Serves the lines of an input in order, and ends at the first reply that can't be written whole.
+/// Returns whether all were written.
 fn play<T: TenantStore, W: Write>(
     service: &mut Service<T>,
     bad: &Reply,
@@ -96,11 +101,12 @@ fn play<T: TenantStore, W: Write>(
     true
 }
 
-/// Reads a whole script, serves its lines in order and writes a line for each reply. An empty line
-/// has no reply.
+/// Reads a whole script of at most `SCRIPT_LIMIT` bytes, serves its lines in order, writes a line
+/// for each reply, and returns how that ended. An empty line has no reply.
 ///
 /// The clauses speak of an input, which is what the reader had where contracts know its bytes.
-/// The only `Err` is that an allocation for the script itself failed: then no line was served.
+/// `Err(AllocError)`: an allocation for the script itself failed; no line was served, nothing was
+/// written, and the script may have been read in part.
 #[tactic(auto, using(crate::proofs::Playing::script_played, crate::proofs::Playing::script_cut_off, crate::proofs::Playing::script_written, crate::proofs::Inputs::known_short, crate::proofs::Inputs::known_long))]
 pub fn script_run<T: TenantStore, R: Read, W: Write>(
     alloc: Global,
@@ -124,12 +130,12 @@ pub fn script_run<T: TenantStore, R: Read, W: Write>(
         (λ input. WritesHeadline (T.has_state service.old) (messages input) (W.contents writer.old) (W.contents writer.new)) }
 
     // An input is too long exactly by its length.
-    ensures short { ServesLines result → IfSome (R.remaining reader.old) (λ input. length input ≤ input_limit) }
-    ensures long { result ≡ Ok ScriptEnd.TooLong → IfSome (R.remaining reader.old) (λ input. input_limit < length input) }
+    ensures short { ServesLines result → IfSome (R.remaining reader.old) (λ input. length input ≤ SCRIPT_LIMIT) }
+    ensures long { result ≡ Ok ScriptEnd.TooLong → IfSome (R.remaining reader.old) (λ input. SCRIPT_LIMIT < length input) }
 
-    // Served or too long: of what the reader had the first 67,108,865 bytes were read, and the rest
-    // is left.
-    ensures rest { ReadsInput result → DropsFirst (input_limit + 1) (R.remaining reader.old) (R.remaining reader.new) }
+    // Served or too long: of what the reader had, a script of the greatest length and one byte were
+    // read, and the rest is left.
+    ensures rest { ReadsInput result → DropsFirst (SCRIPT_LIMIT + 1) (R.remaining reader.old) (R.remaining reader.new) }
 
     // Otherwise no state changed, and nothing was written.
     ensures none { T.is_honest service.new → ServesNone result → Same (T.has_state service.old) (T.has_state service.new) }

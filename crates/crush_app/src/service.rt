@@ -8,7 +8,6 @@ ghost use Rattle.tenant_core.specs.Effects.{Fits, after_effect};
 ghost use Rattle.tenant_core.specs.StoreReply.{store_damaged};
 ghost use Rattle.tenant_state.specs.State.{TenantState};
 
-use crate::memory_store::MemoryStore;
 use std::alloc::{AllocError, Global};
 use std::marker::Model;
 use tenant_core::{
@@ -16,7 +15,8 @@ use tenant_core::{
 };
 use tenant_messages::{Call, CallParts, Refusal, Reply, refused};
 
-/// Carries out the effect of a request on its tenant.
+/// Carries out the effect of a request on its tenant. `Err`: the store's fault, with nothing
+/// changed.
 fn carry_out_effect<T: TenantStore>(
     store: &mut T,
     tenant: &str,
@@ -37,7 +37,8 @@ fn carry_out_effect<T: TenantStore>(
     }
 }
 
-/// Loads the tenant's state, decides what the request does, and carries that out.
+/// Loads the tenant's state, decides what the request does, carries that out, and returns the
+/// reply. `Err`: the store's fault, with nothing changed; a failed allocation is one.
 fn perform<T: TenantStore>(
     alloc: Global,
     store: &mut T,
@@ -57,7 +58,8 @@ fn perform<T: TenantStore>(
     Ok(decision.reply)
 }
 
-/// The reply to a call, or the fault of the store.
+/// Serves a call and returns its reply. `Err`: the store's fault, with nothing changed; a failed
+/// allocation is one.
 fn reply_or_fault<T: TenantStore>(
     alloc: Global,
     routes: &Routes,
@@ -92,22 +94,11 @@ impl<T: TenantStore> Model for Service<T> {
     ghost view = { λ a. a.store };
 }
 
-impl Service<MemoryStore> {
-    ghost use Rattle.std.specs.Prelude.{ℕ, List, None, IfOk};
-
-    /// A service over a store in memory, with no tenant. By `memory_stores_are_honest` the headline
-    /// holds of this service without a premise.
-    pub fn in_memory(alloc: Global) -> Result<Self, AllocError>
-        ensures { IfOk result (λ service. (name : List ℕ) → ⟦<MemoryStore as TenantStore>⟧.has_state service name None) }
-    {
-        Service::over(alloc, MemoryStore::new(alloc))
-    }
-}
-
 impl<T: TenantStore + Drop> Service<T> {
     ghost use Rattle.std.specs.Prelude.{◌≡◌, IfOk};
 
-    /// A service over this store.
+    /// Returns a service over this store. `Err(AllocError)`: an allocation failed; nothing is
+    /// changed.
     pub fn over(alloc: Global, store: T) -> Result<Self, AllocError>
         ensures { IfOk result (λ service. service ≡ store) }
     {
@@ -125,9 +116,9 @@ impl<T: TenantStore> Service<T> {
     ghost use Rattle.tenant_messages.specs.CallParts.{call_of};
     ghost use Rattle.tenant_core.specs.States.{Same, Serves, MeetsDefinition, Headline, Leaves, ServesCallsOfNobody, KeepsDamaged, NamesCause};
 
-    /// Serves a call. The reply is the definition's for the state of the call's tenant, which then
-    /// has the definition's new state, and every other tenant keeps its own; or the reply is 503,
-    /// and every tenant keeps its state.
+    /// Serves a call and returns its reply. The reply is the definition's for the state of the
+    /// call's tenant, which then has the definition's new state, and every other tenant keeps its
+    /// own; or the reply is 503, and every tenant keeps its state.
     pub fn request(&mut self, call: CallParts<'_>) -> Reply
         ensures serves { T.is_honest self.new → Serves (call_of call.entry) (T.has_state self.old) (T.has_state self.new) result }
         ensures honest { T.is_honest self.new → T.is_honest self.old }
@@ -154,7 +145,8 @@ impl<T: TenantStore> Service<T> {
         }
     }
 
-    /// Serves the calls in order. Where there is no memory for the list of replies, none is served.
+    /// Serves the calls in order and returns their replies. `Err(AllocError)`: an allocation, that
+    /// of the list of replies, failed; nothing is changed, and no call was served.
     ///
     /// The headline: for every list of calls and every tenant, the replies to that tenant other
     /// than 503 are those of the definition, run over just the calls that have such a reply, from

@@ -9,8 +9,8 @@ ghost use Rattle.crush_app.specs.Script as spec;
 use std::io::Write;
 use tenant_messages::Reply;
 
-/// Writes the bytes, all or a first part: it ends at the first error, or where a write accepts no
-/// byte.
+/// Writes the bytes and returns whether all were written: it ends at the first error, or where a
+/// write accepts no byte. Allocates nothing.
 pub(crate) fn write_whole<W: Write>(writer: &mut W, bytes: &[u8]) -> bool
     ensures whole { IsTrue result → Appends (W.contents writer.old) (W.contents writer.new) bytes.now }
     ensures part { IsFalse result → AppendsPart (W.contents writer.old) (W.contents writer.new) bytes.now }
@@ -25,6 +25,7 @@ pub(crate) fn write_whole<W: Write>(writer: &mut W, bytes: &[u8]) -> bool
     true
 }
 
+/// Writes both, one after the other, and returns whether all bytes were written. Allocates nothing.
 fn write_both<W: Write>(writer: &mut W, first: &[u8], second: &[u8]) -> bool
     ensures whole { IsTrue result → Appends (W.contents writer.old) (W.contents writer.new) (first.now ++ second.now) }
     ensures part { IsFalse result → AppendsPart (W.contents writer.old) (W.contents writer.new) (first.now ++ second.now) }
@@ -35,7 +36,8 @@ fn write_both<W: Write>(writer: &mut W, first: &[u8], second: &[u8]) -> bool
     write_whole(writer, second)
 }
 
-/// The body as it is written. A reply for want of memory has no body, so its text is put in here.
+/// Returns the body as it is written. A reply for a failed allocation has an empty body, and its
+/// text stands here.
 fn shown_body(body: &str) -> &[u8]
     ensures { result.now ≡ spec.shown_body body.now }
 {
@@ -46,7 +48,8 @@ fn shown_body(body: &str) -> &[u8]
     }
 }
 
-/// Writes a reply as a line, all or a first part. Allocates nothing.
+/// Writes a reply as a line (STATUS, a space, the body, LF), and returns whether all of it was
+/// written. Allocates nothing.
 pub(crate) fn write_line<W: Write>(writer: &mut W, reply: &Reply) -> bool
     ensures whole { IsTrue result → Appends (W.contents writer.old) (W.contents writer.new) (spec.wire reply.now) }
     ensures part { IsFalse result → AppendsPart (W.contents writer.old) (W.contents writer.new) (spec.wire reply.now) }

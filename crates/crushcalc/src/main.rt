@@ -12,7 +12,7 @@ use std::{env, io};
 
 /// The program's version, and the line of `rt version` of the toolchain that proves and builds it
 /// (`tests/run` compares it).
-const VERSION: &str = "0.1.0\nrattle-kit-13b logic dac8208d650f15bf";
+const VERSION: &str = "0.1.0\nrattle-kit-13f logic dac8208d650f15bf";
 
 /// The end of the help of `check`: its line, and each code in a line of its own (`docs/MAPS.md` has
 /// more of each).
@@ -47,11 +47,15 @@ rule that is wrong, perhaps further down, or the line of the last word where onl
 enum Stop {
     /// The arguments name no command, or ask for help or the version.
     Arguments(Error),
+    /// An allocation failed.
     NoMemory,
+    /// The script is longer than a script may be.
     TooLong,
     /// The file to check can't be opened or read.
     CannotRead,
+    /// Standard input can't be read.
     ReadFault,
+    /// Standard output can't be written.
     WriteFault,
 }
 
@@ -72,11 +76,13 @@ impl From<Error> for Stop {
 
 /// What the program is asked to do: a command, with its arguments.
 enum Invocation<'a> {
+    /// Serve the script on standard input.
     Script,
+    /// Check the map text in a file.
     Check { path: &'a str },
 }
 
-/// Reads the program's arguments.
+/// Reads the program's arguments, and returns what they ask for.
 fn read_arguments(alloc: Global, arguments: &[String]) -> Result<Invocation<'_>, Stop> {
     let script = Command::new(alloc, "script").about(
         "Serves the lines of standard input, and writes a line for each reply",
@@ -115,7 +121,8 @@ fn run_script<R: AllocGlobal + Input + Print>(rt: &R) -> Result<(), Stop> {
     }
 }
 
-/// Checks the text in a file: status 0 where it is a map's, else 1.
+/// Checks the text in a file, writes its line, and returns the exit status: 0 where the text is a
+/// map's, else 1.
 fn check_file<R: AllocGlobal + Files + Print>(rt: &R, path: &str) -> Result<ExitCode, Stop> {
     let mut file = match File::open(rt, path) {
         Ok(file) => file,
@@ -130,6 +137,7 @@ fn check_file<R: AllocGlobal + Files + Print>(rt: &R, path: &str) -> Result<Exit
     }
 }
 
+/// Runs the command that the arguments name, and returns the exit status.
 fn run<R: AllocGlobal + Input + Print + Env + Files>(rt: &R) -> Result<ExitCode, Stop> {
     let Ok(given) = env::args(rt) else {
         return Err(Stop::NoMemory);
@@ -144,8 +152,8 @@ fn run<R: AllocGlobal + Input + Print + Env + Files>(rt: &R) -> Result<ExitCode,
     }
 }
 
-/// Writes help or the version to standard output, or to standard error why the program stops, and
-/// gives the exit status.
+/// Writes help or the version to standard output, or why the program stops to standard error, and
+/// returns the exit status.
 fn report<R: Print + Eprint>(rt: &R, stop: Stop) -> io::Result<ExitCode> {
     let why = match stop {
         Stop::Arguments(error) => {

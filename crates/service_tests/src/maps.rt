@@ -165,7 +165,7 @@ const TWO_VERSIONS: [Row; 4] = [
     ("GET", "/t/a/maps/1", "", 200, CANONICAL),
 ];
 
-/// The canonical text is of another form than the text that was imported.
+/// The canonical text has another form than the text that was imported.
 #[test]
 fn a_version_is_read_as_its_canonical_text(rt: HostRuntime) -> Result<(), Fail> {
     let alloc = rt.alloc();

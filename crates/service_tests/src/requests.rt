@@ -23,7 +23,7 @@ pub(crate) fn decided(
     }
 }
 
-/// The status and the body of the reply to a POST of this body to a tenant's picks.
+/// Returns the status and the body of the reply to a POST of this body to a tenant's picks.
 fn pick_reply(alloc: Global, body: &str) -> Result<(u16, String), AllocError> {
     let call = CallParts {
         method: b"POST",
@@ -101,7 +101,7 @@ fn buckets_pick_as_worked_out_by_hand(rt: HostRuntime) -> Result<(), Fail> {
     Ok(())
 }
 
-/// Whether a decision changes what is stored, and its reply.
+/// Returns whether a decision changes what is stored, and its reply.
 fn taken_apart(decision: Decision) -> (bool, Reply) {
     let Decision { effect, reply } = decision;
     (!matches!(effect, Effect::Keep), reply)

@@ -58,7 +58,7 @@ fn assert_reply(rt: &impl Abort, reply: &Reply, row: &Row) {
     assert_eq!(rt; reply.body.as_str(), body, "{method} {path}");
 }
 
-/// Requests of a service, one after the other, have the replies of these rows.
+/// Asserts that requests of a service, one after the other, have the replies of these rows.
 pub(crate) fn assert_requests<T: TenantStore>(
     rt: &impl Abort,
     service: &mut Service<T>,
@@ -75,7 +75,7 @@ pub(crate) fn assert_requests<T: TenantStore>(
     }
 }
 
-/// A run of the calls of some rows has their replies, on a service without a tenant.
+/// Asserts that a run of the calls of some rows, on a service without a tenant, has their replies.
 pub(crate) fn assert_run(rt: &impl Abort, alloc: Global, rows: &[Row]) -> Result<(), AllocError> {
     let mut calls = Vec::new(alloc);
     for (method, path, body, _, _) in rows {
@@ -93,8 +93,8 @@ pub(crate) fn assert_run(rt: &impl Abort, alloc: Global, rows: &[Row]) -> Result
     Ok(())
 }
 
-/// The calls of the tenants a and b in turn, and those of each alone, have the replies of their
-/// rows.
+/// Asserts that the calls of the tenants a and b in turn, and those of each alone, have the replies
+/// of their rows.
 pub(crate) fn assert_each_alone(
     rt: &impl Abort,
     alloc: Global,
