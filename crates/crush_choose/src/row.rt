@@ -10,7 +10,8 @@ use std::marker::Model;
 /// An item, or none.
 pub type Slot = Option<ItemId>;
 
-/// At most `SIZE_LIMIT` slots, in an array of its own, so it allocates nothing. Contracts see a list.
+/// At most `SIZE_LIMIT` slots, in an array of its own, so it allocates nothing. Contracts see a
+/// list.
 #[derive(Drop)]
 pub struct Row {
     slots: ArrayVec<Slot, SIZE_LIMIT>,

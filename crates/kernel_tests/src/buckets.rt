@@ -7,9 +7,7 @@ ghost use Rattle.crush_bucket.specs.Tables.{perms_of};
 use crate::drafts::{ONE, SOUND, Short, draft, entries};
 use crate::plain;
 use Kind::{List, Tree, Uniform};
-use crush_bucket::{
-    ListBucket, Perm, Picker, Scratch, Tables, TreeBucket, UniformBucket, can_be_asked,
-};
+use crush_bucket::{AnyBucket, Perm, Picker, Scratch, Tables, can_be_asked};
 use crush_map::{CrushMap, ItemId, Kind, Weight, has_equal_weights};
 use std::alloc::{AllocError, Global};
 use std::process::Abort;
@@ -51,21 +49,9 @@ fn picked(
     questions: &[(u32, u32)],
 ) -> Result<Vec<ItemId>, AllocError> {
     assert!(rt; can_be_asked(entries));
-    let picks = match kind {
-        Uniform => {
-            assert!(rt; has_equal_weights(entries));
-            let bucket = UniformBucket::build(alloc, id, entries)?;
-            ask(alloc, &bucket, id, entries.len(), questions)?
-        }
-        List => {
-            let bucket = ListBucket::build(alloc, id, entries)?;
-            ask(alloc, &bucket, id, entries.len(), questions)?
-        }
-        Tree => {
-            let bucket = TreeBucket::build(alloc, id, entries)?;
-            ask(alloc, &bucket, id, entries.len(), questions)?
-        }
-    };
+    assert!(rt; kind != Uniform || has_equal_weights(entries));
+    let bucket = AnyBucket::build(alloc, kind, id, entries)?;
+    let picks = ask(alloc, &bucket, id, entries.len(), questions)?;
     assert_eq!(rt; picks.len(), questions.len());
     Ok(picks)
 }

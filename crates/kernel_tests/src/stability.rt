@@ -1,4 +1,4 @@
-//! Runs of a rule before and after a reweight is lowered.
+//! Runs of a rule before and after a reweight is lowered, and which devices they touch.
 
 ghost use Rattle.std.specs.Prelude.{◌≡◌};
 ghost use Rattle.crush_bucket.specs.Tables.{perms_of};
@@ -9,7 +9,7 @@ use crate::rules::rule_of;
 use crush_bucket::{Scratch, Tables};
 use crush_choose::Weights;
 use crush_map::{ItemId, Kind, Rule, Step};
-use crush_rules::{Out, run_rule};
+use crush_rules::{Out, run_rule, touches};
 use std::alloc::{AllocError, Global};
 use std::process::Abort;
 use std::test::Fail;
@@ -85,5 +85,48 @@ fn what_does_not_have_a_lowered_device_in_its_trace_stays(rt: HostRuntime) -> Re
     let mut out = Out::build(alloc)?;
     let rule = rule_of(&rt, &map);
     assert_all_move_from_0(&rt, &tables, &mut scratch, rule, &full, &lowered, &mut out);
+    Ok(())
+}
+
+/// Each of 64 inputs touches the device that is in its trace, and no other of the devices 0 to 2.
+fn assert_one_is_touched(
+    rt: &impl Abort,
+    tables: &Tables,
+    scratch: &mut Scratch,
+    rule: &Rule,
+    full: &Weights,
+    out: &mut Out,
+)
+    requires rule { CanRun tables.now rule.now }
+    requires fits { scratch.old ≡ perms_of tables.now }
+{
+    'inputs: for x in 0..64 {
+        run_rule(tables, scratch, rule, x, 1, full, out);
+        let on_0 = out.trace() == &[0][..];
+        let touched = (
+            touches(tables, scratch, rule, x, 1, full, out, 0),
+            touches(tables, scratch, rule, x, 1, full, out, 1),
+            touches(tables, scratch, rule, x, 1, full, out, 2),
+        );
+        assert_eq!(rt; touched, (on_0, !on_0, false), "what {x} touches");
+        let device = if on_0 { 0 } else { 1 };
+        assert_eq!(rt;
+            out.items(),
+            &[Some(ItemId(device))][..],
+            "the answer at {x}"
+        );
+    }
+}
+
+#[test]
+fn a_device_is_touched_exactly_where_it_is_in_the_trace(rt: HostRuntime) -> Result<(), Fail> {
+    let alloc = rt.alloc();
+    let map = map_of(alloc, draft(alloc, TWO_DEVICES)?)?;
+    let tables = Tables::build(alloc, &map)?;
+    let mut scratch = Scratch::build(alloc, &tables)?;
+    let full = Weights::build(alloc, &map, &[])?;
+    let mut out = Out::build(alloc)?;
+    let rule = rule_of(&rt, &map);
+    assert_one_is_touched(&rt, &tables, &mut scratch, rule, &full, &mut out);
     Ok(())
 }
