@@ -1,4 +1,5 @@
--- What holds of each pick of the buckets and of each item that is taken holds of each item of a rule's answer.
+-- What holds of each pick of the buckets and of each item that is taken holds of each item of a
+-- rule's answer.
 use Rattle.std.proofs.Common.{◌≡◌, ℕ, zero, suc, ◌+◌, ◌<◌, ◌-◌, ◌==◌, ◌&&◌, nat_lt, List, [], ◌∷◌, length, map, take, Bool, true, false, not, if◌then◌else◌, Option, Some, None, option_map, slice_index_or, IfSome, refl, arith}
 use Rattle.std.specs.Bool.{then_some}
 use Rattle.std.specs.List.{All}

@@ -1,5 +1,6 @@
 mod Gains
 mod GainCounts
+mod Counting
 mod Groups
 mod Items
 mod Moving
