@@ -7,10 +7,10 @@ ghost use Rattle.crush_report.specs.Private.OnMaps.{trace_on};
 ghost use Rattle.crush_report.specs.Reports.{impact};
 
 use crush_bucket::Scratch;
-use crush_choose::Out;
-use crush_choose::laws::traces_ascend;
 use crush_map::Listed;
 use crush_pool::Placer;
+use crush_rules::Out;
+use crush_rules::laws::traces_ascend;
 use std::alloc::{AllocError, Global};
 
 /// Whether a number is in a list.

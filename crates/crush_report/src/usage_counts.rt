@@ -9,10 +9,11 @@ ghost use Rattle.crush_report.specs.Reports.{groups, usage};
 use crate::counts::{count_if, count_slot, is_again};
 use crate::rows::UsageRow;
 use crush_bucket::Scratch;
-use crush_choose::{Out, Slot};
+use crush_choose::Slot;
 use crush_map::{Device, Listed};
 use crush_pool::laws::both_kinds_of_pools_have_the_same_devices;
 use crush_pool::{DeviceStates, Placer, is_up_slot};
+use crush_rules::Out;
 use std::alloc::{AllocError, Global};
 use std::marker::Model;
 

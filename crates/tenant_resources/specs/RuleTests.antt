@@ -4,8 +4,8 @@ use Rattle.std.specs.Str.{bytes_eq}
 use Rattle.serde_json.specs.Data.{Data, object}
 use Rattle.crush_bucket.specs.Tables.{tables_of}
 use Rattle.crush_choose.specs.Marks.{Slot}
-use Rattle.crush_choose.specs.Rules.{rule_answer}
-use Rattle.crush_choose.specs.Trace.{rule_trace}
+use Rattle.crush_rules.specs.Rules.{rule_answer}
+use Rattle.crush_rules.specs.Trace.{rule_trace}
 use Rattle.crush_choose.specs.Weights.{weights_of}
 use Rattle.crush_map.specs.Map.{Map}
 use Rattle.crush_map.specs.declared.draft.Rule.{Rule}

@@ -44,7 +44,7 @@ impl Model for AskedBucket {
 
     ghost Value = { BucketView };
 
-    ghost view = { λ a. record { id = a.id; kind = a.kind; entries = a.items.items } };
+    ghost view = { λ a. record { id = a.id; kind = a.kind; items = a.items.items } };
 
     ghost invariant = { λ a. record {
       asked : CanBeAsked a.items.items;
@@ -59,7 +59,7 @@ impl AskedBucket {
         requires few { length items.items < 2 ^ 16 }
         requires light { total_weight items.items < 2 ^ 32 }
         requires equal { kind ≡ Kind.Uniform → HasEqualWeights items.items }
-        ensures { result ≡ record { id = id; kind = kind; entries = items.items } }
+        ensures { result ≡ record { id = id; kind = kind; items = items.items } }
     {
         AskedBucket { id, kind, items }
     }
@@ -159,7 +159,7 @@ fn are_distinct(entries: &[(ItemId, Weight)]) -> bool
 // ---- a bucket
 
 fn is_valid(id: ItemId, kind: Kind, entries: &[(ItemId, Weight)]) -> bool
-    ensures { result ≡ spec.is_valid (record { id = id; kind = kind; entries = entries.now }) }
+    ensures { result ≡ spec.is_valid (record { id = id; kind = kind; items = entries.now }) }
 {
     !entries.is_empty()
         && entries.len() <= 1024
