@@ -2,7 +2,6 @@ mod Gains
 mod GainCounts
 mod Counting
 mod Groups
-mod Items
 mod Moving
 mod OfMap
 mod OnMaps
