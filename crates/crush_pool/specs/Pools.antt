@@ -3,8 +3,9 @@ use Rattle.std.specs.Prelude.{ℕ, ◌+◌, ◌%◌, ◌^◌, ◌&&◌, nat_le, 
 use Rattle.crush_hash.specs.Hash.{hash2, name_hash}
 use Rattle.crush_map.specs.Faults.{is_name}
 use Rattle.crush_map.specs.declared.limits.TheConstants.{RULE_ID_LIMIT}
+use Rattle.crush_choose.specs.declared.limits.TheConstants.{SIZE_LIMIT}
 use Rattle.crush_pool.specs.Groups.{mask_of, stable_mod}
-use Rattle.crush_pool.specs.declared.limits.TheConstants.{GROUP_LIMIT, POOL_ID_LIMIT, SIZE_LIMIT}
+use Rattle.crush_pool.specs.declared.limits.TheConstants.{GROUP_LIMIT, POOL_ID_LIMIT}
 use Rattle.crush_pool.specs.declared.pool.PoolParts.{PoolParts}
 
 -- the numbers and the name of a pool are in their ranges; a group's seed takes no more values than

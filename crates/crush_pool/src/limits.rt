@@ -5,9 +5,6 @@
 /// The greatest id of a pool.
 pub const POOL_ID_LIMIT: u32 = 2_147_483_647;
 
-/// The most devices of a group.
-pub const SIZE_LIMIT: u32 = 32;
-
 /// The most groups of a pool.
 pub const GROUP_LIMIT: u32 = 65_536;
 

@@ -12,7 +12,7 @@ use crate::states::{DeviceState, DeviceStates};
 use crush_bucket::{Scratch, Tables};
 use crush_choose::Weights;
 use crush_map::{CrushMap, Rule};
-use crush_rules::Out;
+use crush_rules::{Out, touches};
 use std::alloc::{AllocError, Global};
 use std::marker::Model;
 
@@ -52,7 +52,8 @@ impl<'a> Model for Placer<'a> {
 }
 
 impl<'a> Placer<'a> {
-    ghost use Rattle.std.specs.Prelude.{◌≡◌, ◌<◌, Some, IfOk, is_some, true, option_map};
+    ghost use Rattle.std.specs.Prelude.{◌≡◌, ◌<◌, ℕ, List, Some, IfOk, is_some, true, option_map};
+    ghost use Rattle.crush_map.specs.Faults.{has_number};
     ghost use Rattle.crush_bucket.specs.Tables.{perms_of, tables_of};
     ghost use Rattle.crush_rules.specs.Rules.{IsTrace, rule_answer};
     ghost use Rattle.crush_choose.specs.Weights.{weights_of};
@@ -137,6 +138,28 @@ impl<'a> Placer<'a> {
             group,
             out,
         );
+    }
+
+    /// Whether a device is in the trace of a run of the pool's rule for a group. Sets `out` to the
+    /// rule's answer. Allocates nothing.
+    pub fn touches(&self, scratch: &mut Scratch, out: &mut Out, group: u32, device: u32) -> bool
+        requires fits { scratch.old ≡ perms_of (tables_of self.now.map) }
+        ensures touched { (trace : List ℕ) → IsTrace (tables_of self.now.map) (weights_of (reweights self.now.states)) (steps_of self.now) (seed_of self.now.pool group) self.now.pool.size trace → result ≡ has_number trace device }
+        ensures items { out.new.items ≡ rule_answer (tables_of self.now.map) (weights_of (reweights self.now.states)) (steps_of self.now) (seed_of self.now.pool group) self.now.pool.size }
+        ensures fits { scratch.new ≡ perms_of (tables_of self.now.map) }
+    {
+        let seed = self.pool.seed_of(group);
+        let size = self.pool.parts().size;
+        touches(
+            self.tables,
+            scratch,
+            self.rule,
+            seed,
+            size,
+            self.weights,
+            out,
+            device,
+        )
     }
 
     /// The placement of a group of the pool. Afterwards `out` has the rule's answer and the trace of

@@ -5,7 +5,8 @@ ghost use Rattle.crush_pool.specs.Pools as spec;
 
 use crate::group::{mask_of, stable_mod};
 use crate::laws::numbers_fall_into_groups;
-use crate::limits::{GROUP_LIMIT, POOL_ID_LIMIT, SIZE_LIMIT};
+use crate::limits::{GROUP_LIMIT, POOL_ID_LIMIT};
+use crush_choose::limits::SIZE_LIMIT;
 use crush_hash::{hash2, name_hash};
 use crush_map::limits::RULE_ID_LIMIT;
 use crush_map::{Text, is_name};
@@ -65,7 +66,7 @@ fn is_pool(parts: &PoolParts) -> bool
 {
     (1..=POOL_ID_LIMIT).contains(&parts.id)
         && is_name(parts.name.as_str())
-        && (1..=SIZE_LIMIT).contains(&parts.size)
+        && (1..=SIZE_LIMIT).contains(&(parts.size as usize))
         && parts.rule <= RULE_ID_LIMIT
         && (1..=GROUP_LIMIT).contains(&parts.pg_num)
         && (1..=parts.pg_num).contains(&parts.pgp_num)

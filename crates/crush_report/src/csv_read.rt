@@ -1,10 +1,14 @@
 //! Changes of devices from CSV (RFC 4180).
 
-ghost use Rattle.std.specs.Prelude.{◌≡◌, true, take, map, option_map, Some, None, IfOk, IfErr};
+ghost use Rattle.std.specs.Prelude.{◌≡◌, ◌+◌, true, take, map, option_map, Some, None, IfOk, IfErr};
 ghost use Rattle.csv.specs.Reading.{default_config, error_kind, records, stops_reader, strip_bom};
 ghost use Rattle.csv.specs.Records.{fields_of};
+ghost use Rattle.crush_pool.specs.declared.limits.TheConstants.{CHANGE_LIMIT};
 ghost use Rattle.crush_report.specs.DeviceCsv as spec;
 
+use crush_choose::FULL;
+use crush_map::limits::NUMBER_LIMIT;
+use crush_pool::limits::CHANGE_LIMIT;
 use crush_pool::{DeviceChange, are_valid_changes};
 use crush_words::number_from_text;
 use csv::{ByteRecord, Error, ErrorKind, ReaderBuilder};
@@ -48,8 +52,8 @@ fn flag(text: &[u8]) -> Option<bool>
 fn change_of_fields(id: &[u8], reweight: &[u8], up: &[u8]) -> Option<DeviceChange>
     ensures { result ≡ spec.change_of_fields id.now reweight.now up.now }
 {
-    let device = number_up_to(65_535, id)?;
-    let reweight = number_up_to(65_536, reweight)?;
+    let device = number_up_to(NUMBER_LIMIT, id)?;
+    let reweight = number_up_to(FULL, reweight)?;
     let up = flag(up)?;
     Some(DeviceChange {
         device,
@@ -141,7 +145,7 @@ fn allocation_error(error: &Error) -> AllocError
 
 /// The first records of a text: at most one more than a text of the form has.
 fn first_records(alloc: Global, text: &[u8]) -> Result<Vec<ByteRecord>, AllocError>
-    ensures { IfOk result (λ found. map fields_of found.items ≡ take 1026 (records default_config (strip_bom text.now))) }
+    ensures { IfOk result (λ found. map fields_of found.items ≡ take (CHANGE_LIMIT + 2) (records default_config (strip_bom text.now))) }
 {
     let reader = ReaderBuilder::new()
         .has_headers(false)
@@ -149,7 +153,7 @@ fn first_records(alloc: Global, text: &[u8]) -> Result<Vec<ByteRecord>, AllocErr
         .from_reader(alloc, text);
     let mut found = Vec::new(alloc);
     for next in reader.into_byte_records() {
-        if found.len() == 1026 {
+        if found.len() == CHANGE_LIMIT + 2 {
             break;
         }
         match next {

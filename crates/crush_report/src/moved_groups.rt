@@ -1,6 +1,8 @@
 //! The groups of a pool whose up lists differ between two maps.
 
-ghost use Rattle.std.specs.Prelude.{◌≡◌, ◌<◌, ◌≤◌, ◌^◌, Some, IfOk};
+ghost use Rattle.std.specs.Prelude.{◌≡◌, ◌<◌, ◌≤◌, ◌*◌, ◌^◌, Some, IfOk};
+ghost use Rattle.crush_choose.specs.declared.limits.TheConstants.{SIZE_LIMIT};
+ghost use Rattle.crush_pool.specs.declared.limits.TheConstants.{GROUP_LIMIT};
 ghost use Rattle.crush_report.specs.Moves as spec;
 ghost use Rattle.crush_report.specs.Reports.{moves};
 
@@ -105,7 +107,7 @@ pub fn moves_with(alloc: Global, from: &Placer, to: &Placer) -> Result<Listed<Mo
     requires states { to.now.states ≡ from.now.states }
     requires pool { to.now.pool ≡ from.now.pool }
     ensures rows { IfOk result (λ rows. Some rows ≡ moves from.now.map to.now.map from.now.states from.now.pool) }
-    ensures gained { IfOk result (λ rows. spec.gained_in rows ≤ 2097152) }
+    ensures gained { IfOk result (λ rows. spec.gained_in rows ≤ SIZE_LIMIT * GROUP_LIMIT) }
 {
     let _first = from.map();
     let _second = to.map();

@@ -13,13 +13,6 @@ use crush_rules::Out;
 use crush_rules::laws::traces_ascend;
 use std::alloc::{AllocError, Global};
 
-/// Whether a number is in a list.
-fn has_number(numbers: &[u32], number: u32) -> bool
-    ensures { result ≡ has_number numbers.now number }
-{
-    numbers.iter().any(|other| *other == number)
-}
-
 /// Whether a device is in the trace of a group.
 fn is_touched(
     placer: &Placer,
@@ -33,8 +26,7 @@ fn is_touched(
     ensures fits { scratch.new ≡ perms_of (tables_of placer.now.map) }
 {
     traces_ascend();
-    placer.run(scratch, out, group);
-    has_number(out.trace(), device)
+    placer.touches(scratch, out, group, device)
 }
 
 /// The groups of a pool in whose trace a device is, in order. `Err(AllocError)`: an allocation

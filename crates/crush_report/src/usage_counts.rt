@@ -39,6 +39,7 @@ impl Tally {
     ghost use Rattle.std.specs.Prelude.{◌≡◌, ◌<◌, ◌≤◌, ◌+◌, ◌*◌, ◌^◌, ◌&&◌, ℕ, Bool, true, List, [], ◌∷◌, ◌++◌, if◌then◌else◌, IfOk, length};
     ghost use Rattle.crush_choose.specs.Marks.{Slot};
     ghost use Rattle.crush_choose.specs.Firstn.{slot_has};
+    ghost use Rattle.crush_choose.specs.declared.limits.TheConstants.{SIZE_LIMIT};
     ghost use Rattle.crush_pool.specs.Placements.{up_of};
     ghost use Rattle.crush_report.specs.Private.Tallies.{IsTally, IsCounting, HasRoom, HasSameLengths, count_at, row_by};
     ghost use Rattle.crush_report.specs.Usage.{device_item};
@@ -77,11 +78,11 @@ impl Tally {
 
     /// Counts the entries of one more answer of a rule whose devices are up.
     fn count_up(&mut self, raw: &[Slot], flags: &DeviceStates)
-        requires short { length raw.now ≤ 32 }
-        requires groups { HasRoom self.old.groups 32 }
-        requires entries { HasRoom self.old.entries 32 }
-        requires primaries { HasRoom self.old.primaries 32 }
-        requires filled { self.old.filled + 32 < 2 ^ 32 }
+        requires short { length raw.now ≤ SIZE_LIMIT }
+        requires groups { HasRoom self.old.groups SIZE_LIMIT }
+        requires entries { HasRoom self.old.entries SIZE_LIMIT }
+        requires primaries { HasRoom self.old.primaries SIZE_LIMIT }
+        requires filled { self.old.filled + SIZE_LIMIT < 2 ^ 32 }
         ensures { IsCounting flags.now raw.now true self.old [] self.new }
     {
         let mut rest = raw;
@@ -101,11 +102,11 @@ impl Tally {
     /// in both kinds of pools: the other entries leave the up list of a replicated pool, and become
     /// none in that of an erasure pool.
     fn add(&mut self, raw: &[Slot], flags: &DeviceStates)
-        requires short { length raw.now ≤ 32 }
-        requires groups { HasRoom self.old.groups 32 }
-        requires entries { HasRoom self.old.entries 32 }
-        requires primaries { HasRoom self.old.primaries 32 }
-        requires filled { self.old.filled + 32 < 2 ^ 32 }
+        requires short { length raw.now ≤ SIZE_LIMIT }
+        requires groups { HasRoom self.old.groups SIZE_LIMIT }
+        requires entries { HasRoom self.old.entries SIZE_LIMIT }
+        requires primaries { HasRoom self.old.primaries SIZE_LIMIT }
+        requires filled { self.old.filled + SIZE_LIMIT < 2 ^ 32 }
         ensures { (bound : ℕ) (ups : List (List Slot)) (erasure : Bool) → IsTally bound ups self.old → IsTally bound (ups ++ up_of erasure flags.now raw.now ∷ []) self.new }
     {
         both_kinds_of_pools_have_the_same_devices();

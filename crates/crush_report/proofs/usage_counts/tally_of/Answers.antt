@@ -10,6 +10,7 @@ use Rattle.crush_report.proofs.Tallies.{entries_few, entries_most, entries_room,
 use Rattle.crush_report.specs.Private.OnMaps.{up_on}
 use Rattle.crush_report.specs.Private.Tallies.{id_bound}
 use Rattle.crush_report.proofs.usage_counts.tally_of.Goals as goal
+use Rattle.crush_pool.specs.declared.limits.TheConstants.{GROUP_LIMIT}
 
 pub add-requires-clause-groups : goal.add-requires-clause-groups
 add-requires-clause-groups c =
@@ -17,7 +18,7 @@ add-requires-clause-groups c =
     let n = c.loop-group.group in
     let valid : is_pool c.args.placer.now.pool ≡ true = rw c.pool.ensures at c.parts.ensures.valid in
     let below : n < c.args.placer.now.pool.pg_num = rw (c.parts.ensures.same ∙ c.pool.ensures) at c.loop-group-test.true in
-    let most : n ≤ 65536 = omega (arith, below, groups_few c.args.placer.now.pool valid) in
+    let most : n ≤ GROUP_LIMIT = omega (arith, below, groups_few c.args.placer.now.pool valid) in
     groups_room (id_bound c.args.devices.now) n (map up (range_with_len 0 n)) c.loop-group.tally c.loop-group.invariant.tally (omega (arith, length-map-range_with_len up 0 n)) most
 
 pub add-requires-clause-entries : goal.add-requires-clause-entries
@@ -26,7 +27,7 @@ add-requires-clause-entries c =
     let n = c.loop-group.group in
     let valid : is_pool c.args.placer.now.pool ≡ true = rw c.pool.ensures at c.parts.ensures.valid in
     let below : n < c.args.placer.now.pool.pg_num = rw (c.parts.ensures.same ∙ c.pool.ensures) at c.loop-group-test.true in
-    let most : n ≤ 65536 = omega (arith, below, groups_few c.args.placer.now.pool valid) in
+    let most : n ≤ GROUP_LIMIT = omega (arith, below, groups_few c.args.placer.now.pool valid) in
     let few = entries_few up 0 n (up_few c.args.placer.now valid) in
     entries_room (id_bound c.args.devices.now) n (map up (range_with_len 0 n)) c.loop-group.tally c.loop-group.invariant.tally few most
 
@@ -36,7 +37,7 @@ add-requires-clause-primaries c =
     let n = c.loop-group.group in
     let valid : is_pool c.args.placer.now.pool ≡ true = rw c.pool.ensures at c.parts.ensures.valid in
     let below : n < c.args.placer.now.pool.pg_num = rw (c.parts.ensures.same ∙ c.pool.ensures) at c.loop-group-test.true in
-    let most : n ≤ 65536 = omega (arith, below, groups_few c.args.placer.now.pool valid) in
+    let most : n ≤ GROUP_LIMIT = omega (arith, below, groups_few c.args.placer.now.pool valid) in
     primaries_room (id_bound c.args.devices.now) n (map up (range_with_len 0 n)) c.loop-group.tally c.loop-group.invariant.tally (omega (arith, length-map-range_with_len up 0 n)) most
 
 pub add-requires-clause-filled : goal.add-requires-clause-filled
@@ -45,7 +46,7 @@ add-requires-clause-filled c =
     let n = c.loop-group.group in
     let valid : is_pool c.args.placer.now.pool ≡ true = rw c.pool.ensures at c.parts.ensures.valid in
     let below : n < c.args.placer.now.pool.pg_num = rw (c.parts.ensures.same ∙ c.pool.ensures) at c.loop-group-test.true in
-    let most : n ≤ 65536 = omega (arith, below, groups_few c.args.placer.now.pool valid) in
+    let most : n ≤ GROUP_LIMIT = omega (arith, below, groups_few c.args.placer.now.pool valid) in
     let few = entries_few up 0 n (up_few c.args.placer.now valid) in
     filled_room (id_bound c.args.devices.now) n (map up (range_with_len 0 n)) c.loop-group.tally c.loop-group.invariant.tally few most
 
@@ -63,7 +64,7 @@ returns-clause-few c id =
     let n = c.loop-group.group in
     let valid : is_pool c.args.placer.now.pool ≡ true = rw c.pool.ensures at c.parts.ensures.valid in
     let end : n ≤ c.args.placer.now.pool.pg_num = rw (c.parts.ensures.same ∙ c.pool.ensures) at c.loop-group.auto.group-end in
-    let most : n ≤ 65536 = omega (arith, end, groups_few c.args.placer.now.pool valid) in
+    let most : n ≤ GROUP_LIMIT = omega (arith, end, groups_few c.args.placer.now.pool valid) in
     let few = entries_few up 0 n (up_few c.args.placer.now valid) in
     omega (arith, most, entries_most (id_bound c.args.devices.now) n (map up (range_with_len 0 n)) c.loop-group.tally c.loop-group.invariant.tally few id)
 

@@ -1,6 +1,6 @@
 use Rattle.std.proofs.Common.{◌≡◌, length}
 use Rattle.crush_pool.specs.Changes.{are_distinct}
-use Rattle.crush_pool.proofs.changes.are_distinct.Given as goal
+use Rattle.crush_pool.proofs.changes.are_distinct_by_pairs.Given as goal
 
 -- what is left decides
 abbrev pub invariant-loop-rest : goal.invariant-loop-rest
