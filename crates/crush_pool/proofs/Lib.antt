@@ -1,6 +1,7 @@
 mod Masks
-pub mod Padding
+pub mod Flags
 mod Placed
 mod Ranges
+mod Seen
 mod Uplists
 pub mod ValidChanges

@@ -12,6 +12,8 @@ use Rattle.crush_pool.specs.Changes.{are_valid_changes}
 use Rattle.crush_report.specs.DeviceCsv.{IsChangeRecord, IsDeviceCsv, IsFlag, IsNumber, Says, before, change_of, change_of_fields, change_with, changes_of, changes_under_head, device_changes_of, device_head, flag_of, if_valid, is_head, number_up_to, three_of}
 use Rattle.crush_pool.specs.declared.changes.DeviceChange.{DeviceChange}
 use Rattle.crush_pool.proofs.ValidChanges.{Decides-are_valid_changes}
+use Rattle.crush_map.specs.declared.limits.TheConstants.{NUMBER_LIMIT}
+use Rattle.crush_choose.specs.declared.weights.TheConstants.{FULL}
 
 -- ---- fields
 
@@ -55,24 +57,24 @@ flag_found text false is = rw is refl
 -- ---- records
 
 change_fields_say : (id weight flag : List ℕ) (c : DeviceChange) → change_of_fields id weight flag ≡ Some c → IsChangeRecord (id ∷ weight ∷ flag ∷ []) c
-change_fields_say id weight flag c e = on_device (number_up_to 65535 id) refl e
+change_fields_say id weight flag c e = on_device (number_up_to NUMBER_LIMIT id) refl e
   where
-    on_flag : (found : Option Bool) (d w : ℕ) → number_up_to 65535 id ≡ Some d → number_up_to 65536 weight ≡ Some w → flag_of flag ≡ found
+    on_flag : (found : Option Bool) (d w : ℕ) → number_up_to NUMBER_LIMIT id ≡ Some d → number_up_to FULL weight ≡ Some w → flag_of flag ≡ found
         → option_map (change_with d w) found ≡ Some c → IsChangeRecord (id ∷ weight ∷ flag ∷ []) c
     on_flag None d w f g h e = cc
     on_flag (Some b) d w f g h e =
         let same : change_with d w b ≡ c = cc in
-        rw (← same) (record { id = id; weight = weight; flag = flag; three = refl; device = number_says 65535 id d f; reweight = number_says 65536 weight w g; up = flag_says flag b h })
+        rw (← same) (record { id = id; weight = weight; flag = flag; three = refl; device = number_says NUMBER_LIMIT id d f; reweight = number_says FULL weight w g; up = flag_says flag b h })
 
-    on_weight : (found : Option ℕ) (d : ℕ) → number_up_to 65535 id ≡ Some d → number_up_to 65536 weight ≡ found
+    on_weight : (found : Option ℕ) (d : ℕ) → number_up_to NUMBER_LIMIT id ≡ Some d → number_up_to FULL weight ≡ found
         → option_and_then (λ w. option_map (change_with d w) (flag_of flag)) found ≡ Some c → IsChangeRecord (id ∷ weight ∷ flag ∷ []) c
     on_weight None d f g e = cc
     on_weight (Some w) d f g e = on_flag (flag_of flag) d w f g refl e
 
-    on_device : (found : Option ℕ) → number_up_to 65535 id ≡ found
-        → option_and_then (λ d. option_and_then (λ w. option_map (change_with d w) (flag_of flag)) (number_up_to 65536 weight)) found ≡ Some c → IsChangeRecord (id ∷ weight ∷ flag ∷ []) c
+    on_device : (found : Option ℕ) → number_up_to NUMBER_LIMIT id ≡ found
+        → option_and_then (λ d. option_and_then (λ w. option_map (change_with d w) (flag_of flag)) (number_up_to FULL weight)) found ≡ Some c → IsChangeRecord (id ∷ weight ∷ flag ∷ []) c
     on_device None f e = cc
-    on_device (Some d) f e = on_weight (number_up_to 65536 weight) d f refl e
+    on_device (Some d) f e = on_weight (number_up_to FULL weight) d f refl e
 
 change_says : (fields : List (List ℕ)) (c : DeviceChange) → change_of fields ≡ Some c → IsChangeRecord fields c
 unfolding three_of
@@ -86,11 +88,11 @@ change_found : (fields : List (List ℕ)) (c : DeviceChange) → IsChangeRecord 
 unfolding three_of
 change_found fields c is = rw is.three (with c.device c.reweight c.up is.device is.reweight is.up)
   where
-    with : (d : ℕ) (w : Option ℕ) (b : Option Bool) → IsNumber 65535 is.id d → Says (IsNumber 65536) is.weight w → Says IsFlag is.flag b
+    with : (d : ℕ) (w : Option ℕ) (b : Option Bool) → IsNumber NUMBER_LIMIT is.id d → Says (IsNumber FULL) is.weight w → Says IsFlag is.flag b
         → change_of_fields is.id is.weight is.flag ≡ Some (record { device = d; reweight = w; up = b })
     with d None b f g h = absurd g
     with d (Some w) None f g h = absurd h
-    with d (Some w) (Some b) f g h = rw (number_found 65535 is.id d f, number_found 65536 is.weight w g, flag_found is.flag b h) refl
+    with d (Some w) (Some b) f g h = rw (number_found NUMBER_LIMIT is.id d f, number_found FULL is.weight w g, flag_found is.flag b h) refl
 
 changes_say : (rows : List (List (List ℕ))) (cs : List DeviceChange) → changes_of rows ≡ Some cs → AllZip IsChangeRecord rows cs
 changes_say [] cs e =

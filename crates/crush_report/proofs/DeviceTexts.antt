@@ -7,6 +7,7 @@ use Rattle.csv.specs.Records.{field_at}
 use Rattle.crush_pool.specs.Changes.{are_distinct}
 use Rattle.crush_report.specs.DeviceCsv.{before, change_of, changes_of, changes_under_head, if_valid, is_head, three_of}
 use Rattle.crush_pool.specs.declared.changes.DeviceChange.{DeviceChange}
+use Rattle.crush_pool.specs.declared.limits.TheConstants.{CHANGE_LIMIT}
 
 pub no_three : (fields : List (List ℕ)) → (length fields ≡ 3 → ⊥) → three_of fields ≡ None
 unfolding three_of
@@ -45,23 +46,23 @@ changes_count (row ∷ rows) cs e = on_change (change_of row) (changes_count row
     on_change None count e = cc
     on_change (Some c) count e = on_others (changes_of rows) c count e
 
-no_room : (cs : List DeviceChange) → nat_le (length cs) 1024 ≡ false → if_valid cs ≡ None
+no_room : (cs : List DeviceChange) → nat_le (length cs) CHANGE_LIMIT ≡ false → if_valid cs ≡ None
 no_room cs e = one (nat_le 1 (length cs)) (are_distinct cs)
   where
-    one : (a b : Bool) → (if a && nat_le (length cs) 1024 && b then Some cs else None) ≡ None
+    one : (a b : Bool) → (if a && nat_le (length cs) CHANGE_LIMIT && b then Some cs else None) ≡ None
     one true b = rw e refl
     one false b = refl
 
-too_many : (rows : List (List (List ℕ))) → 1024 < length rows → option_and_then if_valid (changes_of rows) ≡ None
+too_many : (rows : List (List (List ℕ))) → CHANGE_LIMIT < length rows → option_and_then if_valid (changes_of rows) ≡ None
 too_many rows h = on_found (changes_of rows) refl
   where
     on_found : (found : Option (List DeviceChange)) → changes_of rows ≡ found → option_and_then if_valid found ≡ None
     on_found None e = refl
     on_found (Some cs) e =
-        let over : nat_le (length cs) 1024 ≡ false = grind (arith, changes_count rows cs e, h) in
+        let over : nat_le (length cs) CHANGE_LIMIT ≡ false = grind (arith, changes_count rows cs e, h) in
         no_room cs over
 
-pub first_suffice : (n : ℕ) (rows : List (List (List ℕ))) → 1024 < n → changes_under_head (take (suc n) rows) ≡ changes_under_head rows
+pub first_suffice : (n : ℕ) (rows : List (List (List ℕ))) → CHANGE_LIMIT < n → changes_under_head (take (suc n) rows) ≡ changes_under_head rows
 first_suffice n [] h = refl
 first_suffice n (head ∷ rows) h = ap (λ found. if is_head head then found else None) (elim (cases_Bool (nat_le (length rows) n)) [
   | inl few ↦ ap (λ rs. option_and_then if_valid (changes_of rs)) (take_all n rows (grind (arith, few)))

@@ -20,6 +20,7 @@ use Rattle.crush_report.specs.Private.OnMaps.{up_on, touched_on}
 use Rattle.crush_report.specs.Reports.{groups, impact, impact_by, moves, moves_by, up_list, usage, usage_by}
 use Rattle.crush_report.specs.Usage.{usage_rows}
 use Rattle.crush_report.proofs.Short.{up_short, size_few}
+use Rattle.crush_choose.specs.declared.limits.TheConstants.{SIZE_LIMIT}
 
 -- ---- the up list of a group
 
@@ -45,7 +46,8 @@ pub up_of_answer : (p : PoolOnMap) (group : ℕ) (raw : List Slot)
 unfolding placed
 up_of_answer p group raw e = ap (λ (slots : List Slot). up_of p.pool.erasure (flags_of p.states) slots) e
 
-pub up_few : (p : PoolOnMap) → is_pool p.pool ≡ true → (group : ℕ) → length (up_on p group) ≤ 32
+-- an up list has at most SIZE_LIMIT slots
+pub up_few : (p : PoolOnMap) → is_pool p.pool ≡ true → (group : ℕ) → length (up_on p group) ≤ SIZE_LIMIT
 up_few p is group =
     let short = up_short (tables_of p.map) (weights_of (reweights p.states)) (flags_of p.states) (steps_of p) p.pool group in
     omega (arith, short, size_few p.pool is)

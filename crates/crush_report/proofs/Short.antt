@@ -11,6 +11,8 @@ use Rattle.std.proofs.lemmas.Bool.Decides.{nat_tests}
 use Rattle.crush_pool.specs.Pools.{is_pool, seed_of}
 use Rattle.crush_pool.specs.declared.pool.PoolParts.{PoolParts}
 use Rattle.crush_report.specs.Reports.{up_list}
+use Rattle.crush_choose.specs.declared.limits.TheConstants.{SIZE_LIMIT}
+use Rattle.crush_pool.specs.declared.limits.TheConstants.{GROUP_LIMIT}
 
 -- ---- the answer of a rule
 
@@ -64,8 +66,8 @@ up_short t w flags steps p group =
 
 -- ---- the numbers of a pool
 
-pub size_few : (p : PoolParts) → is_pool p ≡ true → p.size ≤ 32
+pub size_few : (p : PoolParts) → is_pool p ≡ true → p.size ≤ SIZE_LIMIT
 size_few p is = grind (arith, nat_tests, is)
 
-pub groups_few : (p : PoolParts) → is_pool p ≡ true → p.pg_num ≤ 65536
+pub groups_few : (p : PoolParts) → is_pool p ≡ true → p.pg_num ≤ GROUP_LIMIT
 groups_few p is = grind (arith, nat_tests, is)

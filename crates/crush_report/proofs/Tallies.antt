@@ -1,4 +1,5 @@
--- Counts of up lists stay far below 2^32: there are at most 65,536 lists of at most 32 slots.
+-- Counts of up lists stay far below 2^32: there are at most GROUP_LIMIT
+-- lists of at most SIZE_LIMIT slots.
 use Rattle.std.proofs.Common.{◌≡◌, ℕ, zero, suc, ◌+◌, ◌*◌, ◌^◌, ◌<◌, ◌≤◌, max, nat_lt, Bool, true, false, List, [], ◌∷◌, length, map, take, get_or, is_some, Less, Equal, Greater, nat_cmp, refl, ap, arith, length-append, inl, inr}
 use Rattle.std.specs.Prelude.{◌==◌, cond}
 use Rattle.std.specs.Ordering.{is_lt, ord_max}
@@ -16,9 +17,11 @@ use Rattle.crush_report.proofs.Short.{filter_few}
 use Rattle.crush_report.specs.Private.Tallies.{count_at, HasRoom, TallyView, IsTally, id_bound, row_by}
 use Rattle.crush_report.specs.Usage.{device_item, all_entries, entries_of, usage_row, usage_rows}
 use Rattle.crush_report.specs.declared.rows.UsageRow.{UsageRow}
+use Rattle.crush_choose.specs.declared.limits.TheConstants.{SIZE_LIMIT}
+use Rattle.crush_pool.specs.declared.limits.TheConstants.{GROUP_LIMIT}
 
--- the entries of n lists of at most 32 slots
-pub entries_few : (up : ℕ → List Slot) (a n : ℕ) → ((group : ℕ) → length (up group) ≤ 32) → length (all_entries (map up (range_with_len a n))) ≤ 32 * n
+-- the entries of n lists of at most SIZE_LIMIT slots
+pub entries_few : (up : ℕ → List Slot) (a n : ℕ) → ((group : ℕ) → length (up group) ≤ SIZE_LIMIT) → length (all_entries (map up (range_with_len a n))) ≤ SIZE_LIMIT * n
 entries_few up a zero short = omega arith
 entries_few up a (suc n) short =
     omega (arith, short a, entries_few up (a + 1) n short, length-append (up a) (all_entries (map up (range_with_len (a + 1) n))))
@@ -33,8 +36,8 @@ at_most counts bound most len below id = elim (cases_lt id bound) [
   | inr ge ↦ (let past : length counts ≤ id = rw len ge in let none : count_at counts id ≡ 0 = get_or_past counts id 0 past in omega (arith, none))
 ]
 
-pub entries_most : (bound n : ℕ) (ups : List (List Slot)) (t : TallyView) → IsTally bound ups t → length (all_entries ups) ≤ 32 * n → (id : ℕ) → count_at t.entries id ≤ 32 * n
-entries_most bound n ups t is few = at_most t.entries bound (32 * n) is.entries_len (λ id lt. omega (arith, few, entries_below id ups, is.entries id lt))
+pub entries_most : (bound n : ℕ) (ups : List (List Slot)) (t : TallyView) → IsTally bound ups t → length (all_entries ups) ≤ SIZE_LIMIT * n → (id : ℕ) → count_at t.entries id ≤ SIZE_LIMIT * n
+entries_most bound n ups t is few = at_most t.entries bound (SIZE_LIMIT * n) is.entries_len (λ id lt. omega (arith, few, entries_below id ups, is.entries id lt))
 
 groups_most : (bound n : ℕ) (ups : List (List Slot)) (t : TallyView) → IsTally bound ups t → length ups ≤ n → (id : ℕ) → count_at t.groups id ≤ n
 groups_most bound n ups t is few =
@@ -46,16 +49,16 @@ primaries_most bound n ups t is few =
 
 -- ---- room for one more list, after n of them
 
-pub entries_room : (bound n : ℕ) (ups : List (List Slot)) (t : TallyView) → IsTally bound ups t → length (all_entries ups) ≤ 32 * n → n ≤ 65536 → HasRoom t.entries 32
+pub entries_room : (bound n : ℕ) (ups : List (List Slot)) (t : TallyView) → IsTally bound ups t → length (all_entries ups) ≤ SIZE_LIMIT * n → n ≤ GROUP_LIMIT → HasRoom t.entries SIZE_LIMIT
 entries_room bound n ups t is few most id = omega (arith, most, entries_most bound n ups t is few id)
 
-pub groups_room : (bound n : ℕ) (ups : List (List Slot)) (t : TallyView) → IsTally bound ups t → length ups ≤ n → n ≤ 65536 → HasRoom t.groups 32
+pub groups_room : (bound n : ℕ) (ups : List (List Slot)) (t : TallyView) → IsTally bound ups t → length ups ≤ n → n ≤ GROUP_LIMIT → HasRoom t.groups SIZE_LIMIT
 groups_room bound n ups t is few most id = omega (arith, most, groups_most bound n ups t is few id)
 
-pub primaries_room : (bound n : ℕ) (ups : List (List Slot)) (t : TallyView) → IsTally bound ups t → length ups ≤ n → n ≤ 65536 → HasRoom t.primaries 32
+pub primaries_room : (bound n : ℕ) (ups : List (List Slot)) (t : TallyView) → IsTally bound ups t → length ups ≤ n → n ≤ GROUP_LIMIT → HasRoom t.primaries SIZE_LIMIT
 primaries_room bound n ups t is few most id = omega (arith, most, primaries_most bound n ups t is few id)
 
-pub filled_room : (bound n : ℕ) (ups : List (List Slot)) (t : TallyView) → IsTally bound ups t → length (all_entries ups) ≤ 32 * n → n ≤ 65536 → t.filled + 32 < 2 ^ 32
+pub filled_room : (bound n : ℕ) (ups : List (List Slot)) (t : TallyView) → IsTally bound ups t → length (all_entries ups) ≤ SIZE_LIMIT * n → n ≤ GROUP_LIMIT → t.filled + SIZE_LIMIT < 2 ^ 32
 filled_room bound n ups t is few most = omega (arith, few, most, filter_few is_some (all_entries ups), is.filled)
 
 -- ---- rows

@@ -1,4 +1,4 @@
-//! Which groups of a pool a device can touch.
+//! The groups of a pool that a device can touch.
 
 ghost use Rattle.std.specs.Prelude.{◌≡◌, Some, IfOk};
 ghost use Rattle.crush_map.specs.Faults.{has_number};
@@ -13,13 +13,6 @@ use crush_rules::Out;
 use crush_rules::laws::traces_ascend;
 use std::alloc::{AllocError, Global};
 
-/// Whether a number is in a list.
-fn has_number(numbers: &[u32], number: u32) -> bool
-    ensures { result ≡ has_number numbers.now number }
-{
-    numbers.iter().any(|other| *other == number)
-}
-
 /// Whether a device is in the trace of a group.
 fn is_touched(
     placer: &Placer,
@@ -33,14 +26,14 @@ fn is_touched(
     ensures fits { scratch.new ≡ perms_of (tables_of placer.now.map) }
 {
     traces_ascend();
-    placer.run(scratch, out, group);
-    has_number(out.trace(), device)
+    placer.touches(scratch, out, group, device)
 }
 
-/// The groups of a pool in whose trace a device is, in order.
+/// The groups of a pool in whose trace a device is, in order. `Err(AllocError)`: an allocation
+/// failed.
 ///
-/// Lower reweights of the device leave every other group where the rule puts it
-/// (`crush_rules::run_rule`).
+/// A lower reweight of the device leaves the raw list of each other group as it is
+/// (`laws::groups_that_move_are_in_an_impact_list`).
 #[tactic(auto, using(crate::proofs::Groups::touched_more))]
 pub fn impact_with(alloc: Global, placer: &Placer, device: u32) -> Result<Listed<u32>, AllocError>
     ensures { IfOk result (λ found. Some found ≡ impact placer.now.map placer.now.states placer.now.pool device) }

@@ -1,4 +1,4 @@
-use Rattle.std.proofs.Common.{rules, arith, ◌≡◌, ◌≤◌, true, refl, sym, ◌∙◌}
+use Rattle.std.proofs.Common.{◌*◌, rules, arith, ◌≡◌, ◌≤◌, true, refl, sym, ◌∙◌}
 use Rattle.std.specs.List.{range_with_len}
 use Rattle.crush_pool.specs.Pools.{is_pool}
 use Rattle.crush_report.specs.Moves.{gained_in, move_between, move_rows}
@@ -9,6 +9,8 @@ use Rattle.crush_report.proofs.OnMaps.{moves_on, up_few, up_is}
 use Rattle.crush_report.proofs.Short.{groups_few}
 use Rattle.crush_report.proofs.moved_groups.moves_with.Goals as goal
 use Rattle.crush_report.proofs.moved_groups.moves_with.Goals.{in-Some+in_ok-push, in_default}
+use Rattle.crush_choose.specs.declared.limits.TheConstants.{SIZE_LIMIT}
+use Rattle.crush_pool.specs.declared.limits.TheConstants.{GROUP_LIMIT}
 
 pub loop-group-preserved : goal.loop-group-preserved
 loop-group-preserved c =
@@ -44,5 +46,5 @@ returns-clause-gained c =
     let also : is_pool c.args.to.now.pool ≡ true = rw c.requires.pool valid in
     let end : n ≤ c.args.from.now.pool.pg_num = rw (c.parts.ensures.same ∙ c.pool.ensures) at c.loop-group.auto.group-end in
     let few = gains_few old new 0 n (up_few c.args.to.now also) in
-    let all : gained_in (move_rows old new (range_with_len 0 n)) ≤ 2097152 = omega (arith, few, end, groups_few c.args.from.now.pool valid) in
+    let all : gained_in (move_rows old new (range_with_len 0 n)) ≤ SIZE_LIMIT * GROUP_LIMIT = omega (arith, few, end, groups_few c.args.from.now.pool valid) in
     rw (c.new.ensures ∙ c.loop-group.invariant.rows) all

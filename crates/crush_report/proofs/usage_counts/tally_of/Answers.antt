@@ -1,6 +1,7 @@
-use Rattle.std.proofs.Common.{◌≡◌, ◌<◌, ◌≤◌, map, true, arith, ◌∙◌}
+use Rattle.std.proofs.Common.{◌≡◌, ◌<◌, ◌≤◌, map, true, ap, arith, ◌∙◌}
 use Rattle.std.specs.List.{range_with_len}
 use Rattle.std.proofs.lemmas.List.FromFn.{length-map-range_with_len}
+use Rattle.crush_pool.specs.Placements.{up_of}
 use Rattle.crush_pool.specs.Pools.{is_pool}
 use Rattle.crush_report.proofs.Groups.{lists_more}
 use Rattle.crush_report.proofs.OnMaps.{up_few, up_of_answer}
@@ -9,14 +10,7 @@ use Rattle.crush_report.proofs.Tallies.{entries_few, entries_most, entries_room,
 use Rattle.crush_report.specs.Private.OnMaps.{up_on}
 use Rattle.crush_report.specs.Private.Tallies.{id_bound}
 use Rattle.crush_report.proofs.usage_counts.tally_of.Goals as goal
-
-pub add-requires-clause-short : goal.add-requires-clause-short
-add-requires-clause-short c =
-    let p = c.args.placer.now in
-    let n = c.loop-group.group in
-    let valid : is_pool p.pool ≡ true = rw c.pool.ensures at c.parts.ensures.valid in
-    let is : c.as_slice-listed.result.now ≡ up_on p n = c.as_slice-listed.ensures.value ∙ c.in_ok-up_into.ensures ∙ up_of_answer p n c.run.new.out.items c.run.ensures.items in
-    rw is (up_few p valid n)
+use Rattle.crush_pool.specs.declared.limits.TheConstants.{GROUP_LIMIT}
 
 pub add-requires-clause-groups : goal.add-requires-clause-groups
 add-requires-clause-groups c =
@@ -24,7 +18,7 @@ add-requires-clause-groups c =
     let n = c.loop-group.group in
     let valid : is_pool c.args.placer.now.pool ≡ true = rw c.pool.ensures at c.parts.ensures.valid in
     let below : n < c.args.placer.now.pool.pg_num = rw (c.parts.ensures.same ∙ c.pool.ensures) at c.loop-group-test.true in
-    let most : n ≤ 65536 = omega (arith, below, groups_few c.args.placer.now.pool valid) in
+    let most : n ≤ GROUP_LIMIT = omega (arith, below, groups_few c.args.placer.now.pool valid) in
     groups_room (id_bound c.args.devices.now) n (map up (range_with_len 0 n)) c.loop-group.tally c.loop-group.invariant.tally (omega (arith, length-map-range_with_len up 0 n)) most
 
 pub add-requires-clause-entries : goal.add-requires-clause-entries
@@ -33,7 +27,7 @@ add-requires-clause-entries c =
     let n = c.loop-group.group in
     let valid : is_pool c.args.placer.now.pool ≡ true = rw c.pool.ensures at c.parts.ensures.valid in
     let below : n < c.args.placer.now.pool.pg_num = rw (c.parts.ensures.same ∙ c.pool.ensures) at c.loop-group-test.true in
-    let most : n ≤ 65536 = omega (arith, below, groups_few c.args.placer.now.pool valid) in
+    let most : n ≤ GROUP_LIMIT = omega (arith, below, groups_few c.args.placer.now.pool valid) in
     let few = entries_few up 0 n (up_few c.args.placer.now valid) in
     entries_room (id_bound c.args.devices.now) n (map up (range_with_len 0 n)) c.loop-group.tally c.loop-group.invariant.tally few most
 
@@ -43,7 +37,7 @@ add-requires-clause-primaries c =
     let n = c.loop-group.group in
     let valid : is_pool c.args.placer.now.pool ≡ true = rw c.pool.ensures at c.parts.ensures.valid in
     let below : n < c.args.placer.now.pool.pg_num = rw (c.parts.ensures.same ∙ c.pool.ensures) at c.loop-group-test.true in
-    let most : n ≤ 65536 = omega (arith, below, groups_few c.args.placer.now.pool valid) in
+    let most : n ≤ GROUP_LIMIT = omega (arith, below, groups_few c.args.placer.now.pool valid) in
     primaries_room (id_bound c.args.devices.now) n (map up (range_with_len 0 n)) c.loop-group.tally c.loop-group.invariant.tally (omega (arith, length-map-range_with_len up 0 n)) most
 
 pub add-requires-clause-filled : goal.add-requires-clause-filled
@@ -52,7 +46,7 @@ add-requires-clause-filled c =
     let n = c.loop-group.group in
     let valid : is_pool c.args.placer.now.pool ≡ true = rw c.pool.ensures at c.parts.ensures.valid in
     let below : n < c.args.placer.now.pool.pg_num = rw (c.parts.ensures.same ∙ c.pool.ensures) at c.loop-group-test.true in
-    let most : n ≤ 65536 = omega (arith, below, groups_few c.args.placer.now.pool valid) in
+    let most : n ≤ GROUP_LIMIT = omega (arith, below, groups_few c.args.placer.now.pool valid) in
     let few = entries_few up 0 n (up_few c.args.placer.now valid) in
     filled_room (id_bound c.args.devices.now) n (map up (range_with_len 0 n)) c.loop-group.tally c.loop-group.invariant.tally few most
 
@@ -60,8 +54,8 @@ pub loop-group-preserved : goal.loop-group-preserved
 loop-group-preserved c =
     let p = c.args.placer.now in
     let n = c.loop-group.group in
-    let is : c.as_slice-listed.result.now ≡ up_on p n = c.as_slice-listed.ensures.value ∙ c.in_ok-up_into.ensures ∙ up_of_answer p n c.run.new.out.items c.run.ensures.items in
-    let one = c.add.ensures (id_bound c.args.devices.now) (map (up_on p) (range_with_len 0 n)) c.primary_of.ensures c.loop-group.invariant.tally in
+    let is = ap (λ flags. up_of p.pool.erasure flags c.items.result.now) c.flags.ensures ∙ up_of_answer p n c.items.result.now (c.items.ensures.value ∙ c.run.ensures.items) in
+    let one = c.add.ensures (id_bound c.args.devices.now) (map (up_on p) (range_with_len 0 n)) p.pool.erasure c.loop-group.invariant.tally in
     record { fits = c.run.ensures.fits; tally = rw (lists_more (up_on p) n) (rw is at one) }
 
 pub returns-clause-few : goal.returns-clause-few
@@ -70,7 +64,7 @@ returns-clause-few c id =
     let n = c.loop-group.group in
     let valid : is_pool c.args.placer.now.pool ≡ true = rw c.pool.ensures at c.parts.ensures.valid in
     let end : n ≤ c.args.placer.now.pool.pg_num = rw (c.parts.ensures.same ∙ c.pool.ensures) at c.loop-group.auto.group-end in
-    let most : n ≤ 65536 = omega (arith, end, groups_few c.args.placer.now.pool valid) in
+    let most : n ≤ GROUP_LIMIT = omega (arith, end, groups_few c.args.placer.now.pool valid) in
     let few = entries_few up 0 n (up_few c.args.placer.now valid) in
     omega (arith, most, entries_most (id_bound c.args.devices.now) n (map up (range_with_len 0 n)) c.loop-group.tally c.loop-group.invariant.tally few id)
 
