@@ -142,7 +142,7 @@ def wrong():
     have = text[text.index(BEGIN) + len(BEGIN) : text.index(END)].strip("\n").splitlines()
     for number, (line, other) in enumerate(zip([*have, None], [*listed().splitlines(), None]), first + 1):
         if line != other:
-            return f"line {number}: the list of cited definitions isn't that of the sources, where {other!r} stands in place of {line!r}; tests/cited.py --write mends it"
+            return f"line {number}: the list of cited definitions isn't that of the sources: it has {line!r}, and they have {other!r}; tests/cited.py --write mends it"
     return None
 
 

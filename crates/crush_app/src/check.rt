@@ -103,7 +103,7 @@ fn read_verdict<R: Read>(alloc: Global, reader: &mut R) -> Result<Option<Verdict
     ensures verdict { IfOk result (λ found. IfSome found (λ v. OfInput (R.remaining reader.old) (λ input. IsVerdict v.accepted input (string_bytes v.line)))) }
     ensures rest { IfOk result (λ found. IfSome found (λ _. DropsFirst (TEXT_LIMIT + 1) (R.remaining reader.old) (R.remaining reader.new))) }
 {
-    match read_input(alloc, reader, TEXT_LIMIT) {
+    match read_input(alloc, reader, TEXT_LIMIT as u32) {
         Ok(text) => Ok(Some(verdict_on(alloc, text.as_slice())?)),
         Err(InputFault::TooLong) => Ok(Some(too_long(alloc)?)),
         Err(InputFault::NoMemory) => Err(AllocError),

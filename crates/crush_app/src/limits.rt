@@ -4,4 +4,4 @@
 pub const SCRIPT_LIMIT: u32 = 67_108_864;
 
 /// The length of a map's text, in bytes.
-pub const TEXT_LIMIT: u32 = 524_288;
+pub const TEXT_LIMIT: usize = 524_288;
