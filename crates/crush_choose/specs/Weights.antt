@@ -2,7 +2,7 @@
 -- opposite).
 use Rattle.std.specs.Prelude.{ℕ, ℤ, pos, negsuc, ◌%◌, ◌&&◌, ◌||◌, nat_lt, nat_le, Bool, false, List, slice_index_or}
 use Rattle.crush_hash.specs.Hash.{hash2}
-use Rattle.crush_map.specs.DeviceValues.{value_of, values_of}
+use Rattle.crush_values.specs.DeviceValues.{value_of, values_of}
 use Rattle.crush_map.specs.declared.word.ItemId.{ItemId}
 use Rattle.crush_choose.specs.declared.weights.TheConstants.{FULL}
 

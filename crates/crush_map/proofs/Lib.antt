@@ -1,4 +1,3 @@
-pub mod DeviceValues
 mod Tables
 pub mod Checks
 pub mod Passing

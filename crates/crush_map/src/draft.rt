@@ -3,9 +3,8 @@
 //! Source: Ceph's CRUSH map manual. Each number has a type that can hold values out of its range,
 //! so that a draft can be refused for them. The limits are in `limits`.
 
-use crate::list::Listed;
-use crate::text::Text;
 use crate::word::{ItemId, Kind, Weight};
+use crush_values::{Listed, Text};
 
 /// A type of buckets; type 0 is that of devices.
 #[derive(Drop)]

@@ -3,7 +3,6 @@
 //! Its tests are in the crate `map_tests`.
 #![tactic(auto)]
 
-mod by_device;
 mod decimal;
 mod draft;
 mod fault;
@@ -13,15 +12,13 @@ mod judge;
 mod known;
 mod law;
 pub mod limits;
-mod list;
 mod map;
 mod names;
 mod numbers;
-mod text;
 mod weights;
 mod word;
 
-pub use by_device::ByDevice;
+pub use crush_values::{ByDevice, Listed, Text};
 pub use decimal::{
     are_digits, weight_comes_back, weight_from_text, weight_text, weight_texts_are_read,
 };
@@ -33,8 +30,6 @@ pub use law::{
     buckets_are_sound, drafts_declare_maps, first_fault_is_first, numbers_and_names_are_once,
     numbers_are_sound, rules_are_sound,
 };
-pub use list::Listed;
 pub use map::CrushMap;
-pub use text::Text;
 pub use weights::{has_equal_weights, total_weight};
 pub use word::{ItemId, Kind, Weight};

@@ -4,6 +4,8 @@
 //! are numbers of elements. The limits are those of Ceph's maps where it has any, and otherwise
 //! this program's own.
 
+pub use crush_values::limits::ID_COUNT;
+
 /// The most types of a map.
 pub const TYPE_LIMIT: usize = 32;
 
@@ -30,10 +32,7 @@ pub const NAME_LIMIT: usize = 64;
 
 /// The greatest number of a type, the greatest id of a device, and the greatest n of which -1 - n
 /// is the id of a bucket.
-pub const NUMBER_LIMIT: u32 = 65_535;
-
-/// How many different ids a device can have: 0 to `NUMBER_LIMIT`.
-pub const ID_COUNT: usize = NUMBER_LIMIT as usize + 1;
+pub const NUMBER_LIMIT: u32 = ID_COUNT as u32 - 1;
 
 /// The greatest id of a rule.
 pub const RULE_ID_LIMIT: u32 = 255;

@@ -8,7 +8,8 @@ use Rattle.std.specs.Char.{is_ascii}
 use Rattle.std.specs.Fmt.{decimal, signed_decimal}
 use Rattle.std.specs.List.{flat_map, list_all, AllByRecursion}
 use Rattle.std.specs.Str.{IsAscii, IsUtf8}
-use Rattle.crush_map.specs.declared.limits.TheConstants.{ID_COUNT, NAME_LIMIT, NUMBER_LIMIT}
+use Rattle.crush_map.specs.declared.limits.TheConstants.{NAME_LIMIT, NUMBER_LIMIT}
+use Rattle.crush_values.specs.declared.limits.TheConstants.{ID_COUNT}
 use Rattle.crush_map.specs.declared.draft.TypeName.{TypeName}
 use Rattle.crush_map.specs.declared.draft.Device.{Device}
 use Rattle.crush_map.specs.declared.draft.Bucket.{Bucket}

@@ -2,7 +2,8 @@
 use Rattle.std.proofs.Common.{◌≡◌, ◌∙◌, ℕ, ℤ, pos, negsuc, ◌+◌, ◌-◌, ◌≤◌, min, nat_le, List, [], ◌∷◌, ◌++◌, length, map, true, refl, sym, ap, arith, Option, Some, None, is_none}
 use Rattle.std.proofs.lemmas.Bool.Decides.{nat_tests}
 use Rattle.std.specs.List.{find, filter, filter_map, AllByRecursion}
-use Rattle.crush_map.specs.declared.limits.TheConstants.{COUNT_LIMIT, ID_COUNT, NUMBER_LIMIT, RULE_ID_LIMIT}
+use Rattle.crush_map.specs.declared.limits.TheConstants.{COUNT_LIMIT, NUMBER_LIMIT, RULE_ID_LIMIT}
+use Rattle.crush_values.specs.declared.limits.TheConstants.{ID_COUNT}
 use Rattle.crush_map.specs.declared.fault.FaultCode.{FaultCode}
 use Rattle.crush_map.specs.declared.draft.Bucket.{Bucket}
 use Rattle.crush_map.specs.declared.draft.Rule.{Rule}

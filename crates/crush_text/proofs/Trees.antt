@@ -5,7 +5,8 @@ use Rattle.std.proofs.lemmas.List.{append-nil}
 use Rattle.std.proofs.lemmas.List.Sums.{sum_by-cons}
 use Rattle.std.specs.List.{flat_map, list_all, AllByRecursion}
 use Rattle.std.specs.Fmt.{decimal, signed_decimal}
-use Rattle.crush_map.specs.declared.limits.TheConstants.{COUNT_LIMIT, ID_COUNT, NAME_LIMIT, NUMBER_LIMIT, RULE_ID_LIMIT, TRIES_LIMIT}
+use Rattle.crush_map.specs.declared.limits.TheConstants.{COUNT_LIMIT, NAME_LIMIT, NUMBER_LIMIT, RULE_ID_LIMIT, TRIES_LIMIT}
+use Rattle.crush_values.specs.declared.limits.TheConstants.{ID_COUNT}
 use Rattle.crush_map.specs.declared.draft.TypeName.{TypeName}
 use Rattle.crush_map.specs.declared.draft.Device.{Device}
 use Rattle.crush_map.specs.declared.draft.Bucket.{Bucket}

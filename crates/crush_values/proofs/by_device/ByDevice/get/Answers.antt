@@ -1,7 +1,7 @@
 use Rattle.std.proofs.Common.{◌≡◌, ◌<◌, ◌≤◌, length, slice_index_or, sym, ◌∙◌, arith}
 use Rattle.std.proofs.lemmas.Grind.{common_steps}
-use Rattle.crush_map.proofs.DeviceValues.{in_table, past_table}
-use Rattle.crush_map.proofs.by_device.ByDevice.get.Goals as goal
+use Rattle.crush_values.proofs.DeviceValues.{in_table, past_table}
+use Rattle.crush_values.proofs.by_device.ByDevice.get.Goals as goal
 
 pub returns-in-Some : goal.returns-in-Some
 returns-in-Some g c =

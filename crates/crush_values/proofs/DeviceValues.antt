@@ -7,9 +7,9 @@ use Rattle.std.proofs.lemmas.Bool.Decides.{nat_tests}
 use Rattle.std.proofs.lemmas.List.{take_all, set_past, ext_get_or, get_or_past, length-replicate, get_or-replicate, get_or-append_right, get_or-set_same, get_or-set_other, replicate-append-replicate, set-append_left}
 use Rattle.std.proofs.lemmas.List.FromFn.{length-map-range_with_len, get_or-map-range_with_len}
 use Rattle.std.specs.List.{range_with_len}
-use Rattle.crush_map.specs.declared.limits.TheConstants.{ID_COUNT}
-use Rattle.crush_map.specs.DeviceValues.{Values, all, with_value, value_at, first_given, value_of, values_of}
-use Rattle.crush_map.specs.Private.Padded.{padded}
+use Rattle.crush_values.specs.declared.limits.TheConstants.{ID_COUNT}
+use Rattle.crush_values.specs.DeviceValues.{Values, all, with_value, value_at, first_given, value_of, values_of}
+use Rattle.crush_values.specs.Private.Padded.{padded}
 
 -- ---- pairs
 

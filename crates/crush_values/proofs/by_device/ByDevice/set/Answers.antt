@@ -1,8 +1,8 @@
 use Rattle.std.proofs.Common.{◌<◌, ◌≤◌, ◌∙◌, ap, length, arith}
-use Rattle.crush_map.specs.declared.limits.TheConstants.{ID_COUNT}
-use Rattle.crush_map.specs.DeviceValues.{with_value}
-use Rattle.crush_map.proofs.DeviceValues.{is_set, is_past, pair_before}
-use Rattle.crush_map.proofs.by_device.ByDevice.set.Goals as goal
+use Rattle.crush_values.specs.declared.limits.TheConstants.{ID_COUNT}
+use Rattle.crush_values.specs.DeviceValues.{with_value}
+use Rattle.crush_values.proofs.DeviceValues.{is_set, is_past, pair_before}
+use Rattle.crush_values.proofs.by_device.ByDevice.set.Goals as goal
 
 pub returns-in_ok-reach-clause-ok : goal.returns-in_ok-reach-clause-ok
 returns-in_ok-reach-clause-ok g c =

@@ -1,7 +1,7 @@
 use Rattle.std.proofs.Common.{◌≡◌, ◌∙◌, ap, drop, arith}
-use Rattle.crush_map.specs.DeviceValues.{value_at, values_of}
-use Rattle.crush_map.proofs.DeviceValues.{value-values_of, pair_put}
-use Rattle.crush_map.proofs.by_device.ByDevice.of.Goals as goal
+use Rattle.crush_values.specs.DeviceValues.{value_at, values_of}
+use Rattle.crush_values.proofs.DeviceValues.{value-values_of, pair_put}
+use Rattle.crush_values.proofs.by_device.ByDevice.of.Goals as goal
 
 pub loop-place-preserved : goal.loop-place-preserved
 loop-place-preserved g c =

@@ -1,7 +1,7 @@
 use Rattle.std.proofs.Common.{arith}
 use Rattle.std.specs.Vec.{vec_len}
-use Rattle.crush_map.proofs.DeviceValues.{padded-resized}
-use Rattle.crush_map.proofs.by_device.reach.Goals as goal
+use Rattle.crush_values.proofs.DeviceValues.{padded-resized}
+use Rattle.crush_values.proofs.by_device.reach.Goals as goal
 
 pub returns-in_ok-resize-clause-same : goal.returns-in_ok-resize-clause-same
 returns-in_ok-resize-clause-same g c =

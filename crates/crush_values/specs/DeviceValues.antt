@@ -1,7 +1,7 @@
 -- A value for each id that a device can have, from pairs of id and value.
 use Rattle.std.specs.Prelude.{ℕ, ◌==◌, nat_lt, List, [], ◌∷◌, map, set, replicate, slice_index_or, if◌then◌else◌}
 use Rattle.std.specs.List.{range_with_len}
-use Rattle.crush_map.specs.declared.limits.TheConstants.{ID_COUNT}
+use Rattle.crush_values.specs.declared.limits.TheConstants.{ID_COUNT}
 
 -- the values of the ids from 0 to ID_COUNT - 1, in order, and that of the rest
 pub record Values (T : Type 0) : Type 0 where

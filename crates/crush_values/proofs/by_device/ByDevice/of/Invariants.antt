@@ -1,6 +1,6 @@
 use Rattle.std.proofs.Common.{◌≡◌, drop}
-use Rattle.crush_map.specs.DeviceValues.{values_of}
-use Rattle.crush_map.proofs.by_device.ByDevice.of.Given as goal
+use Rattle.crush_values.specs.DeviceValues.{values_of}
+use Rattle.crush_values.proofs.by_device.ByDevice.of.Given as goal
 
 -- the pairs from this place on are in the table
 abbrev pub invariant-loop-place : goal.invariant-loop-place

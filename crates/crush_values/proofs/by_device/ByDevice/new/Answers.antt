@@ -1,7 +1,7 @@
 use Rattle.std.proofs.Common.{◌∙◌, ap}
-use Rattle.crush_map.specs.Private.Padded.{padded}
-use Rattle.crush_map.proofs.DeviceValues.{has_none, nothing_given}
-use Rattle.crush_map.proofs.by_device.ByDevice.new.Goals as goal
+use Rattle.crush_values.specs.Private.Padded.{padded}
+use Rattle.crush_values.proofs.DeviceValues.{has_none, nothing_given}
+use Rattle.crush_values.proofs.by_device.ByDevice.new.Goals as goal
 
 pub returns-clause-all : goal.returns-clause-all
 returns-clause-all g c = has_none c.args.rest c.reach.new.table.items (c.reach.ensures.same ∙ ap (padded c.args.rest) c.new-table.ensures.items)

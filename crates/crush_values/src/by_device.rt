@@ -1,8 +1,8 @@
 //! A value for each id that a device can have.
 
 ghost use Rattle.std.specs.Prelude.{◌≡◌, ◌≤◌, ◌∷◌, [], ℕ, List, max, length, IfOk, OnOk, OnErr};
-ghost use Rattle.crush_map.specs.DeviceValues as spec;
-ghost use Rattle.crush_map.specs.Private.Padded.{padded};
+ghost use Rattle.crush_values.specs.DeviceValues as spec;
+ghost use Rattle.crush_values.specs.Private.Padded.{padded};
 
 use crate::limits::ID_COUNT;
 use std::alloc::{AllocError, Global};
@@ -21,9 +21,9 @@ pub struct ByDevice<T> {
 
 impl<T> Model for ByDevice<T> {
     ghost use Rattle.std.specs.Prelude.{◌≤◌, length};
-    ghost use Rattle.crush_map.specs.declared.limits.TheConstants.{ID_COUNT};
-    ghost use Rattle.crush_map.specs.DeviceValues.{Values};
-    ghost use Rattle.crush_map.specs.Private.Padded.{padded};
+    ghost use Rattle.crush_values.specs.declared.limits.TheConstants.{ID_COUNT};
+    ghost use Rattle.crush_values.specs.DeviceValues.{Values};
+    ghost use Rattle.crush_values.specs.Private.Padded.{padded};
 
     ghost Value = { Values T };
 

@@ -1,0 +1,2 @@
+pub mod DeviceValues
+pub mod Private
