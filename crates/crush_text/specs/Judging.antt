@@ -58,8 +58,10 @@ nothing_declared = record {
   tunables = [];
 }
 
--- ---- numbers: one that a draft can't hold stands as the nearest that it can, which is out of every range too
+-- ---- numbers
 
+-- a number that a draft can't hold is taken as the nearest one that it can, which is out of every
+-- range too
 abbrev pub fitted : ℕ → ℕ
 fitted n = min n 4294967295
 
