@@ -1,5 +1,5 @@
 -- Changes whose devices were seen before.
-use Rattle.std.proofs.Common.{◌≡◌, ◌<◌, ℕ, zero, suc, ◌+◌, ◌-◌, ◌&&◌, List, [], ◌∷◌, Bool, true, false, not, length, drop, replicate, slice_index_or, refl, arith, sym}
+use Rattle.std.proofs.Common.{◌≡◌, ◌<◌, ℕ, zero, suc, ◌&&◌, List, [], ◌∷◌, Bool, true, false, not, length, drop, replicate, slice_index_or, refl, arith}
 use Rattle.std.specs.List.{list_any}
 use Rattle.std.proofs.lemmas.List.{get_or-replicate, length-replicate}
 use Rattle.std.proofs.Math.Seq.{drop-length}

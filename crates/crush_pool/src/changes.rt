@@ -11,9 +11,9 @@ use crush_map::limits::ID_COUNT;
 /// A change of the state of a device. What is `None` stays as it is.
 #[derive(Clone, Copy, Debug, PartialEq, Eq)]
 pub struct DeviceChange {
-    /// The id of the device, 0..65535.
+    /// The id of the device, 0..`NUMBER_LIMIT`.
     pub device: u32,
-    /// The new reweight, in 16.16 fixed point, 0..65536.
+    /// The new reweight, in 16.16 fixed point, 0..`FULL`.
     pub reweight: Option<u32>,
     /// Whether it is up from now on.
     pub up: Option<bool>,

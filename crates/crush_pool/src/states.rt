@@ -12,8 +12,8 @@ use std::marker::Model;
 pub struct DeviceState {
     /// The id of the device.
     pub device: u32,
-    /// In 16.16 fixed point, 0..65536: with 65536 (1.0) the device takes all that CRUSH gives it,
-    /// with 0 nothing.
+    /// Its reweight in 16.16 fixed point, 0..`FULL`: with `FULL` (1.0) the device takes all that
+    /// CRUSH gives it, with 0 nothing.
     pub reweight: u32,
     /// Whether it is up; else it is down.
     pub up: bool,

@@ -1,5 +1,5 @@
 -- What is up of an answer is counted slot by slot, and counts the same in both kinds of pools.
-use Rattle.std.proofs.Common.{◌≡◌, ◌<◌, ◌≤◌, ℕ, pos, suc, ◌+◌, ◌-◌, ◌^◌, ◌&&◌, ◌||◌, List, [], ◌∷◌, ◌++◌, length, take, drop, slice_index_or, filter, Bool, true, false, not, cond, if◌then◌else◌, is_some, Some, None, find, unwrap_or, refl, ap, sym, ◌∙◌, arith, length-append, inl, inr}
+use Rattle.std.proofs.Common.{◌≡◌, ◌<◌, ◌≤◌, ℕ, pos, suc, ◌+◌, ◌-◌, ◌&&◌, ◌||◌, List, [], ◌∷◌, ◌++◌, length, take, drop, slice_index_or, filter, Bool, true, false, not, cond, if◌then◌else◌, is_some, Some, None, find, unwrap_or, refl, ap, sym, ◌∙◌, arith, length-append, inl, inr}
 use Rattle.std.specs.Ordering.{int_eq}
 use Rattle.std.proofs.Math.Seq.{take-length}
 use Rattle.std.proofs.lemmas.Bool.{cases_lt}
@@ -13,7 +13,7 @@ use Rattle.crush_choose.specs.Marks.{Slot}
 use Rattle.crush_pool.specs.Placements.{id_is_up, is_up_slot, primary_of, up_of}
 use Rattle.crush_report.proofs.Sums.{filter_if, one_if}
 use Rattle.crush_report.specs.Private.Tallies.{HasRoom, HasSameLengths, IsCounting, IsTally, TallyView, count_at, entries_in, filled_in, groups_in, is_again, primaries_in}
-use Rattle.crush_report.specs.Usage.{all_entries, device_item, entries_of, entry_count, groups_of, primaries_of}
+use Rattle.crush_report.specs.Usage.{all_entries, device_item}
 
 -- ---- one slot of an answer
 

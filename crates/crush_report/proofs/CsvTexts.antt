@@ -1,8 +1,7 @@
 -- Texts of records, one record after the other. No field here calls for quotes, so each is written
 -- as it stands.
-use Rattle.std.proofs.Common.{◌≡◌, ◌<◌, ◌≤◌, ◌+◌, ◌/◌, ◌%◌, ◌==◌, ◌||◌, ◌++◌, ◌∷◌, [], ℕ, ℤ, pos, negsuc, zero, suc, Bool, true, false, cond, if◌then◌else◌, Some, None, List, length, get_or, take, map, flat_map, codes, refl, sym, ap, ◌∙◌, append_assoc, arith, nat_lt}
+use Rattle.std.proofs.Common.{◌≡◌, ◌<◌, ◌≤◌, ◌+◌, ◌/◌, ◌%◌, ◌==◌, ◌++◌, ◌∷◌, [], ℕ, ℤ, pos, negsuc, zero, suc, Bool, true, false, if◌then◌else◌, Some, None, List, length, get_or, take, map, flat_map, codes, refl, sym, ap, ◌∙◌, append_assoc, arith, nat_lt}
 use Rattle.std.specs.Fmt.{decimal, digit_glyph, digits, digits_onto, signed_decimal}
-use Rattle.std.specs.List.{join_by, list_any}
 use Rattle.std.proofs.lemmas.Bool.Decides.{nat_tests}
 use Rattle.std.proofs.lemmas.List.{append-nil, map-append, take_more}
 use Rattle.std.proofs.lemmas.List.Folds.{list_any-append}

@@ -1,5 +1,5 @@
 -- Each item of the answer of a map's rule is an item of the map.
-use Rattle.std.proofs.Common.{◌≡◌, ℕ, Some, IfSome, slice_get, slice_index_or, sym, ◌∙◌}
+use Rattle.std.proofs.Common.{◌≡◌, ◌==◌, ℕ, List, Some, IfSome, slice_get, slice_index_or, sym, ◌∙◌}
 use Rattle.std.specs.List.{All, position_or_len}
 use Rattle.std.proofs.lemmas.List.Folds.{find_at}
 use Rattle.std.proofs.lemmas.Option.{slice_get-get_or}

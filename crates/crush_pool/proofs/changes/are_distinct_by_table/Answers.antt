@@ -1,4 +1,4 @@
-use Rattle.std.proofs.Common.{◌≡◌, None, ◌<◌, ◌+◌, ◌-◌, suc, ◌∙◌, sym, refl, arith, true, drop, length, slice_index_or}
+use Rattle.std.proofs.Common.{◌≡◌, None, ◌+◌, ◌-◌, suc, ◌∙◌, sym, refl, arith, true, drop, slice_index_or}
 use Rattle.std.specs.List.{list_any}
 use Rattle.std.proofs.Math.Seq.{drop-length}
 use Rattle.std.proofs.lemmas.List.{take_rest}

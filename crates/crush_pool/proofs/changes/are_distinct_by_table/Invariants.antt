@@ -1,4 +1,4 @@
-use Rattle.std.proofs.Common.{◌≡◌, ◌≤◌, true, drop, length}
+use Rattle.std.proofs.Common.{◌≡◌, true, drop}
 use Rattle.crush_pool.specs.Changes.{are_distinct}
 use Rattle.crush_pool.specs.Private.Seen.{HasDevices}
 use Rattle.crush_pool.proofs.changes.are_distinct_by_table.Given as goal

@@ -1,4 +1,4 @@
-use Rattle.std.proofs.Common.{Bor, List, ℕ, ◌≤◌, ◌∙◌, ◌∷◌, [], sym, refl, arith, inl, inr, map, Some, length}
+use Rattle.std.proofs.Common.{◌+◌, Bor, List, ℕ, ◌≤◌, ◌∙◌, ◌∷◌, [], sym, refl, arith, inl, inr, map, Some, length}
 use Rattle.std.proofs.lemmas.List.{length-append, length-map, map-append}
 use Rattle.csv.specs.Reading.{Reached, default_config, strip_bom}
 use Rattle.csv.specs.Records.{fields_of}
@@ -6,7 +6,7 @@ use Rattle.csv.specs.declared.parser.State.TheVariants as st
 use Rattle.csv.proofs.ReadFacts.{rows-end, rows-more}
 use Rattle.crush_report.proofs.Reached.{all_are_first, reached_are_first, stops_if_flexible}
 use Rattle.crush_report.proofs.csv_read.first_records.Goals as goal
-use Rattle.crush_report.proofs.csv_read.first_records.Goals.{in-None, in-Some+then-len-eq1026}
+use Rattle.crush_report.proofs.csv_read.first_records.Goals.{in-None, in-Some+then-len}
 use Rattle.crush_pool.specs.declared.limits.TheConstants.{CHANGE_LIMIT}
 
 pub loop-next-init : goal.loop-next-init
@@ -37,7 +37,7 @@ loop-next-preserved c =
     let s = rw (c.in-Some.is, c.in-Ok.is) at (steps.0 inv.1) in
     let flexible = rw (c.in-Some.is, c.in-Ok.is) at steps.3 ∙ inv.5 in
     let items = c.in_ok-push-in-Ok.ensures.items in
-    let few : length c.push.new.self.items ≤ CHANGE_LIMIT + 2 = rw (items, length-append c.loop-next.found.items (c.in-Ok.row ∷ [])) (omega (arith, inv.4, c.len.ensures, c.if-len-eq1026.false)) in
+    let few : length c.push.new.self.items ≤ CHANGE_LIMIT + 2 = rw (items, length-append c.loop-next.found.items (c.in-Ok.row ∷ [])) (omega (arith, inv.4, c.len.ensures, c.if-len.false)) in
     let m = rows-more (λ (s : Bor (List ℕ)). Some s.now) c.loop-next.next-iterator.rdr c.next.new.self.rdr (fields_of c.in-Ok.row) default_config st.StartRecord (strip_bom c.args.text.now) inv.6 (map fields_of c.loop-next.found.items) inv.3 inv.7 inv.8 s.0 in
     (s.0.3 ∙ inv.0, inl s.1, s.2, s.0.2 ∙ inv.3, few, flexible, m.0, m.1, rw (items, map-append fields_of c.loop-next.found.items (c.in-Ok.row ∷ [])) m.2)
 
@@ -56,6 +56,6 @@ returns c =
           let s = rw w.in-None.is at ((c.next.ensures.steps inv.2 inv.0).0 inv.1) in
           let last = rows-end (λ (s : Bor (List ℕ)). Some s.now) c.loop-next.next-iterator.rdr c.next.new.self.rdr [] default_config inv.6 inv.3 inv.7 s in
           all_are_first (CHANGE_LIMIT + 2) (map fields_of c.loop-next.found.items) (strip_bom c.args.text.now) (rw count inv.4) (c.loop-next.next-iterator.rdr.state, inv.6, inv.8, last)
-      | in-Some+then-len-eq1026 w ↦
-          reached_are_first (CHANGE_LIMIT + 2) (map fields_of c.loop-next.found.items) c.loop-next.next-iterator.rdr.state (strip_bom c.args.text.now) inv.6 (omega (arith, count, w.len.ensures, w.if-len-eq1026.true)) inv.8
+      | in-Some+then-len w ↦
+          reached_are_first (CHANGE_LIMIT + 2) (map fields_of c.loop-next.found.items) c.loop-next.next-iterator.rdr.state (strip_bom c.args.text.now) inv.6 (omega (arith, count, w.len.ensures, w.if-len.true)) inv.8
     ]

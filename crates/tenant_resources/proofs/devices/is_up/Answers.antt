@@ -1,6 +1,6 @@
 use Rattle.std.proofs.Common.{◌∙◌, ap}
 use Rattle.crush_pool.specs.States.{up_at}
-use Rattle.crush_pool.proofs.Padding.{flag_of}
+use Rattle.crush_pool.proofs.Flags.{flag_of}
 use Rattle.tenant_resources.proofs.devices.is_up.Goals as goal
 
 pub returns : goal.returns

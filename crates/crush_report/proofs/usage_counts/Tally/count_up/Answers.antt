@@ -1,9 +1,7 @@
-use Rattle.std.proofs.Common.{◌≡◌, true, not, None, sym, ◌∙◌, ap, slice_index_or, length, arith, suc, ◌+◌, ◌<◌, ◌^◌}
-use Rattle.crush_choose.specs.Firstn.{slot_has}
+use Rattle.std.proofs.Common.{◌≡◌, true, None, sym, ◌∙◌, slice_index_or, length, arith}
 use Rattle.crush_pool.specs.Placements.{is_up_slot}
 use Rattle.crush_report.proofs.Counting.{after_first, after_len, entry_counted, room_less}
-use Rattle.crush_report.specs.Private.Tallies.{HasRoom, is_again}
-use Rattle.crush_report.specs.Usage.{device_item}
+use Rattle.crush_report.specs.Private.Tallies.{is_again}
 use Rattle.crush_report.proofs.usage_counts.Tally.count_up.Goals as goal
 
 pub loop-rest-preserved-then-is_up_slot : goal.loop-rest-preserved-then-is_up_slot
