@@ -1,9 +1,6 @@
 -- Changes of devices are read from a body exactly where the body has their form.
-use Rattle.std.proofs.Common.{◌≡◌, ◌≢◌, ℕ, ◌+◌, ◌||◌, ◌≤◌, List, [], ◌∷◌, ◌++◌, length, Bool, true, not, nat_le, Option, Some, None, is_some, refl}
-use Rattle.std.specs.Bool.{Decides}
-use Rattle.std.specs.List.{AllPairs}
+use Rattle.std.proofs.Common.{◌≡◌, ℕ, ◌+◌, ◌||◌, List, [], ◌∷◌, ◌++◌, length, Bool, true, Option, Some, None, is_some, refl}
 use Rattle.std.specs.Prelude.{codes}
-use Rattle.std.proofs.lemmas.Bool.Decides.{Decides-and, Decides-eqb, Decides-like, Decides-not}
 use Rattle.crush_pool.proofs.ValidChanges.{AreValidChanges, Decides-are_valid_changes}
 use Rattle.crush_pool.specs.Changes.{are_valid_changes}
 use Rattle.tenant_messages.proofs.Finding.{Finds, finds_as, finds_boolean, finds_both, finds_list, finds_natural, finds_number, finds_object, finds_object_with, finds_tested, finds_under, is_there}

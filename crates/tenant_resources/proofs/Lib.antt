@@ -1,4 +1,5 @@
 pub mod Deciding
+pub mod Distinct
 pub mod PickForms
 pub mod TestForms
 pub mod Importing

@@ -16,6 +16,7 @@ use Rattle.crush_map.specs.declared.Kind.{Kind}
 use Rattle.crush_map.specs.declared.Kind.TheVariants.{Uniform, List as ListKind, Tree}
 use Rattle.tenant_messages.proofs.Finding.{Finds, finds_as, finds_both, finds_integer, finds_list, finds_natural, finds_object, finds_tested, finds_text, finds_three, finds_under, is_there, Decides-leb}
 use Rattle.tenant_resources.proofs.Deciding.{Decides-distinct, Decides-none, Differ}
+use Rattle.tenant_resources.specs.declared.limits.TheConstants.{ATTEMPT_LIMIT}
 use Rattle.tenant_resources.specs.Picks.{weighed, entry_of, is_of_item, are_distinct, kind_of, is_valid, bucket_of, pick_of, IsItem, IsBucket, IsPickBody}
 use Rattle.crush_map.specs.Kinds.{kind_name, kind_named}
 use Rattle.tenant_messages.specs.Forms.{IsText}
@@ -147,4 +148,4 @@ finds_pick = finds_as
     (λ d p is. (is_there (codes "bucket") d p.bucket is.0, (is_there (codes "r") d p.r is.1, (is_there (codes "x") d p.x is.2, tt))))
     (finds_three (λ b r x. record { bucket = b; x = x; r = r }) (λ p. p.bucket) (λ p. p.r) (λ p. p.x)
     (λ a b c. refl) (λ a b c. refl) (λ a b c. refl) (λ p. refl)
-    (finds_under (codes "bucket") finds_bucket) (finds_under (codes "r") (finds_natural 2147483647)) (finds_under (codes "x") (finds_natural 4294967295))))
+    (finds_under (codes "bucket") finds_bucket) (finds_under (codes "r") (finds_natural ATTEMPT_LIMIT)) (finds_under (codes "x") (finds_natural 4294967295))))

@@ -1,7 +1,6 @@
 -- States of devices, at `/t/{t}/devices`: POST changes reweights, and which devices are up.
-use Rattle.std.specs.Prelude.{◌≡◌, ◌≢◌, ℕ, suc, ◌+◌, ◌≤◌, ◌&&◌, ◌||◌, ◌==◌, List, [], ◌∷◌, ◌++◌, length, map, Bool, true, not, nat_le, if◌then◌else◌, Option, Some, None, is_some, option_and_then, unwrap_or, Result, Ok, Err, codes}
+use Rattle.std.specs.Prelude.{◌≡◌, ◌≢◌, ℕ, suc, ◌+◌, ◌≤◌, ◌||◌, ◌==◌, List, [], ◌∷◌, ◌++◌, length, map, Bool, true, if◌then◌else◌, Option, Some, None, is_some, option_and_then, unwrap_or, Result, Ok, Err, codes}
 use Rattle.std.specs.List.{AllPairs, list_any, list_all}
-use Rattle.std.specs.Str.{bytes_eq}
 use Rattle.serde_json.specs.Data.{Data, object}
 use Rattle.serde_json.specs.Find.{as_bool}
 use Rattle.crush_choose.specs.Weights.{reweight_of}
@@ -20,18 +19,10 @@ use Rattle.tenant_messages.specs.declared.reply.SuccessStatus.TheVariants.{Done}
 use Rattle.tenant_resources.specs.Orders.{Accepted}
 use Rattle.tenant_state.specs.State.{TenantState, NewStates, epoch, newest, version}
 
--- ---- requests
-
-abbrev pub route : List ℕ
-route = codes "/t/{t}/devices"
-
--- whether the route has this method
-abbrev pub has_method : List ℕ → Bool
-has_method method = bytes_eq method (codes "POST")
-
 -- ---- the form of a body, and the changes that it says
 
--- {"id": 0..65535}, with "reweight": 0..65536, or "up": true or false, or both; what is missing stays
+-- {"id": 0..65535}, with "reweight": 0..65536, or "up": true or false, or both; what is missing
+-- stays
 pub record IsChange (d : Data) (c : DeviceChange) : Type 0 where
   pub keys : HasExactly (if_any (codes "reweight") c.reweight ++ if_any (codes "up") c.up ++ codes "id" ∷ []) d
   pub device : IsUnder (codes "id") (IsNatural 65535) d c.device
@@ -48,7 +39,9 @@ pub record IsDevicesBody (d : Data) (asked : List ℕ × List DeviceChange) : Ty
   pub few : length asked.1 ≤ 1024
   pub distinct : AllPairs (λ c e. c.device ≢ e.device) asked.1
 
--- ---- reading a body: changes are read exactly where the body has that form (law `device_changes_are_of_the_form`)
+-- ---- reading a body
+
+-- changes are read exactly where the body has that form (law `device_changes_are_of_the_form`)
 
 abbrev pub change_with : ℕ → Option ℕ × Option Bool → DeviceChange
 change_with device asked = record { device = device; reweight = asked.0; up = asked.1 }

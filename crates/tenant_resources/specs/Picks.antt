@@ -1,7 +1,7 @@
--- Picks, at `/t/{t}/pick`: POST asks which item a bucket picks. The bucket is described in the body.
+-- Picks, at `/t/{t}/pick`: POST asks which item a bucket picks. The bucket is described in the
+-- body.
 use Rattle.std.specs.Prelude.{ℕ, ◌≡◌, ◌≢◌, ◌≤◌, ◌^◌, ◌&&◌, ◌||◌, ℤ, pos, negsuc, int_le, List, [], ◌∷◌, length, Bool, true, not, nat_lt, nat_le, if◌then◌else◌, Option, Some, None, option_and_then, codes}
 use Rattle.std.specs.List.{All, AllPairs, list_any}
-use Rattle.std.specs.Str.{bytes_eq}
 use Rattle.serde_json.specs.Data.{Data, number, object}
 use Rattle.serde_json.specs.Find.{as_str, of_integer}
 use Rattle.crush_bucket.specs.Bucket.{BucketView, Entry, total_weight, HasEqualWeights}
@@ -15,16 +15,8 @@ use Rattle.crush_map.specs.declared.Kind.TheVariants.{Uniform}
 use Rattle.tenant_messages.specs.Forms.{IsNatural, IsInteger, IsText, IsListOf, HasExactly, IsUnder}
 use Rattle.tenant_messages.specs.Json.{value_of, natural_of, integer_of, both, all_three, list_of, has_keys, under}
 use Rattle.tenant_messages.specs.Reply.{Answer, success, members_of}
+use Rattle.tenant_resources.specs.declared.limits.TheConstants.{ATTEMPT_LIMIT}
 use Rattle.tenant_resources.specs.declared.picks.PickRequest.{PickRequest}
-
--- ---- requests
-
-abbrev pub route : List ℕ
-route = codes "/t/{t}/pick"
-
--- whether the route has this method
-abbrev pub has_method : List ℕ → Bool
-has_method method = bytes_eq method (codes "POST")
 
 -- ---- the form of a body, and the pick that it says
 
@@ -34,8 +26,9 @@ pub record IsItem (d : Data) (e : Entry) : Type 0 where
   pub item : IsUnder (codes "item") (IsInteger (negsuc 65535) (pos 65535)) d e.0.0
   pub weight : IsUnder (codes "weight") (IsNatural 4294967295) d e.1.0
 
--- {"id": -65536..-1, "items": [ITEM, ..], "kind": "uniform", "list" or "tree"}: 1 to 1,024 distinct items other than the bucket,
--- whose weights have a sum of at most 2^32 - 1, and are equal in a uniform bucket
+-- {"id": -65536..-1, "items": [ITEM, ..], "kind": "uniform", "list" or "tree"}: 1 to 1,024 distinct
+-- items other than the bucket, whose weights have a sum of at most 2^32 - 1, and are equal in a
+-- uniform bucket
 pub record IsBucket (d : Data) (b : BucketView) : Type 0 where
   pub keys : HasExactly (codes "id" ∷ codes "items" ∷ codes "kind" ∷ []) d
   pub id : IsUnder (codes "id") (IsInteger (negsuc 65535) (negsuc 0)) d b.id.0
@@ -48,14 +41,16 @@ pub record IsBucket (d : Data) (b : BucketView) : Type 0 where
   pub light : total_weight b.entries ≤ 4294967295
   pub equal : b.kind ≡ Uniform → HasEqualWeights b.entries
 
--- {"bucket": BUCKET, "r": 0..2147483647, "x": 0..4294967295}
+-- {"bucket": BUCKET, "r": 0..ATTEMPT_LIMIT, "x": 0..4294967295}
 pub record IsPickBody (d : Data) (p : PickRequest) : Type 0 where
   pub keys : HasExactly (codes "bucket" ∷ codes "r" ∷ codes "x" ∷ []) d
   pub bucket : IsUnder (codes "bucket") IsBucket d p.bucket
-  pub r : IsUnder (codes "r") (IsNatural 2147483647) d p.r
+  pub r : IsUnder (codes "r") (IsNatural ATTEMPT_LIMIT) d p.r
   pub x : IsUnder (codes "x") (IsNatural 4294967295) d p.x
 
--- ---- reading a body: a pick is read exactly where the body has that form (law `picks_are_of_the_form`)
+-- ---- reading a body
+
+-- a pick is read exactly where the body has that form (law `picks_are_of_the_form`)
 
 -- ---- items
 
@@ -79,7 +74,8 @@ are_distinct (e ∷ es) = not (list_any (is_of_item e.0.0) es) && are_distinct e
 abbrev pub kind_of : Data → Option Kind
 kind_of d = option_and_then kind_named (as_str d)
 
--- 1 to 1,024 distinct items other than the bucket, whose weights have a sum below 2^32, and are equal in a uniform bucket
+-- 1 to 1,024 distinct items other than the bucket, whose weights have a sum below 2^32, and are
+-- equal in a uniform bucket
 abbrev pub is_valid : BucketView → Bool
 is_valid b =
     nat_lt 0 (length b.entries) && nat_le (length b.entries) 1024 && nat_lt (total_weight b.entries) (2 ^ 32)
@@ -101,7 +97,7 @@ abbrev pub pick_of : Data → Option PickRequest
 pick_of d =
     if has_keys 3 d then
     all_three (λ b r x. record { bucket = b; x = x; r = r }) (under (codes "bucket") bucket_of d)
-    (under (codes "r") (natural_of 2147483647) d) (under (codes "x") (natural_of 4294967295) d) else None
+    (under (codes "r") (natural_of ATTEMPT_LIMIT) d) (under (codes "x") (natural_of 4294967295) d) else None
 
 abbrev pub pick_request_of : List ℕ → Option PickRequest
 pick_request_of body = option_and_then pick_of (value_of body)

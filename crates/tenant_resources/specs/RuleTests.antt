@@ -1,6 +1,6 @@
--- Tests of rules, at `/t/{t}/test`: POST asks which items a rule of a version of the tenant's map gives for an input.
-use Rattle.std.specs.Prelude.{ℕ, ◌≤◌, ◌+◌, List, [], ◌∷◌, ◌++◌, map, Bool, nat_le, if◌then◌else◌, Option, Some, None, option_and_then, unwrap_or, codes}
-use Rattle.std.specs.Str.{bytes_eq}
+-- Tests of rules, at `/t/{t}/test`: POST asks which items a rule of a version of the tenant's map
+-- gives for an input.
+use Rattle.std.specs.Prelude.{ℕ, ◌≤◌, ◌+◌, List, [], ◌∷◌, ◌++◌, map, nat_le, if◌then◌else◌, Option, Some, None, option_and_then, unwrap_or, codes}
 use Rattle.serde_json.specs.Data.{Data, object}
 use Rattle.crush_bucket.specs.Tables.{tables_of}
 use Rattle.crush_choose.specs.Marks.{Slot}
@@ -18,16 +18,8 @@ use Rattle.tenant_messages.specs.Slots.{slot_json, list_json}
 use Rattle.tenant_state.specs.State.{TenantState, epoch, newest, version}
 use Rattle.tenant_messages.specs.declared.reply.Problem.TheVariants.{NoVersion, NoRule}
 
--- ---- requests
-
-abbrev pub route : List ℕ
-route = codes "/t/{t}/test"
-
--- whether the route has this method
-abbrev pub has_method : List ℕ → Bool
-has_method method = bytes_eq method (codes "POST")
-
--- a test: the rule with this id gives at most so many items for an input, on a version, or else on the newest
+-- a test: the rule with this id gives at most so many items for an input, on a version, or else on
+-- the newest
 pub record RuleTest : Type 0 where
   pub rule : ℕ
   pub size : ℕ
@@ -45,7 +37,9 @@ pub record IsTestBody (d : Data) (t : RuleTest) : Type 0 where
   pub x : IsUnder (codes "x") (IsNatural 4294967295) d t.x
   pub version : IsOptional (codes "version") (IsNatural 4294967295) d t.version
 
--- ---- reading a body: a test is read exactly where the body has that form (law `tests_are_of_the_form`)
+-- ---- reading a body
+
+-- a test is read exactly where the body has that form (law `tests_are_of_the_form`)
 
 abbrev pub test_with : ℕ × ℕ → ℕ × Option ℕ → RuleTest
 test_with asked on = record { rule = asked.0; size = asked.1; x = on.0; version = on.1 }

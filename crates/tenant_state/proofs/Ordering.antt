@@ -1,9 +1,9 @@
 -- Where an element goes in a list in the order of numbers.
-use Rattle.std.proofs.Common.{◌≡◌, ℕ, zero, suc, ◌<◌, ◌≤◌, ◌==◌, List, [], ◌∷◌, length, map, Bool, true, false, cond, nat_le, nat_lt, Some, None, position, find, slice_index_or, slice_set, refl, ap, sym, ◌∙◌, arith}
+use Rattle.std.proofs.Common.{◌≡◌, ℕ, zero, suc, ◌<◌, ◌≤◌, ◌==◌, ◌&&◌, List, [], ◌∷◌, ◌++◌, length, map, Bool, true, false, cond, nat_le, nat_lt, Some, None, position, find, slice_index_or, slice_set, refl, ap, sym, ◌∙◌, arith}
 use Rattle.std.proofs.lemmas.Bool.Decides.{nat_tests}
 use Rattle.std.specs.List.{position_or_len, insert, remove}
 use Rattle.std.proofs.lemmas.List.Sums.{fails_before_first, passes_at_first}
-use Rattle.tenant_state.specs.Ordered.{with_element, without}
+use Rattle.tenant_state.specs.Ordered.{is_ascending, is_before_first, with_element, without}
 
 -- ---- places
 
@@ -180,3 +180,19 @@ not_found {A} {B} v test (x ∷ xs) h =
     let p : B → Bool = λ y. test (v y) in
     let end = place_is_end p (x ∷ xs) h in
     none_all v test x (x ∷ xs) (λ k lower. fails_before_first p (x ∷ xs) k x (omega (arith, end, lower)))
+
+-- ---- lists that are in order already
+
+first-of : (a b : Bool) → (a && b) ≡ true → a ≡ true
+first-of true b h = refl
+first-of false b h = cc
+
+second-of : (a b : Bool) → (a && b) ≡ true → b ≡ true
+second-of true b h = h
+second-of false b h = cc
+
+-- each element stands before what follows it
+pub before_rest : {A : Type 0} (before : A → A → Bool) (xs : List A) (x : A) (ys : List A) → is_ascending before (xs ++ x ∷ ys) ≡ true → is_before_first before x ys ≡ true
+before_rest before [] x ys h = first-of (is_before_first before x ys) (is_ascending before ys) h
+before_rest before (w ∷ xs) x ys h =
+    before_rest before xs x ys (second-of (is_before_first before w (xs ++ x ∷ ys)) (is_ascending before (xs ++ x ∷ ys)) h)
