@@ -2,6 +2,7 @@
 use Rattle.std.proofs.Common.{◌≡◌, ℕ, zero, suc, ◌<◌, ◌≤◌, ◌==◌, ◌&&◌, List, [], ◌∷◌, ◌++◌, length, map, Bool, true, false, cond, nat_le, nat_lt, Some, None, position, find, slice_index_or, slice_set, refl, ap, sym, ◌∙◌, arith}
 use Rattle.std.proofs.lemmas.Bool.Decides.{nat_tests}
 use Rattle.std.specs.List.{position_or_len, insert, remove}
+use Rattle.std.proofs.lemmas.List.{map-id}
 use Rattle.std.proofs.lemmas.List.Sums.{fails_before_first, passes_at_first}
 use Rattle.tenant_state.specs.Ordered.{is_ascending, is_before_first, with_element, without}
 
@@ -91,20 +92,16 @@ replaced {A} {B} v number new d i xs is within same =
     (λ k lower. fails_before_first p xs k d (omega (arith, lower, is)))
     (rw is (passes_at_first p xs d (omega (arith, within, is)))) (equals (number (v (slice_index_or xs i d))) (number (v new)) same)
 
-pub map-same : {A : Type 0} (xs : List A) → map (λ (x : A). x) xs ≡ xs
-map-same [] = refl
-map-same (x ∷ xs) = ap (λ l. x ∷ l) (map-same xs)
-
 -- the same of a list as it is
 pub inserted_here : {A : Type 0} (number : A → ℕ) (new d : A) (i : ℕ) (xs : List A) → i ≡ position_or_len (λ x. nat_le (number new) (number x)) xs
     → (i < length xs → number (slice_index_or xs i d) ≡ number new → ⊥) → insert xs i new ≡ with_element number new xs
 inserted_here number new d i xs is other =
-    sym (map-same (insert xs i new)) ∙ (inserted (λ x. x) number new d i xs is other ∙ ap (with_element number new) (map-same xs))
+    sym (map-id (insert xs i new)) ∙ (inserted (λ x. x) number new d i xs is other ∙ ap (with_element number new) (map-id xs))
 
 pub replaced_here : {A : Type 0} (number : A → ℕ) (new d : A) (i : ℕ) (xs : List A) → i ≡ position_or_len (λ x. nat_le (number new) (number x)) xs
     → i < length xs → number (slice_index_or xs i d) ≡ number new → slice_set xs i new ≡ with_element number new xs
 replaced_here number new d i xs is within same =
-    sym (map-same (slice_set xs i new)) ∙ (replaced (λ x. x) number new d i xs is within same ∙ ap (with_element number new) (map-same xs))
+    sym (map-id (slice_set xs i new)) ∙ (replaced (λ x. x) number new d i xs is within same ∙ ap (with_element number new) (map-id xs))
 
 -- ---- an element that is looked for
 
