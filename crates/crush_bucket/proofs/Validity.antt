@@ -15,7 +15,7 @@ use Rattle.crush_map.specs.Faults.{is_bucket_id, is_uniform}
 use Rattle.crush_map.specs.Weights.{has_equal_weights}
 use Rattle.crush_map.specs.Map.{Map}
 use Rattle.crush_map.specs.Sound as sound
-use Rattle.crush_bucket.specs.Bucket.{BucketView, Entry, item_at, no_entry, HasEqualWeights}
+use Rattle.crush_bucket.specs.Bucket.{BucketView, WeightedItem, item_at, no_item, HasEqualWeights}
 use Rattle.crush_bucket.specs.Tables.{TypedBucket, tables_of, typed_bucket, no_bucket, bucket_at, IsBelow}
 use Rattle.crush_bucket.specs.Private.Laid.{IsFit, IsLaid, HasNegativeIds}
 use Rattle.crush_bucket.proofs.Numbered.{has_that_id, position_some, same_id, none_of_device}
@@ -29,18 +29,18 @@ pub sound_at : (m : Map) → HasSoundBuckets m → (i : ℕ) (d : Bucket) → i 
 sound_at m are i d below = rw (slice_get-get_or m.buckets i d below) at (are i)
 
 item_sound_at : (m : Map) (i : ℕ) (b : Bucket) → sound.IsBucketAt m i b → (place : ℕ) → place < length b.items → sound.IsItemAt m i place b.items (item_at b.items place).0
-item_sound_at m i b is place below = rw (slice_get-get_or b.items place no_entry below) at (is.items place)
+item_sound_at m i b is place below = rw (slice_get-get_or b.items place no_item below) at (is.items place)
 
 -- ---- a bucket
 
-like_first : (first : Entry) (items : List Entry) → All (λ (e : Entry). (e.1.0 == first.1.0) ≡ true) items → All (λ (e : Entry). e.1.0 ≡ first.1.0) (first ∷ items)
+like_first : (first : WeightedItem) (items : List WeightedItem) → All (λ (e : WeightedItem). (e.1.0 == first.1.0) ≡ true) items → All (λ (e : WeightedItem). e.1.0 ≡ first.1.0) (first ∷ items)
 like_first first items rest zero d below = refl
 like_first first items rest (suc k) d below = (Decides-eqb (slice_index_or items k d).1.0 first.1.0).0 (rest k d (omega arith))
 
-equal_weights : (items : List Entry) → has_equal_weights items ≡ true → HasEqualWeights items
+equal_weights : (items : List WeightedItem) → has_equal_weights items ≡ true → HasEqualWeights items
 equal_weights [] even = λ k d below. absurd (omega arith)
 equal_weights (first ∷ items) even =
-    like_first first items (AllPass-from_list_all (λ (e : Entry). e.1.0 == first.1.0) items even)
+    like_first first items (AllPass-from_list_all (λ (e : WeightedItem). e.1.0 == first.1.0) items even)
 
 is_fit : (m : Map) (i : ℕ) (b : Bucket) → sound.IsBucketAt m i b → IsFit b
 is_fit m i b is = record {

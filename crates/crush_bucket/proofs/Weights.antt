@@ -2,45 +2,45 @@
 use Rattle.std.proofs.Common.{◌≡◌, ℕ, zero, suc, ◌+◌, ◌≤◌, List, [], ◌∷◌, length, take, drop, min, refl, ap, ◌∙◌, arith}
 use Rattle.std.proofs.lemmas.List.{take_min, drop_min}
 use Rattle.std.proofs.lemmas.List.Sums.{sum_by-cons}
-use Rattle.crush_bucket.specs.Bucket.{Entry, total_weight, weight_at, weight_within}
+use Rattle.crush_bucket.specs.Bucket.{WeightedItem, total_weight, weight_at, weight_within}
 
-total_cons : (e : Entry) (entries : List Entry) → total_weight (e ∷ entries) ≡ e.1.0 + total_weight entries
-total_cons e entries = sum_by-cons (λ (x : Entry). x.1.0) e entries
+total_cons : (e : WeightedItem) (items : List WeightedItem) → total_weight (e ∷ items) ≡ e.1.0 + total_weight items
+total_cons e items = sum_by-cons (λ (x : WeightedItem). x.1.0) e items
 
 -- a front weighs no more than the whole
-pub total_take : (entries : List Entry) (n : ℕ) → total_weight (take n entries) ≤ total_weight entries
-total_take entries zero = omega arith
+pub total_take : (items : List WeightedItem) (n : ℕ) → total_weight (take n items) ≤ total_weight items
+total_take items zero = omega arith
 total_take [] (suc n) = omega arith
-total_take (e ∷ entries) (suc n) =
-    let front : total_weight (take (suc n) (e ∷ entries)) ≡ e.1.0 + total_weight (take n entries) = total_cons e (take n entries) in
-    omega (arith, total_take entries n, total_cons e entries, front)
+total_take (e ∷ items) (suc n) =
+    let front : total_weight (take (suc n) (e ∷ items)) ≡ e.1.0 + total_weight (take n items) = total_cons e (take n items) in
+    omega (arith, total_take items n, total_cons e items, front)
 
 -- nor does a rest
-pub total_drop : (entries : List Entry) (n : ℕ) → total_weight (drop n entries) ≤ total_weight entries
-total_drop entries zero = omega arith
+pub total_drop : (items : List WeightedItem) (n : ℕ) → total_weight (drop n items) ≤ total_weight items
+total_drop items zero = omega arith
 total_drop [] (suc n) = omega arith
-total_drop (e ∷ entries) (suc n) =
-    let rest : total_weight (drop (suc n) (e ∷ entries)) ≡ total_weight (drop n entries) = refl in
-    omega (arith, total_drop entries n, total_cons e entries, rest)
+total_drop (e ∷ items) (suc n) =
+    let rest : total_weight (drop (suc n) (e ∷ items)) ≡ total_weight (drop n items) = refl in
+    omega (arith, total_drop items n, total_cons e items, rest)
 
-pub within_total : (entries : List Entry) (from n : ℕ) → weight_within entries from n ≤ total_weight entries
-within_total entries from n = omega (arith, total_take (drop from entries) n, total_drop entries from)
+pub within_total : (items : List WeightedItem) (from n : ℕ) → weight_within items from n ≤ total_weight items
+within_total items from n = omega (arith, total_take (drop from items) n, total_drop items from)
 
 -- one place more
-take_more : (entries : List Entry) (n : ℕ) → total_weight (take (suc n) entries) ≡ total_weight (take n entries) + weight_at entries n
+take_more : (items : List WeightedItem) (n : ℕ) → total_weight (take (suc n) items) ≡ total_weight (take n items) + weight_at items n
 take_more [] zero = refl
 take_more [] (suc n) = refl
-take_more (e ∷ entries) zero = omega arith
-take_more (e ∷ entries) (suc n) =
-    let more : total_weight (take (suc (suc n)) (e ∷ entries)) ≡ e.1.0 + total_weight (take (suc n) entries) = total_cons e (take (suc n) entries) in
-    let front : total_weight (take (suc n) (e ∷ entries)) ≡ e.1.0 + total_weight (take n entries) = total_cons e (take n entries) in
-    let at : weight_at (e ∷ entries) (suc n) ≡ weight_at entries n = refl in
-    omega (arith, take_more entries n, more, front, at)
+take_more (e ∷ items) zero = omega arith
+take_more (e ∷ items) (suc n) =
+    let more : total_weight (take (suc (suc n)) (e ∷ items)) ≡ e.1.0 + total_weight (take (suc n) items) = total_cons e (take (suc n) items) in
+    let front : total_weight (take (suc n) (e ∷ items)) ≡ e.1.0 + total_weight (take n items) = total_cons e (take n items) in
+    let at : weight_at (e ∷ items) (suc n) ≡ weight_at items n = refl in
+    omega (arith, take_more items n, more, front, at)
 
-pub within_more : (entries : List Entry) (n : ℕ) → weight_within entries 0 (n + 1) ≡ weight_within entries 0 n + weight_at entries n
-within_more entries n = let e : n + 1 ≡ suc n = omega arith in rw e (take_more entries n)
+pub within_more : (items : List WeightedItem) (n : ℕ) → weight_within items 0 (n + 1) ≡ weight_within items 0 n + weight_at items n
+within_more items n = let e : n + 1 ≡ suc n = omega arith in rw e (take_more items n)
 
 -- a part of a slice, cut at its end
-pub within_cut : (entries : List Entry) (from n : ℕ) → total_weight (take (min n (length (drop (min from (length entries)) entries))) (drop (min from (length entries)) entries)) ≡ weight_within entries from n
-within_cut entries from n =
-    ap total_weight (take_min n (drop (min from (length entries)) entries)) ∙ ap (λ (es : List Entry). total_weight (take n es)) (drop_min from entries)
+pub within_cut : (items : List WeightedItem) (from n : ℕ) → total_weight (take (min n (length (drop (min from (length items)) items))) (drop (min from (length items)) items)) ≡ weight_within items from n
+within_cut items from n =
+    ap total_weight (take_min n (drop (min from (length items)) items)) ∙ ap (λ (es : List WeightedItem). total_weight (take n es)) (drop_min from items)

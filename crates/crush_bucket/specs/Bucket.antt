@@ -7,41 +7,42 @@ use Rattle.crush_map.specs.declared.Weight.{Weight}
 use Rattle.crush_map.specs.declared.Kind.{Kind}
 
 -- an item of a bucket, with its weight
-abbrev pub Entry : Type 0
-Entry = ItemId × Weight
+abbrev pub WeightedItem : Type 0
+WeightedItem = ItemId × Weight
 
 -- a bucket: its id, the kind by which it picks, and its items with their weights, in order of place
 pub record BucketView : Type 0 where
   pub id : ItemId
   pub kind : Kind
-  pub entries : List Entry
+  pub items : List WeightedItem
 
--- what stands where there is no entry
-abbrev pub no_entry : Entry
-no_entry = (record { 0 = pos 0 }, record { 0 = 0 })
+-- what stands where there is no item
+abbrev pub no_item : WeightedItem
+no_item = (record { 0 = pos 0 }, record { 0 = 0 })
 
 -- the item at a place
-abbrev pub item_at : List Entry → ℕ → ItemId
-item_at entries place = (slice_index_or entries place no_entry).0
+abbrev pub item_at : List WeightedItem → ℕ → ItemId
+item_at items place = (slice_index_or items place no_item).0
 
 -- the weight at a place; past the end it is 0
-abbrev pub weight_at : List Entry → ℕ → ℕ
-weight_at entries place = (slice_index_or entries place no_entry).1.0
+abbrev pub weight_at : List WeightedItem → ℕ → ℕ
+weight_at items place = (slice_index_or items place no_item).1.0
 
 -- the sum of the weights at n places from a place on; past the end there are none
-abbrev pub weight_within : List Entry → ℕ → ℕ → ℕ
-weight_within entries from n = total_weight (take n (drop from entries))
+abbrev pub weight_within : List WeightedItem → ℕ → ℕ → ℕ
+weight_within items from n = total_weight (take n (drop from items))
 
 -- an item of the bucket
-abbrev pub IsItemOf : List Entry → ItemId → Type 0
-IsItemOf entries item = SomeIndex entries (λ place. item_at entries place ≡ item)
+abbrev pub IsItemOf : List WeightedItem → ItemId → Type 0
+IsItemOf items item = SomeIndex items (λ place. item_at items place ≡ item)
 
--- what a bucket must be so that it is asked: it has an item, at most 65,535 of them, and the sum of its weights is a word
-pub record CanBeAsked (entries : List Entry) : Type 0 where
-  pub some : 0 < length entries
-  pub few : length entries < 2 ^ 16
-  pub light : total_weight entries < 2 ^ 32
+-- what a bucket must be so that it is asked: it has an item, at most 65,535 of them, and the sum of
+-- its weights is a word
+pub record CanBeAsked (items : List WeightedItem) : Type 0 where
+  pub some : 0 < length items
+  pub few : length items < 2 ^ 16
+  pub light : total_weight items < 2 ^ 32
 
 -- all weights are that of the first place
-abbrev pub HasEqualWeights : List Entry → Type 0
-HasEqualWeights entries = All (λ e. e.1.0 ≡ weight_at entries 0) entries
+abbrev pub HasEqualWeights : List WeightedItem → Type 0
+HasEqualWeights items = All (λ e. e.1.0 ≡ weight_at items 0) items

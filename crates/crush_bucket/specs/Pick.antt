@@ -9,9 +9,9 @@ use Rattle.crush_bucket.specs.Kinds.{uniform_pick, list_pick, tree_pick}
 
 -- what a bucket would pick if it were of this kind
 abbrev pub pick_as : Kind → BucketView → ℕ → ℕ → ItemId
-pick_as Uniform b = uniform_pick b.id b.entries
-pick_as List b = list_pick b.id b.entries
-pick_as Tree b = tree_pick b.id b.entries
+pick_as Uniform b = uniform_pick b.id b.items
+pick_as List b = list_pick b.id b.items
+pick_as Tree b = tree_pick b.id b.items
 
 -- what a nonempty bucket picks for an input x and an attempt r
 unfoldable pub pick : BucketView → ℕ → ℕ → ItemId
@@ -19,11 +19,11 @@ pick b x r = pick_as b.kind b x r
 
 -- the permutation by which a bucket picks, if it is uniform
 abbrev pub perm_of : BucketView → PermView
-perm_of b = record { id = b.id; size = length b.entries }
+perm_of b = record { id = b.id; size = length b.items }
 
 -- what a scratch remembers after a pick of a bucket of this kind: lists and trees ask it nothing
 abbrev pub after_pick_as : Kind → BucketView → Remembered → ℕ → ℕ → Remembered
-after_pick_as Uniform b m x r = asked m x (r % length b.entries)
+after_pick_as Uniform b m x r = asked m x (r % length b.items)
 after_pick_as List b m x r = m
 after_pick_as Tree b m x r = m
 

@@ -2,4 +2,5 @@
 pub mod Descent
 pub mod Kept
 pub mod Laid
-pub mod Rows
+pub mod ByKind
+pub mod TableRows

@@ -17,7 +17,8 @@ pub record TypedBucket : Type 0 where
   pub of_type : ℕ
   pub bucket : BucketView
 
--- the buckets in order of declaration, in which each has its place as its number; the ids of the devices; the tunables
+-- the buckets in order of declaration, in which each has its place as its number; the ids of the
+-- devices; the tunables
 pub record TablesView : Type 0 where
   pub buckets : List TypedBucket
   pub devices : List ℕ
@@ -26,7 +27,7 @@ pub record TablesView : Type 0 where
 -- ---- the tables of a map
 
 abbrev pub typed_bucket : Bucket → TypedBucket
-typed_bucket b = record { of_type = b.kind_of; bucket = record { id = b.id; kind = b.alg; entries = b.items } }
+typed_bucket b = record { of_type = b.kind_of; bucket = record { id = b.id; kind = b.alg; items = b.items } }
 
 abbrev pub tables_of : Map → TablesView
 tables_of m = record { buckets = map typed_bucket m.buckets; devices = map (λ d. d.id) m.devices; tunables = m.tunables }
@@ -35,7 +36,7 @@ tables_of m = record { buckets = map typed_bucket m.buckets; devices = map (λ d
 
 -- what stands where there is no bucket
 abbrev pub no_bucket : TypedBucket
-no_bucket = record { of_type = 0; bucket = record { id = record { 0 = pos 0 }; kind = Uniform; entries = [] } }
+no_bucket = record { of_type = 0; bucket = record { id = record { 0 = pos 0 }; kind = Uniform; items = [] } }
 
 abbrev pub bucket_at : TablesView → ℕ → BucketView
 bucket_at t number = (slice_index_or t.buckets number no_bucket).bucket
@@ -47,7 +48,7 @@ abbrev pub kind_at : TablesView → ℕ → Kind
 kind_at t number = (bucket_at t number).kind
 
 abbrev pub size_at : TablesView → ℕ → ℕ
-size_at t number = length (bucket_at t number).entries
+size_at t number = length (bucket_at t number).items
 
 -- what the bucket picks for an input x and an attempt r
 unfoldable pub pick_at : TablesView → ℕ → ℕ → ℕ → ItemId

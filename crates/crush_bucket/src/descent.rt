@@ -1,4 +1,5 @@
-//! The way down a tree: two or three levels by one vector of hashes, since the labels below a node are known before its draw.
+//! The way down a tree: two or three levels by one vector of hashes, since the labels below a node
+//! are known before its draw.
 
 ghost use Rattle.std.specs.Prelude.{◌≡◌, ◌<◌, ◌≤◌, ◌+◌, ◌-◌, ◌*◌, ◌^◌, min, length, slice_index};
 ghost use Rattle.crush_bucket.specs.Private.Descent.{child, lane_below, down_by, labels};
@@ -6,7 +7,7 @@ ghost use Rattle.crush_bucket.specs.Private.Descent.{child, lane_below, down_by,
 use crush_hash::{hash4, hash4_lanes};
 use crush_map::ItemId;
 
-/// How many places a range of this height has.
+/// Returns how many places a range of this height has.
 pub(crate) fn places(height: u32) -> usize
     requires { height < 32 }
     ensures { result ≡ 2 ^ height }
@@ -14,7 +15,8 @@ pub(crate) fn places(height: u32) -> usize
     1 << height
 }
 
-/// The labels of a node and of those two levels below it, a node's children at `2 * lane + 1` and `2 * lane + 2`.
+/// Returns the labels of a node and of those two levels below it. A node's children are at `2 *
+/// lane + 1` and `2 * lane + 2`.
 #[inline]
 fn labels(node: usize, quarter: usize) -> [u32; 8]
     requires above { 4 * quarter ≤ node }
@@ -34,7 +36,7 @@ fn labels(node: usize, quarter: usize) -> [u32; 8]
     ]
 }
 
-/// The child to which a node's hash leads, and its lane.
+/// Returns the child to which a node's hash leads, and its lane.
 #[inline]
 fn step(hashes: &[u32; 8], nodes: &[u32], node: usize, half: usize, lane: usize) -> (usize, usize)
     requires left { half ≤ node }
@@ -54,7 +56,8 @@ fn step(hashes: &[u32; 8], nodes: &[u32], node: usize, half: usize, lane: usize)
     }
 }
 
-/// The node three levels below a node, or two where there are no more.
+/// Returns the node to which the hashes lead three levels below a node, or two where there are no
+/// more.
 #[inline]
 pub(crate) fn down(id: ItemId, nodes: &[u32], x: u32, r: u32, node: usize, level: u32) -> usize
     requires some { 1 < level }
@@ -74,7 +77,7 @@ pub(crate) fn down(id: ItemId, nodes: &[u32], x: u32, r: u32, node: usize, level
     step(&hashes, nodes, third, places(level - 3), lane).0
 }
 
-/// The child of a node above the leaves.
+/// Returns the child to which the hash of a node above the leaves leads.
 pub(crate) fn last_down(id: ItemId, nodes: &[u32], x: u32, r: u32, node: usize) -> usize
     requires above { 2 ≤ node }
     requires inside { node + 2 ≤ length nodes.now }

@@ -5,11 +5,16 @@ ghost use Rattle.crush_bucket.specs.Private.Laid.{IsIndexOf};
 ghost use Rattle.crush_bucket.specs.Tables.{no_bucket};
 
 use crate::number::{BucketNo, index_place};
-use crate::row::Row;
+use crate::table_row::TableRow;
 use std::alloc::{AllocError, Global};
 
-/// Entry n holds the `BucketNo` of the bucket with the id -1 - n.
-pub(crate) fn index_of(alloc: Global, rows: &[Row]) -> Result<Vec<Option<BucketNo>>, AllocError>
+/// Returns a list that has at n the `BucketNo` of the bucket with the id -1 - n.
+///
+/// `Err(AllocError)`: an allocation failed; nothing is changed.
+pub(crate) fn index_of(
+    alloc: Global,
+    rows: &[TableRow],
+) -> Result<Vec<Option<BucketNo>>, AllocError>
     ensures { IfOk result (λ index. IsIndexOf rows.now index.items) }
 {
     let mut index = empty_index(alloc, index_size(rows))?;
@@ -22,7 +27,7 @@ pub(crate) fn index_of(alloc: Global, rows: &[Row]) -> Result<Vec<Option<BucketN
     Ok(index)
 }
 
-/// Sets entry n to the bucket at a place, whatever it held.
+/// Sets what the index has at n to the bucket at a place.
 fn put(index: &mut Vec<Option<BucketNo>>, n: usize, place: usize)
     requires { n < length index.old.items }
     ensures { index.new.items ≡ slice_set index.old.items n (Some place) }
@@ -30,7 +35,7 @@ fn put(index: &mut Vec<Option<BucketNo>>, n: usize, place: usize)
     index[n] = Some(BucketNo::new(place));
 }
 
-/// An index with no bucket.
+/// Returns an index with no bucket.
 fn empty_index(alloc: Global, size: usize) -> Result<Vec<Option<BucketNo>>, AllocError>
     ensures len { IfOk result (λ index. length index.items ≡ size) }
     ensures none { IfOk result (λ index. (n : ℕ) → slice_index_or index.items n None ≡ None) }
@@ -38,8 +43,8 @@ fn empty_index(alloc: Global, size: usize) -> Result<Vec<Option<BucketNo>>, Allo
     Ok(vec![in alloc; None; size]?)
 }
 
-/// How many entries the index needs: more than the n of each bucket with an id -1 - n.
-fn index_size(rows: &[Row]) -> usize
+/// Returns how long the index has to be: longer than the n of each bucket with an id -1 - n.
+fn index_size(rows: &[TableRow]) -> usize
     ensures { (place n : ℕ) → place < length rows.now → (slice_index_or rows.now place no_bucket).bucket.id.0 ≡ negsuc n → n < result }
 {
     let mut size = 0;

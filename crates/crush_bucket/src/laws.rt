@@ -11,7 +11,8 @@ ghost use Rattle.crush_bucket.specs.Tables.{tables_of};
 use crush_map::buckets_are_sound;
 use crush_permutation::laws::permutation_has_each_place;
 
-/// What is found is the greatest number below n that passes; where nothing is found, no number below n passes.
+/// What is found is the greatest number below n that passes; where nothing is found, no number
+/// below n passes.
 pub fn greatest_passes()
     ensures { (p : ℕ → Bool) (n : ℕ) → MatchOption (greatest p n) (NonePasses p n) (IsGreatest p n) }
 {}
@@ -24,7 +25,7 @@ pub fn height_is_least()
 
 /// What a bucket that has items picks is one of them.
 pub fn a_pick_is_an_item()
-    ensures { (b : BucketView) (x r : ℕ) → 0 < length b.entries → IsItemOf b.entries (pick b x r) }
+    ensures { (b : BucketView) (x r : ℕ) → 0 < length b.items → IsItemOf b.items (pick b x r) }
 {
     permutation_has_each_place();
 }

@@ -1,8 +1,11 @@
 //! Buckets of a CRUSH map, and what each picks.
 //!
-//! Sources: Weil et al., 'CRUSH: Controlled, Scalable, Decentralized Placement of Replicated Data' (SC 2006), and Ceph's `src/crush/mapper.c` and `src/crush/builder.c`. Its tests are the crate `kernel_tests`.
+//! Sources: Weil et al., 'CRUSH: Controlled, Scalable, Decentralized Placement of Replicated Data'
+//! (SC 2006), and Ceph's `src/crush/mapper.c` and `src/crush/builder.c`. The tests are in the crate
+//! `kernel_tests`.
 #![tactic(auto)]
 
+mod any;
 mod descent;
 mod index;
 pub mod laws;
@@ -10,13 +13,14 @@ mod list;
 pub mod list_laws;
 mod number;
 mod picker;
-mod row;
 mod scratch;
 mod sums;
+mod table_row;
 mod tables;
 mod tree;
 mod uniform;
 
+pub use any::AnyBucket;
 pub use crush_permutation::Perm;
 pub use list::ListBucket;
 pub use number::BucketNo;

@@ -28,7 +28,7 @@ impl BucketNo {
         BucketNo { place }
     }
 
-    /// The place itself.
+    /// Returns the place.
     pub fn place(self) -> usize
         ensures { result ≡ self }
     {
@@ -36,7 +36,8 @@ impl BucketNo {
     }
 }
 
-/// The place of a bucket's id in an index: n for the id -1 - n, and none for the id of a device.
+/// Returns the place of a bucket's id in an index: n for the id -1 - n, and `None` for the id of a
+/// device.
 pub(crate) fn index_place(id: ItemId) -> Option<usize>
     ensures { MatchOption result ((d : ℕ) × (id.0 ≡ pos d)) (λ n. id.0 ≡ negsuc n) }
 {

@@ -9,14 +9,15 @@ use crush_permutation::Perm;
 
 /// A bucket that picks one of its items.
 pub trait Picker {
-    /// The bucket that it is.
+    /// The bucket that contracts see.
     ghost bucket: { Self → BucketView };
 
-    /// The item that is picked for an input and an attempt, whatever the scratch was asked before. Takes no memory.
+    /// Returns the item that is picked for an input and an attempt, whatever the scratch was asked
+    /// before. Allocates nothing.
     fn pick(&self, perm: &mut Perm, x: u32, r: u32) -> ItemId
         requires { perm.old.of ≡ perm_of (bucket self.now) }
         ensures picked { result ≡ pick (bucket self.now) x r }
-        ensures item { IsItemOf (bucket self.now).entries result }
+        ensures item { IsItemOf (bucket self.now).items result }
         ensures same { perm.new.of ≡ perm.old.of }
         ensures asked { perm.new ≡ after_pick (bucket self.now) perm.old x r };
 }

@@ -7,7 +7,7 @@ ghost use Rattle.crush_bucket.specs.Pick.{pick};
 ghost use Rattle.crush_bucket.specs.Tables.{perms_in, perms_of};
 ghost use Rattle.crush_bucket.specs.Private.Laid.{IsSlotOf};
 
-use crate::row::Row;
+use crate::table_row::TableRow;
 use crate::tables::Tables;
 use crate::uniform::UniformBucket;
 use crush_map::{ItemId, Kind};
@@ -15,7 +15,8 @@ use crush_permutation::Perms;
 use std::alloc::{AllocError, Global};
 use std::marker::Model;
 
-/// A permutation for each uniform bucket of tables, in order of number. Contracts see each bucket's id and size, never which input was asked last.
+/// A permutation for each uniform bucket of tables, in order of number. Contracts see each bucket's
+/// id and size, never which input was asked last.
 #[derive(Drop)]
 pub struct Scratch {
     perms: Perms,
@@ -31,7 +32,9 @@ impl Model for Scratch {
 }
 
 impl Scratch {
-    /// The scratch of tables. Takes memory for uniform buckets alone.
+    /// Returns the scratch of tables. Its memory is that of the permutations of uniform buckets.
+    ///
+    /// `Err(AllocError)`: an allocation failed; nothing is changed.
     pub fn build(alloc: Global, tables: &Tables) -> Result<Self, AllocError>
         ensures { IfOk result (λ s. s ≡ perms_of tables.now) }
     {
@@ -41,11 +44,11 @@ impl Scratch {
         })
     }
 
-    /// The item that a uniform bucket picks with the permutation of its slot.
+    /// Returns the item that a uniform bucket picks with the permutation of its slot.
     pub(crate) fn pick(&mut self, bucket: &UniformBucket, slot: usize, x: u32, r: u32) -> ItemId
         requires fits { IsSlotOf self.old slot bucket.now }
         ensures picked { result ≡ pick bucket.now x r }
-        ensures item { IsItemOf bucket.now.entries result }
+        ensures item { IsItemOf bucket.now.items result }
         ensures same { self.new ≡ self.old }
     {
         let asked = bucket.asked_place(r);
@@ -53,8 +56,8 @@ impl Scratch {
     }
 }
 
-/// The id and the size of each uniform bucket.
-fn uniform_of(alloc: Global, rows: &[Row]) -> Result<Vec<(ItemId, u32)>, AllocError>
+/// Returns the id and the size of each uniform bucket.
+fn uniform_of(alloc: Global, rows: &[TableRow]) -> Result<Vec<(ItemId, u32)>, AllocError>
     ensures { IfOk result (λ uniform. map perm_view uniform.items ≡ perms_in rows.now) }
 {
     let mut uniform = Vec::with_capacity(alloc, perm_count(rows))?;
@@ -66,8 +69,8 @@ fn uniform_of(alloc: Global, rows: &[Row]) -> Result<Vec<(ItemId, u32)>, AllocEr
     Ok(uniform)
 }
 
-/// How many of these buckets are uniform.
-fn perm_count(rows: &[Row]) -> usize
+/// Returns how many of these buckets are uniform.
+fn perm_count(rows: &[TableRow]) -> usize
     ensures { result ≡ length (perms_in rows.now) }
 {
     let mut count = 0;

@@ -5,18 +5,20 @@ ghost use Rattle.crush_bucket.specs.Bucket.{IsItemOf};
 ghost use Rattle.crush_bucket.specs.Private.Laid.{IsFit, AreSlots};
 ghost use Rattle.crush_bucket.specs.Tables.{tables_of, typed_bucket, bucket_numbered, bucket_at, type_at, kind_at, size_at, pick_at, has_device, perms_of, IsBelow};
 
+use crate::any::ByKind;
 use crate::index::index_of;
 use crate::number::{BucketNo, index_place};
-use crate::row::{Picking, Row};
 use crate::scratch::Scratch;
+use crate::table_row::{Content, TableRow};
 use crush_map::{Bucket, CrushMap, Device, ItemId, Kind, Tunables, buckets_are_sound};
 use std::alloc::{AllocError, Global};
 use std::marker::Model;
 
-/// The buckets of a map in order of declaration, its devices and its tunables. Contracts see them as lists.
+/// The buckets of a map in order of declaration, its devices and its tunables. Contracts see them
+/// as lists.
 #[derive(Drop)]
 pub struct Tables {
-    rows: Vec<Row>,
+    rows: Vec<TableRow>,
     slots: Vec<usize>,
     index: Vec<Option<BucketNo>>,
     devices: Vec<u32>,
@@ -41,7 +43,9 @@ impl Model for Tables {
 }
 
 impl Tables {
-    /// The tables of a map.
+    /// Returns the tables of a map.
+    ///
+    /// `Err(AllocError)`: an allocation failed; nothing is changed.
     pub fn build(alloc: Global, map: &CrushMap) -> Result<Self, AllocError>
         ensures { IfOk result (λ t. t ≡ tables_of map.now) }
     {
@@ -59,14 +63,14 @@ impl Tables {
         })
     }
 
-    /// The rows, by number.
-    pub(crate) fn rows(&self) -> &[Row]
+    /// Returns the rows, by number.
+    pub(crate) fn rows(&self) -> &[TableRow]
         ensures { result.now ≡ self.now.buckets }
     {
         self.rows.as_slice()
     }
 
-    /// The bucket with an id.
+    /// Returns the number of the bucket with an id, if there is one.
     pub fn bucket_of(&self, item: ItemId) -> Option<BucketNo>
         ensures value { result ≡ bucket_numbered self.now item }
         ensures within { IfSome result (λ n. n < length self.now.buckets) }
@@ -80,7 +84,7 @@ impl Tables {
         }
     }
 
-    /// The number of a bucket's type.
+    /// Returns the number of a bucket's type.
     pub fn type_of(&self, bucket: BucketNo) -> u32
         requires { bucket < length self.now.buckets }
         ensures { result ≡ type_at self.now bucket }
@@ -88,7 +92,7 @@ impl Tables {
         self.rows[bucket.place()].of_type()
     }
 
-    /// The kind by which a bucket picks.
+    /// Returns the kind by which a bucket picks.
     pub fn kind(&self, bucket: BucketNo) -> Kind
         requires { bucket < length self.now.buckets }
         ensures { result ≡ kind_at self.now bucket }
@@ -96,7 +100,7 @@ impl Tables {
         self.rows[bucket.place()].kind()
     }
 
-    /// How many items a bucket has.
+    /// Returns how many items a bucket has.
     pub fn size(&self, bucket: BucketNo) -> usize
         requires { bucket < length self.now.buckets }
         ensures value { result ≡ size_at self.now bucket }
@@ -105,7 +109,7 @@ impl Tables {
         self.rows[bucket.place()].size()
     }
 
-    /// Whether a bucket has no items.
+    /// Returns whether a bucket has no items.
     pub fn is_empty(&self, bucket: BucketNo) -> bool
         requires { bucket < length self.now.buckets }
         ensures { result ≡ (size_at self.now bucket == 0) }
@@ -113,55 +117,59 @@ impl Tables {
         self.size(bucket) == 0
     }
 
-    /// The tunables of the map.
+    /// Returns the tunables of the map.
     pub fn tunables(&self) -> Tunables
         ensures { result ≡ self.now.tunables }
     {
         self.tunables
     }
 
-    /// Whether the map has a device with this id.
+    /// Returns whether the map has a device with this id.
     pub fn has_device(&self, id: u32) -> bool
         ensures { result ≡ has_device self.now id }
     {
         self.devices.binary_search(&id).is_ok()
     }
 
-    /// The item that a bucket picks for an input and an attempt, whatever the scratch was asked before. Takes no memory.
+    /// Returns the item that a bucket picks for an input and an attempt, whatever the scratch was
+    /// asked before. Allocates nothing.
     #[tactic(auto, unfolding(crate::specs::Tables::pick_at))]
     pub fn pick(&self, bucket: BucketNo, scratch: &mut Scratch, x: u32, r: u32) -> ItemId
         requires within { bucket < length self.now.buckets }
         requires some { 0 < size_at self.now bucket }
         requires fits { scratch.old ≡ perms_of self.now }
         ensures picked { result ≡ pick_at self.now bucket x r }
-        ensures item { IsItemOf (bucket_at self.now bucket).entries result }
+        ensures item { IsItemOf (bucket_at self.now bucket).items result }
         ensures below { IsBelow self.now bucket result }
         ensures same { scratch.new ≡ scratch.old }
     {
         let place = bucket.place();
-        match self.rows[place].picking() {
-            Picking::Empty { id: _, kind: _ } => unreachable!(),
-            Picking::Uniform(bucket) => scratch.pick(bucket, self.slots[place], x, r),
-            Picking::List(bucket) => bucket.item_for(x, r),
-            Picking::Tree(bucket) => bucket.item_for(x, r),
+        match self.rows[place].content() {
+            Content::Empty { id: _, kind: _ } => unreachable!(),
+            Content::Bucket(any) => match any.by_kind() {
+                ByKind::Uniform(bucket) => scratch.pick(bucket, self.slots[place], x, r),
+                ByKind::List(bucket) => bucket.item_for(x, r),
+                ByKind::Tree(bucket) => bucket.item_for(x, r),
+            },
         }
     }
 }
 
-/// The rows of a map's buckets.
-fn rows_of(alloc: Global, buckets: &[Bucket]) -> Result<Vec<Row>, AllocError>
+/// Returns the rows of a map's buckets.
+fn rows_of(alloc: Global, buckets: &[Bucket]) -> Result<Vec<TableRow>, AllocError>
     requires { All IsFit buckets.now }
     ensures { IfOk result (λ rows. rows.items ≡ map typed_bucket buckets.now) }
 {
     let mut rows = Vec::with_capacity(alloc, buckets.len())?;
     for bucket in buckets {
-        rows.push(Row::build(alloc, bucket)?)?;
+        rows.push(TableRow::build(alloc, bucket)?)?;
     }
     Ok(rows)
 }
 
-/// For each bucket, how many uniform ones come before it: where a scratch has a uniform bucket's permutation. That of other buckets isn't asked for.
-fn slots_of(alloc: Global, rows: &[Row]) -> Result<Vec<usize>, AllocError>
+/// Returns, for each bucket, how many uniform ones come before it. For a uniform bucket this is the
+/// place of its permutation in a scratch; for other buckets the number is unused.
+fn slots_of(alloc: Global, rows: &[TableRow]) -> Result<Vec<usize>, AllocError>
     ensures { IfOk result (λ slots. AreSlots rows.now slots.items) }
 {
     let mut slots = Vec::with_capacity(alloc, rows.len())?;
@@ -175,7 +183,7 @@ fn slots_of(alloc: Global, rows: &[Row]) -> Result<Vec<usize>, AllocError>
     Ok(slots)
 }
 
-/// The ids of devices.
+/// Returns the ids of devices.
 fn ids_of(alloc: Global, devices: &[Device]) -> Result<Vec<u32>, AllocError>
     ensures { IfOk result (λ ids. ids.items ≡ map (λ d. d.id) devices.now) }
 {

@@ -19,7 +19,7 @@ use std::marker::Model;
 pub struct TreeBucket {
     id: ItemId,
     height: u32,
-    entries: Vec<(ItemId, Weight)>,
+    items: Vec<(ItemId, Weight)>,
     nodes: Vec<u32>,
 }
 
@@ -30,45 +30,43 @@ impl Model for TreeBucket {
 
     ghost Value = { BucketView };
 
-    ghost view = { λ a. record { id = a.id; kind = Tree; entries = a.entries.items } };
+    ghost view = { λ a. record { id = a.id; kind = Tree; items = a.items.items } };
 
     ghost invariant = { λ a. record {
-      asked : CanBeAsked a.entries.items;
-      nodes : AreNodes a.entries.items a.height a.nodes.items;
+      asked : CanBeAsked a.items.items;
+      nodes : AreNodes a.items.items a.height a.nodes.items;
     } };
 }
 
 impl TreeBucket {
-    /// The tree bucket of these items.
-    pub fn build(
-        alloc: Global,
-        id: ItemId,
-        entries: &[(ItemId, Weight)],
-    ) -> Result<Self, AllocError>
-        requires some { 0 < length entries.now }
-        requires few { length entries.now < 2 ^ 16 }
-        requires light { total_weight entries.now < 2 ^ 32 }
-        ensures { IfOk result (λ b. b ≡ record { id = id; kind = Kind.Tree; entries = entries.now }) }
+    /// Returns the tree bucket of these items, in order of place.
+    ///
+    /// `Err(AllocError)`: an allocation failed; nothing is changed.
+    pub fn build(alloc: Global, id: ItemId, items: &[(ItemId, Weight)]) -> Result<Self, AllocError>
+        requires some { 0 < length items.now }
+        requires few { length items.now < 2 ^ 16 }
+        requires light { total_weight items.now < 2 ^ 32 }
+        ensures { IfOk result (λ b. b ≡ record { id = id; kind = Kind.Tree; items = items.now }) }
     {
-        let height = height_for(entries.len());
-        let nodes = nodes_of(alloc, entries, height)?;
-        let entries = Vec::from_slice(alloc, entries)?;
+        let height = height_for(items.len());
+        let nodes = nodes_of(alloc, items, height)?;
+        let items = Vec::from_slice(alloc, items)?;
         Ok(TreeBucket {
             id,
             height,
-            entries,
+            items,
             nodes,
         })
     }
 
-    /// The bucket's id.
+    /// Returns the bucket's id.
     pub fn id(&self) -> ItemId
         ensures { result ≡ self.now.id }
     {
         self.id
     }
 
-    /// The bucket's kind.
+    /// Returns the bucket's kind.
     pub fn kind(&self) -> Kind
         ensures { result ≡ self.now.kind }
     {
@@ -76,23 +74,23 @@ impl TreeBucket {
         Kind::Tree
     }
 
-    /// How many items the bucket has.
+    /// Returns how many items the bucket has.
     pub fn size(&self) -> usize
-        ensures value { result ≡ length self.now.entries }
+        ensures value { result ≡ length self.now.items }
         ensures some { 0 < result }
         ensures few { result < 2 ^ 16 }
     {
-        self.entries.len()
+        self.items.len()
     }
 
-    /// The item that is picked.
+    /// Returns the item that is picked.
     #[tactic(auto, unfolding(crate::specs::Kinds::tree_pick, crate::specs::Pick::pick))]
     pub(crate) fn item_for(&self, x: u32, r: u32) -> ItemId
         ensures picked { result ≡ pick self.now x r }
-        ensures item { IsItemOf self.now.entries result }
+        ensures item { IsItemOf self.now.items result }
     {
-        let place = walk(self.id, &self.entries, &self.nodes, self.height, x, r);
-        self.entries[place.min(self.entries.len() - 1)].0
+        let place = walk(self.id, &self.items, &self.nodes, self.height, x, r);
+        self.items[place.min(self.items.len() - 1)].0
     }
 }
 
@@ -105,7 +103,7 @@ impl Picker for TreeBucket {
     }
 }
 
-/// The least height of a tree with so many leaves.
+/// Returns the least height of a tree with so many leaves.
 fn height_for(size: usize) -> u32
     requires some { 0 < size }
     requires few { size < 2 ^ 16 }
@@ -123,59 +121,48 @@ fn height_for(size: usize) -> u32
     height
 }
 
-/// The weights of all nodes, at their labels; no node has the label 0.
-fn nodes_of(
-    alloc: Global,
-    entries: &[(ItemId, Weight)],
-    height: u32,
-) -> Result<Vec<u32>, AllocError>
-    requires few { length entries.now < 2 ^ 16 }
-    requires light { total_weight entries.now < 2 ^ 32 }
+/// Returns the weights of all nodes, at their labels; no node has the label 0.
+fn nodes_of(alloc: Global, items: &[(ItemId, Weight)], height: u32) -> Result<Vec<u32>, AllocError>
+    requires few { length items.now < 2 ^ 16 }
+    requires light { total_weight items.now < 2 ^ 32 }
     requires low { height < 17 }
-    requires least { height ≡ height_of (length entries.now) }
-    ensures { IfOk result (λ nodes. AreNodes entries.now height nodes.items) }
+    requires least { height ≡ height_of (length items.now) }
+    ensures { IfOk result (λ nodes. AreNodes items.now height nodes.items) }
 {
     let mut nodes = Vec::with_capacity(alloc, 2 * places(height))?;
     nodes.push(0)?;
-    push_nodes(entries, 0, height, &mut nodes)?;
+    push_nodes(items, 0, height, &mut nodes)?;
     Ok(nodes)
 }
 
 /// Appends the weights of the nodes of a range, in order of label.
 fn push_nodes(
-    entries: &[(ItemId, Weight)],
+    items: &[(ItemId, Weight)],
     from: usize,
     height: u32,
     nodes: &mut Vec<u32>,
 ) -> Result<(), AllocError>
-    requires few { length entries.now < 2 ^ 16 }
-    requires light { total_weight entries.now < 2 ^ 32 }
+    requires few { length items.now < 2 ^ 16 }
+    requires light { total_weight items.now < 2 ^ 32 }
     requires low { height < 17 }
     requires near { from + 2 ^ height < 2 ^ 32 }
-    ensures { IfOk result (λ _. nodes.new.items ≡ nodes.old.items ++ node_weights entries.now from height) }
+    ensures { IfOk result (λ _. nodes.new.items ≡ nodes.old.items ++ node_weights items.now from height) }
 {
     if height == 0 {
-        nodes.push(weight_within(entries, from, 1))?;
+        nodes.push(weight_within(items, from, 1))?;
         return Ok(());
     }
     let half = places(height - 1);
-    push_nodes(entries, from, height - 1, nodes)?;
-    nodes.push(weight_within(entries, from, 2 * half))?;
-    push_nodes(entries, from + half, height - 1, nodes)?;
+    push_nodes(items, from, height - 1, nodes)?;
+    nodes.push(weight_within(items, from, 2 * half))?;
+    push_nodes(items, from + half, height - 1, nodes)?;
     Ok(())
 }
 
-/// The place at which the walk from the root ends.
-fn walk(
-    id: ItemId,
-    entries: &[(ItemId, Weight)],
-    nodes: &[u32],
-    height: u32,
-    x: u32,
-    r: u32,
-) -> usize
-    requires nodes { AreNodes entries.now height nodes.now }
-    ensures { result ≡ place_within id entries.now x r 0 height }
+/// Returns the place at which the walk from the root ends.
+fn walk(id: ItemId, items: &[(ItemId, Weight)], nodes: &[u32], height: u32, x: u32, r: u32) -> usize
+    requires nodes { AreNodes items.now height nodes.now }
+    ensures { result ≡ place_within id items.now x r 0 height }
 {
     let mut node = places(height);
     let mut level = height;

@@ -10,11 +10,12 @@ use crush_permutation::Perm;
 use std::alloc::{AllocError, Global};
 use std::marker::Model;
 
-/// A bucket whose items weigh the same: it picks by a permutation of its places. Contracts see the bucket.
+/// A bucket whose items weigh the same: it picks by a permutation of its places. Contracts see the
+/// bucket.
 #[derive(Drop)]
 pub struct UniformBucket {
     id: ItemId,
-    entries: Vec<(ItemId, Weight)>,
+    items: Vec<(ItemId, Weight)>,
 }
 
 impl Model for UniformBucket {
@@ -23,39 +24,37 @@ impl Model for UniformBucket {
 
     ghost Value = { BucketView };
 
-    ghost view = { λ a. record { id = a.id; kind = Uniform; entries = a.entries.items } };
+    ghost view = { λ a. record { id = a.id; kind = Uniform; items = a.items.items } };
 
     ghost invariant = { λ a. record {
-      asked : CanBeAsked a.entries.items;
-      equal : HasEqualWeights a.entries.items;
+      asked : CanBeAsked a.items.items;
+      equal : HasEqualWeights a.items.items;
     } };
 }
 
 impl UniformBucket {
-    /// The uniform bucket of these items.
-    pub fn build(
-        alloc: Global,
-        id: ItemId,
-        entries: &[(ItemId, Weight)],
-    ) -> Result<Self, AllocError>
-        requires some { 0 < length entries.now }
-        requires few { length entries.now < 2 ^ 16 }
-        requires light { total_weight entries.now < 2 ^ 32 }
-        requires equal { HasEqualWeights entries.now }
-        ensures { IfOk result (λ b. b ≡ record { id = id; kind = Kind.Uniform; entries = entries.now }) }
+    /// Returns the uniform bucket of these items, in order of place.
+    ///
+    /// `Err(AllocError)`: an allocation failed; nothing is changed.
+    pub fn build(alloc: Global, id: ItemId, items: &[(ItemId, Weight)]) -> Result<Self, AllocError>
+        requires some { 0 < length items.now }
+        requires few { length items.now < 2 ^ 16 }
+        requires light { total_weight items.now < 2 ^ 32 }
+        requires equal { HasEqualWeights items.now }
+        ensures { IfOk result (λ b. b ≡ record { id = id; kind = Kind.Uniform; items = items.now }) }
     {
-        let entries = Vec::from_slice(alloc, entries)?;
-        Ok(UniformBucket { id, entries })
+        let items = Vec::from_slice(alloc, items)?;
+        Ok(UniformBucket { id, items })
     }
 
-    /// The bucket's id.
+    /// Returns the bucket's id.
     pub fn id(&self) -> ItemId
         ensures { result ≡ self.now.id }
     {
         self.id
     }
 
-    /// The bucket's kind.
+    /// Returns the bucket's kind.
     pub fn kind(&self) -> Kind
         ensures { result ≡ self.now.kind }
     {
@@ -63,33 +62,33 @@ impl UniformBucket {
         Kind::Uniform
     }
 
-    /// How many items the bucket has.
+    /// Returns how many items the bucket has.
     pub fn size(&self) -> usize
-        ensures value { result ≡ length self.now.entries }
+        ensures value { result ≡ length self.now.items }
         ensures some { 0 < result }
         ensures few { result < 2 ^ 16 }
     {
-        self.entries.len()
+        self.items.len()
     }
 
-    /// The place for which an attempt asks.
+    /// Returns the place for which an attempt asks.
     #[inline]
     pub(crate) fn asked_place(&self, r: u32) -> usize
-        ensures value { result ≡ r % length self.now.entries }
-        ensures within { result < length self.now.entries }
+        ensures value { result ≡ r % length self.now.items }
+        ensures within { result < length self.now.items }
         ensures kind { self.now.kind ≡ Kind.Uniform }
     {
-        asked_place(r, self.entries.len() as u32) as usize
+        asked_place(r, self.items.len() as u32) as usize
     }
 
-    /// The item at a place.
+    /// Returns the item at a place.
     #[inline]
     pub(crate) fn item(&self, place: usize) -> ItemId
-        requires { place < length self.now.entries }
-        ensures value { result ≡ item_at self.now.entries place }
-        ensures item { IsItemOf self.now.entries result }
+        requires { place < length self.now.items }
+        ensures value { result ≡ item_at self.now.items place }
+        ensures item { IsItemOf self.now.items result }
     {
-        self.entries[place].0
+        self.items[place].0
     }
 }
 
@@ -102,7 +101,8 @@ impl Picker for UniformBucket {
     }
 }
 
-/// The place for which an attempt asks. Few attempts are as high as the size, and a division takes time.
+/// Returns the place for which an attempt asks. Few attempts are as high as the size, and a
+/// division takes time.
 #[inline]
 fn asked_place(r: u32, size: u32) -> u32
     requires { 0 < size }

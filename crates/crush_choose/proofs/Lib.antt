@@ -9,14 +9,3 @@ pub mod Answering
 pub mod Walking
 pub mod Entries
 pub mod Entering
-pub mod Tracing
-pub mod Running
-pub mod Faultless
-pub mod Devices
-pub mod Keeping
-pub mod Lowering
-pub mod Staying
-pub mod OneTrace
-pub mod OneOrder
-pub mod Items
-pub mod OfMap

@@ -62,7 +62,8 @@ unseen f pos q (Some m) now e = refl
 -- ---- one try
 
 module _ (tries : Tries) (n : ℕ) where
-  -- before position pos is tried in round f, the marks are the outcomes so far of the tries given the list a
+  -- before position pos is tried in round f, the marks are the outcomes so far of the tries given
+  -- the list a
   record Follow (a : Marks) (f pos : ℕ) (now : Marks) : Type 0 where
     long : length now ≡ n
     played : (q : ℕ) → q < pos → at now q ≡ least (tries a q) (suc f)

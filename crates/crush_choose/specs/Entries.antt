@@ -1,7 +1,7 @@
 -- The answer of choose firstn as a list of entries, in ascending order of rep.
 --
--- An entry is a rep, a try, an item and a leaf. The condition here is on the entries alone; the marks of `Firstn.antt` have
--- the reps that were given up too.
+-- An entry is a rep, a try, an item and a leaf. The condition here is on the entries alone; the
+-- marks of `Firstn.antt` have the reps that were given up too.
 use Rattle.std.specs.Prelude.{◌≡◌, ℕ, suc, ◌<◌, ◌≤◌, ◌==◌, nat_lt, List, [], ◌∷◌, length, map, slice_index_or, Option, Some, None, if◌then◌else◌, ◌⊎◌, All, Contains}
 use Rattle.std.specs.List.{filter}
 use Rattle.std.specs.List.Sorted.{IsStrictlyIncreasing}
@@ -41,8 +41,8 @@ pub record IsLeastTry (tries : ℕ → Option Mark) (n f : ℕ) (mark : Mark) : 
   pub comes_to : tries f ≡ Some mark
   pub no_earlier : (g : ℕ) → g < f → tries g ≡ None
 
--- if there is an entry, the first try that doesn't fail is that of the entry and places it; if there is none, the first try that doesn't fail
--- ends at a wrong device, or all fail
+-- if there is an entry, the first try that doesn't fail is that of the entry and places it; if
+-- there is none, the first try that doesn't fail ends at a wrong device, or all fail
 abbrev pub IsDecided : (ℕ → Option Mark) → ℕ → Option Spot → Type 0
 IsDecided tries n (Some spot) = IsLeastTry tries n spot.round (Placed spot)
 IsDecided tries n None = ((f : ℕ) × IsLeastTry tries n f Skipped) ⊎ ((f : ℕ) → f < n → tries f ≡ None)
@@ -51,8 +51,8 @@ IsDecided tries n None = ((f : ℕ) × IsLeastTry tries n f Skipped) ⊎ ((f : �
 abbrev pub tries_of : TablesView → List ℕ → FirstnCall → List Entry → ℕ → ℕ → Option Mark
 tries_of t w c smaller rep = firstn_try t w c (entry_items smaller) (entry_leaves smaller) rep
 
--- the entries are an answer: their reps ascend and are below numrep; a rep has no entry if those of smaller reps leave no room, and else what its
--- tries, given those entries, decide
+-- the entries are an answer: their reps ascend and are below numrep; a rep has no entry if those of
+-- smaller reps leave no room, and else what its tries, given those entries, decide
 pub record AreFirstnEntries (t : TablesView) (w : List ℕ) (c : FirstnCall) (found : List Entry) : Type 0 where
   pub rising : IsStrictlyIncreasing (map (λ e. e.rep) found)
   pub low : All (λ e. e.rep < c.numrep) found
@@ -71,7 +71,8 @@ entries_from rep (Some (Placed spot) ∷ marks) = record { rep = rep; spot = spo
 abbrev pub entries : Marks → List Entry
 entries marks = entries_from 0 marks
 
--- the entries are what the marks place, in ascending order of rep: each placed item has an entry, and each entry is placed
+-- the entries are what the marks place, in ascending order of rep: each placed item has an entry,
+-- and each entry is placed
 pub record AreEntries (marks : Marks) (found : List Entry) : Type 0 where
   pub rising : IsStrictlyIncreasing (map (λ e. e.rep) found)
   pub there : (rep : ℕ) (spot : Spot) → slice_index_or marks rep None ≡ Some (Placed spot) → Contains found (record { rep = rep; spot = spot })

@@ -1,7 +1,7 @@
 -- The answer of choose firstn (`crush_choose_firstn` of Ceph's `mapper.c`).
 --
--- There nested loops retry; here the answer is a condition on a finished list: each rep has the outcome of its first try that
--- doesn't fail.
+-- There nested loops retry; here the answer is a condition on a finished list: each rep has the
+-- outcome of its first try that doesn't fail.
 use Rattle.std.specs.Prelude.{◌≡◌, ℕ, ◌+◌, ◌-◌, ◌/◌, ◌^◌, ◌<◌, ◌≤◌, ◌&&◌, List, length, take, Bool, false, not, nat_lt, ◌==◌, if◌then◌else◌, Option, Some, None, option_map, slice_index_or}
 use Rattle.std.specs.Bool.{then_some}
 use Rattle.std.specs.List.{list_any}
@@ -19,7 +19,8 @@ use Rattle.crush_choose.specs.Least.{least}
 use Rattle.crush_choose.specs.Growing.{grown}
 use Rattle.crush_choose.specs.Marks.{Marks, Slot, placed_by, items_of, leaves_of}
 
--- a call in range; room is `out_size` of `mapper.c`, and 0 leaf tries mean that no leaf is wanted (`recurse_to_leaf` 0)
+-- a call in range; room is `out_size` of `mapper.c`, and 0 leaf tries mean that no leaf is wanted
+-- (`recurse_to_leaf` 0)
 pub record IsFirstnCall (t : TablesView) (c : FirstnCall) : Type 0 where
   pub bucket : c.bucket < length t.buckets
   pub some_reps : 1 ≤ c.numrep
@@ -51,11 +52,13 @@ new_leaf w c leaves Wrong = None
 unfoldable pub leaf_by : TablesView → List ℕ → FirstnCall → List Slot → ℕ → ℕ → Option ItemId
 leaf_by t w c leaves bucket r = new_leaf w c leaves (reach t c.x (λ b. r) 0 bucket)
 
--- the first part of an attempt for a leaf: 0 if the call is stable, else the number of items so far (`outpos`)
+-- the first part of an attempt for a leaf: 0 if the call is stable, else the number of items so far
+-- (`outpos`)
 abbrev pub leaf_base : FirstnCall → ℕ → ℕ
 leaf_base c count = if c.stable == 1 then 0 else count
 
--- the second part (`sub_r`), from the attempt r that found the bucket: 0 if vary_r is 0, else r divided by 2^(vary_r - 1)
+-- the second part (`sub_r`), from the attempt r that found the bucket: 0 if vary_r is 0, else r
+-- divided by 2^(vary_r - 1)
 abbrev pub leaf_sub : FirstnCall → ℕ → ℕ
 leaf_sub c r = if c.vary_r == 0 then 0 else r / 2 ^ (c.vary_r - 1)
 
@@ -67,7 +70,8 @@ leaf_start c count r = leaf_base c count + leaf_sub c r
 unfoldable pub leaf_below : TablesView → List ℕ → FirstnCall → List Slot → ℕ → ℕ → Option ItemId
 leaf_below t w c leaves bucket start = least (λ g. leaf_by t w c leaves bucket (start + g)) c.leaf_tries
 
--- the leaf of an item: a device that is in is its own leaf; a bucket too, if no leaf is wanted, else it is a leaf below the bucket
+-- the leaf of an item: a device that is in is its own leaf; a bucket too, if no leaf is wanted,
+-- else it is a leaf below the bucket
 abbrev pub leaf_of : TablesView → List ℕ → FirstnCall → List Slot → ℕ → ItemId → ℕ → Option ℕ → Option ItemId
 leaf_of t w c leaves count item r None = then_some (is_device_in w c.x item) item
 leaf_of t w c leaves count item r (Some bucket) =
@@ -75,7 +79,8 @@ leaf_of t w c leaves count item r (Some bucket) =
 
 -- ---- a try
 
--- the outcome of try f, by where its walk ended: an item that wasn't chosen yet is placed if it has a leaf
+-- the outcome of try f, by where its walk ended: an item that wasn't chosen yet is placed if it has
+-- a leaf
 abbrev pub firstn_outcome : TablesView → List ℕ → FirstnCall → List Slot → List Slot → ℕ → Reached → Option Mark
 firstn_outcome t w c items leaves f (Found item r) =
     if has items item then None

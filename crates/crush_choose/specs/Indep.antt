@@ -1,7 +1,8 @@
 -- The answer of choose indep (`crush_choose_indep` of Ceph's `mapper.c`).
 --
--- There each round tries the undecided positions, and the leaf is found by a recursive call; here the answer is a condition on
--- a finished list: each position has the outcome of its first try that doesn't fail.
+-- There each round tries the undecided positions, and the leaf is found by a recursive call; here
+-- the answer is a condition on a finished list: each position has the outcome of its first try that
+-- doesn't fail.
 use Rattle.std.specs.Prelude.{◌≡◌, ℕ, zero, suc, ◌+◌, ◌<◌, ◌≤◌, ◌&&◌, ◌||◌, List, length, Bool, false, nat_lt, ◌==◌, if◌then◌else◌, Option, Some, None, option_map, slice_index_or, slice_set, replicate}
 use Rattle.std.specs.Bool.{then_some}
 use Rattle.std.specs.Ordering.{int_eq}
@@ -18,7 +19,8 @@ use Rattle.crush_choose.specs.Reach.{reach, step}
 use Rattle.crush_choose.specs.Least.{least, or_else}
 use Rattle.crush_choose.specs.Marks.{Marks, placed_by}
 
--- a call in range; 0 leaf tries mean that no leaf is wanted (`recurse_to_leaf` 0), as is always so where devices are wanted
+-- a call in range; 0 leaf tries mean that no leaf is wanted (`recurse_to_leaf` 0), as is always so
+-- where devices are wanted
 pub record IsIndepCall (t : TablesView) (c : IndepCall) : Type 0 where
   pub bucket : c.bucket < length t.buckets
   pub positions : c.n ≤ 32
@@ -32,7 +34,8 @@ pub record IsIndepCall (t : TablesView) (c : IndepCall) : Type 0 where
 
 -- ---- what is placed
 
--- whether try g of position q comes before try f of position pos: in an earlier round, or in the same at a smaller position
+-- whether try g of position q comes before try f of position pos: in an earlier round, or in the
+-- same at a smaller position
 abbrev pub comes_before : ℕ → ℕ → ℕ → ℕ → Bool
 comes_before g q f pos = nat_lt g f || (g == f && nat_lt q pos)
 
@@ -71,7 +74,8 @@ indep_leaf_by t w c bucket start g = leaf_in w c.x (reach t c.x (λ k. start + s
 unfoldable pub indep_leaf : TablesView → List ℕ → IndepCall → ℕ → ℕ → Option ItemId
 indep_leaf t w c bucket start = least (indep_leaf_by t w c bucket start) c.leaf_tries
 
--- the leaf of an item: a device that is in is its own leaf; a bucket too, if no leaf is wanted, else it is a leaf below the bucket
+-- the leaf of an item: a device that is in is its own leaf; a bucket too, if no leaf is wanted,
+-- else it is a leaf below the bucket
 abbrev pub indep_leaf_of : TablesView → List ℕ → IndepCall → ℕ → ItemId → ℕ → Option ℕ → Option ItemId
 indep_leaf_of t w c pos item r None = then_some (is_device_in w c.x item) item
 indep_leaf_of t w c pos item r (Some bucket) =
@@ -79,7 +83,8 @@ indep_leaf_of t w c pos item r (Some bucket) =
 
 -- ---- a try
 
--- the outcome of try f, by where its walk ended: an item that isn't taken is placed if it has a leaf
+-- the outcome of try f, by where its walk ended: an item that isn't taken is placed if it has a
+-- leaf
 abbrev pub indep_outcome : TablesView → List ℕ → IndepCall → Marks → ℕ → ℕ → Reached → Option Mark
 indep_outcome t w c marks pos f (Found item r) =
     if taken marks f pos item then None
@@ -98,7 +103,8 @@ pub record IsIndepAnswer (t : TablesView) (w : List ℕ) (c : IndepCall) (marks 
   pub one_each : length marks ≡ c.n
   pub each : (pos : ℕ) → pos < c.n → slice_index_or marks pos None ≡ least (indep_try t w c marks pos) c.tries
 
--- the marks after a position was tried in round f: unless it is decided already, it has the outcome of the try
+-- the marks after a position was tried in round f: unless it is decided already, it has the outcome
+-- of the try
 abbrev pub after_try : (Marks → ℕ → ℕ → Option Mark) → ℕ → ℕ → Marks → Marks
 after_try tries f pos marks = slice_set marks pos (or_else (slice_index_or marks pos None) (tries marks pos f))
 

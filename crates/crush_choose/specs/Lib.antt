@@ -7,8 +7,4 @@ pub mod Firstn
 pub mod Entries
 pub mod Indep
 pub mod Laws
-pub mod Outs
-pub mod Rules
-pub mod Trace
-pub mod Stability
 pub mod Private

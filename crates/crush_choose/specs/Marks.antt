@@ -1,6 +1,7 @@
 -- The outcome for each rep of choose firstn or each position of choose indep.
 --
--- An answer is a list of marks, one for each rep or position: an item with its try and leaf, or given up, or none.
+-- An answer is a list of marks, one for each rep or position: an item with its try and leaf, or
+-- given up, or none.
 use Rattle.std.specs.Prelude.{ℕ, List, [], ◌∷◌, map, Option, Some, None}
 use Rattle.crush_map.specs.declared.word.ItemId.{ItemId}
 use Rattle.crush_choose.specs.declared.mark.Spot.{Spot}

@@ -1,4 +1,5 @@
--- Reweights of devices, and the device test (`is_out` of Ceph's `mapper.c`, which answers the opposite).
+-- Reweights of devices, and the device test (`is_out` of Ceph's `mapper.c`, which answers the
+-- opposite).
 use Rattle.std.specs.Prelude.{ℕ, ℤ, pos, negsuc, ◌%◌, ◌==◌, ◌&&◌, ◌||◌, nat_lt, nat_le, Bool, false, List, [], ◌∷◌, map, slice_index_or, if◌then◌else◌}
 use Rattle.std.specs.List.{range_with_len}
 use Rattle.crush_hash.specs.Hash.{hash2}
@@ -29,8 +30,8 @@ weights_of given = map (reweight_of given) (range_with_len 0 ids)
 abbrev pub weight_at : List ℕ → ℕ → ℕ
 weight_at weights id = slice_index_or weights id full
 
--- whether a device is in for an input x: always with 1.0 or more, never with 0, and else if its draw, the lower 16 bits of a hash, is below its
--- reweight
+-- whether a device is in for an input x: always with 1.0 or more, never with 0, and else if its
+-- draw, the lower 16 bits of a hash, is below its reweight
 unfoldable pub is_in : List ℕ → ℕ → ℕ → Bool
 is_in weights x device =
     let weight = weight_at weights device in

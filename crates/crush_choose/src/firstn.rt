@@ -1,4 +1,4 @@
-//! choose firstn: items in order, without gaps.
+//! `choose firstn`: items are chosen in order, without gaps.
 
 ghost use Rattle.std.specs.Prelude.{◌≡◌, ◌<◌, ◌≤◌, ◌+◌, ◌++◌, ◌∷◌, [], ◌^◌, length};
 ghost use Rattle.crush_bucket.specs.Tables.{perms_of, bucket_numbered};
@@ -13,22 +13,22 @@ use crate::weights::{Weights, is_device_in};
 use crush_bucket::{BucketNo, Scratch, Tables};
 use crush_map::ItemId;
 
-/// The parameters of a choose firstn call.
+/// The parameters of a call of `choose_firstn`.
 #[derive(Clone, Copy)]
 pub struct FirstnCall {
     /// The bucket in which walks begin.
     pub bucket: BucketNo,
     /// The input.
     pub x: u32,
-    /// How many reps, 1..64.
+    /// How many reps there are: 1..64.
     pub numrep: u32,
-    /// How many items at most, 0..32.
+    /// How many items are chosen at most: 0..32.
     pub room: u32,
     /// The number of the wanted type.
     pub wanted: u32,
-    /// Tries of a rep, 1..1000.
+    /// How many tries a rep has: 1..1000.
     pub tries: u32,
-    /// Tries for a leaf, 0..1000; with 0 no leaf is wanted.
+    /// How many tries a leaf has: 0..1000; with 0 no leaf is wanted.
     pub leaf_tries: u32,
     /// `chooseleaf_vary_r`, 0..8.
     pub vary_r: u32,
@@ -36,7 +36,7 @@ pub struct FirstnCall {
     pub stable: u32,
 }
 
-/// Whether a slot has an item.
+/// Returns whether a slot has this item.
 pub fn slot_has(slot: Slot, item: ItemId) -> bool
     ensures { result ≡ spec.slot_has item slot }
 {
@@ -46,14 +46,14 @@ pub fn slot_has(slot: Slot, item: ItemId) -> bool
     }
 }
 
-/// Whether an item is in a list.
+/// Returns whether a slot of a list has this item.
 pub fn has(slots: &[Slot], item: ItemId) -> bool
     ensures { result ≡ spec.has slots.now item }
 {
     slots.iter().any(|slot| slot_has(*slot, item))
 }
 
-/// The leaf that one attempt finds below a bucket, if it finds one.
+/// Returns the leaf that one attempt finds below a bucket, if it finds one.
 #[tactic(auto, unfolding(crate::specs::Firstn::leaf_by))]
 fn leaf_by(
     tables: &Tables,
@@ -78,7 +78,8 @@ fn leaf_by(
     }
 }
 
-/// The first attempt for a leaf, from the number of items so far and the attempt that found the bucket.
+/// Returns the first attempt for a leaf below a bucket that attempt r found, after `count` items
+/// were chosen.
 fn leaf_start(call: &FirstnCall, count: u32, r: u32) -> u32
     requires low { r < 2 ^ 16 }
     requires few { count ≤ 32 }
@@ -95,7 +96,7 @@ fn leaf_start(call: &FirstnCall, count: u32, r: u32) -> u32
     base + sub
 }
 
-/// The leaf of the first attempt that finds one.
+/// Returns the leaf of the first attempt that finds one.
 #[tactic(auto, unfolding(crate::specs::Firstn::leaf_below))]
 fn leaf_below(
     tables: &Tables,
@@ -122,7 +123,7 @@ fn leaf_below(
     None
 }
 
-/// The leaf of an item that attempt r found, after `count` items were chosen.
+/// Returns the leaf of an item that attempt r found, after `count` items were chosen.
 fn leaf_of(
     tables: &Tables,
     scratch: &mut Scratch,
@@ -150,7 +151,7 @@ fn leaf_of(
     }
 }
 
-/// One try of a rep, given the items and leaves of smaller reps; none if it fails.
+/// Makes one try of a rep, given the items and leaves of smaller reps. Returns `None` if it fails.
 #[tactic(auto, unfolding(crate::specs::Firstn::firstn_try))]
 fn firstn_try(
     tables: &Tables,
@@ -191,7 +192,7 @@ fn firstn_try(
     Some(Mark::Placed(Spot { round, item, leaf }))
 }
 
-/// The mark of a rep: that of its first try that doesn't fail.
+/// Returns the mark of a rep: that of its first try that doesn't fail.
 #[tactic(auto, unfolding(crate::specs::Firstn::decided))]
 fn decide(
     tables: &Tables,
@@ -218,7 +219,7 @@ fn decide(
     None
 }
 
-/// The mark of a rep; none if no room is left.
+/// Returns the mark of a rep, and `None` where no room is left.
 fn mark_beside(
     tables: &Tables,
     scratch: &mut Scratch,
@@ -260,7 +261,8 @@ fn add(items: &mut Row, leaves: &mut Row, mark: Option<Mark>)
     }
 }
 
-/// Chooses items of a type below a bucket, without gaps, and a leaf for each (`crush_choose_firstn` of Ceph's `mapper.c`).
+/// Chooses items of a type below a bucket, without gaps, and a leaf for each (`crush_choose_firstn`
+/// of Ceph's `mapper.c`).
 ///
 /// Where no leaf is wanted, or where an item is a device, the leaf is the item itself.
 #[tactic(auto, unfolding(crate::specs::Firstn::firstn))]

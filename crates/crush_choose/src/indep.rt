@@ -1,4 +1,4 @@
-//! choose indep: items at fixed positions, where one that can't be filled stays empty.
+//! `choose indep`: items are chosen at fixed positions; one that can't be filled stays empty.
 
 ghost use Rattle.std.specs.Prelude.{◌≡◌, ◌<◌, ◌≤◌, ◌+◌, ◌++◌, ◌^◌, length, map, None, is_some, replicate};
 ghost use Rattle.std.specs.List.{list_all};
@@ -14,26 +14,27 @@ use crate::weights::{Weights, is_device_in};
 use crush_bucket::{BucketNo, Scratch, Tables};
 use crush_map::ItemId;
 
-/// The parameters of a choose indep call.
+/// The parameters of a call of `choose_indep`.
 #[derive(Clone, Copy)]
 pub struct IndepCall {
     /// The bucket in which walks begin.
     pub bucket: BucketNo,
     /// The input.
     pub x: u32,
-    /// How many positions, at most 32 and at most `numrep`.
+    /// How many positions there are: at most 32 and at most `numrep`.
     pub n: u32,
-    /// What each round adds to an attempt, 1..64; one more at some uniform buckets.
+    /// What each round adds to an attempt: 1..64. At some uniform buckets it adds one more.
     pub numrep: u32,
     /// The number of the wanted type.
     pub wanted: u32,
-    /// How many rounds, 1..1000.
+    /// How many rounds there are: 1..1000.
     pub tries: u32,
-    /// How many rounds for a leaf, 0..1000; with 0 no leaf is wanted.
+    /// How many rounds a leaf has: 0..1000; with 0 no leaf is wanted.
     pub leaf_tries: u32,
 }
 
-/// Whether the mark of position q placed the item before the try of position `pos` in this round.
+/// Returns whether the mark of position q placed the item before the try of position `pos` in this
+/// round.
 fn is_taken_at(mark: Option<Mark>, q: u32, round: u32, pos: u32, item: ItemId) -> bool
     ensures { result ≡ spec.is_of item (spec.earlier round pos q mark) }
 {
@@ -49,7 +50,7 @@ fn is_taken_at(mark: Option<Mark>, q: u32, round: u32, pos: u32, item: ItemId) -
     }
 }
 
-/// Whether some position got the item before the try of position `pos` in this round.
+/// Returns whether some position got the item before the try of position `pos` in this round.
 #[tactic(auto, unfolding(crate::specs::Indep::taken))]
 fn taken(marks: &[Option<Mark>], round: u32, pos: u32, item: ItemId) -> bool
     requires { length marks.now ≤ 32 }
@@ -63,7 +64,7 @@ fn taken(marks: &[Option<Mark>], round: u32, pos: u32, item: ItemId) -> bool
     false
 }
 
-/// The leaf that one round finds below a bucket, if it finds one.
+/// Returns the leaf that one round finds below a bucket, if it finds one.
 #[tactic(auto, unfolding(crate::specs::Indep::indep_leaf_by))]
 fn leaf_by(
     tables: &Tables,
@@ -94,7 +95,7 @@ fn leaf_by(
     }
 }
 
-/// The leaf of the first round that finds one.
+/// Returns the leaf of the first round that finds one.
 #[tactic(auto, unfolding(crate::specs::Indep::indep_leaf))]
 fn leaf_below(
     tables: &Tables,
@@ -120,7 +121,7 @@ fn leaf_below(
     None
 }
 
-/// The leaf of an item that attempt r found for a position.
+/// Returns the leaf of an item that attempt r found for a position.
 fn leaf_of(
     tables: &Tables,
     scratch: &mut Scratch,
@@ -144,7 +145,7 @@ fn leaf_of(
     }
 }
 
-/// One try of a position, given the marks of all positions; none if it fails.
+/// Makes one try of a position, given the marks of all positions. Returns `None` if it fails.
 #[tactic(auto, unfolding(crate::specs::Indep::indep_try))]
 fn indep_try(
     tables: &Tables,
@@ -203,7 +204,7 @@ fn try_position(
     }
 }
 
-/// One round: a try of each undecided position, in order.
+/// Makes one round: it tries each undecided position, in order.
 fn run_round(
     tables: &Tables,
     scratch: &mut Scratch,
@@ -231,7 +232,7 @@ fn all_decided(marks: &[Option<Mark>]) -> bool
     marks.iter().all(|mark| mark.is_some())
 }
 
-/// The rounds, until each position is decided or there is none left.
+/// Makes the rounds, until each position is decided or there is none left.
 #[tactic(auto, unfolding(crate::specs::Indep::indep))]
 fn run_rounds(
     tables: &Tables,
@@ -289,8 +290,8 @@ fn fill(items: &mut Row, leaves: &mut Row, marks: &[Option<Mark>])
     }
 }
 
-/// Chooses items of a type below a bucket, each at its position, and a leaf for each; a position for which no try succeeds is left empty
-/// (`crush_choose_indep` of Ceph's `mapper.c`).
+/// Chooses items of a type below a bucket, each at its position, and a leaf for each; a position
+/// for which no try succeeds is left empty (`crush_choose_indep` of Ceph's `mapper.c`).
 ///
 /// Where no leaf is wanted, or where an item is a device, the leaf is the item itself.
 pub fn choose_indep(

@@ -1,11 +1,11 @@
-//! The outcome for a rep or a position.
+//! What becomes of a rep or a position.
 
 use crush_map::ItemId;
 
 /// An item that was chosen.
 #[derive(Clone, Copy, Debug, PartialEq, Eq)]
 pub struct Spot {
-    /// The number of the try that chose it, from 0 on.
+    /// The number of the try that chose it; the first try has number 0.
     pub round: u32,
     pub item: ItemId,
     /// The item itself where it is a device or no leaf is wanted, else a device below it.
@@ -15,7 +15,7 @@ pub struct Spot {
 /// The outcome for a rep of choose firstn or a position of choose indep.
 #[derive(Clone, Copy, Debug, PartialEq, Eq)]
 pub enum Mark {
-    /// Given up: a try ended at a device although another type is wanted.
+    /// It was given up: a try ended at a device although another type is wanted.
     Skipped,
     /// An item was chosen.
     Placed(Spot),

@@ -9,7 +9,7 @@ use std::marker::Model;
 /// An item, or none.
 pub type Slot = Option<ItemId>;
 
-/// At most 32 slots, in an array of its own, so that no memory is taken. Contracts see a list.
+/// At most 32 slots, in an array of its own, so it allocates nothing. Contracts see a list.
 #[derive(Drop)]
 pub struct Row {
     slots: ArrayVec<Slot, 32>,
@@ -25,7 +25,7 @@ impl Model for Row {
 }
 
 impl Row {
-    /// A row without slots.
+    /// Returns a row without slots.
     pub fn new() -> Self
         ensures { result ≡ [] }
     {
@@ -34,7 +34,7 @@ impl Row {
         }
     }
 
-    /// The slots.
+    /// Returns the slots.
     pub fn items(&self) -> &[Slot]
         ensures value { result.now ≡ self.now }
         ensures fits { length result.now ≤ 32 }
@@ -42,20 +42,23 @@ impl Row {
         self.slots.as_slice()
     }
 
-    pub(crate) fn len(&self) -> usize
+    /// Returns how many slots there are.
+    pub fn len(&self) -> usize
         ensures value { result ≡ length self.now }
         ensures fits { result ≤ 32 }
     {
         self.slots.len()
     }
 
-    pub(crate) fn clear(&mut self)
+    /// Removes all slots.
+    pub fn clear(&mut self)
         ensures { self.new ≡ [] }
     {
         self.slots.clear();
     }
 
-    pub(crate) fn push(&mut self, slot: Slot)
+    /// Appends a slot.
+    pub fn push(&mut self, slot: Slot)
         requires { length self.old < 32 }
         ensures { self.new ≡ self.old ++ slot ∷ [] }
     {

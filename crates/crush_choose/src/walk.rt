@@ -19,15 +19,15 @@ pub(crate) struct Attempts {
 /// Where a walk ended.
 #[derive(Clone, Copy, Debug)]
 pub enum Reached {
-    /// At a bucket without items.
+    /// It ended at a bucket without items.
     Empty,
-    /// At a device where another type is wanted.
+    /// It ended at a device where another type is wanted.
     Wrong,
-    /// At an item of the wanted type, picked by this attempt.
+    /// It ended at this item of the wanted type, which this attempt picked.
     Found(ItemId, u32),
 }
 
-/// The attempt at a bucket.
+/// Returns the attempt at a bucket.
 fn attempt_at(tables: &Tables, attempts: Attempts, bucket: BucketNo) -> u32
     requires bucket { bucket < length tables.now.buckets }
     requires attempts { AreAttempts attempts }
@@ -43,7 +43,7 @@ fn attempt_at(tables: &Tables, attempts: Attempts, bucket: BucketNo) -> u32
     attempts.start + (attempts.numrep + extra) * attempts.round
 }
 
-/// Picks from a bucket on down until an item has the wanted type.
+/// Picks from a bucket and on from each bucket that is picked, until an item has the wanted type.
 pub(crate) fn reach(
     tables: &Tables,
     scratch: &mut Scratch,
@@ -84,7 +84,7 @@ pub(crate) fn reach(
     }
 }
 
-/// The walk with one attempt at each bucket.
+/// Walks as `reach` does, with the same attempt at each bucket.
 pub(crate) fn reach_by(
     tables: &Tables,
     scratch: &mut Scratch,

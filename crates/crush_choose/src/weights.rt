@@ -15,7 +15,8 @@ const FULL: u32 = 65_536;
 /// How many ids a device can have.
 const IDS: usize = 65_536;
 
-/// Reweights of devices in 16.16 fixed point. Contracts see those of all ids from 0 to 65535, in order.
+/// Reweights of devices in 16.16 fixed point. Contracts see those of all ids from 0 to 65535, in
+/// order.
 #[derive(Drop)]
 pub struct Weights {
     table: Vec<u32>,
@@ -34,10 +35,11 @@ impl Model for Weights {
 }
 
 impl Weights {
-    /// The reweights in `given`, pairs of id and reweight, with memory up to the greatest id of a device of the map or of a pair.
+    /// The reweights in `given`, pairs of id and reweight, with memory up to the greatest id of a
+    /// device of the map or of a pair.
     ///
-    /// Of several pairs for one id the first counts. An id without a pair has 65536 (1.0), and so has each id above 65535. The map need not have a
-    /// device with the id.
+    /// Of several pairs for one id the first counts. An id without a pair has 65536 (1.0), and so
+    /// has each id above 65535. The map need not have a device with the id.
     pub fn build(alloc: Global, map: &CrushMap, given: &[(u32, u32)]) -> Result<Weights, AllocError>
         ensures all { IfOk result (λ w. w ≡ weights_of given.now) }
         ensures each { IfOk result (λ w. (id : ℕ) → weight_at w id ≡ reweight_of given.now id) }
@@ -78,7 +80,8 @@ impl Weights {
     }
 }
 
-/// A length for the table: `first`, as far as there are so many ids, or above that one more than the greatest given id up to 65535.
+/// A length for the table: `first`, as far as there are so many ids, or above that one more than
+/// the greatest given id up to 65535.
 fn bound_of(first: usize, given: &[(u32, u32)]) -> usize
     ensures few { result ≤ spec.ids }
     ensures least { first < result → Contains (map (λ pair. pair.0 + 1) given.now) result }
@@ -108,10 +111,11 @@ fn table_of(alloc: Global, bound: usize, given: &[(u32, u32)]) -> Result<Vec<u32
     Ok(table)
 }
 
-/// Whether a device is in for an input (`is_out` of Ceph's `mapper.c` answers the opposite).
+/// Returns whether a device is in for an input (`is_out` of Ceph's `mapper.c` answers the
+/// opposite).
 ///
-/// With a reweight of 65536 or more it always is, with 0 it never is, and else if a draw, the lower 16 bits of the hash of input and device, is
-/// below its reweight.
+/// With a reweight of 65536 (1.0) or more it always is, and with 0 it never is. Else it is in where
+/// a draw, the lower 16 bits of the hash of input and device, is below its reweight.
 #[tactic(auto, unfolding(crate::specs::Weights::is_in))]
 pub fn is_in(weights: &Weights, x: u32, device: u32) -> bool
     ensures { result ≡ spec.is_in weights.now x device }
@@ -120,7 +124,7 @@ pub fn is_in(weights: &Weights, x: u32, device: u32) -> bool
     weight >= FULL || (weight > 0 && hash2(x, device) % 65_536 < weight)
 }
 
-/// Whether an item is a device that is in.
+/// Returns whether an item is a device that is in.
 pub(crate) fn is_device_in(weights: &Weights, x: u32, item: ItemId) -> bool
     ensures { result ≡ is_device_in weights.now x item }
 {

@@ -2,7 +2,7 @@
 
 ghost use Rattle.std.specs.Prelude.{◌≡◌, ◌∷◌, [], ◌<◌, Ok, Err, length, MatchResult, Some, None, true, false, bytes_eq};
 ghost use Rattle.std.specs.List.{list_all};
-ghost use Rattle.crush_map.specs.Faults.{is_name_byte, is_reserved};
+ghost use Rattle.crush_map.specs.Faults.{is_name_byte};
 ghost use Rattle.crush_map.specs.WeightText.{weight_of};
 ghost use Rattle.crush_words.specs.Numbers as numbers;
 ghost use Rattle.crush_grammar.specs.Fronts as fronts;
@@ -12,7 +12,7 @@ ghost use Rattle.crush_grammar.specs.Sayings as spec;
 use crate::code::{TextCode, TextFault};
 use crate::declaration::{Setting, TunableName};
 use crate::error::ReadError;
-use crush_map::Kind;
+use crush_map::{Kind, all_are_name_bytes, is_reserved};
 use crush_words::{Cursor, Name, Word, integer_from_text, number_from_text};
 
 /// A word out of the grammar, or the end of a text, on this line.
@@ -73,18 +73,6 @@ pub(crate) fn integer(word: &Word<'_>) -> Result<i64, ReadError>
     }
 }
 
-fn may_stand(byte: u8) -> bool
-    ensures { result ≡ is_name_byte byte }
-{
-    matches!(byte, b'a'..=b'z' | b'A'..=b'Z' | b'0'..=b'9' | b'-' | b'_' | b'.')
-}
-
-fn all_may_stand(bytes: &[u8]) -> bool
-    ensures { result ≡ list_all is_name_byte bytes.now }
-{
-    bytes.iter().all(|&byte| may_stand(byte))
-}
-
 /// The text of bytes that names may have, all of which are ASCII.
 #[tactic(auto, using(crate::proofs::Names::are_utf8))]
 fn as_text(bytes: &[u8]) -> &str
@@ -103,7 +91,7 @@ pub(crate) fn name_of<'a>(word: &Word<'a>) -> Option<Name<'a>>
     ensures { result ≡ spec.name_of word.now.text }
 {
     let text = word.text();
-    if !text.is_empty() && all_may_stand(text) {
+    if !text.is_empty() && all_are_name_bytes(text) {
         Some(Name::new(as_text(text)))
     } else {
         None
@@ -120,44 +108,14 @@ pub(crate) fn name<'a>(word: &Word<'a>) -> Result<Name<'a>, ReadError>
     }
 }
 
-/// A text is that of a word.
-fn has_text(text: &[u8], word: &Word<'_>) -> bool
-    ensures { result ≡ bytes_eq text.now word.now.text }
-{
-    text == word.text()
-}
-
-/// A word that begins a declaration, or that a class follows.
-fn is_reserved(word: &Word<'_>) -> bool
-    ensures { result ≡ is_reserved word.now.text }
-{
-    if has_text(b"tunable", word) {
-        return true;
-    }
-    if has_text(b"device", word) {
-        return true;
-    }
-    if has_text(b"type", word) {
-        return true;
-    }
-    if has_text(b"rule", word) {
-        return true;
-    }
-    if has_text(b"choose_args", word) {
-        return true;
-    }
-    has_text(b"class", word)
-}
-
 /// The type of a bucket that a word names.
-#[tactic(auto, unfolding(crate::specs::Sayings::type_of))]
+#[tactic(auto, unfolding(crate::specs::Sayings::type_of, crate::specs::Sayings::name_of))]
 pub(crate) fn type_of<'a>(word: &Word<'a>) -> Option<Name<'a>>
     ensures { result ≡ spec.type_of word.now.text }
 {
-    if is_reserved(word) {
-        None
-    } else {
-        name_of(word)
+    match name_of(word) {
+        Some(name) if !is_reserved(name.as_str()) => Some(name),
+        _ => None,
     }
 }
 

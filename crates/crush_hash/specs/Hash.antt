@@ -1,4 +1,5 @@
--- rjenkins1, the hash of CRUSH, over words: numbers below 2^32 (Ceph's `src/crush/hash.c`), and the hash of a name (`src/common/ceph_hash.cc`).
+-- rjenkins1, the hash of CRUSH, over words: numbers below 2^32 (Ceph's `src/crush/hash.c`), and the
+-- hash of a name (`src/common/ceph_hash.cc`).
 use Rattle.std.specs.Prelude.{ℕ, zero, suc, ◌+◌, ◌-◌, ◌*◌, ◌/◌, ◌%◌, ◌^◌, bit_xor, List, [], ◌∷◌, fold, length, slice_index, slice_set}
 
 -- ---- mixing
@@ -121,7 +122,8 @@ absorb (a, b, c) (p, q, r) = mix (plus a p, plus b q, plus c r)
 abbrev pub group : List ℕ → ℕ → Words
 group name place = (word_at name place, word_at name (place + 4), word_at name (place + 8))
 
--- those of what is behind the last whole group, at most 11 bytes: in the last word the lowest byte is left to the length, which is added
+-- those of what is behind the last whole group, at most 11 bytes: in the last word the lowest byte
+-- is left to the length, which is added
 unfoldable pub last_group : List ℕ → ℕ → Words
 last_group name place =
     (word_at name place, word_at name (place + 4), plus (length name) (2 ^ 8 * word_at name (place + 8)))

@@ -9,7 +9,7 @@ use std::simd::u32x4;
 /// Three words in each lane.
 type Lanes = (u32x4, u32x4, u32x4);
 
-/// A word in each lane.
+/// Returns a vector with a word in each lane.
 #[inline(always)]
 fn splat(word: u32) -> u32x4
     ensures { (n : ℕ) → n < 4 → slice_index result n ≡ word }
@@ -24,7 +24,7 @@ fn xor(x: u32x4, y: u32x4) -> u32x4
     x ^ y
 }
 
-/// `x - y - z`, xor `z` shifted right.
+/// Returns `x - y - z`, xor `z` shifted right, in each lane.
 #[inline(always)]
 fn down(bits: u32, x: u32x4, y: u32x4, z: u32x4) -> u32x4
     requires { bits < 32 }
@@ -33,7 +33,7 @@ fn down(bits: u32, x: u32x4, y: u32x4, z: u32x4) -> u32x4
     (x - y - z) ^ (z >> u32x4::splat(bits))
 }
 
-/// `x - y - z`, xor `z` shifted left.
+/// Returns `x - y - z`, xor `z` shifted left, in each lane.
 #[inline(always)]
 fn up(bits: u32, x: u32x4, y: u32x4, z: u32x4) -> u32x4
     requires { bits < 32 }
@@ -42,7 +42,7 @@ fn up(bits: u32, x: u32x4, y: u32x4, z: u32x4) -> u32x4
     (x - y - z) ^ (z << u32x4::splat(bits))
 }
 
-/// Three words of each lane, mixed.
+/// Mixes the three words of each lane.
 #[inline(always)]
 fn mix(words: Lanes) -> Lanes
     ensures { (n : ℕ) → n < 4 → lane n result ≡ mix (lane n words) }
@@ -50,7 +50,8 @@ fn mix(words: Lanes) -> Lanes
     mixed!(words)
 }
 
-/// The hashes of three words, of which the third is another in each lane (`crush_hash32_3`).
+/// Returns the hashes of three words, of which the third differs from lane to lane
+/// (`crush_hash32_3`).
 #[inline(always)]
 pub fn hash3_lanes(x: u32, id: u32, places: &[u32; 4]) -> [u32; 4]
     ensures { (n : ℕ) → n < 4 → slice_index result n ≡ hash3 x id (slice_index places.now n) }

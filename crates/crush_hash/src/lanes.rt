@@ -9,7 +9,7 @@ use std::simd::u32x8;
 /// Three words in each lane.
 type Lanes = (u32x8, u32x8, u32x8);
 
-/// A word in each lane.
+/// Returns a vector with a word in each lane.
 #[inline(always)]
 fn splat(word: u32) -> u32x8
     ensures { (n : ℕ) → n < 8 → slice_index result n ≡ word }
@@ -24,7 +24,7 @@ fn xor(x: u32x8, y: u32x8) -> u32x8
     x ^ y
 }
 
-/// `x - y - z`, xor `z` shifted right.
+/// Returns `x - y - z`, xor `z` shifted right, in each lane.
 #[inline(always)]
 fn down(bits: u32, x: u32x8, y: u32x8, z: u32x8) -> u32x8
     requires { bits < 32 }
@@ -33,7 +33,7 @@ fn down(bits: u32, x: u32x8, y: u32x8, z: u32x8) -> u32x8
     (x - y - z) ^ (z >> u32x8::splat(bits))
 }
 
-/// `x - y - z`, xor `z` shifted left.
+/// Returns `x - y - z`, xor `z` shifted left, in each lane.
 #[inline(always)]
 fn up(bits: u32, x: u32x8, y: u32x8, z: u32x8) -> u32x8
     requires { bits < 32 }
@@ -42,7 +42,7 @@ fn up(bits: u32, x: u32x8, y: u32x8, z: u32x8) -> u32x8
     (x - y - z) ^ (z << u32x8::splat(bits))
 }
 
-/// Three words of each lane, mixed.
+/// Mixes the three words of each lane.
 #[inline(always)]
 fn mix(words: Lanes) -> Lanes
     ensures { (n : ℕ) → n < 8 → lane n result ≡ mix (lane n words) }
@@ -50,7 +50,8 @@ fn mix(words: Lanes) -> Lanes
     mixed!(words)
 }
 
-/// The hashes of four words, of which the second is another in each lane (`crush_hash32_4`).
+/// Returns the hashes of four words, of which the second differs from lane to lane
+/// (`crush_hash32_4`).
 #[inline(always)]
 pub fn hash4_lanes(x: u32, items: &[u32; 8], r: u32, id: u32) -> [u32; 8]
     ensures { (n : ℕ) → n < 8 → slice_index result n ≡ hash4 x (slice_index items.now n) r id }

@@ -1,12 +1,13 @@
 //! rjenkins1, the hash of CRUSH, over words of 32 bits, and the hash of a name.
 //!
-//! Sources: Ceph's `src/crush/hash.c` and `src/common/ceph_hash.cc`. Nothing here takes memory or refuses.
+//! Sources: Ceph's `src/crush/hash.c` and `src/common/ceph_hash.cc`. These functions allocate
+//! nothing and can't fail.
 #![tactic(auto)]
 
 ghost use Rattle.std.specs.Prelude.{◌≡◌, ◌<◌, ◌+◌, ◌^◌, length, slice_index};
 ghost use Rattle.crush_hash.specs.Hash.{down, up, mix, hash1, hash2, hash3, hash4, hash5, word_at, absorb, group, last_group, name_hash};
 
-/// What a hash is before a word comes to it.
+/// What a hash is before a word is mixed into it.
 const SEED: u32 = 1_315_423_911;
 
 /// The two fixed words, which are mixed beside those that are hashed.
@@ -20,7 +21,7 @@ const GOLDEN: u32 = 2_654_435_769;
 /// Three words that are mixed.
 type Words = (u32, u32, u32);
 
-/// `x - y - z`, xor `z` shifted right.
+/// Returns `x - y - z`, xor `z` shifted right. Differences wrap.
 #[tactic(auto, unfolding(crate::specs::Hash::down))]
 fn down(bits: u32, x: u32, y: u32, z: u32) -> u32
     requires { bits < 32 }
@@ -29,7 +30,7 @@ fn down(bits: u32, x: u32, y: u32, z: u32) -> u32
     x.wrapping_sub(y).wrapping_sub(z) ^ (z >> bits)
 }
 
-/// `x - y - z`, xor `z` shifted left.
+/// Returns `x - y - z`, xor `z` shifted left. Differences wrap.
 #[tactic(auto, unfolding(crate::specs::Hash::up))]
 fn up(bits: u32, x: u32, y: u32, z: u32) -> u32
     requires { bits < 32 }
@@ -55,7 +56,7 @@ macro_rules! mixed {
     }};
 }
 
-/// Three words, mixed.
+/// Mixes three words.
 #[tactic(auto, unfolding(crate::specs::Hash::mix))]
 fn mix(a: u32, b: u32, c: u32) -> Words
     ensures { result ≡ mix (a, b, c) }
@@ -63,7 +64,7 @@ fn mix(a: u32, b: u32, c: u32) -> Words
     mixed!((a, b, c))
 }
 
-/// Mixes two words with the hash; answers what the two become.
+/// Mixes two words with the hash. Returns what the two become.
 fn stir(hash: &mut u32, p: u32, q: u32) -> (u32, u32)
     ensures { mix (p, q, hash.old) ≡ (result.0, result.1, hash.new) }
 {
@@ -72,7 +73,7 @@ fn stir(hash: &mut u32, p: u32, q: u32) -> (u32, u32)
     (p, q)
 }
 
-/// The hash of one word (`crush_hash32`).
+/// Returns the hash of one word (`crush_hash32`).
 #[tactic(auto, unfolding(crate::specs::Hash::hash1))]
 pub fn hash1(a: u32) -> u32
     ensures { result ≡ hash1 a }
@@ -83,7 +84,7 @@ pub fn hash1(a: u32) -> u32
     hash
 }
 
-/// The hash of two words (`crush_hash32_2`).
+/// Returns the hash of two words (`crush_hash32_2`).
 #[tactic(auto, unfolding(crate::specs::Hash::hash2))]
 pub fn hash2(a: u32, b: u32) -> u32
     ensures { result ≡ hash2 a b }
@@ -95,7 +96,7 @@ pub fn hash2(a: u32, b: u32) -> u32
     hash
 }
 
-/// The hash of three words (`crush_hash32_3`).
+/// Returns the hash of three words (`crush_hash32_3`).
 #[tactic(auto, unfolding(crate::specs::Hash::hash3))]
 pub fn hash3(a: u32, b: u32, c: u32) -> u32
     ensures { result ≡ hash3 a b c }
@@ -109,7 +110,7 @@ pub fn hash3(a: u32, b: u32, c: u32) -> u32
     hash
 }
 
-/// The hash of four words (`crush_hash32_4`).
+/// Returns the hash of four words (`crush_hash32_4`).
 #[tactic(auto, unfolding(crate::specs::Hash::hash4))]
 pub fn hash4(a: u32, b: u32, c: u32, d: u32) -> u32
     ensures { result ≡ hash4 a b c d }
@@ -124,7 +125,7 @@ pub fn hash4(a: u32, b: u32, c: u32, d: u32) -> u32
     hash
 }
 
-/// The hash of five words (`crush_hash32_5`).
+/// Returns the hash of five words (`crush_hash32_5`).
 #[tactic(auto, unfolding(crate::specs::Hash::hash5))]
 pub fn hash5(a: u32, b: u32, c: u32, d: u32, e: u32) -> u32
     ensures { result ≡ hash5 a b c d e }
@@ -141,7 +142,7 @@ pub fn hash5(a: u32, b: u32, c: u32, d: u32, e: u32) -> u32
     hash
 }
 
-/// The byte at a place, or 0 past the end.
+/// Returns the byte at a place, or 0 past the end.
 fn byte_at(name: &[u8], place: usize) -> u32
     ensures value { result ≡ slice_index name.now place }
     ensures small { result < 256 }
@@ -149,7 +150,7 @@ fn byte_at(name: &[u8], place: usize) -> u32
     u32::from(name.get(place).copied().unwrap_or(0))
 }
 
-/// The four bytes from a place on as a word, the lowest first.
+/// Returns the four bytes from a place on as a word, the lowest byte first.
 #[tactic(auto, unfolding(crate::specs::Hash::word_at))]
 fn word_at(name: &[u8], place: usize) -> u32
     requires { place + 4 < 2 ^ 63 }
@@ -160,7 +161,7 @@ fn word_at(name: &[u8], place: usize) -> u32
     low + 65_536 * high
 }
 
-/// Words, to each of which a word is added, mixed.
+/// Adds a word to each of three words, and mixes them.
 #[tactic(auto, unfolding(crate::specs::Hash::absorb))]
 fn absorb(words: Words, group: Words) -> Words
     ensures { result ≡ absorb words group }
@@ -169,7 +170,7 @@ fn absorb(words: Words, group: Words) -> Words
     mix(a.wrapping_add(p), b.wrapping_add(q), c.wrapping_add(r))
 }
 
-/// The three words of the 12 bytes from a place on.
+/// Returns the three words of the 12 bytes from a place on.
 fn group(name: &[u8], place: usize) -> Words
     requires { place + 16 < 2 ^ 63 }
     ensures { result ≡ group name.now place }
@@ -181,7 +182,7 @@ fn group(name: &[u8], place: usize) -> Words
     )
 }
 
-/// The three words of the last bytes, at most 11, and of the name's length.
+/// Returns the three words of the last bytes, which are at most 11, and of the name's length.
 #[tactic(auto, unfolding(crate::specs::Hash::last_group))]
 fn last_group(name: &[u8], place: usize) -> Words
     requires near { place + 16 < 2 ^ 63 }
@@ -192,7 +193,7 @@ fn last_group(name: &[u8], place: usize) -> Words
     (a, b, (name.len() as u32).wrapping_add(c << 8))
 }
 
-/// The hash of a name (`ceph_str_hash_rjenkins`).
+/// Returns the hash of a name (`ceph_str_hash_rjenkins`).
 pub fn name_hash(name: &[u8]) -> u32
     requires { length name.now < 2 ^ 32 }
     ensures { result ≡ name_hash name.now }

@@ -20,7 +20,8 @@ fn hashes_of_words_are_those_of_ceph(rt: HostRuntime) {
     assert_eq!(rt; hash5(most, most, most, most, most), 4_292_350_227);
 }
 
-/// What Ceph 16's `ceph_str_hash_rjenkins` answers: at whole groups of 12 bytes, one byte to either side, and high bytes.
+/// What Ceph 16's `ceph_str_hash_rjenkins` answers: at whole groups of 12 bytes, one byte to either
+/// side, and high bytes.
 #[test]
 fn hashes_of_names_are_those_of_ceph(rt: HostRuntime) {
     assert_eq!(rt; name_hash(b""), 3_175_731_469);
@@ -36,7 +37,8 @@ fn hashes_of_names_are_those_of_ceph(rt: HostRuntime) {
     assert_eq!(rt; name_hash(&[b'a'; 1_024]), 2_736_148_844);
 }
 
-/// What Ceph 16's `ceph_str_hash_rjenkins` answers for the names of some lengths; `tests/ceph/check_names` asks it anew.
+/// What Ceph 16's `ceph_str_hash_rjenkins` answers for the names of some lengths;
+/// `tests/ceph/check_names` asks it anew.
 const NAME_HASHES: [(u32, u32); 88] = [
     (0, 3_175_731_469),
     (1, 2_558_242_537),
@@ -138,7 +140,8 @@ fn name_of(alloc: Global, length: u32) -> Result<Vec<u8>, AllocError> {
     Ok(name)
 }
 
-/// Each end of a name behind whole groups, lengths of one byte and of two, and each value of a byte; the bytes 1 to 255 twice.
+/// Each end of a name behind whole groups, lengths of one byte and of two, and each value of a
+/// byte; the bytes 1 to 255 twice.
 #[test]
 fn hashes_of_names_of_many_lengths_are_those_of_ceph(rt: HostRuntime) -> Result<(), AllocError> {
     for (length, wanted) in NAME_HASHES {

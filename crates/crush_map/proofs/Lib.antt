@@ -1,3 +1,4 @@
+pub mod DeviceValues
 mod Tables
 mod Words
 mod Checks

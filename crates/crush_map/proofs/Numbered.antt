@@ -7,6 +7,7 @@ use Rattle.crush_map.specs.declared.draft.Device.{Device}
 use Rattle.crush_map.specs.declared.draft.Rule.{Rule}
 use Rattle.crush_map.specs.declared.draft.Step.{Step}
 use Rattle.crush_map.specs.declared.draft.Step.TheVariants.{Take, SetChooseTries, SetLeafTries, SetVaryR, SetStable, Choose, Emit}
+use Rattle.crush_map.specs.declared.limits.TheConstants.{TYPE_LIMIT, DEVICE_LIMIT, RULE_LIMIT, STEP_LIMIT, NUMBER_LIMIT, RULE_ID_LIMIT}
 use Rattle.crush_map.specs.Faults.{Known, ◌when◌, has_number, has_name, is_name, is_reserved, steps_fault, step_fault, choose_fault, type_checks, type_fault, with_type, device_checks, device_fault, with_device, rule_checks, rule_fault, with_rule}
 use Rattle.crush_map.proofs.Passing.{passes, fails}
 use Rattle.crush_map.proofs.Reordered.{Kind, Passes}
@@ -20,28 +21,28 @@ not_above a b h = grind (arith, nat_tests)
 -- ---- types
 
 pub record OwnType (known : Known) (t : TypeName) : Type 0 where
-  pub in_range : nat_lt 65535 t.number ≡ false
+  pub in_range : nat_lt NUMBER_LIMIT t.number ≡ false
   pub form : (not (is_name t.name) || is_reserved t.name) ≡ false
 
-pub type_splits : (k : Known) (t : TypeName) → type_fault k t ≡ None → Passes OwnType 32 (λ t. t.number) (λ t. t.name) k.types k.type_names k t
+pub type_splits : (k : Known) (t : TypeName) → type_fault k t ≡ None → Passes OwnType TYPE_LIMIT (λ t. t.number) (λ t. t.name) k.types k.type_names k t
 unfolding type_fault
 type_splits k t h = record {
-  room = above 32 (length k.types) (fails M1 _ (passes (type_checks k t) 0 (M1 when nat_le 32 (length k.types)) refl h));
+  room = above TYPE_LIMIT (length k.types) (fails M1 _ (passes (type_checks k t) 0 (M1 when nat_le TYPE_LIMIT (length k.types)) refl h));
   own = record {
-    in_range = fails M12 _ (passes (type_checks k t) 1 (M12 when nat_lt 65535 t.number) refl h);
+    in_range = fails M12 _ (passes (type_checks k t) 1 (M12 when nat_lt NUMBER_LIMIT t.number) refl h);
     form = fails M15 _ (passes (type_checks k t) 3 (M15 when (not (is_name t.name) || is_reserved t.name)) refl h);
   };
   new_number = fails M2 _ (passes (type_checks k t) 2 (M2 when has_number k.types t.number) refl h);
   new_name = fails M3 _ (passes (type_checks k t) 4 (M3 when has_name k.type_names t.name) refl h);
 }
 
-pub type_joins : (k : Known) (t : TypeName) → Passes OwnType 32 (λ t. t.number) (λ t. t.name) k.types k.type_names k t → type_fault k t ≡ None
+pub type_joins : (k : Known) (t : TypeName) → Passes OwnType TYPE_LIMIT (λ t. t.number) (λ t. t.name) k.types k.type_names k t → type_fault k t ≡ None
 unfolding type_fault
-type_joins k t p = rw (not_above 32 (length k.types) p.room, p.own.in_range, p.new_number, p.own.form, p.new_name) refl
+type_joins k t p = rw (not_above TYPE_LIMIT (length k.types) p.room, p.own.in_range, p.new_number, p.own.form, p.new_name) refl
 
 abbrev pub type_kind : Kind type_fault with_type OwnType
 type_kind = record {
-  limit = 32;
+  limit = TYPE_LIMIT;
   number = λ t. t.number;
   name = λ t. t.name;
   numbers = λ k. k.types;
@@ -57,28 +58,28 @@ type_kind = record {
 -- ---- devices
 
 pub record OwnDevice (known : Known) (d : Device) : Type 0 where
-  pub in_range : nat_lt 65535 d.id ≡ false
+  pub in_range : nat_lt NUMBER_LIMIT d.id ≡ false
   pub form : not (is_name d.name) ≡ false
 
-pub device_splits : (k : Known) (d : Device) → device_fault k d ≡ None → Passes OwnDevice 1024 (λ d. d.id) (λ d. d.name) k.items.devices k.item_names k d
+pub device_splits : (k : Known) (d : Device) → device_fault k d ≡ None → Passes OwnDevice DEVICE_LIMIT (λ d. d.id) (λ d. d.name) k.items.devices k.item_names k d
 unfolding device_fault
 device_splits k d h = record {
-  room = above 1024 (length k.items.devices) (fails M1 _ (passes (device_checks k d) 0 (M1 when nat_le 1024 (length k.items.devices)) refl h));
+  room = above DEVICE_LIMIT (length k.items.devices) (fails M1 _ (passes (device_checks k d) 0 (M1 when nat_le DEVICE_LIMIT (length k.items.devices)) refl h));
   own = record {
-    in_range = fails M12 _ (passes (device_checks k d) 1 (M12 when nat_lt 65535 d.id) refl h);
+    in_range = fails M12 _ (passes (device_checks k d) 1 (M12 when nat_lt NUMBER_LIMIT d.id) refl h);
     form = fails M15 _ (passes (device_checks k d) 3 (M15 when not (is_name d.name)) refl h);
   };
   new_number = fails M2 _ (passes (device_checks k d) 2 (M2 when has_number k.items.devices d.id) refl h);
   new_name = fails M3 _ (passes (device_checks k d) 4 (M3 when has_name k.item_names d.name) refl h);
 }
 
-pub device_joins : (k : Known) (d : Device) → Passes OwnDevice 1024 (λ d. d.id) (λ d. d.name) k.items.devices k.item_names k d → device_fault k d ≡ None
+pub device_joins : (k : Known) (d : Device) → Passes OwnDevice DEVICE_LIMIT (λ d. d.id) (λ d. d.name) k.items.devices k.item_names k d → device_fault k d ≡ None
 unfolding device_fault
-device_joins k d p = rw (not_above 1024 (length k.items.devices) p.room, p.own.in_range, p.new_number, p.own.form, p.new_name) refl
+device_joins k d p = rw (not_above DEVICE_LIMIT (length k.items.devices) p.room, p.own.in_range, p.new_number, p.own.form, p.new_name) refl
 
 abbrev pub device_kind : Kind device_fault with_device OwnDevice
 device_kind = record {
-  limit = 1024;
+  limit = DEVICE_LIMIT;
   number = λ d. d.id;
   name = λ d. d.name;
   numbers = λ k. k.items.devices;
@@ -94,28 +95,28 @@ device_kind = record {
 -- ---- rules
 
 pub record OwnRule (known : Known) (r : Rule) : Type 0 where
-  pub in_range : nat_lt 255 r.id ≡ false
+  pub in_range : nat_lt RULE_ID_LIMIT r.id ≡ false
   pub form : not (is_name r.name) ≡ false
-  pub count : ((length r.steps == 0) || nat_lt 32 (length r.steps)) ≡ false
+  pub count : ((length r.steps == 0) || nat_lt STEP_LIMIT (length r.steps)) ≡ false
   pub steps : steps_fault known r.steps ≡ None
 
-pub rule_splits : (k : Known) (r : Rule) → rule_fault k r ≡ None → Passes OwnRule 64 (λ r. r.id) (λ r. r.name) k.rules k.rule_names k r
+pub rule_splits : (k : Known) (r : Rule) → rule_fault k r ≡ None → Passes OwnRule RULE_LIMIT (λ r. r.id) (λ r. r.name) k.rules k.rule_names k r
 unfolding rule_fault
 rule_splits k r h = record {
-  room = above 64 (length k.rules) (fails M1 _ (passes (rule_checks k r) 0 (M1 when nat_le 64 (length k.rules)) refl h));
+  room = above RULE_LIMIT (length k.rules) (fails M1 _ (passes (rule_checks k r) 0 (M1 when nat_le RULE_LIMIT (length k.rules)) refl h));
   own = record {
-    in_range = fails M12 _ (passes (rule_checks k r) 1 (M12 when nat_lt 255 r.id) refl h);
+    in_range = fails M12 _ (passes (rule_checks k r) 1 (M12 when nat_lt RULE_ID_LIMIT r.id) refl h);
     form = fails M15 _ (passes (rule_checks k r) 3 (M15 when not (is_name r.name)) refl h);
-    count = fails M1 _ (passes (rule_checks k r) 5 (M1 when ((length r.steps == 0) || nat_lt 32 (length r.steps))) refl h);
+    count = fails M1 _ (passes (rule_checks k r) 5 (M1 when ((length r.steps == 0) || nat_lt STEP_LIMIT (length r.steps))) refl h);
     steps = passes (rule_checks k r) 6 (steps_fault k r.steps) refl h;
   };
   new_number = fails M2 _ (passes (rule_checks k r) 2 (M2 when has_number k.rules r.id) refl h);
   new_name = fails M3 _ (passes (rule_checks k r) 4 (M3 when has_name k.rule_names r.name) refl h);
 }
 
-pub rule_joins : (k : Known) (r : Rule) → Passes OwnRule 64 (λ r. r.id) (λ r. r.name) k.rules k.rule_names k r → rule_fault k r ≡ None
+pub rule_joins : (k : Known) (r : Rule) → Passes OwnRule RULE_LIMIT (λ r. r.id) (λ r. r.name) k.rules k.rule_names k r → rule_fault k r ≡ None
 unfolding rule_fault
-rule_joins k r p = rw (not_above 64 (length k.rules) p.room, p.own.in_range, p.new_number, p.own.form, p.new_name, p.own.count, p.own.steps) refl
+rule_joins k r p = rw (not_above RULE_LIMIT (length k.rules) p.room, p.own.in_range, p.new_number, p.own.form, p.new_name, p.own.count, p.own.steps) refl
 
 -- the fault of a step depends on the declared types and items alone
 step_behind : (k : Known) (r : Rule) (s : Step) → step_fault (with_rule k r) s ≡ step_fault k s
@@ -134,7 +135,7 @@ steps_behind k r (s ∷ steps) = rw (step_behind k r s, steps_behind k r steps) 
 
 abbrev pub rule_kind : Kind rule_fault with_rule OwnRule
 rule_kind = record {
-  limit = 64;
+  limit = RULE_LIMIT;
   number = λ r. r.id;
   name = λ r. r.name;
   numbers = λ k. k.rules;

@@ -10,6 +10,7 @@ use Rattle.std.proofs.lemmas.Simd.{map-map}
 use Rattle.crush_map.specs.declared.fault.FaultCode.TheVariants.{M2, M3, M12}
 use Rattle.crush_map.specs.declared.fault.Element.TheVariants.{Types, Devices, Buckets, Rules}
 use Rattle.crush_map.specs.declared.draft.Bucket.{Bucket}
+use Rattle.crush_map.specs.declared.limits.TheConstants.{TYPE_LIMIT, DEVICE_LIMIT, RULE_LIMIT}
 use Rattle.crush_map.specs.Faults.{Known, Ids, nothing, ◌when◌, has_id, with_id, has_name, is_bucket_id, bucket_checks, first_in, at_place, type_fault, device_fault, bucket_fault, rule_fault, with_type, with_device, with_bucket, with_rule, known_types, known_devices, known_buckets}
 use Rattle.crush_map.specs.Map.{Map, draft_of, IsMap}
 use Rattle.crush_map.specs.Sound.{IsEachOnce}
@@ -61,15 +62,15 @@ once_by f g xs h y i j a b = h (f y) i j (image_at f g xs y i a) (image_at f g x
 
 -- ---- types, devices and rules
 
-types_good : (m : Map) → IsMap m → Good OwnType 32 (λ t. t.number) (λ t. t.name) [] [] nothing m.types
+types_good : (m : Map) → IsMap m → Good OwnType TYPE_LIMIT (λ t. t.number) (λ t. t.name) [] [] nothing m.types
 types_good m is = good type_fault with_type OwnType type_kind Types 0 nothing m.types (none_distinct nat_eq) (none_distinct bytes_eq) (parts (draft_of m) is.faultless).types
 
-devices_good : (m : Map) → IsMap m → Good OwnDevice 1024 (λ d. d.id) (λ d. d.name) (known_types (draft_of m)).items.devices (known_types (draft_of m)).item_names (known_types (draft_of m)) m.devices
+devices_good : (m : Map) → IsMap m → Good OwnDevice DEVICE_LIMIT (λ d. d.id) (λ d. d.name) (known_types (draft_of m)).items.devices (known_types (draft_of m)).item_names (known_types (draft_of m)) m.devices
 devices_good m is =
     let d = draft_of m in
     good device_fault with_device OwnDevice device_kind Devices 0 (known_types d) m.devices (rw (ids_before d) (none_distinct nat_eq)) (rw (names_before d) (none_distinct bytes_eq)) (parts d is.faultless).devices
 
-rules_good : (m : Map) → IsMap m → Good OwnRule 64 (λ r. r.id) (λ r. r.name) (known_buckets (draft_of m)).rules (known_buckets (draft_of m)).rule_names (known_buckets (draft_of m)) m.rules
+rules_good : (m : Map) → IsMap m → Good OwnRule RULE_LIMIT (λ r. r.id) (λ r. r.name) (known_buckets (draft_of m)).rules (known_buckets (draft_of m)).rule_names (known_buckets (draft_of m)) m.rules
 rules_good m is =
     let d = draft_of m in
     good rule_fault with_rule OwnRule rule_kind Rules 0 (known_buckets d) m.rules (rw (rules_before d) (none_distinct nat_eq)) (rw (rule_names_before d) (none_distinct bytes_eq)) (parts d is.faultless).rules

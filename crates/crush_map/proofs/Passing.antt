@@ -4,6 +4,7 @@ use Rattle.crush_map.specs.declared.fault.FaultCode.{FaultCode}
 use Rattle.crush_map.specs.declared.fault.FaultCode.TheVariants.{M3, M12}
 use Rattle.crush_map.specs.declared.draft.Bucket.{Bucket}
 use Rattle.crush_map.specs.declared.draft.Rule.{Rule}
+use Rattle.crush_map.specs.declared.limits.TheConstants.{RULE_ID_LIMIT}
 use Rattle.crush_map.specs.Faults.{Known, first_of, or_else, ◌when◌, has_name, bucket_fault, rule_fault, bucket_checks, rule_checks, is_bucket_id}
 use Rattle.crush_map.specs.Private.Tables.{is_id}
 
@@ -30,9 +31,9 @@ fails code false h = refl
 
 -- ---- numbers
 
-pub rule_in_range : (known : Known) (r : Rule) → rule_fault known r ≡ None → nat_lt 255 r.id ≡ false
+pub rule_in_range : (known : Known) (r : Rule) → rule_fault known r ≡ None → nat_lt RULE_ID_LIMIT r.id ≡ false
 unfolding rule_fault
-rule_in_range known r h = fails M12 _ (passes (rule_checks known r) 1 (M12 when nat_lt 255 r.id) refl h)
+rule_in_range known r h = fails M12 _ (passes (rule_checks known r) 1 (M12 when nat_lt RULE_ID_LIMIT r.id) refl h)
 
 bucket_is : (id : ℤ) → not (is_bucket_id id) ≡ false → IsTrue (is_id id)
 bucket_is (pos n) h = cc

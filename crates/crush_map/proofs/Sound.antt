@@ -15,6 +15,7 @@ use Rattle.crush_map.specs.declared.draft.Step.TheVariants.{Take, SetChooseTries
 use Rattle.crush_map.specs.declared.word.ItemId.{ItemId}
 use Rattle.crush_map.specs.declared.word.Weight.{Weight}
 use Rattle.crush_map.specs.declared.word.Kind.{Kind}
+use Rattle.crush_map.specs.declared.limits.TheConstants.{BUCKET_LIMIT, ITEM_LIMIT, TOTAL_WEIGHT_LIMIT, RULE_LIMIT, STEP_LIMIT, NUMBER_LIMIT, RULE_ID_LIMIT, TRIES_LIMIT, VARY_R_LIMIT}
 use Rattle.crush_map.specs.Faults.{Known, Ids, no_ids, nothing, ◌when◌, has_number, has_id, with_id, items_fault, contents_fault, bucket_checks, bucket_fault, with_bucket, with_device, with_type, known_types, known_devices, is_bucket_id, is_uniform, choose_fault, step_fault, steps_fault, rule_fault, with_rule, known_buckets, known_rules, is_count, are_in_range, end_fault, end_checks, type_fault, device_fault, is_name, is_reserved}
 use Rattle.crush_map.specs.Weights.{has_equal_weights, total_weight}
 use Rattle.crush_map.specs.Map.{Map, draft_of, IsMap}
@@ -183,19 +184,19 @@ item_is m i j items all None h = tt
 item_is m i j items all (Some item) h = record { declared = sym (item_at m (take i m.buckets) all item.0.0) ∙ h.declared; once = h.once }
 
 abbrev contents_checks : Known → Kind → List (ItemId × Weight) → List (Option FaultCode)
-contents_checks known alg items = items_fault known no_ids items ∷ (M8 when (is_uniform alg && not (has_equal_weights items))) ∷ (M7 when nat_lt 4294967295 (total_weight items)) ∷ []
+contents_checks known alg items = items_fault known no_ids items ∷ (M8 when (is_uniform alg && not (has_equal_weights items))) ∷ (M7 when nat_lt TOTAL_WEIGHT_LIMIT (total_weight items)) ∷ []
 
 record Contents (known : Known) (b : Bucket) : Type 0 where
   pub items : items_fault known no_ids b.items ≡ None
   pub even : (is_uniform b.alg && not (has_equal_weights b.items)) ≡ false
-  pub light : nat_lt 4294967295 (total_weight b.items) ≡ false
+  pub light : nat_lt TOTAL_WEIGHT_LIMIT (total_weight b.items) ≡ false
 
 contents : (known : Known) (b : Bucket) → contents_fault known b.alg b.items ≡ None → Contents known b
 unfolding contents_fault
 contents known b h = record {
   items = passes (contents_checks known b.alg b.items) 0 (items_fault known no_ids b.items) refl h;
   even = fails M8 _ (passes (contents_checks known b.alg b.items) 1 (M8 when (is_uniform b.alg && not (has_equal_weights b.items))) refl h);
-  light = fails M7 _ (passes (contents_checks known b.alg b.items) 2 (M7 when nat_lt 4294967295 (total_weight b.items)) refl h);
+  light = fails M7 _ (passes (contents_checks known b.alg b.items) 2 (M7 when nat_lt TOTAL_WEIGHT_LIMIT (total_weight b.items)) refl h);
 }
 
 bucket_passes : (m : Map) (i : ℕ) (b : Bucket) → length (take i m.buckets) ≡ i → AllBuckets (take i m.buckets) → bucket_fault (known_at m (take i m.buckets)) b ≡ None → IsBucketAt m i b
@@ -204,7 +205,7 @@ bucket_passes m i b len all h =
     let k : Known = known_at m (take i m.buckets) in
     let count : length k.items.buckets ≡ length (known_devices (draft_of m)).items.buckets + length (take i m.buckets) = bucket_count (known_devices (draft_of m)) (take i m.buckets) all in
     let none : length (known_devices (draft_of m)).items.buckets ≡ 0 = ap length (no_buckets m) in
-    let room : length k.items.buckets < 1024 = above 1024 (length k.items.buckets) (fails M1 _ (passes (bucket_checks k b) 0 (M1 when nat_le 1024 (length k.items.buckets)) refl h)) in
+    let room : length k.items.buckets < BUCKET_LIMIT = above BUCKET_LIMIT (length k.items.buckets) (fails M1 _ (passes (bucket_checks k b) 0 (M1 when nat_le BUCKET_LIMIT (length k.items.buckets)) refl h)) in
     let id : is_bucket_id b.id.0 ≡ true = is_so _ (fails M12 _ (passes (bucket_checks k b) 1 (M12 when not (is_bucket_id b.id.0)) refl h)) in
     let held : Contents k b = contents k b (passes (bucket_checks k b) 8 (contents_fault k b.alg b.items) refl h) in
     record {
@@ -214,10 +215,10 @@ bucket_passes m i b len all h =
       name = is_so _ (fails M15 _ (passes (bucket_checks k b) 3 (M15 when not (is_name b.name)) refl h));
       typed = sym (type_at m (take i m.buckets) b.kind_of) ∙ is_so _ (fails M4 _ (passes (bucket_checks k b) 5 (M4 when not (has_number k.types b.kind_of)) refl h));
       no_device = fails M9 _ (passes (bucket_checks k b) 6 (M9 when (b.kind_of == 0)) refl h);
-      few = below 1024 (length b.items) (fails M1 _ (passes (bucket_checks k b) 7 (M1 when nat_lt 1024 (length b.items)) refl h));
+      few = below ITEM_LIMIT (length b.items) (fails M1 _ (passes (bucket_checks k b) 7 (M1 when nat_lt ITEM_LIMIT (length b.items)) refl h));
       items = λ j. item_is m i j b.items all (slice_get b.items j) (items_pass k no_ids b.items held.items j);
       even = uneven (is_uniform b.alg) (has_equal_weights b.items) held.even;
-      light = let h : total_weight b.items ≤ 4294967295 = below 4294967295 (total_weight b.items) held.light in omega (arith, h);
+      light = let h : total_weight b.items ≤ TOTAL_WEIGHT_LIMIT = below TOTAL_WEIGHT_LIMIT (total_weight b.items) held.light in omega (arith, h);
     }
 
 -- ---- all buckets of a map
@@ -282,9 +283,9 @@ step_passes : (m : Map) (k : Known) → ((id : ℤ) → has_id k.items id ≡ ha
     (s : Step) → step_fault k s ≡ None → IsStep m s
 unfolding step_fault choose_fault
 step_passes m k ids types (Take id) h = sym (ids id.0) ∙ is_so (has_id k.items id.0) (fails M10 (not (has_id k.items id.0)) h)
-step_passes m k ids types (SetChooseTries tries) h = below 1000 tries (fails M12 (nat_lt 1000 tries) h)
-step_passes m k ids types (SetLeafTries tries) h = below 1000 tries (fails M12 (nat_lt 1000 tries) h)
-step_passes m k ids types (SetVaryR value) h = below 8 value (fails M12 (nat_lt 8 value) h)
+step_passes m k ids types (SetChooseTries tries) h = below TRIES_LIMIT tries (fails M12 (nat_lt TRIES_LIMIT tries) h)
+step_passes m k ids types (SetLeafTries tries) h = below TRIES_LIMIT tries (fails M12 (nat_lt TRIES_LIMIT tries) h)
+step_passes m k ids types (SetVaryR value) h = below VARY_R_LIMIT value (fails M12 (nat_lt VARY_R_LIMIT value) h)
 step_passes m k ids types (SetStable value) h = below 1 value (fails M12 (nat_lt 1 value) h)
 step_passes m k ids types (Choose firstn leaf n wanted) h = record {
   typed = sym (types wanted) ∙ is_so _ (fails M11 _ (passes (choose_checks k firstn leaf n wanted) 0 (M11 when not (has_number k.types wanted)) refl h));
@@ -312,7 +313,7 @@ rule_types m before n = rw (rules_behind (known_buckets (draft_of m)) before) (t
 rule_count : (m : Map) (before : List Rule) → length (rules_at m before).rules ≡ length before
 rule_count m before = rw (rules_behind (known_buckets (draft_of m)) before, rules_before (draft_of m)) (simp length-map)
 
-positive : (n : ℕ) → ((n == 0) || nat_lt 32 n) ≡ false → 1 ≤ n
+positive : (n : ℕ) → ((n == 0) || nat_lt STEP_LIMIT n) ≡ false → 1 ≤ n
 positive zero h = cc
 positive (suc n) h = omega arith
 
@@ -321,14 +322,14 @@ unfolding rule_fault
 rule_passes m i r len all h =
     let k : Known = rules_at m (take i m.rules) in
     let own : OwnRule k r = (rule_splits k r h).own in
-    let room : length k.rules < 64 = (rule_splits k r h).room in
+    let room : length k.rules < RULE_LIMIT = (rule_splits k r h).room in
     let count : length k.rules ≡ length (take i m.rules) = rule_count m (take i m.rules) in
     record {
       place = omega arith;
-      id = below 255 r.id own.in_range;
+      id = below RULE_ID_LIMIT r.id own.in_range;
       name = is_so (is_name r.name) own.form;
       some = positive (length r.steps) own.count;
-      few = below 32 (length r.steps) (right_false (length r.steps == 0) _ own.count);
+      few = below STEP_LIMIT (length r.steps) (right_false (length r.steps == 0) _ own.count);
       steps = steps_pass m k (rule_items m (take i m.rules) all) (rule_types m (take i m.rules)) r.steps own.steps;
     }
 
@@ -354,7 +355,7 @@ type_if m i (Some t) e h =
     let len : length (take i m.types) ≡ i = place_before m.types i t e in
     record {
       place = omega (arith, room, count, len);
-      number = below 65535 t.number p.own.in_range;
+      number = below NUMBER_LIMIT t.number p.own.in_range;
       name = is_so (is_name t.name) (left_false _ (is_reserved t.name) p.own.form);
       not_reserved = right_false (not (is_name t.name)) (is_reserved t.name) p.own.form;
     }
@@ -371,7 +372,7 @@ device_if m i (Some d) e h =
     let count : length k.items.devices ≡ length (take i m.devices) = rw (devices_behind (known_types (draft_of m)) (take i m.devices), ids_before (draft_of m)) (simp length-map) in
     let room = p.room in
     let len : length (take i m.devices) ≡ i = place_before m.devices i d e in
-    record { place = omega (arith, room, count, len); id = below 65535 d.id p.own.in_range; name = is_so (is_name d.name) p.own.form }
+    record { place = omega (arith, room, count, len); id = below NUMBER_LIMIT d.id p.own.in_range; name = is_so (is_name d.name) p.own.form }
 
 pub devices_sound : (m : Map) (i : ℕ) → IsMap m → IfSome (slice_get m.devices i) (IsDeviceAt i)
 devices_sound m i is = device_if m i (slice_get m.devices i) refl ((none_stands (draft_of m) is.faultless).0.1 i)

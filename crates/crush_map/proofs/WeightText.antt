@@ -9,6 +9,7 @@ use Rattle.std.proofs.Math.Seq.{drop-cons, take-append_seam}
 use Rattle.std.proofs.Math.Nat.{one-le-pow, le-div_iff_mul-le, div-lt_iff_lt-mul}
 use Rattle.std.specs.Fmt.{decimal}
 use Rattle.std.specs.List.{prefix_len, position, list_all}
+use Rattle.crush_map.specs.declared.limits.TheConstants.{DIGIT_LIMIT, FRACTION_DIGIT_LIMIT}
 use Rattle.crush_map.specs.declared.word.Weight.{Weight}
 use Rattle.crush_map.specs.Faults.{is_name, is_name_byte}
 use Rattle.crush_map.specs.WeightText.{is_digit, is_point, are_digits, number, without_point, in_65536ths, weight_below_2_to_32, weight_cut_at, weight_of, Writes, hundred_thousandths, five_digits, with_five_decimals, text_of}
@@ -114,7 +115,7 @@ passed : (b : Bool) (o : Option Weight) (w : Weight) → cond b o None ≡ Some 
 passed true o w h = (refl, h)
 passed false o w h = cc
 
-writes : (text whole fraction : List ℕ) (w : Weight) → are_digits 1 10 whole ≡ true → ((text ≡ whole) × (fraction ≡ [])) ⊎ ((text ≡ whole ++ 46 ∷ fraction) × (are_digits 1 20 fraction ≡ true)) → weight_below_2_to_32 (in_65536ths whole fraction) ≡ Some w → Writes text w
+writes : (text whole fraction : List ℕ) (w : Weight) → are_digits 1 DIGIT_LIMIT whole ≡ true → ((text ≡ whole) × (fraction ≡ [])) ⊎ ((text ≡ whole ++ 46 ∷ fraction) × (are_digits 1 FRACTION_DIGIT_LIMIT fraction ≡ true)) → weight_below_2_to_32 (in_65536ths whole fraction) ≡ Some w → Writes text w
 writes text whole fraction w digits form h =
     let s = below_says (in_65536ths whole fraction) w h in
     let b = floor_bounds (without_point whole fraction * 65536) (10 ^ length fraction) w.0 (some_power fraction) s.0 in
@@ -132,11 +133,11 @@ written_at text w (Some i) e h =
 value_is : (whole fraction : List ℕ) (w : Weight) → w.0 * 10 ^ length fraction ≤ without_point whole fraction * 65536 → without_point whole fraction * 65536 < (w.0 + 1) * 10 ^ length fraction → w.0 < 2 ^ 32 → weight_below_2_to_32 (in_65536ths whole fraction) ≡ Some w
 value_is whole fraction w reached not_more fits = says_below _ w (bounds_floor _ _ w.0 (some_power fraction) reached not_more) fits
 
-reads_whole : (whole : List ℕ) (w : Weight) → are_digits 1 10 whole ≡ true → w.0 * 10 ^ length {A = ℕ} [] ≤ without_point whole [] * 65536 → without_point whole [] * 65536 < (w.0 + 1) * 10 ^ length {A = ℕ} [] → w.0 < 2 ^ 32 → weight_cut_at whole (position is_point whole) ≡ Some w
+reads_whole : (whole : List ℕ) (w : Weight) → are_digits 1 DIGIT_LIMIT whole ≡ true → w.0 * 10 ^ length {A = ℕ} [] ≤ without_point whole [] * 65536 → without_point whole [] * 65536 < (w.0 + 1) * 10 ^ length {A = ℕ} [] → w.0 < 2 ^ 32 → weight_cut_at whole (position is_point whole) ≡ Some w
 reads_whole whole w digits reached not_more fits =
     rw (no_point_at whole (all_digits 1 10 whole digits), digits) (value_is whole [] w reached not_more fits)
 
-reads_cut : (whole fraction : List ℕ) (w : Weight) → are_digits 1 10 whole ≡ true → are_digits 1 20 fraction ≡ true → w.0 * 10 ^ length fraction ≤ without_point whole fraction * 65536 → without_point whole fraction * 65536 < (w.0 + 1) * 10 ^ length fraction → w.0 < 2 ^ 32 → weight_cut_at (whole ++ 46 ∷ fraction) (position is_point (whole ++ 46 ∷ fraction)) ≡ Some w
+reads_cut : (whole fraction : List ℕ) (w : Weight) → are_digits 1 DIGIT_LIMIT whole ≡ true → are_digits 1 FRACTION_DIGIT_LIMIT fraction ≡ true → w.0 * 10 ^ length fraction ≤ without_point whole fraction * 65536 → without_point whole fraction * 65536 < (w.0 + 1) * 10 ^ length fraction → w.0 < 2 ^ 32 → weight_cut_at (whole ++ 46 ∷ fraction) (position is_point (whole ++ 46 ∷ fraction)) ≡ Some w
 reads_cut whole fraction w digits decimals reached not_more fits =
     rw (point_at whole fraction (all_digits 1 10 whole digits), take-append_seam whole (46 ∷ fraction), drop_behind whole 46 fraction, digits, decimals) (value_is whole fraction w reached not_more fits)
 
@@ -173,7 +174,7 @@ more_digits n ds h r = record {
 decimal_writes : (n : ℕ) → n < 2 ^ 64 → WritesNumber n (decimal n)
 decimal_writes n h = decimal_by_steps WritesNumber one_digit more_digits n h
 
-pub are_digits-decimal : (n : ℕ) → n < 10 ^ 10 → are_digits 1 10 (decimal n) ≡ true
+pub are_digits-decimal : (n : ℕ) → n < 10 ^ 10 → are_digits 1 DIGIT_LIMIT (decimal n) ≡ true
 are_digits-decimal n lt =
     let some = decimal_nonempty n (omega arith) in
     let few : length (decimal n) ≤ 10 = length-decimal-le 10 n (omega arith) lt (omega arith) in
@@ -182,7 +183,7 @@ are_digits-decimal n lt =
 pub number-decimal : (n : ℕ) → n < 2 ^ 64 → number (decimal n) ≡ n
 number-decimal n h = (decimal_writes n h).value
 
-are_five_digits : (n : ℕ) → are_digits 1 20 (five_digits n) ≡ true
+are_five_digits : (n : ℕ) → are_digits 1 FRACTION_DIGIT_LIMIT (five_digits n) ≡ true
 are_five_digits n = rw (a_digit (n / 10000 % 10) (omega arith), a_digit (n / 1000 % 10) (omega arith), a_digit (n / 100 % 10) (omega arith), a_digit (n / 10 % 10) (omega arith), a_digit (n % 10) (omega arith)) refl
 
 number-five_digits : (n : ℕ) → n / 100000 * 100000 + number (five_digits n) ≡ n

@@ -1,7 +1,7 @@
 -- Which drafts are refused, and with which fault.
 --
--- The limits are those of Ceph's maps where it has any, and otherwise this program's own.
-use Rattle.std.specs.Prelude.{ℕ, ℤ, pos, negsuc, int_le, ◌+◌, nat_lt, nat_le, ◌==◌, ◌&&◌, ◌||◌, not, Bool, true, false, List, [], ◌∷◌, ◌++◌, length, map, fold, codes, bytes_eq, Option, Some, None, if◌then◌else◌}
+-- The limits are in `src/limits.rt`; each is itself allowed.
+use Rattle.std.specs.Prelude.{ℕ, ℤ, pos, negsuc, int_le, neg_ℤ, ◌+◌, nat_lt, nat_le, ◌==◌, ◌&&◌, ◌||◌, not, Bool, true, false, List, [], ◌∷◌, ◌++◌, length, map, fold, codes, bytes_eq, Option, Some, None, if◌then◌else◌}
 use Rattle.std.specs.List.{list_any, list_all}
 use Rattle.crush_map.specs.declared.fault.FaultCode.{FaultCode}
 use Rattle.crush_map.specs.declared.fault.FaultCode.TheVariants.{M1, M2, M3, M4, M5, M6, M7, M8, M9, M10, M11, M12, M13, M14, M15}
@@ -20,52 +20,8 @@ use Rattle.crush_map.specs.declared.word.ItemId.{ItemId}
 use Rattle.crush_map.specs.declared.word.Weight.{Weight}
 use Rattle.crush_map.specs.declared.word.Kind.{Kind}
 use Rattle.crush_map.specs.declared.word.Kind.TheVariants.{Uniform, List as ListKind, Tree}
+use Rattle.crush_map.specs.declared.limits.TheConstants.{TYPE_LIMIT, DEVICE_LIMIT, BUCKET_LIMIT, ITEM_LIMIT, TOTAL_WEIGHT_LIMIT, RULE_LIMIT, STEP_LIMIT, NAME_LIMIT, NUMBER_LIMIT, RULE_ID_LIMIT, COUNT_LIMIT, TRIES_LIMIT, TOTAL_TRIES_LIMIT, VARY_R_LIMIT}
 use Rattle.crush_map.specs.Weights.{has_equal_weights, total_weight}
-
--- ---- limits; each is itself allowed
-
-abbrev pub type_limit : ℕ
-type_limit = 32
-
-abbrev pub device_limit : ℕ
-device_limit = 1024
-
-abbrev pub bucket_limit : ℕ
-bucket_limit = 1024
-
--- items of a bucket
-abbrev pub item_limit : ℕ
-item_limit = 1024
-
--- the sum of a bucket's weights, in 16.16 fixed point
-abbrev pub total_weight_limit : ℕ
-total_weight_limit = 4294967295
-
-abbrev pub rule_limit : ℕ
-rule_limit = 64
-
--- steps of a rule
-abbrev pub step_limit : ℕ
-step_limit = 32
-
--- bytes of a name
-abbrev pub name_limit : ℕ
-name_limit = 64
-
--- the number of a type, the id of a device, and n for the id -1 - n of a bucket
-abbrev pub number_limit : ℕ
-number_limit = 65535
-
-abbrev pub rule_id_limit : ℕ
-rule_id_limit = 255
-
--- tries that a step sets
-abbrev pub tries_limit : ℕ
-tries_limit = 1000
-
--- chooseleaf_vary_r
-abbrev pub vary_r_limit : ℕ
-vary_r_limit = 8
 
 -- ---- checks in order
 
@@ -133,9 +89,9 @@ has_name names name = list_any (λ n. bytes_eq n name) names
 abbrev pub is_name_byte : ℕ → Bool
 is_name_byte b = (nat_le 97 b && nat_le b 122) || (nat_le 65 b && nat_le b 90) || (nat_le 48 b && nat_le b 57) || (b == 45) || (b == 95) || (b == 46)
 
--- 1 to 64 such bytes
+-- 1 to NAME_LIMIT such bytes
 abbrev pub is_name : List ℕ → Bool
-is_name name = nat_le 1 (length name) && nat_le (length name) name_limit && list_all is_name_byte name
+is_name name = nat_le 1 (length name) && nat_le (length name) NAME_LIMIT && list_all is_name_byte name
 
 -- the words that begin a declaration, and `class`: no type has such a name
 abbrev pub is_reserved : List ℕ → Bool
@@ -143,12 +99,12 @@ is_reserved name = list_any (λ word. bytes_eq word name) (codes "tunable" ∷ c
 
 -- ---- types
 
--- of a type: there are 32 already; its number is out of range, or declared already; its name isn't
+-- of a type: there are TYPE_LIMIT already; its number is out of range, or declared already; its name isn't
 -- of the form, or is reserved, or declared already
 abbrev pub type_checks : Known → TypeName → List (Option FaultCode)
 type_checks known t =
-    (M1 when nat_le type_limit (length known.types))
-    ∷ (M12 when nat_lt number_limit t.number)
+    (M1 when nat_le TYPE_LIMIT (length known.types))
+    ∷ (M12 when nat_lt NUMBER_LIMIT t.number)
     ∷ (M2 when has_number known.types t.number)
     ∷ (M15 when (not (is_name t.name) || is_reserved t.name))
     ∷ (M3 when has_name known.type_names t.name)
@@ -164,12 +120,12 @@ with_type known t = record known { types = known.types ++ t.number ∷ []; type_
 
 -- ---- devices
 
--- of a device: there are 1,024 already; its id is out of range, or declared already; its name isn't
+-- of a device: there are DEVICE_LIMIT already; its id is out of range, or declared already; its name isn't
 -- of the form, or is declared already
 abbrev pub device_checks : Known → Device → List (Option FaultCode)
 device_checks known d =
-    (M1 when nat_le device_limit (length known.items.devices))
-    ∷ (M12 when nat_lt number_limit d.id)
+    (M1 when nat_le DEVICE_LIMIT (length known.items.devices))
+    ∷ (M12 when nat_lt NUMBER_LIMIT d.id)
     ∷ (M2 when has_number known.items.devices d.id)
     ∷ (M15 when not (is_name d.name))
     ∷ (M3 when has_name known.item_names d.name)
@@ -185,10 +141,10 @@ with_device known d = record known { items = with_id known.items (pos d.id); ite
 
 -- ---- buckets
 
--- -1 to -65536
+-- -1 to -1 - NUMBER_LIMIT
 abbrev pub is_bucket_id : ℤ → Bool
 is_bucket_id (pos id) = false
-is_bucket_id (negsuc n) = nat_le n number_limit
+is_bucket_id (negsuc n) = nat_le n NUMBER_LIMIT
 
 -- the first fault of a bucket's items from here on; `before` has the ids of the bucket's earlier
 -- items
@@ -211,22 +167,22 @@ unfoldable pub contents_fault : Known → Kind → List (ItemId × Weight) → O
 contents_fault known alg items = first_of (
     items_fault known no_ids items
     ∷ (M8 when (is_uniform alg && not (has_equal_weights items)))
-    ∷ (M7 when nat_lt total_weight_limit (total_weight items))
+    ∷ (M7 when nat_lt TOTAL_WEIGHT_LIMIT (total_weight items))
     ∷ [])
 
--- of a bucket: there are 1,024 already; its id is out of range, or declared already; its name isn't
+-- of a bucket: there are BUCKET_LIMIT already; its id is out of range, or declared already; its name isn't
 -- of the form, or is declared already; its type isn't declared, or is that of devices; it has over
--- 1,024 items; its items and weights
+-- ITEM_LIMIT items; its items and weights
 abbrev pub bucket_checks : Known → Bucket → List (Option FaultCode)
 bucket_checks known b =
-    (M1 when nat_le bucket_limit (length known.items.buckets))
+    (M1 when nat_le BUCKET_LIMIT (length known.items.buckets))
     ∷ (M12 when not (is_bucket_id b.id.0))
     ∷ (M2 when has_id known.items b.id.0)
     ∷ (M15 when not (is_name b.name))
     ∷ (M3 when has_name known.item_names b.name)
     ∷ (M4 when not (has_number known.types b.kind_of))
     ∷ (M9 when (b.kind_of == 0))
-    ∷ (M1 when nat_lt item_limit (length b.items))
+    ∷ (M1 when nat_lt ITEM_LIMIT (length b.items))
     ∷ contents_fault known b.alg b.items
     ∷ []
 
@@ -240,9 +196,9 @@ with_bucket known b = record known { items = with_id known.items b.id.0; item_na
 
 -- ---- rules
 
--- -64 to 64
+-- -COUNT_LIMIT to COUNT_LIMIT
 abbrev pub is_count : ℤ → Bool
-is_count n = int_le (negsuc 63) n && int_le n (pos 64)
+is_count n = int_le (neg_ℤ (pos COUNT_LIMIT)) n && int_le n (pos COUNT_LIMIT)
 
 -- of a choose step: its type isn't declared; its count is out of range; it is chooseleaf indep of
 -- type 0
@@ -256,9 +212,9 @@ choose_fault known firstn leaf n wanted = first_of (
 -- the fault of a step: an item that isn't declared, or a number out of range
 unfoldable pub step_fault : Known → Step → Option FaultCode
 step_fault known (Take id) = M10 when not (has_id known.items id.0)
-step_fault known (SetChooseTries tries) = M12 when nat_lt tries_limit tries
-step_fault known (SetLeafTries tries) = M12 when nat_lt tries_limit tries
-step_fault known (SetVaryR value) = M12 when nat_lt vary_r_limit value
+step_fault known (SetChooseTries tries) = M12 when nat_lt TRIES_LIMIT tries
+step_fault known (SetLeafTries tries) = M12 when nat_lt TRIES_LIMIT tries
+step_fault known (SetVaryR value) = M12 when nat_lt VARY_R_LIMIT value
 step_fault known (SetStable value) = M12 when nat_lt 1 value
 step_fault known (Choose firstn leaf n wanted) = choose_fault known firstn leaf n wanted
 step_fault known Emit = None
@@ -267,16 +223,16 @@ step_fault known Emit = None
 abbrev pub steps_fault : Known → List Step → Option FaultCode
 steps_fault known steps = first_of (map (step_fault known) steps)
 
--- of a rule apart from its steps: there are 64 already; its id is out of range, or declared
--- already; its name isn't of the form, or is declared already; it has no step, or over 32
+-- of a rule apart from its steps: there are RULE_LIMIT already; its id is out of range, or declared
+-- already; its name isn't of the form, or is declared already; it has no step, or over STEP_LIMIT
 abbrev pub rule_head_checks : Known → Rule → List (Option FaultCode)
 rule_head_checks known r =
-    (M1 when nat_le rule_limit (length known.rules))
-    ∷ (M12 when nat_lt rule_id_limit r.id)
+    (M1 when nat_le RULE_LIMIT (length known.rules))
+    ∷ (M12 when nat_lt RULE_ID_LIMIT r.id)
     ∷ (M2 when has_number known.rules r.id)
     ∷ (M15 when not (is_name r.name))
     ∷ (M3 when has_name known.rule_names r.name)
-    ∷ (M1 when ((length r.steps == 0) || nat_lt step_limit (length r.steps)))
+    ∷ (M1 when ((length r.steps == 0) || nat_lt STEP_LIMIT (length r.steps)))
     ∷ []
 
 -- the fault of a rule that is declared next, apart from the faults of its steps
@@ -297,10 +253,9 @@ with_rule known r = record known { rules = known.rules ++ r.id ∷ []; rule_name
 
 -- ---- the end
 
--- choose_total_tries up to 999, chooseleaf_descend_once up to 1, chooseleaf_vary_r up to 8,
--- chooseleaf_stable up to 1
+-- whether each tunable is in its range; chooseleaf_descend_once and chooseleaf_stable are 0 or 1
 abbrev pub are_in_range : Tunables → Bool
-are_in_range t = nat_le t.total_tries 999 && nat_le t.descend_once 1 && nat_le t.vary_r vary_r_limit && nat_le t.stable 1
+are_in_range t = nat_le t.total_tries TOTAL_TRIES_LIMIT && nat_le t.descend_once 1 && nat_le t.vary_r VARY_R_LIMIT && nat_le t.stable 1
 
 -- at the end: there is no type 0; a tunable is out of range; local tries or local fallback tries
 -- are not 0

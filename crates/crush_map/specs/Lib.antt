@@ -5,4 +5,5 @@ pub mod Laws
 pub mod Sound
 pub mod Weights
 pub mod WeightText
+pub mod DeviceValues
 pub mod Private

@@ -9,7 +9,8 @@ use Rattle.crush_map.specs.declared.draft.Step.{Step}
 use Rattle.crush_map.specs.declared.draft.Step.TheVariants.{Take, SetChooseTries, SetLeafTries, SetVaryR, SetStable, Choose, Emit}
 use Rattle.crush_map.specs.declared.word.ItemId.{ItemId}
 use Rattle.crush_map.specs.declared.word.Weight.{Weight}
-use Rattle.crush_map.specs.Faults.{type_limit, device_limit, bucket_limit, item_limit, rule_limit, step_limit, number_limit, rule_id_limit, tries_limit, vary_r_limit, is_bucket_id, is_uniform, is_count, is_name, is_reserved}
+use Rattle.crush_map.specs.declared.limits.TheConstants.{TYPE_LIMIT, DEVICE_LIMIT, BUCKET_LIMIT, ITEM_LIMIT, RULE_LIMIT, STEP_LIMIT, NUMBER_LIMIT, RULE_ID_LIMIT, TRIES_LIMIT, VARY_R_LIMIT}
+use Rattle.crush_map.specs.Faults.{is_bucket_id, is_uniform, is_count, is_name, is_reserved}
 use Rattle.crush_map.specs.Weights.{has_equal_weights, total_weight}
 use Rattle.crush_map.specs.Map.{Map}
 
@@ -45,13 +46,13 @@ pub record IsItemAt (m : Map) (i j : ℕ) (items : List (ItemId × Weight)) (id 
 
 -- the bucket at place i
 pub record IsBucketAt (m : Map) (i : ℕ) (b : Bucket) : Type 0 where
-  pub place : i < bucket_limit
+  pub place : i < BUCKET_LIMIT
   pub id : is_bucket_id b.id.0 ≡ true
   pub new : has_bucket (take i m.buckets) b.id.0 ≡ false
   pub name : is_name b.name ≡ true
   pub typed : has_type m.types b.kind_of ≡ true
   pub no_device : (b.kind_of == 0) ≡ false
-  pub few : length b.items ≤ item_limit
+  pub few : length b.items ≤ ITEM_LIMIT
   pub items : (j : ℕ) → IfSome (slice_get b.items j) (λ item. IsItemAt m i j b.items item.0.0)
   pub even : is_uniform b.alg ≡ true → has_equal_weights b.items ≡ true
   pub light : total_weight b.items < 2 ^ 32
@@ -64,31 +65,31 @@ pub record IsChoose (m : Map) (firstn leaf : Bool) (n : ℤ) (wanted : ℕ) : Ty
 
 abbrev pub IsStep : Map → Step → Type 0
 IsStep m (Take id) = has_item m.devices m.buckets id.0 ≡ true
-IsStep m (SetChooseTries tries) = tries ≤ tries_limit
-IsStep m (SetLeafTries tries) = tries ≤ tries_limit
-IsStep m (SetVaryR value) = value ≤ vary_r_limit
+IsStep m (SetChooseTries tries) = tries ≤ TRIES_LIMIT
+IsStep m (SetLeafTries tries) = tries ≤ TRIES_LIMIT
+IsStep m (SetVaryR value) = value ≤ VARY_R_LIMIT
 IsStep m (SetStable value) = value ≤ 1
 IsStep m (Choose firstn leaf n wanted) = IsChoose m firstn leaf n wanted
 IsStep m Emit = ⊤
 
 -- the rule at place i
 pub record IsRuleAt (m : Map) (i : ℕ) (r : Rule) : Type 0 where
-  pub place : i < rule_limit
-  pub id : r.id ≤ rule_id_limit
+  pub place : i < RULE_LIMIT
+  pub id : r.id ≤ RULE_ID_LIMIT
   pub name : is_name r.name ≡ true
   pub some : 1 ≤ length r.steps
-  pub few : length r.steps ≤ step_limit
+  pub few : length r.steps ≤ STEP_LIMIT
   pub steps : (j : ℕ) → IfSome (slice_get r.steps j) (IsStep m)
 
 -- the type at place i
 pub record IsTypeAt (i : ℕ) (t : TypeName) : Type 0 where
-  pub place : i < type_limit
-  pub number : t.number ≤ number_limit
+  pub place : i < TYPE_LIMIT
+  pub number : t.number ≤ NUMBER_LIMIT
   pub name : is_name t.name ≡ true
   pub not_reserved : is_reserved t.name ≡ false
 
 -- the device at place i
 pub record IsDeviceAt (i : ℕ) (d : Device) : Type 0 where
-  pub place : i < device_limit
-  pub id : d.id ≤ number_limit
+  pub place : i < DEVICE_LIMIT
+  pub id : d.id ≤ NUMBER_LIMIT
   pub name : is_name d.name ≡ true

@@ -1,6 +1,7 @@
 -- Weights as text: decimal in a text, 65536ths of 1.0 in a map (Ceph's `CrushCompiler`).
 use Rattle.std.specs.Prelude.{◌≡◌, ℕ, ◌+◌, ◌-◌, ◌*◌, ◌/◌, ◌%◌, ◌^◌, ◌<◌, ◌≤◌, nat_le, nat_lt, ◌==◌, ◌&&◌, ◌⊎◌, Bool, true, List, [], ◌∷◌, ◌++◌, length, take, drop, position, Option, Some, None, if◌then◌else◌, decimal}
 use Rattle.std.specs.List.{list_all}
+use Rattle.crush_map.specs.declared.limits.TheConstants.{DIGIT_LIMIT, FRACTION_DIGIT_LIMIT}
 use Rattle.crush_map.specs.declared.word.Weight.{Weight}
 
 -- `0` to `9`
@@ -38,22 +39,22 @@ weight_below_2_to_32 n = if nat_lt n (2 ^ 32) then Some (record { 0 = n }) else 
 -- the weight that a text writes, by the place of its first point or none
 abbrev pub weight_cut_at : List ℕ → Option ℕ → Option Weight
 weight_cut_at text None =
-    if are_digits 1 10 text then weight_below_2_to_32 (in_65536ths text []) else None
+    if are_digits 1 DIGIT_LIMIT text then weight_below_2_to_32 (in_65536ths text []) else None
 weight_cut_at text (Some place) =
-    if are_digits 1 10 (take place text) && are_digits 1 20 (drop (place + 1) text)
+    if are_digits 1 DIGIT_LIMIT (take place text) && are_digits 1 FRACTION_DIGIT_LIMIT (drop (place + 1) text)
     then weight_below_2_to_32 (in_65536ths (take place text) (drop (place + 1) text)) else None
 
 -- the weight that a text writes, if it writes one
 unfoldable pub weight_of : List ℕ → Option Weight
 weight_of text = weight_cut_at text (position is_point text)
 
--- a text writes this weight: it is 1 to 10 digits, alone or followed by a point and 1 to 20 digits,
--- and their value rounded down is the weight
+-- a text writes this weight: it is 1 to DIGIT_LIMIT digits, alone or followed by a point and 1 to
+-- FRACTION_DIGIT_LIMIT digits, and their value rounded down is the weight
 pub record Writes (text : List ℕ) (weight : Weight) : Type 0 where
   pub whole : List ℕ
   pub fraction : List ℕ
-  pub digits : are_digits 1 10 whole ≡ true
-  pub form : ((text ≡ whole) × (fraction ≡ [])) ⊎ ((text ≡ whole ++ 46 ∷ fraction) × (are_digits 1 20 fraction ≡ true))
+  pub digits : are_digits 1 DIGIT_LIMIT whole ≡ true
+  pub form : ((text ≡ whole) × (fraction ≡ [])) ⊎ ((text ≡ whole ++ 46 ∷ fraction) × (are_digits 1 FRACTION_DIGIT_LIMIT fraction ≡ true))
   pub reached : weight.0 * 10 ^ length fraction ≤ without_point whole fraction * 65536
   pub not_more : without_point whole fraction * 65536 < (weight.0 + 1) * 10 ^ length fraction
   pub fits : weight.0 < 2 ^ 32

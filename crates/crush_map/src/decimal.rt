@@ -6,6 +6,7 @@ ghost use Rattle.crush_map.specs.Faults.{is_name};
 ghost use Rattle.crush_map.specs.WeightText as spec;
 ghost use Rattle.crush_map.specs.declared.word.Weight.{Weight};
 
+use crate::limits::{DIGIT_LIMIT, FRACTION_DIGIT_LIMIT};
 use crate::word::Weight;
 use std::alloc::{AllocError, Global};
 
@@ -17,16 +18,16 @@ fn all_are_digits(text: &[u8]) -> bool
 }
 
 /// Whether a text is `low` to `high` digits and nothing else.
-fn are_digits(low: usize, high: usize, text: &[u8]) -> bool
+pub fn are_digits(low: usize, high: usize, text: &[u8]) -> bool
     ensures { result ≡ spec.are_digits low high text.now }
 {
     low <= text.len() && text.len() <= high && all_are_digits(text)
 }
 
-/// The number that at most 20 digits write.
+/// The number that at most `FRACTION_DIGIT_LIMIT` digits write.
 fn number(digits: &[u8]) -> u128
     requires digits { list_all spec.is_digit digits.now ≡ true }
-    requires few { length digits.now ≤ 20 }
+    requires few { length digits.now ≤ FRACTION_DIGIT_LIMIT }
     ensures value { result ≡ spec.number digits.now }
     ensures bound { result < 10 ^ length digits.now }
 {
@@ -41,8 +42,8 @@ fn number(digits: &[u8]) -> u128
 fn weight_of_parts(whole: &[u8], fraction: &[u8]) -> Option<Weight>
     requires whole { list_all spec.is_digit whole.now ≡ true }
     requires fraction { list_all spec.is_digit fraction.now ≡ true }
-    requires few_whole { length whole.now ≤ 10 }
-    requires few_fraction { length fraction.now ≤ 20 }
+    requires few_whole { length whole.now ≤ DIGIT_LIMIT }
+    requires few_fraction { length fraction.now ≤ FRACTION_DIGIT_LIMIT }
     ensures { result ≡ spec.weight_below_2_to_32 (spec.in_65536ths whole.now fraction.now) }
 {
     let parts = 10_u128.pow(fraction.len() as u32);
@@ -58,20 +59,20 @@ fn first_point(text: &[u8]) -> Option<usize>
     text.iter().position(|byte| *byte == b'.')
 }
 
-/// Reads a weight: 1 to 10 digits, or 1 to 10 digits, a point and 1 to 20 digits, rounded down to
-/// 16.16 fixed point.
+/// The weight that a text writes, rounded down to 16.16 fixed point: 1 to `DIGIT_LIMIT` digits,
+/// alone or followed by a point and 1 to `FRACTION_DIGIT_LIMIT` digits.
 ///
-/// None if the text has another form, or if its value is 65536 or more.
+/// `None`: the text has another form, or its value is 65536 or more.
 #[tactic(auto, unfolding(crate::specs::WeightText::weight_of))]
 pub fn weight_from_text(text: &[u8]) -> Option<Weight>
     ensures { result ≡ spec.weight_of text.now }
 {
     match first_point(text) {
-        None if are_digits(1, 10, text) => weight_of_parts(text, &[]),
+        None if are_digits(1, DIGIT_LIMIT, text) => weight_of_parts(text, &[]),
         None => None,
         Some(place) => {
             let (whole, fraction) = (&text[..place], &text[place + 1..]);
-            if are_digits(1, 10, whole) && are_digits(1, 20, fraction) {
+            if are_digits(1, DIGIT_LIMIT, whole) && are_digits(1, FRACTION_DIGIT_LIMIT, fraction) {
                 weight_of_parts(whole, fraction)
             } else {
                 None

@@ -3,6 +3,7 @@
 ghost use Rattle.std.specs.Prelude.{◌≡◌, ◌≤◌, pos, IsTrue, OnOk, length};
 ghost use Rattle.crush_map.specs.Faults as spec;
 ghost use Rattle.crush_map.specs.Private.Tables as tables;
+ghost use Rattle.crush_map.specs.declared.limits.TheConstants.{NUMBER_LIMIT};
 
 use crate::numbers::Numbers;
 use crate::word::ItemId;
@@ -59,7 +60,7 @@ impl Ids {
 
     /// Adds the id of a device. After `AllocError` nothing is said of the ids.
     pub(crate) fn add_device(&mut self, id: u32) -> Result<(), AllocError>
-        requires { id ≤ 65535 }
+        requires { id ≤ NUMBER_LIMIT }
         ensures { OnOk result (self.new ≡ spec.with_id self.old (pos id)) }
     {
         self.devices.add(id)

@@ -8,9 +8,8 @@ use crate::fault::FaultCode;
 use crate::form::{is_name, is_reserved};
 use crate::ids::Ids;
 use crate::limits::{
-    BUCKET_ID_LIMIT, BUCKET_LIMIT, COUNT_LIMIT, DEVICE_LIMIT, ITEM_LIMIT, NUMBER_LIMIT,
-    RULE_ID_LIMIT, RULE_LIMIT, STEP_LIMIT, TOTAL_TRIES_LIMIT, TOTAL_WEIGHT_LIMIT, TRIES_LIMIT,
-    TYPE_LIMIT, VARY_R_LIMIT,
+    BUCKET_LIMIT, COUNT_LIMIT, DEVICE_LIMIT, ITEM_LIMIT, NUMBER_LIMIT, RULE_ID_LIMIT, RULE_LIMIT,
+    STEP_LIMIT, TOTAL_TRIES_LIMIT, TOTAL_WEIGHT_LIMIT, TRIES_LIMIT, TYPE_LIMIT, VARY_R_LIMIT,
 };
 use crate::names::Names;
 use crate::numbers::Numbers;
@@ -153,7 +152,7 @@ impl Known {
         alg: Kind,
         items: &[(ItemId, Weight)],
     ) -> Result<Option<FaultCode>, AllocError>
-        requires { length items.now ≤ spec.item_limit }
+        requires { length items.now ≤ ITEM_LIMIT }
         ensures { IfOk result (λ fault. fault ≡ spec.contents_fault self.now alg items.now) }
     {
         if let Some(fault) = self.items_fault(alloc, items)? {
@@ -207,7 +206,7 @@ impl Known {
     {
         if !self.types.has(wanted) {
             Some(FaultCode::M11)
-        } else if n < -COUNT_LIMIT || n > COUNT_LIMIT {
+        } else if n.unsigned_abs() > COUNT_LIMIT {
             Some(FaultCode::M12)
         } else if leaf && !firstn && wanted == 0 {
             Some(FaultCode::M14)
@@ -326,7 +325,7 @@ fn fault_if(broken: bool, code: FaultCode) -> Option<FaultCode>
 fn is_bucket_id(id: ItemId) -> bool
     ensures { result ≡ spec.is_bucket_id id.0 }
 {
-    BUCKET_ID_LIMIT <= id.0 && id.0 <= -1
+    id.0 < 0 && id.0.unsigned_abs() - 1 <= NUMBER_LIMIT
 }
 
 fn is_uniform(alg: Kind) -> bool

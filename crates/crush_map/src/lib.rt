@@ -3,6 +3,7 @@
 //! Its tests are in the crate `map_tests`.
 #![tactic(auto)]
 
+mod by_device;
 mod decimal;
 mod draft;
 mod fault;
@@ -20,10 +21,13 @@ mod text;
 mod weights;
 mod word;
 
-pub use decimal::{weight_comes_back, weight_from_text, weight_text, weight_texts_are_read};
+pub use by_device::ByDevice;
+pub use decimal::{
+    are_digits, weight_comes_back, weight_from_text, weight_text, weight_texts_are_read,
+};
 pub use draft::{Bucket, Device, Items, MapDraft, Rule, Step, Steps, Tunables, TypeName};
 pub use fault::{Element, FaultCode, MapFault};
-pub use form::is_name;
+pub use form::{all_are_name_bytes, is_name, is_name_byte, is_reserved};
 pub use known::{Known, are_in_range};
 pub use law::{
     buckets_are_sound, drafts_declare_maps, first_fault_is_first, numbers_and_names_are_once,

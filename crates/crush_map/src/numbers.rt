@@ -1,4 +1,4 @@
-//! A list of numbers below 65,536. A short list is searched; a longer one has a table of flags by
+//! A list of numbers up to `NUMBER_LIMIT`. A short list is searched; a longer one has a table of flags by
 //! which a number is looked up in one step.
 
 ghost use Rattle.std.specs.Prelude.{◌≡◌, ◌<◌, ◌≤◌, ◌++◌, ◌∷◌, [], ℕ, IfOk, IsTrue, OnOk, length, slice_index_or, false};
@@ -6,14 +6,12 @@ ghost use Rattle.std.specs.List.{All};
 ghost use Rattle.crush_map.specs.Faults as spec;
 ghost use Rattle.crush_map.specs.Private.Tables.{IsTableOf};
 
+use crate::limits::ID_COUNT;
 use std::alloc::{AllocError, Global};
 use std::marker::Model;
 
-/// How many different numbers there can be: 0 to 65,535.
-pub const NUMBERS: usize = 65_536;
-
 /// The longest list without a table: to search it takes less time than to clear a table.
-const SHORT: usize = 64;
+const SHORT_LIST: usize = 64;
 
 /// Numbers in the order in which they were added. The table may be empty only as long as the list
 /// is short.
@@ -45,10 +43,10 @@ fn empty_table(alloc: Global, size: usize) -> Result<Vec<bool>, AllocError>
 
 /// The table of a list.
 fn table_of(alloc: Global, numbers: &[u32]) -> Result<Vec<bool>, AllocError>
-    requires { All (λ n. n < NUMBERS) numbers.now }
+    requires { All (λ n. n < ID_COUNT) numbers.now }
     ensures { IfOk result (λ t. IsTableOf numbers.now t.items) }
 {
-    let mut table = empty_table(alloc, NUMBERS)?;
+    let mut table = empty_table(alloc, ID_COUNT)?;
     for number in numbers {
         table[*number as usize] = true;
     }
@@ -77,7 +75,7 @@ impl Numbers {
     /// Whether a number is in the list.
     pub(crate) fn has(&self, number: u32) -> bool
         ensures value { result ≡ spec.has_number self.now number }
-        ensures known { IsTrue result → number < NUMBERS }
+        ensures known { IsTrue result → number < ID_COUNT }
     {
         let table = self.table.as_slice();
         if table.is_empty() {
@@ -91,10 +89,10 @@ impl Numbers {
 
     /// Adds a number at the end. After `AllocError` nothing is said of the list.
     pub(crate) fn add(&mut self, number: u32) -> Result<(), AllocError>
-        requires { number < NUMBERS }
+        requires { number < ID_COUNT }
         ensures { OnOk result (self.new ≡ self.old ++ number ∷ []) }
     {
-        if self.table.is_empty() && self.order.len() >= SHORT {
+        if self.table.is_empty() && self.order.len() >= SHORT_LIST {
             self.table = table_of(self.alloc, self.order.as_slice())?;
         }
         self.order.push(number)?;

@@ -179,7 +179,8 @@ same_below pairs one at to low high own up more is le within less above by place
           }
     ]
 
--- an exchange of two places of which neither has the other's number: the higher place's pair, then the lower one's
+-- an exchange of two places of which neither has the other's number: the higher place's pair, then
+-- the lower one's
 pub record IsExchanged (pairs : List Pair) (at to low high own member up more : ℕ) : Type 0 where
   pub one : IsPlaced pairs (put pairs high own) to more (high, own)
   pub two : IsPlaced (put pairs high own) (put (put pairs high own) low member) at up (low, member)

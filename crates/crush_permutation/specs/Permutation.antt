@@ -23,19 +23,22 @@ abbrev pub after_swaps : ItemId → ℕ → ℕ → ℕ → List ℕ
 after_swaps id size x zero = range_with_len 0 size
 after_swaps id size x (suc n) = swap (after_swaps id size x n) n (partner id size x n)
 
--- the permutation of 0, 1, .. below size for an input x: all places but the last changed contents in turn
+-- the permutation of 0, 1, .. below size for an input x: all places but the last changed contents
+-- in turn
 unfoldable pub permutation : ItemId → ℕ → ℕ → List ℕ
 permutation id size x = after_swaps id size x (size - 1)
 
 -- ---- what a scratch remembers
 
--- the permutation it is of, the input that was asked last, and how many exchanges were made for that
+-- the permutation it is of, the input that was asked last, and how many exchanges were made for
+-- that
 pub record Remembered : Type 0 where
   pub of : PermView
   pub x : ℕ
   pub swaps : ℕ
 
--- what is remembered after a question for an input at a place: exchanges as many as the place needs, and for the same input no fewer than before
+-- what is remembered after a question for an input at a place: exchanges as many as the place
+-- needs, and for the same input no fewer than before
 abbrev pub asked : Remembered → ℕ → ℕ → Remembered
 asked m x place = record m { x = x; swaps = max (if m.x == x then m.swaps else 0) (min (place + 1) (m.of.size - 1)) }
 

@@ -1,6 +1,8 @@
-//! The permutations by which uniform buckets pick, kept as the places at which they differ from the identity.
+//! The permutations by which uniform buckets pick, kept as the places at which they differ from the
+//! identity.
 //!
-//! Source: `bucket_perm_choose` of Ceph's `src/crush/mapper.c`. Its tests are the crate `kernel_tests`.
+//! Source: `bucket_perm_choose` of Ceph's `src/crush/mapper.c`. The tests are in the crate
+//! `kernel_tests`.
 #![tactic(auto)]
 
 pub mod laws;

@@ -1,4 +1,5 @@
-//! A permutation of 0, 1, .. as pairs of a place and its member, in order of place, for the places whose member is another number than the place.
+//! A permutation of 0, 1, .. as pairs of a place and its member, in order of place, for the places
+//! whose member is another number than the place.
 
 ghost use Rattle.std.specs.Prelude.{◌≡◌, ◌≢◌, ◌≤◌, ◌<◌, ◌+◌, ◌∷◌, [], length, take};
 ghost use Rattle.crush_permutation.specs.Private.Pairs.{index, member_at, is_there, exchanged, IsRising, IsMovedRight};
@@ -6,7 +7,9 @@ ghost use Rattle.crush_permutation.specs.Private.Pairs.{index, member_at, is_the
 /// A place and its member.
 pub(crate) type Pair = (u32, u32);
 
-/// The pairs after place 0 changed contents with this one, and no others, put at the front of a row; answers how many there are. Both are written in either case, so that no branch depends on the place.
+/// Writes the pairs of a permutation in which place 0 changed contents with this place, and no
+/// others, to the front of a row. Returns how many they are. Two pairs are written in any case, so
+/// that no branch depends on the place.
 #[inline]
 pub(crate) fn begin(row: &mut [Pair], first: u32) -> usize
     requires { 2 ≤ length row.old }
@@ -20,7 +23,7 @@ pub(crate) fn begin(row: &mut [Pair], first: u32) -> usize
     if first == 0 { 0 } else { 2 }
 }
 
-/// The member at a place.
+/// Returns the member at a place.
 #[inline]
 pub(crate) fn member_at(pairs: &[Pair], place: u32) -> u32
     requires { IsRising pairs.now }
@@ -29,7 +32,8 @@ pub(crate) fn member_at(pairs: &[Pair], place: u32) -> u32
     member_by(pairs, index_of(pairs, place), place)
 }
 
-/// How many pairs are of lower places than this one. The search goes down from the place itself, since there are at most as many.
+/// Returns how many pairs are of lower places than this one. The search goes down from the place
+/// itself, since there are at most as many.
 #[inline]
 fn index_of(pairs: &[Pair], place: u32) -> usize
     requires { IsRising pairs.now }
@@ -43,7 +47,9 @@ fn index_of(pairs: &[Pair], place: u32) -> usize
     at
 }
 
-/// How many pairs are of lower places than one above `low`, whose index is `from`; the member at that place, and whether it has a pair. Compares all pairs from there on: a processor predicts a loop of a known length better than a search that may end anywhere.
+/// Returns how many pairs are of lower places than one above `low`, whose index is `from`; the
+/// member at that place; and whether it has a pair. It compares all pairs from there on: a
+/// processor predicts a loop of a known length better than a search that may end anywhere.
 #[inline]
 fn search(pairs: &[Pair], from: usize, low: u32, place: u32) -> (usize, u32, bool)
     requires rising { IsRising pairs.now }
@@ -70,7 +76,7 @@ fn search(pairs: &[Pair], from: usize, low: u32, place: u32) -> (usize, u32, boo
     (to, member, found)
 }
 
-/// Whether the pair at an index is of a place.
+/// Returns whether the pair at an index is of a place.
 #[inline]
 fn is_there(pairs: &[Pair], at: usize, place: u32) -> bool
     ensures { result ≡ is_there pairs.now at place }
@@ -78,7 +84,7 @@ fn is_there(pairs: &[Pair], at: usize, place: u32) -> bool
     at < pairs.len() && pairs[at].0 == place
 }
 
-/// The member at a place, by the place's index.
+/// Returns the member at a place, by the place's index.
 #[inline]
 fn member_by(pairs: &[Pair], at: usize, place: u32) -> u32
     requires { at ≡ index pairs.now place }
@@ -91,7 +97,9 @@ fn member_by(pairs: &[Pair], at: usize, place: u32) -> u32
     }
 }
 
-/// Two places change contents, of which neither has the other's number, in the pairs at the front of a row; answers the member that comes to the lower one, and how many pairs there are then. No branch depends on where the higher place's pair is or belongs.
+/// Exchanges the contents of two places, of which neither has the other's number, in the pairs at
+/// the front of a row. Returns the member that comes to the lower one, and how many pairs there are
+/// then. No branch depends on where the higher place's pair is or belongs.
 #[inline]
 pub(crate) fn exchange(row: &mut [Pair], len: usize, low: u32, high: u32) -> (u32, usize)
     requires few { len ≤ length row.old }

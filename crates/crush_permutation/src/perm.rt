@@ -9,7 +9,9 @@ use crush_map::ItemId;
 use std::alloc::{AllocError, Global};
 use std::marker::Model;
 
-/// The permutation of a bucket's places for the input that was asked last, as far as it was needed (`crush_work_bucket` of `mapper.c`). Only the places at which it differs from the identity are kept, as pairs of a place and its member, in order of place.
+/// The permutation of a bucket's places for the input that was asked last, as far as it was needed
+/// (`crush_work_bucket` of `mapper.c`). It keeps only the places at which it differs from the
+/// identity, as pairs of a place and its member, in order of place.
 ///
 /// Contracts see the bucket's id and size, that input, and how many exchanges were made for it.
 #[derive(Drop)]
@@ -30,7 +32,9 @@ impl Model for Perm {
 }
 
 impl Perm {
-    /// The scratch of a bucket with this id and so many items.
+    /// Returns the scratch of a bucket with this id and so many items.
+    ///
+    /// `Err(AllocError)`: an allocation failed; nothing is changed.
     pub fn build(alloc: Global, id: ItemId, size: usize) -> Result<Self, AllocError>
         requires { size < 2 ^ 32 }
         ensures { IfOk result (λ p. p ≡ record { of = record { id = id; size = size }; x = 0; swaps = 0 }) }
@@ -42,7 +46,8 @@ impl Perm {
         })
     }
 
-    /// The member of the permutation for x at a place (`bucket_perm_choose` of `mapper.c`). Takes no memory.
+    /// Returns the member of the permutation for x at a place (`bucket_perm_choose` of `mapper.c`).
+    /// Allocates nothing.
     pub fn member(&mut self, x: u32, place: usize) -> usize
         requires { place < self.old.of.size }
         ensures member { result ≡ slice_index (permutation self.old.of.id self.old.of.size x) place }
@@ -55,7 +60,8 @@ impl Perm {
         self.reached.member(self.row.as_mut_slice(), x, place) as usize
     }
 
-    /// At how many places the permutation's list differs from the identity, after the exchanges made for the input that was asked last. No other place is kept.
+    /// Returns at how many places the permutation's list differs from the identity, after the
+    /// exchanges made for the input that was asked last. No other place is kept.
     pub fn kept(&self) -> usize
         ensures { result ≡ kept self.now }
     {

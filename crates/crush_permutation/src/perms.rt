@@ -11,7 +11,8 @@ use crush_map::ItemId;
 use std::alloc::{AllocError, Global};
 use std::marker::Model;
 
-/// Permutations, each for the input that it was asked last; one row has the pairs of all of them. Contracts see the id and the size of each one's bucket, never which input it was asked last.
+/// Permutations, each for the input that it was asked last; one row has the pairs of all of them.
+/// Contracts see the id and the size of each one's bucket, never which input it was asked last.
 #[derive(Drop)]
 pub struct Perms {
     slots: Vec<Slot>,
@@ -31,7 +32,10 @@ impl Model for Perms {
 }
 
 impl Perms {
-    /// The permutations of buckets with these ids and sizes, in this order. Takes memory twice, however many there are.
+    /// Returns the permutations of buckets with these ids and sizes, in this order. It makes two
+    /// allocations, however many buckets there are.
+    ///
+    /// `Err(AllocError)`: an allocation failed; nothing is changed.
     pub fn build(alloc: Global, buckets: &[(ItemId, u32)]) -> Result<Self, AllocError>
         ensures { IfOk result (λ p. p ≡ map perm_view buckets.now) }
     {
@@ -46,7 +50,8 @@ impl Perms {
         Ok(Perms { slots, row })
     }
 
-    /// The member at a place of the permutation that is at an index, for x. Takes no memory.
+    /// Returns the member at a place of the permutation that is at an index, for x. Allocates
+    /// nothing.
     #[inline]
     pub fn member(&mut self, at: usize, x: u32, place: usize) -> usize
         requires { place < (perm_at self.old at).size }
@@ -59,7 +64,9 @@ impl Perms {
     }
 }
 
-/// The slot of a bucket whose part of the row begins here, and where that part ends. A row that is too long for a number can't be had.
+/// Returns the slot of a bucket whose part of the row begins here, and where that part ends.
+///
+/// `Err(AllocError)`: the row would be too long for a `usize`.
 fn slot_for(id: ItemId, size: u32, start: usize) -> Result<(Slot, usize), AllocError>
     ensures of { IfOk result (λ s. of_slot s.0 ≡ perm_view (id, size)) }
     ensures new { IfOk result (λ s. IsNew s.1 s.0) }
@@ -78,7 +85,7 @@ struct Slot {
 }
 
 impl Slot {
-    /// No exchange is made.
+    /// Returns the slot of a permutation of which no exchange is made.
     fn new(id: ItemId, size: usize, start: usize) -> Self
         ensures remembered { remembered_by result.reached ≡ record { of = record { id = id; size = size }; x = 0; swaps = 0 } }
         ensures empty { IsEmpty result.reached }
@@ -90,7 +97,7 @@ impl Slot {
         }
     }
 
-    /// The member of the permutation for x at a place.
+    /// Returns the member of the permutation for x at a place.
     #[inline]
     fn member(&mut self, row: &mut [Pair], x: u32, place: usize) -> u32
         requires within { place < self.old.reached.size }

@@ -9,7 +9,8 @@ use crush_hash::hash3_lanes;
 use crush_map::ItemId;
 use std::marker::Model;
 
-/// The hashes of four places, from a multiple of four on, for one input. Contracts see the bucket's id alone.
+/// The hashes of four places, from a multiple of four on, for one input. Contracts see the bucket's
+/// id alone.
 #[derive(Drop)]
 pub(crate) struct PlaceHashes {
     id: ItemId,
@@ -30,7 +31,7 @@ impl Model for PlaceHashes {
 }
 
 impl PlaceHashes {
-    /// No hashes are made: no place is a word in this block.
+    /// Returns hashes of a block that has no place, so that none of them is asked for.
     pub(crate) fn new(id: ItemId) -> Self
         ensures { result ≡ id }
     {
@@ -42,14 +43,14 @@ impl PlaceHashes {
         }
     }
 
-    /// The bucket's id.
+    /// Returns the bucket's id.
     pub(crate) fn id(&self) -> ItemId
         ensures { result ≡ self.now }
     {
         self.id
     }
 
-    /// The hash of a place for x.
+    /// Returns the hash of a place for x.
     #[inline]
     pub(crate) fn hash(&mut self, x: u32, place: u32) -> u32
         ensures value { result ≡ hash3 x (word self.old) place }
@@ -65,7 +66,7 @@ impl PlaceHashes {
     }
 }
 
-/// The hashes of the four places from `4 * block` on.
+/// Returns the hashes of the four places from `4 * block` on.
 fn hashes_of(id: ItemId, x: u32, block: u32) -> [u32; 4]
     requires { block < 2 ^ 30 }
     ensures { AreHashes id x block result }

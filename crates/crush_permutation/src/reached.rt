@@ -10,14 +10,18 @@ use crate::place_hashes::PlaceHashes;
 use crush_hash::hash3;
 use crush_map::ItemId;
 
-/// How far the permutation of a bucket's places is made for the input that was asked last. The pairs of the places at which it differs from the identity stand at the front of a row; those of an input's first exchange are written there when another place is asked for.
+/// How far the permutation of a bucket's places is made for the input that was asked last. The
+/// pairs of the places at which it differs from the identity stand at the front of a row; those of
+/// an input's first exchange are written there when another place is asked for.
 #[derive(Drop)]
 pub(crate) struct Reached {
     pub(crate) size: usize,
     x: u32,
-    /// With which place the first exchange is, where only that is made and its pairs aren't written yet.
+    /// The place with which the first exchange is made, where only that is made and its pairs
+    /// aren't written yet.
     first: u32,
-    /// How many exchanges are made, and how many pairs stand at the front of the row, where they are written.
+    /// How many exchanges are made, and how many pairs stand at the front of the row, where they
+    /// are written.
     swaps: usize,
     len: usize,
     written: bool,
@@ -25,7 +29,7 @@ pub(crate) struct Reached {
 }
 
 impl Reached {
-    /// No exchange is made.
+    /// Returns the start, at which no exchange is made.
     pub(crate) fn new(id: ItemId, size: usize) -> Self
         ensures remembered { remembered_by result ≡ record { of = record { id = id; size = size }; x = 0; swaps = 0 } }
         ensures empty { IsEmpty result }
@@ -41,7 +45,7 @@ impl Reached {
         }
     }
 
-    /// At how many places the permutation as far as it is made differs from the identity.
+    /// Returns at how many places the permutation, as far as it is made, differs from the identity.
     pub(crate) fn len(&self) -> usize
         ensures { result ≡ len_by self.now }
     {
@@ -54,7 +58,8 @@ impl Reached {
         }
     }
 
-    /// Whether a row is needed for the member at a place. Not at place 0, unless more than the first exchange was made for x.
+    /// Returns whether a row is needed for the member at a place. For place 0 none is needed,
+    /// unless more than the first exchange was made for x.
     #[inline]
     pub(crate) fn needs_row(&self, x: u32, place: usize) -> bool
         ensures place { result ≡ false → place ≡ 0 }
@@ -63,7 +68,7 @@ impl Reached {
         place > 0 || x == self.x && self.written
     }
 
-    /// The member at place 0 where no row is needed for it.
+    /// Returns the member at place 0 where no row is needed for it.
     #[inline]
     pub(crate) fn first(&mut self, x: u32) -> u32
         requires some { 0 < self.old.size }
@@ -81,7 +86,8 @@ impl Reached {
         self.first
     }
 
-    /// The member of the permutation for x at a place. Not inlined, so that a question for place 0 alone, which needs no row, doesn't spill the registers that this one uses.
+    /// Returns the member of the permutation for x at a place. It isn't inlined, so that a question
+    /// for place 0 alone, which needs no row, doesn't spill the registers that this one uses.
     #[inline(never)]
     pub(crate) fn member(&mut self, row: &mut [Pair], x: u32, place: usize) -> u32
         requires within { place < self.old.size }
@@ -99,7 +105,8 @@ impl Reached {
         self.reach(row, place)
     }
 
-    /// Makes the first exchange for a new input; answers the member at place 0. Four hashes are made at once where others will be asked for.
+    /// Makes the first exchange for a new input. Returns the member at place 0. Four hashes are
+    /// made at once where others will be asked for.
     #[inline]
     fn begin(&mut self, x: u32, others: bool) -> u32
         requires some { 0 < self.old.size }
@@ -137,7 +144,8 @@ impl Reached {
         }
     }
 
-    /// Makes the exchanges that the member at a place needs beyond those that are made; answers that member.
+    /// Makes the exchanges that the member at a place needs beyond those that are made. Returns
+    /// that member.
     #[inline]
     fn reach(&mut self, row: &mut [Pair], place: usize) -> u32
         requires within { place < self.old.size }
@@ -160,7 +168,7 @@ impl Reached {
         member_at(&row[..self.len], place as u32)
     }
 
-    /// Makes one exchange more, the n-th from 0; answers the member that comes to the lower place.
+    /// Makes one exchange more, the n-th from 0. Returns the member that comes to the lower place.
     #[inline]
     fn exchange(&mut self, row: &mut [Pair], n: usize) -> u32
         requires next { n ≡ swaps_of self.old }
@@ -185,14 +193,15 @@ impl Reached {
     }
 }
 
-/// How long the row of a permutation is: the first exchange is written to two places in any case.
+/// Returns how long the row of a permutation is: the first exchange is written to two places in any
+/// case.
 pub(crate) fn room_of(size: usize) -> usize
     ensures { result ≡ room_of size }
 {
     size.max(2)
 }
 
-/// The place with which a place changes contents, by its hash.
+/// Returns the place with which a place changes contents, by its hash.
 #[inline]
 fn partner(hash: u32, size: usize, place: usize) -> usize
     requires within { place < size }

@@ -10,8 +10,9 @@ use crate::placing::{Placement, placement_by, rule_with_id, run, up_into};
 use crate::pool::Pool;
 use crate::states::{DeviceState, DeviceStates};
 use crush_bucket::{Scratch, Tables};
-use crush_choose::{Out, Slot, Weights};
+use crush_choose::{Slot, Weights};
 use crush_map::{CrushMap, Rule};
+use crush_rules::Out;
 use std::alloc::{AllocError, Global};
 use std::marker::Model;
 
@@ -31,7 +32,7 @@ pub struct Placer<'a> {
 impl<'a> Model for Placer<'a> {
     ghost use Rattle.std.specs.Prelude.{◌≡◌, Some};
     ghost use Rattle.crush_bucket.specs.Tables.{tables_of};
-    ghost use Rattle.crush_choose.specs.Rules.{CanRun};
+    ghost use Rattle.crush_rules.specs.Rules.{CanRun};
     ghost use Rattle.crush_choose.specs.Weights.{weights_of};
     ghost use Rattle.crush_pool.specs.Placements.{rule_numbered};
     ghost use Rattle.crush_pool.specs.Placers.{PoolOnMap};
@@ -53,7 +54,7 @@ impl<'a> Model for Placer<'a> {
 impl<'a> Placer<'a> {
     ghost use Rattle.std.specs.Prelude.{◌≡◌, ◌<◌, Some, IfOk, OnOk, is_some, true, option_map};
     ghost use Rattle.crush_bucket.specs.Tables.{perms_of, tables_of};
-    ghost use Rattle.crush_choose.specs.Rules.{IsTrace, rule_answer};
+    ghost use Rattle.crush_rules.specs.Rules.{IsTrace, rule_answer};
     ghost use Rattle.crush_choose.specs.Weights.{weights_of};
     ghost use Rattle.crush_pool.specs.Placements.{placement, rule_numbered, up_of};
     ghost use Rattle.crush_pool.specs.Placers.{steps_of};

@@ -21,7 +21,7 @@ use Rattle.crush_choose.specs.Weights.{is_device_in}
 use Rattle.crush_choose.specs.Marks.{Marks, Slot, placed_by, items_of, leaves_of, item_at, leaf_at}
 use Rattle.crush_choose.specs.Firstn.{has, new_leaf, leaf_by, leaf_below, leaf_start, leaf_of, firstn_outcome, firstn_try, decided, mark_of, firstn}
 use Rattle.crush_choose.specs.Indep.{taken, leaf_in, indep_leaf_by, indep_leaf, indep_leaf_of, indep_outcome, indep_try, in_round, after_rounds, indep}
-use Rattle.crush_choose.specs.Rules.{ChooseCall, firstn_call, indep_call, put_out, bucket_out, slot_out, step_out, choose_call, Running, with_settings, start, after_step, after_steps, after_rule, rule_answer}
+use Rattle.crush_rules.specs.Rules.{ChooseCall, firstn_call, indep_call, put_out, bucket_out, slot_out, step_out, choose_call, Running, with_settings, start, after_step, after_steps, after_rule, rule_answer}
 
 -- ---- options
 

@@ -18,7 +18,7 @@ use Rattle.crush_map.specs.declared.draft.Step.TheVariants.{Take, SetChooseTries
 use Rattle.crush_map.specs.declared.word.ItemId.{ItemId}
 use Rattle.crush_bucket.specs.Laws.{PicksBelow}
 use Rattle.crush_bucket.specs.Tables.{TypedBucket, TablesView, IsDevice, bucket_numbered, no_bucket, pick_at, size_at, tables_of, typed_bucket}
-use Rattle.crush_choose.specs.Rules.{rule_answer}
+use Rattle.crush_rules.specs.Rules.{rule_answer}
 use Rattle.crush_pool.specs.Placements.{rule_numbered}
 use Rattle.crush_report.proofs.Items.{AreSlots, ArePicks, TakeIs, answer_are}
 

@@ -5,7 +5,7 @@ use Rattle.crush_bucket.specs.Tables.{TablesView}
 use Rattle.crush_map.specs.declared.draft.Step.{Step}
 use Rattle.crush_map.specs.declared.draft.Step.TheVariants.{Take, SetChooseTries, SetLeafTries, SetVaryR, SetStable, Choose, Emit}
 use Rattle.crush_choose.specs.Marks.{Slot}
-use Rattle.crush_choose.specs.Rules.{Running, with_settings, after_step, after_steps, after_rule, rule_answer, start}
+use Rattle.crush_rules.specs.Rules.{Running, with_settings, after_step, after_steps, after_rule, rule_answer, start}
 use Rattle.crush_pool.specs.Placements.{placed, up_of, is_up_slot, if_up}
 use Rattle.std.proofs.lemmas.Bool.Decides.{nat_tests}
 use Rattle.crush_pool.specs.Pools.{is_pool, seed_of}

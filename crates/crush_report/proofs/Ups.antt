@@ -9,7 +9,7 @@ use Rattle.crush_map.specs.declared.draft.Device.{Device}
 use Rattle.crush_map.specs.declared.draft.Rule.{Rule}
 use Rattle.crush_bucket.specs.Tables.{tables_of}
 use Rattle.crush_choose.specs.Marks.{Slot}
-use Rattle.crush_choose.specs.Rules.{rule_answer}
+use Rattle.crush_rules.specs.Rules.{rule_answer}
 use Rattle.crush_choose.specs.Weights.{weights_of}
 use Rattle.crush_pool.specs.Placements.{id_is_up, if_up, is_up_slot, placed, primary_of, up_of}
 use Rattle.crush_pool.specs.Pools.{seed_of}

@@ -15,8 +15,8 @@ ghost use Rattle.crush_report.specs.Reports.{groups, raw_by, impact_by, moves};
 ghost use Rattle.crush_report.specs.Usage.{device_item};
 ghost use Rattle.crush_report.specs.declared.rows.MoveRow.{MoveRow};
 
-use crush_choose::laws::traces_ascend;
-use crush_choose::stability::a_changed_answer_has_a_lowered_device_in_its_trace;
+use crush_rules::laws::traces_ascend;
+use crush_rules::stability::a_changed_answer_has_a_lowered_device_in_its_trace;
 
 /// A group has a row in `moves` exactly where its up lists differ, and from a map to itself no group moves.
 pub fn groups_move_where_their_lists_differ()

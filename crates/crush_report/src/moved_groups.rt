@@ -6,9 +6,10 @@ ghost use Rattle.crush_report.specs.Reports.{moves};
 
 use crate::rows::MoveRow;
 use crush_bucket::Scratch;
-use crush_choose::{Out, Slot, has, slot_has};
+use crush_choose::{Slot, has, slot_has};
 use crush_map::Listed;
 use crush_pool::{Placement, Placer};
+use crush_rules::Out;
 use std::alloc::{AllocError, Global};
 
 /// Whether two slots are the same.

@@ -7,10 +7,10 @@ ghost use Rattle.crush_report.specs.Private.OnMaps.{trace_on};
 ghost use Rattle.crush_report.specs.Reports.{impact};
 
 use crush_bucket::Scratch;
-use crush_choose::Out;
-use crush_choose::laws::traces_ascend;
 use crush_map::Listed;
 use crush_pool::Placer;
+use crush_rules::Out;
+use crush_rules::laws::traces_ascend;
 use std::alloc::{AllocError, Global};
 
 /// Whether a number is in a list.
@@ -40,7 +40,7 @@ fn is_touched(
 /// The groups of a pool in whose trace a device is, in order.
 ///
 /// Lower reweights of the device leave every other group where the rule puts it
-/// (`crush_choose::run_rule`).
+/// (`crush_rules::run_rule`).
 #[tactic(auto, using(crate::proofs::Groups::touched_more))]
 pub fn impact_with(alloc: Global, placer: &Placer, device: u32) -> Result<Listed<u32>, AllocError>
     ensures { IfOk result (λ found. Some found ≡ impact placer.now.map placer.now.states placer.now.pool device) }

@@ -9,9 +9,10 @@ ghost use Rattle.crush_report.specs.Reports.{groups, usage};
 use crate::counts::{count_entries, count_group, count_slot, filled};
 use crate::rows::UsageRow;
 use crush_bucket::Scratch;
-use crush_choose::{Out, Slot};
+use crush_choose::Slot;
 use crush_map::{Device, Listed};
 use crush_pool::{Placer, primary_of};
+use crush_rules::Out;
 use std::alloc::{AllocError, Global};
 use std::marker::Model;
 

@@ -8,6 +8,7 @@ use Rattle.std.specs.Char.{is_ascii}
 use Rattle.std.specs.Fmt.{decimal, signed_decimal}
 use Rattle.std.specs.List.{flat_map, list_all, AllByRecursion}
 use Rattle.std.specs.Str.{IsAscii, IsUtf8}
+use Rattle.crush_map.specs.declared.limits.TheConstants.{ID_COUNT, NAME_LIMIT, NUMBER_LIMIT}
 use Rattle.crush_map.specs.declared.draft.TypeName.{TypeName}
 use Rattle.crush_map.specs.declared.draft.Device.{Device}
 use Rattle.crush_map.specs.declared.draft.Bucket.{Bucket}
@@ -49,12 +50,12 @@ in_name [] h = IsAscii-nil
 in_name (b ∷ bytes) h = let e = both (is_name_byte b) (list_all is_name_byte bytes) h in IsAscii-cons b bytes (in_name_small b e.0) (in_name bytes e.1)
 
 name : (t : List ℕ) → is_name t ≡ true → IsAscii t
-name t h = in_name t (both (nat_le 1 (length t) && nat_le (length t) 64) (list_all is_name_byte t) h).1
+name t h = in_name t (both (nat_le 1 (length t) && nat_le (length t) NAME_LIMIT) (list_all is_name_byte t) h).1
 
-number : (n : ℕ) → n ≤ 65536 → IsAscii (decimal n)
+number : (n : ℕ) → n ≤ ID_COUNT → IsAscii (decimal n)
 number n h = IsAscii-decimal n (omega arith)
 
-integer : (z : ℤ) → IsWithin 65536 z → IsAscii (signed_decimal z)
+integer : (z : ℤ) → IsWithin ID_COUNT z → IsAscii (signed_decimal z)
 integer (pos n) h = number n h
 integer (negsuc n) h = IsAscii-cons 45 (decimal (suc n)) (omega arith) (number (suc n) h)
 
@@ -79,11 +80,11 @@ of_inner_line ts all = IsAscii-cons 9 (line ts) (omega arith) (of_line ts all)
 
 -- ---- elements
 
-of_tunable : (text : List ℕ) (value : ℕ) → list_all is_ascii text ≡ true → value ≤ 65536 → IsAscii (tunable_line text value)
+of_tunable : (text : List ℕ) (value : ℕ) → list_all is_ascii text ≡ true → value ≤ ID_COUNT → IsAscii (tunable_line text value)
 unfolding tunable_line
 of_tunable text value h k = of_line (codes "tunable" ∷ text ∷ decimal value ∷ []) (fixed (codes "tunable") refl, (fixed text h, (number value k, tt)))
 
-of_tunables : (t : Tunables) → t.total_tries ≤ 65536 → t.descend_once ≤ 65536 → t.vary_r ≤ 65536 → t.stable ≤ 65536 → IsAscii (tunable_lines t)
+of_tunables : (t : Tunables) → t.total_tries ≤ ID_COUNT → t.descend_once ≤ ID_COUNT → t.vary_r ≤ ID_COUNT → t.stable ≤ ID_COUNT → IsAscii (tunable_lines t)
 unfolding tunable_lines
 of_tunables t a b c d =
     let one = of_tunable (codes "choose_local_tries") 0 refl (omega arith) in
@@ -94,11 +95,11 @@ of_tunables t a b c d =
     let six = of_tunable (codes "chooseleaf_stable") t.stable refl d in
     IsAscii-append _ _ (IsAscii-append _ _ (IsAscii-append _ _ (IsAscii-append _ _ (IsAscii-append _ _ one two) three) four) five) six
 
-of_device : (d : Device) → d.id ≤ 65535 → is_name d.name ≡ true → IsAscii (device_line d)
+of_device : (d : Device) → d.id ≤ NUMBER_LIMIT → is_name d.name ≡ true → IsAscii (device_line d)
 unfolding device_line
 of_device d small form = of_line (codes "device" ∷ decimal d.id ∷ d.name ∷ []) (fixed (codes "device") refl, (number d.id (omega arith), (name d.name form, tt)))
 
-of_type : (t : TypeName) → t.number ≤ 65535 → is_name t.name ≡ true → IsAscii (type_line t)
+of_type : (t : TypeName) → t.number ≤ NUMBER_LIMIT → is_name t.name ≡ true → IsAscii (type_line t)
 unfolding type_line
 of_type t small form = of_line (codes "type" ∷ decimal t.number ∷ t.name ∷ []) (fixed (codes "type") refl, (number t.number (omega arith), (name t.name form, tt)))
 

@@ -2,6 +2,7 @@
 use Rattle.std.proofs.Common.{◌≡◌, ◌∙◌, ℕ, ℤ, pos, negsuc, ◌+◌, ◌≤◌, min, nat_le, List, [], ◌∷◌, ◌++◌, length, map, true, refl, sym, ap, arith, Option, Some, None, is_none}
 use Rattle.std.proofs.lemmas.Bool.Decides.{nat_tests}
 use Rattle.std.specs.List.{find, filter, filter_map, AllByRecursion}
+use Rattle.crush_map.specs.declared.limits.TheConstants.{COUNT_LIMIT, ID_COUNT, NUMBER_LIMIT, RULE_ID_LIMIT}
 use Rattle.crush_map.specs.declared.fault.FaultCode.{FaultCode}
 use Rattle.crush_map.specs.declared.draft.Bucket.{Bucket}
 use Rattle.crush_map.specs.declared.draft.Rule.{Rule}
@@ -27,22 +28,22 @@ use Rattle.crush_text.proofs.Trees.{item_declared, step_declared}
 
 -- ---- numbers that fit
 
-pub fits : (n : ℕ) → n ≤ 65535 → fitted n ≡ n
+pub fits : (n : ℕ) → n ≤ NUMBER_LIMIT → fitted n ≡ n
 fits n h = omega arith
 
-fits_within : (z : ℤ) → IsWithin 65536 z → fitted_integer z ≡ z
+fits_within : (z : ℤ) → IsWithin ID_COUNT z → fitted_integer z ≡ z
 fits_within (pos n) h = let same : min n 2147483647 ≡ n = omega arith in ap pos same
 fits_within (negsuc n) h = let same : min n 2147483647 ≡ n = omega arith in ap negsuc same
 
-pub bucket_id_within : (z : ℤ) → is_bucket_id z ≡ true → IsWithin 65536 z
+pub bucket_id_within : (z : ℤ) → is_bucket_id z ≡ true → IsWithin ID_COUNT z
 bucket_id_within (pos n) h = cc
 bucket_id_within (negsuc n) h = grind (arith, nat_tests)
 
-pub count_within : (z : ℤ) → is_count z ≡ true → IsWithin 64 z
+pub count_within : (z : ℤ) → is_count z ≡ true → IsWithin COUNT_LIMIT z
 count_within (pos n) h = grind (arith, nat_tests)
-count_within (negsuc n) h = let low = (both (nat_le n 63) true h).0 in grind (arith, nat_tests)
+count_within (negsuc n) h = let low = (both (nat_le (n + 1) COUNT_LIMIT) true h).0 in grind (arith, nat_tests)
 
-pub wider : (z : ℤ) → IsWithin 64 z → IsWithin 65536 z
+pub wider : (z : ℤ) → IsWithin COUNT_LIMIT z → IsWithin ID_COUNT z
 wider (pos n) h = omega arith
 wider (negsuc n) h = omega arith
 
@@ -154,7 +155,7 @@ same_faults s m part same (x ∷ xs) all =
 abbrev pub rule_written : Map → ℕ → Rule → DeclaredRule
 rule_written m n r = record { line = n; name = r.name; id = r.id; erasure = r.erasure; steps = map (step_declared m) r.steps }
 
-pub rule_back : (d : MapDraft) (m : Map) (n : ℕ) (r : Rule) → IsPart d m → m.buckets ≡ d.buckets → r.id ≤ 255 → AllByRecursion (IsStep m) r.steps → rule_of d (rule_written m n r) ≡ r
+pub rule_back : (d : MapDraft) (m : Map) (n : ℕ) (r : Rule) → IsPart d m → m.buckets ≡ d.buckets → r.id ≤ RULE_ID_LIMIT → AllByRecursion (IsStep m) r.steps → rule_of d (rule_written m n r) ≡ r
 rule_back d m n r part same small all =
     ap (λ id. record { id = id; name = r.name; erasure = r.erasure; steps = filter_map (step_of d) (map (step_declared m) r.steps) }) (fits r.id (omega arith))
     ∙ ap (λ ss. record r { steps = ss }) (steps_back d m part same r.steps all)
@@ -165,7 +166,7 @@ first_append (y ∷ xs) x h =
     let rest = first_append xs x (second_none y (first_of (xs ++ x ∷ [])) h) in
     (ap (λ o. or_else o (first_of xs)) (first_none y (first_of (xs ++ x ∷ [])) h) ∙ rest.0, rest.1)
 
-pub rule_passes : (s : Declared) (m : Map) (n : ℕ) (r : Rule) → IsPart s.draft m → m.buckets ≡ s.draft.buckets → r.id ≤ 255 → AllByRecursion (IsStep m) r.steps → rule_fault s.known r ≡ None →
+pub rule_passes : (s : Declared) (m : Map) (n : ℕ) (r : Rule) → IsPart s.draft m → m.buckets ≡ s.draft.buckets → r.id ≤ RULE_ID_LIMIT → AllByRecursion (IsStep m) r.steps → rule_fault s.known r ≡ None →
     declared_rule_fault s (rule_written m n r) ≡ None
 unfolding rule_fault rule_head_fault declared_rule_fault
 rule_passes s m n r part same small all h =

@@ -4,6 +4,7 @@
 use Rattle.std.proofs.Common.{◌≡◌, ◌∙◌, ◌+◌, ◌==◌, ◌||◌, ◌&&◌, nat_lt, nat_le, length, Bool, true, false, not, Option, Some, None, List, [], ◌∷◌, ◌++◌, ℕ, ℤ, pos, negsuc, refl, sym, ap, map, fold}
 use Rattle.std.proofs.lemmas.List.Folds.{list_any-append}
 use Rattle.std.proofs.lemmas.List.Sums.{fold-append}
+use Rattle.crush_map.specs.declared.limits.TheConstants.{BUCKET_LIMIT, ITEM_LIMIT, TOTAL_WEIGHT_LIMIT}
 use Rattle.crush_map.specs.Weights.{has_equal_weights, total_weight}
 use Rattle.crush_map.specs.declared.fault.FaultCode.{FaultCode}
 use Rattle.crush_map.specs.declared.fault.FaultCode.TheVariants.{M1, M2, M3, M4, M5, M6, M7, M8, M9, M10, M12, M15}
@@ -77,21 +78,21 @@ items_as_well r known before (item ∷ items) =
 contents_as_well : (r : Rule) (known : Known) (alg : Kind) (items : List (ItemId × Weight)) → contents_fault (with_rule known r) alg items ≡ contents_fault known alg items
 unfolding contents_fault
 contents_as_well r known alg items =
-    ap (λ o. first_of (o ∷ (M8 when (is_uniform alg && not (has_equal_weights items))) ∷ (M7 when nat_lt 4294967295 (total_weight items)) ∷ [])) (items_as_well r known no_ids items)
+    ap (λ o. first_of (o ∷ (M8 when (is_uniform alg && not (has_equal_weights items))) ∷ (M7 when nat_lt TOTAL_WEIGHT_LIMIT (total_weight items)) ∷ [])) (items_as_well r known no_ids items)
 
 -- a bucket is judged without the rules
 bucket_as_well : (r : Rule) (known : Known) (b : Bucket) → bucket_fault (with_rule known r) b ≡ bucket_fault known b
 unfolding bucket_fault
 bucket_as_well r known b =
     ap (λ o. first_of (
-    (M1 when nat_le 1024 (length known.items.buckets))
+    (M1 when nat_le BUCKET_LIMIT (length known.items.buckets))
     ∷ (M12 when not (is_bucket_id b.id.0))
     ∷ (M2 when has_id known.items b.id.0)
     ∷ (M15 when not (is_name b.name))
     ∷ (M3 when has_name known.item_names b.name)
     ∷ (M4 when not (has_number known.types b.kind_of))
     ∷ (M9 when (b.kind_of == 0))
-    ∷ (M1 when nat_lt 1024 (length b.items))
+    ∷ (M1 when nat_lt ITEM_LIMIT (length b.items))
     ∷ o
     ∷ []
     )) (contents_as_well r known b.alg b.items)

@@ -3,6 +3,7 @@ use Rattle.std.proofs.Common.{◌≡◌, ◌∙◌, ℕ, ◌+◌, ◌≤◌, ◌
 use Rattle.std.proofs.lemmas.Bool.Decides.{nat_tests}
 use Rattle.std.proofs.lemmas.List.{append-nil}
 use Rattle.std.specs.List.{AllByRecursion}
+use Rattle.crush_map.specs.declared.limits.TheConstants.{NUMBER_LIMIT, TOTAL_TRIES_LIMIT, VARY_R_LIMIT}
 use Rattle.crush_map.specs.declared.fault.FaultCode.TheVariants.{M3, M12, M13}
 use Rattle.crush_map.specs.declared.draft.TypeName.{TypeName}
 use Rattle.crush_map.specs.declared.draft.Device.{Device}
@@ -39,7 +40,7 @@ three_pass false true true e f g = cc
 three_pass false false c e f g = cc
 three_pass true b c e f g = cc
 
-tunable_goes : (s : Declared) (x : TunableName × ℕ) (n : ℕ) → x.1 ≤ 65535 → is_named s.tunables x.0 ≡ false → are_in_range (with_tunable s.draft x.0 x.1).tunables ≡ true → (is_local x.0 && not (x.1 == 0)) ≡ false →
+tunable_goes : (s : Declared) (x : TunableName × ℕ) (n : ℕ) → x.1 ≤ NUMBER_LIMIT → is_named s.tunables x.0 ≡ false → are_in_range (with_tunable s.draft x.0 x.1).tunables ≡ true → (is_local x.0 && not (x.1 == 0)) ≡ false →
     Goes s (tunable_declared n x ∷ []) (behind_tunable s x)
 unfolding tunable_fault
 tunable_goes s x n small new range other =
@@ -53,26 +54,26 @@ below a b h = grind (arith, nat_tests)
 
 -- each tunable is in its range, and so are the first of them
 pub record Ranges (t : Tunables) : Type 0 where
-  pub first : nat_le t.total_tries 999 ≡ true
-  pub two : (nat_le t.total_tries 999 && nat_le t.descend_once 1) ≡ true
-  pub three : (nat_le t.total_tries 999 && nat_le t.descend_once 1 && nat_le t.vary_r 8) ≡ true
-  pub total_tries : t.total_tries ≤ 999
+  pub first : nat_le t.total_tries TOTAL_TRIES_LIMIT ≡ true
+  pub two : (nat_le t.total_tries TOTAL_TRIES_LIMIT && nat_le t.descend_once 1) ≡ true
+  pub three : (nat_le t.total_tries TOTAL_TRIES_LIMIT && nat_le t.descend_once 1 && nat_le t.vary_r VARY_R_LIMIT) ≡ true
+  pub total_tries : t.total_tries ≤ TOTAL_TRIES_LIMIT
   pub descend_once : t.descend_once ≤ 1
-  pub vary_r : t.vary_r ≤ 8
+  pub vary_r : t.vary_r ≤ VARY_R_LIMIT
   pub stable : t.stable ≤ 1
 
 pub ranges : (t : Tunables) → are_in_range t ≡ true → Ranges t
 ranges t h =
-    let three = both (nat_le t.total_tries 999 && nat_le t.descend_once 1 && nat_le t.vary_r 8) (nat_le t.stable 1) h in
-    let two = both (nat_le t.total_tries 999 && nat_le t.descend_once 1) (nat_le t.vary_r 8) three.0 in
-    let one = both (nat_le t.total_tries 999) (nat_le t.descend_once 1) two.0 in
+    let three = both (nat_le t.total_tries TOTAL_TRIES_LIMIT && nat_le t.descend_once 1 && nat_le t.vary_r VARY_R_LIMIT) (nat_le t.stable 1) h in
+    let two = both (nat_le t.total_tries TOTAL_TRIES_LIMIT && nat_le t.descend_once 1) (nat_le t.vary_r VARY_R_LIMIT) three.0 in
+    let one = both (nat_le t.total_tries TOTAL_TRIES_LIMIT) (nat_le t.descend_once 1) two.0 in
     record {
       first = one.0;
       two = two.0;
       three = three.0;
-      total_tries = below t.total_tries 999 one.0;
+      total_tries = below t.total_tries TOTAL_TRIES_LIMIT one.0;
       descend_once = below t.descend_once 1 one.1;
-      vary_r = below t.vary_r 8 two.1;
+      vary_r = below t.vary_r VARY_R_LIMIT two.1;
       stable = below t.stable 1 three.1;
     }
 
@@ -100,7 +101,7 @@ tunables_go m range n =
 
 -- ---- devices and types
 
-device_goes : (m : Map) (before : List Device) (x : Device) → x.id ≤ 65535 → device_fault (by_devices before) x ≡ None → (n : ℕ) → Goes (with_devices m before) (device_declared n x ∷ []) (with_devices m (before ++ x ∷ []))
+device_goes : (m : Map) (before : List Device) (x : Device) → x.id ≤ NUMBER_LIMIT → device_fault (by_devices before) x ≡ None → (n : ℕ) → Goes (with_devices m before) (device_declared n x ∷ []) (with_devices m (before ++ x ∷ []))
 device_goes m before x small passes n =
     let same : fitted x.id ≡ x.id = fits x.id small in
     let state = λ (k : Known) (y : Device). declared_so_far m.tunables [] (before ++ y ∷ []) [] [] k in
@@ -114,7 +115,7 @@ devices_go m s n = along device_declared (λ x. 1) (with_devices m) m.devices (�
     device_goes m before x (at_each (λ i others y. IsDeviceAt i y) m.devices s.devices before x after e).id
     (sym (device_judged m before x) ∙ at_each (λ i others y. device_fault (fold with_device (known_types (draft_of m)) others) y ≡ None) m.devices s.faultless.0.1 before x after e) k) n
 
-type_goes : (m : Map) (before : List TypeName) (x : TypeName) → x.number ≤ 65535 → type_fault (fold with_type (by_devices m.devices) before) x ≡ None → (n : ℕ) → Goes (with_types m before) (type_declared n x ∷ []) (with_types m (before ++ x ∷ []))
+type_goes : (m : Map) (before : List TypeName) (x : TypeName) → x.number ≤ NUMBER_LIMIT → type_fault (fold with_type (by_devices m.devices) before) x ≡ None → (n : ℕ) → Goes (with_types m before) (type_declared n x ∷ []) (with_types m (before ++ x ∷ []))
 type_goes m before x small passes n =
     let same : fitted x.number ≡ x.number = fits x.number small in
     let known = fold with_type (by_devices m.devices) before in

@@ -2,6 +2,7 @@
 use Rattle.std.proofs.Common.{◌≡◌, ◌∙◌, ◌≤◌, false, Option, Some, None, List, [], ◌∷◌, ℕ, refl, map, length, nat_lt, arith}
 use Rattle.std.proofs.lemmas.Bool.Decides.{nat_tests}
 use Rattle.std.specs.List.{filter_map, cons_option}
+use Rattle.crush_map.specs.declared.limits.TheConstants.{ITEM_LIMIT, NUMBER_LIMIT, TOTAL_WEIGHT_LIMIT}
 use Rattle.crush_map.specs.declared.fault.FaultCode.{FaultCode}
 use Rattle.crush_map.specs.declared.fault.FaultCode.TheVariants.{M1, M7, M12}
 use Rattle.crush_map.specs.declared.draft.Device.{Device}
@@ -21,20 +22,20 @@ at_most : (n m : ℕ) → nat_lt m n ≡ false → n ≤ m
 at_most n m h = grind (arith, nat_tests)
 
 -- the id of a device without a fault
-pub is_small : (known : Known) (d : Device) → device_fault known d ≡ None → d.id ≤ 65535
+pub is_small : (known : Known) (d : Device) → device_fault known d ≡ None → d.id ≤ NUMBER_LIMIT
 unfolding device_fault
-is_small known d h = at_most _ _ (fails M12 _ (passes (device_checks known d) 1 (M12 when nat_lt 65535 d.id) refl h))
+is_small known d h = at_most _ _ (fails M12 _ (passes (device_checks known d) 1 (M12 when nat_lt NUMBER_LIMIT d.id) refl h))
 
-pub is_few : (known : Known) (b : Bucket) → bucket_fault known b ≡ None → length b.items ≤ 1024
+pub is_few : (known : Known) (b : Bucket) → bucket_fault known b ≡ None → length b.items ≤ ITEM_LIMIT
 unfolding bucket_fault
-is_few known b h = at_most _ _ (fails M1 _ (passes (bucket_checks known b) 7 (M1 when nat_lt 1024 (length b.items)) refl h))
+is_few known b h = at_most _ _ (fails M1 _ (passes (bucket_checks known b) 7 (M1 when nat_lt ITEM_LIMIT (length b.items)) refl h))
 
-light_by : (known : Known) (b : Bucket) → contents_fault known b.alg b.items ≡ None → total_weight b.items ≤ 4294967295
+light_by : (known : Known) (b : Bucket) → contents_fault known b.alg b.items ≡ None → total_weight b.items ≤ TOTAL_WEIGHT_LIMIT
 unfolding contents_fault
 light_by known b h =
-    at_most _ _ (fails M7 _ (first_none (M7 when nat_lt 4294967295 (total_weight b.items)) None (second_none _ _ (second_none (items_fault known no_ids b.items) _ h))))
+    at_most _ _ (fails M7 _ (first_none (M7 when nat_lt TOTAL_WEIGHT_LIMIT (total_weight b.items)) None (second_none _ _ (second_none (items_fault known no_ids b.items) _ h))))
 
-pub is_light : (known : Known) (b : Bucket) → bucket_fault known b ≡ None → total_weight b.items ≤ 4294967295
+pub is_light : (known : Known) (b : Bucket) → bucket_fault known b ≡ None → total_weight b.items ≤ TOTAL_WEIGHT_LIMIT
 unfolding bucket_fault
 is_light known b h = light_by known b (passes (bucket_checks known b) 8 (contents_fault known b.alg b.items) refl h)
 

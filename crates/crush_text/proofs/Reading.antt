@@ -13,6 +13,7 @@ use Rattle.crush_grammar.specs.Syntax.{Declares}
 use Rattle.crush_grammar.specs.declared.code.TextCode.TheVariants.{X7}
 use Rattle.crush_grammar.specs.declared.code.TextFault.{TextFault}
 use Rattle.crush_grammar.specs.declared.declaration.Declaration.{Declaration}
+use Rattle.crush_text.specs.declared.limits.TheConstants.{TEXT_LIMIT}
 use Rattle.crush_text.specs.Judging.{declared, declared_fault, last_fault}
 use Rattle.crush_text.specs.MapText.{SaysMap, HasMapFault, HasFormFault, IsTextOf, HasFirstFault, IsShort, IsRefusedFor}
 use Rattle.crush_text.specs.Reading.{map_of_draft, fault_of_words, fault_or_map, map_of_words, map_of_stored_text, map_of_text}
@@ -151,19 +152,19 @@ stored_refused whole broken bytes f = (faulty whole broken (words bytes) f, is_f
 abbrev too_long : TextFault
 too_long = record { line = 1; code = X7 }
 
-map_by : (short : ℕ) (k : Bool) (r : Result Map TextFault) (m : Map) → nat_le short 524288 ≡ k → (if k then r else Err too_long) ≡ Ok m → (short ≤ 524288) × (r ≡ Ok m)
+map_by : (short : ℕ) (k : Bool) (r : Result Map TextFault) (m : Map) → nat_le short TEXT_LIMIT ≡ k → (if k then r else Err too_long) ≡ Ok m → (short ≤ TEXT_LIMIT) × (r ≡ Ok m)
 map_by n true r m e h = (grind (arith, nat_tests), h)
 map_by n false r m e h = cc
 
-by_map : (n : ℕ) (k : Bool) (r : Result Map TextFault) (m : Map) → nat_le n 524288 ≡ k → n ≤ 524288 → r ≡ Ok m → (if k then r else Err too_long) ≡ Ok m
+by_map : (n : ℕ) (k : Bool) (r : Result Map TextFault) (m : Map) → nat_le n TEXT_LIMIT ≡ k → n ≤ TEXT_LIMIT → r ≡ Ok m → (if k then r else Err too_long) ≡ Ok m
 by_map n true r m e short h = h
 by_map n false r m e short h = absurd (grind (arith, nat_tests))
 
-refused_by : (n : ℕ) (k : Bool) (r : Result Map TextFault) (f : TextFault) → nat_le n 524288 ≡ k → (if k then r else Err too_long) ≡ Err f → ((524288 < n) × (f ≡ too_long)) ⊎ ((n ≤ 524288) × (r ≡ Err f))
+refused_by : (n : ℕ) (k : Bool) (r : Result Map TextFault) (f : TextFault) → nat_le n TEXT_LIMIT ≡ k → (if k then r else Err too_long) ≡ Err f → ((TEXT_LIMIT < n) × (f ≡ too_long)) ⊎ ((n ≤ TEXT_LIMIT) × (r ≡ Err f))
 refused_by n true r f e h = inr (grind (arith, nat_tests), h)
 refused_by n false r f e h = inl (grind (arith, nat_tests), cc)
 
-by_refused : (n : ℕ) (k : Bool) (r : Result Map TextFault) (f : TextFault) → nat_le n 524288 ≡ k → ((524288 < n) × (f ≡ too_long)) ⊎ ((n ≤ 524288) × (r ≡ Err f)) → (if k then r else Err too_long) ≡ Err f
+by_refused : (n : ℕ) (k : Bool) (r : Result Map TextFault) (f : TextFault) → nat_le n TEXT_LIMIT ≡ k → ((TEXT_LIMIT < n) × (f ≡ too_long)) ⊎ ((n ≤ TEXT_LIMIT) × (r ≡ Err f)) → (if k then r else Err too_long) ≡ Err f
 by_refused n true r f e (inl (long, same)) = absurd (grind (arith, nat_tests))
 by_refused n true r f e (inr (short, h)) = h
 by_refused n false r f e (inl (long, same)) = ap Err (sym same)
@@ -174,8 +175,8 @@ unfolding map_of_text
 text_map maps whole bytes m =
     let n = length bytes in
     let stored = stored_map maps whole bytes m in (
-      (λ h. let both = map_by n (nat_le n 524288) (map_of_stored_text bytes) m refl h in (both.0, stored.0 both.1)),
-      (λ h. by_map n (nat_le n 524288) (map_of_stored_text bytes) m refl h.0 (stored.1 h.1)),
+      (λ h. let both = map_by n (nat_le n TEXT_LIMIT) (map_of_stored_text bytes) m refl h in (both.0, stored.0 both.1)),
+      (λ h. by_map n (nat_le n TEXT_LIMIT) (map_of_stored_text bytes) m refl h.0 (stored.1 h.1)),
     )
 
 mapped : {A B C : Type 0} → (B → C) → A ⊎ B → A ⊎ C
@@ -187,8 +188,8 @@ unfolding map_of_text
 text_refused whole broken bytes f =
     let n = length bytes in
     let stored = stored_refused whole broken bytes f in (
-      (λ h. mapped (λ x. (x.0, stored.0 x.1)) (refused_by n (nat_le n 524288) (map_of_stored_text bytes) f refl h)),
-      (λ h. by_refused n (nat_le n 524288) (map_of_stored_text bytes) f refl (mapped (λ x. (x.0, stored.1 x.1)) h)),
+      (λ h. mapped (λ x. (x.0, stored.0 x.1)) (refused_by n (nat_le n TEXT_LIMIT) (map_of_stored_text bytes) f refl h)),
+      (λ h. by_refused n (nat_le n TEXT_LIMIT) (map_of_stored_text bytes) f refl (mapped (λ x. (x.0, stored.1 x.1)) h)),
     )
 
 -- ---- a map or a fault

@@ -5,6 +5,7 @@ use Rattle.std.proofs.lemmas.List.{append-nil}
 use Rattle.std.proofs.lemmas.List.Sums.{sum_by-cons}
 use Rattle.std.specs.List.{flat_map, list_all, AllByRecursion}
 use Rattle.std.specs.Fmt.{decimal, signed_decimal}
+use Rattle.crush_map.specs.declared.limits.TheConstants.{COUNT_LIMIT, ID_COUNT, NAME_LIMIT, NUMBER_LIMIT, RULE_ID_LIMIT, TRIES_LIMIT}
 use Rattle.crush_map.specs.declared.draft.TypeName.{TypeName}
 use Rattle.crush_map.specs.declared.draft.Device.{Device}
 use Rattle.crush_map.specs.declared.draft.Bucket.{Bucket}
@@ -44,8 +45,8 @@ use Rattle.crush_text.proofs.Numerals.{IsWithin, number_comes_back, integer_come
 pub name_says : (t : List ℕ) → is_name t ≡ true → name_of t ≡ Some t
 unfolding name_of
 name_says t h =
-    let parts = both (nat_le 1 (length t) && nat_le (length t) 64) (list_all is_name_byte t) h in
-    let low = (both (nat_le 1 (length t)) (nat_le (length t) 64) parts.0).0 in
+    let parts = both (nat_le 1 (length t) && nat_le (length t) NAME_LIMIT) (list_all is_name_byte t) h in
+    let low = (both (nat_le 1 (length t)) (nat_le (length t) NAME_LIMIT) parts.0).0 in
     let some : nat_lt 0 (length t) ≡ true = grind (arith, nat_tests) in
     rw (some, parts.1) refl
 
@@ -136,7 +137,7 @@ tunables_spell t a b c d n =
 abbrev pub device_declared : ℕ → Device → Declaration
 device_declared n d = declarations.Device (record { line = n; id = d.id; name = d.name })
 
-pub device_spells : (d : Device) → d.id ≤ 65535 → is_name d.name ≡ true → (n : ℕ) → Spells early_words early_declares n (device_line d) (n + 1) (device_declared n d)
+pub device_spells : (d : Device) → d.id ≤ NUMBER_LIMIT → is_name d.name ≡ true → (n : ℕ) → Spells early_words early_declares n (device_line d) (n + 1) (device_declared n d)
 unfolding device_line
 device_spells d small form n = (
   ADevice (record { device = key n (codes "device"); id = said number_of n (decimal d.id) d.id (number_comes_back d.id (omega arith)); name = said name_of n d.name d.name (name_says d.name form); class = None }),
@@ -147,7 +148,7 @@ device_spells d small form n = (
 abbrev pub type_declared : ℕ → TypeName → Declaration
 type_declared n t = declarations.TypeName (record { line = n; number = t.number; name = t.name })
 
-pub type_spells : (t : TypeName) → t.number ≤ 65535 → is_name t.name ≡ true → (n : ℕ) → Spells early_words early_declares n (type_line t) (n + 1) (type_declared n t)
+pub type_spells : (t : TypeName) → t.number ≤ NUMBER_LIMIT → is_name t.name ≡ true → (n : ℕ) → Spells early_words early_declares n (type_line t) (n + 1) (type_declared n t)
 unfolding type_line
 type_spells t small form n = (
   AType (record { type = key n (codes "type"); number = said number_of n (decimal t.number) t.number (number_comes_back t.number (omega arith)); name = said name_of n t.name t.name (name_says t.name form) }),
@@ -211,7 +212,7 @@ pub record IsWritten (m : Map) (b : Bucket) : Type 0 where
   pub type_form : is_name (type_name m.types b.kind_of) ≡ true
   pub type_free : is_reserved (type_name m.types b.kind_of) ≡ false
   pub name : is_name b.name ≡ true
-  pub id : IsWithin 65536 b.id.0
+  pub id : IsWithin ID_COUNT b.id.0
   pub items : AllByRecursion (HasForm m) b.items
 
 pub all_mapped : {X : Type 0} (P Q : X → Type 0) (xs : List X) → ((x : X) → P x → Q x) → AllByRecursion P xs → AllByRecursion Q xs
@@ -231,7 +232,7 @@ bucket_spells m b form n =
       opening = key n (codes "{");
       before = [];
       id = key (n + 1) (codes "id");
-      number = said integer_of (n + 1) (signed_decimal b.id.0) b.id.0 (integer_comes_back 65536 b.id.0 form.id (omega arith));
+      number = said integer_of (n + 1) (signed_decimal b.id.0) b.id.0 (integer_comes_back ID_COUNT b.id.0 form.id (omega arith));
       after = [];
       alg = key (n + 1 + 1) (codes "alg");
       algorithm = said alg_of (n + 1 + 1) (alg_text b.alg) b.alg (alg_says b.alg);
@@ -245,7 +246,7 @@ bucket_spells m b form n =
       ends (n + bucket_height b) (late_words (ABucket tree))
           (joined (joined (joined (joined (joined
           (line_reads n (kind ∷ b.name ∷ codes "{" ∷ []) (omega arith) (name_token kind form.type_form, (name_token b.name form.name, (opening, tt))))
-          (inner_line_reads (n + 1) (codes "id" ∷ signed_decimal b.id.0 ∷ []) (omega arith) (keyword (codes "id") refl, (signed_is_token 65536 b.id.0 form.id (omega arith), tt))))
+          (inner_line_reads (n + 1) (codes "id" ∷ signed_decimal b.id.0 ∷ []) (omega arith) (keyword (codes "id") refl, (signed_is_token ID_COUNT b.id.0 form.id (omega arith), tt))))
           (inner_line_reads (n + 1 + 1) (codes "alg" ∷ alg_text b.alg ∷ []) (omega arith) (keyword (codes "alg") refl, (alg_token b.alg, tt))))
           (inner_line_reads (n + 1 + 1 + 1) (codes "hash" ∷ codes "0" ∷ []) (omega arith) (keyword (codes "hash") refl, (keyword (codes "0") refl, tt))))
           rs)
@@ -266,17 +267,17 @@ step_declared m Emit = steps.Emit
 -- what of a step is written has the form
 abbrev pub StepForm : Map → Step → Type 0
 StepForm m (Take id) = is_name (item_name m id.0) ≡ true
-StepForm m (SetChooseTries tries) = tries ≤ 1000
-StepForm m (SetLeafTries tries) = tries ≤ 1000
-StepForm m (SetVaryR value) = value ≤ 1000
-StepForm m (SetStable value) = value ≤ 1000
-StepForm m (Choose firstn leaf n wanted) = IsWithin 64 n × (is_name (type_name m.types wanted) ≡ true)
+StepForm m (SetChooseTries tries) = tries ≤ TRIES_LIMIT
+StepForm m (SetLeafTries tries) = tries ≤ TRIES_LIMIT
+StepForm m (SetVaryR value) = value ≤ TRIES_LIMIT
+StepForm m (SetStable value) = value ≤ TRIES_LIMIT
+StepForm m (Choose firstn leaf n wanted) = IsWithin COUNT_LIMIT n × (is_name (type_name m.types wanted) ≡ true)
 StepForm m Emit = Unit {0}
 
 abbrev of_step : syntax.Step → DeclaredStep
 of_step s = action_declares s.action
 
-set_spells : (text : List ℕ) (s : Setting) (value : ℕ) → setting_of text ≡ Some s → IsToken text → value ≤ 1000 → (n : ℕ) →
+set_spells : (text : List ℕ) (s : Setting) (value : ℕ) → setting_of text ≡ Some s → IsToken text → value ≤ TRIES_LIMIT → (n : ℕ) →
     Spells step_words of_step n (inner_line (codes "step" ∷ text ∷ decimal value ∷ [])) (n + 1) (steps.Set s value)
 set_spells text s value e token small n = (
   record { step = key n (codes "step"); action = ASet (record { setting = said setting_of n text s e; value = said number_of n (decimal value) value (number_comes_back value (omega arith)) }) },
@@ -297,13 +298,13 @@ choose_token : (leaf : Bool) → IsToken (choose_text leaf)
 choose_token true = keyword (codes "chooseleaf") refl
 choose_token false = keyword (codes "choose") refl
 
-choose_reads : (leaf firstn : Bool) (z : ℤ) (type : List ℕ) → IsWithin 64 z → is_name type ≡ true → (n : ℕ) →
+choose_reads : (leaf firstn : Bool) (z : ℤ) (type : List ℕ) → IsWithin COUNT_LIMIT z → is_name type ≡ true → (n : ℕ) →
     Reads n (inner_line (codes "step" ∷ choose_text leaf ∷ firstn_text firstn ∷ signed_decimal z ∷ codes "type" ∷ type ∷ [])) (n + 1) (map (word_at n) (codes "step" ∷ choose_text leaf ∷ firstn_text firstn ∷ signed_decimal z ∷ codes "type" ∷ type ∷ []))
 choose_reads leaf firstn z type small form n =
     inner_line_reads n (codes "step" ∷ choose_text leaf ∷ firstn_text firstn ∷ signed_decimal z ∷ codes "type" ∷ type ∷ []) (omega arith)
-    (keyword (codes "step") refl, (choose_token leaf, (firstn_token firstn, (signed_is_token 64 z small (omega arith), (keyword (codes "type") refl, (name_token type form, tt))))))
+    (keyword (codes "step") refl, (choose_token leaf, (firstn_token firstn, (signed_is_token COUNT_LIMIT z small (omega arith), (keyword (codes "type") refl, (name_token type form, tt))))))
 
-choose_spells : (leaf firstn : Bool) (z : ℤ) (type : List ℕ) → IsWithin 64 z → is_name type ≡ true → (n : ℕ) →
+choose_spells : (leaf firstn : Bool) (z : ℤ) (type : List ℕ) → IsWithin COUNT_LIMIT z → is_name type ≡ true → (n : ℕ) →
     Spells step_words of_step n (inner_line (codes "step" ∷ choose_text leaf ∷ firstn_text firstn ∷ signed_decimal z ∷ codes "type" ∷ type ∷ [])) (n + 1) (steps.Choose firstn leaf z type)
 choose_spells true firstn z type small form n = (
   record {
@@ -311,7 +312,7 @@ choose_spells true firstn z type small form n = (
     action = AChooseLeaf (record {
       choose = key n (codes "chooseleaf");
       firstn = said firstn_of n (firstn_text firstn) firstn (firstn_says firstn);
-      number = said integer_of n (signed_decimal z) z (integer_comes_back 64 z small (omega arith));
+      number = said integer_of n (signed_decimal z) z (integer_comes_back COUNT_LIMIT z small (omega arith));
       type = key n (codes "type");
       type_name = said name_of n type type (name_says type form);
     });
@@ -325,7 +326,7 @@ choose_spells false firstn z type small form n = (
     action = AChoose (record {
       choose = key n (codes "choose");
       firstn = said firstn_of n (firstn_text firstn) firstn (firstn_says firstn);
-      number = said integer_of n (signed_decimal z) z (integer_comes_back 64 z small (omega arith));
+      number = said integer_of n (signed_decimal z) z (integer_comes_back COUNT_LIMIT z small (omega arith));
       type = key n (codes "type");
       type_name = said name_of n type type (name_says type form);
     });
@@ -372,12 +373,12 @@ abbrev pub rule_height : Rule → ℕ
 rule_height r = 4 + sum_by (λ x. 1) r.steps
 
 pub record IsWrittenRule (m : Map) (r : Rule) : Type 0 where
-  pub id : r.id ≤ 255
+  pub id : r.id ≤ RULE_ID_LIMIT
   pub name : is_name r.name ≡ true
   pub steps : AllByRecursion (StepForm m) r.steps
 
 -- a rule of these steps
-steps_spell : (m : Map) (r : Rule) (s : Step) (ss : List Step) → r.id ≤ 255 → is_name r.name ≡ true → StepForm m s → AllByRecursion (StepForm m) ss → (n : ℕ) →
+steps_spell : (m : Map) (r : Rule) (s : Step) (ss : List Step) → r.id ≤ RULE_ID_LIMIT → is_name r.name ≡ true → StepForm m s → AllByRecursion (StepForm m) ss → (n : ℕ) →
     Spells late_words late_declares n (rule_lines m (record r { steps = s ∷ ss })) (n + rule_height (record r { steps = s ∷ ss })) (rule_declared m n (record r { steps = s ∷ ss }))
 unfolding rule_lines
 steps_spell m r s ss id name one more n =
@@ -415,7 +416,7 @@ steps_spell m r s ss id name one more n =
           (append_assoc (step_words first) (flat_map step_words others) (word_at last (codes "}") ∷ []))),
     )
 
-by_steps : (m : Map) (r : Rule) (ss : List Step) → 1 ≤ length ss → r.id ≤ 255 → is_name r.name ≡ true → AllByRecursion (StepForm m) ss → (n : ℕ) →
+by_steps : (m : Map) (r : Rule) (ss : List Step) → 1 ≤ length ss → r.id ≤ RULE_ID_LIMIT → is_name r.name ≡ true → AllByRecursion (StepForm m) ss → (n : ℕ) →
     Spells late_words late_declares n (rule_lines m (record r { steps = ss })) (n + rule_height (record r { steps = ss })) (rule_declared m n (record r { steps = ss }))
 by_steps m r [] some id name all n = absurd (omega arith)
 by_steps m r (s ∷ ss) some id name all n = steps_spell m r s ss id name all.0 all.1 n

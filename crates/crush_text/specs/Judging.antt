@@ -4,6 +4,7 @@
 -- elements of a draft are judged.
 use Rattle.std.specs.Prelude.{ℕ, ℤ, pos, negsuc, min, ◌+◌, ◌==◌, ◌&&◌, not, Bool, true, false, List, [], ◌∷◌, ◌++◌, map, fold, find, filter_map, bytes_eq, unwrap_or, option_map, Option, Some, None}
 use Rattle.std.specs.Option.{option_map_or}
+use Rattle.crush_map.specs.declared.limits.TheConstants.{NUMBER_LIMIT}
 use Rattle.crush_map.specs.declared.fault.FaultCode.{FaultCode}
 use Rattle.crush_map.specs.declared.fault.FaultCode.TheVariants.{M3, M12, M13}
 use Rattle.crush_map.specs.declared.draft.TypeName.{TypeName}
@@ -16,7 +17,7 @@ use Rattle.crush_map.specs.declared.draft.MapDraft.{MapDraft}
 use Rattle.crush_map.specs.declared.word.ItemId.{ItemId}
 use Rattle.crush_map.specs.declared.word.Weight.{Weight}
 use Rattle.crush_map.specs.Weights.{total_weight}
-use Rattle.crush_map.specs.Faults.{number_limit, ◌when◌, or_else, first_of, Known, nothing, has_number, are_in_range, type_fault, device_fault, bucket_fault, rule_head_fault, step_fault, end_fault, with_type, with_device, with_bucket, with_rule}
+use Rattle.crush_map.specs.Faults.{◌when◌, or_else, first_of, Known, nothing, has_number, are_in_range, type_fault, device_fault, bucket_fault, rule_head_fault, step_fault, end_fault, with_type, with_device, with_bucket, with_rule}
 use Rattle.crush_text.specs.Places.{wrong_place, in_place}
 use Rattle.crush_grammar.specs.declared.code.TextCode.TheVariants.{X5, Map}
 use Rattle.crush_grammar.specs.declared.code.TextFault.{TextFault}
@@ -70,7 +71,7 @@ fitted_integer (negsuc n) = negsuc (min n 2147483647)
 
 -- no type has this number, and no item has it as its id
 abbrev pub undeclared_number : ℕ
-undeclared_number = number_limit + 1
+undeclared_number = NUMBER_LIMIT + 1
 
 abbrev pub type_number : MapDraft → List ℕ → ℕ
 type_number d name = option_map_or (λ t. t.number) (find (λ t. bytes_eq t.name name) d.types) undeclared_number

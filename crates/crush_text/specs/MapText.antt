@@ -5,6 +5,7 @@ use Rattle.crush_map.specs.Faults.{or_else}
 use Rattle.crush_words.specs.Words.{Word, words}
 use Rattle.crush_grammar.specs.Syntax.{Declares}
 use Rattle.crush_grammar.specs.Fronts.{Breaks, last_line}
+use Rattle.crush_text.specs.declared.limits.TheConstants.{TEXT_LIMIT}
 use Rattle.crush_text.specs.Judging.{declared, declared_fault, last_fault}
 use Rattle.crush_grammar.specs.declared.code.TextCode.TheVariants.{X7}
 use Rattle.crush_grammar.specs.declared.code.TextFault.{TextFault}
@@ -42,10 +43,10 @@ IsTextOf bytes m = SaysMap (words bytes) m
 abbrev pub HasFirstFault : List ℕ → TextFault → Type 0
 HasFirstFault bytes f = HasMapFault (words bytes) f ⊎ HasFormFault (words bytes) f
 
--- a text that may be imported has at most 524,288 bytes
+-- a text that may be imported has at most TEXT_LIMIT bytes
 abbrev pub IsShort : List ℕ → Type 0
-IsShort bytes = length bytes ≤ 524288
+IsShort bytes = length bytes ≤ TEXT_LIMIT
 
 -- the fault for which a text is not imported: its length before all else
 abbrev pub IsRefusedFor : List ℕ → TextFault → Type 0
-IsRefusedFor bytes f = ((524288 < length bytes) × (f ≡ record { line = 1; code = X7 })) ⊎ (IsShort bytes × HasFirstFault bytes f)
+IsRefusedFor bytes f = ((TEXT_LIMIT < length bytes) × (f ≡ record { line = 1; code = X7 })) ⊎ (IsShort bytes × HasFirstFault bytes f)

@@ -12,6 +12,7 @@ use Rattle.crush_grammar.specs.Automaton.{Reading, text as read}
 use Rattle.crush_grammar.specs.Fronts.{last_line}
 use Rattle.crush_grammar.specs.declared.code.TextCode.TheVariants.{X7}
 use Rattle.crush_grammar.specs.declared.code.TextFault.{TextFault}
+use Rattle.crush_text.specs.declared.limits.TheConstants.{TEXT_LIMIT}
 use Rattle.crush_text.specs.Judging.{declared, declared_fault, last_fault}
 
 -- ---- in ascending order of number
@@ -55,4 +56,4 @@ map_of_stored_text bytes = map_of_words (words bytes)
 -- the map of a text that may be imported, or else the fault for which it is refused: its length
 -- before all else
 unfoldable pub map_of_text : List ℕ → Result Map TextFault
-map_of_text bytes = if nat_le (length bytes) 524288 then map_of_stored_text bytes else Err (record { line = 1; code = X7 })
+map_of_text bytes = if nat_le (length bytes) TEXT_LIMIT then map_of_stored_text bytes else Err (record { line = 1; code = X7 })

@@ -7,6 +7,7 @@
 mod fit;
 mod judge;
 mod law;
+pub mod limits;
 mod name;
 mod places;
 mod read;

@@ -6,6 +6,7 @@ ghost use Rattle.crush_text.specs.MapText.{IsTextOf, HasFirstFault, IsShort, IsR
 ghost use Rattle.crush_text.specs.Private.Clean.{IsClean};
 
 use crate::judge::{Judge, at_line, judge_all};
+use crate::limits::TEXT_LIMIT;
 use crush_grammar::{TextCode, TextFault, last_line, read_declarations};
 use crush_map::CrushMap;
 use std::alloc::{AllocError, Global};
@@ -31,9 +32,10 @@ fn map_of(text: &[u8], judge: Judge) -> Result<CrushMap, TextFault>
 
 /// The map of a stored text, whatever its length, or else its first fault, by line and code.
 ///
-/// Declarations are judged in the order of the text, each behind those before it; a word out of the
-/// grammar is a fault behind what is declared before it. `AllocError` comes where memory was
-/// refused.
+/// Declarations are checked in the order of the text, each against those before it; a word that is
+/// not of the grammar is a fault after those of the declarations before it.
+///
+/// `Err(AllocError)`: an allocation failed; nothing is changed.
 pub fn read_stored(alloc: Global, text: &[u8]) -> Result<Result<CrushMap, TextFault>, AllocError>
     ensures map { IfOk result (λ answer. IfOk answer (λ m. IsTextOf text.now m)) }
     ensures refused { IfOk result (λ answer. IfErr answer (λ f. HasFirstFault text.now f)) }
@@ -51,13 +53,14 @@ pub fn read_stored(alloc: Global, text: &[u8]) -> Result<Result<CrushMap, TextFa
 
 /// The map of a text that may be imported, or else its first fault, by line and code.
 ///
-/// A text of over 524,288 bytes is refused (X7 on line 1) before it is read. `AllocError` comes
-/// where memory was refused.
+/// A text of more than `TEXT_LIMIT` bytes is refused (X7 on line 1) before it is read.
+///
+/// `Err(AllocError)`: an allocation failed; nothing is changed.
 pub fn read_map(alloc: Global, text: &[u8]) -> Result<Result<CrushMap, TextFault>, AllocError>
     ensures map { IfOk result (λ answer. IfOk answer (λ m. IsShort text.now × IsTextOf text.now m)) }
     ensures refused { IfOk result (λ answer. IfErr answer (λ f. IsRefusedFor text.now f)) }
 {
-    if text.len() > 524_288 {
+    if text.len() > TEXT_LIMIT {
         return Ok(Err(TextFault {
             line: 1,
             code: TextCode::X7,

@@ -3,6 +3,7 @@
 ghost use Rattle.std.specs.Prelude.{◌≡◌, ◌≤◌, ◌++◌, ◌∷◌, [], ℕ, List, OnErr, OnOk, find, option_map, bytes_eq, length};
 ghost use Rattle.std.specs.BTreeMap.{get_by_text};
 ghost use Rattle.std.specs.Option.{option_map_or};
+ghost use Rattle.crush_map.specs.declared.limits.TheConstants.{ITEM_LIMIT, TOTAL_WEIGHT_LIMIT};
 ghost use Rattle.crush_map.specs.Weights.{total_weight};
 ghost use Rattle.crush_text.specs.Judging.{of_bucket, of_device, undeclared_number};
 ghost use Rattle.crush_text.specs.Private.Tables.{first_value};
@@ -16,8 +17,8 @@ use std::marker::Model;
 /// The number that no type has, and no item as its id. A name that isn't declared stands for it.
 pub(crate) const UNDECLARED: u32 = NUMBER_LIMIT + 1;
 
-/// The number of the type of a name, or `UNDECLARED`. A map has at most 32 types, so they are
-/// looked through.
+/// The number of the type of a name, or `UNDECLARED`. A map has few types (`TYPE_LIMIT`), so they
+/// are looked through in order.
 pub(crate) fn type_number(types: &[TypeName], name: &str) -> u32
     ensures { result ≡ option_map_or (λ t. t.number) (find (λ t. bytes_eq t.name name.now) types.now) undeclared_number }
 {
@@ -46,7 +47,7 @@ fn add_first(
 
 /// A device as an item: its id, and the weight 1.0.
 fn device_item(declared: &Device) -> (ItemId, Weight)
-    requires { declared.now.id ≤ 65535 }
+    requires { declared.now.id ≤ NUMBER_LIMIT }
     ensures { result ≡ of_device declared.now }
 {
     (ItemId(declared.id as i32), Weight(65_536))
@@ -92,7 +93,7 @@ impl DeviceTable {
 
     /// Adds a device at the end. After `AllocError` the devices are as they were.
     pub(crate) fn add(&mut self, alloc: Global, declared: Device) -> Result<(), AllocError>
-        requires { declared.id ≤ 65535 }
+        requires { declared.id ≤ NUMBER_LIMIT }
         ensures ok { OnOk result (self.new ≡ self.old ++ declared ∷ []) }
         ensures err { OnErr result (self.new ≡ self.old) }
     {
@@ -114,8 +115,8 @@ impl DeviceTable {
 
 /// A bucket as an item: its id, and the sum of its items.
 fn bucket_item(declared: &Bucket) -> (ItemId, Weight)
-    requires few { length declared.now.items ≤ 1024 }
-    requires light { total_weight declared.now.items ≤ 4294967295 }
+    requires few { length declared.now.items ≤ ITEM_LIMIT }
+    requires light { total_weight declared.now.items ≤ TOTAL_WEIGHT_LIMIT }
     ensures { result ≡ of_bucket declared.now }
 {
     (
@@ -164,8 +165,8 @@ impl BucketTable {
 
     /// Adds a bucket at the end. After `AllocError` the buckets are as they were.
     pub(crate) fn add(&mut self, alloc: Global, declared: Bucket) -> Result<(), AllocError>
-        requires few { length declared.items ≤ 1024 }
-        requires light { total_weight declared.items ≤ 4294967295 }
+        requires few { length declared.items ≤ ITEM_LIMIT }
+        requires light { total_weight declared.items ≤ TOTAL_WEIGHT_LIMIT }
         ensures ok { OnOk result (self.new ≡ self.old ++ declared ∷ []) }
         ensures err { OnErr result (self.new ≡ self.old) }
     {

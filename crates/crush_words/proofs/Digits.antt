@@ -4,15 +4,16 @@ use Rattle.std.proofs.lemmas.Bool.Decides.{nat_tests}
 use Rattle.std.proofs.Math.Nat.{pow-le-pow_right}
 use Rattle.std.proofs.lemmas.Grind.{pow_more}
 use Rattle.std.specs.List.{list_all}
+use Rattle.crush_map.specs.declared.limits.TheConstants.{DIGIT_LIMIT}
 use Rattle.crush_words.specs.Numbers.{is_digit, are_digits, number_from}
 
 pub more_below : (n d i : ℕ) → n < 10 ^ i → d ≤ 9 → n * 10 + d < 10 ^ (i + 1)
 more_below n d i h k = rw (pow_more 10 i) (omega arith)
 
-pub more_fits : (n i m : ℕ) → n < 10 ^ i → i < m → m ≤ 10 → n < 10 ^ 10
+pub more_fits : (n i m : ℕ) → n < 10 ^ i → i < m → m ≤ DIGIT_LIMIT → n < 10 ^ DIGIT_LIMIT
 more_fits n i m h lt bound =
-    let le : i ≤ 10 = omega arith in
-    let k : 10 ^ i ≤ 10 ^ 10 = pow-le-pow_right (omega arith) le in
+    let le : i ≤ DIGIT_LIMIT = omega arith in
+    let k : 10 ^ i ≤ 10 ^ DIGIT_LIMIT = pow-le-pow_right (omega arith) le in
     omega arith
 
 both : (a b : Bool) → (a && b) ≡ true → (a ≡ true) × (b ≡ true)
@@ -47,11 +48,11 @@ more_value n d xs i lt e =
     let g = number_step n xs i lt in
     rw (f, e) (cc)
 
-few : (text : List ℕ) → are_digits text ≡ true → length text ≤ 10
+few : (text : List ℕ) → are_digits text ≡ true → length text ≤ DIGIT_LIMIT
 few text h = grind (arith, nat_tests)
 
-pub below_ten : (n : ℕ) (text : List ℕ) → n < 10 ^ length text → are_digits text ≡ true → n < 10 ^ 10
+pub below_ten : (n : ℕ) (text : List ℕ) → n < 10 ^ length text → are_digits text ≡ true → n < 10 ^ DIGIT_LIMIT
 below_ten n text h d =
-    let f : length text ≤ 10 = few text d in
-    let m : 10 ^ length text ≤ 10 ^ 10 = pow-le-pow_right (omega arith) f in
+    let f : length text ≤ DIGIT_LIMIT = few text d in
+    let m : 10 ^ length text ≤ 10 ^ DIGIT_LIMIT = pow-le-pow_right (omega arith) f in
     omega arith

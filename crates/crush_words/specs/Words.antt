@@ -4,7 +4,8 @@
 use Rattle.std.specs.Prelude.{ℕ, ◌+◌, ◌==◌, ◌||◌, Bool, true, false, List, [], ◌∷◌, if◌then◌else◌}
 use Rattle.crush_map.specs.Faults.{is_name_byte}
 
--- a word: a run of bytes that are allowed in names, or one other byte, such as a brace; and the number of its line
+-- a word: a run of bytes that are allowed in names, or one other byte, such as a brace; and the
+-- number of its line
 pub record Word : Type 0 where
   pub line : ℕ
   pub text : List ℕ
@@ -27,7 +28,8 @@ onto b (w ∷ ws) = record { line = w.line; text = b ∷ w.text } ∷ ws
 abbrev pub alone : ℕ → ℕ → List Word → List Word
 alone line b ws = record { line = line; text = b ∷ [] } ∷ ws
 
--- the words of bytes whose first line has this number; whether they begin inside a comment, which goes from # to the end of its line
+-- the words of bytes whose first line has this number, and whether they begin inside a comment; a
+-- comment goes from # to the end of its line
 abbrev pub words_from : Bool → ℕ → List ℕ → List Word
 words_from comment line [] = []
 words_from true line (b ∷ bytes) = if b == 10 then words_from false (line + 1) bytes else words_from true line bytes

@@ -7,7 +7,8 @@ use crate::lex::first_word;
 use crate::word::Word;
 use std::marker::Model;
 
-/// The rest of a text that is read word by word. Contracts see the words that are left, and the line of the last word read.
+/// The rest of a text that is read word by word. Contracts see the words that are left, and the line
+/// of the last word read.
 #[derive(Drop)]
 pub struct Cursor<'a> {
     line: usize,
@@ -36,14 +37,14 @@ impl<'a> Cursor<'a> {
         }
     }
 
-    /// The line of the last word read, or 1.
+    /// The number of the line of the last word read, or 1 if none was read.
     pub fn line(&self) -> usize
         ensures { result ≡ self.now.line }
     {
         self.line
     }
 
-    /// The next word and the rest after it, or none at the end of the text.
+    /// The next word and the rest after it. `None`: no word is left.
     pub fn next(&self) -> Option<(Word<'a>, Cursor<'a>)>
         ensures { MatchOption result (self.now.words ≡ []) (λ r. (self.now.words ≡ r.0 ∷ r.1.words) × (r.1.line ≡ r.0.line)) }
     {

@@ -1,17 +1,11 @@
 //! Finding the first word in bytes.
 
 ghost use Rattle.std.specs.Prelude.{◌≡◌, ◌≤◌, ◌<◌, ◌+◌, ◌^◌, ℕ, [], ◌∷◌, length, take, drop, IfSome, MatchOption, true, false};
-ghost use Rattle.crush_map.specs.Faults.{is_name_byte};
 ghost use Rattle.crush_words.specs.Private.Scan as scan;
 ghost use Rattle.crush_words.specs.Words as spec;
 
 use crate::word::Word;
-
-fn is_name_byte(byte: u8) -> bool
-    ensures { result ≡ is_name_byte byte }
-{
-    matches!(byte, b'a'..=b'z' | b'A'..=b'Z' | b'0'..=b'9' | b'-' | b'_' | b'.')
-}
+use crush_map::is_name_byte;
 
 /// How many bytes at the front are allowed in names.
 fn run_len(bytes: &[u8]) -> usize
@@ -28,6 +22,7 @@ fn run_len(bytes: &[u8]) -> usize
     len
 }
 
+/// Whether a byte is blank: a space, a tab or a CR.
 fn is_blank(byte: u8) -> bool
     ensures { result ≡ spec.is_blank byte }
 {
@@ -45,7 +40,8 @@ fn word_len(bytes: &[u8]) -> usize
     if len == 0 { 1 } else { len }
 }
 
-/// The first word of bytes whose first line has this number, and what follows the word.
+/// The first word of a text whose first line has this number, and what follows the word. `None`: the
+/// text has no word.
 pub(crate) fn first_word<'a>(line: usize, text: &'a [u8]) -> Option<(Word<'a>, &'a [u8])>
     requires { line + length text.now < 2 ^ 64 }
     ensures value { MatchOption result (spec.words_from false line text.now ≡ []) (λ r. spec.words_from false line text.now ≡ r.0 ∷ spec.words_from false r.0.line r.1.now) }

@@ -4,18 +4,10 @@ ghost use Rattle.std.specs.Prelude.{◌≡◌, ◌<◌, ◌≤◌, ◌^◌, ◌-
 ghost use Rattle.std.specs.List.{list_all};
 ghost use Rattle.crush_words.specs.Numbers as spec;
 
-fn all_digits(text: &[u8]) -> bool
-    ensures { result ≡ list_all spec.is_digit text.now }
-{
-    text.iter().all(|byte| byte.is_ascii_digit())
-}
+use crush_map::are_digits;
+use crush_map::limits::DIGIT_LIMIT;
 
-fn are_digits(text: &[u8]) -> bool
-    ensures { result ≡ spec.are_digits text.now }
-{
-    1 <= text.len() && text.len() <= 10 && all_digits(text)
-}
-
+/// The value of a digit, 0 to 9.
 fn digit(byte: u8) -> u64
     requires { spec.is_digit byte ≡ true }
     ensures value { result ≡ byte - 48 }
@@ -24,11 +16,11 @@ fn digit(byte: u8) -> u64
     u64::from(byte - b'0')
 }
 
-/// The number that digits write.
+/// The number that at most `DIGIT_LIMIT` digits write.
 #[tactic(auto, using(crate::proofs::Digits::more_below, crate::proofs::Digits::first_is, crate::proofs::Digits::others_are))]
 fn number(text: &[u8]) -> u64
     requires digits { list_all spec.is_digit text.now ≡ true }
-    requires few { length text.now ≤ 10 }
+    requires few { length text.now ≤ DIGIT_LIMIT }
     ensures value { result ≡ spec.number_from 0 text.now }
     ensures bound { result < 10 ^ length text.now }
 {
@@ -39,20 +31,21 @@ fn number(text: &[u8]) -> u64
     number
 }
 
-/// The number that 1 to 10 digits write; none for any other text.
+/// The number that 1 to `DIGIT_LIMIT` digits write. `None`: the text has another form.
 #[tactic(auto, using(crate::proofs::Digits::below_ten), unfolding(crate::specs::Numbers::number_of))]
 pub fn number_from_text(text: &[u8]) -> Option<u64>
     ensures value { result ≡ spec.number_of text.now }
-    ensures bound { IfSome result (λ n. n < 10 ^ 10) }
+    ensures bound { IfSome result (λ n. n < 10 ^ DIGIT_LIMIT) }
 {
-    if are_digits(text) {
+    if are_digits(1, DIGIT_LIMIT, text) {
         Some(number(text))
     } else {
         None
     }
 }
 
-/// The integer that 1 to 10 digits write, with or without a minus before them; none for any other text.
+/// The integer that 1 to `DIGIT_LIMIT` digits write, with or without a minus before them. `None`:
+/// the text has another form.
 #[tactic(auto, unfolding(crate::specs::Numbers::integer_of))]
 pub fn integer_from_text(text: &[u8]) -> Option<i64>
     ensures { result ≡ spec.integer_of text.now }

@@ -4,7 +4,8 @@ ghost use Rattle.std.specs.Prelude.{◌≡◌};
 
 use std::marker::Model;
 
-/// A run of bytes that are allowed in names, or one other byte, such as a brace. Contracts see its bytes and its line.
+/// A run of bytes that are allowed in names, or one other byte, such as a brace. Contracts see its
+/// bytes and its line.
 #[derive(Drop)]
 pub struct Word<'a> {
     line: usize,
@@ -20,6 +21,7 @@ impl<'a> Model for Word<'a> {
 }
 
 impl<'a> Word<'a> {
+    /// The word of these bytes, on the line with this number.
     pub(crate) fn new(line: usize, text: &'a [u8]) -> Self
         ensures { result ≡ record { line = line; text = text.now } }
     {

@@ -287,7 +287,7 @@ fn assert_tables(rt: &impl Abort, alloc: Global) -> Result<(), AllocError> {
     assert_picks(rt, alloc, &tables, &mut scratch)
 }
 
-/// Where memory is refused once, at whichever growth, the next try has it and answers as ever.
+/// Where one allocation fails, whichever it is, the next try succeeds and answers as ever.
 #[test]
 fn tables_of_a_map_are_asked_and_built_at_the_next_try(rt: HostRuntime) {
     let alloc = rt.alloc();

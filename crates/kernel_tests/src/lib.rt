@@ -1,5 +1,5 @@
-//! Tests of `crush_bucket` and `crush_choose`, on maps of drafts. They stand apart, so that these
-//! crates are proved once.
+//! Tests of `crush_bucket`, `crush_choose` and `crush_rules`, on maps of drafts. They stand apart, so
+//! that these crates are proved once.
 #![tactic(auto)]
 
 #[cfg(test)]

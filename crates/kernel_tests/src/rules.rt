@@ -2,15 +2,16 @@
 
 ghost use Rattle.std.specs.Prelude.{◌≡◌, ◌≤◌};
 ghost use Rattle.crush_bucket.specs.Tables.{perms_of, tables_of};
-ghost use Rattle.crush_choose.specs.Rules.{CanRun};
+ghost use Rattle.crush_rules.specs.Rules.{CanRun};
 
 use crate::drafts::{
     JEWEL, ONE, SOUND, Short, ShortBucket, bucket, choose, draft, generated, map_of,
 };
 use Kind::{List, Tree, Uniform};
 use crush_bucket::{Scratch, Tables};
-use crush_choose::{Out, Slot, Weights, is_in, laws, run_rule};
+use crush_choose::{Slot, Weights, is_in};
 use crush_map::{Bucket, CrushMap, ItemId, Kind, Listed, MapDraft, Rule, Step, Tunables};
+use crush_rules::{Out, laws, run_rule};
 use std::alloc::{AllocError, Global};
 use std::process::Abort;
 use std::test::Fail;

@@ -4,11 +4,12 @@ ghost use Rattle.std.specs.Prelude.{◌≡◌, ◌<◌};
 ghost use Rattle.crush_bucket.specs.Tables.{perms_of, tables_of};
 
 use crush_bucket::{Scratch, Tables};
-use crush_choose::{Out, Weights};
+use crush_choose::Weights;
 use crush_pool::{
     DeviceState, DeviceStates, Placement, Placer, Pool, PoolFault, place, reweights_of,
     rule_with_id,
 };
+use crush_rules::Out;
 use std::alloc::{AllocError, Global};
 use std::process::Abort;
 use std::test::Fail;

@@ -8,9 +8,10 @@ use Rattle.std.proofs.lemmas.Int.{ints}
 use Rattle.std.proofs.lemmas.Slice.Eq.{bytes_eq-Decides}
 use Rattle.serde_json.specs.Data.{Data}
 use Rattle.serde_json.specs.Find.{as_str}
-use Rattle.crush_bucket.specs.Bucket.{BucketView, Entry, total_weight, HasEqualWeights}
+use Rattle.crush_bucket.specs.Bucket.{BucketView, WeightedItem, total_weight, HasEqualWeights}
 use Rattle.crush_map.specs.Faults.{is_uniform}
 use Rattle.crush_map.specs.Weights.{has_equal_weights}
+use Rattle.crush_map.specs.declared.limits.TheConstants.{ITEM_LIMIT, NUMBER_LIMIT, TOTAL_WEIGHT_LIMIT}
 use Rattle.crush_map.specs.declared.ItemId.{ItemId}
 use Rattle.crush_map.specs.declared.Kind.{Kind}
 use Rattle.crush_map.specs.declared.Kind.TheVariants.{Uniform, List as ListKind, Tree}
@@ -27,7 +28,7 @@ finds_entry : Finds entry_of IsItem
 finds_entry = finds_as (λ d e is. record { keys = is.0; item = is.1.0; weight = is.1.1 }) (λ d e is. (is.keys, (is.item, is.weight)))
     (finds_object (codes "item" ∷ codes "weight" ∷ []) refl (λ d e is. (is_there (codes "item") d e.0.0 is.0, (is_there (codes "weight") d e.1.0 is.1, tt)))
     (finds_both weighed (λ e. e.0.0) (λ e. e.1.0) (λ a b. refl) (λ a b. refl) (λ e. refl)
-    (finds_under (codes "item") (finds_integer (negsuc 65535) (pos 65535) refl)) (finds_under (codes "weight") (finds_natural 4294967295))))
+    (finds_under (codes "item") (finds_integer (negsuc NUMBER_LIMIT) (pos NUMBER_LIMIT) refl)) (finds_under (codes "weight") (finds_natural 4294967295))))
 
 -- ---- a kind
 
@@ -59,22 +60,22 @@ finds_kind = record {
 Decides-same : (z y : ℤ) → Decides (int_le z y && int_le y z) (y ≡ z)
 Decides-same z y = (λ h. grind (arith, ints), λ h. grind (arith, ints))
 
-Decides-other : (i : ItemId) (e : Entry) → Decides (not (is_of_item i.0 e)) (e.0 ≢ i)
+Decides-other : (i : ItemId) (e : WeightedItem) → Decides (not (is_of_item i.0 e)) (e.0 ≢ i)
 Decides-other i e =
     Decides-not (is_of_item i.0 e) (Decides-like (is_of_item i.0 e) (ap (λ z. record { 0 = z })) (ap (λ (j : ItemId). j.0)) (Decides-same i.0 e.0.0))
 
-abbrev item_of : Entry → ItemId
+abbrev item_of : WeightedItem → ItemId
 item_of e = e.0
 
-like_first : (first : Entry) (es : List Entry) → All (λ (e : Entry). e.1.0 ≡ first.1.0) es → HasEqualWeights (first ∷ es)
+like_first : (first : WeightedItem) (es : List WeightedItem) → All (λ (e : WeightedItem). e.1.0 ≡ first.1.0) es → HasEqualWeights (first ∷ es)
 like_first first es rest zero d below = refl
 like_first first es rest (suc k) d below = rest k d (omega arith)
 
-Decides-equal : (es : List Entry) → Decides (has_equal_weights es) (HasEqualWeights es)
+Decides-equal : (es : List WeightedItem) → Decides (has_equal_weights es) (HasEqualWeights es)
 Decides-equal [] = (λ h k d below. absurd (omega arith), λ h. refl)
 Decides-equal (first ∷ es) =
-    Decides-like (list_all (λ (e : Entry). e.1.0 == first.1.0) es) (like_first first es) (λ h k d below. h (suc k) d (omega arith))
-    (Decides-by_and (λ (e : Entry). e.1.0 == first.1.0) (λ (e : Entry). e.1.0 ≡ first.1.0) (list_all (λ (e : Entry). e.1.0 == first.1.0))
+    Decides-like (list_all (λ (e : WeightedItem). e.1.0 == first.1.0) es) (like_first first es) (λ h k d below. h (suc k) d (omega arith))
+    (Decides-by_and (λ (e : WeightedItem). e.1.0 == first.1.0) (λ (e : WeightedItem). e.1.0 ≡ first.1.0) (list_all (λ (e : WeightedItem). e.1.0 == first.1.0))
     (λ e. Decides-eqb e.1.0 first.1.0) refl (λ e es. refl) es)
 
 Decides-if_uniform : (k : Kind) (b : Bool) (P : Type 0) → Decides b P → Decides (not (is_uniform k) || b) (k ≡ Uniform → P)
@@ -83,30 +84,27 @@ Decides-if_uniform ListKind b P h = (λ yes same. cc, λ holds. refl)
 Decides-if_uniform Tree b P h = (λ yes same. cc, λ holds. refl)
 
 record IsValid (b : BucketView) : Type 0 where
-  some : 1 ≤ length b.entries
-  few : length b.entries ≤ 1024
-  distinct : AllPairs (Differ item_of) b.entries
-  others : All (λ e. e.0 ≢ b.id) b.entries
-  light : total_weight b.entries ≤ 4294967295
-  equal : b.kind ≡ Uniform → HasEqualWeights b.entries
+  some : 1 ≤ length b.items
+  few : length b.items ≤ ITEM_LIMIT
+  distinct : AllPairs (Differ item_of) b.items
+  others : All (λ e. e.0 ≢ b.id) b.items
+  light : total_weight b.items ≤ TOTAL_WEIGHT_LIMIT
+  equal : b.kind ≡ Uniform → HasEqualWeights b.items
 
 Decides-is_valid : (b : BucketView) → Decides (is_valid b) (IsValid b)
 Decides-is_valid b =
     Decides-like (is_valid b)
-    (λ is. record { some = is.0.0.0.0.0; few = is.0.0.0.0.1; light = less is.0.0.0.1; others = is.0.0.1; distinct = is.0.1; equal = is.1 })
-    (λ is. (((((is.some, is.few), let light = is.light in omega arith), is.others), is.distinct), is.equal))
-    (Decides-and _ (not (is_uniform b.kind) || has_equal_weights b.entries)
-    (Decides-and _ (are_distinct b.entries)
-    (Decides-and _ (not (list_any (is_of_item b.id.0) b.entries))
-    (Decides-and _ (nat_lt (total_weight b.entries) (2 ^ 32))
-    (Decides-and (nat_lt 0 (length b.entries)) (nat_le (length b.entries) 1024) (Decides-leb 1 (length b.entries)) (Decides-leb (length b.entries) 1024))
-    (Decides-ltb (total_weight b.entries) (2 ^ 32)))
-    (Decides-none (is_of_item b.id.0) (λ e. e.0 ≢ b.id) (Decides-other b.id) b.entries))
-    (Decides-distinct item_of (λ e. is_of_item e.0.0) are_distinct (λ e f. Decides-other e.0 f) refl (λ e es. refl) b.entries))
-    (Decides-if_uniform b.kind (has_equal_weights b.entries) (HasEqualWeights b.entries) (Decides-equal b.entries)))
-  where
-    less : total_weight b.entries < 2 ^ 32 → total_weight b.entries ≤ 4294967295
-    less h = omega arith
+    (λ is. record { some = is.0.0.0.0.0; few = is.0.0.0.0.1; light = is.0.0.0.1; others = is.0.0.1; distinct = is.0.1; equal = is.1 })
+    (λ is. (((((is.some, is.few), is.light), is.others), is.distinct), is.equal))
+    (Decides-and _ (not (is_uniform b.kind) || has_equal_weights b.items)
+    (Decides-and _ (are_distinct b.items)
+    (Decides-and _ (not (list_any (is_of_item b.id.0) b.items))
+    (Decides-and _ (nat_le (total_weight b.items) TOTAL_WEIGHT_LIMIT)
+    (Decides-and (nat_lt 0 (length b.items)) (nat_le (length b.items) ITEM_LIMIT) (Decides-leb 1 (length b.items)) (Decides-leb (length b.items) ITEM_LIMIT))
+    (Decides-leb (total_weight b.items) TOTAL_WEIGHT_LIMIT))
+    (Decides-none (is_of_item b.id.0) (λ e. e.0 ≢ b.id) (Decides-other b.id) b.items))
+    (Decides-distinct item_of (λ e. is_of_item e.0.0) are_distinct (λ e f. Decides-other e.0 f) refl (λ e es. refl) b.items))
+    (Decides-if_uniform b.kind (has_equal_weights b.items) (HasEqualWeights b.items) (Decides-equal b.items)))
 
 -- ---- a bucket
 
@@ -132,11 +130,11 @@ finds_bucket = finds_as
       ),
     ))
     (finds_object (codes "id" ∷ codes "items" ∷ codes "kind" ∷ []) refl
-    (λ d b is. (is_there (codes "id") d b.id.0 is.0.1, (is_there (codes "items") d b.entries is.0.2, (is_there (codes "kind") d b.kind is.0.0, tt))))
+    (λ d b is. (is_there (codes "id") d b.id.0 is.0.1, (is_there (codes "items") d b.items is.0.2, (is_there (codes "kind") d b.kind is.0.0, tt))))
     (finds_tested is_valid IsValid (λ b. (Decides-is_valid b).0) (λ b. (Decides-is_valid b).1)
-    (finds_three (λ kind id es. record { id = record { 0 = id }; kind = kind; entries = es }) (λ b. b.kind) (λ b. b.id.0) (λ b. b.entries)
+    (finds_three (λ kind id es. record { id = record { 0 = id }; kind = kind; items = es }) (λ b. b.kind) (λ b. b.id.0) (λ b. b.items)
     (λ a b c. refl) (λ a b c. refl) (λ a b c. refl) (λ b. refl)
-    (finds_under (codes "kind") finds_kind) (finds_under (codes "id") (finds_integer (negsuc 65535) (negsuc 0) refl)) (finds_under (codes "items") (finds_list finds_entry)))))
+    (finds_under (codes "kind") finds_kind) (finds_under (codes "id") (finds_integer (negsuc NUMBER_LIMIT) (negsuc 0) refl)) (finds_under (codes "items") (finds_list finds_entry)))))
 
 -- ---- the body
 

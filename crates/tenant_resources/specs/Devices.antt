@@ -5,6 +5,7 @@ use Rattle.serde_json.specs.Data.{Data, object}
 use Rattle.serde_json.specs.Find.{as_bool}
 use Rattle.crush_choose.specs.Weights.{reweight_of}
 use Rattle.crush_map.specs.Map.{Map}
+use Rattle.crush_map.specs.declared.limits.TheConstants.{NUMBER_LIMIT}
 use Rattle.crush_pool.specs.Changes.{are_valid_changes}
 use Rattle.crush_pool.specs.States.{is_up, reweights}
 use Rattle.crush_pool.specs.declared.changes.DeviceChange.{DeviceChange}
@@ -21,11 +22,11 @@ use Rattle.tenant_state.specs.State.{TenantState, NewStates, epoch, newest, vers
 
 -- ---- the form of a body, and the changes that it says
 
--- {"id": 0..65535}, with "reweight": 0..65536, or "up": true or false, or both; what is missing
+-- {"id": 0..NUMBER_LIMIT}, with "reweight": 0..65536, or "up": true or false, or both; what is missing
 -- stays
 pub record IsChange (d : Data) (c : DeviceChange) : Type 0 where
   pub keys : HasExactly (if_any (codes "reweight") c.reweight ++ if_any (codes "up") c.up ++ codes "id" ∷ []) d
-  pub device : IsUnder (codes "id") (IsNatural 65535) d c.device
+  pub device : IsUnder (codes "id") (IsNatural NUMBER_LIMIT) d c.device
   pub reweight : IsOptional (codes "reweight") (IsNatural 65536) d c.reweight
   pub up : IsOptional (codes "up") IsBoolean d c.up
   pub some : (is_some c.reweight || is_some c.up) ≡ true
@@ -52,7 +53,7 @@ if_any_change c = if is_some c.reweight || is_some c.up then Some c else None
 abbrev pub change_of : Data → Option DeviceChange
 change_of d =
     if has_keys (present (codes "reweight") d + (present (codes "up") d + 1)) d then
-    option_and_then if_any_change (both change_with (under (codes "id") (natural_of 65535) d)
+    option_and_then if_any_change (both change_with (under (codes "id") (natural_of NUMBER_LIMIT) d)
     (both (λ reweight up. (reweight, up)) (optional (codes "reweight") (natural_of 65536) d) (optional (codes "up") as_bool d))) else None
 
 abbrev pub if_valid : List ℕ × List DeviceChange → Option (List ℕ × List DeviceChange)

@@ -4,12 +4,13 @@ use Rattle.std.specs.Prelude.{ℕ, ◌≡◌, ◌≢◌, ◌≤◌, ◌^◌, ◌
 use Rattle.std.specs.List.{All, AllPairs, list_any}
 use Rattle.serde_json.specs.Data.{Data, number, object}
 use Rattle.serde_json.specs.Find.{as_str, of_integer}
-use Rattle.crush_bucket.specs.Bucket.{BucketView, Entry, total_weight, HasEqualWeights}
+use Rattle.crush_bucket.specs.Bucket.{BucketView, WeightedItem, total_weight, HasEqualWeights}
 use Rattle.crush_bucket.specs.Pick.{pick}
 use Rattle.crush_map.specs.Faults.{is_uniform}
 use Rattle.crush_map.specs.Weights.{has_equal_weights}
 use Rattle.crush_map.specs.declared.ItemId.{ItemId}
 use Rattle.crush_map.specs.Kinds.{kind_name, kind_named}
+use Rattle.crush_map.specs.declared.limits.TheConstants.{ITEM_LIMIT, NUMBER_LIMIT, TOTAL_WEIGHT_LIMIT}
 use Rattle.crush_map.specs.declared.Kind.{Kind}
 use Rattle.crush_map.specs.declared.Kind.TheVariants.{Uniform}
 use Rattle.tenant_messages.specs.Forms.{IsNatural, IsInteger, IsText, IsListOf, HasExactly, IsUnder}
@@ -20,26 +21,26 @@ use Rattle.tenant_resources.specs.declared.picks.PickRequest.{PickRequest}
 
 -- ---- the form of a body, and the pick that it says
 
--- {"item": -65536..65535, "weight": 0..4294967295}
-pub record IsItem (d : Data) (e : Entry) : Type 0 where
+-- {"item": -1 - NUMBER_LIMIT..NUMBER_LIMIT, "weight": 0..4294967295}
+pub record IsItem (d : Data) (e : WeightedItem) : Type 0 where
   pub keys : HasExactly (codes "item" ∷ codes "weight" ∷ []) d
-  pub item : IsUnder (codes "item") (IsInteger (negsuc 65535) (pos 65535)) d e.0.0
+  pub item : IsUnder (codes "item") (IsInteger (negsuc NUMBER_LIMIT) (pos NUMBER_LIMIT)) d e.0.0
   pub weight : IsUnder (codes "weight") (IsNatural 4294967295) d e.1.0
 
--- {"id": -65536..-1, "items": [ITEM, ..], "kind": "uniform", "list" or "tree"}: 1 to 1,024 distinct
+-- {"id": -1 - NUMBER_LIMIT..-1, "items": [ITEM, ..], "kind": "uniform", "list" or "tree"}: 1 to ITEM_LIMIT distinct
 -- items other than the bucket, whose weights have a sum of at most 2^32 - 1, and are equal in a
 -- uniform bucket
 pub record IsBucket (d : Data) (b : BucketView) : Type 0 where
   pub keys : HasExactly (codes "id" ∷ codes "items" ∷ codes "kind" ∷ []) d
-  pub id : IsUnder (codes "id") (IsInteger (negsuc 65535) (negsuc 0)) d b.id.0
-  pub items : IsUnder (codes "items") (IsListOf IsItem) d b.entries
+  pub id : IsUnder (codes "id") (IsInteger (negsuc NUMBER_LIMIT) (negsuc 0)) d b.id.0
+  pub items : IsUnder (codes "items") (IsListOf IsItem) d b.items
   pub kind : IsUnder (codes "kind") (λ v k. IsText v (kind_name k)) d b.kind
-  pub some : 1 ≤ length b.entries
-  pub few : length b.entries ≤ 1024
-  pub distinct : AllPairs (λ e f. e.0 ≢ f.0) b.entries
-  pub others : All (λ e. e.0 ≢ b.id) b.entries
-  pub light : total_weight b.entries ≤ 4294967295
-  pub equal : b.kind ≡ Uniform → HasEqualWeights b.entries
+  pub some : 1 ≤ length b.items
+  pub few : length b.items ≤ ITEM_LIMIT
+  pub distinct : AllPairs (λ e f. e.0 ≢ f.0) b.items
+  pub others : All (λ e. e.0 ≢ b.id) b.items
+  pub light : total_weight b.items ≤ TOTAL_WEIGHT_LIMIT
+  pub equal : b.kind ≡ Uniform → HasEqualWeights b.items
 
 -- {"bucket": BUCKET, "r": 0..ATTEMPT_LIMIT, "x": 0..4294967295}
 pub record IsPickBody (d : Data) (p : PickRequest) : Type 0 where
@@ -54,18 +55,18 @@ pub record IsPickBody (d : Data) (p : PickRequest) : Type 0 where
 
 -- ---- items
 
-abbrev pub weighed : ℤ → ℕ → Entry
+abbrev pub weighed : ℤ → ℕ → WeightedItem
 weighed id weight = (record { 0 = id }, record { 0 = weight })
 
-abbrev pub entry_of : Data → Option Entry
+abbrev pub entry_of : Data → Option WeightedItem
 entry_of d =
-    if has_keys 2 d then both weighed (under (codes "item") (integer_of (negsuc 65535) (pos 65535)) d) (under (codes "weight") (natural_of 4294967295) d) else None
+    if has_keys 2 d then both weighed (under (codes "item") (integer_of (negsuc NUMBER_LIMIT) (pos NUMBER_LIMIT)) d) (under (codes "weight") (natural_of 4294967295) d) else None
 
-abbrev pub is_of_item : ℤ → Entry → Bool
+abbrev pub is_of_item : ℤ → WeightedItem → Bool
 is_of_item z e = int_le z e.0.0 && int_le e.0.0 z
 
 -- no item comes twice
-abbrev pub are_distinct : List Entry → Bool
+abbrev pub are_distinct : List WeightedItem → Bool
 are_distinct [] = true
 are_distinct (e ∷ es) = not (list_any (is_of_item e.0.0) es) && are_distinct es
 
@@ -74,12 +75,12 @@ are_distinct (e ∷ es) = not (list_any (is_of_item e.0.0) es) && are_distinct e
 abbrev pub kind_of : Data → Option Kind
 kind_of d = option_and_then kind_named (as_str d)
 
--- 1 to 1,024 distinct items other than the bucket, whose weights have a sum below 2^32, and are
+-- 1 to ITEM_LIMIT distinct items other than the bucket, whose weights have a sum below 2^32, and are
 -- equal in a uniform bucket
 abbrev pub is_valid : BucketView → Bool
 is_valid b =
-    nat_lt 0 (length b.entries) && nat_le (length b.entries) 1024 && nat_lt (total_weight b.entries) (2 ^ 32)
-    && not (list_any (is_of_item b.id.0) b.entries) && are_distinct b.entries && (not (is_uniform b.kind) || has_equal_weights b.entries)
+    nat_lt 0 (length b.items) && nat_le (length b.items) ITEM_LIMIT && nat_le (total_weight b.items) TOTAL_WEIGHT_LIMIT
+    && not (list_any (is_of_item b.id.0) b.items) && are_distinct b.items && (not (is_uniform b.kind) || has_equal_weights b.items)
 
 abbrev pub if_valid : BucketView → Option BucketView
 if_valid b = if is_valid b then Some b else None
@@ -87,8 +88,8 @@ if_valid b = if is_valid b then Some b else None
 abbrev pub bucket_of : Data → Option BucketView
 bucket_of d =
     if has_keys 3 d then
-    option_and_then if_valid (all_three (λ kind id es. record { id = record { 0 = id }; kind = kind; entries = es })
-    (under (codes "kind") kind_of d) (under (codes "id") (integer_of (negsuc 65535) (negsuc 0)) d)
+    option_and_then if_valid (all_three (λ kind id es. record { id = record { 0 = id }; kind = kind; items = es })
+    (under (codes "kind") kind_of d) (under (codes "id") (integer_of (negsuc NUMBER_LIMIT) (negsuc 0)) d)
     (under (codes "items") (list_of entry_of) d)) else None
 
 -- ---- a body

@@ -4,10 +4,11 @@ use Rattle.std.specs.Prelude.{ℕ, ◌≤◌, ◌+◌, List, [], ◌∷◌, ◌+
 use Rattle.serde_json.specs.Data.{Data, object}
 use Rattle.crush_bucket.specs.Tables.{tables_of}
 use Rattle.crush_choose.specs.Marks.{Slot}
-use Rattle.crush_choose.specs.Rules.{rule_answer}
-use Rattle.crush_choose.specs.Trace.{rule_trace}
+use Rattle.crush_rules.specs.Rules.{rule_answer}
+use Rattle.crush_rules.specs.Trace.{rule_trace}
 use Rattle.crush_choose.specs.Weights.{weights_of}
 use Rattle.crush_map.specs.Map.{Map}
+use Rattle.crush_map.specs.declared.limits.TheConstants.{RULE_ID_LIMIT}
 use Rattle.crush_map.specs.declared.draft.Rule.{Rule}
 use Rattle.crush_pool.specs.Placements.{rule_numbered}
 use Rattle.crush_pool.specs.States.{reweights}
@@ -28,10 +29,10 @@ pub record RuleTest : Type 0 where
 
 -- ---- the form of a body, and the test that it says
 
--- {"rule": 0..255, "size": 1..32, "x": 0..4294967295}, and if need be "version": 0..4294967295
+-- {"rule": 0..RULE_ID_LIMIT, "size": 1..32, "x": 0..4294967295}, and if need be "version": 0..4294967295
 pub record IsTestBody (d : Data) (t : RuleTest) : Type 0 where
   pub keys : HasExactly (if_any (codes "version") t.version ++ codes "rule" ∷ codes "size" ∷ codes "x" ∷ []) d
-  pub rule : IsUnder (codes "rule") (IsNatural 255) d t.rule
+  pub rule : IsUnder (codes "rule") (IsNatural RULE_ID_LIMIT) d t.rule
   pub size : IsUnder (codes "size") (IsNatural 32) d t.size
   pub some : 1 ≤ t.size
   pub x : IsUnder (codes "x") (IsNatural 4294967295) d t.x
@@ -51,7 +52,7 @@ abbrev pub test_of : Data → Option RuleTest
 test_of d =
     if has_keys (present (codes "version") d + 3) d then
     option_and_then if_some (both test_with
-    (both (λ rule size. (rule, size)) (under (codes "rule") (natural_of 255) d) (under (codes "size") (natural_of 32) d))
+    (both (λ rule size. (rule, size)) (under (codes "rule") (natural_of RULE_ID_LIMIT) d) (under (codes "size") (natural_of 32) d))
     (both (λ x version. (x, version)) (under (codes "x") (natural_of 4294967295) d) (optional (codes "version") (natural_of 4294967295) d))) else None
 
 abbrev pub test_request_of : List ℕ → Option RuleTest

@@ -10,10 +10,10 @@ ghost use Rattle.tenant_messages.specs.Slots.{slot_json, list_json};
 
 use crate::limits::OBJECT_NAME_LIMIT;
 use crush_bucket::Scratch;
-use crush_choose::Out;
 use crush_hash::name_hash;
 use crush_map::Text;
 use crush_pool::{Placement, Pool};
+use crush_rules::Out;
 use serde_json::{Value, json};
 use std::alloc::{AllocError, Global};
 use std::marker::Model;

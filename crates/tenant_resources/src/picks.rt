@@ -5,14 +5,15 @@ ghost use Rattle.std.specs.Prelude.{◌≡◌, ◌<◌, ◌^◌, IfOk, codes, le
 ghost use Rattle.std.specs.List.{list_any};
 ghost use Rattle.serde_json.specs.View.{view, items_view};
 ghost use Rattle.crush_bucket.specs.Bucket.{total_weight, HasEqualWeights};
-ghost use Rattle.crush_bucket.specs.Pick.{pick, perm_of};
+ghost use Rattle.crush_bucket.specs.Pick.{pick};
 ghost use Rattle.tenant_messages.specs.Json as json;
 ghost use Rattle.tenant_resources.specs.Picks as spec;
 ghost use Rattle.tenant_messages.specs.Reading.{Reads};
 ghost use Rattle.tenant_messages.specs.Reply.{reply};
 
 use crate::limits::ATTEMPT_LIMIT;
-use crush_bucket::{ListBucket, Perm, Picker, TreeBucket, UniformBucket};
+use crush_bucket::{AnyBucket, Perm, Picker};
+use crush_map::limits::{ITEM_LIMIT, NUMBER_LIMIT, TOTAL_WEIGHT_LIMIT};
 use crush_map::{ItemId, Kind, Weight, has_equal_weights, total_weight};
 use serde_json::{Value, json};
 use std::alloc::{AllocError, Global};
@@ -39,7 +40,7 @@ impl Model for AskedBucket {
 
     ghost Value = { BucketView };
 
-    ghost view = { λ a. record { id = a.id; kind = a.kind; entries = a.items.items } };
+    ghost view = { λ a. record { id = a.id; kind = a.kind; items = a.items.items } };
 
     ghost invariant = { λ a. record {
       asked : CanBeAsked a.items.items;
@@ -54,7 +55,7 @@ impl AskedBucket {
         requires few { length items.items < 2 ^ 16 }
         requires light { total_weight items.items < 2 ^ 32 }
         requires equal { kind ≡ Kind.Uniform → HasEqualWeights items.items }
-        ensures { result ≡ record { id = id; kind = kind; entries = items.items } }
+        ensures { result ≡ record { id = id; kind = kind; items = items.items } }
     {
         AskedBucket { id, kind, items }
     }
@@ -65,39 +66,10 @@ impl AskedBucket {
         ensures { IfOk result (λ item. item ≡ pick self.now x r) }
     {
         let items = self.items.as_slice();
-        match self.kind {
-            Kind::Uniform => {
-                let bucket = UniformBucket::build(alloc, self.id, items)?;
-                ask(alloc, &bucket, self.id, items.len(), x, r)
-            }
-            Kind::List => {
-                let bucket = ListBucket::build(alloc, self.id, items)?;
-                ask(alloc, &bucket, self.id, items.len(), x, r)
-            }
-            Kind::Tree => {
-                let bucket = TreeBucket::build(alloc, self.id, items)?;
-                ask(alloc, &bucket, self.id, items.len(), x, r)
-            }
-        }
+        let bucket = AnyBucket::build(alloc, self.kind, self.id, items)?;
+        let mut perm = Perm::build(alloc, self.id, items.len())?;
+        Ok(bucket.pick(&mut perm, x, r))
     }
-}
-
-/// The item that a bucket of this id and size picks, with a permutation of its own.
-/// `Err(AllocError)`: an allocation failed; nothing is changed.
-fn ask<P: Picker>(
-    alloc: Global,
-    bucket: &P,
-    id: ItemId,
-    size: usize,
-    x: u32,
-    r: u32,
-) -> Result<ItemId, AllocError>
-    requires few { size < 2 ^ 32 }
-    requires its { perm_of (P.bucket bucket.now) ≡ record { id = id; size = size } }
-    ensures { IfOk result (λ item. item ≡ pick (P.bucket bucket.now) x r) }
-{
-    let mut perm = Perm::build(alloc, id, size)?;
-    Ok(bucket.pick(&mut perm, x, r))
 }
 
 /// The body of a pick: which item the bucket picks for the input `x` at the attempt `r`.
@@ -118,7 +90,7 @@ fn entry(value: &Value) -> Option<(ItemId, Weight)>
     if !has_keys(value, 2) {
         return None;
     }
-    let item = integer(value, "item", -65536, 65535)?;
+    let item = integer(value, "item", -1 - NUMBER_LIMIT as i32, NUMBER_LIMIT as i32)?;
     let weight = natural(value, "weight", 4_294_967_295)?;
     Some((ItemId(item), Weight(weight)))
 }
@@ -171,11 +143,11 @@ fn is_valid(
     kind: Kind,
     entries: &[(ItemId, Weight)],
 ) -> Result<bool, AllocError>
-    ensures { IfOk result (λ valid. valid ≡ spec.is_valid (record { id = id; kind = kind; entries = entries.now })) }
+    ensures { IfOk result (λ valid. valid ≡ spec.is_valid (record { id = id; kind = kind; items = entries.now })) }
 {
     if entries.is_empty()
-        || entries.len() > 1024
-        || total_weight(entries) >= 4_294_967_296
+        || entries.len() > ITEM_LIMIT
+        || total_weight(entries) > TOTAL_WEIGHT_LIMIT
         || contains(id.0, entries)
     {
         return Ok(false);
@@ -202,7 +174,7 @@ fn bucket(alloc: Global, value: &Value) -> Result<AskedBucket, Refusal>
         return Err(Refusal::Problem(Problem::BadRequest));
     }
     let kind = kind_in(value).ok_or(Problem::BadRequest)?;
-    let id = ItemId(integer(value, "id", -65536, -1).ok_or(Problem::BadRequest)?);
+    let id = ItemId(integer(value, "id", -1 - NUMBER_LIMIT as i32, -1).ok_or(Problem::BadRequest)?);
     let values = value
         .get("items")
         .and_then(Value::as_array)

@@ -3,18 +3,20 @@
 
 ghost use Rattle.std.specs.Prelude.{◌≡◌, IfOk};
 ghost use Rattle.crush_bucket.specs.Tables.{tables_of};
-ghost use Rattle.crush_choose.specs.Rules.{CanRun, rule_answer};
-ghost use Rattle.crush_choose.specs.Trace.{rule_trace};
+ghost use Rattle.crush_rules.specs.Rules.{CanRun, rule_answer};
+ghost use Rattle.crush_rules.specs.Trace.{rule_trace};
 ghost use Rattle.serde_json.specs.View.{view};
 ghost use Rattle.tenant_messages.specs.Reading.{Reads};
 ghost use Rattle.tenant_messages.specs.Refusals.{Answers};
 ghost use Rattle.tenant_resources.specs.RuleTests as spec;
 
 use crush_bucket::Scratch;
-use crush_choose::laws::traces_ascend;
-use crush_choose::{Out, Slot, Weights, run_rule};
+use crush_choose::{Slot, Weights};
 use crush_map::Rule;
+use crush_map::limits::RULE_ID_LIMIT;
 use crush_pool::rule_with_id;
+use crush_rules::laws::traces_ascend;
+use crush_rules::{Out, run_rule};
 use serde_json::{Value, json};
 use std::alloc::{AllocError, Global};
 use std::marker::Model;
@@ -57,7 +59,7 @@ fn test(value: &Value) -> Option<RuleTest>
     if !has_keys(value, keys) {
         return None;
     }
-    let rule = natural(value, "rule", 255)?;
+    let rule = natural(value, "rule", RULE_ID_LIMIT)?;
     let size = natural(value, "size", 32)?;
     let x = natural(value, "x", 4_294_967_295)?;
     let version = optional_natural(value, "version", 4_294_967_295)?;

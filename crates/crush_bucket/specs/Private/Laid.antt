@@ -9,7 +9,8 @@ use Rattle.crush_permutation.specs.Permutation.{PermView}
 use Rattle.crush_bucket.specs.Pick.{perm_for}
 use Rattle.crush_bucket.specs.Tables.{TypedBucket, TablesView, bucket_at, size_at, perms_in, IsBelow}
 
--- what a bucket must be so that it can be kept: few items, a sum of weights that is a word, equal weights where it is uniform
+-- what a bucket must be so that it can be kept: few items, a sum of weights that is a word, equal
+-- weights where it is uniform
 pub record IsFit (b : Bucket) : Type 0 where
   pub few : length b.items < 2 ^ 16
   pub light : total_weight b.items < 2 ^ 32
@@ -22,7 +23,7 @@ HasNegativeIds t = (number : ℕ) → number < length t.buckets → (n : ℕ) ×
 -- the buckets have ids below 0, and each of their items is a bucket of a smaller number or a device
 pub record IsLaid (t : TablesView) : Type 0 where
   pub negative : HasNegativeIds t
-  pub below : (number place : ℕ) → number < length t.buckets → place < size_at t number → IsBelow t number (item_at (bucket_at t number).entries place)
+  pub below : (number place : ℕ) → number < length t.buckets → place < size_at t number → IsBelow t number (item_at (bucket_at t number).items place)
 
 -- at each n the number of the bucket -1 - n
 abbrev pub IsIndexOf : List TypedBucket → List (Option ℕ) → Type 0

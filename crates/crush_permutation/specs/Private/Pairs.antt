@@ -1,4 +1,5 @@
--- Pairs of a place and the number at it, in order of place: at each other place stands the place's own number.
+-- Pairs of a place and the number at it, in order of place: at each other place stands the place's
+-- own number.
 use Rattle.std.specs.Prelude.{◌≡◌, ℕ, ◌<◌, ◌≤◌, ◌+◌, ◌*◌, ◌^◌, Bool, slice_index, slice_index_or, length, ◌==◌, ◌&&◌, nat_lt, if◌then◌else◌, List, [], ◌∷◌, ◌++◌, take, drop}
 use Rattle.std.specs.List.{prefix_len}
 use Rattle.crush_hash.specs.Hash.{hash3}
@@ -52,7 +53,8 @@ put pairs place member =
 abbrev pub exchanged : List Pair → ℕ → ℕ → List Pair
 exchanged pairs low high = put (put pairs high (member_at pairs low)) low (member_at pairs high)
 
--- the pairs from an index on stand further to the right: those below `to` by `up`, the others by `more` too
+-- the pairs from an index on stand further to the right: those below `to` by `up`, the others by
+-- `more` too
 pub record IsMovedRight (before after : List Pair) (at to len up more : ℕ) : Type 0 where
   pub size : length after ≡ length before
   pub first : (k : ℕ) → k < at → slice_index_or after k no_pair ≡ slice_index_or before k no_pair

@@ -19,7 +19,8 @@ len_by r = if r.written then r.len else (if r.first == 0 then 0 else 2)
 abbrev pub IsKnown : Reached → Type 0
 IsKnown r = r.written ≡ false → (r.first ≡ partner r.hashes r.size r.x 0) × (0 < r.size)
 
--- a row has room for the pairs, and those at its front are of the places that differ from the identity, unless they aren't written yet
+-- a row has room for the pairs, and those at its front are of the places that differ from the
+-- identity, unless they aren't written yet
 pub record IsReached (r : Reached) (row : List Pair) : Type 0 where
   pub pairs : r.written ≡ true → take r.len row ≡ differing 0 (after_swaps r.hashes r.size r.x (swaps_of r))
   pub known : IsKnown r

@@ -7,7 +7,7 @@ use Rattle.crush_bucket.proofs.list.last_of_eight.Goals.{then-is_below, else-is_
 pub loop-lane-preserved : goal.loop-lane-preserved
 loop-lane-preserved c =
     let lane = c.loop-lane.lane in
-    let p = takes c.args.id c.args.entries.now c.args.x c.args.r in
+    let p = takes c.args.id c.args.items.now c.args.x c.args.r in
     let low : lane < 8 = omega arith in
     let hash = c.hash4_lanes-hashes.ensures lane low in
     let item = c.words.ensures lane low in

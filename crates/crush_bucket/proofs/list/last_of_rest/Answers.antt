@@ -5,12 +5,12 @@ use Rattle.crush_bucket.proofs.list.last_of_rest.Goals as goal
 use Rattle.crush_bucket.proofs.list.last_of_rest.Goals.{then-is_below, else-is_below}
 
 pub loop-place-init : goal.loop-place-init
-loop-place-init c = or_first (takes c.args.id c.args.entries.now c.args.x c.args.r) 1 (omega arith)
+loop-place-init c = or_first (takes c.args.id c.args.items.now c.args.x c.args.r) 1 (omega arith)
 
 pub loop-place-preserved : goal.loop-place-preserved
 loop-place-preserved c =
     let place = c.loop-place.place in
-    let p = takes c.args.id c.args.entries.now c.args.x c.args.r in
+    let p = takes c.args.id c.args.items.now c.args.x c.args.r in
     let low : place < 8 = omega arith in
     let hash = c.hash4_lanes-hashes.ensures place low in
     let item = c.first_words.ensures place low (omega arith) in

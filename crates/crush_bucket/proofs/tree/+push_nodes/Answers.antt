@@ -23,12 +23,12 @@ pub returns : goal.returns
 returns t c =
     let p = double c.args.height (omega arith) in
     let h = c.args.height - 1 in
-    let split = nodes_split c.args.entries.now c.args.from c.args.height (omega arith) in
+    let split = nodes_split c.args.items.now c.args.from c.args.height (omega arith) in
     let half : c.places-half.result ≡ 2 ^ h = c.places-half.ensures in
     let whole : 2 * c.places-half.result ≡ 2 ^ c.args.height = omega (arith, p, half) in
-    let low = node_weights c.args.entries.now c.args.from h in
-    let high = node_weights c.args.entries.now (c.args.from + 2 ^ h) h in
-    let w = weight_within c.args.entries.now c.args.from (2 ^ c.args.height) in
+    let low = node_weights c.args.items.now c.args.from h in
+    let high = node_weights c.args.items.now (c.args.from + 2 ^ h) h in
+    let w = weight_within c.args.items.now c.args.from (2 ^ c.args.height) in
     let own : c.push-2.new.self.items ≡ c.push_nodes.new.nodes.items ++ w ∷ [] = grind (arith, whole) in
     let right : c.push_nodes-2.new.nodes.items ≡ c.push-2.new.self.items ++ high = rw half at (c.in_ok-push_nodes-2.ensures {u = tt}) in
     joined c.args.nodes.now.items low high c.push_nodes.new.nodes.items c.push-2.new.self.items c.push_nodes-2.new.nodes.items w (c.in_ok-push_nodes.ensures {u = tt}) own right

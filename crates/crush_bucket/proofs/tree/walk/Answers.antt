@@ -13,6 +13,6 @@ last_down-node-requires-clause-small c =
 pub loop-level-preserved : goal.loop-level-preserved
 loop-level-preserved c =
     let k = min c.loop-level.level 3 in
-    let at = down_is c.args.id c.args.entries.now c.args.nodes.now c.args.x c.args.r c.args.height k c.loop-level.level c.loop-level.node (omega arith) c.loop-level.invariant.at in
+    let at = down_is c.args.id c.args.items.now c.args.nodes.now c.args.x c.args.r c.args.height k c.loop-level.level c.loop-level.node (omega arith) c.loop-level.invariant.at in
     let left : c.saturating_sub-level.result ≡ c.loop-level.level - k = omega arith in
     record { at = rw (left, c.down-node.ensures) at; low = omega arith }

@@ -4,7 +4,7 @@ use Rattle.crush_bucket.proofs.tree.walk.Given as goal
 
 abbrev pub invariant-loop-level : goal.invariant-loop-level
 invariant-loop-level l = record {
-  at : AtNode l.fn.id l.entries l.nodes l.x l.r l.height l.level l.node;
+  at : AtNode l.fn.id l.items l.nodes l.x l.r l.height l.level l.node;
   low : l.level ≤ l.height;
 }
 

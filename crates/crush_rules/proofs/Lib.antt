@@ -1,0 +1,11 @@
+pub mod Tracing
+pub mod Running
+pub mod Faultless
+pub mod Devices
+pub mod Keeping
+pub mod Lowering
+pub mod Staying
+pub mod OneTrace
+pub mod OneOrder
+pub mod Items
+pub mod OfMap

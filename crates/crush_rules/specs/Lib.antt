@@ -1,0 +1,5 @@
+pub mod Rules
+pub mod Outs
+pub mod Trace
+pub mod Stability
+pub mod Private

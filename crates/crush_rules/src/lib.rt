@@ -1,0 +1,13 @@
+//! Running the rules of a CRUSH map, and what lowered reweights leave as it was.
+//!
+//! Sources: Weil et al., 'CRUSH: Controlled, Scalable, Decentralized Placement of Replicated Data'
+//! (SC 2006), and `crush_do_rule` of Ceph's `src/crush/mapper.c`. A rule that runs allocates
+//! nothing and can't fail. The tests are in the crate `kernel_tests`.
+#![tactic(auto)]
+
+pub mod laws;
+mod plan;
+mod rule;
+pub mod stability;
+
+pub use rule::{Out, run_rule, touches};
