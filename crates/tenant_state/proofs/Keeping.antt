@@ -1,5 +1,6 @@
 -- Receipts, in the ordered map that holds them.
-use Rattle.std.proofs.Common.{◌≡◌, ℕ, List, [], ◌∷◌, map, Bool, true, false, cond, if◌then◌else◌, Option, Some, option_map, string_bytes, bytes_eq, Ordering, Less, Equal, Greater, nat_cmp, is_eq, refl, ap, ◌∙◌}
+use Rattle.std.proofs.Common.{◌≡◌, ℕ, List, [], ◌∷◌, map, Bool, true, false, cond, if◌then◌else◌, Option, Some, option_map, string_bytes, bytes_eq, Ordering, Less, Equal, Greater, nat_cmp, is_eq, refl, ap, sym, ◌∙◌, ◌++◌}
+use Rattle.std.proofs.lemmas.List.{append_assoc}
 use Rattle.std.proofs.lemmas.Map.Text.{is_eq-slice_cmp}
 use Rattle.std.specs.BTreeMap.{insert_entry, is_at}
 use Rattle.std.specs.Cmp.Lexicographic.{slice_cmp}
@@ -12,7 +13,8 @@ use Rattle.std.specs.declared.rc.Rc.{Rc}
 use Rattle.crush_map.specs.Map.{Map}
 use Rattle.crush_pool.specs.declared.pool.PoolParts.{PoolParts}
 use Rattle.crush_pool.specs.declared.states.DeviceState.{DeviceState}
-use Rattle.tenant_state.specs.Ordered.{is_before_first}
+use Rattle.tenant_state.proofs.Ordering.{before_rest}
+use Rattle.tenant_state.specs.Ordered.{is_ascending, is_before_first}
 use Rattle.tenant_state.specs.Receipts.{Receipts, is_before, receipt_of, with_receipt}
 use Rattle.tenant_state.specs.State.{TenantState}
 use Rattle.tenant_state.specs.declared.receipts.Receipt.{Receipt}
@@ -75,6 +77,23 @@ pub placed_first : (k : String Global) (rc : Kept) (es : List Entry) → is_befo
     → pairs_of (insert_entry in_order es k rc) ≡ pair_of (k, rc) ∷ pairs_of es
 placed_first k rc [] h = refl
 placed_first k rc (e ∷ es) h = placed_in k rc (e ∷ es) ∙ at_less (in_order k e.0) _ _ _ h
+
+map-append : (xs ys : List Entry) → pairs_of (xs ++ ys) ≡ pairs_of xs ++ pairs_of ys
+map-append [] ys = refl
+map-append (x ∷ xs) ys = ap (λ l. pair_of x ∷ l) (map-append xs ys)
+
+-- the last of the receipts that are left is put in front of those in the map
+pub moved_last : (old new : List Entry) (k : String Global) (rc : Kept) (es after all : List Entry) → old ≡ new ++ (k, rc) ∷ []
+    → after ≡ insert_entry in_order es k rc → pairs_of old ++ pairs_of es ≡ pairs_of all → is_ascending is_before (pairs_of all) ≡ true
+    → pairs_of new ++ pairs_of after ≡ pairs_of all
+moved_last old new k rc es after all last placed whole ordered =
+    let parts : pairs_of old ++ pairs_of es ≡ pairs_of new ++ pair_of (k, rc) ∷ pairs_of es =
+    ap (λ l. pairs_of l ++ pairs_of es) last
+    ∙ (ap (λ l. l ++ pairs_of es) (map-append new ((k, rc) ∷ [])) ∙ append_assoc (pairs_of new) (pair_of (k, rc) ∷ []) (pairs_of es)) in
+    let sorted : is_ascending is_before (pairs_of new ++ pair_of (k, rc) ∷ pairs_of es) ≡ true =
+    ap (is_ascending is_before) (sym parts ∙ whole) ∙ ordered in
+    let first = before_rest is_before (pairs_of new) (pair_of (k, rc)) (pairs_of es) sorted in
+    ap (λ l. pairs_of new ++ l) (ap pairs_of placed ∙ placed_first k rc es first) ∙ (sym parts ∙ whole)
 
 -- ---- copying
 
