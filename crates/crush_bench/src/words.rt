@@ -5,7 +5,9 @@ ghost use Rattle.crush_bench.specs.Words.{IsInRange};
 
 use crate::bucket::Questions;
 use crate::size::Size;
+use crush_choose::limits::SIZE_LIMIT;
 use crush_map::Kind;
+use crush_map::limits::{ITEM_LIMIT, TRIES_LIMIT};
 use std::alloc::{AllocError, Global};
 
 /// What to measure.
@@ -57,9 +59,9 @@ fn pick_work(kind: &str, size: &str, inputs: &str, tries: &str) -> Option<Work>
     ensures { IfSome result IsInRange }
 {
     let kind = kind_of(kind)?;
-    let size = number(size, 1_024)?;
+    let size = number(size, ITEM_LIMIT as u32)?;
     let inputs = number(inputs, u32::MAX)?;
-    let tries = number(tries, 1_000)?;
+    let tries = number(tries, TRIES_LIMIT)?;
     Some(Work::Pick {
         kind,
         size,
@@ -70,7 +72,7 @@ fn pick_work(kind: &str, size: &str, inputs: &str, tries: &str) -> Option<Work>
 fn mappings_work(size: &str, inputs: &str) -> Option<Work>
     ensures { IfSome result IsInRange }
 {
-    let slots = number(size, 32)?;
+    let slots = number(size, SIZE_LIMIT as u32)?;
     let inputs = number(inputs, u32::MAX)?;
     Some(Work::Mappings {
         size: Size { slots },

@@ -1,5 +1,5 @@
 pub mod Least
-pub mod Padding
+pub mod Reweights
 pub mod Growing
 pub mod Placing
 pub mod Reaching

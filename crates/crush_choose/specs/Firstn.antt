@@ -18,18 +18,20 @@ use Rattle.crush_choose.specs.Reach.{reach}
 use Rattle.crush_choose.specs.Least.{least}
 use Rattle.crush_choose.specs.Growing.{grown}
 use Rattle.crush_choose.specs.Marks.{Marks, Slot, placed_by, items_of, leaves_of}
+use Rattle.crush_map.specs.declared.limits.TheConstants.{TRIES_LIMIT, COUNT_LIMIT, VARY_R_LIMIT}
+use Rattle.crush_choose.specs.declared.limits.TheConstants.{SIZE_LIMIT}
 
 -- a call in range; room is `out_size` of `mapper.c`, and 0 leaf tries mean that no leaf is wanted
 -- (`recurse_to_leaf` 0)
 pub record IsFirstnCall (t : TablesView) (c : FirstnCall) : Type 0 where
   pub bucket : c.bucket < length t.buckets
   pub some_reps : 1 ≤ c.numrep
-  pub few_reps : c.numrep ≤ 64
-  pub room : c.room ≤ 32
+  pub few_reps : c.numrep ≤ COUNT_LIMIT
+  pub room : c.room ≤ SIZE_LIMIT
   pub some_tries : 1 ≤ c.tries
-  pub few_tries : c.tries ≤ 1000
-  pub leaf_tries : c.leaf_tries ≤ 1000
-  pub vary_r : c.vary_r ≤ 8
+  pub few_tries : c.tries ≤ TRIES_LIMIT
+  pub leaf_tries : c.leaf_tries ≤ TRIES_LIMIT
+  pub vary_r : c.vary_r ≤ VARY_R_LIMIT
   pub stable : c.stable ≤ 1
 
 abbrev pub slot_has : ItemId → Slot → Bool

@@ -18,18 +18,20 @@ use Rattle.crush_choose.specs.Weights.{is_device_in}
 use Rattle.crush_choose.specs.Reach.{reach, step}
 use Rattle.crush_choose.specs.Least.{least, or_else}
 use Rattle.crush_choose.specs.Marks.{Marks, placed_by}
+use Rattle.crush_map.specs.declared.limits.TheConstants.{TRIES_LIMIT, COUNT_LIMIT}
+use Rattle.crush_choose.specs.declared.limits.TheConstants.{SIZE_LIMIT}
 
 -- a call in range; 0 leaf tries mean that no leaf is wanted (`recurse_to_leaf` 0), as is always so
 -- where devices are wanted
 pub record IsIndepCall (t : TablesView) (c : IndepCall) : Type 0 where
   pub bucket : c.bucket < length t.buckets
-  pub positions : c.n ≤ 32
+  pub positions : c.n ≤ SIZE_LIMIT
   pub within : c.n ≤ c.numrep
   pub some_reps : 1 ≤ c.numrep
-  pub few_reps : c.numrep ≤ 64
+  pub few_reps : c.numrep ≤ COUNT_LIMIT
   pub some_tries : 1 ≤ c.tries
-  pub few_tries : c.tries ≤ 1000
-  pub leaf_tries : c.leaf_tries ≤ 1000
+  pub few_tries : c.tries ≤ TRIES_LIMIT
+  pub leaf_tries : c.leaf_tries ≤ TRIES_LIMIT
   pub above_leaves : c.wanted ≡ 0 → c.leaf_tries ≡ 0
 
 -- ---- what is placed

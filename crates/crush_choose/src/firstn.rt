@@ -5,6 +5,8 @@ ghost use Rattle.crush_bucket.specs.Tables.{perms_of, bucket_numbered};
 ghost use Rattle.crush_choose.specs.Firstn as spec;
 ghost use Rattle.crush_choose.specs.Firstn.{IsFirstnCall, IsFirstnAnswer};
 ghost use Rattle.crush_choose.specs.Marks.{Marks, items_of, leaves_of};
+ghost use Rattle.crush_map.specs.declared.limits.TheConstants.{TRIES_LIMIT, COUNT_LIMIT, VARY_R_LIMIT};
+ghost use Rattle.crush_choose.specs.declared.limits.TheConstants.{SIZE_LIMIT};
 
 use crate::mark::{Mark, Spot};
 use crate::row::{Row, Slot};
@@ -20,17 +22,17 @@ pub struct FirstnCall {
     pub bucket: BucketNo,
     /// The input.
     pub x: u32,
-    /// How many reps there are: 1..64.
+    /// How many reps there are: 1..`COUNT_LIMIT`.
     pub numrep: u32,
-    /// How many items are chosen at most: 0..32.
+    /// How many items are chosen at most: 0..`SIZE_LIMIT`.
     pub room: u32,
     /// The number of the wanted type.
     pub wanted: u32,
-    /// How many tries a rep has: 1..1000.
+    /// How many tries a rep has: 1..`TRIES_LIMIT`.
     pub tries: u32,
-    /// How many tries a leaf has: 0..1000; with 0 no leaf is wanted.
+    /// How many tries a leaf has: 0..`TRIES_LIMIT`; with 0 no leaf is wanted.
     pub leaf_tries: u32,
-    /// `chooseleaf_vary_r`, 0..8.
+    /// `chooseleaf_vary_r`, 0..`VARY_R_LIMIT`.
     pub vary_r: u32,
     /// `chooseleaf_stable`, 0..1.
     pub stable: u32,
@@ -82,8 +84,8 @@ fn leaf_by(
 /// were chosen.
 fn leaf_start(call: &FirstnCall, count: u32, r: u32) -> u32
     requires low { r < 2 ^ 16 }
-    requires few { count ≤ 32 }
-    requires vary_r { call.now.vary_r ≤ 8 }
+    requires few { count ≤ SIZE_LIMIT }
+    requires vary_r { call.now.vary_r ≤ VARY_R_LIMIT }
     ensures value { result ≡ spec.leaf_start call.now count r }
     ensures low { result < 2 ^ 17 }
 {
@@ -110,7 +112,7 @@ fn leaf_below(
     requires bucket { bucket < length tables.now.buckets }
     requires fits { scratch.old ≡ perms_of tables.now }
     requires low { start < 2 ^ 17 }
-    requires few { call.now.leaf_tries ≤ 1000 }
+    requires few { call.now.leaf_tries ≤ TRIES_LIMIT }
     ensures value { result ≡ spec.leaf_below tables.now weights.now call.now leaves.now bucket start }
     ensures fits { scratch.new ≡ perms_of tables.now }
 {
@@ -136,7 +138,7 @@ fn leaf_of(
 ) -> Option<ItemId>
     requires call { IsFirstnCall tables.now call.now }
     requires fits { scratch.old ≡ perms_of tables.now }
-    requires few { count ≤ 32 }
+    requires few { count ≤ SIZE_LIMIT }
     requires low { r < 2 ^ 16 }
     ensures value { result ≡ spec.leaf_of tables.now weights.now call.now leaves.now count item r (bucket_numbered tables.now item) }
     ensures fits { scratch.new ≡ perms_of tables.now }
@@ -165,9 +167,9 @@ fn firstn_try(
 ) -> Option<Mark>
     requires call { IsFirstnCall tables.now call.now }
     requires fits { scratch.old ≡ perms_of tables.now }
-    requires few { length items.now ≤ 32 }
-    requires rep { rep ≤ 64 }
-    requires round { round ≤ 1000 }
+    requires few { length items.now ≤ SIZE_LIMIT }
+    requires rep { rep ≤ COUNT_LIMIT }
+    requires round { round ≤ TRIES_LIMIT }
     ensures value { result ≡ spec.firstn_try tables.now weights.now call.now items.now leaves.now rep round }
     ensures fits { scratch.new ≡ perms_of tables.now }
 {
@@ -205,8 +207,8 @@ fn decide(
 ) -> Option<Mark>
     requires call { IsFirstnCall tables.now call.now }
     requires fits { scratch.old ≡ perms_of tables.now }
-    requires few { length items.now ≤ 32 }
-    requires rep { rep ≤ 64 }
+    requires few { length items.now ≤ SIZE_LIMIT }
+    requires rep { rep ≤ COUNT_LIMIT }
     ensures value { result ≡ spec.decided tables.now weights.now call.now items.now leaves.now rep }
     ensures fits { scratch.new ≡ perms_of tables.now }
 {
@@ -232,7 +234,7 @@ fn mark_beside(
     requires call { IsFirstnCall tables.now call.now }
     requires fits { scratch.old ≡ perms_of tables.now }
     requires few { length items.now ≤ call.now.room }
-    requires rep { rep ≤ 64 }
+    requires rep { rep ≤ COUNT_LIMIT }
     ensures value { result ≡ spec.mark_beside tables.now weights.now call.now items.now leaves.now rep }
     ensures room { length items.now + length (items_of (result ∷ [])) ≤ call.now.room }
     ensures fits { scratch.new ≡ perms_of tables.now }
@@ -246,7 +248,7 @@ fn mark_beside(
 
 /// Appends the item and the leaf of a mark, if it places one.
 fn add(items: &mut Row, leaves: &mut Row, mark: Option<Mark>)
-    requires room { length items.old + length (items_of (mark ∷ [])) ≤ 32 }
+    requires room { length items.old + length (items_of (mark ∷ [])) ≤ SIZE_LIMIT }
     requires even { length leaves.old ≡ length items.old }
     ensures items { items.new ≡ items.old ++ items_of (mark ∷ []) }
     ensures leaves { leaves.new ≡ leaves.old ++ leaves_of (mark ∷ []) }

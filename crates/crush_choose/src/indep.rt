@@ -6,7 +6,9 @@ ghost use Rattle.crush_bucket.specs.Tables.{perms_of, bucket_numbered};
 ghost use Rattle.crush_choose.specs.Marks.{Marks, item_at, leaf_at};
 ghost use Rattle.crush_choose.specs.Indep as spec;
 ghost use Rattle.crush_choose.specs.Indep.{IsIndepCall, IsIndepAnswer};
+ghost use Rattle.crush_map.specs.declared.limits.TheConstants.{TRIES_LIMIT};
 
+use crate::limits::SIZE_LIMIT;
 use crate::mark::{Mark, Spot};
 use crate::row::{Row, Slot};
 use crate::walk::{Attempts, Reached, reach};
@@ -21,15 +23,16 @@ pub struct IndepCall {
     pub bucket: BucketNo,
     /// The input.
     pub x: u32,
-    /// How many positions there are: at most 32 and at most `numrep`.
+    /// How many positions there are: at most `SIZE_LIMIT` and at most `numrep`.
     pub n: u32,
-    /// What each round adds to an attempt: 1..64. At some uniform buckets it adds one more.
+    /// What each round adds to an attempt: 1..`COUNT_LIMIT`. At some uniform buckets it adds one
+    /// more.
     pub numrep: u32,
     /// The number of the wanted type.
     pub wanted: u32,
-    /// How many rounds there are: 1..1000.
+    /// How many rounds there are: 1..`TRIES_LIMIT`.
     pub tries: u32,
-    /// How many rounds a leaf has: 0..1000; with 0 no leaf is wanted.
+    /// How many rounds a leaf has: 0..`TRIES_LIMIT`; with 0 no leaf is wanted.
     pub leaf_tries: u32,
 }
 
@@ -53,7 +56,7 @@ fn is_taken_at(mark: Option<Mark>, q: u32, round: u32, pos: u32, item: ItemId) -
 /// Returns whether some position got the item before the try of position `pos` in this round.
 #[tactic(auto, unfolding(crate::specs::Indep::taken))]
 fn taken(marks: &[Option<Mark>], round: u32, pos: u32, item: ItemId) -> bool
-    requires { length marks.now ≤ 32 }
+    requires { length marks.now ≤ SIZE_LIMIT }
     ensures { result ≡ spec.taken marks.now round pos item }
 {
     for q in 0..marks.len() {
@@ -79,7 +82,7 @@ fn leaf_by(
     requires bucket { bucket < length tables.now.buckets }
     requires fits { scratch.old ≡ perms_of tables.now }
     requires low { start < 2 ^ 20 }
-    requires soon { round ≤ 1000 }
+    requires soon { round ≤ TRIES_LIMIT }
     ensures value { result ≡ spec.indep_leaf_by tables.now weights.now call.now bucket start round }
     ensures fits { scratch.new ≡ perms_of tables.now }
 {
@@ -133,7 +136,7 @@ fn leaf_of(
 ) -> Option<ItemId>
     requires call { IsIndepCall tables.now call.now }
     requires fits { scratch.old ≡ perms_of tables.now }
-    requires pos { pos < 32 }
+    requires pos { pos < SIZE_LIMIT }
     requires low { r < 2 ^ 16 }
     ensures value { result ≡ spec.indep_leaf_of tables.now weights.now call.now pos item r (bucket_numbered tables.now item) }
     ensures fits { scratch.new ≡ perms_of tables.now }
@@ -158,9 +161,9 @@ fn indep_try(
 ) -> Option<Mark>
     requires call { IsIndepCall tables.now call.now }
     requires fits { scratch.old ≡ perms_of tables.now }
-    requires few { length marks.now ≤ 32 }
-    requires pos { pos < 32 }
-    requires soon { round ≤ 1000 }
+    requires few { length marks.now ≤ SIZE_LIMIT }
+    requires pos { pos < SIZE_LIMIT }
+    requires soon { round ≤ TRIES_LIMIT }
     ensures value { result ≡ spec.indep_try tables.now weights.now call.now marks.now pos round }
     ensures fits { scratch.new ≡ perms_of tables.now }
 {
@@ -193,9 +196,9 @@ fn try_position(
 )
     requires call { IsIndepCall tables.now call.now }
     requires fits { scratch.old ≡ perms_of tables.now }
-    requires few { length marks.old ≤ 32 }
+    requires few { length marks.old ≤ SIZE_LIMIT }
     requires pos { pos < length marks.old }
-    requires soon { round ≤ 1000 }
+    requires soon { round ≤ TRIES_LIMIT }
     ensures value { marks.new ≡ spec.after_try (spec.indep_try tables.now weights.now call.now) round pos marks.old }
     ensures fits { scratch.new ≡ perms_of tables.now }
 {
@@ -216,7 +219,7 @@ fn run_round(
     requires call { IsIndepCall tables.now call.now }
     requires fits { scratch.old ≡ perms_of tables.now }
     requires places { length marks.old ≡ call.now.n }
-    requires soon { round ≤ 1000 }
+    requires soon { round ≤ TRIES_LIMIT }
     ensures value { marks.new ≡ spec.in_round (spec.indep_try tables.now weights.now call.now) round call.now.n marks.old }
     ensures places { length marks.new ≡ call.now.n }
     ensures fits { scratch.new ≡ perms_of tables.now }
@@ -278,7 +281,7 @@ fn leaf_at(mark: Option<Mark>) -> Slot
 
 /// Puts the items and the leaves of marks into rows.
 fn fill(items: &mut Row, leaves: &mut Row, marks: &[Option<Mark>])
-    requires { length marks.now ≤ 32 }
+    requires { length marks.now ≤ SIZE_LIMIT }
     ensures items { items.new ≡ map item_at marks.now }
     ensures leaves { leaves.new ≡ map leaf_at marks.now }
 {
@@ -312,7 +315,7 @@ pub fn choose_indep(
     ensures even { length leaves.new ≡ call.now.n }
     ensures fits { scratch.new ≡ perms_of tables.now }
 {
-    let mut row = [None; 32];
+    let mut row = [None; SIZE_LIMIT];
     let marks = &mut row[..call.n as usize];
     run_rounds(tables, scratch, weights, call, marks);
     fill(items, leaves, marks);

@@ -8,6 +8,7 @@
 mod firstn;
 mod indep;
 pub mod laws;
+pub mod limits;
 mod mark;
 mod row;
 mod walk;
@@ -18,4 +19,4 @@ pub use indep::{IndepCall, choose_indep};
 pub use mark::{Mark, Spot};
 pub use row::{Row, Slot};
 pub use walk::Reached;
-pub use weights::{Weights, is_in};
+pub use weights::{FULL, Weights, is_in};

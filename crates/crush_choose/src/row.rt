@@ -1,7 +1,8 @@
-//! Lists of at most 32 slots.
+//! Lists of at most `SIZE_LIMIT` slots.
 
 ghost use Rattle.std.specs.Prelude.{◌≡◌, ◌<◌, ◌≤◌, [], ◌∷◌, ◌++◌, length};
 
+use crate::limits::SIZE_LIMIT;
 use arrayvec::ArrayVec;
 use crush_map::ItemId;
 use std::marker::Model;
@@ -9,10 +10,10 @@ use std::marker::Model;
 /// An item, or none.
 pub type Slot = Option<ItemId>;
 
-/// At most 32 slots, in an array of its own, so it allocates nothing. Contracts see a list.
+/// At most `SIZE_LIMIT` slots, in an array of its own, so it allocates nothing. Contracts see a list.
 #[derive(Drop)]
 pub struct Row {
-    slots: ArrayVec<Slot, 32>,
+    slots: ArrayVec<Slot, SIZE_LIMIT>,
 }
 
 impl Model for Row {
@@ -37,7 +38,7 @@ impl Row {
     /// Returns the slots.
     pub fn items(&self) -> &[Slot]
         ensures value { result.now ≡ self.now }
-        ensures fits { length result.now ≤ 32 }
+        ensures fits { length result.now ≤ SIZE_LIMIT }
     {
         self.slots.as_slice()
     }
@@ -45,7 +46,7 @@ impl Row {
     /// Returns how many slots there are.
     pub fn len(&self) -> usize
         ensures value { result ≡ length self.now }
-        ensures fits { result ≤ 32 }
+        ensures fits { result ≤ SIZE_LIMIT }
     {
         self.slots.len()
     }
@@ -59,7 +60,7 @@ impl Row {
 
     /// Appends a slot.
     pub fn push(&mut self, slot: Slot)
-        requires { length self.old < 32 }
+        requires { length self.old < SIZE_LIMIT }
         ensures { self.new ≡ self.old ++ slot ∷ [] }
     {
         self.slots.push(slot);

@@ -4,6 +4,7 @@ ghost use Rattle.std.specs.Prelude.{◌≡◌, ◌+◌, ◌*◌, ◌<◌, ◌≤
 ghost use Rattle.crush_bucket.specs.Tables.{perms_of};
 ghost use Rattle.crush_choose.specs.Reach.{reach, step};
 ghost use Rattle.crush_choose.specs.Private.Walks.{AreAttempts, IsUpTo};
+ghost use Rattle.crush_map.specs.declared.limits.TheConstants.{COUNT_LIMIT};
 
 use crush_bucket::{BucketNo, Scratch, Tables};
 use crush_map::{ItemId, Kind};
@@ -32,7 +33,7 @@ fn attempt_at(tables: &Tables, attempts: Attempts, bucket: BucketNo) -> u32
     requires bucket { bucket < length tables.now.buckets }
     requires attempts { AreAttempts attempts }
     ensures value { result ≡ attempts.start + step tables.now attempts.numrep attempts.round bucket }
-    ensures low { result ≤ attempts.start + 65 * attempts.round }
+    ensures low { result ≤ attempts.start + (COUNT_LIMIT + 1) * attempts.round }
 {
     let uniform = matches!(tables.kind(bucket), Kind::Uniform);
     let extra = if uniform && tables.size(bucket) % attempts.numrep as usize == 0 {
@@ -56,7 +57,7 @@ pub(crate) fn reach(
     requires fits { scratch.old ≡ perms_of tables.now }
     requires attempts { AreAttempts attempts }
     ensures value { result ≡ reach tables.now x (λ b. attempts.start + step tables.now attempts.numrep attempts.round b) wanted from }
-    ensures up_to { IsUpTo (attempts.start + 65 * attempts.round) result }
+    ensures up_to { IsUpTo (attempts.start + (COUNT_LIMIT + 1) * attempts.round) result }
     ensures fits { scratch.new ≡ perms_of tables.now }
 {
     let mut bucket = from;

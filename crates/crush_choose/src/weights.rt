@@ -1,57 +1,56 @@
 //! Reweights of devices, and the device test.
 
-ghost use Rattle.std.specs.Prelude.{◌≡◌, ◌<◌, ◌≤◌, ◌+◌, ◌^◌, IfOk, Contains, length, map, slice_index_or, ℕ};
+ghost use Rattle.std.specs.Prelude.{◌≡◌, ◌+◌, ◌-◌, ℕ, [], length, slice_get, Some, IfOk};
 ghost use Rattle.crush_choose.specs.Weights as spec;
-ghost use Rattle.crush_choose.specs.Weights.{weights_of, weight_at, reweight_of, first_given, is_device_in};
+ghost use Rattle.crush_choose.specs.Weights.{weights_of, weight_at, reweight_of, is_device_in};
+ghost use Rattle.crush_map.specs.declared.draft.Device.{Device};
 
 use crush_hash::hash2;
-use crush_map::{CrushMap, ItemId};
+use crush_map::{ByDevice, CrushMap, Device, ItemId};
 use std::alloc::{AllocError, Global};
 use std::marker::Model;
 
-/// 1.0: a device with this reweight or more is always in, and so is one that is given none.
-const FULL: u32 = 65_536;
+/// 1.0 as a reweight, in 16.16 fixed point. A device with this reweight or more is always in, and a
+/// device that is given no reweight has this one.
+pub const FULL: u32 = 65_536;
 
-/// How many ids a device can have.
-const IDS: usize = 65_536;
-
-/// Reweights of devices in 16.16 fixed point. Contracts see those of all ids from 0 to 65535, in
-/// order.
+/// Reweights of devices in 16.16 fixed point. Contracts see those of all ids that a device can
+/// have, in order.
 #[derive(Drop)]
 pub struct Weights {
-    table: Vec<u32>,
+    by_device: ByDevice<u32>,
 }
 
 impl Model for Weights {
-    ghost use Rattle.std.specs.Prelude.{List, ℕ, ◌≤◌, length};
-    ghost use Rattle.crush_choose.specs.Weights.{ids};
-    ghost use Rattle.crush_choose.specs.Private.Weights.{padded};
+    ghost use Rattle.std.specs.Prelude.{List, ℕ, ◌≡◌};
+    ghost use Rattle.crush_choose.specs.declared.weights.TheConstants.{FULL};
 
     ghost Value = { List ℕ };
 
-    ghost view = { λ a. padded a.table.items };
+    ghost view = { λ a. a.by_device.values };
 
-    ghost invariant = { λ a. length a.table.items ≤ ids };
+    ghost invariant = { λ a. a.by_device.rest ≡ FULL };
 }
 
 impl Weights {
-    /// The reweights in `given`, pairs of id and reweight, with memory up to the greatest id of a
-    /// device of the map or of a pair.
+    /// Returns the reweights in `given`, pairs of id and reweight, with memory up to the greatest
+    /// id of a device of the map or of a pair.
     ///
-    /// Of several pairs for one id the first counts. An id without a pair has 65536 (1.0), and so
-    /// has each id above 65535. The map need not have a device with the id.
+    /// Of several pairs for one id the first counts. An id without a pair has `FULL`, and so has
+    /// each id that no device can have. The map need not have a device with the id.
+    ///
+    /// `Err(AllocError)`: an allocation failed; nothing is changed.
     pub fn build(alloc: Global, map: &CrushMap, given: &[(u32, u32)]) -> Result<Weights, AllocError>
         ensures all { IfOk result (λ w. w ≡ weights_of given.now) }
         ensures each { IfOk result (λ w. (id : ℕ) → weight_at w id ≡ reweight_of given.now id) }
     {
-        let devices = map
-            .devices()
-            .last()
-            .map_or(0, |device| device.id as usize + 1);
-        Weights::reaching(alloc, devices, given)
+        Weights::reaching(alloc, ids_reached(map.devices()), given)
     }
 
-    /// The reweights in `given`, whatever the map is, with memory up to the greatest id of a pair.
+    /// Returns the reweights in `given`, whatever the map is, with memory up to the greatest id of
+    /// a pair.
+    ///
+    /// `Err(AllocError)`: an allocation failed; nothing is changed.
     pub fn of(alloc: Global, given: &[(u32, u32)]) -> Result<Weights, AllocError>
         ensures all { IfOk result (λ w. w ≡ weights_of given.now) }
         ensures each { IfOk result (λ w. (id : ℕ) → weight_at w id ≡ reweight_of given.now id) }
@@ -59,56 +58,33 @@ impl Weights {
         Weights::reaching(alloc, 0, given)
     }
 
-    /// The reweights in `given`, with memory for at least `first` ids, as far as there are so many.
-    fn reaching(alloc: Global, first: usize, given: &[(u32, u32)]) -> Result<Weights, AllocError>
+    /// Returns the reweights in `given`, with memory for at least the first `reached` ids.
+    #[tactic(auto, unfolding(crate::specs::Weights::weights_of))]
+    fn reaching(alloc: Global, reached: usize, given: &[(u32, u32)]) -> Result<Weights, AllocError>
         ensures all { IfOk result (λ w. w ≡ weights_of given.now) }
         ensures each { IfOk result (λ w. (id : ℕ) → weight_at w id ≡ reweight_of given.now id) }
     {
-        let bound = bound_of(first, given);
-        let table = table_of(alloc, bound, given)?;
-        Ok(Weights { table })
+        let by_device = ByDevice::of(alloc, FULL, reached, given)?;
+        Ok(Weights { by_device })
     }
 
-    /// The reweight of an id.
+    /// Returns the reweight of an id.
     pub fn get(&self, device: u32) -> u32
         ensures { result ≡ weight_at self.now device }
     {
-        match self.table.as_slice().get(device as usize) {
-            Some(weight) => *weight,
-            None => FULL,
-        }
+        self.by_device.get(device)
     }
 }
 
-/// A length for the table: `first`, as far as there are so many ids, or above that one more than
-/// the greatest given id up to 65535.
-fn bound_of(first: usize, given: &[(u32, u32)]) -> usize
-    ensures few { result ≤ spec.ids }
-    ensures least { first < result → Contains (map (λ pair. pair.0 + 1) given.now) result }
-    ensures above { (id : ℕ) → result ≤ id → id < spec.ids → first_given given.now id ≡ spec.full }
+/// Returns how many ids there are up to that of the last device.
+fn ids_reached(devices: &[Device]) -> usize
+    ensures none { devices.now ≡ [] → result ≡ 0 }
+    ensures last { (device : Device) → slice_get devices.now (length devices.now - 1) ≡ Some device → result ≡ device.id + 1 }
 {
-    let mut bound = first.min(IDS);
-    for (id, _) in given {
-        if (*id as usize) < IDS {
-            bound = bound.max(*id as usize + 1);
-        }
+    match devices.last() {
+        Some(device) => device.id as usize + 1,
+        None => 0,
     }
-    bound
-}
-
-/// The reweights of the ids below a bound, in order.
-fn table_of(alloc: Global, bound: usize, given: &[(u32, u32)]) -> Result<Vec<u32>, AllocError>
-    ensures len { IfOk result (λ table. length table.items ≡ bound) }
-    ensures each { IfOk result (λ table. (id : ℕ) → id < bound → slice_index_or table.items id spec.full ≡ first_given given.now id) }
-{
-    let mut table = vec![in alloc; FULL; bound]?;
-    for place in (0..given.len()).rev() {
-        let (id, weight) = given[place];
-        if (id as usize) < bound {
-            table[id as usize] = weight;
-        }
-    }
-    Ok(table)
 }
 
 /// Returns whether a device is in for an input (`is_out` of Ceph's `mapper.c` answers the

@@ -1,7 +1,7 @@
 -- The states of devices: a reweight, and up or down.
 use Rattle.std.specs.Prelude.{ℕ, ◌==◌, nat_lt, Bool, true, List, [], ◌∷◌, map, slice_index_or, if◌then◌else◌}
 use Rattle.std.specs.List.{range_with_len}
-use Rattle.crush_choose.specs.Weights.{ids}
+use Rattle.crush_map.specs.declared.limits.TheConstants.{ID_COUNT}
 use Rattle.crush_pool.specs.declared.states.DeviceState.{DeviceState}
 
 -- whether the first state for an id says up; true where there is none
@@ -11,11 +11,11 @@ first_up (state ∷ states) id = if state.device == id then state.up else first_
 
 -- whether a device is up; an id that no device can have is
 abbrev pub is_up : List DeviceState → ℕ → Bool
-is_up states id = if nat_lt id ids then first_up states id else true
+is_up states id = if nat_lt id ID_COUNT then first_up states id else true
 
 -- for all ids that a device can have, in order, whether it is up
 unfoldable pub flags_of : List DeviceState → List Bool
-flags_of states = map (is_up states) (range_with_len 0 ids)
+flags_of states = map (is_up states) (range_with_len 0 ID_COUNT)
 
 abbrev pub up_at : List Bool → ℕ → Bool
 up_at flags id = slice_index_or flags id true

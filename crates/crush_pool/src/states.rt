@@ -1,7 +1,7 @@
 //! The states of devices.
 
 ghost use Rattle.std.specs.Prelude.{◌≡◌, ◌<◌, ◌≤◌, IfOk, length, slice_index_or, true, ℕ};
-ghost use Rattle.crush_choose.specs.Weights.{ids};
+ghost use Rattle.crush_map.specs.declared.limits.TheConstants.{ID_COUNT};
 ghost use Rattle.crush_pool.specs.States as spec;
 
 use std::alloc::{AllocError, Global};
@@ -40,14 +40,14 @@ pub struct DeviceStates {
 
 impl Model for DeviceStates {
     ghost use Rattle.std.specs.Prelude.{List, Bool, ◌≤◌, length};
-    ghost use Rattle.crush_choose.specs.Weights.{ids};
+    ghost use Rattle.crush_map.specs.declared.limits.TheConstants.{ID_COUNT};
     ghost use Rattle.crush_pool.specs.Private.Flags.{padded};
 
     ghost Value = { List Bool };
 
     ghost view = { λ a. padded a.flags.items };
 
-    ghost invariant = { λ a. length a.flags.items ≤ ids };
+    ghost invariant = { λ a. length a.flags.items ≤ ID_COUNT };
 }
 
 impl DeviceStates {
@@ -75,8 +75,8 @@ impl DeviceStates {
 
 /// A length for the flags: above each id up to 65535 that has a state.
 fn bound_of(states: &[DeviceState]) -> usize
-    ensures few { result ≤ ids }
-    ensures above { (id : ℕ) → result ≤ id → id < ids → spec.first_up states.now id ≡ true }
+    ensures few { result ≤ ID_COUNT }
+    ensures above { (id : ℕ) → result ≤ id → id < ID_COUNT → spec.first_up states.now id ≡ true }
 {
     let mut bound = 0;
     for state in states {

@@ -6,6 +6,7 @@
 #![tactic(auto)]
 
 pub mod laws;
+pub mod limits;
 mod plan;
 mod rule;
 pub mod stability;

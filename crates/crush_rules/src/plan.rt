@@ -4,6 +4,7 @@ ghost use Rattle.std.specs.Prelude.{◌≡◌, ◌<◌, ◌≤◌, ◌+◌, ◌+
 ghost use Rattle.crush_bucket.specs.Tables.{perms_of};
 ghost use Rattle.crush_rules.specs.Rules.{put_out, slot_out, step_out};
 ghost use Rattle.crush_rules.specs.Private.Runs.{IsPlan, call_of};
+ghost use Rattle.crush_choose.specs.declared.limits.TheConstants.{SIZE_LIMIT};
 
 use crush_bucket::{BucketNo, Scratch, Tables};
 use crush_choose::{FirstnCall, IndepCall, Row, Slot, Weights, choose_firstn, choose_indep};
@@ -24,7 +25,7 @@ pub(crate) struct Plan {
 
 /// Appends slots to a row.
 pub(crate) fn append(row: &mut Row, slots: &[Slot])
-    requires { length row.old + length slots.now ≤ 32 }
+    requires { length row.old + length slots.now ≤ SIZE_LIMIT }
     ensures { row.new ≡ row.old ++ slots.now }
 {
     for slot in slots {
@@ -46,7 +47,7 @@ fn put_out(
     requires plan { IsPlan plan.now }
     requires bucket { bucket < length tables.now.buckets }
     requires fits { scratch.old ≡ perms_of tables.now }
-    requires room { length out.old + room ≤ 32 }
+    requires room { length out.old + room ≤ SIZE_LIMIT }
     ensures value { out.new ≡ out.old ++ put_out tables.now weights.now (call_of plan.now) room bucket }
     ensures room { length (put_out tables.now weights.now (call_of plan.now) room bucket) ≤ room }
     ensures fits { scratch.new ≡ perms_of tables.now }
@@ -103,7 +104,7 @@ fn slot_out(
 )
     requires plan { IsPlan plan.now }
     requires fits { scratch.old ≡ perms_of tables.now }
-    requires room { length out.old + room ≤ 32 }
+    requires room { length out.old + room ≤ SIZE_LIMIT }
     ensures value { out.new ≡ out.old ++ slot_out tables.now weights.now (call_of plan.now) room slot }
     ensures room { length (slot_out tables.now weights.now (call_of plan.now) room slot) ≤ room }
     ensures fits { scratch.new ≡ perms_of tables.now }
@@ -129,7 +130,7 @@ pub(crate) fn step_out(
 )
     requires plan { IsPlan plan.now }
     requires fits { scratch.old ≡ perms_of tables.now }
-    requires size { size ≤ 32 }
+    requires size { size ≤ SIZE_LIMIT }
     requires empty { out.old ≡ [] }
     ensures value { out.new ≡ step_out tables.now weights.now (call_of plan.now) size working.now }
     ensures room { length out.new ≤ size }

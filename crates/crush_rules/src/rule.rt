@@ -8,7 +8,10 @@ ghost use Rattle.crush_rules.specs.Rules as spec;
 ghost use Rattle.crush_rules.specs.Rules.{CanRun, IsTrace, rule_answer, with_chosen};
 ghost use Rattle.crush_rules.specs.Stability.{AreLoweredOutside};
 ghost use Rattle.crush_rules.specs.Private.Runs.{AreSettings, IsPlan, IsRun, IsStep, call_of, no_step, settings_in, state_of};
+ghost use Rattle.crush_map.specs.declared.limits.TheConstants.{STEP_LIMIT};
+ghost use Rattle.crush_choose.specs.declared.limits.TheConstants.{SIZE_LIMIT};
 
+use crate::limits::TRACE_LIMIT;
 use crate::plan::{Plan, append, step_out};
 use crush_bucket::{Scratch, Tables};
 use crush_choose::{Row, Slot, Weights};
@@ -92,7 +95,7 @@ fn note_device(made: &mut Vec<u32>, item: ItemId)
 
 /// Appends slots to the answer until it has `size` slots.
 fn emit(emitted: &mut Row, working: &[Slot], size: u32)
-    requires size { size ≤ 32 }
+    requires size { size ≤ SIZE_LIMIT }
     requires room { length emitted.old ≤ size }
     ensures value { emitted.new ≡ emitted.old ++ take (size - length emitted.old) working.now }
     ensures room { length emitted.new ≤ size }
@@ -113,8 +116,8 @@ fn choose(
 )
     requires plan { IsPlan plan.now }
     requires fits { scratch.old ≡ perms_of tables.now }
-    requires size { size ≤ 32 }
-    requires few { k < 32 }
+    requires size { size ≤ SIZE_LIMIT }
+    requires few { k < STEP_LIMIT }
     requires run { IsRun size k run.old }
     ensures value { state_of run.new ≡ with_chosen (state_of run.old) (spec.step_out tables.now weights.now (call_of plan.now) size run.old.working) }
     ensures run { IsRun size (k + 1) run.new }
@@ -146,8 +149,8 @@ fn after_step(
     k: u32,
 )
     requires fits { scratch.old ≡ perms_of tables.now }
-    requires size { size ≤ 32 }
-    requires few { k < 32 }
+    requires size { size ≤ SIZE_LIMIT }
+    requires few { k < STEP_LIMIT }
     requires step { IsStep size step }
     requires run { IsRun size k run.old }
     ensures value { state_of run.new ≡ spec.after_step tables.now weights.now x size (state_of run.old) step }
@@ -205,7 +208,7 @@ fn after_step(
 /// Makes a run ready for its first step.
 fn start(tunables: Tunables, run: &mut Run)
     requires tunables { are_in_range tunables ≡ true }
-    requires capacity { 1024 ≤ vec_capacity run.old.made }
+    requires capacity { TRACE_LIMIT ≤ vec_capacity run.old.made }
     ensures value { state_of run.new ≡ spec.start tunables }
     ensures run { (size : ℕ) → IsRun size 0 run.new }
 {
@@ -243,14 +246,14 @@ fn take_steps(
 )
     requires fits { scratch.old ≡ perms_of tables.now }
     requires tunables { are_in_range tables.now.tunables ≡ true }
-    requires size { size ≤ 32 }
-    requires few { length steps.now ≤ 32 }
+    requires size { size ≤ SIZE_LIMIT }
+    requires few { length steps.now ≤ STEP_LIMIT }
     requires steps { (k : ℕ) → k < length steps.now → IsStep size (slice_index_or steps.now k no_step) }
-    requires capacity { 1024 ≤ vec_capacity run.old.made }
+    requires capacity { TRACE_LIMIT ≤ vec_capacity run.old.made }
     ensures items { run.new.emitted ≡ rule_answer tables.now weights.now steps.now x size }
     ensures room { length run.new.emitted ≤ size }
     ensures made { run.new.made.items ≡ (spec.after_rule tables.now weights.now steps.now x size).made }
-    ensures capacity { 1024 ≤ vec_capacity run.new.made }
+    ensures capacity { TRACE_LIMIT ≤ vec_capacity run.new.made }
     ensures fits { scratch.new ≡ perms_of tables.now }
 {
     start(tables.tunables(), run);
@@ -271,14 +274,14 @@ fn trace_steps(
 )
     requires fits { scratch.old ≡ perms_of tables.now }
     requires tunables { are_in_range tables.now.tunables ≡ true }
-    requires size { size ≤ 32 }
-    requires few { length steps.now ≤ 32 }
+    requires size { size ≤ SIZE_LIMIT }
+    requires few { length steps.now ≤ STEP_LIMIT }
     requires steps { (k : ℕ) → k < length steps.now → IsStep size (slice_index_or steps.now k no_step) }
-    requires capacity { 1024 ≤ vec_capacity run.old.made }
+    requires capacity { TRACE_LIMIT ≤ vec_capacity run.old.made }
     ensures items { run.new.emitted ≡ rule_answer tables.now weights.now steps.now x size }
     ensures room { length run.new.emitted ≤ size }
     ensures trace { IsTrace tables.now weights.now steps.now x size run.new.made.items }
-    ensures capacity { 1024 ≤ vec_capacity run.new.made }
+    ensures capacity { TRACE_LIMIT ≤ vec_capacity run.new.made }
     ensures fits { scratch.new ≡ perms_of tables.now }
 {
     take_steps(tables, scratch, steps, x, size, weights, run);
@@ -302,12 +305,13 @@ pub struct Out {
 impl Model for Out {
     ghost use Rattle.std.specs.Prelude.{◌≤◌, vec_capacity};
     ghost use Rattle.crush_rules.specs.Outs.{OutView};
+    ghost use Rattle.crush_rules.specs.declared.limits.TheConstants.{TRACE_LIMIT};
 
     ghost Value = { OutView };
 
     ghost view = { λ a. record { items = a.run.emitted; trace = a.run.made.items } };
 
-    ghost invariant = { λ a. 1024 ≤ vec_capacity a.run.made };
+    ghost invariant = { λ a. TRACE_LIMIT ≤ vec_capacity a.run.made };
 }
 
 impl Out {
@@ -318,7 +322,7 @@ impl Out {
         ensures items { IfOk result (λ out. out.items ≡ []) }
         ensures trace { IfOk result (λ out. out.trace ≡ []) }
     {
-        let made = Vec::with_capacity(alloc, 1024)?;
+        let made = Vec::with_capacity(alloc, TRACE_LIMIT)?;
         Ok(Out {
             run: Run {
                 settings: Settings {
@@ -337,7 +341,7 @@ impl Out {
     /// Returns the answer, in order; a slot of an indep step may be empty.
     pub fn items(&self) -> &[Slot]
         ensures value { result.now ≡ self.now.items }
-        ensures fits { length result.now ≤ 32 }
+        ensures fits { length result.now ≤ SIZE_LIMIT }
     {
         self.run.emitted.items()
     }
@@ -368,7 +372,7 @@ pub fn run_rule(
     requires rule { CanRun tables.now rule.now }
     requires fits { scratch.old ≡ perms_of tables.now }
     requires some { 1 ≤ size }
-    requires few { size ≤ 32 }
+    requires few { size ≤ SIZE_LIMIT }
     ensures items { out.new.items ≡ rule_answer tables.now weights.now rule.now.steps x size }
     ensures room { length out.new.items ≤ size }
     ensures trace { IsTrace tables.now weights.now rule.now.steps x size out.new.trace }
@@ -396,7 +400,7 @@ pub fn touches(
     requires rule { CanRun tables.now rule.now }
     requires fits { scratch.old ≡ perms_of tables.now }
     requires some { 1 ≤ size }
-    requires few { size ≤ 32 }
+    requires few { size ≤ SIZE_LIMIT }
     ensures touched { (trace : List ℕ) → IsTrace tables.now weights.now rule.now.steps x size trace → result ≡ has_number trace device }
     ensures items { out.new.items ≡ rule_answer tables.now weights.now rule.now.steps x size }
     ensures room { length out.new.items ≤ size }

@@ -9,6 +9,7 @@ use crate::drafts::{
 };
 use Kind::{List, Tree, Uniform};
 use crush_bucket::{Scratch, Tables};
+use crush_choose::limits::SIZE_LIMIT;
 use crush_choose::{Slot, Weights, is_in};
 use crush_map::{Bucket, CrushMap, ItemId, Kind, Listed, MapDraft, Rule, Step, Tunables};
 use crush_rules::{Out, laws, run_rule};
@@ -43,7 +44,7 @@ fn ask_all(
     requires rule { CanRun tables.now rule.now }
     requires fits { scratch.old ≡ perms_of tables.now }
     requires some { 1 ≤ size }
-    requires few { size ≤ 32 }
+    requires few { size ≤ SIZE_LIMIT }
 {
     let mut sum: u64 = 0;
     'inputs: for x in 0..inputs {
@@ -77,7 +78,7 @@ pub(crate) fn ask(
     inputs: u32,
     want: Wanted<'_>,
 ) -> Result<u64, Fail> {
-    assert!(rt; 1 <= size && size <= 32);
+    assert!(rt; 1 <= size && size <= SIZE_LIMIT as u32);
     let map = map_of(alloc, draft)?;
     let tables = Tables::build(alloc, &map)?;
     let mut scratch = Scratch::build(alloc, &tables)?;

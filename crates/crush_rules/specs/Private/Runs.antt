@@ -6,14 +6,17 @@ use Rattle.crush_rules.specs.declared.plan.Plan.{Plan}
 use Rattle.crush_rules.specs.declared.rule.Settings as kept
 use Rattle.crush_rules.specs.declared.rule.Run.{Run}
 use Rattle.crush_rules.specs.Rules.{ChooseCall, Settings, Running, reps}
+use Rattle.crush_map.specs.declared.limits.TheConstants.{TRIES_LIMIT, COUNT_LIMIT, VARY_R_LIMIT}
+use Rattle.crush_choose.specs.declared.limits.TheConstants.{SIZE_LIMIT}
+use Rattle.crush_rules.specs.declared.limits.TheConstants.{TRACE_LIMIT}
 
 -- a plan in range
 pub record IsPlan (p : Plan) : Type 0 where
-  pub reps : p.numrep ≤ 64
+  pub reps : p.numrep ≤ COUNT_LIMIT
   pub some_tries : 1 ≤ p.tries
-  pub few_tries : p.tries ≤ 1000
-  pub leaf_tries : p.leaf_tries ≤ 1000
-  pub vary_r : p.vary_r ≤ 8
+  pub few_tries : p.tries ≤ TRIES_LIMIT
+  pub leaf_tries : p.leaf_tries ≤ TRIES_LIMIT
+  pub vary_r : p.vary_r ≤ VARY_R_LIMIT
   pub stable : p.stable ≤ 1
   pub above_leaves : p.firstn ≡ false → p.wanted ≡ 0 → p.leaf_tries ≡ 0
 
@@ -25,9 +28,9 @@ call_of p =
 -- settings in range
 pub record AreSettings (s : kept.Settings) : Type 0 where
   pub some_tries : 1 ≤ s.tries
-  pub few_tries : s.tries ≤ 1000
-  pub leaf_tries : s.leaf_tries ≤ 1000
-  pub vary_r : s.vary_r ≤ 8
+  pub few_tries : s.tries ≤ TRIES_LIMIT
+  pub leaf_tries : s.leaf_tries ≤ TRIES_LIMIT
+  pub vary_r : s.vary_r ≤ VARY_R_LIMIT
   pub stable : s.stable ≤ 1
 
 -- the definitions' settings of kept ones
@@ -41,20 +44,20 @@ state_of r = record { settings = settings_in r.settings; working = r.working; em
 pub record IsRun (size k : ℕ) (r : Run) : Type 0 where
   pub settings : AreSettings r.settings
   pub emitted : length r.emitted ≤ size
-  pub made : vec_len r.made ≤ 32 * k
-  pub capacity : 1024 ≤ vec_capacity r.made
+  pub made : vec_len r.made ≤ SIZE_LIMIT * k
+  pub capacity : TRACE_LIMIT ≤ vec_capacity r.made
 
 -- a choose step in range
 pub record IsChoose (size : ℕ) (by_firstn leaf : Bool) (numrep wanted : ℕ) : Type 0 where
-  pub reps : numrep ≤ 64
+  pub reps : numrep ≤ COUNT_LIMIT
   pub above_leaves : by_firstn ≡ false → wanted ≡ 0 → leaf ≡ false
 
 -- a step in range
 abbrev pub IsStep : ℕ → Step → Type 0
 IsStep size (Take item) = Unit {0}
-IsStep size (SetChooseTries n) = n ≤ 1000
-IsStep size (SetLeafTries n) = n ≤ 1000
-IsStep size (SetVaryR n) = n ≤ 8
+IsStep size (SetChooseTries n) = n ≤ TRIES_LIMIT
+IsStep size (SetLeafTries n) = n ≤ TRIES_LIMIT
+IsStep size (SetVaryR n) = n ≤ VARY_R_LIMIT
 IsStep size (SetStable n) = n ≤ 1
 IsStep size (Choose by_firstn leaf n wanted) = IsChoose size by_firstn leaf (reps n size) wanted
 IsStep size Emit = Unit {0}

@@ -3,9 +3,10 @@ use Rattle.std.proofs.lemmas.List.{take-replicate}
 use Rattle.crush_choose.specs.Marks.{item_at, leaf_at}
 use Rattle.crush_choose.proofs.Answering.{indep_is, indep_rows}
 use Rattle.crush_choose.proofs.indep.choose_indep.Goals as goal
+use Rattle.crush_choose.specs.declared.limits.TheConstants.{SIZE_LIMIT}
 
 pub run_rounds-requires-clause-places : goal.run_rounds-requires-clause-places
-run_rounds-requires-clause-places c = take-replicate c.args.call.now.n 32 None (omega arith)
+run_rounds-requires-clause-places c = take-replicate c.args.call.now.n SIZE_LIMIT None (omega arith)
 
 pub returns-clause-there : goal.returns-clause-there
 returns-clause-there c = indep_is c.args.tables.now c.args.weights.now c.args.call.now
