@@ -4,6 +4,7 @@ use Rattle.std.specs.List.{AllPairs, list_any, list_all}
 use Rattle.serde_json.specs.Data.{Data, object}
 use Rattle.serde_json.specs.Find.{as_bool}
 use Rattle.crush_choose.specs.Weights.{reweight_of}
+use Rattle.crush_choose.specs.declared.weights.TheConstants.{FULL}
 use Rattle.crush_map.specs.Map.{Map}
 use Rattle.crush_map.specs.declared.limits.TheConstants.{NUMBER_LIMIT}
 use Rattle.crush_pool.specs.Changes.{are_valid_changes}
@@ -22,12 +23,12 @@ use Rattle.tenant_state.specs.State.{TenantState, NewStates, epoch, newest, vers
 
 -- ---- the form of a body, and the changes that it says
 
--- {"id": 0..NUMBER_LIMIT}, with "reweight": 0..65536, or "up": true or false, or both; what is missing
--- stays
+-- {"id": 0..NUMBER_LIMIT}, with "reweight": 0..FULL, or "up": true or false, or both; what is
+-- missing stays
 pub record IsChange (d : Data) (c : DeviceChange) : Type 0 where
   pub keys : HasExactly (if_any (codes "reweight") c.reweight ++ if_any (codes "up") c.up ++ codes "id" ∷ []) d
   pub device : IsUnder (codes "id") (IsNatural NUMBER_LIMIT) d c.device
-  pub reweight : IsOptional (codes "reweight") (IsNatural 65536) d c.reweight
+  pub reweight : IsOptional (codes "reweight") (IsNatural FULL) d c.reweight
   pub up : IsOptional (codes "up") IsBoolean d c.up
   pub some : (is_some c.reweight || is_some c.up) ≡ true
 
@@ -54,7 +55,7 @@ abbrev pub change_of : Data → Option DeviceChange
 change_of d =
     if has_keys (present (codes "reweight") d + (present (codes "up") d + 1)) d then
     option_and_then if_any_change (both change_with (under (codes "id") (natural_of NUMBER_LIMIT) d)
-    (both (λ reweight up. (reweight, up)) (optional (codes "reweight") (natural_of 65536) d) (optional (codes "up") as_bool d))) else None
+    (both (λ reweight up. (reweight, up)) (optional (codes "reweight") (natural_of FULL) d) (optional (codes "up") as_bool d))) else None
 
 abbrev pub if_valid : List ℕ × List DeviceChange → Option (List ℕ × List DeviceChange)
 if_valid asked = if are_valid_changes asked.1 then Some asked else None

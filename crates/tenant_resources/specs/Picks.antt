@@ -27,9 +27,9 @@ pub record IsItem (d : Data) (e : WeightedItem) : Type 0 where
   pub item : IsUnder (codes "item") (IsInteger (negsuc NUMBER_LIMIT) (pos NUMBER_LIMIT)) d e.0.0
   pub weight : IsUnder (codes "weight") (IsNatural 4294967295) d e.1.0
 
--- {"id": -1 - NUMBER_LIMIT..-1, "items": [ITEM, ..], "kind": "uniform", "list" or "tree"}: 1 to ITEM_LIMIT distinct
--- items other than the bucket, whose weights have a sum of at most 2^32 - 1, and are equal in a
--- uniform bucket
+-- {"id": -1 - NUMBER_LIMIT..-1, "items": [ITEM, ..], "kind": "uniform", "list" or "tree"}: 1 to
+-- ITEM_LIMIT distinct items other than the bucket, whose weights have a sum of at most
+-- TOTAL_WEIGHT_LIMIT, and are equal in a uniform bucket
 pub record IsBucket (d : Data) (b : BucketView) : Type 0 where
   pub keys : HasExactly (codes "id" ∷ codes "items" ∷ codes "kind" ∷ []) d
   pub id : IsUnder (codes "id") (IsInteger (negsuc NUMBER_LIMIT) (negsuc 0)) d b.id.0
@@ -75,8 +75,8 @@ are_distinct (e ∷ es) = not (list_any (is_of_item e.0.0) es) && are_distinct e
 abbrev pub kind_of : Data → Option Kind
 kind_of d = option_and_then kind_named (as_str d)
 
--- 1 to ITEM_LIMIT distinct items other than the bucket, whose weights have a sum below 2^32, and are
--- equal in a uniform bucket
+-- 1 to ITEM_LIMIT distinct items other than the bucket, whose weights have a sum of at most
+-- TOTAL_WEIGHT_LIMIT, and are equal in a uniform bucket
 abbrev pub is_valid : BucketView → Bool
 is_valid b =
     nat_lt 0 (length b.items) && nat_le (length b.items) ITEM_LIMIT && nat_le (total_weight b.items) TOTAL_WEIGHT_LIMIT

@@ -7,6 +7,7 @@ use Rattle.crush_choose.specs.Marks.{Slot}
 use Rattle.crush_rules.specs.Rules.{rule_answer}
 use Rattle.crush_rules.specs.Trace.{rule_trace}
 use Rattle.crush_choose.specs.Weights.{weights_of}
+use Rattle.crush_choose.specs.declared.limits.TheConstants.{SIZE_LIMIT}
 use Rattle.crush_map.specs.Map.{Map}
 use Rattle.crush_map.specs.declared.limits.TheConstants.{RULE_ID_LIMIT}
 use Rattle.crush_map.specs.declared.draft.Rule.{Rule}
@@ -29,11 +30,12 @@ pub record RuleTest : Type 0 where
 
 -- ---- the form of a body, and the test that it says
 
--- {"rule": 0..RULE_ID_LIMIT, "size": 1..32, "x": 0..4294967295}, and if need be "version": 0..4294967295
+-- {"rule": 0..RULE_ID_LIMIT, "size": 1..SIZE_LIMIT, "x": 0..4294967295}, and if need be "version":
+-- 0..4294967295
 pub record IsTestBody (d : Data) (t : RuleTest) : Type 0 where
   pub keys : HasExactly (if_any (codes "version") t.version ++ codes "rule" ∷ codes "size" ∷ codes "x" ∷ []) d
   pub rule : IsUnder (codes "rule") (IsNatural RULE_ID_LIMIT) d t.rule
-  pub size : IsUnder (codes "size") (IsNatural 32) d t.size
+  pub size : IsUnder (codes "size") (IsNatural SIZE_LIMIT) d t.size
   pub some : 1 ≤ t.size
   pub x : IsUnder (codes "x") (IsNatural 4294967295) d t.x
   pub version : IsOptional (codes "version") (IsNatural 4294967295) d t.version
@@ -52,7 +54,7 @@ abbrev pub test_of : Data → Option RuleTest
 test_of d =
     if has_keys (present (codes "version") d + 3) d then
     option_and_then if_some (both test_with
-    (both (λ rule size. (rule, size)) (under (codes "rule") (natural_of RULE_ID_LIMIT) d) (under (codes "size") (natural_of 32) d))
+    (both (λ rule size. (rule, size)) (under (codes "rule") (natural_of RULE_ID_LIMIT) d) (under (codes "size") (natural_of SIZE_LIMIT) d))
     (both (λ x version. (x, version)) (under (codes "x") (natural_of 4294967295) d) (optional (codes "version") (natural_of 4294967295) d))) else None
 
 abbrev pub test_request_of : List ℕ → Option RuleTest

@@ -13,6 +13,7 @@ ghost use Rattle.tenant_resources.specs.Devices as spec;
 ghost use Rattle.tenant_resources.specs.Orders.{accepted_of};
 
 use crate::accepted::Accepted;
+use crush_choose::FULL;
 use crush_map::limits::NUMBER_LIMIT;
 use crush_map::{Listed, Text};
 use crush_pool::{DeviceChange, DeviceState, are_valid_changes};
@@ -43,7 +44,7 @@ fn change(value: &Value) -> Option<DeviceChange>
         return None;
     }
     let device = natural(value, "id", NUMBER_LIMIT)?;
-    let reweight = optional_natural(value, "reweight", 65_536)?;
+    let reweight = optional_natural(value, "reweight", FULL)?;
     let up = optional_boolean(value, "up")?;
     if reweight.is_none() && up.is_none() {
         return None;

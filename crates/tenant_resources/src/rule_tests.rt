@@ -11,6 +11,7 @@ ghost use Rattle.tenant_messages.specs.Refusals.{Answers};
 ghost use Rattle.tenant_resources.specs.RuleTests as spec;
 
 use crush_bucket::Scratch;
+use crush_choose::limits::SIZE_LIMIT;
 use crush_choose::{Slot, Weights};
 use crush_map::Rule;
 use crush_map::limits::RULE_ID_LIMIT;
@@ -37,6 +38,7 @@ pub struct RuleTest {
 
 impl Model for RuleTest {
     ghost use Rattle.std.specs.Prelude.{◌≤◌};
+    ghost use Rattle.crush_choose.specs.declared.limits.TheConstants.{SIZE_LIMIT}
     ghost use Rattle.tenant_resources.specs.RuleTests.{RuleTest};
 
     ghost Value = { RuleTest };
@@ -45,7 +47,7 @@ impl Model for RuleTest {
 
     ghost invariant = { λ a. record {
       some : 1 ≤ a.size;
-      few : a.size ≤ 32;
+      few : a.size ≤ SIZE_LIMIT;
     } };
 }
 
@@ -60,7 +62,7 @@ fn test(value: &Value) -> Option<RuleTest>
         return None;
     }
     let rule = natural(value, "rule", RULE_ID_LIMIT)?;
-    let size = natural(value, "size", 32)?;
+    let size = natural(value, "size", SIZE_LIMIT as u32)?;
     let x = natural(value, "x", 4_294_967_295)?;
     let version = optional_natural(value, "version", 4_294_967_295)?;
     if size == 0 {
