@@ -30,6 +30,7 @@ pub struct ObjectName {
 
 impl Model for ObjectName {
     ghost use Rattle.std.specs.Prelude.{List, ℕ, ◌≤◌, length};
+    ghost use Rattle.tenant_resources.specs.declared.limits.TheConstants.{OBJECT_NAME_LIMIT};
 
     ghost Value = { List ℕ };
 
@@ -40,6 +41,7 @@ impl Model for ObjectName {
 
 impl ObjectName {
     ghost use Rattle.std.specs.Prelude.{◌≡◌, ◌≤◌, length};
+    ghost use Rattle.tenant_resources.specs.declared.limits.TheConstants.{OBJECT_NAME_LIMIT};
 
     /// The name.
     pub fn as_str(&self) -> &str
