@@ -6,6 +6,7 @@ use Rattle.std.proofs.lemmas.Bool.Decides.{nat_tests, Decides-and, Decides-by_an
 use Rattle.std.proofs.lemmas.List.Kept.{AllPairs-cons}
 use Rattle.crush_pool.specs.Changes.{is_of_device, are_distinct, are_valid_changes}
 use Rattle.crush_pool.specs.declared.changes.DeviceChange.{DeviceChange}
+use Rattle.crush_pool.specs.declared.limits.TheConstants.{CHANGE_LIMIT}
 
 Decides-leb : (a b : ℕ) → Decides (nat_le a b) (a ≤ b)
 Decides-leb a b = (λ h. grind (arith, nat_tests), λ h. grind (arith, nat_tests))
@@ -37,12 +38,12 @@ Decides-distinct (c ∷ cs) =
 
 pub record AreValidChanges (cs : List DeviceChange) : Type 0 where
   pub some : 1 ≤ length cs
-  pub few : length cs ≤ 1024
+  pub few : length cs ≤ CHANGE_LIMIT
   pub distinct : AllPairs Differ cs
 
 pub Decides-are_valid_changes : (cs : List DeviceChange) → Decides (are_valid_changes cs) (AreValidChanges cs)
 Decides-are_valid_changes cs =
     Decides-like (are_valid_changes cs) (λ is. record { some = is.0.0; few = is.0.1; distinct = is.1 }) (λ is. ((is.some, is.few), is.distinct))
     (Decides-and _ (are_distinct cs)
-    (Decides-and (nat_le 1 (length cs)) (nat_le (length cs) 1024) (Decides-leb 1 (length cs)) (Decides-leb (length cs) 1024))
+    (Decides-and (nat_le 1 (length cs)) (nat_le (length cs) CHANGE_LIMIT) (Decides-leb 1 (length cs)) (Decides-leb (length cs) CHANGE_LIMIT))
     (Decides-distinct cs))

@@ -1,4 +1,5 @@
--- Which of b groups a number falls into (`ceph_stable_mod` of Ceph's `include/rados.h`, and `pg_pool_t::calc_pg_masks`).
+-- Which of b groups a number falls into (`ceph_stable_mod` of Ceph's `include/rados.h`, and
+-- `pg_pool_t::calc_pg_masks`).
 use Rattle.std.specs.Prelude.{ℕ, ◌-◌, ◌/◌, ◌^◌, nat_lt, if◌then◌else◌}
 use Rattle.std.specs.Int.Bits.{bit_and}
 use Rattle.crush_bucket.specs.Kinds.{height_of}

@@ -1,4 +1,5 @@
--- The devices of a group (`OSDMap::_pg_to_raw_osds`, `_raw_to_up_osds` and `_pick_primary` of Ceph's `osd/OSDMap.cc`).
+-- The devices of a group (`OSDMap::_pg_to_raw_osds`, `_raw_to_up_osds` and `_pick_primary` of
+-- Ceph's `osd/OSDMap.cc`).
 use Rattle.std.specs.Prelude.{ℕ, ℤ, pos, negsuc, ◌==◌, Bool, true, false, List, [], ◌∷◌, map, filter, find, Option, Some, None, option_map, if◌then◌else◌}
 use Rattle.crush_map.specs.declared.draft.Rule.{Rule}
 use Rattle.crush_map.specs.declared.draft.Step.{Step}
@@ -27,7 +28,8 @@ is_up_slot flags (Some item) = id_is_up flags item.0
 abbrev pub if_up : List Bool → Slot → Slot
 if_up flags slot = if is_up_slot flags slot then slot else None
 
--- in a replicated pool what is no device that is up is left out; in an erasure pool it becomes none, since each place has its own part of the data
+-- in a replicated pool what is no device that is up is left out; in an erasure pool it becomes
+-- none, since each place has its own part of the data
 abbrev pub up_of : Bool → List Bool → List Slot → List Slot
 up_of false flags raw = filter (is_up_slot flags) raw
 up_of true flags raw = map (if_up flags) raw
@@ -51,7 +53,8 @@ placed t w flags steps p group =
 abbrev pub rule_numbered : Map → ℕ → Option Rule
 rule_numbered m id = find (λ r. r.id == id) m.rules
 
--- the placement of a group of a pool on a map, with these states of devices; none where the map lacks the pool's rule
+-- the placement of a group of a pool on a map, with these states of devices; none where the map
+-- lacks the pool's rule
 abbrev pub placement : Map → List DeviceState → PoolParts → ℕ → Option Placement
 placement m states p group =
     option_map (λ r. placed (tables_of m) (weights_of (reweights states)) (flags_of states) r.steps p group) (rule_numbered m p.rule)

@@ -2,26 +2,17 @@
 use Rattle.std.specs.Prelude.{ℕ, ◌+◌, ◌%◌, ◌^◌, ◌&&◌, nat_le, Bool, List, if◌then◌else◌}
 use Rattle.crush_hash.specs.Hash.{hash2, name_hash}
 use Rattle.crush_map.specs.Faults.{is_name}
+use Rattle.crush_map.specs.declared.limits.TheConstants.{RULE_ID_LIMIT}
 use Rattle.crush_pool.specs.Groups.{mask_of, stable_mod}
+use Rattle.crush_pool.specs.declared.limits.TheConstants.{GROUP_LIMIT, POOL_ID_LIMIT, SIZE_LIMIT}
 use Rattle.crush_pool.specs.declared.pool.PoolParts.{PoolParts}
 
-abbrev pub id_limit : ℕ
-id_limit = 2147483647
-
-abbrev pub size_limit : ℕ
-size_limit = 32
-
-abbrev pub rule_limit : ℕ
-rule_limit = 255
-
-abbrev pub group_limit : ℕ
-group_limit = 65536
-
--- the numbers and the name of a pool are in their ranges; a group's seed takes no more values than there are groups
+-- the numbers and the name of a pool are in their ranges; a group's seed takes no more values than
+-- there are groups
 abbrev pub is_pool : PoolParts → Bool
 is_pool p =
-    nat_le 1 p.id && nat_le p.id id_limit && is_name p.name && nat_le 1 p.size && nat_le p.size size_limit && nat_le p.rule rule_limit
-    && nat_le 1 p.pg_num && nat_le p.pg_num group_limit && nat_le 1 p.pgp_num && nat_le p.pgp_num p.pg_num
+    nat_le 1 p.id && nat_le p.id POOL_ID_LIMIT && is_name p.name && nat_le 1 p.size && nat_le p.size SIZE_LIMIT && nat_le p.rule RULE_ID_LIMIT
+    && nat_le 1 p.pg_num && nat_le p.pg_num GROUP_LIMIT && nat_le 1 p.pgp_num && nat_le p.pgp_num p.pg_num
 
 -- the group of the object with a name
 abbrev pub group_of : PoolParts → List ℕ → ℕ

@@ -1,12 +1,14 @@
-//! Pools and placements: from an object's name to its group, and from a group to its devices; states
-//! of devices, and what changes them.
+//! Pools and placements: the group of an object's name, and the devices of a group. States of
+//! devices, and changes of them.
 //!
-//! Source: Ceph's `osd/osd_types.cc`, `osd/OSDMap.cc` and `include/rados.h`. Its tests are in the crate `pool_tests`.
+//! Source: Ceph's `osd/osd_types.cc`, `osd/OSDMap.cc` and `include/rados.h`. The tests are in the
+//! crate `pool_tests`.
 #![tactic(auto)]
 
 mod changes;
 mod group;
 pub mod laws;
+pub mod limits;
 mod placer;
 mod placing;
 mod pool;
@@ -15,6 +17,6 @@ mod states;
 pub use changes::{DeviceChange, are_valid_changes};
 pub use group::{mask_of, stable_mod};
 pub use placer::Placer;
-pub use placing::{Placement, place, primary_of, rule_with_id};
+pub use placing::{Placement, is_up_slot, place, primary_of, rule_with_id};
 pub use pool::{Pool, PoolFault, PoolParts};
 pub use states::{DeviceState, DeviceStates, reweights_of};

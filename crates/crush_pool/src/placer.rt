@@ -6,18 +6,18 @@ ghost use Rattle.crush_choose.specs.Weights.{weights_of};
 ghost use Rattle.crush_pool.specs.Placements.{rule_numbered};
 ghost use Rattle.crush_pool.specs.States.{flags_of, reweights};
 
-use crate::placing::{Placement, placement_by, rule_with_id, run, up_into};
+use crate::placing::{Placement, placement_by, rule_with_id, run};
 use crate::pool::Pool;
 use crate::states::{DeviceState, DeviceStates};
 use crush_bucket::{Scratch, Tables};
-use crush_choose::{Slot, Weights};
+use crush_choose::Weights;
 use crush_map::{CrushMap, Rule};
 use crush_rules::Out;
 use std::alloc::{AllocError, Global};
 use std::marker::Model;
 
-/// A pool on a map that has the pool's rule, with states of devices: all that it takes to place the
-/// pool's groups. Contracts see the map, the states and the pool.
+/// A pool on a map that has the pool's rule, with states of devices: all that is needed to place
+/// the pool's groups. Contracts see the map, the states and the pool.
 #[derive(Drop)]
 pub struct Placer<'a> {
     map: &'a CrushMap,
@@ -52,20 +52,20 @@ impl<'a> Model for Placer<'a> {
 }
 
 impl<'a> Placer<'a> {
-    ghost use Rattle.std.specs.Prelude.{◌≡◌, ◌<◌, Some, IfOk, OnOk, is_some, true, option_map};
+    ghost use Rattle.std.specs.Prelude.{◌≡◌, ◌<◌, Some, IfOk, is_some, true, option_map};
     ghost use Rattle.crush_bucket.specs.Tables.{perms_of, tables_of};
     ghost use Rattle.crush_rules.specs.Rules.{IsTrace, rule_answer};
     ghost use Rattle.crush_choose.specs.Weights.{weights_of};
-    ghost use Rattle.crush_pool.specs.Placements.{placement, rule_numbered, up_of};
+    ghost use Rattle.crush_pool.specs.Placements.{placement, rule_numbered};
     ghost use Rattle.crush_pool.specs.Placers.{steps_of};
     ghost use Rattle.crush_pool.specs.Pools.{seed_of};
     ghost use Rattle.crush_pool.specs.States.{flags_of, reweights};
 
-    /// The pool on the map, with these states of devices; none exactly where the map lacks the
+    /// The pool on the map, with these states of devices; `None` exactly where the map lacks the
     /// pool's rule.
     ///
-    /// The tables are those of the map, the weights those of the states' reweights, and the flags
-    /// the up and down of the states.
+    /// The tables are those of the map, the weights are the reweights of the states, and the flags
+    /// say which devices are up by the states.
     pub fn new(
         map: &'a CrushMap,
         tables: &'a Tables,
@@ -113,8 +113,15 @@ impl<'a> Placer<'a> {
         self.pool
     }
 
-    /// Runs the pool's rule for a group: sets `out` to its answer and to the trace of the run. It
-    /// takes no memory.
+    /// The flags of the states: which devices are up.
+    pub fn flags(&self) -> &'a DeviceStates
+        ensures { result.now ≡ flags_of self.now.states }
+    {
+        self.flags
+    }
+
+    /// Runs the pool's rule for a group: sets `out` to its answer and to the trace of the run.
+    /// Allocates nothing.
     pub fn run(&self, scratch: &mut Scratch, out: &mut Out, group: u32)
         requires fits { scratch.old ≡ perms_of (tables_of self.now.map) }
         ensures items { out.new.items ≡ rule_answer (tables_of self.now.map) (weights_of (reweights self.now.states)) (steps_of self.now) (seed_of self.now.pool group) self.now.pool.size }
@@ -132,16 +139,8 @@ impl<'a> Placer<'a> {
         );
     }
 
-    /// Makes `up` the up list of a group of the pool, from what the rule answered for it.
-    pub fn up_into(&self, out: &Out, up: &mut Vec<Slot>) -> Result<(), AllocError>
-        ensures { OnOk result (up.new.items ≡ up_of self.now.pool.erasure (flags_of self.now.states) out.now.items) }
-    {
-        up_into(self.pool.parts().erasure, self.flags, out.items(), up)?;
-        Ok(())
-    }
-
-    /// The placement of a group of the pool. `out` has the rule's answer and the trace of its run
-    /// afterwards.
+    /// The placement of a group of the pool. Afterwards `out` has the rule's answer and the trace of
+    /// its run. `Err(AllocError)`: an allocation failed; `out` must not be used any more.
     pub fn place_with(
         &self,
         alloc: Global,

@@ -1,6 +1,6 @@
 //! Placements: the devices of a group.
 
-ghost use Rattle.std.specs.Prelude.{◌≡◌, ◌<◌, ◌≤◌, List, Some, IfOk, IfErr, IfSome, OnOk, is_ok, nat_lt, length, option_map};
+ghost use Rattle.std.specs.Prelude.{◌≡◌, ◌<◌, ◌≤◌, List, Some, IfOk, IfErr, IfSome, is_ok, nat_lt, length, option_map};
 ghost use Rattle.crush_map.specs.Map.{Map};
 ghost use Rattle.crush_bucket.specs.Tables.{perms_of, tables_of};
 ghost use Rattle.crush_rules.specs.Rules.{CanRun, IsTrace, rule_answer};
@@ -22,17 +22,18 @@ use std::alloc::{AllocError, Global};
 /// The placement of a group.
 #[derive(Drop)]
 pub struct Placement {
-    /// The input with which the rule ran.
+    /// The input x with which the rule ran.
     pub seed: u32,
     /// What the rule answered.
     pub raw: Listed<Slot>,
-    /// The devices of it that are up, in order; in an erasure pool none stands for each other entry.
+    /// The devices of `raw` that are up, in order. In an erasure pool each other entry of `raw` is
+    /// `None` here.
     pub up: Listed<Slot>,
-    /// The first device of `up`.
+    /// The first device of `up`; `None` where there is none.
     pub primary: Slot,
 }
 
-/// The rule of a map with an id.
+/// The rule of a map with this id; `None` where the map has no such rule.
 pub fn rule_with_id(map: &CrushMap, id: u32) -> Option<&Rule>
     ensures value { option_map (λ r. r.now) result ≡ spec.rule_numbered map.now id }
     ensures runs { IfSome result (λ r. CanRun (tables_of map.now) r.now) }
@@ -42,7 +43,7 @@ pub fn rule_with_id(map: &CrushMap, id: u32) -> Option<&Rule>
 }
 
 /// Whether a slot has a device that is up.
-fn is_up(states: &DeviceStates, slot: Slot) -> bool
+pub fn is_up_slot(states: &DeviceStates, slot: Slot) -> bool
     ensures { result ≡ spec.is_up_slot states.now slot }
 {
     match slot {
@@ -51,27 +52,27 @@ fn is_up(states: &DeviceStates, slot: Slot) -> bool
     }
 }
 
-/// Makes `up` the up list of a replicated or an erasure pool.
-pub(crate) fn up_into(
+/// The up list of a replicated or an erasure pool, by what the rule answered.
+fn up_of(
+    alloc: Global,
     erasure: bool,
     states: &DeviceStates,
     raw: &[Slot],
-    up: &mut Vec<Slot>,
-) -> Result<(), AllocError>
-    ensures { OnOk result (up.new.items ≡ spec.up_of erasure states.now raw.now) }
+) -> Result<Vec<Slot>, AllocError>
+    ensures { IfOk result (λ up. up.items ≡ spec.up_of erasure states.now raw.now) }
 {
-    up.clear();
+    let mut up = Vec::with_capacity(alloc, raw.len())?;
     for slot in raw {
-        if is_up(states, *slot) {
+        if is_up_slot(states, *slot) {
             up.push(*slot)?;
         } else if erasure {
             up.push(None)?;
         }
     }
-    Ok(())
+    Ok(up)
 }
 
-/// The first slot that isn't empty.
+/// The first device of an up list; `None` where there is none.
 pub fn primary_of(up: &[Slot]) -> Slot
     ensures { result ≡ spec.primary_of up.now }
 {
@@ -94,9 +95,7 @@ fn copied(alloc: Global, slots: &[Slot]) -> Result<Vec<Slot>, AllocError>
     Ok(copy)
 }
 
-/// Runs the rule of a pool for a group: sets `out` to its answer and to the trace of the run.
-///
-/// The rule is the one of the map that the pool names.
+/// Runs a rule for a group of a pool: sets `out` to its answer and to the trace of the run.
 pub(crate) fn run(
     tables: &Tables,
     scratch: &mut Scratch,
@@ -131,8 +130,7 @@ pub(crate) fn placement_by(
     ensures primary { IfOk result (λ p. p.primary ≡ spec.primary_of p.up) }
 {
     let raw = copied(alloc, out.items())?;
-    let mut up = Vec::with_capacity(alloc, raw.len())?;
-    up_into(pool.parts().erasure, states, &raw, &mut up)?;
+    let up = up_of(alloc, pool.parts().erasure, states, &raw)?;
     let primary = primary_of(&up);
     Ok(Placement {
         seed: pool.seed_of(group),
@@ -142,7 +140,8 @@ pub(crate) fn placement_by(
     })
 }
 
-/// The placement of a group, or `P2` where the pool has no such group.
+/// The placement of a group, or `P2` where the pool has no such group. `Err(AllocError)`: an
+/// allocation failed; nothing is changed.
 #[tactic(auto, unfolding(crate::specs::Placements::placed))]
 pub fn place(
     alloc: Global,

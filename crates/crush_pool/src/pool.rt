@@ -1,11 +1,13 @@
-//! Pools: each value of the type is valid.
+//! Pools: each `Pool` has a name and numbers that are in range.
 
 ghost use Rattle.std.specs.Prelude.{◌≡◌, ◌<◌, ◌^◌, true, false, IfOk, IfErr, length, is_ok};
 ghost use Rattle.crush_pool.specs.Pools as spec;
 
 use crate::group::{mask_of, stable_mod};
 use crate::laws::numbers_fall_into_groups;
+use crate::limits::{GROUP_LIMIT, POOL_ID_LIMIT, SIZE_LIMIT};
 use crush_hash::{hash2, name_hash};
+use crush_map::limits::RULE_ID_LIMIT;
 use crush_map::{Text, is_name};
 use std::marker::Model;
 
@@ -18,28 +20,28 @@ pub enum PoolFault {
     P2,
 }
 
-/// What makes a pool.
+/// The settings of a pool.
 #[derive(Drop)]
 pub struct PoolParts {
-    /// 1..2147483647.
+    /// Its id, 1..`POOL_ID_LIMIT`.
     pub id: u32,
-    /// 1 to 64 ASCII letters, digits, `-`, `_` and `.`.
+    /// Its name: 1 to 64 ASCII letters, digits, `-`, `_` and `.`.
     pub name: Text,
     /// Whether its data is erasure coded; else it is replicated.
     pub erasure: bool,
-    /// How many devices a group has, 1..32.
+    /// How many devices a group has, 1..`SIZE_LIMIT`.
     pub size: u32,
-    /// The id of its rule, 0..255.
+    /// The id of its rule, 0..`RULE_ID_LIMIT`.
     pub rule: u32,
-    /// How many groups the pool has, 1..65536.
+    /// How many groups the pool has, 1..`GROUP_LIMIT`.
     pub pg_num: u32,
-    /// How many places its groups take, 1..pg_num.
+    /// How many places its groups take, 1..`pg_num`.
     pub pgp_num: u32,
-    /// Whether a group's seed is a hash of its place and the pool's id; else it is their sum.
+    /// Whether a group's seed is the hash of its place and the pool's id; else it is their sum.
     pub hashpspool: bool,
 }
 
-/// A pool whose numbers and name are in range. Contracts see its parts.
+/// A pool whose numbers and name are in range. Contracts see its settings.
 #[derive(Drop)]
 pub struct Pool {
     parts: PoolParts,
@@ -57,32 +59,20 @@ impl Model for Pool {
     ghost invariant = { λ a. is_pool a.parts ≡ true };
 }
 
-/// The greatest id of a pool.
-const ID_LIMIT: u32 = 2_147_483_647;
-
-/// The most devices of a group.
-const SIZE_LIMIT: u32 = 32;
-
-/// The greatest id of a rule.
-const RULE_LIMIT: u32 = 255;
-
-/// The most groups of a pool.
-const GROUP_LIMIT: u32 = 65_536;
-
 /// Whether the numbers and the name are in range.
 fn is_pool(parts: &PoolParts) -> bool
     ensures { result ≡ spec.is_pool parts.now }
 {
-    (1..=ID_LIMIT).contains(&parts.id)
+    (1..=POOL_ID_LIMIT).contains(&parts.id)
         && is_name(parts.name.as_str())
         && (1..=SIZE_LIMIT).contains(&parts.size)
-        && parts.rule <= RULE_LIMIT
+        && parts.rule <= RULE_ID_LIMIT
         && (1..=GROUP_LIMIT).contains(&parts.pg_num)
         && (1..=parts.pg_num).contains(&parts.pgp_num)
 }
 
 impl Pool {
-    /// The pool of these parts, or `P1` where a number or the name is out of range.
+    /// The pool with these settings, or `P1` where a number or the name is out of range.
     pub fn new(parts: PoolParts) -> Result<Pool, PoolFault>
         ensures there { is_ok result ≡ spec.is_pool parts }
         ensures pool { IfOk result (λ pool. pool ≡ parts) }
@@ -95,7 +85,7 @@ impl Pool {
         }
     }
 
-    /// Its parts, which are in range.
+    /// Its settings, which are in range.
     pub fn parts(&self) -> &PoolParts
         ensures same { result.now ≡ self.now }
         ensures valid { spec.is_pool self.now ≡ true }
@@ -103,7 +93,8 @@ impl Pool {
         &self.parts
     }
 
-    /// The group of the object with this name, of fewer than 2^32 bytes (`object_locator_to_pg` of Ceph).
+    /// The group of the object with this name, which has fewer than 2^32 bytes
+    /// (`object_locator_to_pg` of Ceph).
     pub fn group_of(&self, name: &[u8]) -> u32
         requires { length name.now < 2 ^ 32 }
         ensures value { result ≡ spec.group_of self.now name.now }
@@ -114,7 +105,7 @@ impl Pool {
         stable_mod(name_hash(name), groups, mask_of(groups))
     }
 
-    /// The input with which the rule runs for a group (`raw_pg_to_pps` of Ceph).
+    /// The input x with which the rule runs for a group (`raw_pg_to_pps` of Ceph).
     pub fn seed_of(&self, group: u32) -> u32
         ensures { result ≡ spec.seed_of self.now group }
     {

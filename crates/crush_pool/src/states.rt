@@ -10,15 +10,16 @@ use std::marker::Model;
 /// The state of a device.
 #[derive(Clone, Copy, Debug, PartialEq, Eq)]
 pub struct DeviceState {
-    /// Its id, 0..65535 in a map.
+    /// The id of the device.
     pub device: u32,
-    /// In 16.16 fixed point, 0..65536: 65536 (1.0) takes all that CRUSH gives it, 0 none.
+    /// In 16.16 fixed point, 0..65536: with 65536 (1.0) the device takes all that CRUSH gives it,
+    /// with 0 nothing.
     pub reweight: u32,
     /// Whether it is up; else it is down.
     pub up: bool,
 }
 
-/// The pairs of device and reweight.
+/// The pairs of device and reweight. `Err(AllocError)`: an allocation failed.
 pub fn reweights_of(alloc: Global, states: &[DeviceState]) -> Result<Vec<(u32, u32)>, AllocError>
     ensures { IfOk result (λ given. given.items ≡ spec.reweights states.now) }
 {
@@ -51,9 +52,11 @@ impl Model for DeviceStates {
 }
 
 impl DeviceStates {
-    /// The up and down of these states, with memory up to the greatest id of one.
+    /// The flags of these states; the table ends at the greatest id of one. `Err(AllocError)`: an
+    /// allocation failed.
     ///
-    /// Of several states for one id the first counts. An id without a state is up, and so is each id above 65535.
+    /// Of several states for one id the first counts. An id without a state is up, and so is each
+    /// id above 65535.
     pub fn build(alloc: Global, states: &[DeviceState]) -> Result<DeviceStates, AllocError>
         ensures all { IfOk result (λ s. s ≡ spec.flags_of states.now) }
         ensures each { IfOk result (λ s. (id : ℕ) → spec.up_at s id ≡ spec.is_up states.now id) }
@@ -73,7 +76,7 @@ impl DeviceStates {
     }
 }
 
-/// A length for the flags: above each id up to 65535 that has a state.
+/// A length for the table: one more than the greatest id, up to 65535, that has a state.
 fn bound_of(states: &[DeviceState]) -> usize
     ensures few { result ≤ ID_COUNT }
     ensures above { (id : ℕ) → result ≤ id → id < ID_COUNT → spec.first_up states.now id ≡ true }

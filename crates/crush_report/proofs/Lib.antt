@@ -1,7 +1,7 @@
 mod Gains
 mod GainCounts
+mod Counting
 mod Groups
-mod Items
 mod Moving
 mod OfMap
 mod OnMaps

@@ -45,6 +45,7 @@ pub up_of_answer : (p : PoolOnMap) (group : ℕ) (raw : List Slot)
 unfolding placed
 up_of_answer p group raw e = ap (λ (slots : List Slot). up_of p.pool.erasure (flags_of p.states) slots) e
 
+-- an up list has at most 32 slots
 pub up_few : (p : PoolOnMap) → is_pool p.pool ≡ true → (group : ℕ) → length (up_on p group) ≤ 32
 up_few p is group =
     let short = up_short (tables_of p.map) (weights_of (reweights p.states)) (flags_of p.states) (steps_of p) p.pool group in

@@ -1,4 +1,5 @@
--- Counts of each device of a list, where each is there once, sum up to the count of what is one of them.
+-- Counts of each device of a list, where each is there once, sum up to the count of what is one of
+-- them.
 use Rattle.std.proofs.Common.{◌≡◌, ℕ, pos, suc, ◌+◌, ◌<◌, ◌==◌, List, [], ◌∷◌, length, map, filter, Bool, true, false, cond, is_some, Some, None, IfSome, slice_index_or, sum_by, count_by, refl, ap, sym, ◌∙◌, arith}
 use Rattle.std.specs.List.{All, AllPairs, list_any}
 use Rattle.std.specs.Ordering.{int_eq}
@@ -76,11 +77,12 @@ slot_counted ids ascending None is = none_counted (λ id. false) ids (λ j d lt.
 slot_counted ids ascending (Some item) (k, e, has) =
     counted_once (λ id. int_eq item.0 (pos id)) k (λ id yes. (let same : item.0 ≡ pos id = (Decides-int_eq item.0 (pos id)).0 yes in let both : pos k ≡ pos id = sym e ∙ same in cc)) ((Decides-int_eq item.0 (pos k)).1 e) ids ascending has
 
-filter_if : {X : Type 0} (b : Bool) (x : X) (kept : List X) → length (cond b (x ∷ kept) kept) ≡ one_if b + length kept
+pub filter_if : {X : Type 0} (b : Bool) (x : X) (kept : List X) → length (cond b (x ∷ kept) kept) ≡ one_if b + length kept
 filter_if true x kept = omega arith
 filter_if false x kept = omega arith
 
--- elements of which each has a slot: counted for each device, they sum up to those whose slot isn't none
+-- elements of which each has a slot: counted for each device, they sum up to those whose slot isn't
+-- none
 pub each_counted : {X : Type 0} (slot : X → Slot) (ids : List ℕ) → AreAscending ids → (xs : List X) → All (λ x. IsAmong ids (slot x)) xs
     → sum_by (λ id. length (filter (λ x. slot_has (device_item id) (slot x)) xs)) ids ≡ length (filter (λ x. is_some (slot x)) xs)
 each_counted slot ids ascending [] are = sum_zero ids

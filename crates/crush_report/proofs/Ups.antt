@@ -18,8 +18,8 @@ use Rattle.crush_pool.specs.declared.pool.PoolParts.{PoolParts}
 use Rattle.crush_pool.specs.declared.states.DeviceState.{DeviceState}
 use Rattle.crush_report.specs.Reports.{groups, up_by, usage_by}
 use Rattle.crush_report.specs.Usage.{all_entries, entries_of, entry_count, primaries_of}
-use Rattle.crush_report.proofs.Items.{AreSlots}
-use Rattle.crush_report.proofs.OfMap.{IsOf, same_devices}
+use Rattle.crush_rules.proofs.Items.{AreSlots}
+use Rattle.crush_rules.proofs.OfMap.{IsOf, same_devices}
 use Rattle.crush_report.proofs.Sums.{AreAscending, IsAmong, each_counted, sum_rows}
 
 abbrev ids_of : Map → List ℕ

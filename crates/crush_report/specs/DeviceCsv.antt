@@ -1,7 +1,8 @@
 -- Changes of devices as CSV: the record `id,reweight,up`, and then a record of each change.
 --
--- Source: RFC 4180, as `csv` reads it with its defaults: a byte order mark is taken off, empty lines are passed over, a field may be in
--- quotes, CR, LF and CR LF end a record, and the last end may be missing.
+-- Source: RFC 4180, as `csv` reads it with its defaults: a byte order mark is taken off, empty
+-- lines are passed over, a field may be in quotes, CR, LF and CR LF end a record, and the last end
+-- may be missing.
 use Rattle.std.specs.Prelude.{◌≡◌, ◌≢◌, ℕ, ◌≤◌, ◌&&◌, List, [], ◌∷◌, length, Bool, true, false, nat_le, if◌then◌else◌, Option, Some, None, option_map, option_and_then, codes}
 use Rattle.std.specs.List.{AllPairs, AllZip}
 use Rattle.std.specs.Option.{option_map_or}

@@ -17,7 +17,8 @@ same_slots [] (b ∷ bs) = false
 same_slots (a ∷ rest) [] = false
 same_slots (a ∷ rest) (b ∷ bs) = same_slot a b && same_slots rest bs
 
--- whether a slot of a new list has a device that is neither in the old list nor further on in the new one: so each device counts once
+-- whether a slot of a new list has a device that is neither in the old list nor further on in the
+-- new one: so each device counts once
 abbrev pub is_gain : List Slot → Slot → List Slot → Bool
 is_gain old None others = false
 is_gain old (Some item) others = not (has old item) && not (has others item)

@@ -1,4 +1,5 @@
--- Reports on a pool: each is a count or a filter over the placements of all its groups, on a map, with states of devices.
+-- Reports on a pool: each is a count or a filter over the placements of all its groups, on a map,
+-- with states of devices.
 use Rattle.std.specs.Prelude.{ℕ, Bool, List, map, Option, option_map, option_and_then}
 use Rattle.std.specs.List.{range_with_len}
 use Rattle.crush_map.specs.Map.{Map}
@@ -21,7 +22,8 @@ use Rattle.crush_report.specs.declared.rows.MoveRow.{MoveRow}
 abbrev pub groups : PoolParts → List ℕ
 groups p = range_with_len 0 p.pg_num
 
--- the up list of a group: by the tables of a map, reweights, which devices are up, and the steps of the pool's rule
+-- the up list of a group: by the tables of a map, reweights, which devices are up, and the steps of
+-- the pool's rule
 abbrev pub up_list : TablesView → List ℕ → List Bool → List Step → PoolParts → ℕ → List Slot
 up_list t w flags steps p group = (placed t w flags steps p group).up
 

@@ -13,7 +13,7 @@ use std::alloc::{AllocError, Global};
 /// Why a CSV wasn't read.
 #[derive(Clone, Copy, Debug, PartialEq, Eq)]
 pub enum CsvFault {
-    /// It isn't of the form.
+    /// The text isn't of the form.
     C1,
 }
 
@@ -31,6 +31,7 @@ fn number_up_to(greatest: u32, text: &[u8]) -> Option<u32>
     }
 }
 
+/// The flag that `1` or `0` writes.
 fn flag(text: &[u8]) -> Option<bool>
     ensures { result ≡ spec.flag_of text.now }
 {
@@ -43,6 +44,7 @@ fn flag(text: &[u8]) -> Option<bool>
     }
 }
 
+/// The change that the fields of a record write.
 fn change_of_fields(id: &[u8], reweight: &[u8], up: &[u8]) -> Option<DeviceChange>
     ensures { result ≡ spec.change_of_fields id.now reweight.now up.now }
 {
@@ -76,7 +78,7 @@ fn change(row: &ByteRecord) -> Option<DeviceChange>
     change_of_fields(id, reweight, up)
 }
 
-/// The changes that records say, each of which has to say one.
+/// The changes that records say; none where one of them says no change.
 fn changes(alloc: Global, rows: &[ByteRecord]) -> Result<Option<Vec<DeviceChange>>, AllocError>
     ensures { IfOk result (λ found. option_map (λ v. v.items) found ≡ spec.changes_of (map fields_of rows.now)) }
 {
@@ -90,6 +92,7 @@ fn changes(alloc: Global, rows: &[ByteRecord]) -> Result<Option<Vec<DeviceChange
     Ok(Some(found))
 }
 
+/// Whether a record has the names of the columns.
 fn is_head(row: &ByteRecord) -> bool
     ensures { result ≡ spec.is_head (fields_of row.now) }
 {
@@ -99,6 +102,8 @@ fn is_head(row: &ByteRecord) -> bool
     id == b"id".as_slice() && reweight == b"reweight".as_slice() && up == b"up".as_slice()
 }
 
+/// The changes that records say, of which the first has the names of the columns; none where they
+/// aren't of the form.
 fn changes_under_head(
     alloc: Global,
     rows: &[ByteRecord],
@@ -119,9 +124,9 @@ fn changes_under_head(
 
 // ---- texts
 
-/// The answer for an error that stopped a reader.
+/// The error for one that stopped a reader.
 ///
-/// `Io` stands here since `csv` doesn't say when it comes; std's reader of bytes in memory never fails.
+/// `csv` doesn't say when `Io` comes. Over bytes in memory it has no cause.
 fn allocation_error(error: &Error) -> AllocError
     requires { stops_reader (error_kind error.now) ≡ true }
 {
@@ -134,7 +139,7 @@ fn allocation_error(error: &Error) -> AllocError
     }
 }
 
-/// The first records of a text: one more than a text of the form has at most.
+/// The first records of a text: at most one more than a text of the form has.
 fn first_records(alloc: Global, text: &[u8]) -> Result<Vec<ByteRecord>, AllocError>
     ensures { IfOk result (λ found. map fields_of found.items ≡ take 1026 (records default_config (strip_bom text.now))) }
 {
@@ -163,7 +168,8 @@ fn changes_in(alloc: Global, text: &[u8]) -> Result<Option<Vec<DeviceChange>>, A
     changes_under_head(alloc, &rows)
 }
 
-/// The changes that a text says, or C1 where it isn't of the form. `AllocError` comes where memory was refused.
+/// The changes that a text says, or `C1` where it isn't of the form. `Err(AllocError)`: an
+/// allocation failed.
 pub fn read_device_csv(
     alloc: Global,
     text: &[u8],

@@ -1,145 +1,107 @@
 //! Reports as CSV (RFC 4180): the names of the columns, and then each row.
+//!
+//! A field is digits, `-`, or ids with one space between two, so none needs quotes.
 
-ghost use Rattle.std.specs.Prelude.{◌≡◌, ◌++◌, ℕ, List, [], map, Some, IfOk, OnOk};
+ghost use Rattle.std.specs.Prelude.{◌≡◌, ◌++◌, ◌∷◌, [], IfOk, OnOk};
+ghost use Rattle.std.specs.Fmt.{decimal};
 ghost use Rattle.csv.specs.Writing.{default_writer, row_text};
 ghost use Rattle.crush_report.specs.Csv as spec;
-ghost use Rattle.crush_report.specs.Private.CsvTexts.{HasWritten};
 
 use crate::rows::{MoveRow, UsageRow};
 use crush_choose::Slot;
-use csv::{Writer, WriterBuilder};
+use itoa::Buffer;
 use std::alloc::{AllocError, Global};
 
-// ---- records
-
-fn new_writer(alloc: Global) -> Writer<Vec<u8>>
-    ensures { HasWritten (λ v. Some v.items) [] result }
+/// Writes a number in decimal, and the byte after it.
+fn write_number(out: &mut Vec<u8>, number: u64, after: u8) -> Result<(), AllocError>
+    ensures { OnOk result (out.new.items ≡ out.old.items ++ (decimal number ++ after ∷ [])) }
 {
-    WriterBuilder::new().from_writer(Vec::new(alloc))
-}
-
-/// Writes a record. `csv` doesn't say which errors of a writer come: each is answered by `AllocError`.
-fn write(writer: &mut Writer<Vec<u8>>, fields: &[&[u8]]) -> Result<(), AllocError>
-    ensures { (text : List ℕ) → HasWritten (λ v. Some v.items) text writer.old
-        → OnOk result (HasWritten (λ v. Some v.items) (text ++ row_text default_writer (map (λ f. f.now) fields.now)) writer.new) }
-{
-    match writer.write_fields(fields) {
-        Ok(()) => Ok(()),
-        Err(_) => Err(AllocError),
-    }
-}
-
-/// What was written.
-fn finish(writer: Writer<Vec<u8>>) -> Result<Vec<u8>, AllocError>
-    ensures { (text : List ℕ) → HasWritten (λ v. Some v.items) text writer → IfOk result (λ v. v.items ≡ text) }
-{
-    match writer.into_inner() {
-        Ok(text) => Ok(text),
-        Err(_) => Err(AllocError),
-    }
+    let mut digits = Buffer::new();
+    out.extend_from_slice(digits.format(number).as_bytes())?;
+    out.push(after)?;
+    Ok(())
 }
 
 // ---- usage
 
-fn write_usage(
-    alloc: Global,
-    writer: &mut Writer<Vec<u8>>,
-    row: &UsageRow,
-) -> Result<(), AllocError>
-    ensures { (text : List ℕ) → HasWritten (λ v. Some v.items) text writer.old
-        → OnOk result (HasWritten (λ v. Some v.items) (text ++ row_text default_writer (spec.usage_fields row.now)) writer.new) }
+/// Writes the line of a device.
+fn write_usage(out: &mut Vec<u8>, row: &UsageRow) -> Result<(), AllocError>
+    ensures { OnOk result (out.new.items ≡ out.old.items ++ row_text default_writer (spec.usage_fields row.now)) }
 {
-    let device = format!(in alloc; "{}", row.device)?;
-    let groups = format!(in alloc; "{}", row.groups)?;
-    let entries = format!(in alloc; "{}", row.entries)?;
-    let primaries = format!(in alloc; "{}", row.primaries)?;
-    let permille = format!(in alloc; "{}", row.permille)?;
-    write(
-        writer,
-        &[
-            device.as_bytes(),
-            groups.as_bytes(),
-            entries.as_bytes(),
-            primaries.as_bytes(),
-            permille.as_bytes(),
-        ],
-    )
+    write_number(out, u64::from(row.device), b',')?;
+    write_number(out, u64::from(row.groups), b',')?;
+    write_number(out, u64::from(row.entries), b',')?;
+    write_number(out, u64::from(row.primaries), b',')?;
+    write_number(out, u64::from(row.permille), b'\n')?;
+    Ok(())
 }
 
-/// The CSV of usage. `AllocError` comes where memory was refused.
+/// The CSV of usage. `Err(AllocError)`: an allocation failed.
+#[tactic(auto, using(crate::proofs::CsvTexts::usage_head_line, crate::proofs::CsvTexts::one_more))]
 pub fn usage_csv(alloc: Global, rows: &[UsageRow]) -> Result<Vec<u8>, AllocError>
     ensures { IfOk result (λ text. text.items ≡ spec.usage_text rows.now) }
 {
-    let mut writer = new_writer(alloc);
-    write(
-        &mut writer,
-        &[b"device", b"groups", b"entries", b"primaries", b"permille"],
-    )?;
+    let mut text = Vec::new(alloc);
+    text.extend_from_slice(b"device,groups,entries,primaries,permille\n")?;
     for row in rows {
-        write_usage(alloc, &mut writer, row)?;
+        write_usage(&mut text, row)?;
     }
-    finish(writer)
+    Ok(text)
 }
 
 // ---- moves
 
 /// Writes an item by its id, or `-` for none.
-fn write_slot(alloc: Global, out: &mut Vec<u8>, slot: &Slot) -> Result<(), AllocError>
+fn write_slot(out: &mut Vec<u8>, slot: &Slot) -> Result<(), AllocError>
     ensures { OnOk result (out.new.items ≡ out.old.items ++ spec.slot_text slot.now) }
 {
     match slot {
         None => out.push(b'-')?,
         Some(item) => {
-            let id = format!(in alloc; "{}", item.0)?;
-            out.extend_from_slice(id.as_bytes())?;
+            let mut digits = Buffer::new();
+            out.extend_from_slice(digits.format(item.0).as_bytes())?;
         }
     }
     Ok(())
 }
 
-/// The items of a list, with one space between two.
-fn list_text(alloc: Global, slots: &[Slot]) -> Result<Vec<u8>, AllocError>
-    ensures { IfOk result (λ text. text.items ≡ spec.list_text slots.now) }
+/// Writes the items of a list, with one space between two.
+fn write_list(out: &mut Vec<u8>, slots: &[Slot]) -> Result<(), AllocError>
+    ensures { OnOk result (out.new.items ≡ out.old.items ++ spec.list_text slots.now) }
 {
-    let mut text = Vec::new(alloc);
     let [first, others @ ..] = slots else {
-        return Ok(text);
+        return Ok(());
     };
-    write_slot(alloc, &mut text, first)?;
+    write_slot(out, first)?;
     for slot in others {
-        text.push(b' ')?;
-        write_slot(alloc, &mut text, slot)?;
+        out.push(b' ')?;
+        write_slot(out, slot)?;
     }
-    Ok(text)
+    Ok(())
 }
 
-fn write_move(alloc: Global, writer: &mut Writer<Vec<u8>>, row: &MoveRow) -> Result<(), AllocError>
-    ensures { (text : List ℕ) → HasWritten (λ v. Some v.items) text writer.old
-        → OnOk result (HasWritten (λ v. Some v.items) (text ++ row_text default_writer (spec.move_fields row.now)) writer.new) }
+/// Writes the line of a group.
+fn write_move(out: &mut Vec<u8>, row: &MoveRow) -> Result<(), AllocError>
+    ensures { OnOk result (out.new.items ≡ out.old.items ++ row_text default_writer (spec.move_fields row.now)) }
 {
-    let group = format!(in alloc; "{}", row.group)?;
-    let gained = format!(in alloc; "{}", row.gained)?;
-    let old = list_text(alloc, row.old.as_slice())?;
-    let new = list_text(alloc, row.new.as_slice())?;
-    write(
-        writer,
-        &[
-            group.as_bytes(),
-            gained.as_bytes(),
-            old.as_slice(),
-            new.as_slice(),
-        ],
-    )
+    write_number(out, u64::from(row.group), b',')?;
+    write_number(out, row.gained as u64, b',')?;
+    write_list(out, row.old.as_slice())?;
+    out.push(b',')?;
+    write_list(out, row.new.as_slice())?;
+    out.push(b'\n')?;
+    Ok(())
 }
 
-/// The CSV of moves. `AllocError` comes where memory was refused.
+/// The CSV of moves. `Err(AllocError)`: an allocation failed.
+#[tactic(auto, using(crate::proofs::CsvTexts::move_head_line, crate::proofs::CsvTexts::one_more))]
 pub fn moves_csv(alloc: Global, rows: &[MoveRow]) -> Result<Vec<u8>, AllocError>
     ensures { IfOk result (λ text. text.items ≡ spec.moves_text rows.now) }
 {
-    let mut writer = new_writer(alloc);
-    write(&mut writer, &[b"group", b"gained", b"old", b"new"])?;
+    let mut text = Vec::new(alloc);
+    text.extend_from_slice(b"group,gained,old,new\n")?;
     for row in rows {
-        write_move(alloc, &mut writer, row)?;
+        write_move(&mut text, row)?;
     }
-    finish(writer)
+    Ok(text)
 }

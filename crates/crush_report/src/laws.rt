@@ -1,4 +1,4 @@
-//! Laws of the definitions, as contracts of functions that do nothing.
+//! Laws of the definitions: contracts of functions that do nothing.
 
 ghost use Rattle.std.specs.Prelude.{◌≡◌, ◌≢◌, ◌↔◌, ◌<◌, ◌≤◌, ◌&&◌, ℕ, pos, List, [], All, AllPairs, map, not, true, Some, IfSome, count_by, sum_by};
 ghost use Rattle.crush_map.specs.Faults.{has_number};
@@ -18,7 +18,8 @@ ghost use Rattle.crush_report.specs.declared.rows.MoveRow.{MoveRow};
 use crush_rules::laws::traces_ascend;
 use crush_rules::stability::a_changed_answer_has_a_lowered_device_in_its_trace;
 
-/// A group has a row in `moves` exactly where its up lists differ, and from a map to itself no group moves.
+/// A group has a row in `moves` exactly where its up lists differ. From a map to itself no group
+/// moves.
 pub fn groups_move_where_their_lists_differ()
     ensures same { (first second : List Slot) → same_slots first second ≡ true ↔ first ≡ second }
     ensures rows { (old new : ℕ → List Slot) (p : PoolParts) (group : ℕ) → group < p.pg_num
@@ -26,7 +27,9 @@ pub fn groups_move_where_their_lists_differ()
     ensures itself { (m : Map) (states : List DeviceState) (p : PoolParts) (rows : List MoveRow) → moves m m states p ≡ Some rows → rows ≡ [] }
 {}
 
-/// `gained` counts each device once that is in the new list and not in the old one, whatever ascending list of ids has the new list's devices; the gains of rows are the sum of theirs.
+/// `gained` counts each device once that is in the new list and not in the old one: it is a count
+/// over any ascending list of ids that has the devices of the new list. What rows gain in all is
+/// the sum of what each gains.
 pub fn gained_counts_each_new_device_once()
     ensures once { (old new : List Slot) (ids : List ℕ) → AllPairs (λ a b. a < b) ids
         → All (λ slot. IfSome slot (λ item. (id : ℕ) × (item.0 ≡ pos id) × (has_number ids id ≡ true))) new
@@ -34,8 +37,9 @@ pub fn gained_counts_each_new_device_once()
     ensures sum { (rows : List MoveRow) → gained_in rows ≡ sum_by (λ row. row.gained) rows }
 {}
 
-/// A group whose raw list changes when reweights of devices are lowered is in the impact list of one of the lowered devices, by the reweights of
-/// before. It says nothing on raised reweights and on devices that go down or up; and a group in such a list need not move.
+/// A group whose raw list changes where reweights of devices are lowered is in the impact list of
+/// one of these devices, by the reweights before. The law says nothing of reweights that are raised
+/// and of devices that go down or up. A group of such a list need not move.
 pub fn groups_that_move_are_in_an_impact_list()
     ensures { (m : Map) (states lowered : List DeviceState) (p : PoolParts) (rule : Rule) (group : ℕ) → group < p.pg_num
         → ((device : ℕ) → weight_at (weights_of (reweights lowered)) device ≤ weight_at (weights_of (reweights states)) device)

@@ -12,7 +12,7 @@ use crush_pool::{Placement, Placer};
 use crush_rules::Out;
 use std::alloc::{AllocError, Global};
 
-/// Whether two slots are the same.
+/// Whether two slots have the same item, or both none.
 fn same_slot(a: Slot, b: Slot) -> bool
     ensures { result ≡ spec.same_slot a b }
 {
@@ -41,7 +41,8 @@ fn same_slots(first: &[Slot], second: &[Slot]) -> bool
     right.is_empty()
 }
 
-/// Whether a slot of a new list has a device that is neither in the old list nor further on in the new one.
+/// Whether a slot of a new list has a device that is neither in the old list nor further on in the
+/// new one.
 fn is_gain(old: &[Slot], slot: Slot, others: &[Slot]) -> bool
     ensures { result ≡ spec.is_gain old.now slot others.now }
 {
@@ -66,7 +67,8 @@ fn gained(old: &[Slot], new: &[Slot]) -> usize
     count
 }
 
-/// The row of a group, if its up lists differ.
+/// The row of a group; `None` where its up lists are the same. `Err(AllocError)`: an allocation
+/// failed.
 fn move_between(group: u32, old: Placement, new: Placement) -> Option<MoveRow>
     ensures { result ≡ spec.move_between group old.up new.up }
 {
@@ -97,7 +99,7 @@ pub fn gained_in(rows: &[MoveRow]) -> u64
 }
 
 /// The groups of a pool whose up lists differ between two maps, in order. The states of devices are
-/// the same on both.
+/// the same on both. `Err(AllocError)`: an allocation failed.
 #[tactic(auto, using(crate::proofs::Groups::moves_more))]
 pub fn moves_with(alloc: Global, from: &Placer, to: &Placer) -> Result<Listed<MoveRow>, AllocError>
     requires states { to.now.states ≡ from.now.states }

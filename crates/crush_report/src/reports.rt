@@ -16,14 +16,15 @@ use crush_map::{CrushMap, Listed};
 use crush_pool::{DeviceState, DeviceStates, Placer, Pool, reweights_of};
 use std::alloc::{AllocError, Global};
 
-/// The reweights of devices in these states.
+/// The table of the reweights of these states. `Err(AllocError)`: an allocation failed.
 fn weights_of(alloc: Global, states: &[DeviceState]) -> Result<Weights, AllocError>
     ensures { IfOk result (λ w. w ≡ weights_of (reweights states.now)) }
 {
     Weights::of(alloc, &reweights_of(alloc, states)?)
 }
 
-/// How much of a pool lies on each device of a map, in the order of the devices. The map has the pool's rule.
+/// How much of a pool lies on each device of a map, in the order of the devices. The map has the
+/// pool's rule. `Err(AllocError)`: an allocation failed.
 pub fn usage(
     alloc: Global,
     map: &CrushMap,
@@ -42,7 +43,8 @@ pub fn usage(
     }
 }
 
-/// The groups whose up lists differ between the map of a placer and another map.
+/// The groups whose up lists differ between the map of a placer and another map, in order.
+/// `Err(AllocError)`: an allocation failed.
 fn moves_to(
     alloc: Global,
     old: &Placer,
@@ -66,7 +68,8 @@ fn moves_to(
     }
 }
 
-/// The groups of a pool whose up lists differ between two maps, in order. Both maps have the pool's rule.
+/// The groups of a pool whose up lists differ between two maps, in order. Both maps have the pool's
+/// rule. `Err(AllocError)`: an allocation failed.
 pub fn moves(
     alloc: Global,
     from: &CrushMap,
@@ -88,9 +91,10 @@ pub fn moves(
 }
 
 /// The groups of a pool in whose trace a device is, in order. The map has the pool's rule.
+/// `Err(AllocError)`: an allocation failed.
 ///
-/// A group whose raw list changes when reweights are lowered is in the list of one of the lowered devices
-/// (`laws::groups_that_move_are_in_an_impact_list`).
+/// A group whose raw list changes where reweights are lowered is in the list of one of the devices
+/// of which they are lowered (`laws::groups_that_move_are_in_an_impact_list`).
 pub fn impact(
     alloc: Global,
     map: &CrushMap,

@@ -8,20 +8,21 @@ use crush_map::Listed;
 pub struct UsageRow {
     /// The id of the device.
     pub device: u32,
-    /// How many groups have it in their up list.
+    /// How many groups have the device in their up list.
     pub groups: u32,
-    /// How many entries of up lists it is.
+    /// How many entries of up lists are the device.
     pub entries: u32,
-    /// Of how many groups it is the primary.
+    /// Of how many groups the device is the primary.
     pub primaries: u32,
-    /// Its entries in thousandths of all entries of up lists that aren't none, rounded down; 0 where there is none.
+    /// Its entries in thousandths of all entries of up lists that aren't none, rounded down; 0
+    /// where there are none.
     pub permille: u32,
 }
 
 /// A group whose up lists differ between two maps.
 #[derive(Drop)]
 pub struct MoveRow {
-    /// The group.
+    /// The number of the group.
     pub group: u32,
     /// How many devices are in the new up list and not in the old one.
     pub gained: usize,

@@ -1,4 +1,4 @@
-//! Which groups of a pool a device can touch.
+//! The groups of a pool that a device can touch.
 
 ghost use Rattle.std.specs.Prelude.{◌≡◌, Some, IfOk};
 ghost use Rattle.crush_map.specs.Faults.{has_number};
@@ -37,10 +37,11 @@ fn is_touched(
     has_number(out.trace(), device)
 }
 
-/// The groups of a pool in whose trace a device is, in order.
+/// The groups of a pool in whose trace a device is, in order. `Err(AllocError)`: an allocation
+/// failed.
 ///
-/// Lower reweights of the device leave every other group where the rule puts it
-/// (`crush_rules::run_rule`).
+/// A lower reweight of the device leaves the raw list of each other group as it is
+/// (`laws::groups_that_move_are_in_an_impact_list`).
 #[tactic(auto, using(crate::proofs::Groups::touched_more))]
 pub fn impact_with(alloc: Global, placer: &Placer, device: u32) -> Result<Listed<u32>, AllocError>
     ensures { IfOk result (λ found. Some found ≡ impact placer.now.map placer.now.states placer.now.pool device) }

@@ -6,17 +6,19 @@ ghost use Rattle.crush_report.specs.Private.Tallies.{IsTally, count_at, id_bound
 ghost use Rattle.crush_report.specs.Usage as spec;
 ghost use Rattle.crush_report.specs.Reports.{groups, usage};
 
-use crate::counts::{count_entries, count_group, count_slot, filled};
+use crate::counts::{count_if, count_slot, is_again};
 use crate::rows::UsageRow;
 use crush_bucket::Scratch;
 use crush_choose::Slot;
 use crush_map::{Device, Listed};
-use crush_pool::{Placer, primary_of};
+use crush_pool::laws::both_kinds_of_pools_have_the_same_devices;
+use crush_pool::{DeviceStates, Placer, is_up_slot};
 use crush_rules::Out;
 use std::alloc::{AllocError, Global};
 use std::marker::Model;
 
-/// What is counted of some up lists: three counts for each device below a bound, by its id, and how many entries aren't none.
+/// Counts over some up lists: three for each device with an id below a bound, and one of all
+/// entries that aren't none.
 #[derive(Drop)]
 struct Tally {
     groups: Vec<u32>,
@@ -34,13 +36,15 @@ impl Model for Tally {
 }
 
 impl Tally {
-    ghost use Rattle.std.specs.Prelude.{◌≡◌, ◌<◌, ◌≤◌, ◌+◌, ◌*◌, ◌^◌, ℕ, List, [], ◌∷◌, ◌++◌, IfOk, length};
+    ghost use Rattle.std.specs.Prelude.{◌≡◌, ◌<◌, ◌≤◌, ◌+◌, ◌*◌, ◌^◌, ◌&&◌, ℕ, Bool, true, List, [], ◌∷◌, ◌++◌, if◌then◌else◌, IfOk, length};
     ghost use Rattle.crush_choose.specs.Marks.{Slot};
-    ghost use Rattle.crush_pool.specs.Placements.{primary_of};
-    ghost use Rattle.crush_report.specs.Private.Tallies.{IsTally, HasRoom, count_at, row_by};
-    ghost use Rattle.crush_report.specs.Usage as spec;
+    ghost use Rattle.crush_choose.specs.Firstn.{slot_has};
+    ghost use Rattle.crush_pool.specs.Placements.{up_of};
+    ghost use Rattle.crush_report.specs.Private.Tallies.{IsTally, IsCounting, HasRoom, HasSameLengths, count_at, row_by};
+    ghost use Rattle.crush_report.specs.Usage.{device_item};
 
-    /// No list counted, for the devices with ids below a bound.
+    /// The counts over no list, for the devices with ids below a bound. `Err(AllocError)`: an
+    /// allocation failed.
     fn new(alloc: Global, bound: usize) -> Result<Tally, AllocError>
         ensures { IfOk result (λ t. IsTally bound [] t) }
     {
@@ -52,19 +56,60 @@ impl Tally {
         })
     }
 
-    /// Counts one more up list with its primary.
-    fn add(&mut self, up: &[Slot], primary: Slot)
-        requires short { length up.now ≤ 32 }
+    /// Counts an entry of an up list. `last` says that its device isn't further on in the list, and
+    /// `primary` that no entry of the list was counted before.
+    fn count(&mut self, entry: Slot, last: bool, primary: bool)
+        requires groups { HasRoom self.old.groups 1 }
+        requires entries { HasRoom self.old.entries 1 }
+        requires primaries { HasRoom self.old.primaries 1 }
+        requires filled { self.old.filled + 1 < 2 ^ 32 }
+        ensures lens { HasSameLengths self.old self.new }
+        ensures groups { (id : ℕ) → id < length self.old.groups → count_at self.new.groups id ≡ count_at self.old.groups id + (if last && slot_has (device_item id) entry then 1 else 0) }
+        ensures entries { (id : ℕ) → id < length self.old.entries → count_at self.new.entries id ≡ count_at self.old.entries id + (if slot_has (device_item id) entry then 1 else 0) }
+        ensures primaries { (id : ℕ) → id < length self.old.primaries → count_at self.new.primaries id ≡ count_at self.old.primaries id + (if primary && slot_has (device_item id) entry then 1 else 0) }
+        ensures filled { self.new.filled ≡ self.old.filled + 1 }
+    {
+        count_if(last, &mut self.groups, entry);
+        count_slot(&mut self.entries, entry);
+        count_if(primary, &mut self.primaries, entry);
+        self.filled += 1;
+    }
+
+    /// Counts the entries of one more answer of a rule whose devices are up.
+    fn count_up(&mut self, raw: &[Slot], flags: &DeviceStates)
+        requires short { length raw.now ≤ 32 }
         requires groups { HasRoom self.old.groups 32 }
         requires entries { HasRoom self.old.entries 32 }
         requires primaries { HasRoom self.old.primaries 32 }
         requires filled { self.old.filled + 32 < 2 ^ 32 }
-        ensures { (bound : ℕ) (ups : List (List Slot)) → primary ≡ primary_of up.now → IsTally bound ups self.old → IsTally bound (ups ++ up.now ∷ []) self.new }
+        ensures { IsCounting flags.now raw.now true self.old [] self.new }
     {
-        count_group(&mut self.groups, up);
-        count_entries(&mut self.entries, up);
-        count_slot(&mut self.primaries, primary);
-        self.filled += filled(up);
+        let mut rest = raw;
+        let mut first = true;
+        while let [slot, others @ ..] = rest {
+            if is_up_slot(flags, *slot) {
+                self.count(*slot, !is_again(*slot, others), first);
+                first = false;
+            }
+            rest = others;
+        }
+    }
+
+    /// Counts the up list of one more group, for which the rule gave this answer.
+    ///
+    /// An entry counts where its device is up, and the first one that counts is the primary. So it is
+    /// in both kinds of pools: the other entries leave the up list of a replicated pool, and become
+    /// none in that of an erasure pool.
+    fn add(&mut self, raw: &[Slot], flags: &DeviceStates)
+        requires short { length raw.now ≤ 32 }
+        requires groups { HasRoom self.old.groups 32 }
+        requires entries { HasRoom self.old.entries 32 }
+        requires primaries { HasRoom self.old.primaries 32 }
+        requires filled { self.old.filled + 32 < 2 ^ 32 }
+        ensures { (bound : ℕ) (ups : List (List Slot)) (erasure : Bool) → IsTally bound ups self.old → IsTally bound (ups ++ up_of erasure flags.now raw.now ∷ []) self.new }
+    {
+        both_kinds_of_pools_have_the_same_devices();
+        self.count_up(raw, flags);
     }
 
     /// The row of a device.
@@ -112,26 +157,23 @@ fn bound_of(devices: &[Device]) -> usize
     bound
 }
 
-/// What is counted of the up lists of all groups of a pool, for these devices. The lists have one
-/// memory, one after the other.
+/// The counts over the up lists of all groups of a pool, for these devices. `Err(AllocError)`: an
+/// allocation failed.
 fn tally_of(alloc: Global, devices: &[Device], placer: &Placer) -> Result<Tally, AllocError>
     ensures few { IfOk result (λ t. (id : ℕ) → 1000 * count_at t.entries id < 2 ^ 32) }
     ensures tally { IfOk result (λ t. IsTally (id_bound devices.now) (map (up_on placer.now) (groups placer.now.pool)) t) }
 {
     let mut scratch = Scratch::build(alloc, placer.tables())?;
     let mut out = Out::build(alloc)?;
-    let mut up = Vec::new(alloc);
     let mut tally = Tally::new(alloc, bound_of(devices))?;
     for group in 0..placer.pool().parts().pg_num {
         placer.run(&mut scratch, &mut out, group);
-        placer.up_into(&out, &mut up)?;
-        let listed = up.as_slice();
-        tally.add(listed, primary_of(listed));
+        tally.add(out.items(), placer.flags());
     }
     Ok(tally)
 }
 
-/// A row for each device, in the order of the devices.
+/// A row for each device, in the order of the devices. `Err(AllocError)`: an allocation failed.
 fn rows_of(alloc: Global, devices: &[Device], tally: &Tally) -> Result<Listed<UsageRow>, AllocError>
     requires { (id : ℕ) → 1000 * count_at tally.now.entries id < 2 ^ 32 }
     ensures { IfOk result (λ rows. rows ≡ map (λ d. row_by tally.now d.id) devices.now) }
@@ -144,6 +186,7 @@ fn rows_of(alloc: Global, devices: &[Device], tally: &Tally) -> Result<Listed<Us
 }
 
 /// How much of a pool lies on each device of a map, in the order of the devices.
+/// `Err(AllocError)`: an allocation failed.
 pub fn usage_with(alloc: Global, placer: &Placer) -> Result<Listed<UsageRow>, AllocError>
     ensures { IfOk result (λ rows. Some rows ≡ usage placer.now.map placer.now.states placer.now.pool) }
 {

@@ -1,4 +1,4 @@
-//! Laws of the devices in answers and of the sums of usage: each contract holds of the definitions alone.
+//! Laws of the devices in answers and of the sums of usage: contracts of functions that do nothing.
 
 ghost use Rattle.std.specs.Prelude.{◌≡◌, ℕ, List, Some, IfSome, All, true, length, map, filter, is_some, sum_by};
 ghost use Rattle.crush_map.specs.Map.{Map, IsMap};
@@ -25,8 +25,9 @@ pub fn answers_are_of_the_map()
     rules_are_sound();
 }
 
-/// In the usage of a pool each entry of an up list counts for one device, and each group that has a primary for one: the rows' entries sum up to the
-/// number of entries that aren't none, and their primaries to the number of groups that have a primary.
+/// In the usage of a pool each entry of an up list counts for one device, and so does each group
+/// that has a primary: the entries of all rows add up to the number of entries that aren't none,
+/// and the primaries to the number of groups that have a primary.
 pub fn usage_counts_each_entry()
     ensures entries { (m : Map) (states : List DeviceState) (p : PoolParts) (rule : Rule) → IsMap m → rule_numbered m p.rule ≡ Some rule
         → sum_by (λ r. r.entries) (usage_by m states p rule) ≡ entry_count (map (up_by m states p rule) (groups p)) }

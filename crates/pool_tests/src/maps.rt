@@ -88,7 +88,8 @@ fn left(
     Ok(out)
 }
 
-/// A group's placement, with these states on the map of a text, and the answer and the trace that a placement of it leaves.
+/// A group's placement, with these states on the map of a text, and the answer and the trace that a
+/// placement of it leaves.
 pub(crate) fn asked<'a>(
     rt: &impl Abort,
     alloc: Global,

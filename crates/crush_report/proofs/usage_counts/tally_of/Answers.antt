@@ -1,6 +1,7 @@
-use Rattle.std.proofs.Common.{◌≡◌, ◌<◌, ◌≤◌, map, true, arith, ◌∙◌}
+use Rattle.std.proofs.Common.{◌≡◌, ◌<◌, ◌≤◌, map, true, ap, arith, ◌∙◌}
 use Rattle.std.specs.List.{range_with_len}
 use Rattle.std.proofs.lemmas.List.FromFn.{length-map-range_with_len}
+use Rattle.crush_pool.specs.Placements.{up_of}
 use Rattle.crush_pool.specs.Pools.{is_pool}
 use Rattle.crush_report.proofs.Groups.{lists_more}
 use Rattle.crush_report.proofs.OnMaps.{up_few, up_of_answer}
@@ -9,14 +10,6 @@ use Rattle.crush_report.proofs.Tallies.{entries_few, entries_most, entries_room,
 use Rattle.crush_report.specs.Private.OnMaps.{up_on}
 use Rattle.crush_report.specs.Private.Tallies.{id_bound}
 use Rattle.crush_report.proofs.usage_counts.tally_of.Goals as goal
-
-pub add-requires-clause-short : goal.add-requires-clause-short
-add-requires-clause-short c =
-    let p = c.args.placer.now in
-    let n = c.loop-group.group in
-    let valid : is_pool p.pool ≡ true = rw c.pool.ensures at c.parts.ensures.valid in
-    let is : c.as_slice-listed.result.now ≡ up_on p n = c.as_slice-listed.ensures.value ∙ c.in_ok-up_into.ensures ∙ up_of_answer p n c.run.new.out.items c.run.ensures.items in
-    rw is (up_few p valid n)
 
 pub add-requires-clause-groups : goal.add-requires-clause-groups
 add-requires-clause-groups c =
@@ -60,8 +53,8 @@ pub loop-group-preserved : goal.loop-group-preserved
 loop-group-preserved c =
     let p = c.args.placer.now in
     let n = c.loop-group.group in
-    let is : c.as_slice-listed.result.now ≡ up_on p n = c.as_slice-listed.ensures.value ∙ c.in_ok-up_into.ensures ∙ up_of_answer p n c.run.new.out.items c.run.ensures.items in
-    let one = c.add.ensures (id_bound c.args.devices.now) (map (up_on p) (range_with_len 0 n)) c.primary_of.ensures c.loop-group.invariant.tally in
+    let is = ap (λ flags. up_of p.pool.erasure flags c.items.result.now) c.flags.ensures ∙ up_of_answer p n c.items.result.now (c.items.ensures.value ∙ c.run.ensures.items) in
+    let one = c.add.ensures (id_bound c.args.devices.now) (map (up_on p) (range_with_len 0 n)) p.pool.erasure c.loop-group.invariant.tally in
     record { fits = c.run.ensures.fits; tally = rw (lists_more (up_on p) n) (rw is at one) }
 
 pub returns-clause-few : goal.returns-clause-few

@@ -1,0 +1,15 @@
+//! The limits of pools, and of changes of devices.
+//!
+//! Each limit is itself allowed. It stands here alone: the definitions import it.
+
+/// The greatest id of a pool.
+pub const POOL_ID_LIMIT: u32 = 2_147_483_647;
+
+/// The most devices of a group.
+pub const SIZE_LIMIT: u32 = 32;
+
+/// The most groups of a pool.
+pub const GROUP_LIMIT: u32 = 65_536;
+
+/// The most changes of devices in one body.
+pub const CHANGE_LIMIT: usize = 1_024;
