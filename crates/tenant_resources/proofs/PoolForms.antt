@@ -4,7 +4,8 @@ use Rattle.std.specs.Prelude.{codes}
 use Rattle.std.proofs.lemmas.Slice.Eq.{bytes_eq-Decides}
 use Rattle.serde_json.specs.Data.{Data}
 use Rattle.serde_json.specs.Find.{as_str}
-use Rattle.crush_pool.specs.Pools.{is_pool, id_limit}
+use Rattle.crush_pool.specs.Pools.{is_pool}
+use Rattle.crush_pool.specs.declared.limits.TheConstants.{POOL_ID_LIMIT}
 use Rattle.crush_pool.specs.declared.pool.PoolParts.{PoolParts}
 use Rattle.tenant_messages.proofs.Finding.{Decides-leb, Finds, finds_as, finds_boolean, finds_both, finds_natural, finds_number, finds_object, finds_tested, finds_text, finds_under, is_there}
 use Rattle.tenant_messages.specs.Forms.{IsNatural, IsBoolean, IsText, IsUnder}
@@ -133,4 +134,4 @@ finds_removal = finds_as
     (finds_object (codes "id" ∷ codes "request" ∷ []) refl
     (λ d a is. (is_there (codes "id") d a.1 is.0.1, (is_there (codes "request") d a.0 is.0.0, tt)))
     (finds_tested (λ a. nat_le 1 a.1) (λ a. 1 ≤ a.1) (λ a. (Decides-leb 1 a.1).0) (λ a. (Decides-leb 1 a.1).1)
-    (finds_pair (finds_under (codes "request") finds_number) (finds_under (codes "id") (finds_natural id_limit)))))
+    (finds_pair (finds_under (codes "request") finds_number) (finds_under (codes "id") (finds_natural POOL_ID_LIMIT)))))

@@ -7,6 +7,7 @@ use Rattle.crush_choose.specs.Weights.{reweight_of}
 use Rattle.crush_choose.specs.declared.weights.TheConstants.{FULL}
 use Rattle.crush_map.specs.Map.{Map}
 use Rattle.crush_map.specs.declared.limits.TheConstants.{NUMBER_LIMIT}
+use Rattle.crush_pool.specs.declared.limits.TheConstants.{CHANGE_LIMIT}
 use Rattle.crush_pool.specs.Changes.{are_valid_changes}
 use Rattle.crush_pool.specs.States.{is_up, reweights}
 use Rattle.crush_pool.specs.declared.changes.DeviceChange.{DeviceChange}
@@ -32,13 +33,13 @@ pub record IsChange (d : Data) (c : DeviceChange) : Type 0 where
   pub up : IsOptional (codes "up") IsBoolean d c.up
   pub some : (is_some c.reweight || is_some c.up) ≡ true
 
--- {"devices": [CHANGE, ..], "request": REQUEST}: 1 to 1,024 changes, each of another device
+-- {"devices": [CHANGE, ..], "request": REQUEST}: 1 to CHANGE_LIMIT changes, each of another device
 pub record IsDevicesBody (d : Data) (asked : List ℕ × List DeviceChange) : Type 0 where
   pub keys : HasExactly (codes "devices" ∷ codes "request" ∷ []) d
   pub devices : IsUnder (codes "devices") (IsListOf IsChange) d asked.1
   pub request : IsUnder (codes "request") IsRequestNumber d asked.0
   pub some : 1 ≤ length asked.1
-  pub few : length asked.1 ≤ 1024
+  pub few : length asked.1 ≤ CHANGE_LIMIT
   pub distinct : AllPairs (λ c e. c.device ≢ e.device) asked.1
 
 -- ---- reading a body

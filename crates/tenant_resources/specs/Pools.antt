@@ -7,7 +7,8 @@ use Rattle.serde_json.specs.Find.{as_bool, as_str}
 use Rattle.crush_map.specs.Map.{Map}
 use Rattle.crush_map.specs.declared.draft.Rule.{Rule}
 use Rattle.crush_pool.specs.Placements.{rule_numbered}
-use Rattle.crush_pool.specs.Pools.{is_pool, id_limit}
+use Rattle.crush_pool.specs.Pools.{is_pool}
+use Rattle.crush_pool.specs.declared.limits.TheConstants.{POOL_ID_LIMIT}
 use Rattle.crush_pool.specs.declared.pool.PoolParts.{PoolParts}
 use Rattle.tenant_messages.specs.Forms.{IsNatural, IsBoolean, IsText, HasExactly, IsUnder}
 use Rattle.tenant_messages.specs.Json.{value_of, natural_of, both, has_keys, under}
@@ -43,11 +44,11 @@ pub record IsPoolBody (d : Data) (asked : List ℕ × PoolParts) : Type 0 where
   pub hashpspool : IsUnder (codes "hashpspool") IsBoolean d asked.1.hashpspool
   pub ranges : is_pool asked.1 ≡ true
 
--- {"id": 1..2147483647, "request": REQUEST}
+-- {"id": 1..POOL_ID_LIMIT, "request": REQUEST}
 pub record IsRemovalBody (d : Data) (asked : List ℕ × ℕ) : Type 0 where
   pub keys : HasExactly (codes "id" ∷ codes "request" ∷ []) d
   pub request : IsUnder (codes "request") IsRequestNumber d asked.0
-  pub id : IsUnder (codes "id") (IsNatural id_limit) d asked.1
+  pub id : IsUnder (codes "id") (IsNatural POOL_ID_LIMIT) d asked.1
   pub some : 1 ≤ asked.1
 
 -- ---- reading a body
@@ -113,7 +114,7 @@ if_some_id asked = if nat_le 1 asked.1 then Some asked else None
 -- the request number, and the id
 abbrev pub removal_of : Data → Option (List ℕ × ℕ)
 removal_of d =
-    if has_keys 2 d then option_and_then if_some_id (both pair (under (codes "request") request_number_of d) (under (codes "id") (natural_of id_limit) d)) else None
+    if has_keys 2 d then option_and_then if_some_id (both pair (under (codes "request") request_number_of d) (under (codes "id") (natural_of POOL_ID_LIMIT) d)) else None
 
 abbrev pub removal_request_of : List ℕ → Option (List ℕ × ℕ)
 removal_request_of body = option_and_then removal_of (value_of body)

@@ -13,6 +13,7 @@ ghost use Rattle.tenant_resources.specs.Orders.{accepted_of};
 
 use crate::accepted::Accepted;
 use crush_map::Text;
+use crush_pool::limits::POOL_ID_LIMIT;
 use crush_pool::{Pool, PoolParts, rule_with_id};
 use serde_json::{Value, json};
 use std::alloc::{AllocError, Global};
@@ -118,7 +119,7 @@ fn removal_in(alloc: Global, value: &Value) -> Result<(Text, u32), Refusal>
         return Err(Refusal::Problem(Problem::BadRequest));
     }
     let number = request_number(value).ok_or(Problem::BadRequest)?;
-    let id = natural(value, "id", 2_147_483_647).ok_or(Problem::BadRequest)?;
+    let id = natural(value, "id", POOL_ID_LIMIT).ok_or(Problem::BadRequest)?;
     if id == 0 {
         return Err(Refusal::Problem(Problem::BadRequest));
     }
