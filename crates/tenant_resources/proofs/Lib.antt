@@ -1,5 +1,4 @@
 pub mod Deciding
-pub mod Distinct
 pub mod PickForms
 pub mod TestForms
 pub mod Importing

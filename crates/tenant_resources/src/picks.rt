@@ -17,7 +17,6 @@ use crush_map::limits::{ITEM_LIMIT, NUMBER_LIMIT, TOTAL_WEIGHT_LIMIT};
 use crush_map::{ItemId, Kind, Weight, has_equal_weights, total_weight};
 use serde_json::{Value, json};
 use std::alloc::{AllocError, Global};
-use std::collections::BTreeSet;
 use std::marker::Model;
 use tenant_messages::{
     Problem, Refusal, Reply, has_keys, integer, natural, read_value, success, text,
@@ -117,45 +116,32 @@ fn contains(item: i32, entries: &[(ItemId, Weight)]) -> bool
     entries.iter().any(|entry| entry.0.0 == item)
 }
 
-/// Whether no item comes twice. Takes time n log n in the number n of entries. `Err(AllocError)`:
-/// an allocation failed; nothing is changed.
-fn are_distinct(alloc: Global, entries: &[(ItemId, Weight)]) -> Result<bool, AllocError>
-    ensures { IfOk result (λ distinct. distinct ≡ spec.are_distinct entries.now) }
+/// Whether no item comes twice.
+fn are_distinct(entries: &[(ItemId, Weight)]) -> bool
+    ensures { result ≡ spec.are_distinct entries.now }
 {
-    let mut later = BTreeSet::new(alloc);
     let mut rest = entries;
-    while let [others @ .., entry] = rest {
-        if !later.insert(entry.0.0)? {
-            return Ok(false);
+    while let [first, others @ ..] = rest {
+        if contains(first.0.0, others) {
+            return false;
         }
         rest = others;
     }
-    Ok(true)
+    true
 }
 
 // ---- a bucket
 
-/// Whether the entries can be those of a bucket of this id and kind. `Err(AllocError)`: an
-/// allocation failed; nothing is changed.
-fn is_valid(
-    alloc: Global,
-    id: ItemId,
-    kind: Kind,
-    entries: &[(ItemId, Weight)],
-) -> Result<bool, AllocError>
-    ensures { IfOk result (λ valid. valid ≡ spec.is_valid (record { id = id; kind = kind; items = entries.now })) }
+/// Whether the entries can be those of a bucket of this id and kind.
+fn is_valid(id: ItemId, kind: Kind, entries: &[(ItemId, Weight)]) -> bool
+    ensures { result ≡ spec.is_valid (record { id = id; kind = kind; items = entries.now }) }
 {
-    if entries.is_empty()
-        || entries.len() > ITEM_LIMIT
-        || total_weight(entries) > TOTAL_WEIGHT_LIMIT
-        || contains(id.0, entries)
-    {
-        return Ok(false);
-    }
-    if !are_distinct(alloc, entries)? {
-        return Ok(false);
-    }
-    Ok(kind != Kind::Uniform || has_equal_weights(entries))
+    !entries.is_empty()
+        && entries.len() <= ITEM_LIMIT
+        && total_weight(entries) <= TOTAL_WEIGHT_LIMIT
+        && !contains(id.0, entries)
+        && are_distinct(entries)
+        && (kind != Kind::Uniform || has_equal_weights(entries))
 }
 
 /// The kind under the key `kind`, or `None` where it is none.
@@ -180,7 +166,7 @@ fn bucket(alloc: Global, value: &Value) -> Result<AskedBucket, Refusal>
         .and_then(Value::as_array)
         .ok_or(Problem::BadRequest)?;
     let items = entries(alloc, values)?;
-    if is_valid(alloc, id, kind, &items)? {
+    if is_valid(id, kind, &items) {
         Ok(AskedBucket::new(id, kind, items))
     } else {
         Err(Refusal::Problem(Problem::BadRequest))
