@@ -8,7 +8,8 @@ use Rattle.tenant_messages.specs.declared.reply.Reply.{Reply}
 use Rattle.tenant_messages.specs.declared.reply.Problem.{Problem}
 use Rattle.tenant_messages.specs.declared.reply.Problem.TheVariants.{BadRequest, TooLarge}
 use Rattle.tenant_core.specs.declared.request.Action.{Action}
-use Rattle.tenant_core.specs.Request.{Request, tenant_in, on_route, on_target, request_of, body_limit}
+use Rattle.tenant_core.specs.declared.limits.TheConstants.{BODY_LIMIT}
+use Rattle.tenant_core.specs.Request.{Request, tenant_in, on_route, on_target, request_of}
 use Rattle.tenant_core.specs.declared.route.Route.{Route}
 use Rattle.tenant_state.specs.State.{TenantState}
 use Rattle.tenant_core.specs.declared.store.StoreFault.{StoreFault}
@@ -46,7 +47,7 @@ named-small call r false h = named call.method call.body (target_of call.path) r
 
 tenant_of-request : (call : Call) (r : Request) → request_of call ≡ Ok r → tenant_of call ≡ Some r.tenant
 unfolding request_of
-tenant_of-request call r h = named-small call r (nat_lt body_limit (length call.body)) h
+tenant_of-request call r h = named-small call r (nat_lt BODY_LIMIT (length call.body)) h
 
 is_of-request : (call : Call) (r : Request) (t : List ℕ) → request_of call ≡ Ok r → is_of t call ≡ bytes_eq r.tenant t
 is_of-request call r t h = rw (tenant_of-request call r h) refl

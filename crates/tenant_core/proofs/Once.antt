@@ -4,11 +4,12 @@ use Rattle.std.proofs.lemmas.Map.Text.{is_eq-slice_cmp}
 use Rattle.std.proofs.lemmas.Slice.Eq.{bytes_eq-Decides}
 use Rattle.std.specs.Cmp.Lexicographic.{slice_cmp}
 use Rattle.std.specs.Ordering.{match_ordering}
-use Rattle.tenant_core.specs.Commands.{decision, on_receipt, change_or_refusal, order_on, again, receipt_for, receipt_limit, Command}
+use Rattle.tenant_core.specs.Commands.{decision, on_receipt, change_or_refusal, order_on, again, receipt_for, Command}
 use Rattle.tenant_core.specs.Effects.{Decided, decided}
 use Rattle.tenant_resources.specs.Orders.{Accepted}
 use Rattle.tenant_state.specs.Receipts.{Receipts, receipt_of, with_receipt}
 use Rattle.tenant_messages.specs.Reply.{refused, repeated, reply}
+use Rattle.tenant_state.specs.declared.limits.TheConstants.{RECEIPT_LIMIT}
 use Rattle.tenant_state.specs.State.{TenantState, Change, after, epoch}
 use Rattle.tenant_core.specs.Step.{decision_on}
 use Rattle.tenant_state.specs.declared.receipts.Receipt.{Receipt}
@@ -63,7 +64,8 @@ grown n r (e ∷ es) none = grown_at (slice_cmp nat_cmp n e.0) n r e es (with_re
 
 -- ---- a changing request that is accepted
 
--- what is known of it: its number had no receipt, and the one that it leaves says the request and the reply
+-- what is known of it: its number had no receipt, and the one that it leaves says the request and
+-- the reply
 pub record Accepts (k : Command) (s : TenantState) (c : Change) (d : Decided) : Type 0 where
   pub new : receipt_of k.number s.receipts ≡ None
   pub number : c.number ≡ k.number
@@ -88,7 +90,7 @@ accepts_new k s c false none h = accepts_order k s c (order_on k.order s) none h
 accepts_on : (k : Command) (s : TenantState) (c : Change) (o : Option Receipt) → receipt_of k.number s.receipts ≡ o → (on_receipt k s o).effect ≡ effect.Change c
     → Accepts k s c (on_receipt k s o)
 accepts_on k s c (Some r) is h = cc
-accepts_on k s c None is h = accepts_new k s c (nat_le receipt_limit (length s.receipts)) is h
+accepts_on k s c None is h = accepts_new k s c (nat_le RECEIPT_LIMIT (length s.receipts)) is h
 
 pub accepts : (k : Command) (s : TenantState) (c : Change) → (decision k s).effect ≡ effect.Change c → Accepts k s c (decision k s)
 accepts k s c h = accepts_on k s c (receipt_of k.number s.receipts) refl h

@@ -10,7 +10,7 @@ use Rattle.crush_pool.specs.declared.changes.DeviceChange.{DeviceChange}
 use Rattle.crush_pool.specs.declared.pool.PoolParts.{PoolParts}
 use Rattle.crush_text.specs.Reading.{map_of_text}
 use Rattle.tenant_core.proofs.Once.{only_commands_change}
-use Rattle.tenant_core.specs.Commands.{decision, on_receipt, change_or_refusal, order_on, receipt_limit, Command}
+use Rattle.tenant_core.specs.Commands.{decision, on_receipt, change_or_refusal, order_on, Command}
 use Rattle.tenant_core.specs.Effects.{decided}
 use Rattle.tenant_core.specs.Step.{decision_on}
 use Rattle.tenant_core.specs.declared.commands.Order.{Order}
@@ -29,6 +29,7 @@ use Rattle.tenant_resources.specs.Pools as pools
 use Rattle.tenant_resources.specs.Pools.{rule_of, have_rules}
 use Rattle.tenant_state.specs.Ordered.{with_element, without}
 use Rattle.tenant_state.specs.Receipts.{receipt_of}
+use Rattle.tenant_state.specs.declared.limits.TheConstants.{POOL_LIMIT, RECEIPT_LIMIT, VERSION_LIMIT}
 use Rattle.tenant_state.specs.State.{TenantState, Made, NewVersion, NewStates, NewPool, RemovedPool, Change, after, with_made, version, newest, on_version, if_there, pool}
 use Rattle.tenant_state.specs.declared.receipts.Receipt.{Receipt}
 
@@ -95,7 +96,7 @@ makes_new k s c false h = makes_order k s c (order_on k.order s) refl h
 
 makes_on : (k : Command) (s : TenantState) (c : Change) (o : Option Receipt) → (on_receipt k s o).effect ≡ effect.Change c → Makes k s c
 makes_on k s c (Some r) h = cc
-makes_on k s c None h = makes_new k s c (nat_le receipt_limit (length s.receipts)) h
+makes_on k s c None h = makes_new k s c (nat_le RECEIPT_LIMIT (length s.receipts)) h
 
 makes : (k : Command) (s : TenantState) (c : Change) → (decision k s).effect ≡ effect.Change c → Makes k s c
 makes k s c h = makes_on k s c (receipt_of k.number s.receipts) h
@@ -142,10 +143,10 @@ pool_made p s a false ruled h had =
     subst (λ x. have_rules (with_made x s) ≡ true) made (all_with (λ q. is_some (rule_of s q)) (λ q. q.id) p s.pools ruled had)
 
 pool_taken : (p : PoolParts) (s : TenantState) (a : Accepted) (taken : Bool) → is_some (rule_of s p) ≡ true
-    → (if taken then Err Exists else (if nat_le pools.pool_limit (length s.pools) then Err TenantLimit
+    → (if taken then Err Exists else (if nat_le POOL_LIMIT (length s.pools) then Err TenantLimit
     else Ok (record { made = NewPool p; status = Created; body = pools.creation p.id s }))) ≡ Ok a → Leaves s a.made
 pool_taken p s a true ruled h = cc
-pool_taken p s a false ruled h = pool_made p s a (nat_le pools.pool_limit (length s.pools)) ruled h
+pool_taken p s a false ruled h = pool_made p s a (nat_le POOL_LIMIT (length s.pools)) ruled h
 
 pool_rule : (p : PoolParts) (s : TenantState) (a : Accepted) (o : Option Rule) → rule_of s p ≡ o → pools.on_rule p s o ≡ Ok a → Leaves s a.made
 pool_rule p s a None is h = cc
@@ -162,7 +163,7 @@ removal_on id s a (Some p) h had =
     subst (λ x. have_rules (with_made x s) ≡ true) made (all_without (λ q. is_some (rule_of s q)) (λ q. q.id) id s.pools had)
 
 leaves : (o : Order) (s : TenantState) (a : Accepted) → order_on o s ≡ Ok a → Leaves s a.made
-leaves (ImportMap text) s a h = import_at text s a (nat_le maps.version_limit (length s.versions)) h
+leaves (ImportMap text) s a h = import_at text s a (nat_le VERSION_LIMIT (length s.versions)) h
 leaves (ChangeDevices cs) s a h = devices_on cs s a (version (newest s) s) h
 leaves (CreatePool p) s a h = pool_on p s a (version (newest s) s) refl h
 leaves (RemovePool id) s a h = removal_on id s a (pool id s) h

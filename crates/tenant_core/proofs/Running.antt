@@ -29,7 +29,8 @@ run_none old new same = record {
 abbrev counts : List ℕ → Call → Reply → Bool
 counts t c r = is_of t c && is_answered r
 
--- what one call and its reply come to for a tenant of that state: with a reply that counts, the call's step; else the state is kept
+-- what one call and its reply come to for a tenant of that state: with a reply that counts, the
+-- call's step; else the state is kept
 record Comes (counted : Bool) (old : Option TenantState) (c : Call) (r : Reply) (Has : Option TenantState → Type 0) : Type 0 where
   pub of_step : counted ≡ true → (r ≡ (step c old).reply) × Has (step c old).state
   pub kept : counted ≡ false → Has old

@@ -1,4 +1,5 @@
--- A tenant's calls run alone: as if there were no other tenant, no store and no want of memory.
+-- A tenant's calls run alone: as if there were no other tenant and no store, and memory without
+-- end.
 use Rattle.std.specs.Prelude.{ℕ, ◌&&◌, ◌==◌, List, [], ◌∷◌, map, filter, zip, Bool, not, Option}
 use Rattle.tenant_core.specs.Step.{step, is_of}
 use Rattle.tenant_messages.specs.declared.call.Call.{Call}

@@ -8,6 +8,7 @@ use Rattle.tenant_resources.specs.Maps as maps
 use Rattle.tenant_resources.specs.Pools as pools
 use Rattle.tenant_state.specs.Receipts.{receipt_of, is_repeat}
 use Rattle.tenant_messages.specs.Reply.{Answer, refused, answered, repeated}
+use Rattle.tenant_state.specs.declared.limits.TheConstants.{RECEIPT_LIMIT}
 use Rattle.tenant_state.specs.State.{TenantState}
 use Rattle.tenant_core.specs.declared.commands.Order.{Order}
 use Rattle.tenant_core.specs.declared.commands.Order.TheVariants.{ImportMap, ChangeDevices, CreatePool, RemovePool}
@@ -32,10 +33,6 @@ order_on (RemovePool id) state = pools.removed id state
 
 -- ---- once
 
--- the greatest number of receipts
-abbrev pub receipt_limit : ℕ
-receipt_limit = 100000
-
 abbrev pub receipt_for : Command → Accepted → Receipt
 receipt_for command a = record { path = command.path; body = command.body; status = a.status; reply = compact_text a.body }
 
@@ -45,7 +42,8 @@ change_or_refusal command (Err problem) = decided Keep (refused problem)
 change_or_refusal command (Ok a) =
     decided (Change (record { number = command.number; receipt = receipt_for command a; made = a.made })) (answered a.status a.body)
 
--- to a request number that has a receipt: its reply again, or a refusal where another request left it
+-- to a request number that has a receipt: its reply again, or a refusal where another request left
+-- it
 abbrev pub again : Command → Receipt → Answer
 again command receipt =
     if is_repeat command.path command.body receipt then repeated receipt.status receipt.reply else refused RequestReused
@@ -53,7 +51,7 @@ again command receipt =
 abbrev pub on_receipt : Command → TenantState → Option Receipt → Decided
 on_receipt command state (Some receipt) = decided Keep (again command receipt)
 on_receipt command state None =
-    if nat_le receipt_limit (length state.receipts) then decided Keep (refused TenantLimit)
+    if nat_le RECEIPT_LIMIT (length state.receipts) then decided Keep (refused TenantLimit)
     else change_or_refusal command (order_on command.order state)
 
 abbrev pub decision : Command → TenantState → Decided

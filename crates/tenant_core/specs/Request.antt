@@ -5,6 +5,7 @@ use Rattle.crush_map.specs.Faults.{is_name}
 use Rattle.tenant_core.specs.Route.{read, route_of}
 use Rattle.tenant_core.specs.Router.{target_of}
 use Rattle.tenant_core.specs.Target.{Target, methods_in, parameter}
+use Rattle.tenant_core.specs.declared.limits.TheConstants.{BODY_LIMIT}
 use Rattle.tenant_core.specs.declared.request.Action.{Action}
 use Rattle.tenant_core.specs.declared.route.Route.{Route}
 use Rattle.tenant_messages.specs.declared.call.Call.{Call}
@@ -40,12 +41,8 @@ abbrev pub on_target : List ℕ → List ℕ → Option Target → Result Reques
 on_target method body None = Err NoPath
 on_target method body (Some target) = on_route target body (route_of method (methods_in target))
 
--- the longest body, in bytes
-abbrev pub body_limit : ℕ
-body_limit = 1048576
-
 -- the length of the body comes before all other checks
 unfoldable pub request_of : Call → Result Request Problem
 request_of call =
-    if nat_lt body_limit (length call.body) then Err TooLarge
+    if nat_lt BODY_LIMIT (length call.body) then Err TooLarge
     else on_target call.method call.body (target_of call.path)

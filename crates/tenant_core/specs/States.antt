@@ -10,7 +10,8 @@ use Rattle.tenant_state.specs.State.{TenantState}
 
 -- ---- states
 
--- which state each name has, or none where that tenant is absent. It is a relation, since data of a name may be damaged
+-- which state each name has, or none where that tenant is absent. It is a relation, since data of a
+-- name may be damaged
 abbrev pub States : Type 1
 States = List ℕ → Option TenantState → Type 0
 
@@ -24,8 +25,8 @@ Same old new = (t : List ℕ) (s : Option TenantState) → old t s ↔ new t s
 
 -- ---- one reply
 
--- the reply isn't 503; it is the step's on the state of the call's tenant, which then has the step's state; a damaged
--- tenant stays so; every other tenant keeps its own
+-- the reply isn't 503; it is the step's on the state of the call's tenant, which then has the
+-- step's state; a damaged tenant stays so; every other tenant keeps its own
 pub record Follows (call : Call) (old new : States) (reply : Reply) : Type 0 where
   pub answered : is_answered reply ≡ true
   pub own : (t : List ℕ) (s : Option TenantState) → is_of t call ≡ true → old t s → (reply ≡ (step call s).reply) × new t (step call s).state

@@ -1,4 +1,5 @@
--- The service as one tenant sees it: one call on the state of that tenant. No other tenant, store or table is in it.
+-- The service as one tenant sees it: one call on the state of that tenant. No other tenant, store
+-- or table is in it.
 use Rattle.std.specs.Prelude.{ℕ, List, Bool, false, Option, option_and_then, Result, Ok, Err}
 use Rattle.std.specs.Option.{option_map_or}
 use Rattle.std.specs.Str.{bytes_eq}

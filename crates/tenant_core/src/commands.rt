@@ -15,8 +15,9 @@ use crush_pool::{DeviceChange, Pool};
 use std::alloc::{AllocError, Global};
 use std::marker::Model;
 use std::rc::Rc;
-use tenant_messages::{Bytes, Problem, Refusal, Reply, answered, refused, repeated};
+use tenant_messages::{Bytes, Problem, Refusal, Reply, answered, or_problem, refused, repeated};
 use tenant_resources::{Accepted, devices, maps, pools};
+use tenant_state::limits::RECEIPT_LIMIT;
 use tenant_state::{Change, Receipt, TenantState, is_repeat};
 
 /// What a changing request asks for.
@@ -36,7 +37,7 @@ pub enum Order {
 /// by them.
 #[derive(Drop)]
 pub struct Command<'a> {
-    /// The request number: 1 to 64 bytes.
+    /// The request number, of 1 byte to `REQUEST_NUMBER_LIMIT`.
     pub number: Text,
     pub path: &'a str,
     pub body: &'a [u8],
@@ -51,7 +52,7 @@ impl<'a> Model for Command<'a> {
     ghost view = { λ a. record { number = a.number; path = a.path.now; body = a.body.now; order = a.order } };
 }
 
-/// What an order makes, or why nothing: the table of all orders.
+/// What an order makes, with the reply, or why nothing: the table of all orders.
 fn accept(alloc: Global, order: &Order, state: &TenantState) -> Result<Accepted, Refusal>
     requires { length state.now.receipts < 2 ^ 32 }
     ensures given { Gives accepted_of result (spec.order_on order.now state.now) }
@@ -65,7 +66,7 @@ fn accept(alloc: Global, order: &Order, state: &TenantState) -> Result<Accepted,
     }
 }
 
-/// A copy of some bytes.
+/// A copy of some bytes. `Err(AllocError)`: an allocation failed; nothing is changed.
 fn copied(alloc: Global, bytes: &[u8]) -> Result<Bytes, AllocError>
     ensures { IfOk result (λ again. again ≡ bytes.now) }
 {
@@ -74,7 +75,8 @@ fn copied(alloc: Global, bytes: &[u8]) -> Result<Bytes, AllocError>
     Ok(Bytes::new(again))
 }
 
-/// The change that an accepted order makes, with its receipt, and the reply.
+/// The change that an accepted order makes, with its receipt, and the reply. `Err(AllocError)`: an
+/// allocation failed; what was accepted is dropped.
 fn with_receipt(
     alloc: Global,
     command: &Command<'_>,
@@ -99,10 +101,7 @@ fn with_receipt(
     Ok((Some(change), reply))
 }
 
-/// The greatest number of receipts of a tenant.
-const RECEIPT_LIMIT: usize = 100_000;
-
-/// What a request number without a receipt does.
+/// What a command with a new request number does: its change, if it is accepted, and the reply.
 fn apply_new(
     alloc: Global,
     state: &TenantState,
@@ -114,14 +113,14 @@ fn apply_new(
     if state.receipts().len() >= RECEIPT_LIMIT {
         return Ok((None, refused(alloc, Problem::TenantLimit)?));
     }
-    match accept(alloc, &command.order, state) {
+    match or_problem(accept(alloc, &command.order, state))? {
         Ok(accepted) => with_receipt(alloc, command, accepted),
-        Err(Refusal::Problem(problem)) => Ok((None, refused(alloc, problem)?)),
-        Err(Refusal::NoMemory) => Err(AllocError),
+        Err(problem) => Ok((None, refused(alloc, problem)?)),
     }
 }
 
-/// The reply to a request number with a receipt: that of the receipt again, or a refusal where another request left it.
+/// The reply to a command whose request number has a receipt: that of the receipt again, or the one
+/// that names `RequestReused` where another request left it.
 fn reply_again(alloc: Global, command: &Command<'_>, receipt: &Receipt) -> Result<Reply, AllocError>
     ensures { IfOk result (λ r. r ≡ reply (spec.again command.now receipt.now)) }
 {
@@ -132,7 +131,9 @@ fn reply_again(alloc: Global, command: &Command<'_>, receipt: &Receipt) -> Resul
     }
 }
 
-/// What a changing request does to a tenant: its change, if it is accepted, and its reply, which is that of its receipt where it is a repeat.
+/// What a changing request does to a tenant: its change, if it is accepted, and its reply, which is
+/// that of its receipt where it is a repeat. `Err(AllocError)`: an allocation failed; nothing is
+/// changed.
 ///
 /// The change isn't made yet (`TenantState::change`, `TenantState::after`).
 pub fn apply(

@@ -34,7 +34,7 @@ pub struct Decision {
     pub reply: Reply,
 }
 
-/// A reply that leaves the tenant as it is.
+/// The decision that leaves the tenant as it is, with this reply.
 fn kept(written: Reply) -> Decision
     ensures effect { result.effect ≡ Effect.Keep }
     ensures reply { result.reply ≡ written }
@@ -45,7 +45,7 @@ fn kept(written: Reply) -> Decision
     }
 }
 
-/// The decision on a changing request.
+/// The decision on a changing request, by its change, if it is accepted.
 fn changed(change: Option<Change>, written: Reply) -> Decision
     ensures effect { result.effect ≡ effect_of change }
     ensures reply { result.reply ≡ written }
@@ -61,7 +61,8 @@ fn changed(change: Option<Change>, written: Reply) -> Decision
     }
 }
 
-/// Decides what an action does to a tenant, from the tenant's state, or from its absence (`None`).
+/// What an action does to a tenant, and the reply, from the tenant's state, or from its absence
+/// (`None`). `Err(AllocError)`: an allocation failed; nothing is changed.
 pub fn decide(
     alloc: Global,
     tenant: &str,

@@ -14,7 +14,7 @@ ghost use Rattle.tenant_core.specs.declared.request.Action.{Action};
 ghost use Rattle.tenant_core.specs.declared.decision.Effect.{Effect};
 ghost use Rattle.tenant_state.specs.State.{TenantState, Change, epoch, fresh, after, pool};
 
-/// No step has the status 500 or 503: these are for a store that fails, and for want of memory.
+/// No step has the status 500 or 503: these are for a store that fails, and for no memory.
 pub fn no_step_answers_500_or_503()
     ensures no_500 { (call : Call) (s : Option TenantState) → (step call s).reply.status ≢ 500 }
     ensures no_503 { (call : Call) (s : Option TenantState) → (step call s).reply.status ≢ 503 }
@@ -31,8 +31,9 @@ pub fn each_change_raises_the_epoch_by_one()
     ensures { (tenant : List ℕ) (action : Action) (s : TenantState) (c : Change) → (decision_on tenant action (Some s)).effect ≡ Effect.Change c → epoch (after c s) ≡ suc (epoch s) }
 {}
 
-/// A changing request acts once. Accepted, it leaves a receipt, which no later change takes away; asked again of a state that
-/// has this receipt, it changes nothing and has the same reply, to the byte.
+/// A changing request acts once. Accepted, it leaves a receipt, which no later change takes away;
+/// asked again of a state that has this receipt, it changes nothing and has the same reply, to the
+/// byte.
 pub fn a_changing_request_acts_once()
     ensures receipt { (k : Command) (s : TenantState) (c : Change) → (decision k s).effect ≡ Effect.Change c → receipt_of k.number (after c s).receipts ≡ Some c.receipt }
     ensures stays { (number : List ℕ) (k : Command) (s : TenantState) (c : Change) (r : Receipt) → (decision k s).effect ≡ Effect.Change c
@@ -43,7 +44,8 @@ pub fn a_changing_request_acts_once()
         → reply (decision k u).answer ≡ reply (decision k s).answer }
 {}
 
-/// The newest version has the rule of each pool: so it is of a new tenant, and so it stays, whatever changes. Hence each group of a pool is placed.
+/// The newest version has the rule of each pool: so it is of a new tenant, and so it stays,
+/// whatever changes. Hence each group of a pool is placed.
 pub fn pools_have_their_rules()
     ensures fresh { have_rules fresh ≡ true }
     ensures stays { (tenant : List ℕ) (action : Action) (s : TenantState) (c : Change) → (decision_on tenant action (Some s)).effect ≡ Effect.Change c

@@ -4,6 +4,7 @@
 mod commands;
 mod decision;
 pub mod laws;
+pub mod limits;
 mod queries;
 mod request;
 mod route;

@@ -2,10 +2,11 @@
 
 ghost use Rattle.std.specs.Prelude.{◌≡◌, IfOk};
 ghost use Rattle.tenant_core.specs.Queries as spec;
+ghost use Rattle.tenant_messages.specs.Refusals.{Answers};
 ghost use Rattle.tenant_messages.specs.Reply.{reply};
 
 use std::alloc::{AllocError, Global};
-use tenant_messages::Reply;
+use tenant_messages::{Refusal, Reply, or_refused};
 use tenant_reports::{impact, moves, usage};
 use tenant_resources::{ObjectName, PickRequest, RuleTest, groups, maps, picks, rule_tests};
 use tenant_state::TenantState;
@@ -32,10 +33,9 @@ pub enum Query {
     Test(RuleTest),
 }
 
-/// The reply to a query, from the state of its tenant: the table of all queries. The error says that
-/// an allocation failed.
-pub fn answer(alloc: Global, state: &TenantState, query: &Query) -> Result<Reply, AllocError>
-    ensures { IfOk result (λ r. r ≡ reply (spec.answer query.now state.now)) }
+/// The reply to a query, from the state of its tenant, or the problem: the table of all queries.
+fn reply_or_refusal(alloc: Global, state: &TenantState, query: &Query) -> Result<Reply, Refusal>
+    ensures { Answers result (spec.answer query.now state.now) }
 {
     match query {
         Query::Version(number) => maps::answer(alloc, *number, state),
@@ -44,7 +44,15 @@ pub fn answer(alloc: Global, state: &TenantState, query: &Query) -> Result<Reply
         Query::Usage(pool) => usage::answer(alloc, *pool, state),
         Query::Moves(pool, from, to) => moves::answer(alloc, *pool, *from, *to, state),
         Query::Impact(pool, device) => impact::answer(alloc, *pool, *device, state),
-        Query::Pick(pick) => picks::answer(alloc, pick),
+        Query::Pick(pick) => Ok(picks::answer(alloc, pick)?),
         Query::Test(test) => rule_tests::answer(alloc, test, state),
     }
+}
+
+/// The reply to a query, from the state of its tenant, or the reply that names the problem.
+/// `Err(AllocError)`: an allocation failed; nothing is changed.
+pub fn answer(alloc: Global, state: &TenantState, query: &Query) -> Result<Reply, AllocError>
+    ensures { IfOk result (λ r. r ≡ reply (spec.answer query.now state.now)) }
+{
+    or_refused(alloc, reply_or_refusal(alloc, state, query))
 }

@@ -7,13 +7,14 @@ ghost use Rattle.tenant_messages.specs.Refusals.{Gives};
 ghost use Rattle.tenant_core.specs.Request as spec;
 
 use crate::commands::Command;
+use crate::limits::BODY_LIMIT;
 use crate::queries::Query;
 use crate::route::{Route, read};
 use crate::router::{Routes, Target};
 use crush_map::is_name;
 use std::alloc::Global;
 use std::marker::Model;
-use tenant_messages::{CallParts, Problem, ReadError, Refusal};
+use tenant_messages::{CallParts, Problem, Refusal};
 
 /// What a request asks for.
 #[derive(Drop)]
@@ -49,6 +50,7 @@ impl<'a> Model for Request<'a> {
 
 // ---- the tenant
 
+/// The name of the tenant, from the path's parameter `t`; `None` where it isn't a name.
 fn tenant_in<'p>(target: &Target<'_, 'p>) -> Option<&'p str>
     ensures { option_map (λ name. name.now) result ≡ spec.tenant_in target.now }
 {
@@ -58,24 +60,24 @@ fn tenant_in<'p>(target: &Target<'_, 'p>) -> Option<&'p str>
 
 // ---- all of it
 
+/// The tenant's name, and what the route asks for. The problem is `BadRequest`, exactly where one
+/// of them isn't of its form.
 fn in_form<'p>(
     alloc: Global,
     target: &Target<'_, 'p>,
     body: &'p [u8],
     route: Route,
-) -> Result<Request<'p>, ReadError>
+) -> Result<Request<'p>, Refusal>
     ensures { Reads (λ r. r) result (spec.in_form target.now body.now route) }
 {
-    let tenant = tenant_in(target).ok_or(ReadError::Malformed)?;
+    let tenant = tenant_in(target).ok_or(Problem::BadRequest)?;
     let action = read(alloc, route, target, body)?;
     Ok(Request { tenant, action })
 }
 
-/// The longest body, in bytes.
-const BODY_LIMIT: usize = 1_048_576;
-
-/// The request of a call, or the problem of its first check that fails, in the order: length of the body, route, method,
-/// the tenant's name, numbers in the path, form of the body. Or there is no memory.
+/// The request of a call. The problem is that of the first check that fails, in this order: the
+/// length of the body (`TooLarge`), the path (`NoPath`), the method (`Method`), and the tenant's
+/// name, the numbers in the path and the form of the body (`BadRequest`).
 #[tactic(auto, unfolding(crate::specs::Request::request_of))]
 pub fn read_request<'a>(
     alloc: Global,
@@ -87,11 +89,7 @@ pub fn read_request<'a>(
     if call.body.len() > BODY_LIMIT {
         return Err(Refusal::Problem(Problem::TooLarge));
     }
-    let target = routes
-        .find(call.path)
-        .ok_or(Refusal::Problem(Problem::NoPath))?;
-    let route = target
-        .route(call.method)
-        .ok_or(Refusal::Problem(Problem::Method))?;
-    Ok(in_form(alloc, &target, call.body, route)?)
+    let target = routes.find(call.path).ok_or(Problem::NoPath)?;
+    let route = target.route(call.method).ok_or(Problem::Method)?;
+    in_form(alloc, &target, call.body, route)
 }

@@ -12,7 +12,7 @@ use crate::router::Target;
 use crush_map::Text;
 use crush_words::number_from_text;
 use std::alloc::Global;
-use tenant_messages::ReadError;
+use tenant_messages::{Problem, Refusal};
 use tenant_reports::device_csv;
 use tenant_resources::{devices, groups, maps, picks, pools, rule_tests};
 
@@ -101,22 +101,23 @@ pub(crate) fn route_of(method: &[u8], methods: Methods) -> Option<Route>
 
 // ---- the parts of the path, and the body
 
-/// The number that a part of the path writes, in 1 to 10 digits.
-fn number(target: &Target<'_, '_>, key: &str) -> Result<u64, ReadError>
+/// The number that a part of the path writes, in 1 to 10 digits. The problem is `BadRequest`,
+/// exactly where it writes none.
+fn number(target: &Target<'_, '_>, key: &str) -> Result<u64, Refusal>
     ensures { Reads (λ n. n) result (path_number key.now target.now) }
 {
-    let part = target.parameter(key).ok_or(ReadError::Malformed)?;
-    number_from_text(part.as_bytes()).ok_or(ReadError::Malformed)
+    let part = target.parameter(key).ok_or(Problem::BadRequest)?;
+    Ok(number_from_text(part.as_bytes()).ok_or(Problem::BadRequest)?)
 }
 
-/// An action whose body is empty.
-fn if_empty<'p>(body: &[u8], action: Action<'p>) -> Result<Action<'p>, ReadError>
+/// An action whose body is empty. The problem is `BadRequest`, exactly where it isn't.
+fn if_empty<'p>(body: &[u8], action: Action<'p>) -> Result<Action<'p>, Refusal>
     ensures { Reads (λ a. a) result (spec.if_empty body.now action.entry) }
 {
     if body.is_empty() {
         Ok(action)
     } else {
-        Err(ReadError::Malformed)
+        Err(Refusal::Problem(Problem::BadRequest))
     }
 }
 
@@ -132,13 +133,14 @@ fn command<'p>(target: &Target<'_, 'p>, body: &'p [u8], number: Text, order: Ord
     })
 }
 
-/// What a route asks for, by the parts of the path and the body.
+/// What a route asks for, by the parts of the path and the body. The problem is `BadRequest`,
+/// exactly where one of them isn't of its form.
 pub(crate) fn read<'p>(
     alloc: Global,
     route: Route,
     target: &Target<'_, 'p>,
     body: &'p [u8],
-) -> Result<Action<'p>, ReadError>
+) -> Result<Action<'p>, Refusal>
     ensures { Reads (λ a. a) result (spec.read route target.now body.now) }
 {
     match route {

@@ -23,14 +23,14 @@ impl Routes {
     ghost use Rattle.std.specs.Prelude.{◌≡◌};
     ghost use Rattle.tenant_core.specs.Router.{target_of};
 
-    /// The router of all routes.
+    /// The router of all routes. `Err(AllocError)`: an allocation failed; nothing is changed.
     pub fn build(alloc: Global) -> Result<Self, AllocError> {
         let mut router = Router::new(alloc);
         insert_all(&mut router, &ROUTES)?;
         Ok(Routes { router })
     }
 
-    /// What a path names, if it has a route.
+    /// What a path names, or `None` where it has no route. Allocates nothing.
     pub fn find<'p>(&self, path: &'p str) -> Option<Target<'_, 'p>>
         ensures { result ≡ target_of path.now }
     {
@@ -102,13 +102,15 @@ impl<'r, 'p> Target<'r, 'p> {
     }
 }
 
+/// Whether each byte of a text is ASCII.
 fn is_ascii_text(text: &str) -> bool
     ensures { result ≡ list_all is_ascii text.now }
 {
     text.as_bytes().iter().all(|byte| byte.is_ascii())
 }
 
-/// Adds a path, which is well formed and conflicts with none in the router.
+/// Adds a path, which is well formed and conflicts with none in the router. `Err(AllocError)`: an
+/// allocation failed; the router must not be used any more.
 fn insert(router: &mut Router<Methods>, path: &str, methods: Methods) -> Result<(), AllocError>
     requires read { is_ok (parse_route path.now) ≡ true }
     requires new { is_new (parse_route path.now) router.old ≡ true }
@@ -121,7 +123,8 @@ fn insert(router: &mut Router<Methods>, path: &str, methods: Methods) -> Result<
     }
 }
 
-/// Adds paths in order.
+/// Adds paths in order. `Err(AllocError)`: an allocation failed; the router must not be used any
+/// more.
 fn insert_all(router: &mut Router<Methods>, rows: &[(&str, Methods)]) -> Result<(), AllocError>
     requires { are_new (map (λ row. (row.0.now, row.1)) rows.now) router.old ≡ true }
     ensures { OnOk result (router.new ≡ fold with_path router.old (map (λ row. (row.0.now, row.1)) rows.now)) }

@@ -13,7 +13,7 @@ use tenant_state::{Change, TenantState};
 /// Why a call of a store failed.
 #[derive(Clone, Copy, Debug, PartialEq, Eq)]
 pub enum StoreFault {
-    /// A growth was refused.
+    /// An allocation failed.
     NoMemory,
     /// The store is full.
     Full,
@@ -36,14 +36,17 @@ impl From<AllocError> for StoreFault {
 
 /// A store of tenants' states by name. It keeps the allocator that its constructor was given.
 ///
-/// Two relations give a store its meaning. `is_honest`: what it reads is what it wrote. `has_state`: the state of a name. In an
-/// honest store each name has one state, or is absent, or has damaged data. Every clause of a call has the premise that the
-/// store is honest after the call; it then was honest before. A call that fails changes nothing, and no call changes another name.
+/// Two relations give a store its meaning. `is_honest`: what it reads is what it wrote.
+/// `has_state`: the state of a name. In an honest store each name has one state, or is absent, or
+/// has damaged data. Every clause of a call has the premise that the store is honest after the
+/// call; it then was honest before. A call that fails changes nothing, and no call changes another
+/// name.
 pub trait TenantStore {
     /// What is read is what was written.
     ghost is_honest: { Self → Type 0 };
 
-    /// The name has this state, or is absent (`None`). Neither holds of a name whose data is damaged.
+    /// The name has this state, or is absent (`None`). Neither holds of a name whose data is
+    /// damaged.
     ghost has_state: { Self → List ℕ → Option TenantState → Type 0 };
 
     /// The state of a tenant, shared and not copied, or `None` where it is absent.
@@ -84,6 +87,8 @@ pub trait TenantStore {
     ghost one_state: { (store : Self) (t : List ℕ) (s u : Option TenantState) → is_honest store → has_state store t s → has_state store t u → s ≡ u };
 }
 
+/// The reply where a call of the store failed. `Err(AllocError)`: an allocation failed; nothing is
+/// changed.
 fn reply_to(alloc: Global, fault: StoreFault) -> Result<Reply, AllocError>
     ensures { IfOk result (λ r. r ≡ spec.store_fault fault) }
 {
@@ -108,8 +113,8 @@ fn store_failed(alloc: Global) -> Result<Reply, AllocError>
     written(alloc, 503, &error(alloc, "store_failed")?)
 }
 
-/// The reply where a call of the store failed: 500 `store_damaged`, 503 `store_failed`, or 503 for want of memory,
-/// which may also come in place of the others.
+/// The reply where a call of the store failed: 500 `store_damaged`, 503 `store_failed`, or the 503
+/// where an allocation failed, which may also come in place of the others. Never fails.
 pub fn store_fault(alloc: Global, fault: StoreFault) -> Reply
     ensures { (result ≡ spec.store_fault fault) ⊎ (result ≡ spec.no_memory) }
 {

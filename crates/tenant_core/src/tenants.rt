@@ -14,12 +14,14 @@ use tenant_state::TenantState;
 
 // ---- bodies of replies
 
+/// The body of the reply to a creation: the epoch 0 and the tenant's name.
 fn creation(alloc: Global, tenant: &str) -> Result<Value, AllocError>
     ensures { IfOk result (λ v. view v ≡ spec.creation tenant.now) }
 {
     json!(in alloc; {"epoch": 0u64, "tenant": tenant})
 }
 
+/// The body with what a tenant has: how many states of devices, pools and versions, and its epoch.
 fn summary(alloc: Global, tenant: &str, state: &TenantState) -> Result<Value, AllocError>
     ensures { IfOk result (λ v. view v ≡ spec.summary tenant.now state.now) }
 {
@@ -32,6 +34,7 @@ fn summary(alloc: Global, tenant: &str, state: &TenantState) -> Result<Value, Al
     })
 }
 
+/// The body of the reply to a removal: the tenant's name.
 fn removal(alloc: Global, tenant: &str) -> Result<Value, AllocError>
     ensures { IfOk result (λ v. view v ≡ spec.removal tenant.now) }
 {
@@ -40,7 +43,8 @@ fn removal(alloc: Global, tenant: &str) -> Result<Value, AllocError>
 
 // ---- decisions and replies
 
-/// Creates the tenant, if it is absent (`None`).
+/// The decision that creates the tenant, if it is absent (`None`); if it is there, the reply names
+/// `Exists`.
 pub(crate) fn create(
     alloc: Global,
     tenant: &str,
@@ -69,7 +73,7 @@ pub(crate) fn show(alloc: Global, tenant: &str, state: &TenantState) -> Result<R
     success(alloc, &summary(alloc, tenant, state)?)
 }
 
-/// Drops a tenant, which is there.
+/// The decision that drops a tenant, which is there.
 pub(crate) fn drop_tenant(alloc: Global, tenant: &str) -> Result<Decision, AllocError>
     ensures effect { IfOk result (λ d. d.effect ≡ Effect.Remove) }
     ensures reply { IfOk result (λ d. d.reply ≡ reply (success (spec.removal tenant.now))) }

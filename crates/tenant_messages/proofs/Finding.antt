@@ -8,6 +8,7 @@ use Rattle.serde_json.specs.Data.{Num, unsigned, negative, float, Data, null, bo
 use Rattle.serde_json.specs.Find.{get, as_bool, as_i64, as_integer, as_str}
 use Rattle.serde_json.specs.View.{items_of}
 use Rattle.tenant_messages.proofs.Objects.{AllFound, are_different, has_exactly, has_keys-exactly}
+use Rattle.tenant_messages.specs.declared.limits.TheConstants.{REQUEST_NUMBER_LIMIT}
 use Rattle.tenant_messages.specs.Forms.{IsNatural, IsInteger, IsBoolean, IsText, IsListOf, HasExactly, IsUnder, IsJson}
 use Rattle.tenant_messages.specs.Numbers.{IsRequestNumber, has_length, request_number_of}
 use Rattle.tenant_messages.specs.Json.{value_of, natural_of, integer_of, both, all_three, each_of, list_of, has_keys, under}
@@ -220,7 +221,8 @@ finds_list finds = record { says = list-says finds; found = λ d xs is. rw is.is
 
 -- ---- objects
 
--- where as many keys are there as are named for what is found, and each of them, the keys are exactly those named
+-- where as many keys are there as are named for what is found, and each of them, the keys are
+-- exactly those named
 pub finds_object_with : {A : Type 0} {f : Data → Option A} {Says : Data → A → Type 0} (count : Data → ℕ) (keys : A → List (List ℕ))
     → ((a : A) → are_different (keys a) ≡ true) → ((d : Data) (a : A) → Says d a → AllFound (keys a) d) → ((d : Data) (a : A) → Says d a → count d ≡ length (keys a))
     → Finds f Says → Finds (λ d. if has_keys (count d) d then f d else None) (λ d a. HasExactly (keys a) d × Says d a)
@@ -271,12 +273,12 @@ finds_as to from finds = record { says = λ d a h. to d a (finds.says d a h); fo
 pub Decides-leb : (a b : ℕ) → Decides (nat_le a b) (a ≤ b)
 Decides-leb a b = (λ h. grind (arith, nat_tests), λ h. grind (arith, nat_tests))
 
-Decides-length : (text : List ℕ) → Decides (has_length text) ((1 ≤ length text) × (length text ≤ 64))
-Decides-length text = Decides-and (nat_le 1 (length text)) (nat_le (length text) 64) (Decides-leb 1 (length text)) (Decides-leb (length text) 64)
+Decides-length : (text : List ℕ) → Decides (has_length text) ((1 ≤ length text) × (length text ≤ REQUEST_NUMBER_LIMIT))
+Decides-length text = Decides-and (nat_le 1 (length text)) (nat_le (length text) REQUEST_NUMBER_LIMIT) (Decides-leb 1 (length text)) (Decides-leb (length text) REQUEST_NUMBER_LIMIT)
 
 pub finds_number : Finds request_number_of IsRequestNumber
 finds_number = finds_as (λ d n is. record { text = is.0; some = is.1.0; few = is.1.1 }) (λ d n is. (is.text, (is.some, is.few)))
-    (finds_tested has_length (λ t. (1 ≤ length t) × (length t ≤ 64)) (λ n. (Decides-length n).0) (λ n. (Decides-length n).1) finds_text)
+    (finds_tested has_length (λ t. (1 ≤ length t) × (length t ≤ REQUEST_NUMBER_LIMIT)) (λ n. (Decides-length n).0) (λ n. (Decides-length n).1) finds_text)
 
 -- ---- bytes
 

@@ -1,4 +1,5 @@
--- A key that may be missing: what is found under it, and that the object's keys are still exactly those named.
+-- A key that may be missing: what is found under it, and that the object's keys are still exactly
+-- those named.
 use Rattle.std.proofs.Common.{◌≡◌, ℕ, List, [], ◌∷◌, ◌++◌, length, Option, Some, None, option_map, refl, ap, ◌∙◌}
 use Rattle.serde_json.specs.Data.{Data}
 use Rattle.serde_json.specs.Find.{get}

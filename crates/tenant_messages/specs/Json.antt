@@ -7,7 +7,8 @@ use Rattle.serde_json.specs.Read.{read}
 use Rattle.serde_json.specs.Find.{get, as_number, as_u64, as_i64, as_array, as_object}
 use Rattle.serde_json.specs.Events.{members_len}
 
--- the JSON value of some bytes (RFC 8259), as `serde_json` reads it: of a key that comes twice the last value counts
+-- the JSON value of some bytes (RFC 8259), as `serde_json` reads it: of a key that comes twice the
+-- last value counts
 abbrev pub value_of : List ℕ → Option Data
 value_of bytes = if is_utf8 bytes then read bytes else None
 
@@ -64,6 +65,6 @@ on_optional f (Some d) = option_map (λ a. Some a) (f d)
 abbrev pub optional : {A : Type 0} → List ℕ → (Data → Option A) → Data → Option (Option A)
 optional key f d = on_optional f (get key d)
 
--- how many keys it is: one, or none
+-- 1 if the value is an object that has the key, else 0
 abbrev pub present : List ℕ → Data → ℕ
 present key d = if is_some (get key d) then 1 else 0

@@ -1,4 +1,5 @@
--- Answers to calls, and the replies that say them: a status and compact JSON, keys in the order of their bytes.
+-- Answers to calls, and the replies that say them: a status and compact JSON, keys in the order of
+-- their bytes.
 use Rattle.std.specs.Prelude.{ℕ, List, [], ◌∷◌, codes}
 use Rattle.crush_grammar.specs.declared.code.TextFault.{TextFault}
 use Rattle.crush_text.specs.Codes.{code_text}
@@ -16,7 +17,7 @@ use Rattle.tenant_messages.specs.declared.reply.SuccessStatus.TheVariants.{Done,
 pub data Answer : Type 0 where
   refused : Problem → Answer  -- why nothing is done
   answered : SuccessStatus → Data → Answer  -- 200 or 201, with this body
-  repeated : SuccessStatus → List ℕ → Answer  -- the status and the body of an earlier reply, to the byte
+  repeated : SuccessStatus → List ℕ → Answer  -- status and body of an earlier reply, to the byte
 
 -- 200
 abbrev pub success : Data → Answer
@@ -98,6 +99,6 @@ reply (repeated status body) = record { status = success_status status; body = b
 
 -- ---- where there is no answer
 
--- the reply for want of memory: its text is added where it is written out
+-- the reply where there is no memory: its text is added where it is written out
 abbrev pub no_memory : Reply
 no_memory = record { status = 503; body = [] }

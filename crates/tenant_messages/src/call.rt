@@ -8,7 +8,8 @@ use crush_map::{Listed, Text};
 /// Bytes that a contract sees as a list.
 pub type Bytes = Listed<u8>;
 
-/// A method, a path and a body, none of them checked. The path is the request target (RFC 9112) as received: nothing is decoded.
+/// A method, a path and a body, none of them checked. The path is the request target (RFC 9112) as
+/// received: nothing is decoded.
 #[derive(Drop)]
 pub struct Call {
     pub method: Bytes,

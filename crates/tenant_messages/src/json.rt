@@ -1,4 +1,4 @@
-//! Reading bodies: bytes as a JSON value, and that value as one of a given form.
+//! Reading bodies: bytes as a JSON value (RFC 8259), and that value as one of a given form.
 
 ghost use Rattle.std.specs.Prelude.{◌≡◌, option_map, codes};
 ghost use Rattle.serde_json.specs.Find.{as_bool, as_str};
@@ -7,56 +7,24 @@ ghost use Rattle.tenant_messages.specs.Json as spec;
 ghost use Rattle.tenant_messages.specs.Numbers as numbers;
 ghost use Rattle.tenant_messages.specs.Reading.{Reads};
 
+use crate::limits::REQUEST_NUMBER_LIMIT;
 use crate::reply::{Problem, Refusal};
 use serde_json::Value;
-use std::alloc::{AllocError, Global};
+use std::alloc::Global;
 
-/// Why a request wasn't read.
-#[derive(Clone, Copy, Debug, PartialEq, Eq)]
-pub enum ReadError {
-    /// A name in the path or the body isn't of its form.
-    Malformed,
-    /// A growth was refused.
-    NoMemory,
-}
-
-impl From<AllocError> for ReadError {
-    ghost use Rattle.std.specs.Prelude.{◌≡◌};
-    ghost use Rattle.tenant_messages.specs.declared.json.ReadError.TheVariants.{NoMemory};
-
-    ghost from_gives = { λ _ error. error ≡ NoMemory };
-
-    fn from(_error: AllocError) -> ReadError {
-        ReadError::NoMemory
-    }
-}
-
-impl From<ReadError> for Refusal {
-    ghost use Rattle.std.specs.Prelude.{◌≡◌};
-    ghost use Rattle.tenant_messages.specs.Reading.{refusal_of};
-
-    ghost from_gives = { λ error refusal. refusal ≡ refusal_of error };
-
-    fn from(error: ReadError) -> Refusal {
-        match error {
-            ReadError::Malformed => Refusal::Problem(Problem::BadRequest),
-            ReadError::NoMemory => Refusal::NoMemory,
-        }
-    }
-}
-
-/// The JSON value of a body.
-pub fn read_value(alloc: Global, body: &[u8]) -> Result<Value, ReadError>
+/// The JSON value of a body. The problem is `BadRequest`, exactly where the body isn't JSON in
+/// UTF-8.
+pub fn read_value(alloc: Global, body: &[u8]) -> Result<Value, Refusal>
     ensures { Reads view result (spec.value_of body.now) }
 {
     match Value::from_slice(alloc, body) {
         Ok(value) => Ok(value),
-        Err(error) if error.is_memory() => Err(ReadError::NoMemory),
-        Err(_) => Err(ReadError::Malformed),
+        Err(error) if error.is_memory() => Err(Refusal::NoMemory),
+        Err(_) => Err(Refusal::Problem(Problem::BadRequest)),
     }
 }
 
-/// Whether the value is an object with this number of keys.
+/// Whether the value is an object with `count` different keys.
 pub fn has_keys(value: &Value, count: usize) -> bool
     ensures { result ≡ spec.has_keys count (view value.now) }
 {
@@ -66,7 +34,8 @@ pub fn has_keys(value: &Value, count: usize) -> bool
     members.len() == count
 }
 
-/// The whole number under a key, from 0 to `greatest`.
+/// The whole number under a key, if it is from 0 to `greatest`; else `None`. It is written without
+/// sign, point and exponent.
 pub fn natural(value: &Value, key: &str, greatest: u32) -> Option<u32>
     ensures { result ≡ spec.under key.now (spec.natural_of greatest) (view value.now) }
 {
@@ -78,7 +47,8 @@ pub fn natural(value: &Value, key: &str, greatest: u32) -> Option<u32>
     }
 }
 
-/// The whole number under a key, from `least` to `greatest`.
+/// The whole number under a key, if it is from `least` to `greatest`; else `None`. It is written
+/// without point and exponent.
 pub fn integer(value: &Value, key: &str, least: i32, greatest: i32) -> Option<i32>
     ensures { result ≡ spec.under key.now (spec.integer_of least greatest) (view value.now) }
 {
@@ -90,21 +60,22 @@ pub fn integer(value: &Value, key: &str, least: i32, greatest: i32) -> Option<i3
     }
 }
 
-/// The truth value under a key.
+/// The truth value under a key, or `None` where there is none.
 pub fn boolean(value: &Value, key: &str) -> Option<bool>
     ensures { result ≡ spec.under key.now as_bool (view value.now) }
 {
     value.get(key)?.as_bool()
 }
 
-/// The text under a key.
+/// The text under a key, or `None` where there is none.
 pub fn text<'a>(value: &'a Value, key: &str) -> Option<&'a str>
     ensures { option_map (λ t. t.now) result ≡ spec.under key.now as_str (view value.now) }
 {
     value.get(key)?.as_str()
 }
 
-/// The whole number under a key, from 0 to `greatest`; `None` where there is no such key.
+/// The whole number under a key, from 0 to `greatest`: `Some(None)` where the object has no such
+/// key, and `None` where the value under the key is another.
 pub fn optional_natural(value: &Value, key: &str, greatest: u32) -> Option<Option<u32>>
     ensures { result ≡ spec.optional key.now (spec.natural_of greatest) (view value.now) }
 {
@@ -114,7 +85,8 @@ pub fn optional_natural(value: &Value, key: &str, greatest: u32) -> Option<Optio
     }
 }
 
-/// The truth value under a key; `None` where there is no such key.
+/// The truth value under a key: `Some(None)` where the object has no such key, and `None` where the
+/// value under the key is another.
 pub fn optional_boolean(value: &Value, key: &str) -> Option<Option<bool>>
     ensures { result ≡ spec.optional key.now as_bool (view value.now) }
 {
@@ -124,12 +96,13 @@ pub fn optional_boolean(value: &Value, key: &str) -> Option<Option<bool>>
     }
 }
 
-/// The request number of a changing request: a text of 1 to 64 bytes.
+/// The request number of a changing request, under the key `request`: a text of at least one byte
+/// and at most `REQUEST_NUMBER_LIMIT`. Else `None`.
 pub fn request_number(value: &Value) -> Option<&str>
     ensures { option_map (λ t. t.now) result ≡ spec.under (codes "request") numbers.request_number_of (view value.now) }
 {
     let number = text(value, "request")?;
-    if number.is_empty() || number.len() > 64 {
+    if number.is_empty() || number.len() > REQUEST_NUMBER_LIMIT {
         return None;
     }
     Some(number)

@@ -1,18 +1,20 @@
-//! Calls and replies: the parts of a call, the reading of JSON bodies, and replies as a status and compact JSON.
+//! Calls and replies: the parts of a call, the reading of JSON bodies, and replies as a status and
+//! compact JSON.
 #![tactic(auto)]
 
 mod call;
 mod json;
+pub mod limits;
 mod reply;
 mod slots;
 
 pub use call::{Bytes, Call, CallParts};
 pub use json::{
-    ReadError, boolean, has_keys, integer, natural, optional_boolean, optional_natural, read_value,
+    boolean, has_keys, integer, natural, optional_boolean, optional_natural, read_value,
     request_number, text,
 };
 pub use reply::{
-    Problem, Refusal, Reply, SuccessStatus, answered, created, error, no_memory, or_refused,
-    refused, repeated, success, written,
+    Problem, Refusal, Reply, SuccessStatus, answered, created, error, no_memory, or_problem,
+    or_refused, refused, repeated, success, written,
 };
 pub use slots::{ids_json, slot_json, slots_json};

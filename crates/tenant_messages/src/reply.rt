@@ -1,9 +1,9 @@
 //! Replies: a status, and a body of compact JSON.
 
-ghost use Rattle.std.specs.Prelude.{◌≡◌, false, IfOk};
+ghost use Rattle.std.specs.Prelude.{◌≡◌, false, IfOk, OnErr, Err};
 ghost use Rattle.serde_json.specs.View.{view};
 ghost use Rattle.serde_json.specs.Written.{has_float};
-ghost use Rattle.tenant_messages.specs.Refusals.{Answers};
+ghost use Rattle.tenant_messages.specs.Refusals.{Answers, came_of};
 ghost use Rattle.tenant_messages.specs.Reply as spec;
 
 use crush_map::Text;
@@ -12,7 +12,7 @@ use serde_json::{Value, json};
 use std::alloc::{AllocError, Global};
 
 /// The reply to a call: an HTTP status, and a body of compact JSON.
-/// The body of a 503 for want of memory is empty: whoever writes it out knows its text.
+/// The body of a 503 where an allocation failed is empty: whoever writes it out knows its text.
 #[derive(Drop)]
 pub struct Reply {
     pub status: u16,
@@ -78,11 +78,11 @@ pub enum Problem {
     TenantLimit,
 }
 
-/// Why a request isn't carried out: a problem, which its reply names, or want of memory.
+/// Why a request isn't carried out: a problem, which its reply names, or no memory.
 #[derive(Clone, Copy, Debug, PartialEq, Eq)]
 pub enum Refusal {
     Problem(Problem),
-    /// A growth was refused.
+    /// An allocation failed.
     NoMemory,
 }
 
@@ -157,7 +157,8 @@ impl Problem {
     }
 }
 
-/// A status and a value as compact JSON.
+/// The reply with a status and a value as compact JSON. `Err(AllocError)`: an allocation failed;
+/// nothing is changed.
 pub fn written(alloc: Global, status: u16, value: &Value) -> Result<Reply, AllocError>
     requires { has_float (view value.now) ≡ false }
     ensures { IfOk result (λ r. r ≡ spec.written status (view value.now)) }
@@ -166,14 +167,14 @@ pub fn written(alloc: Global, status: u16, value: &Value) -> Result<Reply, Alloc
     Ok(Reply { status, body })
 }
 
-/// The body that names an error.
+/// The body that names an error: `{"error": CODE}`.
 pub fn error(alloc: Global, code: &str) -> Result<Value, AllocError>
     ensures { IfOk result (λ v. view v ≡ spec.error code.now) }
 {
     json!(in alloc; {"error": code})
 }
 
-/// The body that names the first fault of a map text.
+/// The body that names the first fault of a map text: its code, and its line from 1 on.
 fn map_error(alloc: Global, fault: TextFault) -> Result<Value, AllocError>
     ensures { IfOk result (λ v. view v ≡ spec.map_error fault) }
 {
@@ -202,14 +203,27 @@ pub fn refused(alloc: Global, problem: Problem) -> Result<Reply, AllocError>
     written(alloc, problem.status(), &problem_json(alloc, problem)?)
 }
 
-/// The reply, or the one to a call that is refused; an error where an allocation failed.
+/// The value or the problem that came of a check. `Err(AllocError)`: exactly where there was no
+/// memory. Allocates nothing.
+pub fn or_problem<T>(outcome: Result<T, Refusal>) -> Result<Result<T, Problem>, AllocError>
+    ensures found { IfOk result (λ found. outcome ≡ came_of found) }
+    ensures no_memory { OnErr result (outcome ≡ Err Refusal.NoMemory) }
+{
+    match outcome {
+        Ok(value) => Ok(Ok(value)),
+        Err(Refusal::Problem(problem)) => Ok(Err(problem)),
+        Err(Refusal::NoMemory) => Err(AllocError),
+    }
+}
+
+/// The reply where there is one, or the reply that names the problem. `Err(AllocError)`: an
+/// allocation failed, here or before; nothing is changed.
 pub fn or_refused(alloc: Global, reply: Result<Reply, Refusal>) -> Result<Reply, AllocError>
     ensures { (answer : spec.Answer) → Answers reply answer → IfOk result (λ r. r ≡ spec.reply answer) }
 {
-    match reply {
+    match or_problem(reply)? {
         Ok(reply) => Ok(reply),
-        Err(Refusal::Problem(problem)) => refused(alloc, problem),
-        Err(Refusal::NoMemory) => Err(AllocError),
+        Err(problem) => refused(alloc, problem),
     }
 }
 
@@ -251,7 +265,7 @@ pub fn repeated(alloc: Global, status: SuccessStatus, body: &str) -> Result<Repl
     })
 }
 
-/// The reply where there is no memory: 503. Allocates nothing.
+/// The reply where an allocation failed: 503, with an empty body. Allocates nothing.
 pub fn no_memory(alloc: Global) -> Reply
     ensures { result ≡ spec.no_memory }
 {

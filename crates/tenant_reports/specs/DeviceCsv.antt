@@ -1,6 +1,6 @@
--- States of devices as CSV, at `/t/{t}/devices/csv`: POST changes reweights, and which devices are up.
-use Rattle.std.specs.Prelude.{ℕ, List, [], ◌∷◌, Bool, Option, option_and_then, codes, if◌then◌else◌, None}
-use Rattle.std.specs.Str.{bytes_eq}
+-- States of devices as CSV, at `/t/{t}/devices/csv`: POST changes reweights, and which devices are
+-- up.
+use Rattle.std.specs.Prelude.{ℕ, List, [], ◌∷◌, Option, option_and_then, codes, if◌then◌else◌, None}
 use Rattle.serde_json.specs.Data.{Data}
 use Rattle.serde_json.specs.Find.{as_str}
 use Rattle.crush_report.specs.DeviceCsv.{IsDeviceCsv, device_changes_of}
@@ -8,15 +8,6 @@ use Rattle.crush_pool.specs.declared.changes.DeviceChange.{DeviceChange}
 use Rattle.tenant_messages.specs.Json.{value_of, both, has_keys, under}
 use Rattle.tenant_messages.specs.Numbers.{IsRequestNumber, request_number_of}
 use Rattle.tenant_messages.specs.Forms.{IsText, HasExactly, IsUnder}
-
--- ---- requests
-
-abbrev pub route : List ℕ
-route = codes "/t/{t}/devices/csv"
-
--- whether the route has this method
-abbrev pub has_method : List ℕ → Bool
-has_method method = bytes_eq method (codes "POST")
 
 -- ---- the form of a body, and the changes that it says
 
@@ -32,7 +23,9 @@ pub record IsDeviceCsvBody (d : Data) (asked : List ℕ × List DeviceChange) : 
   pub csv : IsUnder (codes "csv") IsCsv d asked.1
   pub request : IsUnder (codes "request") IsRequestNumber d asked.0
 
--- ---- reading a body: changes are read exactly where the body has that form (law `device_csv_requests_are_of_the_form`)
+-- ---- reading a body
+
+-- changes are read exactly where the body has that form (law `device_csv_requests_are_of_the_form`)
 
 abbrev pub csv_of : Data → Option (List DeviceChange)
 csv_of d = option_and_then device_changes_of (as_str d)

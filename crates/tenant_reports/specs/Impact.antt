@@ -1,7 +1,7 @@
--- Which groups of a pool a device can touch: at `/t/{t}/pools/{p}/impact/{d}` GET reads those in whose trace it is, on the newest version.
-use Rattle.std.specs.Prelude.{ℕ, ◌==◌, List, [], ◌∷◌, map, Bool, Option, Some, None, Result, Ok, Err, codes, if◌then◌else◌}
+-- Which groups of a pool a device can touch: at `/t/{t}/pools/{p}/impact/{d}` GET reads those in
+-- whose trace it is, on the newest version.
+use Rattle.std.specs.Prelude.{ℕ, ◌==◌, List, [], ◌∷◌, map, Option, Some, None, Result, Ok, Err, codes, if◌then◌else◌}
 use Rattle.std.specs.Option.{ok_or}
-use Rattle.std.specs.Str.{bytes_eq}
 use Rattle.serde_json.specs.Data.{Data, object}
 use Rattle.crush_map.specs.declared.draft.Device.{Device}
 use Rattle.crush_pool.specs.Placers.{PoolOnMap}
@@ -13,15 +13,6 @@ use Rattle.tenant_messages.specs.Slots.{list_json}
 use Rattle.tenant_messages.specs.declared.reply.Problem.{Problem}
 use Rattle.tenant_messages.specs.declared.reply.Problem.TheVariants.{NoPool, NoDevice, NoRule}
 use Rattle.tenant_state.specs.State.{TenantState, epoch, newest, on_newest, pool}
-
--- ---- requests
-
-abbrev pub route : List ℕ
-route = codes "/t/{t}/pools/{p}/impact/{d}"
-
--- whether the route has this method
-abbrev pub has_method : List ℕ → Bool
-has_method method = bytes_eq method (codes "GET")
 
 -- ---- the answer
 

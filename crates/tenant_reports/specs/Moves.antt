@@ -1,7 +1,7 @@
--- Which groups of a pool move between two versions: at `/t/{t}/pools/{p}/moves/{v}/{w}` GET reads those whose up lists differ.
-use Rattle.std.specs.Prelude.{ℕ, List, [], ◌∷◌, length, map, Bool, Option, Some, None, Result, Ok, Err, codes}
+-- Which groups of a pool move between two versions: at `/t/{t}/pools/{p}/moves/{v}/{w}` GET reads
+-- those whose up lists differ.
+use Rattle.std.specs.Prelude.{ℕ, List, [], ◌∷◌, length, map, Option, Some, None, Result, Ok, Err, codes}
 use Rattle.std.specs.Option.{ok_or}
-use Rattle.std.specs.Str.{bytes_eq}
 use Rattle.serde_json.specs.Data.{Data, object}
 use Rattle.crush_map.specs.Map.{Map}
 use Rattle.crush_pool.specs.Placers.{PoolOnMap}
@@ -16,15 +16,6 @@ use Rattle.tenant_messages.specs.declared.reply.Problem.{Problem}
 use Rattle.tenant_messages.specs.declared.reply.Problem.TheVariants.{NoVersion, NoPool, NoRule}
 use Rattle.tenant_state.specs.State.{TenantState, epoch, version, on_version, pool}
 
--- ---- requests
-
-abbrev pub route : List ℕ
-route = codes "/t/{t}/pools/{p}/moves/{v}/{w}"
-
--- whether the route has this method
-abbrev pub has_method : List ℕ → Bool
-has_method method = bytes_eq method (codes "GET")
-
 -- ---- the answer
 
 -- {"gained": .., "group": g, "new": [..], "old": [..]}
@@ -33,7 +24,8 @@ row_json row =
     object (members_of ((codes "gained", natural row.gained) ∷ (codes "group", natural row.group) ∷ (codes "new", list_json (map slot_json row.new))
     ∷ (codes "old", list_json (map slot_json row.old)) ∷ []))
 
--- {"epoch": E, "from": v, "gained": the sum of the rows', "moved": how many rows, "pool": p, "rows": [ROW, ..], "to": w}
+-- {"epoch": E, "from": v, "gained": the sum of the rows', "moved": how many rows, "pool": p,
+-- "rows": [ROW, ..], "to": w}
 abbrev pub moves_reply : TenantState → ℕ → ℕ → ℕ → List MoveRow → Data
 moves_reply state id from to rows =
     object (members_of ((codes "epoch", natural (epoch state)) ∷ (codes "from", natural from) ∷ (codes "gained", natural (gained_in rows))

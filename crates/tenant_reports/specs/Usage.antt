@@ -1,7 +1,7 @@
--- How much of a pool lies on each device: at `/t/{t}/pools/{p}/usage` GET reads the counts of all groups on the newest version.
-use Rattle.std.specs.Prelude.{ℕ, List, [], ◌∷◌, map, Bool, Option, Some, None, Result, Ok, Err, codes}
+-- How much of a pool lies on each device: at `/t/{t}/pools/{p}/usage` GET reads the counts of all
+-- groups on the newest version.
+use Rattle.std.specs.Prelude.{ℕ, List, [], ◌∷◌, map, Option, Some, None, Result, Ok, Err, codes}
 use Rattle.std.specs.Option.{ok_or}
-use Rattle.std.specs.Str.{bytes_eq}
 use Rattle.serde_json.specs.Data.{Data, object}
 use Rattle.crush_pool.specs.Placers.{PoolOnMap}
 use Rattle.crush_pool.specs.declared.pool.PoolParts.{PoolParts}
@@ -13,15 +13,6 @@ use Rattle.tenant_messages.specs.Slots.{list_json}
 use Rattle.tenant_messages.specs.declared.reply.Problem.{Problem}
 use Rattle.tenant_messages.specs.declared.reply.Problem.TheVariants.{NoPool, NoRule}
 use Rattle.tenant_state.specs.State.{TenantState, epoch, newest, on_newest, pool}
-
--- ---- requests
-
-abbrev pub route : List ℕ
-route = codes "/t/{t}/pools/{p}/usage"
-
--- whether the route has this method
-abbrev pub has_method : List ℕ → Bool
-has_method method = bytes_eq method (codes "GET")
 
 -- ---- the answer
 

@@ -1,4 +1,5 @@
-//! States of devices as CSV, at `/t/{t}/devices/csv`: POST changes reweights, and which devices are up.
+//! States of devices as CSV, at `/t/{t}/devices/csv`: POST changes reweights, and which devices are
+//! up.
 
 ghost use Rattle.std.specs.Prelude.{◌≡◌};
 ghost use Rattle.serde_json.specs.View.{view};
@@ -11,42 +12,36 @@ use crush_pool::DeviceChange;
 use crush_report::read_device_csv;
 use serde_json::Value;
 use std::alloc::Global;
-use tenant_messages::{ReadError, has_keys, read_value, request_number, text};
+use tenant_messages::{Problem, Refusal, has_keys, read_value, request_number, text};
 
-/// The route of states of devices as CSV.
-pub const ROUTE: &str = "/t/{t}/devices/csv";
-
-/// Whether the route has this method.
-pub fn has_method(method: &[u8]) -> bool
-    ensures { result ≡ spec.has_method method.now }
-{
-    method == b"POST".as_slice()
-}
-
-/// The changes that a CSV says.
-fn changes(alloc: Global, csv: &str) -> Result<Listed<DeviceChange>, ReadError>
+/// The changes that a CSV says, in the order of its lines. The problem is `BadRequest`, exactly
+/// where the text isn't of the form of such a CSV.
+fn changes(alloc: Global, csv: &str) -> Result<Listed<DeviceChange>, Refusal>
     ensures { Reads (λ changes. changes) result (device_changes_of csv.now) }
 {
     match read_device_csv(alloc, csv.as_bytes())? {
         Ok(changes) => Ok(Listed::new(changes)),
-        Err(_) => Err(ReadError::Malformed),
+        Err(_) => Err(Refusal::Problem(Problem::BadRequest)),
     }
 }
 
-fn changes_in(alloc: Global, value: &Value) -> Result<(Text, Listed<DeviceChange>), ReadError>
+/// The request number and the changes that a body's value says. The problem is `BadRequest`,
+/// exactly where the value isn't of the form of such a body.
+fn changes_in(alloc: Global, value: &Value) -> Result<(Text, Listed<DeviceChange>), Refusal>
     ensures { Reads (λ asked. asked) result (spec.changes_of (view value.now)) }
 {
     if !has_keys(value, 2) {
-        return Err(ReadError::Malformed);
+        return Err(Refusal::Problem(Problem::BadRequest));
     }
-    let number = request_number(value).ok_or(ReadError::Malformed)?;
-    let csv = text(value, "csv").ok_or(ReadError::Malformed)?;
+    let number = request_number(value).ok_or(Problem::BadRequest)?;
+    let csv = text(value, "csv").ok_or(Problem::BadRequest)?;
     let changes = changes(alloc, csv)?;
     Ok((Text::copy(alloc, number)?, changes))
 }
 
-/// The request number and the changes that a body asks for.
-pub fn read_changes(alloc: Global, body: &[u8]) -> Result<(Text, Listed<DeviceChange>), ReadError>
+/// The request number and the changes that a body asks for. The problem is `BadRequest`, exactly
+/// where the body isn't of the form (`IsDeviceCsvBody`).
+pub fn read_changes(alloc: Global, body: &[u8]) -> Result<(Text, Listed<DeviceChange>), Refusal>
     ensures { Reads (λ asked. asked) result (spec.device_csv_request_of body.now) }
 {
     changes_in(alloc, &read_value(alloc, body)?)

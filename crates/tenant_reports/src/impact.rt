@@ -1,9 +1,10 @@
-//! Which groups of a pool a device can touch: at `/t/{t}/pools/{p}/impact/{d}` GET reads those in whose trace it is, on the newest version.
+//! Which groups of a pool a device can touch: at `/t/{t}/pools/{p}/impact/{d}` GET reads those in
+//! whose trace it is, on the newest version.
 
 ghost use Rattle.std.specs.Prelude.{◌≡◌, IfOk, map};
 ghost use Rattle.serde_json.specs.View.{view};
 ghost use Rattle.tenant_messages.specs.Refusals.{Answers, Gives};
-ghost use Rattle.tenant_messages.specs.Reply.{reply, natural};
+ghost use Rattle.tenant_messages.specs.Reply.{natural};
 ghost use Rattle.tenant_messages.specs.Slots.{list_json};
 ghost use Rattle.tenant_reports.specs.Impact as spec;
 
@@ -12,18 +13,8 @@ use crush_pool::Pool;
 use crush_report::impact_with;
 use serde_json::{Value, json};
 use std::alloc::{AllocError, Global};
-use tenant_messages::{Problem, Refusal, Reply, ids_json, or_refused, success};
+use tenant_messages::{Problem, Refusal, Reply, ids_json, success};
 use tenant_state::TenantState;
-
-/// The route of impact.
-pub const ROUTE: &str = "/t/{t}/pools/{p}/impact/{d}";
-
-/// Whether the route has this method.
-pub fn has_method(method: &[u8]) -> bool
-    ensures { result ≡ spec.has_method method.now }
-{
-    method == b"GET".as_slice()
-}
 
 // ---- the groups
 
@@ -39,7 +30,8 @@ fn id_of(devices: &[Device], number: u64) -> Option<u32>
     None
 }
 
-/// The groups on the newest version, or why there are none.
+/// The groups on the newest version that a device can touch, ascending. The problem is `NoVersion`,
+/// `NoRule`, or `NoDevice`.
 fn groups_of(
     alloc: Global,
     state: &TenantState,
@@ -56,6 +48,7 @@ fn groups_of(
 
 // ---- the answer
 
+/// The body of the reply with these groups.
 fn impact_reply(
     alloc: Global,
     state: &TenantState,
@@ -75,20 +68,14 @@ fn impact_reply(
     })
 }
 
-/// The reply with the groups, of the pool with an id, that a device can touch; or why there are
-/// none.
-fn touched(alloc: Global, id: u64, device: u64, state: &TenantState) -> Result<Reply, Refusal>
+/// The reply with the groups, of the pool with an id, that a device can touch. The problem is, in
+/// this order, `NoPool`, `NoVersion`, `NoRule`, or `NoDevice` where the newest version lacks the
+/// device.
+pub fn answer(alloc: Global, id: u64, device: u64, state: &TenantState) -> Result<Reply, Refusal>
     ensures { Answers result (spec.impact_answer id device state.now) }
 {
     let pool = state.pools().get(id).ok_or(Problem::NoPool)?;
     let groups = groups_of(alloc, state, pool, device)?;
     let body = impact_reply(alloc, state, pool.parts().id, device, groups.as_slice())?;
     Ok(success(alloc, &body)?)
-}
-
-/// The reply with the groups, of the pool with an id, that a device can touch.
-pub fn answer(alloc: Global, id: u64, device: u64, state: &TenantState) -> Result<Reply, AllocError>
-    ensures { IfOk result (λ r. r ≡ reply (spec.impact_answer id device state.now)) }
-{
-    or_refused(alloc, touched(alloc, id, device, state))
 }

@@ -1,4 +1,5 @@
-//! Which groups of a pool move between two versions: at `/t/{t}/pools/{p}/moves/{v}/{w}` GET reads those whose up lists differ.
+//! Which groups of a pool move between two versions: at `/t/{t}/pools/{p}/moves/{v}/{w}` GET reads
+//! those whose up lists differ.
 
 ghost use Rattle.std.specs.Prelude.{◌≡◌, ◌≤◌, ◌++◌, IfOk, OnOk, map, string_bytes};
 ghost use Rattle.std.specs.Fmt.{decimal};
@@ -16,22 +17,13 @@ use crush_pool::Pool;
 use crush_report::{MoveRow, gained_in, moves_with};
 use serde_json::{Value, json};
 use std::alloc::{AllocError, Global};
-use tenant_messages::{Problem, Refusal, Reply, or_refused, slots_json};
+use tenant_messages::{Problem, Refusal, Reply, slots_json};
 use tenant_state::TenantState;
-
-/// The route of moves.
-pub const ROUTE: &str = "/t/{t}/pools/{p}/moves/{v}/{w}";
-
-/// Whether the route has this method.
-pub fn has_method(method: &[u8]) -> bool
-    ensures { result ≡ spec.has_method method.now }
-{
-    method == b"GET".as_slice()
-}
 
 // ---- the groups that move
 
-/// The rows between the versions with two numbers, or why there are none.
+/// A row for each group whose up list differs between the versions with two numbers. The problem is
+/// `NoVersion` where one of them is absent, and else `NoRule` where one lacks the pool's rule.
 fn rows_of(
     alloc: Global,
     state: &TenantState,
@@ -84,7 +76,8 @@ fn push_row(alloc: Global, text: &mut String, later: bool, row: &MoveRow) -> Res
     Ok(())
 }
 
-/// The rows as a JSON list. Each row's value is gone before the next is made: a tree of all of them would take many times the memory of their text.
+/// The rows as a JSON list. Each row's value is gone before the next is made: a tree of all of them
+/// would take many times the memory of their text.
 #[tactic(auto, using(crate::proofs::Texts::row_more))]
 fn rows_text(alloc: Global, rows: &[MoveRow]) -> Result<String, AllocError>
     ensures { IfOk result (λ text. string_bytes text ≡ compact_text (list_json (map spec.row_json rows.now))) }
@@ -181,25 +174,19 @@ fn moves_reply(
 }
 
 /// The reply with the groups, of the pool with an id, that move between the versions with two
-/// numbers; or why there are none.
-fn moved(alloc: Global, id: u64, from: u64, to: u64, state: &TenantState) -> Result<Reply, Refusal>
-    ensures { Answers result (spec.moves_answer id from to state.now) }
-{
-    let pool = state.pools().get(id).ok_or(Problem::NoPool)?;
-    let rows = rows_of(alloc, state, pool, from, to)?;
-    let written = moves_reply(alloc, state, pool.parts().id, from, to, rows.as_slice())?;
-    Ok(written)
-}
-
-/// The reply with the groups, of the pool with an id, that move between the versions with two numbers.
+/// numbers. The problem is, in this order, `NoPool`, `NoVersion` where one of the two is absent, or
+/// `NoRule` where one lacks the pool's rule.
 pub fn answer(
     alloc: Global,
     id: u64,
     from: u64,
     to: u64,
     state: &TenantState,
-) -> Result<Reply, AllocError>
-    ensures { IfOk result (λ r. r ≡ reply (spec.moves_answer id from to state.now)) }
+) -> Result<Reply, Refusal>
+    ensures { Answers result (spec.moves_answer id from to state.now) }
 {
-    or_refused(alloc, moved(alloc, id, from, to, state))
+    let pool = state.pools().get(id).ok_or(Problem::NoPool)?;
+    let rows = rows_of(alloc, state, pool, from, to)?;
+    let written = moves_reply(alloc, state, pool.parts().id, from, to, rows.as_slice())?;
+    Ok(written)
 }

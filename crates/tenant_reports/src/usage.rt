@@ -1,9 +1,9 @@
-//! How much of a pool lies on each device: at `/t/{t}/pools/{p}/usage` GET reads the counts of all groups on the newest version.
+//! How much of a pool lies on each device: at `/t/{t}/pools/{p}/usage` GET reads the counts of all
+//! groups on the newest version.
 
 ghost use Rattle.std.specs.Prelude.{◌≡◌, IfOk, map};
 ghost use Rattle.serde_json.specs.View.{view};
 ghost use Rattle.tenant_messages.specs.Refusals.{Answers, Gives};
-ghost use Rattle.tenant_messages.specs.Reply.{reply};
 ghost use Rattle.tenant_messages.specs.Slots.{list_json};
 ghost use Rattle.tenant_reports.specs.Usage as spec;
 
@@ -12,22 +12,13 @@ use crush_pool::Pool;
 use crush_report::{UsageRow, usage_with};
 use serde_json::{Value, json};
 use std::alloc::{AllocError, Global};
-use tenant_messages::{Problem, Refusal, Reply, or_refused, success};
+use tenant_messages::{Problem, Refusal, Reply, success};
 use tenant_state::TenantState;
-
-/// The route of usage.
-pub const ROUTE: &str = "/t/{t}/pools/{p}/usage";
-
-/// Whether the route has this method.
-pub fn has_method(method: &[u8]) -> bool
-    ensures { result ≡ spec.has_method method.now }
-{
-    method == b"GET".as_slice()
-}
 
 // ---- the counts
 
-/// The rows on the newest version, or why there are none.
+/// A row for each device, on the newest version. The problem is `NoVersion` where there is no
+/// version, and `NoRule` where the newest lacks the pool's rule.
 fn rows_of(alloc: Global, state: &TenantState, pool: &Pool) -> Result<Listed<UsageRow>, Refusal>
     ensures { Gives (λ rows. rows) result (spec.rows_of state.now pool.now) }
 {
@@ -38,6 +29,8 @@ fn rows_of(alloc: Global, state: &TenantState, pool: &Pool) -> Result<Listed<Usa
 
 // ---- the answer
 
+/// A row as JSON: how many groups and entries lie on the device, in how many it is the primary, and
+/// its part of the entries in thousandths.
 fn row_json(alloc: Global, row: &UsageRow) -> Result<Value, AllocError>
     ensures { IfOk result (λ v. view v ≡ spec.row_json row.now) }
 {
@@ -60,6 +53,7 @@ fn rows_json(alloc: Global, rows: &[UsageRow]) -> Result<Value, AllocError>
     Ok(Value::Array(values))
 }
 
+/// The body of the reply with these rows.
 fn usage_reply(
     alloc: Global,
     state: &TenantState,
@@ -77,19 +71,13 @@ fn usage_reply(
     })
 }
 
-/// The reply with the counts of the pool with an id, or why there are none.
-fn counted(alloc: Global, id: u64, state: &TenantState) -> Result<Reply, Refusal>
+/// The reply with the counts of the pool with an id. The problem is, in this order, `NoPool`,
+/// `NoVersion`, or `NoRule`.
+pub fn answer(alloc: Global, id: u64, state: &TenantState) -> Result<Reply, Refusal>
     ensures { Answers result (spec.usage_answer id state.now) }
 {
     let pool = state.pools().get(id).ok_or(Problem::NoPool)?;
     let rows = rows_of(alloc, state, pool)?;
     let body = usage_reply(alloc, state, pool.parts().id, rows.as_slice())?;
     Ok(success(alloc, &body)?)
-}
-
-/// The reply with the counts of the pool with an id.
-pub fn answer(alloc: Global, id: u64, state: &TenantState) -> Result<Reply, AllocError>
-    ensures { IfOk result (λ r. r ≡ reply (spec.usage_answer id state.now)) }
-{
-    or_refused(alloc, counted(alloc, id, state))
 }

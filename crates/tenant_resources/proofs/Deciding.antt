@@ -1,5 +1,5 @@
 -- What tests of lists tell.
-use Rattle.std.proofs.Common.{◌≡◌, ◌≢◌, ℕ, suc, ◌&&◌, ◌||◌, List, [], ◌∷◌, Bool, true, false, not, refl, sym, subst, arith}
+use Rattle.std.proofs.Common.{◌≡◌, ◌≢◌, suc, ◌&&◌, ◌||◌, List, [], ◌∷◌, Bool, true, false, not, refl, sym, subst, arith}
 use Rattle.std.specs.Bool.{Decides}
 use Rattle.std.specs.List.{All, AllPairs, list_any}
 use Rattle.std.proofs.lemmas.Bool.Decides.{Decides-and, Decides-by_and, Decides-like}

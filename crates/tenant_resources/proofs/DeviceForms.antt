@@ -1,9 +1,8 @@
 -- Changes of devices are read from a body exactly where the body has their form.
-use Rattle.std.proofs.Common.{◌≡◌, ◌≢◌, ℕ, ◌+◌, ◌||◌, ◌≤◌, List, [], ◌∷◌, ◌++◌, length, Bool, true, not, nat_le, Option, Some, None, is_some, refl}
-use Rattle.std.specs.Bool.{Decides}
-use Rattle.std.specs.List.{AllPairs}
+use Rattle.std.proofs.Common.{◌≡◌, ℕ, ◌+◌, ◌||◌, List, [], ◌∷◌, ◌++◌, length, Bool, true, Option, Some, None, is_some, refl}
 use Rattle.std.specs.Prelude.{codes}
-use Rattle.std.proofs.lemmas.Bool.Decides.{Decides-and, Decides-eqb, Decides-like, Decides-not}
+use Rattle.crush_choose.specs.declared.weights.TheConstants.{FULL}
+use Rattle.crush_map.specs.declared.limits.TheConstants.{NUMBER_LIMIT}
 use Rattle.crush_pool.proofs.ValidChanges.{AreValidChanges, Decides-are_valid_changes}
 use Rattle.crush_pool.specs.Changes.{are_valid_changes}
 use Rattle.tenant_messages.proofs.Finding.{Finds, finds_as, finds_boolean, finds_both, finds_list, finds_natural, finds_number, finds_object, finds_object_with, finds_tested, finds_under, is_there}
@@ -40,14 +39,14 @@ finds_change = finds_as
     (finds_object_with (λ d. present (codes "reweight") d + (present (codes "up") d + 1)) (λ c. named c.reweight c.up) (λ c. differ c.reweight c.up)
     (λ d c is. all_found-append (if_any (codes "reweight") c.reweight ++ if_any (codes "up") c.up) id_alone d
     (all_found-append (if_any (codes "reweight") c.reweight) (if_any (codes "up") c.up) d
-    (found_if_any (IsNatural 65536) (codes "reweight") d c.reweight is.0.1.0) (found_if_any IsBoolean (codes "up") d c.up is.0.1.1))
+    (found_if_any (IsNatural FULL) (codes "reweight") d c.reweight is.0.1.0) (found_if_any IsBoolean (codes "up") d c.up is.0.1.1))
     (is_there (codes "id") d c.device is.0.0, tt))
-    (λ d c is. rw (present-if_any (IsNatural 65536) (codes "reweight") d c.reweight is.0.1.0, present-if_any IsBoolean (codes "up") d c.up is.0.1.1) (as_many c.reweight c.up))
+    (λ d c is. rw (present-if_any (IsNatural FULL) (codes "reweight") d c.reweight is.0.1.0, present-if_any IsBoolean (codes "up") d c.up is.0.1.1) (as_many c.reweight c.up))
     (finds_tested (λ c. is_some c.reweight || is_some c.up) (λ c. (is_some c.reweight || is_some c.up) ≡ true) (λ c h. h) (λ c h. h)
     (finds_both change_with (λ c. c.device) (λ c. (c.reweight, c.up)) (λ a b. refl) (λ a b. refl) (λ c. refl)
-    (finds_under (codes "id") (finds_natural 65535))
+    (finds_under (codes "id") (finds_natural NUMBER_LIMIT))
     (finds_both (λ reweight up. (reweight, up)) (λ p. p.0) (λ p. p.1) (λ a b. refl) (λ a b. refl) (λ p. refl)
-    (finds_optional (codes "reweight") (finds_natural 65536)) (finds_optional (codes "up") finds_boolean)))))
+    (finds_optional (codes "reweight") (finds_natural FULL)) (finds_optional (codes "up") finds_boolean)))))
 
 -- ---- the body
 

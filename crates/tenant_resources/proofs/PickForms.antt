@@ -11,11 +11,13 @@ use Rattle.serde_json.specs.Find.{as_str}
 use Rattle.crush_bucket.specs.Bucket.{BucketView, WeightedItem, total_weight, HasEqualWeights}
 use Rattle.crush_map.specs.Faults.{is_uniform}
 use Rattle.crush_map.specs.Weights.{has_equal_weights}
+use Rattle.crush_map.specs.declared.limits.TheConstants.{ITEM_LIMIT, NUMBER_LIMIT, TOTAL_WEIGHT_LIMIT}
 use Rattle.crush_map.specs.declared.ItemId.{ItemId}
 use Rattle.crush_map.specs.declared.Kind.{Kind}
 use Rattle.crush_map.specs.declared.Kind.TheVariants.{Uniform, List as ListKind, Tree}
 use Rattle.tenant_messages.proofs.Finding.{Finds, finds_as, finds_both, finds_integer, finds_list, finds_natural, finds_object, finds_tested, finds_text, finds_three, finds_under, is_there, Decides-leb}
 use Rattle.tenant_resources.proofs.Deciding.{Decides-distinct, Decides-none, Differ}
+use Rattle.tenant_resources.specs.declared.limits.TheConstants.{ATTEMPT_LIMIT}
 use Rattle.tenant_resources.specs.Picks.{weighed, entry_of, is_of_item, are_distinct, kind_of, is_valid, bucket_of, pick_of, IsItem, IsBucket, IsPickBody}
 use Rattle.crush_map.specs.Kinds.{kind_name, kind_named}
 use Rattle.tenant_messages.specs.Forms.{IsText}
@@ -26,7 +28,7 @@ finds_entry : Finds entry_of IsItem
 finds_entry = finds_as (λ d e is. record { keys = is.0; item = is.1.0; weight = is.1.1 }) (λ d e is. (is.keys, (is.item, is.weight)))
     (finds_object (codes "item" ∷ codes "weight" ∷ []) refl (λ d e is. (is_there (codes "item") d e.0.0 is.0, (is_there (codes "weight") d e.1.0 is.1, tt)))
     (finds_both weighed (λ e. e.0.0) (λ e. e.1.0) (λ a b. refl) (λ a b. refl) (λ e. refl)
-    (finds_under (codes "item") (finds_integer (negsuc 65535) (pos 65535) refl)) (finds_under (codes "weight") (finds_natural 4294967295))))
+    (finds_under (codes "item") (finds_integer (negsuc NUMBER_LIMIT) (pos NUMBER_LIMIT) refl)) (finds_under (codes "weight") (finds_natural 4294967295))))
 
 -- ---- a kind
 
@@ -83,29 +85,26 @@ Decides-if_uniform Tree b P h = (λ yes same. cc, λ holds. refl)
 
 record IsValid (b : BucketView) : Type 0 where
   some : 1 ≤ length b.items
-  few : length b.items ≤ 1024
+  few : length b.items ≤ ITEM_LIMIT
   distinct : AllPairs (Differ item_of) b.items
   others : All (λ e. e.0 ≢ b.id) b.items
-  light : total_weight b.items ≤ 4294967295
+  light : total_weight b.items ≤ TOTAL_WEIGHT_LIMIT
   equal : b.kind ≡ Uniform → HasEqualWeights b.items
 
 Decides-is_valid : (b : BucketView) → Decides (is_valid b) (IsValid b)
 Decides-is_valid b =
     Decides-like (is_valid b)
-    (λ is. record { some = is.0.0.0.0.0; few = is.0.0.0.0.1; light = less is.0.0.0.1; others = is.0.0.1; distinct = is.0.1; equal = is.1 })
-    (λ is. (((((is.some, is.few), let light = is.light in omega arith), is.others), is.distinct), is.equal))
+    (λ is. record { some = is.0.0.0.0.0; few = is.0.0.0.0.1; light = is.0.0.0.1; others = is.0.0.1; distinct = is.0.1; equal = is.1 })
+    (λ is. (((((is.some, is.few), is.light), is.others), is.distinct), is.equal))
     (Decides-and _ (not (is_uniform b.kind) || has_equal_weights b.items)
     (Decides-and _ (are_distinct b.items)
     (Decides-and _ (not (list_any (is_of_item b.id.0) b.items))
-    (Decides-and _ (nat_lt (total_weight b.items) (2 ^ 32))
-    (Decides-and (nat_lt 0 (length b.items)) (nat_le (length b.items) 1024) (Decides-leb 1 (length b.items)) (Decides-leb (length b.items) 1024))
-    (Decides-ltb (total_weight b.items) (2 ^ 32)))
+    (Decides-and _ (nat_le (total_weight b.items) TOTAL_WEIGHT_LIMIT)
+    (Decides-and (nat_lt 0 (length b.items)) (nat_le (length b.items) ITEM_LIMIT) (Decides-leb 1 (length b.items)) (Decides-leb (length b.items) ITEM_LIMIT))
+    (Decides-leb (total_weight b.items) TOTAL_WEIGHT_LIMIT))
     (Decides-none (is_of_item b.id.0) (λ e. e.0 ≢ b.id) (Decides-other b.id) b.items))
     (Decides-distinct item_of (λ e. is_of_item e.0.0) are_distinct (λ e f. Decides-other e.0 f) refl (λ e es. refl) b.items))
     (Decides-if_uniform b.kind (has_equal_weights b.items) (HasEqualWeights b.items) (Decides-equal b.items)))
-  where
-    less : total_weight b.items < 2 ^ 32 → total_weight b.items ≤ 4294967295
-    less h = omega arith
 
 -- ---- a bucket
 
@@ -135,7 +134,7 @@ finds_bucket = finds_as
     (finds_tested is_valid IsValid (λ b. (Decides-is_valid b).0) (λ b. (Decides-is_valid b).1)
     (finds_three (λ kind id es. record { id = record { 0 = id }; kind = kind; items = es }) (λ b. b.kind) (λ b. b.id.0) (λ b. b.items)
     (λ a b c. refl) (λ a b c. refl) (λ a b c. refl) (λ b. refl)
-    (finds_under (codes "kind") finds_kind) (finds_under (codes "id") (finds_integer (negsuc 65535) (negsuc 0) refl)) (finds_under (codes "items") (finds_list finds_entry)))))
+    (finds_under (codes "kind") finds_kind) (finds_under (codes "id") (finds_integer (negsuc NUMBER_LIMIT) (negsuc 0) refl)) (finds_under (codes "items") (finds_list finds_entry)))))
 
 -- ---- the body
 
@@ -147,4 +146,4 @@ finds_pick = finds_as
     (λ d p is. (is_there (codes "bucket") d p.bucket is.0, (is_there (codes "r") d p.r is.1, (is_there (codes "x") d p.x is.2, tt))))
     (finds_three (λ b r x. record { bucket = b; x = x; r = r }) (λ p. p.bucket) (λ p. p.r) (λ p. p.x)
     (λ a b c. refl) (λ a b c. refl) (λ a b c. refl) (λ p. refl)
-    (finds_under (codes "bucket") finds_bucket) (finds_under (codes "r") (finds_natural 2147483647)) (finds_under (codes "x") (finds_natural 4294967295))))
+    (finds_under (codes "bucket") finds_bucket) (finds_under (codes "r") (finds_natural ATTEMPT_LIMIT)) (finds_under (codes "x") (finds_natural 4294967295))))

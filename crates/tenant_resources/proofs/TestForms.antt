@@ -1,6 +1,8 @@
 -- An import or a rule test is read from a body exactly where the body has its form.
 use Rattle.std.proofs.Common.{◌≡◌, ℕ, ◌+◌, ◌≤◌, List, [], ◌∷◌, ◌++◌, length, true, nat_le, Option, Some, None, refl, ◌∙◌, ap}
 use Rattle.std.specs.Prelude.{codes}
+use Rattle.crush_choose.specs.declared.limits.TheConstants.{SIZE_LIMIT}
+use Rattle.crush_map.specs.declared.limits.TheConstants.{RULE_ID_LIMIT}
 use Rattle.tenant_messages.proofs.Finding.{Decides-leb, Finds, finds_as, finds_both, finds_natural, finds_number, finds_object, finds_object_with, finds_tested, finds_text, finds_under, is_there}
 use Rattle.tenant_messages.proofs.Objects.{are_different}
 use Rattle.tenant_messages.proofs.OptionalKeys.{finds_optional, found_if_any, all_found-append, present-if_any}
@@ -41,6 +43,6 @@ finds_test = finds_as
     (finds_tested (λ t. nat_le 1 t.size) (λ t. 1 ≤ t.size) (λ t. (Decides-leb 1 t.size).0) (λ t. (Decides-leb 1 t.size).1)
     (finds_both test_with (λ t. (t.rule, t.size)) (λ t. (t.x, t.version)) (λ a b. refl) (λ a b. refl) (λ t. refl)
     (finds_both (λ rule size. (rule, size)) (λ p. p.0) (λ p. p.1) (λ a b. refl) (λ a b. refl) (λ p. refl)
-    (finds_under (codes "rule") (finds_natural 255)) (finds_under (codes "size") (finds_natural 32)))
+    (finds_under (codes "rule") (finds_natural RULE_ID_LIMIT)) (finds_under (codes "size") (finds_natural SIZE_LIMIT)))
     (finds_both (λ x version. (x, version)) (λ p. p.0) (λ p. p.1) (λ a b. refl) (λ a b. refl) (λ p. refl)
     (finds_under (codes "x") (finds_natural 4294967295)) (finds_optional (codes "version") (finds_natural 4294967295))))))

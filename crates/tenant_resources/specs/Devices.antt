@@ -1,11 +1,13 @@
 -- States of devices, at `/t/{t}/devices`: POST changes reweights, and which devices are up.
-use Rattle.std.specs.Prelude.{◌≡◌, ◌≢◌, ℕ, suc, ◌+◌, ◌≤◌, ◌&&◌, ◌||◌, ◌==◌, List, [], ◌∷◌, ◌++◌, length, map, Bool, true, not, nat_le, if◌then◌else◌, Option, Some, None, is_some, option_and_then, unwrap_or, Result, Ok, Err, codes}
+use Rattle.std.specs.Prelude.{◌≡◌, ◌≢◌, ℕ, suc, ◌+◌, ◌≤◌, ◌||◌, ◌==◌, List, [], ◌∷◌, ◌++◌, length, map, Bool, true, if◌then◌else◌, Option, Some, None, is_some, option_and_then, unwrap_or, Result, Ok, Err, codes}
 use Rattle.std.specs.List.{AllPairs, list_any, list_all}
-use Rattle.std.specs.Str.{bytes_eq}
 use Rattle.serde_json.specs.Data.{Data, object}
 use Rattle.serde_json.specs.Find.{as_bool}
 use Rattle.crush_choose.specs.Weights.{reweight_of}
+use Rattle.crush_choose.specs.declared.weights.TheConstants.{FULL}
 use Rattle.crush_map.specs.Map.{Map}
+use Rattle.crush_map.specs.declared.limits.TheConstants.{NUMBER_LIMIT}
+use Rattle.crush_pool.specs.declared.limits.TheConstants.{CHANGE_LIMIT}
 use Rattle.crush_pool.specs.Changes.{are_valid_changes}
 use Rattle.crush_pool.specs.States.{is_up, reweights}
 use Rattle.crush_pool.specs.declared.changes.DeviceChange.{DeviceChange}
@@ -20,35 +22,29 @@ use Rattle.tenant_messages.specs.declared.reply.SuccessStatus.TheVariants.{Done}
 use Rattle.tenant_resources.specs.Orders.{Accepted}
 use Rattle.tenant_state.specs.State.{TenantState, NewStates, epoch, newest, version}
 
--- ---- requests
-
-abbrev pub route : List ℕ
-route = codes "/t/{t}/devices"
-
--- whether the route has this method
-abbrev pub has_method : List ℕ → Bool
-has_method method = bytes_eq method (codes "POST")
-
 -- ---- the form of a body, and the changes that it says
 
--- {"id": 0..65535}, with "reweight": 0..65536, or "up": true or false, or both; what is missing stays
+-- {"id": 0..NUMBER_LIMIT}, with "reweight": 0..FULL, or "up": true or false, or both; what is
+-- missing stays
 pub record IsChange (d : Data) (c : DeviceChange) : Type 0 where
   pub keys : HasExactly (if_any (codes "reweight") c.reweight ++ if_any (codes "up") c.up ++ codes "id" ∷ []) d
-  pub device : IsUnder (codes "id") (IsNatural 65535) d c.device
-  pub reweight : IsOptional (codes "reweight") (IsNatural 65536) d c.reweight
+  pub device : IsUnder (codes "id") (IsNatural NUMBER_LIMIT) d c.device
+  pub reweight : IsOptional (codes "reweight") (IsNatural FULL) d c.reweight
   pub up : IsOptional (codes "up") IsBoolean d c.up
   pub some : (is_some c.reweight || is_some c.up) ≡ true
 
--- {"devices": [CHANGE, ..], "request": REQUEST}: 1 to 1,024 changes, each of another device
+-- {"devices": [CHANGE, ..], "request": REQUEST}: 1 to CHANGE_LIMIT changes, each of another device
 pub record IsDevicesBody (d : Data) (asked : List ℕ × List DeviceChange) : Type 0 where
   pub keys : HasExactly (codes "devices" ∷ codes "request" ∷ []) d
   pub devices : IsUnder (codes "devices") (IsListOf IsChange) d asked.1
   pub request : IsUnder (codes "request") IsRequestNumber d asked.0
   pub some : 1 ≤ length asked.1
-  pub few : length asked.1 ≤ 1024
+  pub few : length asked.1 ≤ CHANGE_LIMIT
   pub distinct : AllPairs (λ c e. c.device ≢ e.device) asked.1
 
--- ---- reading a body: changes are read exactly where the body has that form (law `device_changes_are_of_the_form`)
+-- ---- reading a body
+
+-- changes are read exactly where the body has that form (law `device_changes_are_of_the_form`)
 
 abbrev pub change_with : ℕ → Option ℕ × Option Bool → DeviceChange
 change_with device asked = record { device = device; reweight = asked.0; up = asked.1 }
@@ -59,8 +55,8 @@ if_any_change c = if is_some c.reweight || is_some c.up then Some c else None
 abbrev pub change_of : Data → Option DeviceChange
 change_of d =
     if has_keys (present (codes "reweight") d + (present (codes "up") d + 1)) d then
-    option_and_then if_any_change (both change_with (under (codes "id") (natural_of 65535) d)
-    (both (λ reweight up. (reweight, up)) (optional (codes "reweight") (natural_of 65536) d) (optional (codes "up") as_bool d))) else None
+    option_and_then if_any_change (both change_with (under (codes "id") (natural_of NUMBER_LIMIT) d)
+    (both (λ reweight up. (reweight, up)) (optional (codes "reweight") (natural_of FULL) d) (optional (codes "up") as_bool d))) else None
 
 abbrev pub if_valid : List ℕ × List DeviceChange → Option (List ℕ × List DeviceChange)
 if_valid asked = if are_valid_changes asked.1 then Some asked else None

@@ -1,6 +1,6 @@
--- Groups of pools: at `/t/{t}/pools/{p}/groups/{g}` GET reads where a group lies, and at `/t/{t}/pools/{p}/locate` POST asks where an object lies.
-use Rattle.std.specs.Prelude.{ℕ, ◌≤◌, List, [], ◌∷◌, length, map, Bool, nat_lt, nat_le, if◌then◌else◌, Option, Some, None, option_and_then, ok_or, Result, Ok, Err, codes}
-use Rattle.std.specs.Str.{bytes_eq}
+-- Groups of pools: at `/t/{t}/pools/{p}/groups/{g}` GET reads where a group lies, and at
+-- `/t/{t}/pools/{p}/locate` POST asks where an object lies.
+use Rattle.std.specs.Prelude.{ℕ, ◌≤◌, List, [], ◌∷◌, length, map, nat_lt, nat_le, if◌then◌else◌, Option, Some, None, option_and_then, ok_or, Result, Ok, Err, codes}
 use Rattle.serde_json.specs.Data.{Data, object}
 use Rattle.serde_json.specs.Find.{as_str}
 use Rattle.crush_hash.specs.Hash.{name_hash}
@@ -16,35 +16,23 @@ use Rattle.tenant_messages.specs.Reply.{Answer, refused, members_of, natural}
 use Rattle.tenant_messages.specs.declared.reply.Problem.{Problem}
 use Rattle.tenant_messages.specs.declared.reply.Problem.TheVariants.{NoPool, NoGroup, NoRule}
 use Rattle.tenant_messages.specs.Slots.{slot_json, list_json}
+use Rattle.tenant_resources.specs.declared.limits.TheConstants.{OBJECT_NAME_LIMIT}
 use Rattle.tenant_state.specs.State.{TenantState, epoch, newest, on_newest, pool}
-
--- ---- requests
-
-abbrev pub group_route : List ℕ
-group_route = codes "/t/{t}/pools/{p}/groups/{g}"
-
-abbrev pub locate_route : List ℕ
-locate_route = codes "/t/{t}/pools/{p}/locate"
-
--- whether the routes have a method
-abbrev pub group_has_method : List ℕ → Bool
-group_has_method method = bytes_eq method (codes "GET")
-
-abbrev pub locate_has_method : List ℕ → Bool
-locate_has_method method = bytes_eq method (codes "POST")
 
 -- ---- the form of the body that asks for an object
 
--- {"name": TEXT}, of at most 1,024 bytes
+-- {"name": TEXT}, of at most OBJECT_NAME_LIMIT bytes
 pub record IsLocateBody (d : Data) (text : List ℕ) : Type 0 where
   pub keys : HasExactly (codes "name" ∷ []) d
   pub name : IsUnder (codes "name") IsText d text
-  pub few : length text ≤ 1024
+  pub few : length text ≤ OBJECT_NAME_LIMIT
 
--- ---- reading it: a name is read exactly where the body has that form (law `object_names_are_of_the_form`)
+-- ---- reading it
+
+-- a name is read exactly where the body has that form (law `object_names_are_of_the_form`)
 
 abbrev pub if_short : List ℕ → Option (List ℕ)
-if_short name = if nat_le (length name) 1024 then Some name else None
+if_short name = if nat_le (length name) OBJECT_NAME_LIMIT then Some name else None
 
 abbrev pub name_of : Data → Option (List ℕ)
 name_of d = if has_keys 1 d then option_and_then if_short (under (codes "name") as_str d) else None
@@ -54,7 +42,8 @@ locate_request_of body = option_and_then name_of (value_of body)
 
 -- ---- the answer
 
--- {"epoch": E, "group": g, "primary": .., "raw": [..], "seed": .., "up": [..], "version": V}; for an object with "hash" after "group"
+-- {"epoch": E, "group": g, "primary": .., "raw": [..], "seed": .., "up": [..], "version": V}; for
+-- an object with "hash" after "group"
 abbrev pub group_reply : TenantState → ℕ → Placement → Data
 group_reply state group p =
     object (members_of ((codes "epoch", natural (epoch state)) ∷ (codes "group", natural group) ∷ (codes "primary", slot_json p.primary)

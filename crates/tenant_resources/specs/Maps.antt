@@ -1,7 +1,7 @@
--- Maps, at `/t/{t}/maps`: POST adds a version of the tenant's map, from a text. At `/t/{t}/maps/{v}` GET reads the version v.
-use Rattle.std.specs.Prelude.{ℕ, suc, List, [], ◌∷◌, length, Bool, nat_le, if◌then◌else◌, Option, Some, None, is_some, option_and_then, Result, Ok, Err, codes}
+-- Maps, at `/t/{t}/maps`: POST adds a version of the tenant's map, from a text. At
+-- `/t/{t}/maps/{v}` GET reads the version v.
+use Rattle.std.specs.Prelude.{ℕ, suc, List, [], ◌∷◌, length, nat_le, if◌then◌else◌, Option, Some, None, is_some, option_and_then, Result, Ok, Err, codes}
 use Rattle.std.specs.List.{list_all}
-use Rattle.std.specs.Str.{bytes_eq}
 use Rattle.serde_json.specs.Data.{Data, string, object}
 use Rattle.serde_json.specs.Find.{as_str}
 use Rattle.crush_grammar.specs.declared.code.TextFault.{TextFault}
@@ -14,25 +14,11 @@ use Rattle.tenant_messages.specs.Forms.{IsText, HasExactly, IsUnder}
 use Rattle.tenant_messages.specs.Json.{value_of, both, has_keys, under}
 use Rattle.tenant_messages.specs.Numbers.{IsRequestNumber, request_number_of}
 use Rattle.tenant_messages.specs.Reply.{Answer, refused, success, members_of, natural}
+use Rattle.tenant_state.specs.declared.limits.TheConstants.{VERSION_LIMIT}
 use Rattle.tenant_state.specs.State.{TenantState, NewVersion, epoch, newest, version}
 use Rattle.tenant_messages.specs.declared.reply.Problem.{Problem}
 use Rattle.tenant_messages.specs.declared.reply.Problem.TheVariants.{NoVersion, RuleInUse, MapRefused, TenantLimit}
 use Rattle.tenant_messages.specs.declared.reply.SuccessStatus.TheVariants.{Created}
-
--- ---- requests
-
-abbrev pub route : List ℕ
-route = codes "/t/{t}/maps"
-
-abbrev pub version_route : List ℕ
-version_route = codes "/t/{t}/maps/{v}"
-
--- whether the routes have a method
-abbrev pub has_method : List ℕ → Bool
-has_method method = bytes_eq method (codes "POST")
-
-abbrev pub version_has_method : List ℕ → Bool
-version_has_method method = bytes_eq method (codes "GET")
 
 -- ---- the form of the body of an import
 
@@ -42,7 +28,9 @@ pub record IsImportBody (d : Data) (asked : List ℕ × List ℕ) : Type 0 where
   pub request : IsUnder (codes "request") IsRequestNumber d asked.0
   pub text : IsUnder (codes "text") IsText d asked.1
 
--- ---- reading a body: an import is read exactly where the body has that form (law `imports_are_of_the_form`)
+-- ---- reading a body
+
+-- an import is read exactly where the body has that form (law `imports_are_of_the_form`)
 
 -- the request number, and the text
 abbrev pub import_of : Data → Option (List ℕ × List ℕ)
@@ -53,10 +41,6 @@ abbrev pub import_request_of : List ℕ → Option (List ℕ × List ℕ)
 import_request_of body = option_and_then import_of (value_of body)
 
 -- ---- importing a text
-
--- the greatest number of versions
-abbrev pub version_limit : ℕ
-version_limit = 256
 
 -- {"epoch": E, "version": V}
 abbrev pub import_reply : TenantState → Data
@@ -70,7 +54,7 @@ on_text state (Ok m) =
     else Err RuleInUse
 
 abbrev pub imported : List ℕ → TenantState → Result Accepted Problem
-imported text state = if nat_le version_limit (length state.versions) then Err TenantLimit else on_text state (map_of_text text)
+imported text state = if nat_le VERSION_LIMIT (length state.versions) then Err TenantLimit else on_text state (map_of_text text)
 
 -- ---- reading a version
 

@@ -18,19 +18,8 @@ use Rattle.tenant_messages.specs.declared.reply.Problem.{Problem}
 use Rattle.tenant_messages.specs.declared.reply.Problem.TheVariants.{NoVersion, NoPool, NoRule, Exists, TenantLimit}
 use Rattle.tenant_messages.specs.declared.reply.SuccessStatus.TheVariants.{Done, Created}
 use Rattle.tenant_resources.specs.Orders.{Accepted}
+use Rattle.tenant_state.specs.declared.limits.TheConstants.{POOL_LIMIT}
 use Rattle.tenant_state.specs.State.{TenantState, NewPool, RemovedPool, epoch, newest, version, pool}
-
--- ---- requests
-
-abbrev pub route : List ℕ
-route = codes "/t/{t}/pools"
-
-abbrev pub removal_route : List ℕ
-removal_route = codes "/t/{t}/pools/remove"
-
--- whether each of the routes has this method
-abbrev pub has_method : List ℕ → Bool
-has_method method = bytes_eq method (codes "POST")
 
 -- ---- the form of a body, and the pool that it says
 
@@ -39,8 +28,9 @@ abbrev pub kind_text : Bool → List ℕ
 kind_text true = codes "erasure"
 kind_text false = codes "replicated"
 
--- {"hashpspool": true or false, "id": .., "kind": "replicated" or "erasure", "name": .., "pg_num": .., "pgp_num": .., "request": REQUEST, "rule": .., "size": ..},
--- with the numbers and the name in the ranges of a pool
+-- {"hashpspool": true or false, "id": .., "kind": "replicated" or "erasure", "name": .., "pg_num":
+-- .., "pgp_num": .., "request": REQUEST, "rule": .., "size": ..}, with the numbers and the name in
+-- the ranges of a pool
 pub record IsPoolBody (d : Data) (asked : List ℕ × PoolParts) : Type 0 where
   pub keys : HasExactly (codes "hashpspool" ∷ codes "id" ∷ codes "kind" ∷ codes "name" ∷ codes "pg_num" ∷ codes "pgp_num" ∷ codes "request" ∷ codes "rule" ∷ codes "size" ∷ []) d
   pub request : IsUnder (codes "request") IsRequestNumber d asked.0
@@ -54,14 +44,17 @@ pub record IsPoolBody (d : Data) (asked : List ℕ × PoolParts) : Type 0 where
   pub hashpspool : IsUnder (codes "hashpspool") IsBoolean d asked.1.hashpspool
   pub ranges : is_pool asked.1 ≡ true
 
--- {"id": 1..2147483647, "request": REQUEST}
+-- {"id": 1..POOL_ID_LIMIT, "request": REQUEST}
 pub record IsRemovalBody (d : Data) (asked : List ℕ × ℕ) : Type 0 where
   pub keys : HasExactly (codes "id" ∷ codes "request" ∷ []) d
   pub request : IsUnder (codes "request") IsRequestNumber d asked.0
   pub id : IsUnder (codes "id") (IsNatural POOL_ID_LIMIT) d asked.1
   pub some : 1 ≤ asked.1
 
--- ---- reading a body: a pool is read exactly where the body has that form (laws `pools_are_of_the_form`, `removals_are_of_the_form`)
+-- ---- reading a body
+
+-- a pool is read exactly where the body has that form (laws `pools_are_of_the_form`,
+-- `removals_are_of_the_form`)
 
 abbrev pub kind_named : List ℕ → Option Bool
 kind_named text = if bytes_eq text (codes "replicated") then Some false else (if bytes_eq text (codes "erasure") then Some true else None)
@@ -72,7 +65,8 @@ kind_of d = option_and_then kind_named (as_str d)
 abbrev pub pair : {A B : Type 0} → A → B → A × B
 pair a b = (a, b)
 
--- the parts in the order in which they are read: request and id, name and kind, size and rule, pg_num and pgp_num, hashpspool
+-- the parts in the order in which they are read: request and id, name and kind, size and rule,
+-- pg_num and pgp_num, hashpspool
 abbrev pub pool_with : (List ℕ × ℕ) × (List ℕ × Bool) → ((ℕ × ℕ) × (ℕ × ℕ)) × Bool → List ℕ × PoolParts
 pool_with named sized = (
   named.0.0,
@@ -127,10 +121,6 @@ removal_request_of body = option_and_then removal_of (value_of body)
 
 -- ---- creating a pool
 
--- the greatest number of pools
-abbrev pub pool_limit : ℕ
-pool_limit = 256
-
 -- whether a pool has the id or the name of another
 abbrev pub is_like : PoolParts → PoolParts → Bool
 is_like p other = other.id == p.id || bytes_eq other.name p.name
@@ -143,7 +133,7 @@ abbrev pub on_rule : PoolParts → TenantState → Option Rule → Result Accept
 on_rule p state None = Err NoRule
 on_rule p state (Some rule) =
     if list_any (is_like p) state.pools then Err Exists
-    else (if nat_le pool_limit (length state.pools) then Err TenantLimit
+    else (if nat_le POOL_LIMIT (length state.pools) then Err TenantLimit
     else Ok (record { made = NewPool p; status = Created; body = creation p.id state }))
 
 -- the newest version has to have the pool's rule

@@ -1,13 +1,15 @@
--- Tests of rules, at `/t/{t}/test`: POST asks which items a rule of a version of the tenant's map gives for an input.
-use Rattle.std.specs.Prelude.{ℕ, ◌≤◌, ◌+◌, List, [], ◌∷◌, ◌++◌, map, Bool, nat_le, if◌then◌else◌, Option, Some, None, option_and_then, unwrap_or, codes}
-use Rattle.std.specs.Str.{bytes_eq}
+-- Tests of rules, at `/t/{t}/test`: POST asks which items a rule of a version of the tenant's map
+-- gives for an input.
+use Rattle.std.specs.Prelude.{ℕ, ◌≤◌, ◌+◌, List, [], ◌∷◌, ◌++◌, map, nat_le, if◌then◌else◌, Option, Some, None, option_and_then, unwrap_or, codes}
 use Rattle.serde_json.specs.Data.{Data, object}
 use Rattle.crush_bucket.specs.Tables.{tables_of}
 use Rattle.crush_choose.specs.Marks.{Slot}
 use Rattle.crush_rules.specs.Rules.{rule_answer}
 use Rattle.crush_rules.specs.Trace.{rule_trace}
 use Rattle.crush_choose.specs.Weights.{weights_of}
+use Rattle.crush_choose.specs.declared.limits.TheConstants.{SIZE_LIMIT}
 use Rattle.crush_map.specs.Map.{Map}
+use Rattle.crush_map.specs.declared.limits.TheConstants.{RULE_ID_LIMIT}
 use Rattle.crush_map.specs.declared.draft.Rule.{Rule}
 use Rattle.crush_pool.specs.Placements.{rule_numbered}
 use Rattle.crush_pool.specs.States.{reweights}
@@ -18,16 +20,8 @@ use Rattle.tenant_messages.specs.Slots.{slot_json, list_json}
 use Rattle.tenant_state.specs.State.{TenantState, epoch, newest, version}
 use Rattle.tenant_messages.specs.declared.reply.Problem.TheVariants.{NoVersion, NoRule}
 
--- ---- requests
-
-abbrev pub route : List ℕ
-route = codes "/t/{t}/test"
-
--- whether the route has this method
-abbrev pub has_method : List ℕ → Bool
-has_method method = bytes_eq method (codes "POST")
-
--- a test: the rule with this id gives at most so many items for an input, on a version, or else on the newest
+-- a test: the rule with this id gives at most so many items for an input, on a version, or else on
+-- the newest
 pub record RuleTest : Type 0 where
   pub rule : ℕ
   pub size : ℕ
@@ -36,16 +30,19 @@ pub record RuleTest : Type 0 where
 
 -- ---- the form of a body, and the test that it says
 
--- {"rule": 0..255, "size": 1..32, "x": 0..4294967295}, and if need be "version": 0..4294967295
+-- {"rule": 0..RULE_ID_LIMIT, "size": 1..SIZE_LIMIT, "x": 0..4294967295}, and if need be "version":
+-- 0..4294967295
 pub record IsTestBody (d : Data) (t : RuleTest) : Type 0 where
   pub keys : HasExactly (if_any (codes "version") t.version ++ codes "rule" ∷ codes "size" ∷ codes "x" ∷ []) d
-  pub rule : IsUnder (codes "rule") (IsNatural 255) d t.rule
-  pub size : IsUnder (codes "size") (IsNatural 32) d t.size
+  pub rule : IsUnder (codes "rule") (IsNatural RULE_ID_LIMIT) d t.rule
+  pub size : IsUnder (codes "size") (IsNatural SIZE_LIMIT) d t.size
   pub some : 1 ≤ t.size
   pub x : IsUnder (codes "x") (IsNatural 4294967295) d t.x
   pub version : IsOptional (codes "version") (IsNatural 4294967295) d t.version
 
--- ---- reading a body: a test is read exactly where the body has that form (law `tests_are_of_the_form`)
+-- ---- reading a body
+
+-- a test is read exactly where the body has that form (law `tests_are_of_the_form`)
 
 abbrev pub test_with : ℕ × ℕ → ℕ × Option ℕ → RuleTest
 test_with asked on = record { rule = asked.0; size = asked.1; x = on.0; version = on.1 }
@@ -57,7 +54,7 @@ abbrev pub test_of : Data → Option RuleTest
 test_of d =
     if has_keys (present (codes "version") d + 3) d then
     option_and_then if_some (both test_with
-    (both (λ rule size. (rule, size)) (under (codes "rule") (natural_of 255) d) (under (codes "size") (natural_of 32) d))
+    (both (λ rule size. (rule, size)) (under (codes "rule") (natural_of RULE_ID_LIMIT) d) (under (codes "size") (natural_of SIZE_LIMIT) d))
     (both (λ x version. (x, version)) (under (codes "x") (natural_of 4294967295) d) (optional (codes "version") (natural_of 4294967295) d))) else None
 
 abbrev pub test_request_of : List ℕ → Option RuleTest

@@ -13,29 +13,21 @@ ghost use Rattle.tenant_resources.specs.Devices as spec;
 ghost use Rattle.tenant_resources.specs.Orders.{accepted_of};
 
 use crate::accepted::Accepted;
+use crush_choose::FULL;
+use crush_map::limits::NUMBER_LIMIT;
 use crush_map::{Listed, Text};
 use crush_pool::{DeviceChange, DeviceState, are_valid_changes};
 use serde_json::{Value, json};
 use std::alloc::{AllocError, Global};
 use tenant_messages::{
-    Problem, ReadError, Refusal, SuccessStatus, has_keys, natural, optional_boolean,
-    optional_natural, read_value, request_number,
+    Problem, Refusal, SuccessStatus, has_keys, natural, optional_boolean, optional_natural,
+    read_value, request_number,
 };
 use tenant_state::{Devices, Made, TenantState, Version};
 
-/// The route of states of devices.
-pub const ROUTE: &str = "/t/{t}/devices";
-
-/// Whether the route has this method.
-pub fn has_method(method: &[u8]) -> bool
-    ensures { result ≡ spec.has_method method.now }
-{
-    method == b"POST".as_slice()
-}
-
 // ---- the body
 
-/// How many keys it is that are this one.
+/// 1 if the object has this key, else 0.
 fn present(value: &Value, key: &str) -> usize
     ensures count { result ≡ json.present key.now (view value.now) }
     ensures few { result ≤ 1 }
@@ -43,6 +35,7 @@ fn present(value: &Value, key: &str) -> usize
     if value.get(key).is_some() { 1 } else { 0 }
 }
 
+/// The change that a value of the list says, or `None` where it isn't of the form of one.
 fn change(value: &Value) -> Option<DeviceChange>
     ensures { result ≡ spec.change_of (view value.now) }
 {
@@ -50,8 +43,8 @@ fn change(value: &Value) -> Option<DeviceChange>
     if !has_keys(value, keys) {
         return None;
     }
-    let device = natural(value, "id", 65_535)?;
-    let reweight = optional_natural(value, "reweight", 65_536)?;
+    let device = natural(value, "id", NUMBER_LIMIT)?;
+    let reweight = optional_natural(value, "reweight", FULL)?;
     let up = optional_boolean(value, "up")?;
     if reweight.is_none() && up.is_none() {
         return None;
@@ -63,40 +56,45 @@ fn change(value: &Value) -> Option<DeviceChange>
     })
 }
 
-fn changes(alloc: Global, values: &[Value]) -> Result<Vec<DeviceChange>, ReadError>
+/// The changes that the values say, in their order. The problem is `BadRequest`, exactly where a
+/// value isn't of the form of a change.
+fn changes(alloc: Global, values: &[Value]) -> Result<Vec<DeviceChange>, Refusal>
     ensures { Reads (λ v. v.items) result (json.each_of spec.change_of (items_view values.now)) }
 {
     let mut found = Vec::new(alloc);
     for value in values {
-        let next = change(value).ok_or(ReadError::Malformed)?;
+        let next = change(value).ok_or(Problem::BadRequest)?;
         if found.push(next).is_err() {
-            return Err(ReadError::NoMemory);
+            return Err(Refusal::NoMemory);
         }
     }
     Ok(found)
 }
 
-fn changes_in(alloc: Global, value: &Value) -> Result<(Text, Listed<DeviceChange>), ReadError>
+/// The request number and the changes that a body's value says. The problem is `BadRequest`,
+/// exactly where the value isn't of the form of such a body.
+fn changes_in(alloc: Global, value: &Value) -> Result<(Text, Listed<DeviceChange>), Refusal>
     ensures { Reads (λ asked. asked) result (spec.changes_of (view value.now)) }
 {
     if !has_keys(value, 2) {
-        return Err(ReadError::Malformed);
+        return Err(Refusal::Problem(Problem::BadRequest));
     }
-    let number = request_number(value).ok_or(ReadError::Malformed)?;
+    let number = request_number(value).ok_or(Problem::BadRequest)?;
     let values = value
         .get("devices")
         .and_then(Value::as_array)
-        .ok_or(ReadError::Malformed)?;
+        .ok_or(Problem::BadRequest)?;
     let found = changes(alloc, values)?;
     if are_valid_changes(&found) {
         Ok((Text::copy(alloc, number)?, Listed::new(found)))
     } else {
-        Err(ReadError::Malformed)
+        Err(Refusal::Problem(Problem::BadRequest))
     }
 }
 
-/// The request number and the changes that a body asks for.
-pub fn read_changes(alloc: Global, body: &[u8]) -> Result<(Text, Listed<DeviceChange>), ReadError>
+/// The request number and the changes that a body asks for. The problem is `BadRequest`, exactly
+/// where the body isn't of the form (`IsDevicesBody`).
+pub fn read_changes(alloc: Global, body: &[u8]) -> Result<(Text, Listed<DeviceChange>), Refusal>
     ensures { Reads (λ asked. asked) result (spec.devices_request_of body.now) }
 {
     changes_in(alloc, &read_value(alloc, body)?)
@@ -104,7 +102,7 @@ pub fn read_changes(alloc: Global, body: &[u8]) -> Result<(Text, Listed<DeviceCh
 
 // ---- changing the states
 
-/// The reweight of a device.
+/// The reweight of a device, in 16.16 fixed point.
 fn reweight(states: &Devices, device: u32) -> u32
     ensures { result ≡ reweight_of (reweights states.now) device }
 {
@@ -137,6 +135,8 @@ fn changed(states: &Devices, change: &DeviceChange) -> DeviceState
     }
 }
 
+/// The state of each changed device after its change. `Err(AllocError)`: an allocation failed;
+/// nothing is changed.
 fn all_changed(
     alloc: Global,
     states: &Devices,
@@ -167,6 +167,7 @@ fn has_devices(version: &Version, changes: &[DeviceChange]) -> bool
         .all(|change| has_device(version, change.device))
 }
 
+/// The body of the reply: how many devices were changed, and the epoch after the change.
 fn devices_reply(alloc: Global, count: usize, state: &TenantState) -> Result<Value, AllocError>
     requires receipts { length state.now.receipts < 2 ^ 32 }
     ensures { IfOk result (λ v. view v ≡ spec.devices_reply count state.now) }
@@ -174,7 +175,8 @@ fn devices_reply(alloc: Global, count: usize, state: &TenantState) -> Result<Val
     json!(in alloc; {"devices": count as u64, "epoch": state.epoch() + 1})
 }
 
-/// The new states of devices, or why there are none.
+/// The new states of devices, with the reply. The problem is `NoVersion` where there is no version,
+/// and else `NoDevice` where the newest lacks one of the devices.
 pub fn change_devices(
     alloc: Global,
     changes: &[DeviceChange],

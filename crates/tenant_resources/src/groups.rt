@@ -1,13 +1,14 @@
-//! Groups of pools: at `/t/{t}/pools/{p}/groups/{g}` GET reads where a group lies, and at `/t/{t}/pools/{p}/locate` POST asks where an object lies.
+//! Groups of pools: at `/t/{t}/pools/{p}/groups/{g}` GET reads where a group lies, and at
+//! `/t/{t}/pools/{p}/locate` POST asks where an object lies.
 
 ghost use Rattle.std.specs.Prelude.{◌≡◌, ◌<◌, ◌^◌, IfOk, length, map};
 ghost use Rattle.serde_json.specs.View.{view};
 ghost use Rattle.tenant_messages.specs.Reading.{Reads};
 ghost use Rattle.tenant_messages.specs.Refusals.{Answers, Gives};
-ghost use Rattle.tenant_messages.specs.Reply.{reply};
 ghost use Rattle.tenant_resources.specs.Groups as spec;
 ghost use Rattle.tenant_messages.specs.Slots.{slot_json, list_json};
 
+use crate::limits::OBJECT_NAME_LIMIT;
 use crush_bucket::Scratch;
 use crush_hash::name_hash;
 use crush_map::Text;
@@ -17,32 +18,11 @@ use serde_json::{Value, json};
 use std::alloc::{AllocError, Global};
 use std::marker::Model;
 use tenant_messages::{
-    Problem, ReadError, Refusal, Reply, has_keys, or_refused, read_value, slot_json, slots_json,
-    success, text,
+    Problem, Refusal, Reply, has_keys, read_value, slot_json, slots_json, success, text,
 };
 use tenant_state::TenantState;
 
-/// The route of groups.
-pub const GROUP_ROUTE: &str = "/t/{t}/pools/{p}/groups/{g}";
-
-/// The route of objects.
-pub const LOCATE_ROUTE: &str = "/t/{t}/pools/{p}/locate";
-
-/// Whether the route of groups has this method.
-pub fn group_has_method(method: &[u8]) -> bool
-    ensures { result ≡ spec.group_has_method method.now }
-{
-    method == b"GET".as_slice()
-}
-
-/// Whether the route of objects has this method.
-pub fn locate_has_method(method: &[u8]) -> bool
-    ensures { result ≡ spec.locate_has_method method.now }
-{
-    method == b"POST".as_slice()
-}
-
-/// The name of an object: a text of at most 1,024 bytes.
+/// The name of an object: a text of at most `OBJECT_NAME_LIMIT` bytes.
 #[derive(Drop)]
 pub struct ObjectName {
     name: Text,
@@ -50,21 +30,23 @@ pub struct ObjectName {
 
 impl Model for ObjectName {
     ghost use Rattle.std.specs.Prelude.{List, ℕ, ◌≤◌, length};
+    ghost use Rattle.tenant_resources.specs.declared.limits.TheConstants.{OBJECT_NAME_LIMIT};
 
     ghost Value = { List ℕ };
 
     ghost view = { λ a. a.name };
 
-    ghost invariant = { λ a. length a.name ≤ 1024 };
+    ghost invariant = { λ a. length a.name ≤ OBJECT_NAME_LIMIT };
 }
 
 impl ObjectName {
     ghost use Rattle.std.specs.Prelude.{◌≡◌, ◌≤◌, length};
+    ghost use Rattle.tenant_resources.specs.declared.limits.TheConstants.{OBJECT_NAME_LIMIT};
 
     /// The name.
     pub fn as_str(&self) -> &str
         ensures same { result.now ≡ self.now }
-        ensures few { length self.now ≤ 1024 }
+        ensures few { length self.now ≤ OBJECT_NAME_LIMIT }
     {
         self.name.as_str()
     }
@@ -72,22 +54,25 @@ impl ObjectName {
 
 // ---- the body that asks for an object
 
-fn name_in(alloc: Global, value: &Value) -> Result<ObjectName, ReadError>
+/// The name that a body's value says. The problem is `BadRequest`, exactly where the value isn't of
+/// the form of such a body.
+fn name_in(alloc: Global, value: &Value) -> Result<ObjectName, Refusal>
     ensures { Reads (λ name. name) result (spec.name_of (view value.now)) }
 {
     if !has_keys(value, 1) {
-        return Err(ReadError::Malformed);
+        return Err(Refusal::Problem(Problem::BadRequest));
     }
-    let name = text(value, "name").ok_or(ReadError::Malformed)?;
-    if name.len() > 1024 {
-        return Err(ReadError::Malformed);
+    let name = text(value, "name").ok_or(Problem::BadRequest)?;
+    if name.len() > OBJECT_NAME_LIMIT {
+        return Err(Refusal::Problem(Problem::BadRequest));
     }
     let name = Text::copy(alloc, name)?;
     Ok(ObjectName { name })
 }
 
-/// The name of the object that a body asks for.
-pub fn read_name(alloc: Global, body: &[u8]) -> Result<ObjectName, ReadError>
+/// The name of the object that a body asks for. The problem is `BadRequest`, exactly where the body
+/// isn't of the form (`IsLocateBody`).
+pub fn read_name(alloc: Global, body: &[u8]) -> Result<ObjectName, Refusal>
     ensures { Reads (λ name. name) result (spec.locate_request_of body.now) }
 {
     name_in(alloc, &read_value(alloc, body)?)
@@ -95,7 +80,8 @@ pub fn read_name(alloc: Global, body: &[u8]) -> Result<ObjectName, ReadError>
 
 // ---- placing a group
 
-/// The placement of a group of a pool on the newest version, or why there is none.
+/// The placement of a group of a pool on the newest version. The problem is `NoVersion` where there
+/// is no version, and `NoRule` where the newest lacks the pool's rule.
 fn placed(alloc: Global, state: &TenantState, pool: &Pool, group: u32) -> Result<Placement, Refusal>
     requires { group < pool.now.pg_num }
     ensures { Gives (λ p. p) result (spec.placed state.now pool.now group) }
@@ -109,7 +95,8 @@ fn placed(alloc: Global, state: &TenantState, pool: &Pool, group: u32) -> Result
 
 // ---- the answers
 
-/// The devices of a placement: the primary, what the rule answered, and what of it is up.
+/// The devices of a placement as JSON: the primary, what the rule answered (`raw`), and what of it
+/// is up. `Err(AllocError)`: an allocation failed; nothing is changed.
 fn placement_json(alloc: Global, placement: &Placement) -> Result<(Value, Value, Value), AllocError>
     ensures primary { IfOk result (λ parts. view parts.0 ≡ slot_json placement.now.primary) }
     ensures raw { IfOk result (λ parts. view parts.1 ≡ list_json (map slot_json placement.now.raw)) }
@@ -120,6 +107,7 @@ fn placement_json(alloc: Global, placement: &Placement) -> Result<(Value, Value,
     Ok((slot_json(&placement.primary), raw, up))
 }
 
+/// The body of the reply for a group.
 fn group_reply(
     alloc: Global,
     state: &TenantState,
@@ -140,6 +128,7 @@ fn group_reply(
     })
 }
 
+/// The body of the reply for an object: that of its group, with the hash of the object's name.
 fn object_reply(
     alloc: Global,
     name: &str,
@@ -164,8 +153,14 @@ fn object_reply(
     })
 }
 
-/// The reply with the placement of a group, of the pool with an id; or why there is none.
-fn group_located(alloc: Global, id: u64, group: u64, state: &TenantState) -> Result<Reply, Refusal>
+/// The reply with the placement of a group of the pool with an id. The problem is, in this order,
+/// `NoPool`, `NoGroup` where the pool has no such group, `NoVersion`, or `NoRule`.
+pub fn group_answer(
+    alloc: Global,
+    id: u64,
+    group: u64,
+    state: &TenantState,
+) -> Result<Reply, Refusal>
     ensures { Answers result (spec.group_answer id group state.now) }
 {
     let pool = state.pools().get(id).ok_or(Problem::NoPool)?;
@@ -178,21 +173,9 @@ fn group_located(alloc: Global, id: u64, group: u64, state: &TenantState) -> Res
     Ok(success(alloc, &body)?)
 }
 
-/// The reply with the placement of a group, of the pool with an id.
-pub fn group_answer(
-    alloc: Global,
-    id: u64,
-    group: u64,
-    state: &TenantState,
-) -> Result<Reply, AllocError>
-    ensures { IfOk result (λ r. r ≡ reply (spec.group_answer id group state.now)) }
-{
-    or_refused(alloc, group_located(alloc, id, group, state))
-}
-
-/// The reply with the placement of the object with a name, in the pool with an id; or why there is
-/// none.
-fn object_located(
+/// The reply with the placement of the object with a name, in the pool with an id. The problem is,
+/// in this order, `NoPool`, `NoVersion`, or `NoRule`.
+pub fn object_answer(
     alloc: Global,
     id: u64,
     name: &ObjectName,
@@ -206,16 +189,4 @@ fn object_located(
     let placement = placed(alloc, state, pool, group)?;
     let body = object_reply(alloc, name, state, group, &placement)?;
     Ok(success(alloc, &body)?)
-}
-
-/// The reply with the placement of the object with a name, in the pool with an id.
-pub fn object_answer(
-    alloc: Global,
-    id: u64,
-    name: &ObjectName,
-    state: &TenantState,
-) -> Result<Reply, AllocError>
-    ensures { IfOk result (λ r. r ≡ reply (spec.object_answer id name.now state.now)) }
-{
-    or_refused(alloc, object_located(alloc, id, name, state))
 }

@@ -8,49 +8,56 @@ ghost use Rattle.tenant_resources.specs.Picks.{IsPickBody, pick_of, pick_request
 ghost use Rattle.tenant_resources.specs.Pools.{IsPoolBody, IsRemovalBody, pool_of, pool_request_of, removal_of, removal_request_of};
 ghost use Rattle.tenant_resources.specs.RuleTests.{IsTestBody, test_of, test_request_of};
 
-/// A pick is read from a body exactly where the body has its form and says that pick; any other body is refused.
+/// A pick is read from a body exactly where the body has its form and says that pick; any other
+/// body is refused.
 pub fn picks_are_of_the_form()
     ensures value { FindsExactly pick_of IsPickBody }
     ensures body { ReadsExactly pick_request_of IsPickBody }
     ensures refused { RefusesOthers pick_request_of IsPickBody }
 {}
 
-/// An import is read from a body exactly where the body has its form and says that import; any other body is refused.
+/// An import is read from a body exactly where the body has its form and says that import; any
+/// other body is refused.
 pub fn imports_are_of_the_form()
     ensures value { FindsExactly import_of IsImportBody }
     ensures body { ReadsExactly import_request_of IsImportBody }
     ensures refused { RefusesOthers import_request_of IsImportBody }
 {}
 
-/// A rule test is read from a body exactly where the body has its form and says that test; any other body is refused.
+/// A rule test is read from a body exactly where the body has its form and says that test; any
+/// other body is refused.
 pub fn tests_are_of_the_form()
     ensures value { FindsExactly test_of IsTestBody }
     ensures body { ReadsExactly test_request_of IsTestBody }
     ensures refused { RefusesOthers test_request_of IsTestBody }
 {}
 
-/// Changes of devices are read from a body exactly where the body has their form and says them; any other body is refused.
+/// Changes of devices are read from a body exactly where the body has their form and says them; any
+/// other body is refused.
 pub fn device_changes_are_of_the_form()
     ensures value { FindsExactly changes_of IsDevicesBody }
     ensures body { ReadsExactly devices_request_of IsDevicesBody }
     ensures refused { RefusesOthers devices_request_of IsDevicesBody }
 {}
 
-/// The name of an object is read from a body exactly where the body has its form and says that name; any other body is refused.
+/// The name of an object is read from a body exactly where the body has its form and says that
+/// name; any other body is refused.
 pub fn object_names_are_of_the_form()
     ensures value { FindsExactly name_of IsLocateBody }
     ensures body { ReadsExactly locate_request_of IsLocateBody }
     ensures refused { RefusesOthers locate_request_of IsLocateBody }
 {}
 
-/// A pool is read from a body exactly where the body has its form and says that pool; any other body is refused.
+/// A pool is read from a body exactly where the body has its form and says that pool; any other
+/// body is refused.
 pub fn pools_are_of_the_form()
     ensures value { FindsExactly pool_of IsPoolBody }
     ensures body { ReadsExactly pool_request_of IsPoolBody }
     ensures refused { RefusesOthers pool_request_of IsPoolBody }
 {}
 
-/// The removal of a pool is read from a body exactly where the body has its form and says that removal; any other body is refused.
+/// The removal of a pool is read from a body exactly where the body has its form and says that
+/// removal; any other body is refused.
 pub fn removals_are_of_the_form()
     ensures value { FindsExactly removal_of IsRemovalBody }
     ensures body { ReadsExactly removal_request_of IsRemovalBody }

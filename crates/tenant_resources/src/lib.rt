@@ -1,10 +1,12 @@
-//! What a tenant's requests name: a file for each, with its routes and methods, the form of its bodies, its own checks, and its answer.
+//! What a tenant's requests name: a file for each, with the form of its bodies, its own checks, and
+//! its answer.
 #![tactic(auto)]
 
 mod accepted;
 pub mod devices;
 pub mod groups;
 pub mod laws;
+pub mod limits;
 pub mod maps;
 pub mod picks;
 pub mod pools;

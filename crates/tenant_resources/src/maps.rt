@@ -1,4 +1,5 @@
-//! Maps, at `/t/{t}/maps`: POST adds a version of the tenant's map, from a text. At `/t/{t}/maps/{v}` GET reads the version v.
+//! Maps, at `/t/{t}/maps`: POST adds a version of the tenant's map, from a text. At
+//! `/t/{t}/maps/{v}` GET reads the version v.
 
 ghost use Rattle.std.specs.Prelude.{◌≡◌, ◌<◌, ◌^◌, false, is_some, IfOk, length};
 ghost use Rattle.std.specs.List.{list_all};
@@ -8,8 +9,7 @@ ghost use Rattle.serde_json.specs.Written.{has_float};
 ghost use Rattle.tenant_resources.specs.Maps as spec;
 ghost use Rattle.tenant_resources.specs.Orders.{accepted_of};
 ghost use Rattle.tenant_messages.specs.Reading.{Reads};
-ghost use Rattle.tenant_messages.specs.Refusals.{Gives};
-ghost use Rattle.tenant_messages.specs.Reply.{reply};
+ghost use Rattle.tenant_messages.specs.Refusals.{Answers, Gives};
 
 use crate::accepted::Accepted;
 use crush_map::{CrushMap, Text};
@@ -19,46 +19,29 @@ use serde_json::{Value, json};
 use std::alloc::{AllocError, Global};
 use std::rc::Rc;
 use tenant_messages::{
-    Problem, ReadError, Refusal, Reply, SuccessStatus, has_keys, read_value, refused,
-    request_number, success, text,
+    Problem, Refusal, Reply, SuccessStatus, has_keys, read_value, request_number, success, text,
 };
+use tenant_state::limits::VERSION_LIMIT;
 use tenant_state::{Made, Pools, TenantState, Version};
-
-/// The route of all versions.
-pub const ROUTE: &str = "/t/{t}/maps";
-
-/// The route of one version.
-pub const VERSION_ROUTE: &str = "/t/{t}/maps/{v}";
-
-/// Whether the route of all versions has this method.
-pub fn has_method(method: &[u8]) -> bool
-    ensures { result ≡ spec.has_method method.now }
-{
-    method == b"POST".as_slice()
-}
-
-/// Whether the route of one version has this method.
-pub fn version_has_method(method: &[u8]) -> bool
-    ensures { result ≡ spec.version_has_method method.now }
-{
-    method == b"GET".as_slice()
-}
 
 // ---- the body of an import
 
-fn import_in(alloc: Global, value: &Value) -> Result<(Text, Text), ReadError>
+/// The request number and the text that a body's value says. The problem is `BadRequest`, exactly
+/// where the value isn't of the form of such a body.
+fn import_in(alloc: Global, value: &Value) -> Result<(Text, Text), Refusal>
     ensures { Reads (λ asked. asked) result (spec.import_of (view value.now)) }
 {
     if !has_keys(value, 2) {
-        return Err(ReadError::Malformed);
+        return Err(Refusal::Problem(Problem::BadRequest));
     }
-    let number = request_number(value).ok_or(ReadError::Malformed)?;
-    let written = text(value, "text").ok_or(ReadError::Malformed)?;
+    let number = request_number(value).ok_or(Problem::BadRequest)?;
+    let written = text(value, "text").ok_or(Problem::BadRequest)?;
     Ok((Text::copy(alloc, number)?, Text::copy(alloc, written)?))
 }
 
-/// The request number and the text of the import that a body asks for.
-pub fn read_import(alloc: Global, body: &[u8]) -> Result<(Text, Text), ReadError>
+/// The request number and the text of the import that a body asks for. The problem is `BadRequest`,
+/// exactly where the body isn't of the form (`IsImportBody`).
+pub fn read_import(alloc: Global, body: &[u8]) -> Result<(Text, Text), Refusal>
     ensures { Reads (λ asked. asked) result (spec.import_request_of body.now) }
 {
     import_in(alloc, &read_value(alloc, body)?)
@@ -66,9 +49,7 @@ pub fn read_import(alloc: Global, body: &[u8]) -> Result<(Text, Text), ReadError
 
 // ---- importing a text
 
-/// The greatest number of versions of a tenant.
-const VERSION_LIMIT: u64 = 256;
-
+/// The body of the reply: the epoch after the import, and the number of the new version.
 fn import_reply(alloc: Global, state: &TenantState) -> Result<Value, AllocError>
     requires receipts { length state.now.receipts < 2 ^ 32 }
     requires versions { length state.now.versions < 2 ^ 32 }
@@ -77,6 +58,8 @@ fn import_reply(alloc: Global, state: &TenantState) -> Result<Value, AllocError>
     json!(in alloc; {"epoch": state.epoch() + 1, "version": state.newest() + 1})
 }
 
+/// The version with this map, to be shared. `Err(AllocError)`: an allocation failed; the map is
+/// dropped.
 fn shared_version(alloc: Global, map: CrushMap) -> Result<Rc<Version>, AllocError>
     ensures { IfOk result (λ version. version.value ≡ map) }
 {
@@ -93,20 +76,22 @@ fn has_each_rule(map: &CrushMap, pools: &[Rc<Pool>]) -> bool
         .all(|pool| rule_with_id(map, pool.parts().rule).is_some())
 }
 
-/// The same for all pools of a tenant.
+/// Whether a map has the rule of each pool of a tenant.
 fn has_rules_of(map: &CrushMap, pools: &Pools) -> bool
     ensures { result ≡ list_all (λ p. is_some (rule_numbered map.now p.rule)) pools.now }
 {
     has_each_rule(map, pools.as_slice())
 }
 
-/// The version of a text, or why there is none.
+/// The version of a map's text, with the reply. The problem is, in this order, `TenantLimit` where
+/// there are `VERSION_LIMIT` versions already, `MapRefused` with the text's first fault, or
+/// `RuleInUse` where the new map lacks the rule of a pool.
 pub fn import(alloc: Global, text: &str, state: &TenantState) -> Result<Accepted, Refusal>
     requires { length state.now.receipts < 2 ^ 32 }
     ensures given { Gives accepted_of result (spec.imported text.now state.now) }
     ensures plain { IfOk result (λ a. has_float (view a.body) ≡ false) }
 {
-    if state.newest() >= VERSION_LIMIT {
+    if state.newest() >= VERSION_LIMIT as u64 {
         return Err(Refusal::Problem(Problem::TenantLimit));
     }
     texts_are_read_as_they_say();
@@ -128,18 +113,18 @@ pub fn import(alloc: Global, text: &str, state: &TenantState) -> Result<Accepted
 
 // ---- reading a version
 
+/// The body of the reply: the canonical text of a version, and its number.
 fn version_reply(alloc: Global, number: u64, version: &Version) -> Result<Value, AllocError>
     ensures { IfOk result (λ v. view v ≡ spec.version_reply number version.now) }
 {
     json!(in alloc; {"text": version.text(), "version": number})
 }
 
-/// The reply with the canonical text of a version.
-pub fn answer(alloc: Global, number: u64, state: &TenantState) -> Result<Reply, AllocError>
-    ensures { IfOk result (λ r. r ≡ reply (spec.answer number state.now)) }
+/// The reply with the canonical text of the version with a number. The problem is `NoVersion`.
+pub fn answer(alloc: Global, number: u64, state: &TenantState) -> Result<Reply, Refusal>
+    ensures { Answers result (spec.answer number state.now) }
 {
-    match state.version(number) {
-        None => refused(alloc, Problem::NoVersion),
-        Some(version) => success(alloc, &version_reply(alloc, number, version)?),
-    }
+    let version = state.version(number).ok_or(Problem::NoVersion)?;
+    let body = version_reply(alloc, number, version)?;
+    Ok(success(alloc, &body)?)
 }

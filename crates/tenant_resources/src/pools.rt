@@ -13,32 +13,21 @@ ghost use Rattle.tenant_resources.specs.Orders.{accepted_of};
 
 use crate::accepted::Accepted;
 use crush_map::Text;
+use crush_pool::limits::POOL_ID_LIMIT;
 use crush_pool::{Pool, PoolParts, rule_with_id};
 use serde_json::{Value, json};
 use std::alloc::{AllocError, Global};
 use std::rc::Rc;
 use tenant_messages::{
-    Problem, ReadError, Refusal, SuccessStatus, boolean, has_keys, natural, read_value,
-    request_number, text,
+    Problem, Refusal, SuccessStatus, boolean, has_keys, natural, read_value, request_number, text,
 };
+use tenant_state::limits::POOL_LIMIT;
 use tenant_state::{Made, Pools, TenantState};
-
-/// The route of pools.
-pub const ROUTE: &str = "/t/{t}/pools";
-
-/// The route by which pools are removed.
-pub const REMOVAL_ROUTE: &str = "/t/{t}/pools/remove";
-
-/// Whether each of the routes has this method.
-pub fn has_method(method: &[u8]) -> bool
-    ensures { result ≡ spec.has_method method.now }
-{
-    method == b"POST".as_slice()
-}
 
 // ---- the body of a creation
 
-/// Whether the kind under the key `kind` is `erasure`; else it is `replicated`.
+/// Whether the kind under the key `kind` is `erasure` (`true`) or `replicated` (`false`); `None`
+/// where it is neither.
 fn is_erasure(value: &Value) -> Option<bool>
     ensures { result ≡ json.under (codes "kind") spec.kind_of (view value.now) }
 {
@@ -52,13 +41,15 @@ fn is_erasure(value: &Value) -> Option<bool>
     }
 }
 
+/// The whole number under a key, if it is below 2^32.
 fn number_under(value: &Value, key: &str) -> Option<u32>
     ensures { result ≡ spec.number_under key.now (view value.now) }
 {
     natural(value, key, 4_294_967_295)
 }
 
-/// The size, the rule, the numbers of groups and of their places, and whether seeds are hashed.
+/// The size, the rule, the numbers of groups (`pg_num`) and of their places (`pgp_num`), and
+/// whether seeds are hashed; `None` where one of them isn't of its form.
 fn sizes(value: &Value) -> Option<(((u32, u32), (u32, u32)), bool)>
     ensures { result ≡ spec.sized_of (view value.now) }
 {
@@ -70,14 +61,16 @@ fn sizes(value: &Value) -> Option<(((u32, u32), (u32, u32)), bool)>
     Some((((size, rule), (pg_num, pgp_num)), hashpspool))
 }
 
-fn parts(alloc: Global, value: &Value) -> Result<(Text, PoolParts), ReadError>
+/// The request number and the parts of a pool that a body's value says, not yet tested for the
+/// ranges of a pool. The problem is `BadRequest`, exactly where one of them isn't of its form.
+fn parts(alloc: Global, value: &Value) -> Result<(Text, PoolParts), Refusal>
     ensures { Reads (λ asked. asked) result (spec.parts_of (view value.now)) }
 {
-    let number = request_number(value).ok_or(ReadError::Malformed)?;
-    let id = number_under(value, "id").ok_or(ReadError::Malformed)?;
-    let name = text(value, "name").ok_or(ReadError::Malformed)?;
-    let erasure = is_erasure(value).ok_or(ReadError::Malformed)?;
-    let (((size, rule), (pg_num, pgp_num)), hashpspool) = sizes(value).ok_or(ReadError::Malformed)?;
+    let number = request_number(value).ok_or(Problem::BadRequest)?;
+    let id = number_under(value, "id").ok_or(Problem::BadRequest)?;
+    let name = text(value, "name").ok_or(Problem::BadRequest)?;
+    let erasure = is_erasure(value).ok_or(Problem::BadRequest)?;
+    let (((size, rule), (pg_num, pgp_num)), hashpspool) = sizes(value).ok_or(Problem::BadRequest)?;
     let name = Text::copy(alloc, name)?;
     let parts = PoolParts {
         id,
@@ -92,21 +85,24 @@ fn parts(alloc: Global, value: &Value) -> Result<(Text, PoolParts), ReadError>
     Ok((Text::copy(alloc, number)?, parts))
 }
 
-fn pool_in(alloc: Global, value: &Value) -> Result<(Text, Pool), ReadError>
+/// The request number and the pool that a body's value says. The problem is `BadRequest`, exactly
+/// where the value isn't of the form of such a body.
+fn pool_in(alloc: Global, value: &Value) -> Result<(Text, Pool), Refusal>
     ensures { Reads (λ asked. asked) result (spec.pool_of (view value.now)) }
 {
     if !has_keys(value, 9) {
-        return Err(ReadError::Malformed);
+        return Err(Refusal::Problem(Problem::BadRequest));
     }
     let (number, parts) = parts(alloc, value)?;
     match Pool::new(parts) {
         Ok(pool) => Ok((number, pool)),
-        Err(_) => Err(ReadError::Malformed),
+        Err(_) => Err(Refusal::Problem(Problem::BadRequest)),
     }
 }
 
-/// The request number and the pool of a body that asks for one.
-pub fn read_pool(alloc: Global, body: &[u8]) -> Result<(Text, Pool), ReadError>
+/// The request number and the pool that a body asks for. The problem is `BadRequest`, exactly where
+/// the body isn't of the form (`IsPoolBody`).
+pub fn read_pool(alloc: Global, body: &[u8]) -> Result<(Text, Pool), Refusal>
     ensures { Reads (λ asked. asked) result (spec.pool_request_of body.now) }
 {
     pool_in(alloc, &read_value(alloc, body)?)
@@ -114,31 +110,31 @@ pub fn read_pool(alloc: Global, body: &[u8]) -> Result<(Text, Pool), ReadError>
 
 // ---- the body of a removal
 
-fn removal_in(alloc: Global, value: &Value) -> Result<(Text, u32), ReadError>
+/// The request number and the id that a body's value says. The problem is `BadRequest`, exactly
+/// where the value isn't of the form of such a body.
+fn removal_in(alloc: Global, value: &Value) -> Result<(Text, u32), Refusal>
     ensures { Reads (λ asked. asked) result (spec.removal_of (view value.now)) }
 {
     if !has_keys(value, 2) {
-        return Err(ReadError::Malformed);
+        return Err(Refusal::Problem(Problem::BadRequest));
     }
-    let number = request_number(value).ok_or(ReadError::Malformed)?;
-    let id = natural(value, "id", 2_147_483_647).ok_or(ReadError::Malformed)?;
+    let number = request_number(value).ok_or(Problem::BadRequest)?;
+    let id = natural(value, "id", POOL_ID_LIMIT).ok_or(Problem::BadRequest)?;
     if id == 0 {
-        return Err(ReadError::Malformed);
+        return Err(Refusal::Problem(Problem::BadRequest));
     }
     Ok((Text::copy(alloc, number)?, id))
 }
 
-/// The request number and the id of the pool that a body asks to remove.
-pub fn read_removal(alloc: Global, body: &[u8]) -> Result<(Text, u32), ReadError>
+/// The request number and the id of the pool that a body asks to remove. The problem is
+/// `BadRequest`, exactly where the body isn't of the form (`IsRemovalBody`).
+pub fn read_removal(alloc: Global, body: &[u8]) -> Result<(Text, u32), Refusal>
     ensures { Reads (λ asked. asked) result (spec.removal_request_of body.now) }
 {
     removal_in(alloc, &read_value(alloc, body)?)
 }
 
 // ---- creating a pool
-
-/// The greatest number of pools of a tenant.
-const POOL_LIMIT: usize = 256;
 
 /// Whether a pool has the id or the name of another.
 fn is_like(parts: &PoolParts, other: &PoolParts) -> bool
@@ -154,13 +150,14 @@ fn is_any_like(parts: &PoolParts, pools: &[Rc<Pool>]) -> bool
     pools.iter().any(|pool| is_like(parts, pool.parts()))
 }
 
-/// The same for all pools of a tenant.
+/// Whether one of the pools of a tenant has the id or the name of another.
 fn is_taken(parts: &PoolParts, pools: &Pools) -> bool
     ensures { result ≡ list_any (spec.is_like parts.now) pools.now }
 {
     is_any_like(parts, pools.as_slice())
 }
 
+/// The body of the reply: the epoch after the creation, and the pool's id.
 fn creation(alloc: Global, id: u32, state: &TenantState) -> Result<Value, AllocError>
     requires receipts { length state.now.receipts < 2 ^ 32 }
     ensures { IfOk result (λ v. view v ≡ spec.creation id state.now) }
@@ -168,7 +165,7 @@ fn creation(alloc: Global, id: u32, state: &TenantState) -> Result<Value, AllocE
     json!(in alloc; {"epoch": state.epoch() + 1, "pool": id})
 }
 
-/// A copy of a pool, to be shared.
+/// A copy of a pool, to be shared. `Err(AllocError)`: an allocation failed; nothing is changed.
 fn shared(alloc: Global, pool: &Pool) -> Result<Rc<Pool>, AllocError>
     ensures { IfOk result (λ again. again.value ≡ pool.now) }
 {
@@ -183,7 +180,9 @@ fn shared(alloc: Global, pool: &Pool) -> Result<Rc<Pool>, AllocError>
     }
 }
 
-/// One more pool, or why there is none.
+/// One more pool, with the reply. The problem is, in this order, `NoVersion`, `NoRule` where the
+/// newest version lacks the pool's rule, `Exists` where a pool has the id or the name, or
+/// `TenantLimit` where there are `POOL_LIMIT` pools already.
 pub fn create(alloc: Global, pool: &Pool, state: &TenantState) -> Result<Accepted, Refusal>
     requires { length state.now.receipts < 2 ^ 32 }
     ensures given { Gives accepted_of result (spec.created pool.now state.now) }
@@ -211,6 +210,7 @@ pub fn create(alloc: Global, pool: &Pool, state: &TenantState) -> Result<Accepte
 
 // ---- removing a pool
 
+/// The body of the reply: the epoch after the removal, and the pool's id.
 fn removal(alloc: Global, id: u32, state: &TenantState) -> Result<Value, AllocError>
     requires receipts { length state.now.receipts < 2 ^ 32 }
     ensures { IfOk result (λ v. view v ≡ spec.removal id state.now) }
@@ -218,7 +218,7 @@ fn removal(alloc: Global, id: u32, state: &TenantState) -> Result<Value, AllocEr
     json!(in alloc; {"epoch": state.epoch() + 1, "removed": id})
 }
 
-/// The removal of a pool, or why there is none.
+/// The removal of the pool with an id, with the reply. The problem is `NoPool`.
 pub fn remove(alloc: Global, id: u32, state: &TenantState) -> Result<Accepted, Refusal>
     requires { length state.now.receipts < 2 ^ 32 }
     ensures given { Gives accepted_of result (spec.removed id state.now) }

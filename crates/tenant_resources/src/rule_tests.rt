@@ -1,17 +1,20 @@
-//! Tests of rules, at `/t/{t}/test`: POST asks which items a rule of a version of the tenant's map gives for an input.
+//! Tests of rules, at `/t/{t}/test`: POST asks which items a rule of a version of the tenant's map
+//! gives for an input.
 
-ghost use Rattle.std.specs.Prelude.{◌≡◌, ◌≤◌, IfOk};
+ghost use Rattle.std.specs.Prelude.{◌≡◌, IfOk};
 ghost use Rattle.crush_bucket.specs.Tables.{tables_of};
 ghost use Rattle.crush_rules.specs.Rules.{CanRun, rule_answer};
 ghost use Rattle.crush_rules.specs.Trace.{rule_trace};
 ghost use Rattle.serde_json.specs.View.{view};
 ghost use Rattle.tenant_messages.specs.Reading.{Reads};
-ghost use Rattle.tenant_messages.specs.Reply.{reply};
+ghost use Rattle.tenant_messages.specs.Refusals.{Answers};
 ghost use Rattle.tenant_resources.specs.RuleTests as spec;
 
 use crush_bucket::Scratch;
+use crush_choose::limits::SIZE_LIMIT;
 use crush_choose::{Slot, Weights};
 use crush_map::Rule;
+use crush_map::limits::RULE_ID_LIMIT;
 use crush_pool::rule_with_id;
 use crush_rules::laws::traces_ascend;
 use crush_rules::{Out, run_rule};
@@ -19,20 +22,10 @@ use serde_json::{Value, json};
 use std::alloc::{AllocError, Global};
 use std::marker::Model;
 use tenant_messages::{
-    Problem, ReadError, Reply, has_keys, ids_json, natural, optional_natural, read_value, refused,
-    slots_json, success,
+    Problem, Refusal, Reply, has_keys, ids_json, natural, optional_natural, read_value, slots_json,
+    success,
 };
 use tenant_state::{TenantState, Version};
-
-/// The route of rule tests.
-pub const ROUTE: &str = "/t/{t}/test";
-
-/// Whether the route has this method.
-pub fn has_method(method: &[u8]) -> bool
-    ensures { result ≡ spec.has_method method.now }
-{
-    method == b"POST".as_slice()
-}
 
 /// The body of a rule test: which items the rule gives for the input `x`, at most `size` of them.
 #[derive(Drop)]
@@ -45,6 +38,7 @@ pub struct RuleTest {
 
 impl Model for RuleTest {
     ghost use Rattle.std.specs.Prelude.{◌≤◌};
+    ghost use Rattle.crush_choose.specs.declared.limits.TheConstants.{SIZE_LIMIT}
     ghost use Rattle.tenant_resources.specs.RuleTests.{RuleTest};
 
     ghost Value = { RuleTest };
@@ -53,12 +47,13 @@ impl Model for RuleTest {
 
     ghost invariant = { λ a. record {
       some : 1 ≤ a.size;
-      few : a.size ≤ 32;
+      few : a.size ≤ SIZE_LIMIT;
     } };
 }
 
 // ---- the body
 
+/// The test that a body's value says, or `None` where the value isn't of the form of such a body.
 fn test(value: &Value) -> Option<RuleTest>
     ensures { result ≡ spec.test_of (view value.now) }
 {
@@ -66,8 +61,8 @@ fn test(value: &Value) -> Option<RuleTest>
     if !has_keys(value, keys) {
         return None;
     }
-    let rule = natural(value, "rule", 255)?;
-    let size = natural(value, "size", 32)?;
+    let rule = natural(value, "rule", RULE_ID_LIMIT)?;
+    let size = natural(value, "size", SIZE_LIMIT as u32)?;
     let x = natural(value, "x", 4_294_967_295)?;
     let version = optional_natural(value, "version", 4_294_967_295)?;
     if size == 0 {
@@ -81,15 +76,19 @@ fn test(value: &Value) -> Option<RuleTest>
     })
 }
 
-/// The test that a body asks for.
-pub fn read_test(alloc: Global, body: &[u8]) -> Result<RuleTest, ReadError>
+/// The test that a body asks for. The problem is `BadRequest`, exactly where the body isn't of the
+/// form (`IsTestBody`).
+pub fn read_test(alloc: Global, body: &[u8]) -> Result<RuleTest, Refusal>
     ensures { Reads (λ t. t) result (spec.test_request_of body.now) }
 {
-    test(&read_value(alloc, body)?).ok_or(ReadError::Malformed)
+    let value = read_value(alloc, body)?;
+    Ok(test(&value).ok_or(Problem::BadRequest)?)
 }
 
 // ---- the answer
 
+/// The body of the reply: the epoch, the items and nones that the rule gives, the devices in the
+/// outputs of its choose steps (`trace`, ascending), and the number of the version.
 fn outcome(
     alloc: Global,
     epoch: u64,
@@ -104,6 +103,8 @@ fn outcome(
     json!(in alloc; {"epoch": epoch, "items": items, "trace": trace, "version": number})
 }
 
+/// The body of the reply for a rule of a version, run on these reweights (16.16 fixed point).
+/// `Err(AllocError)`: an allocation failed; nothing is changed.
 fn tested(
     alloc: Global,
     epoch: u64,
@@ -132,35 +133,32 @@ fn tested(
     outcome(alloc, epoch, number, out.items(), out.trace())
 }
 
+/// The reply to a rule test on a version, which has a number. The problem is `NoRule`.
 fn answer_on(
     alloc: Global,
     test: &RuleTest,
     state: &TenantState,
     number: u64,
     version: &Version,
-) -> Result<Reply, AllocError>
-    ensures { IfOk result (λ r. r ≡ reply (spec.on_version test.now state.now number (Some version.now))) }
+) -> Result<Reply, Refusal>
+    ensures { Answers result (spec.on_version test.now state.now number (Some version.now)) }
 {
-    match rule_with_id(version.map(), test.rule) {
-        None => refused(alloc, Problem::NoRule),
-        Some(rule) => {
-            let weights = state.devices().weights();
-            let body = tested(alloc, state.epoch(), number, version, weights, rule, test)?;
-            success(alloc, &body)
-        }
-    }
+    let rule = rule_with_id(version.map(), test.rule).ok_or(Problem::NoRule)?;
+    let weights = state.devices().weights();
+    let body = tested(alloc, state.epoch(), number, version, weights, rule, test)?;
+    Ok(success(alloc, &body)?)
 }
 
-/// The reply to a rule test: what the rule gives on the version that is named, or else on the newest, with the states of devices as they are now.
-pub fn answer(alloc: Global, test: &RuleTest, state: &TenantState) -> Result<Reply, AllocError>
-    ensures { IfOk result (λ r. r ≡ reply (spec.answer test.now state.now)) }
+/// The reply to a rule test: what the rule gives on the version that is named, or else on the
+/// newest, with the states of devices as they are now. The problem is `NoVersion` where there is no
+/// such version, and `NoRule` where it lacks the rule.
+pub fn answer(alloc: Global, test: &RuleTest, state: &TenantState) -> Result<Reply, Refusal>
+    ensures { Answers result (spec.answer test.now state.now) }
 {
     let number = match test.version {
         Some(number) => u64::from(number),
         None => state.newest(),
     };
-    match state.version(number) {
-        None => refused(alloc, Problem::NoVersion),
-        Some(version) => answer_on(alloc, test, state, number, version),
-    }
+    let version = state.version(number).ok_or(Problem::NoVersion)?;
+    answer_on(alloc, test, state, number, version)
 }

@@ -1,32 +1,35 @@
 -- Receipts, in the ordered map that holds them.
-use Rattle.std.proofs.Common.{◌≡◌, ℕ, List, [], ◌∷◌, map, Bool, true, false, cond, if◌then◌else◌, Option, Some, option_map, string_bytes, bytes_eq, Ordering, Less, Equal, Greater, nat_cmp, is_eq, refl, ap}
+use Rattle.std.proofs.Common.{◌≡◌, ℕ, List, [], ◌∷◌, map, Bool, true, false, cond, if◌then◌else◌, Option, Some, option_map, string_bytes, bytes_eq, Ordering, Less, Equal, Greater, nat_cmp, is_eq, refl, ap, sym, ◌∙◌, ◌++◌}
+use Rattle.std.proofs.lemmas.List.{append_assoc}
 use Rattle.std.proofs.lemmas.Map.Text.{is_eq-slice_cmp}
 use Rattle.std.specs.BTreeMap.{insert_entry, is_at}
 use Rattle.std.specs.Cmp.Lexicographic.{slice_cmp}
 use Rattle.std.specs.List.{AllZip}
 use Rattle.std.specs.Map.{lookup}
-use Rattle.std.specs.Ordering.{match_ordering}
+use Rattle.std.specs.Ordering.{is_lt, match_ordering}
 use Rattle.std.specs.Prelude.{String}
 use Rattle.std.specs.declared.alloc.Global.{Global}
 use Rattle.std.specs.declared.rc.Rc.{Rc}
 use Rattle.crush_map.specs.Map.{Map}
 use Rattle.crush_pool.specs.declared.pool.PoolParts.{PoolParts}
 use Rattle.crush_pool.specs.declared.states.DeviceState.{DeviceState}
-use Rattle.tenant_state.specs.Receipts.{Receipts, receipt_of, with_receipt}
+use Rattle.tenant_state.proofs.Ordering.{before_rest}
+use Rattle.tenant_state.specs.Ordered.{is_ascending, is_before_first}
+use Rattle.tenant_state.specs.Receipts.{Receipts, is_before, receipt_of, with_receipt}
 use Rattle.tenant_state.specs.State.{TenantState}
 use Rattle.tenant_state.specs.declared.receipts.Receipt.{Receipt}
 
 abbrev Kept : Type 0
 Kept = Rc Receipt Global
 
-abbrev Entry : Type 0
+abbrev pub Entry : Type 0
 Entry = String Global × Kept
 
 -- an entry, as contracts see it
-abbrev pair_of : Entry → List ℕ × Receipt
+abbrev pub pair_of : Entry → List ℕ × Receipt
 pair_of e = (string_bytes e.0, e.1.value)
 
-abbrev pairs_of : List Entry → Receipts
+abbrev pub pairs_of : List Entry → Receipts
 pairs_of es = map pair_of es
 
 -- ---- looking up
@@ -62,6 +65,36 @@ placed_in k rc [] = refl
 placed_in k rc (e ∷ es) =
     placed_at (in_order k e.0) k rc e es (insert_entry in_order es k rc) (with_receipt (string_bytes k) rc.value (pairs_of es)) (placed_in k rc es)
 
+-- ---- receipts in the order of their numbers
+
+at_less : (o : Ordering) (first same later : Receipts) → is_lt o ≡ true → match_ordering o first same later ≡ first
+at_less Less first same later h = refl
+at_less Equal first same later h = cc
+at_less Greater first same later h = cc
+
+-- one whose number comes before all others is put in front of them
+pub placed_first : (k : String Global) (rc : Kept) (es : List Entry) → is_before_first is_before (pair_of (k, rc)) (pairs_of es) ≡ true
+    → pairs_of (insert_entry in_order es k rc) ≡ pair_of (k, rc) ∷ pairs_of es
+placed_first k rc [] h = refl
+placed_first k rc (e ∷ es) h = placed_in k rc (e ∷ es) ∙ at_less (in_order k e.0) _ _ _ h
+
+map-append : (xs ys : List Entry) → pairs_of (xs ++ ys) ≡ pairs_of xs ++ pairs_of ys
+map-append [] ys = refl
+map-append (x ∷ xs) ys = ap (λ l. pair_of x ∷ l) (map-append xs ys)
+
+-- the last of the receipts that are left is put in front of those in the map
+pub moved_last : (old new : List Entry) (k : String Global) (rc : Kept) (es after all : List Entry) → old ≡ new ++ (k, rc) ∷ []
+    → after ≡ insert_entry in_order es k rc → pairs_of old ++ pairs_of es ≡ pairs_of all → is_ascending is_before (pairs_of all) ≡ true
+    → pairs_of new ++ pairs_of after ≡ pairs_of all
+moved_last old new k rc es after all last placed whole ordered =
+    let parts : pairs_of old ++ pairs_of es ≡ pairs_of new ++ pair_of (k, rc) ∷ pairs_of es =
+    ap (λ l. pairs_of l ++ pairs_of es) last
+    ∙ (ap (λ l. l ++ pairs_of es) (map-append new ((k, rc) ∷ [])) ∙ append_assoc (pairs_of new) (pair_of (k, rc) ∷ []) (pairs_of es)) in
+    let sorted : is_ascending is_before (pairs_of new ++ pair_of (k, rc) ∷ pairs_of es) ≡ true =
+    ap (is_ascending is_before) (sym parts ∙ whole) ∙ ordered in
+    let first = before_rest is_before (pairs_of new) (pair_of (k, rc)) (pairs_of es) sorted in
+    ap (λ l. pairs_of new ++ l) (ap pairs_of placed ∙ placed_first k rc es first) ∙ (sym parts ∙ whole)
+
 -- ---- copying
 
 pub copied_in : (es fs : List Entry) → AllZip (λ (p q : Entry). (string_bytes q.0 ≡ string_bytes p.0) × (q.1.value ≡ p.1.value)) es fs → pairs_of fs ≡ pairs_of es
@@ -72,23 +105,16 @@ copied_in (e ∷ es) (f ∷ fs) h = let head = h.0 in let tail : pairs_of fs ≡
 
 -- ---- states
 
-same_versions : (vs ws : List (Rc Map Global)) → AllZip (λ (p q : Rc Map Global). q.value ≡ p.value) vs ws → map (λ (v : Rc Map Global). v.value) ws ≡ map (λ (v : Rc Map Global). v.value) vs
-same_versions [] [] h = refl
-same_versions [] (w ∷ ws) h = absurd h
-same_versions (v ∷ vs) [] h = absurd h
-same_versions (v ∷ vs) (w ∷ ws) h = let head = h.0 in let tail = same_versions vs ws h.1 in rw (head, tail) refl
-
-same_pools : (vs ws : List (Rc PoolParts Global)) → AllZip (λ (p q : Rc PoolParts Global). q.value ≡ p.value) vs ws → map (λ (v : Rc PoolParts Global). v.value) ws ≡ map (λ (v : Rc PoolParts Global). v.value) vs
-same_pools [] [] h = refl
-same_pools [] (w ∷ ws) h = absurd h
-same_pools (v ∷ vs) [] h = absurd h
-same_pools (v ∷ vs) (w ∷ ws) h = let head = h.0 in let tail = same_pools vs ws h.1 in rw (head, tail) refl
-
-pub pools_copied : (vs ws : List (Rc PoolParts Global)) → AllZip (λ (p q : Rc PoolParts Global). q.value ≡ p.value) vs ws → map (λ (v : Rc PoolParts Global). v.value) ws ≡ map (λ (v : Rc PoolParts Global). v.value) vs
-pools_copied vs ws h = same_pools vs ws h
+-- a copy of a list of shared values has the same values
+pub same_shared : {A : Type 0} (vs ws : List (Rc A Global)) → AllZip (λ (p q : Rc A Global). q.value ≡ p.value) vs ws
+    → map (λ (v : Rc A Global). v.value) ws ≡ map (λ (v : Rc A Global). v.value) vs
+same_shared [] [] h = refl
+same_shared [] (w ∷ ws) h = absurd h
+same_shared (v ∷ vs) [] h = absurd h
+same_shared (v ∷ vs) (w ∷ ws) h = let head = h.0 in let tail = same_shared vs ws h.1 in rw (head, tail) refl
 
 pub same_state : (vs ws : List (Rc Map Global)) (devices again-devices : List DeviceState) (pools again-pools : List PoolParts) (receipts again : Receipts)
     → AllZip (λ (p q : Rc Map Global). q.value ≡ p.value) vs ws → again-devices ≡ devices → again-pools ≡ pools → again ≡ receipts
     → ◌≡◌ {A = TenantState} (record { versions = map (λ (v : Rc Map Global). v.value) ws; devices = again-devices; pools = again-pools; receipts = again })
     (record { versions = map (λ (v : Rc Map Global). v.value) vs; devices = devices; pools = pools; receipts = receipts })
-same_state vs ws devices again-devices pools again-pools receipts again h d p r = let versions = same_versions vs ws h in rw (versions, d, p, r) refl
+same_state vs ws devices again-devices pools again-pools receipts again h d p r = let versions = same_shared vs ws h in rw (versions, d, p, r) refl

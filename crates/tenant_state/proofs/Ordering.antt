@@ -1,9 +1,10 @@
 -- Where an element goes in a list in the order of numbers.
-use Rattle.std.proofs.Common.{◌≡◌, ℕ, zero, suc, ◌<◌, ◌≤◌, ◌==◌, List, [], ◌∷◌, length, map, Bool, true, false, cond, nat_le, nat_lt, Some, None, position, find, slice_index_or, slice_set, refl, ap, sym, ◌∙◌, arith}
+use Rattle.std.proofs.Common.{◌≡◌, ℕ, zero, suc, ◌<◌, ◌≤◌, ◌==◌, ◌&&◌, List, [], ◌∷◌, ◌++◌, length, map, Bool, true, false, cond, nat_le, nat_lt, Some, None, position, find, slice_index_or, slice_set, refl, ap, sym, ◌∙◌, arith}
 use Rattle.std.proofs.lemmas.Bool.Decides.{nat_tests}
 use Rattle.std.specs.List.{position_or_len, insert, remove}
+use Rattle.std.proofs.lemmas.List.{map-id}
 use Rattle.std.proofs.lemmas.List.Sums.{fails_before_first, passes_at_first}
-use Rattle.tenant_state.specs.Ordered.{with_element, without}
+use Rattle.tenant_state.specs.Ordered.{is_ascending, is_before_first, with_element, without}
 
 -- ---- places
 
@@ -91,20 +92,16 @@ replaced {A} {B} v number new d i xs is within same =
     (λ k lower. fails_before_first p xs k d (omega (arith, lower, is)))
     (rw is (passes_at_first p xs d (omega (arith, within, is)))) (equals (number (v (slice_index_or xs i d))) (number (v new)) same)
 
-pub map-same : {A : Type 0} (xs : List A) → map (λ (x : A). x) xs ≡ xs
-map-same [] = refl
-map-same (x ∷ xs) = ap (λ l. x ∷ l) (map-same xs)
-
 -- the same of a list as it is
 pub inserted_here : {A : Type 0} (number : A → ℕ) (new d : A) (i : ℕ) (xs : List A) → i ≡ position_or_len (λ x. nat_le (number new) (number x)) xs
     → (i < length xs → number (slice_index_or xs i d) ≡ number new → ⊥) → insert xs i new ≡ with_element number new xs
 inserted_here number new d i xs is other =
-    sym (map-same (insert xs i new)) ∙ (inserted (λ x. x) number new d i xs is other ∙ ap (with_element number new) (map-same xs))
+    sym (map-id (insert xs i new)) ∙ (inserted (λ x. x) number new d i xs is other ∙ ap (with_element number new) (map-id xs))
 
 pub replaced_here : {A : Type 0} (number : A → ℕ) (new d : A) (i : ℕ) (xs : List A) → i ≡ position_or_len (λ x. nat_le (number new) (number x)) xs
     → i < length xs → number (slice_index_or xs i d) ≡ number new → slice_set xs i new ≡ with_element number new xs
 replaced_here number new d i xs is within same =
-    sym (map-same (slice_set xs i new)) ∙ (replaced (λ x. x) number new d i xs is within same ∙ ap (with_element number new) (map-same xs))
+    sym (map-id (slice_set xs i new)) ∙ (replaced (λ x. x) number new d i xs is within same ∙ ap (with_element number new) (map-id xs))
 
 -- ---- an element that is looked for
 
@@ -180,3 +177,19 @@ not_found {A} {B} v test (x ∷ xs) h =
     let p : B → Bool = λ y. test (v y) in
     let end = place_is_end p (x ∷ xs) h in
     none_all v test x (x ∷ xs) (λ k lower. fails_before_first p (x ∷ xs) k x (omega (arith, end, lower)))
+
+-- ---- lists that are in order already
+
+first-of : (a b : Bool) → (a && b) ≡ true → a ≡ true
+first-of true b h = refl
+first-of false b h = cc
+
+second-of : (a b : Bool) → (a && b) ≡ true → b ≡ true
+second-of true b h = h
+second-of false b h = cc
+
+-- each element stands before what follows it
+pub before_rest : {A : Type 0} (before : A → A → Bool) (xs : List A) (x : A) (ys : List A) → is_ascending before (xs ++ x ∷ ys) ≡ true → is_before_first before x ys ≡ true
+before_rest before [] x ys h = first-of (is_before_first before x ys) (is_ascending before ys) h
+before_rest before (w ∷ xs) x ys h =
+    before_rest before xs x ys (second-of (is_before_first before w (xs ++ x ∷ ys)) (is_ascending before (xs ++ x ∷ ys)) h)

@@ -1,7 +1,7 @@
 -- Receipts: what an accepted change leaves, so that a request that is repeated acts once.
 use Rattle.std.specs.Prelude.{ℕ, ◌&&◌, List, [], ◌∷◌, Bool, if◌then◌else◌, Option, Some, None}
 use Rattle.std.specs.Cmp.Lexicographic.{slice_cmp}
-use Rattle.std.specs.Ordering.{nat_cmp, match_ordering}
+use Rattle.std.specs.Ordering.{nat_cmp, match_ordering, is_lt}
 use Rattle.std.specs.Str.{bytes_eq}
 use Rattle.tenant_state.specs.declared.receipts.Receipt.{Receipt}
 
@@ -23,3 +23,7 @@ with_receipt number receipt (r ∷ rs) =
 -- whether a request is the one that left the receipt: the same path and the same body, to the byte
 abbrev pub is_repeat : List ℕ → List ℕ → Receipt → Bool
 is_repeat path body receipt = bytes_eq path receipt.path && bytes_eq body receipt.body
+
+-- whether a request number comes before another, in the order of their bytes
+abbrev pub is_before : List ℕ × Receipt → List ℕ × Receipt → Bool
+is_before r s = is_lt (slice_cmp nat_cmp r.0 s.0)

@@ -1,5 +1,5 @@
 -- The state of a tenant, and its changes.
-use Rattle.std.specs.Prelude.{ℕ, ◌-◌, ◌==◌, List, [], ◌∷◌, ◌++◌, length, slice_get, find, fold, if◌then◌else◌, Option, Some, None, option_map, ok_or, Result, Err}
+use Rattle.std.specs.Prelude.{ℕ, ◌-◌, ◌==◌, List, [], ◌∷◌, ◌++◌, length, slice_get, find, fold, Bool, nat_lt, if◌then◌else◌, Option, Some, None, option_map, ok_or, Result, Err}
 use Rattle.crush_map.specs.Map.{Map}
 use Rattle.crush_pool.specs.Placements.{rule_numbered}
 use Rattle.crush_pool.specs.Placers.{PoolOnMap}
@@ -11,8 +11,8 @@ use Rattle.tenant_state.specs.Ordered.{with_element, without}
 use Rattle.tenant_state.specs.Receipts.{Receipts, with_receipt}
 use Rattle.tenant_state.specs.declared.receipts.Receipt.{Receipt}
 
--- the versions 1, 2, .. of the tenant's map; the states of devices that were stored, and the pools, both in order of their ids; and the receipts of
--- its accepted changes
+-- the versions 1, 2, .. of the tenant's map; the states of devices that were stored, and the pools,
+-- both in order of their ids; and the receipts of its accepted changes
 pub record TenantState : Type 0 where
   pub versions : List Map
   pub devices : List DeviceState
@@ -46,6 +46,13 @@ with_state states new = with_element (λ s. s.device) new states
 -- the states of devices with these, one after the other
 abbrev pub with_states : List DeviceState → List DeviceState → List DeviceState
 with_states changed states = fold with_state states changed
+
+-- the orders in which they are kept: by the ids of the devices, and of the pools
+abbrev pub is_lower_device : DeviceState → DeviceState → Bool
+is_lower_device s t = nat_lt s.device t.device
+
+abbrev pub is_lower_pool : PoolParts → PoolParts → Bool
+is_lower_pool p q = nat_lt p.id q.id
 
 -- the pool with an id
 abbrev pub pool : ℕ → TenantState → Option PoolParts

@@ -3,14 +3,16 @@
 ghost use Rattle.std.specs.Prelude.{◌≡◌, IfOk, OnOk, nat_le, position};
 ghost use Rattle.std.specs.List.{position_or_len};
 ghost use Rattle.crush_pool.specs.States.{reweights};
-ghost use Rattle.tenant_state.specs.State.{with_state};
+ghost use Rattle.tenant_state.specs.Ordered.{is_ascending, is_before_first};
+ghost use Rattle.tenant_state.specs.State.{is_lower_device, with_state};
 
 use crush_choose::Weights;
 use crush_pool::{DeviceState, DeviceStates, reweights_of};
 use std::alloc::{AllocError, Global};
 use std::marker::Model;
 
-/// States of devices, kept ready for rules and placements. Contracts see them in the order in which they are kept, that of the devices' ids.
+/// States of devices, kept ready for rules and placements. Contracts see them in the order in which
+/// they are kept, that of the devices' ids.
 #[derive(Drop)]
 pub struct Devices {
     states: Vec<DeviceState>,
@@ -38,13 +40,28 @@ impl Devices {
     ghost use Rattle.std.specs.Prelude.{◌≡◌, [], IfOk};
     ghost use Rattle.crush_choose.specs.Weights.{weights_of};
     ghost use Rattle.crush_pool.specs.States.{flags_of, reweights};
-    ghost use Rattle.tenant_state.specs.State.{with_states};
+    ghost use Rattle.tenant_state.specs.Ordered.{if_ascending};
+    ghost use Rattle.tenant_state.specs.State.{is_lower_device, with_states};
 
-    /// No state of a device: each has the reweight 65536 and is up.
+    /// No state of a device: each has the reweight 1.0 (65536 in 16.16 fixed point) and is up.
+    /// `Err(AllocError)`: an allocation failed; nothing is changed.
     pub fn new(alloc: Global) -> Result<Self, AllocError>
         ensures { IfOk result (λ devices. devices ≡ []) }
     {
         Devices::of(alloc, Vec::new(alloc))
+    }
+
+    /// These states, which are in the order of the devices' ids. `None`, exactly where a device
+    /// stands twice or out of order. Takes time linear in the number of states and the greatest id.
+    /// `Err(AllocError)`: an allocation failed; the list is dropped.
+    pub fn from_list(alloc: Global, states: Vec<DeviceState>) -> Result<Option<Self>, AllocError>
+        ensures { IfOk result (λ found. found ≡ if_ascending is_lower_device states.items) }
+    {
+        if are_ascending(&states) {
+            Ok(Some(Devices::of(alloc, states)?))
+        } else {
+            Ok(None)
+        }
     }
 
     /// These states, made ready.
@@ -61,14 +78,14 @@ impl Devices {
         })
     }
 
-    /// The states.
+    /// The states, in the order of the devices' ids.
     pub fn states(&self) -> &[DeviceState]
         ensures { result.now ≡ self.now }
     {
         self.states.as_slice()
     }
 
-    /// The reweight of each device.
+    /// The reweight of each device, in 16.16 fixed point.
     pub fn weights(&self) -> &Weights
         ensures { result.now ≡ weights_of (reweights self.now) }
     {
@@ -82,7 +99,8 @@ impl Devices {
         &self.flags
     }
 
-    /// These states with some changed, one after the other.
+    /// A copy with some states changed, one after the other. `Err(AllocError)`: an allocation
+    /// failed; nothing is changed.
     pub fn with(&self, alloc: Global, changed: &[DeviceState]) -> Result<Self, AllocError>
         ensures { IfOk result (λ devices. devices ≡ with_states changed.now self.now) }
     {
@@ -101,7 +119,8 @@ fn not_below(states: &[DeviceState], device: u32) -> Option<usize>
     states.iter().position(|state| state.device >= device)
 }
 
-/// The same, or how many devices there are.
+/// The place of the first device whose id isn't below another; where there is none, how many
+/// devices there are.
 fn place_of(states: &[DeviceState], device: u32) -> usize
     ensures { result ≡ position_or_len (λ s. nat_le device s.device) states.now }
 {
@@ -111,7 +130,32 @@ fn place_of(states: &[DeviceState], device: u32) -> usize
     }
 }
 
+/// Whether the ids ascend, so that no device stands twice.
+fn are_ascending(states: &[DeviceState]) -> bool
+    ensures { result ≡ is_ascending is_lower_device states.now }
+{
+    let mut rest = states;
+    while let [state, others @ ..] = rest {
+        if !is_below_first(state, others) {
+            return false;
+        }
+        rest = others;
+    }
+    true
+}
+
+/// Whether a device's id is below that of the first of others, if there is one.
+fn is_below_first(state: &DeviceState, others: &[DeviceState]) -> bool
+    ensures { result ≡ is_before_first is_lower_device state.now others.now }
+{
+    match others {
+        [next, ..] => state.device < next.device,
+        [] => true,
+    }
+}
+
 /// Puts a state at its place in the order of ids, in place of that of the same device.
+/// `Err(AllocError)`: an allocation failed; nothing is changed.
 fn insert(states: &mut Vec<DeviceState>, new: DeviceState) -> Result<(), AllocError>
     ensures { OnOk result (states.new.items ≡ with_state states.old.items new) }
 {

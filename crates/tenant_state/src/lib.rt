@@ -1,7 +1,9 @@
-//! The state of a tenant: the versions of its map, the states of devices, the pools, the receipts of its accepted changes, and these changes.
+//! The state of a tenant: the versions of its map, the states of devices, the pools, the receipts
+//! of its accepted changes, and these changes.
 #![tactic(auto)]
 
 mod devices;
+pub mod limits;
 mod pools;
 mod receipts;
 mod state;

@@ -2,14 +2,16 @@
 
 ghost use Rattle.std.specs.Prelude.{◌≡◌, ◌==◌, OnOk, map, nat_le, position};
 ghost use Rattle.std.specs.List.{position_or_len};
-ghost use Rattle.tenant_state.specs.Ordered.{with_element};
+ghost use Rattle.tenant_state.specs.Ordered.{is_ascending, is_before_first, with_element};
+ghost use Rattle.tenant_state.specs.State.{is_lower_pool};
 
 use crush_pool::Pool;
 use std::alloc::{AllocError, Global};
 use std::marker::Model;
 use std::rc::Rc;
 
-/// Pools, which are shared. Contracts see their parts in the order in which they are kept, that of their ids.
+/// Pools, which are shared. Contracts see their parts in the order in which they are kept, that of
+/// their ids.
 #[derive(Drop)]
 pub struct Pools {
     pools: Vec<Rc<Pool>>,
@@ -26,7 +28,8 @@ impl Model for Pools {
 
 impl Pools {
     ghost use Rattle.std.specs.Prelude.{◌≡◌, ◌==◌, [], IfOk, length, find, map, option_map};
-    ghost use Rattle.tenant_state.specs.Ordered.{with_element, without};
+    ghost use Rattle.tenant_state.specs.Ordered.{if_ascending, with_element, without};
+    ghost use Rattle.tenant_state.specs.State.{is_lower_pool};
 
     /// No pool. Allocates nothing.
     pub fn new(alloc: Global) -> Self
@@ -37,6 +40,18 @@ impl Pools {
         }
     }
 
+    /// These pools, which are in the order of their ids. `None`, exactly where an id stands twice
+    /// or out of order. Takes time linear in the list. Allocates nothing.
+    pub fn from_list(pools: Vec<Rc<Pool>>) -> Option<Self>
+        ensures { result ≡ if_ascending is_lower_pool (map (λ p. p.value) pools.items) }
+    {
+        if are_ascending(&pools) {
+            Some(Pools { pools })
+        } else {
+            None
+        }
+    }
+
     /// How many pools there are.
     pub fn len(&self) -> usize
         ensures { result ≡ length self.now }
@@ -44,14 +59,14 @@ impl Pools {
         self.pools.len()
     }
 
-    /// The pools.
+    /// The pools, in the order of their ids.
     pub fn as_slice(&self) -> &[Rc<Pool>]
         ensures { map (λ p. p.value) result.now ≡ self.now }
     {
         self.pools.as_slice()
     }
 
-    /// The pool with an id.
+    /// The pool with an id, or `None`.
     pub fn get(&self, id: u64) -> Option<&Pool>
         ensures { option_map (λ p. p.now) result ≡ find (λ p. p.id == id) self.now }
     {
@@ -61,7 +76,7 @@ impl Pools {
         }
     }
 
-    /// A copy that shares the pools.
+    /// A copy that shares the pools. `Err(AllocError)`: an allocation failed; nothing is changed.
     pub fn copy(&self) -> Result<Self, AllocError>
         ensures { IfOk result (λ again. again ≡ self.now) }
     {
@@ -70,7 +85,8 @@ impl Pools {
         })
     }
 
-    /// These pools with one more, in place of one with the same id.
+    /// A copy with one more pool, in place of one with the same id. `Err(AllocError)`: an
+    /// allocation failed; nothing is changed.
     pub fn with(&self, pool: &Rc<Pool>) -> Result<Self, AllocError>
         ensures { IfOk result (λ pools. pools ≡ with_element (λ p. p.id) pool.now.value self.now) }
     {
@@ -79,7 +95,8 @@ impl Pools {
         Ok(Pools { pools })
     }
 
-    /// These pools without the one that has an id.
+    /// A copy without the pool that has an id. `Err(AllocError)`: an allocation failed; nothing is
+    /// changed.
     pub fn without(&self, id: u32) -> Result<Self, AllocError>
         ensures { IfOk result (λ pools. pools ≡ without (λ p. p.id) id self.now) }
     {
@@ -107,7 +124,8 @@ fn not_below(pools: &[Rc<Pool>], id: u32) -> Option<usize>
     pools.iter().position(|pool| pool.parts().id >= id)
 }
 
-/// The same, or how many pools there are.
+/// The place of the first pool whose id isn't below another; where there is none, how many pools
+/// there are.
 fn place_of(pools: &[Rc<Pool>], id: u32) -> usize
     ensures { result ≡ position_or_len (λ p. nat_le id p.value.id) pools.now }
 {
@@ -117,7 +135,32 @@ fn place_of(pools: &[Rc<Pool>], id: u32) -> usize
     }
 }
 
+/// Whether the ids ascend, so that none stands twice.
+fn are_ascending(pools: &[Rc<Pool>]) -> bool
+    ensures { result ≡ is_ascending is_lower_pool (map (λ p. p.value) pools.now) }
+{
+    let mut rest = pools;
+    while let [pool, others @ ..] = rest {
+        if !is_below_first(pool, others) {
+            return false;
+        }
+        rest = others;
+    }
+    true
+}
+
+/// Whether a pool's id is below that of the first of others, if there is one.
+fn is_below_first(pool: &Pool, others: &[Rc<Pool>]) -> bool
+    ensures { result ≡ is_before_first is_lower_pool pool.now (map (λ p. p.value) others.now) }
+{
+    match others {
+        [next, ..] => pool.parts().id < next.parts().id,
+        [] => true,
+    }
+}
+
 /// Puts a pool at its place in the order of ids, in place of one with the same id.
+/// `Err(AllocError)`: an allocation failed; nothing is changed.
 fn insert(pools: &mut Vec<Rc<Pool>>, new: Rc<Pool>) -> Result<(), AllocError>
     ensures { OnOk result (map (λ p. p.value) pools.new.items ≡ with_element (λ p. p.id) new.value (map (λ p. p.value) pools.old.items)) }
 {

@@ -1,6 +1,7 @@
 //! Receipts: what an accepted change leaves, so that a request that is repeated acts once.
 
-ghost use Rattle.std.specs.Prelude.{◌≡◌, IfOk};
+ghost use Rattle.std.specs.Prelude.{◌≡◌, map, string_bytes};
+ghost use Rattle.tenant_state.specs.Ordered.{is_ascending, is_before_first};
 ghost use Rattle.tenant_state.specs.Receipts as spec;
 
 use crush_map::Text;
@@ -19,14 +20,16 @@ pub struct Receipt {
     pub reply: Text,
 }
 
-/// Whether a request is the one that left the receipt: the same path and the same body, to the byte.
+/// Whether a request is the one that left the receipt: the same path and the same body, to the
+/// byte.
 pub fn is_repeat(path: &str, body: &[u8], receipt: &Receipt) -> bool
     ensures { result ≡ spec.is_repeat path.now body.now receipt.now }
 {
     path == receipt.path.as_str() && body == receipt.body.as_slice()
 }
 
-/// The receipts of a tenant. Contracts see pairs of a request number and its receipt, in the order of the numbers' bytes.
+/// The receipts of a tenant. Contracts see pairs of a request number and its receipt, in the order
+/// of the numbers' bytes.
 #[derive(Drop)]
 pub struct Receipts {
     by_number: BTreeMap<String, Rc<Receipt>>,
@@ -42,8 +45,9 @@ impl Model for Receipts {
 }
 
 impl Receipts {
-    ghost use Rattle.std.specs.Prelude.{◌≡◌, [], length, OnOk, OnErr, IfOk, string_bytes, option_map};
-    ghost use Rattle.tenant_state.specs.Receipts.{receipt_of, with_receipt};
+    ghost use Rattle.std.specs.Prelude.{◌≡◌, [], length, OnOk, OnErr, IfOk, map, string_bytes, option_map};
+    ghost use Rattle.tenant_state.specs.Ordered.{if_ascending};
+    ghost use Rattle.tenant_state.specs.Receipts.{is_before, receipt_of, with_receipt};
 
     /// No receipt. Allocates nothing.
     pub fn new(alloc: Global) -> Self
@@ -54,6 +58,26 @@ impl Receipts {
         }
     }
 
+    /// These receipts, which are in the order of their numbers' bytes. `None`, exactly where a
+    /// number stands twice or out of order. Takes time n log n in the length n of the list.
+    /// `Err(AllocError)`: an allocation failed; the list is dropped.
+    pub fn from_list(
+        alloc: Global,
+        receipts: Vec<(String, Rc<Receipt>)>,
+    ) -> Result<Option<Self>, AllocError>
+        ensures { IfOk result (λ found. found ≡ if_ascending is_before (map (λ e. (string_bytes e.0, e.1.value)) receipts.items)) }
+    {
+        if !are_ascending(&receipts) {
+            return Ok(None);
+        }
+        let mut by_number = BTreeMap::new(alloc);
+        let mut rest = receipts;
+        while let Some((number, receipt)) = rest.pop() {
+            by_number.insert(number, receipt)?;
+        }
+        Ok(Some(Receipts { by_number }))
+    }
+
     /// How many receipts there are.
     pub fn len(&self) -> usize
         ensures { result ≡ length self.now }
@@ -61,7 +85,7 @@ impl Receipts {
         self.by_number.len()
     }
 
-    /// The receipt of a request number.
+    /// The receipt of a request number, or `None`.
     pub fn get(&self, number: &str) -> Option<&Receipt>
         ensures { option_map (λ r. r.now) result ≡ receipt_of number.now self.now }
     {
@@ -71,7 +95,8 @@ impl Receipts {
         }
     }
 
-    /// Adds a receipt. Where memory is wanting, nothing is changed.
+    /// Adds a receipt, in place of one with the same number. `Err(AllocError)`: an allocation
+    /// failed; nothing is changed.
     pub fn insert(&mut self, number: String, receipt: Rc<Receipt>) -> Result<(), AllocError>
         ensures ok { OnOk result (self.new ≡ with_receipt (string_bytes number) receipt.value self.old) }
         ensures err { OnErr result (self.new ≡ self.old) }
@@ -80,12 +105,37 @@ impl Receipts {
         Ok(())
     }
 
-    /// A copy that shares the receipts.
+    /// A copy that shares the receipts. `Err(AllocError)`: an allocation failed; nothing is
+    /// changed.
     pub fn copy(&self) -> Result<Self, AllocError>
         ensures { IfOk result (λ again. again ≡ self.now) }
     {
         Ok(Receipts {
             by_number: self.by_number.clone()?,
         })
+    }
+}
+
+/// Whether the numbers ascend, so that none stands twice.
+fn are_ascending(receipts: &[(String, Rc<Receipt>)]) -> bool
+    ensures { result ≡ is_ascending spec.is_before (map (λ e. (string_bytes e.0, e.1.value)) receipts.now) }
+{
+    let mut rest = receipts;
+    while let [first, others @ ..] = rest {
+        if !is_before_first(first, others) {
+            return false;
+        }
+        rest = others;
+    }
+    true
+}
+
+/// Whether a receipt's number comes before that of the first of others, if there is one.
+fn is_before_first(first: &(String, Rc<Receipt>), others: &[(String, Rc<Receipt>)]) -> bool
+    ensures { result ≡ is_before_first spec.is_before (string_bytes first.now.0, first.now.1.value) (map (λ e. (string_bytes e.0, e.1.value)) others.now) }
+{
+    match others {
+        [next, ..] => first.0.as_str() < next.0.as_str(),
+        [] => true,
     }
 }

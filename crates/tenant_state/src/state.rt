@@ -45,7 +45,8 @@ impl Model for Change {
 
 // ---- states
 
-/// The state of a tenant that exists: the versions of its map, the states of devices, the pools, and the receipts of its accepted changes.
+/// The state of a tenant that exists: the versions of its map, the states of devices, the pools,
+/// and the receipts of its accepted changes.
 #[derive(Drop)]
 pub struct TenantState {
     versions: Vec<Rc<Version>>,
@@ -64,19 +65,38 @@ impl Model for TenantState {
 }
 
 impl TenantState {
-    ghost use Rattle.std.specs.Prelude.{◌≡◌, IfOk, OnOk, OnErr, option_map};
+    ghost use Rattle.std.specs.Prelude.{◌≡◌, IfOk, OnOk, OnErr, map, option_map};
     ghost use Rattle.tenant_state.specs.State as spec;
 
-    /// The state of a tenant that was just created.
+    /// The state with these parts: the versions 1, 2, .., the states of devices, the pools and the
+    /// receipts. Allocates nothing.
+    pub fn of(
+        versions: Vec<Rc<Version>>,
+        devices: Rc<Devices>,
+        pools: Pools,
+        receipts: Receipts,
+    ) -> TenantState
+        ensures { result ≡ record { versions = map (λ v. v.value) versions.items; devices = devices.value; pools = pools; receipts = receipts } }
+    {
+        TenantState {
+            versions,
+            devices,
+            pools,
+            receipts,
+        }
+    }
+
+    /// The state of a tenant that was just created. `Err(AllocError)`: an allocation failed;
+    /// nothing is changed.
     pub fn fresh(alloc: Global) -> Result<TenantState, AllocError>
         ensures { IfOk result (λ s. s ≡ spec.fresh) }
     {
-        Ok(TenantState {
-            versions: Vec::new(alloc),
-            devices: Rc::new(alloc, Devices::new(alloc)?)?,
-            pools: Pools::new(alloc),
-            receipts: Receipts::new(alloc),
-        })
+        Ok(TenantState::of(
+            Vec::new(alloc),
+            Rc::new(alloc, Devices::new(alloc)?)?,
+            Pools::new(alloc),
+            Receipts::new(alloc),
+        ))
     }
 
     /// The number of accepted changes, each of which left one receipt.
@@ -93,7 +113,7 @@ impl TenantState {
         self.versions.len() as u64
     }
 
-    /// A version by its number.
+    /// The version with a number, from 1 on, or `None`.
     pub fn version(&self, number: u64) -> Option<&Version>
         ensures { option_map (λ v. v.now) result ≡ spec.version number self.now }
     {
@@ -159,7 +179,7 @@ impl TenantState {
         &self.receipts
     }
 
-    /// Makes a change in place. Where memory is wanting, nothing is changed.
+    /// Makes a change in place. `Err(AllocError)`: an allocation failed; nothing is changed.
     pub fn change(&mut self, alloc: Global, change: &Change) -> Result<(), AllocError>
         ensures ok { OnOk result (self.new ≡ spec.after change.now self.old) }
         ensures err { OnErr result (self.new ≡ self.old) }
@@ -195,7 +215,8 @@ impl TenantState {
         Ok(())
     }
 
-    /// The state after a change. What stays is shared, and not copied.
+    /// The state after a change. What stays is shared, and not copied. `Err(AllocError)`: an
+    /// allocation failed; nothing is changed.
     pub fn after(&self, alloc: Global, change: &Change) -> Result<TenantState, AllocError>
         ensures { IfOk result (λ s. s ≡ spec.after change.now self.now) }
     {

@@ -5,11 +5,12 @@ ghost use Rattle.crush_writing.specs.Canonical.{canonical};
 
 use crush_bucket::Tables;
 use crush_map::{CrushMap, Text};
-use crush_text::{canonical_texts_are_ascii, write_map};
+use crush_text::{canonical_texts_are_ascii, read_stored, write_map, written_maps_are_read_back};
 use std::alloc::{AllocError, Global};
 use std::marker::Model;
 
-/// A version: a checked map, with its canonical text, and the tables that its rules run on. Contracts see the map.
+/// A version: a checked map, with its canonical text, and the tables that its rules run on.
+/// Contracts see the map.
 #[derive(Drop)]
 pub struct Version {
     map: CrushMap,
@@ -34,17 +35,39 @@ impl Model for Version {
 }
 
 impl Version {
-    ghost use Rattle.std.specs.Prelude.{◌≡◌, IfOk};
+    ghost use Rattle.std.specs.Prelude.{◌≡◌, ◌↔◌, IfOk, Some};
     ghost use Rattle.crush_bucket.specs.Tables.{tables_of};
+    ghost use Rattle.crush_map.specs.Map.{IsMap, Map};
     ghost use Rattle.crush_writing.specs.Canonical.{canonical};
 
-    /// The version with this map.
+    /// The version with this map. `Err(AllocError)`: an allocation failed; the map is dropped.
     pub fn build(alloc: Global, map: CrushMap) -> Result<Self, AllocError>
         ensures { IfOk result (λ version. version ≡ map) }
     {
         let text = canonical_text(alloc, &map)?;
         let tables = Tables::build(alloc, &map)?;
         Ok(Version { map, text, tables })
+    }
+
+    /// The version of a canonical text, as `text` gives it. `None`, exactly where the text isn't
+    /// the canonical text of a map. `Err(AllocError)`: an allocation failed; nothing is changed.
+    pub fn from_text(alloc: Global, text: &str) -> Result<Option<Self>, AllocError>
+        ensures { IfOk result (λ found. (m : Map) → (found ≡ Some m) ↔ (IsMap m × (canonical m ≡ text.now))) }
+    {
+        written_maps_are_read_back();
+        match read_stored(alloc, text.as_bytes())? {
+            Ok(map) => {
+                // any reader of a map also gives the prover that it is valid, which the law needs
+                let _tunables = map.tunables();
+                let version = Version::build(alloc, map)?;
+                Ok(if version.text() == text {
+                    Some(version)
+                } else {
+                    None
+                })
+            }
+            Err(_) => Ok(None),
+        }
     }
 
     /// The map.
@@ -69,11 +92,12 @@ impl Version {
     }
 }
 
-/// The canonical text of a map, which is ASCII.
+/// The canonical text of a map, which is ASCII. `Err(AllocError)`: an allocation failed; nothing is
+/// changed.
 fn canonical_text(alloc: Global, map: &CrushMap) -> Result<Text, AllocError>
     ensures { IfOk result (λ text. text ≡ canonical map.now) }
 {
-    // any reader of a map also tells the prover that it is valid, which the law asks for
+    // any reader of a map also gives the prover that it is valid, which the law needs
     let _tunables = map.tunables();
     canonical_texts_are_ascii();
     match String::from_utf8(write_map(alloc, map)?) {

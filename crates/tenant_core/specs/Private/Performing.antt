@@ -8,7 +8,8 @@ use Rattle.tenant_messages.specs.declared.reply.Reply.{Reply}
 use Rattle.tenant_core.specs.Request.{Request}
 use Rattle.tenant_state.specs.State.{TenantState}
 
--- the state that was found decided the reply, and the state that the tenant has since; every other tenant keeps its own
+-- the state that was found decided the reply, and the state that the tenant has since; every other
+-- tenant keeps its own
 pub record Performs (r : Request) (old new : States) (replied : Reply) : Type 0 where
   pub state : Option TenantState
   pub found : old r.tenant state

@@ -5,11 +5,12 @@ use Rattle.crush_pool.specs.Placements.{rule_numbered}
 use Rattle.crush_pool.specs.declared.pool.PoolParts.{PoolParts}
 use Rattle.crush_text.specs.MapText.{IsRefusedFor, IsShort, IsTextOf}
 use Rattle.tenant_resources.proofs.Importing.{of_fault, of_map, of_rule_in_use}
+use Rattle.tenant_state.specs.declared.limits.TheConstants.{VERSION_LIMIT}
 use Rattle.tenant_resources.proofs.maps.import.Goals as goal
 
 pub returns-in-Err-clause-given : goal.returns-in-Err-clause-given
 returns-in-Err-clause-given c =
-    let few : nat_le 256 (length c.args.state.now.versions) ≡ false = grind (arith, nat_tests, c.newest.ensures, c.if-newest-ge-VERSION_LIMIT.false) in
+    let few : nat_le VERSION_LIMIT (length c.args.state.now.versions) ≡ false = grind (arith, nat_tests, c.newest.ensures, c.if-newest.false) in
     let h = c.in_ok-fault.ensures.refused in
     let is = c.in-Err.is in
     let refused = rw is at h in
@@ -18,7 +19,7 @@ returns-in-Err-clause-given c =
 
 pub returns-then-not-has_rules_of-clause-given : goal.returns-then-not-has_rules_of-clause-given
 returns-then-not-has_rules_of-clause-given c =
-    let few : nat_le 256 (length c.args.state.now.versions) ≡ false = grind (arith, nat_tests, c.newest.ensures, c.if-newest-ge-VERSION_LIMIT.false) in
+    let few : nat_le VERSION_LIMIT (length c.args.state.now.versions) ≡ false = grind (arith, nat_tests, c.newest.ensures, c.if-newest.false) in
     let h = c.in_ok-fault.ensures.map in
     let is = c.in-Ok.is in
     let read = rw is at h in
@@ -30,7 +31,7 @@ returns-then-not-has_rules_of-clause-given c =
 
 pub returns-in_ok-import_reply-in-Ok-clause-given : goal.returns-in_ok-import_reply-in-Ok-clause-given
 returns-in_ok-import_reply-in-Ok-clause-given c =
-    let few : nat_le 256 (length c.args.state.now.versions) ≡ false = grind (arith, nat_tests, c.newest.ensures, c.if-newest-ge-VERSION_LIMIT.false) in
+    let few : nat_le VERSION_LIMIT (length c.args.state.now.versions) ≡ false = grind (arith, nat_tests, c.newest.ensures, c.if-newest.false) in
     let h = c.in_ok-fault.ensures.map in
     let is = c.in-Ok.is in
     let read = rw is at h in

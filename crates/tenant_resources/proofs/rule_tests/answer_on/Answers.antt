@@ -5,5 +5,5 @@ use Rattle.tenant_resources.proofs.rule_tests.answer_on.Goals as goal
 
 pub success-requires : goal.success-requires
 success-requires c =
-    ap has_float c.in_ok-body-in-Some.ensures
-    ∙ tested_plain c.epoch.result c.args.number c.args.version.now c.weights-weights.result.now c.in-Some.rule.now c.args.test.now.x c.args.test.now.size
+    ap has_float c.in_ok-body.ensures
+    ∙ tested_plain c.epoch.result c.args.number c.args.version.now c.weights-weights.result.now c.in_ok-rule.rule.now c.args.test.now.x c.args.test.now.size

@@ -1,6 +1,6 @@
 use Rattle.std.proofs.Common.{◌≡◌, ◌==◌, ◌∙◌, map, position, sym, ap}
 use Rattle.crush_pool.specs.declared.pool.PoolParts.{PoolParts}
-use Rattle.tenant_state.proofs.Keeping.{pools_copied}
+use Rattle.tenant_state.proofs.Keeping.{same_shared}
 use Rattle.tenant_state.proofs.Ordering.{removed, absent}
 use Rattle.tenant_state.specs.Ordered.{without}
 use Rattle.tenant_state.proofs.pools.Pools.without.Goals as goal
@@ -8,7 +8,7 @@ use Rattle.tenant_state.proofs.pools.Pools.without.Goals.{in-Some, in_default}
 
 pub returns : goal.returns
 returns c =
-    let same = pools_copied c.self.inside.pools.items c.in_ok-pools.pools.items c.in_ok-pools.ensures.cases.0 ∙ c.self.view_is in
+    let same = same_shared c.self.inside.pools.items c.in_ok-pools.pools.items c.in_ok-pools.ensures.cases.0 ∙ c.self.view_is in
     let asked : position (λ p. p.value.id == c.args.id) c.in_ok-pools.pools.items ≡ c.place_with.result =
     sym (c.place_with.ensures ∙ (ap (λ l. position (λ p. p.value.id == c.from.result) l) c.deref.ensures.value
     ∙ ap (λ n. position (λ p. p.value.id == n) c.in_ok-pools.pools.items) c.from.ensures)) in

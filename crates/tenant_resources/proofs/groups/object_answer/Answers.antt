@@ -7,7 +7,7 @@ use Rattle.tenant_messages.specs.Reply.{reply}
 use Rattle.tenant_resources.proofs.GroupAnswers.{pool_there, object_refused, object_placed}
 use Rattle.tenant_resources.proofs.PlainReplies.{object_plain}
 use Rattle.tenant_state.specs.State.{pool}
-use Rattle.tenant_resources.proofs.groups.object_located.Goals as goal
+use Rattle.tenant_resources.proofs.groups.object_answer.Goals as goal
 
 pub success-requires : goal.success-requires
 success-requires c = ap has_float c.in_ok-body.ensures ∙ object_plain c.as_str-name.result.now c.args.state.now c.group_of-group.result c.in_ok-placement.placement

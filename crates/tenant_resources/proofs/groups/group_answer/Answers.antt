@@ -6,7 +6,7 @@ use Rattle.tenant_messages.specs.Reply.{reply}
 use Rattle.tenant_resources.proofs.GroupAnswers.{pool_there, group_refused, group_placed}
 use Rattle.tenant_resources.proofs.PlainReplies.{group_plain}
 use Rattle.tenant_state.specs.State.{pool}
-use Rattle.tenant_resources.proofs.groups.group_located.Goals as goal
+use Rattle.tenant_resources.proofs.groups.group_answer.Goals as goal
 
 pub success-requires : goal.success-requires
 success-requires c = ap has_float c.in_ok-body.ensures ∙ group_plain c.args.state.now c.args.group c.in_ok-placement.placement
