@@ -38,7 +38,7 @@ pub struct RuleTest {
 
 impl Model for RuleTest {
     ghost use Rattle.std.specs.Prelude.{◌≤◌};
-    ghost use Rattle.crush_choose.specs.declared.limits.TheConstants.{SIZE_LIMIT}
+    ghost use Rattle.crush_choose.specs.declared.limits.TheConstants.{SIZE_LIMIT};
     ghost use Rattle.tenant_resources.specs.RuleTests.{RuleTest};
 
     ghost Value = { RuleTest };
