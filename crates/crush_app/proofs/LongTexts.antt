@@ -9,7 +9,7 @@ use Rattle.crush_grammar.specs.declared.code.TextCode.TheVariants.{X1, X2, X3, X
 use Rattle.crush_grammar.specs.declared.code.TextFault.{TextFault}
 use Rattle.crush_grammar.specs.declared.declaration.Declaration.{Declaration}
 use Rattle.crush_grammar.specs.declared.declaration.Declaration.TheVariants.{Tunable, Device, TypeName, Bucket, Rule}
-use Rattle.crush_app.specs.declared.limits.TheConstants.{TEXT_LIMIT}
+use Rattle.crush_text.specs.declared.limits.TheConstants.{TEXT_LIMIT}
 use Rattle.crush_text.specs.Judging.{Declared, nothing_declared, declared, declare, at_line, declaration_fault, declared_bucket_fault, fault_from, declared_fault, last_fault}
 use Rattle.crush_text.specs.MapText.{IsRefusedFor}
 

@@ -6,16 +6,16 @@ ghost use Rattle.crush_map.specs.Map.{Map};
 ghost use Rattle.crush_text.specs.MapText.{IsShort, IsTextOf, IsRefusedFor};
 ghost use Rattle.crush_grammar.specs.declared.code.TextCode.TheVariants.{X7};
 ghost use Rattle.crush_grammar.specs.declared.code.TextFault as spec_fault;
-ghost use Rattle.crush_app.specs.declared.limits.TheConstants.{TEXT_LIMIT};
+ghost use Rattle.crush_text.specs.declared.limits.TheConstants.{TEXT_LIMIT};
 ghost use Rattle.crush_app.specs.Input.{OfInput, DropsFirst};
 ghost use Rattle.crush_app.specs.Play.{AppendsPart};
 ghost use Rattle.crush_app.specs.Check.{accepted_line as line_of_map, refused_line as line_of_fault, IsLineFor, WritesLine, WritesNothing, HasVerdict};
 ghost use Rattle.crush_app.specs.Private.Verdict.{IsVerdict};
 
 use crate::input::{InputFault, read_input};
-use crate::limits::TEXT_LIMIT;
 use crate::wire::write_whole;
 use crush_map::CrushMap;
+use crush_text::limits::TEXT_LIMIT;
 use crush_text::{
     TextCode, TextFault, code_text, read_map, texts_have_a_map_or_one_fault,
     texts_of_maps_have_no_fault, texts_say_one_map,

@@ -162,8 +162,8 @@ impl<'a> Placer<'a> {
         )
     }
 
-    /// The placement of a group of the pool. Afterwards `out` has the rule's answer and the trace of
-    /// its run. `Err(AllocError)`: an allocation failed; `out` must not be used any more.
+    /// The placement of a group of the pool. Afterwards `out` has the rule's answer and the trace
+    /// of its run. `Err(AllocError)`: an allocation failed; `out` must not be used any more.
     pub fn place_with(
         &self,
         alloc: Global,

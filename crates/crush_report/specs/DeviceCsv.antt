@@ -54,7 +54,8 @@ pub record IsDeviceCsv (text : List ℕ) (cs : List DeviceChange) : Type 0 where
   pub few : length cs ≤ CHANGE_LIMIT
   pub distinct : AllPairs (λ c e. c.device ≢ e.device) cs
 
--- ---- reading: changes are read exactly where the text has that form (law `device_csvs_are_of_the_form`)
+-- ---- reading: changes are read exactly where the text has that form
+-- (law `device_csvs_are_of_the_form`)
 
 -- the number from 0 to a greatest that 1 to 10 digits write
 abbrev pub number_up_to : ℕ → List ℕ → Option ℕ

@@ -5,7 +5,8 @@ use Rattle.crush_choose.specs.Firstn.{has, slot_has}
 use Rattle.crush_choose.specs.Marks.{Slot}
 use Rattle.crush_report.specs.declared.rows.MoveRow.{MoveRow}
 
--- ---- lists that are the same: equal slots in the same order (law `groups_move_where_their_lists_differ`)
+-- ---- lists that are the same: equal slots in the same order
+-- (law `groups_move_where_their_lists_differ`)
 
 abbrev pub same_slot : Slot → Slot → Bool
 same_slot None other = is_none other

@@ -58,8 +58,8 @@ pub record HasSameLengths (before now : TallyView) : Type 0 where
   pub entries : length now.entries ≡ length before.entries
   pub primaries : length now.primaries ≡ length before.primaries
 
--- what was counted, with the rest of an answer, is all of the answer; `first` says that no entry was
--- counted yet
+-- what was counted, with the rest of an answer, is all of the answer; `first` says that no entry
+-- was counted yet
 pub record IsCounting (flags : List Bool) (raw : List Slot) (first : Bool) (before : TallyView) (rest : List Slot) (now : TallyView) : Type 0 where
   pub lens : HasSameLengths before now
   pub groups : (id : ℕ) → id < length before.groups → count_at now.groups id + groups_in flags id rest ≡ count_at before.groups id + groups_in flags id raw
