@@ -99,8 +99,8 @@ impl Tally {
     /// Counts the up list of one more group, for which the rule gave this answer.
     ///
     /// An entry counts where its device is up, and the first one that counts is the primary. So it
-    /// is in both kinds of pools: the other entries leave the up list of a replicated pool, and become
-    /// none in that of an erasure pool.
+    /// is in both kinds of pools: the other entries leave the up list of a replicated pool, and
+    /// become none in that of an erasure pool.
     fn add(&mut self, raw: &[Slot], flags: &DeviceStates)
         requires short { length raw.now ≤ SIZE_LIMIT }
         requires groups { HasRoom self.old.groups SIZE_LIMIT }
