@@ -9,11 +9,12 @@ usage: tests/pages.py [WORD..]      with WORDs only the checks whose names have 
 - A link to a file, or to a heading of a page, leads to one that is there.
 - The table of limits in docs/REQUESTS.md has a row for each limit, with its const and crate: `pub const NAME: TYPE = NUMBER;` in
   crates/CRATE/src/limits.rt. The numbers are the same. (A const that is computed from others has no row.)
+- The help of `crushcalc check` has a limit's number in the line of each code of HELPED.
 - README and some pages of docs/ have a greatest number of lines, and the table of words in docs/ARCHITECTURE.md one of rows.
 - A comment in crates/*/src, specs and proofs has at most 100 characters a line.
 - docs/DEFINITIONS.md lists the definitions that public clauses cite (cited.py).
 
-tests/run runs these checks with its own. The last line is 'N passed, M failed': pages, the limits, crates, and the list of definitions.
+tests/run runs these checks with its own. The last line is 'N passed, M failed': pages, the limits, the help, crates, and the list of definitions.
 """
 import pathlib
 import re
@@ -32,6 +33,13 @@ LINK = re.compile(r"\[[^\]]*\]\(([^)\s]*)\)")
 CONST = re.compile(r"^pub const (\w+): \w+ = (-?[\d_]+);$")
 LIMITED = re.compile(r"^\|[^|]*\| (-?[\d,]+) \| `(\w+)` \| `(\w+)` \|$")
 LIMITS = "docs/REQUESTS.md"
+HELP = "crates/crushcalc/src/main.rt"
+# the code of a fault: the crate and the const of its limit, and the number that its line of the help has
+HELPED = {
+    "X7": ("crush_text", "TEXT_LIMIT", lambda limit: f"{limit:,}"),
+    "M7": ("crush_map", "TOTAL_WEIGHT_LIMIT", lambda limit: str((limit + 1) // 65536)),  # the first whole weight past it
+    "M15": ("crush_map", "NAME_LIMIT", lambda limit: f"{limit:,}"),
+}
 WORDS = "## Words that mean something special here"
 MOST_LINES = {"README.md": 110, "docs/ARCHITECTURE.md": 130, "docs/STATUS.md": 40}
 MOST_WORDS = 25
@@ -153,6 +161,17 @@ def limit_faults():
             yield f"{place}: {name} of {crate} has no row in {LIMITS}"
 
 
+def help_faults():
+    there = dict(limits())
+    lines = list(enumerate((TOP / HELP).read_text().splitlines(), 1))
+    for code, (crate, name, written) in HELPED.items():
+        number, line = next(((number, line) for number, line in lines if line.split()[:1] == [code]), (None, ""))
+        if number is None:
+            yield f"{HELP}: there is no line of {code}"
+        elif written(there[crate, name][1]) not in re.findall(r"\d[\d,]*", line):
+            yield f"{HELP}: line {number} hasn't the number {written(there[crate, name][1])} of {name}"
+
+
 def comment_faults(crate):
     """Lines of comments that are too long, in the sources, definitions and proofs of a crate."""
     for part in ("src", "specs", "proofs"):
@@ -173,6 +192,7 @@ def checks():
     for page in pages():
         yield f"the page {page}", (f"{page}: {why}" for why in page_faults(page))
     yield "the table of limits", limit_faults()
+    yield "the limits in the help", help_faults()
     yield "the definitions that are cited", cited_faults()
     for crate in sorted(path.name for path in (TOP / "crates").iterdir() if path.is_dir()):
         yield f"the comments of {crate}", comment_faults(crate)

@@ -1,5 +1,5 @@
 -- A script that is played by a service with no tenant.
-use Rattle.std.proofs.Common.{ℕ, List, Option, None}
+use Rattle.std.proofs.Common.{ℕ, List, Bool, false, Option, None}
 use Rattle.tenant_core.specs.States.{States, Headline, MeetsDefinition}
 use Rattle.tenant_messages.specs.declared.call.Call.{Call}
 use Rattle.tenant_messages.specs.declared.reply.Reply.{Reply}
@@ -17,8 +17,8 @@ IsEmpty states = (t : List ℕ) → states t None
 headline_from_nothing : (old : States) (calls : List Call) (replies : List Reply) → IsEmpty old → Headline old calls replies → HeadlineFromNothing calls replies
 headline_from_nothing old calls replies empty headline t = headline t None (empty t)
 
-meets_from_nothing : (old new : States) (calls : List Call) (replies : List Reply) → IsEmpty old → MeetsDefinition old new calls replies → MeetsFromNothing calls replies
-meets_from_nothing old new calls replies empty meets = record {
+meets_from_nothing : (latched : Bool) (old new : States) (calls : List Call) (replies : List Reply) → IsEmpty old → MeetsDefinition latched old new calls replies → MeetsFromNothing calls replies
+meets_from_nothing latched old new calls replies empty meets = record {
   count = meets.count;
   headline = headline_from_nothing old calls replies empty meets.headline;
   nobody = meets.nobody;
@@ -27,11 +27,11 @@ meets_from_nothing old new calls replies empty meets = record {
 
 -- ---- messages
 
-plays_from_nothing : (old new : States) (ms : List (Option Call)) (a b : Option (List ℕ)) → IsEmpty old → Plays old new ms a b → PlaysFromNothing ms a b
-plays_from_nothing old new ms a b empty plays = record { replies = plays.replies; meets = meets_from_nothing old new _ plays.replies empty plays.meets; written = plays.written }
+plays_from_nothing : (old new : States) (ms : List (Option Call)) (a b : Option (List ℕ)) → IsEmpty old → Plays false old new ms a b → PlaysFromNothing ms a b
+plays_from_nothing old new ms a b empty plays = record { replies = plays.replies; meets = meets_from_nothing false old new _ plays.replies empty plays.meets; written = plays.written }
 
-cut_from_nothing : (old new : States) (ms : List (Option Call)) (a b : Option (List ℕ)) → IsEmpty old → PlaysUpTo old new ms a b → PlaysUpToFromNothing ms a b
-cut_from_nothing old new ms a b empty plays = record {
+cut_from_nothing : (latched : Bool) (old new : States) (ms : List (Option Call)) (a b : Option (List ℕ)) → IsEmpty old → PlaysUpTo latched old new ms a b → PlaysUpToFromNothing ms a b
+cut_from_nothing latched old new ms a b empty plays = record {
   before = plays.before;
   cut = plays.cut;
   later = plays.later;
@@ -39,7 +39,7 @@ cut_from_nothing old new ms a b empty plays = record {
   replies = plays.replies;
   last = plays.last;
   count = plays.count;
-  meets = meets_from_nothing old new _ _ empty plays.meets;
+  meets = meets_from_nothing latched old new _ _ empty plays.meets;
   line = plays.line;
   rest = plays.rest;
   some = plays.some;
@@ -61,12 +61,12 @@ writes_from_nothing old ms a b empty writes = record {
 -- ---- scripts
 
 pub script_done : (known : Option (List ℕ)) (old new : States) (a b : Option (List ℕ)) → IsEmpty old
-    → OfScript known (λ input. Plays old new (messages input) a b) → OfScript known (λ input. PlaysFromNothing (messages input) a b)
+    → OfScript known (λ input. Plays false old new (messages input) a b) → OfScript known (λ input. PlaysFromNothing (messages input) a b)
 script_done known old new a b empty said = of_script known (λ input plays. plays_from_nothing old new (messages input) a b empty plays) said
 
-pub script_cut : (known : Option (List ℕ)) (old new : States) (a b : Option (List ℕ)) → IsEmpty old
-    → OfScript known (λ input. PlaysUpTo old new (messages input) a b) → OfScript known (λ input. PlaysUpToFromNothing (messages input) a b)
-script_cut known old new a b empty said = of_script known (λ input plays. cut_from_nothing old new (messages input) a b empty plays) said
+pub script_cut : (known : Option (List ℕ)) (latched : Bool) (old new : States) (a b : Option (List ℕ)) → IsEmpty old
+    → OfScript known (λ input. PlaysUpTo latched old new (messages input) a b) → OfScript known (λ input. PlaysUpToFromNothing (messages input) a b)
+script_cut known latched old new a b empty said = of_script known (λ input plays. cut_from_nothing latched old new (messages input) a b empty plays) said
 
 pub script_headline : (known : Option (List ℕ)) (old : States) (a b : Option (List ℕ)) → IsEmpty old
     → OfScript known (λ input. WritesHeadline old (messages input) a b) → OfScript known (λ input. WritesHeadlineFromNothing (messages input) a b)

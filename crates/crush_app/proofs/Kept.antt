@@ -1,4 +1,4 @@
--- The entries of an ordered map, each read by a function; then results, refusals and shared states.
+-- The entries of an ordered map; then results, refusals and shared values.
 use Rattle.std.proofs.Common.{◌≡◌, ◌∙◌, Bool, true, false, if◌then◌else◌, Option, Some, None, option_map, MatchOption, IsSomeAnd, Result, Ok, Err, OnOk, OnErr, refl, ap}
 use Rattle.std.specs.declared.alloc.Global.{Global}
 use Rattle.std.specs.declared.rc.Rc.{Rc}
@@ -8,23 +8,16 @@ use Rattle.tenant_messages.specs.declared.reply.Problem.{Problem}
 use Rattle.tenant_messages.specs.declared.reply.Refusal.{Refusal}
 use Rattle.tenant_messages.specs.declared.reply.Refusal.TheVariants as refusal
 
--- a new value at a key, read
-pub option_map-if : {A B : Type 0} (f : A → B) (b : Bool) (x : A) (y : B) (old : Option A) → f x ≡ y
-    → option_map f (if b then Some x else old) ≡ (if b then Some y else option_map f old)
-option_map-if f true x y old e = ap (λ z. Some z) e
-option_map-if f false x y old e = refl
+-- a value at a key exchanged for another
+pub changed_at : {A : Type 0} (h : A → A) (b : Bool) (x y : A) (old : Option A) → (b ≡ true → old ≡ Some x) → y ≡ h x
+    → (if b then Some y else old) ≡ (if b then option_map h old else old)
+changed_at h true x y old at e = rw (at refl) (ap (λ z. Some z) e)
+changed_at h false x y old at e = refl
 
--- a value at a key exchanged for another, read
-pub option_map-changed : {A B : Type 0} (f : A → B) (h : B → B) (b : Bool) (x y : A) (old : Option A) → (b ≡ true → old ≡ Some x) → f y ≡ h (f x)
-    → option_map f (if b then Some y else old) ≡ (if b then option_map (λ a. h (f a)) old else option_map f old)
-option_map-changed f h true x y old at e = rw (at refl) (ap (λ z. Some z) e)
-option_map-changed f h false x y old at e = refl
-
--- the same where the new value reads as the old one
-pub option_map-kept : {A B : Type 0} (f : A → B) (b : Bool) (x y : A) (old : Option A) → (b ≡ true → old ≡ Some x) → f y ≡ f x
-    → option_map f (if b then Some y else old) ≡ option_map f old
-option_map-kept f true x y old at e = rw (at refl) (ap (λ z. Some z) e)
-option_map-kept f false x y old at e = refl
+-- the same where the new value is the old one
+pub kept_at : {A : Type 0} (b : Bool) (x y : A) (old : Option A) → (b ≡ true → old ≡ Some x) → y ≡ x → (if b then Some y else old) ≡ old
+kept_at true x y old at e = rw (at refl) (ap (λ z. Some z) e)
+kept_at false x y old at e = refl
 
 -- ---- what holds where a call succeeded, or failed
 
@@ -48,7 +41,7 @@ problem_given (Err refusal.NoMemory) f p given is also h =
     let first : refusal.NoMemory ≡ f = cc in
     let whole : refusal.NoMemory ≡ refusal.Problem p = first ∙ also in cc
 
--- ---- a shared state that is borrowed
+-- ---- a shared value that is borrowed
 
 pub deref_of : {A : Type 0} (shared : Option (Rc A Global)) (borrowed : Option (Bor A)) → MatchOption shared (borrowed ≡ None) (λ r. IsSomeAnd borrowed (λ b. b.now ≡ r.value))
     → option_map (λ b. b.now) borrowed ≡ option_map (λ r. r.value) shared

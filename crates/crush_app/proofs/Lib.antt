@@ -4,6 +4,7 @@ pub mod Inputs
 pub mod Kept
 pub mod LineLemmas
 pub mod LongTexts
+pub mod Performed
 pub mod Playing
 pub mod Texts
 pub mod Writing

@@ -3,11 +3,12 @@ use Rattle.std.proofs.Common.{◌≡◌, ℕ, ◌==◌, ◌≤◌, List, [], ◌
 use Rattle.std.proofs.lemmas.Bool.Decides.{nat_tests}
 use Rattle.std.specs.Io.KnownBytes.{Appends}
 use Rattle.std.specs.Str.Lines.{lines}
-use Rattle.tenant_core.specs.States.{States, Serves}
+use Rattle.tenant_core.specs.States.{States, MeetsDefinition, Serves}
+use Rattle.tenant_core.specs.StoreReply.{IsUnavailable}
 use Rattle.tenant_messages.specs.declared.call.Call.{Call}
 use Rattle.tenant_messages.specs.declared.reply.Reply.{Reply}
-use Rattle.tenant_core.proofs.Running.{run_both, run_one, run_none}
-use Rattle.crush_app.specs.Play.{Plays, PlaysUpTo, WritesHeadline, AppendsPart}
+use Rattle.tenant_core.proofs.Running.{run_both, run_latched, run_one, run_none}
+use Rattle.crush_app.specs.Play.{Plays, PlaysUntilLatched, PlaysUpTo, WritesHeadline, AppendsPart}
 use Rattle.crush_app.specs.Input.{OfInput}
 use Rattle.crush_app.specs.declared.limits.TheConstants.{SCRIPT_LIMIT}
 use Rattle.crush_app.specs.Script.{bad_line, call_of_line, calls_in, is_nonempty, messages_in, messages, OfScript, output, wire}
@@ -42,29 +43,38 @@ messages_in-front line rest = filter-front (is_nonempty line) line rest
 
 -- ---- scripts, one after the other
 
-pub plays_none : (old : States) (a : Option (List ℕ)) → Plays old old [] a a
-plays_none old a = record { replies = []; meets = run_none old old (λ t s. (λ has. has, λ has. has)); written = appends_none a }
+pub plays_none : (old : States) (a : Option (List ℕ)) → Plays false old old [] a a
+plays_none old a = record { replies = []; meets = run_none false old old (λ _ t s. (λ has. has, λ has. has)); written = appends_none a }
 
-pub plays_both : (old mid new : States) (a b c : Option (List ℕ)) (ms ns : List (Option Call)) → Plays old mid ms a b → Plays mid new ns b c → Plays old new (ms ++ ns) a c
-plays_both old mid new a b c ms ns first second = record {
+pub plays_both : (latched : Bool) (old mid new : States) (a b c : Option (List ℕ)) (ms ns : List (Option Call)) → Plays false old mid ms a b → Plays latched mid new ns b c → Plays latched old new (ms ++ ns) a c
+plays_both latched old mid new a b c ms ns first second = record {
   replies = first.replies ++ second.replies;
-  meets = rw (calls_in-append ms ns) (run_both old mid new (calls_in ms) first.replies (calls_in ns) second.replies first.meets second.meets);
+  meets = rw (calls_in-append ms ns) (run_both latched old mid new (calls_in ms) first.replies (calls_in ns) second.replies first.meets second.meets);
   written = rw (output-append ms ns first.replies second.replies first.meets.count) (appends_both a b c (output ms first.replies) (output ns second.replies) first.written second.written);
 }
 
 -- ---- one message
 
+-- a call is served, by a store that is then latched, or not
+one_call : (latched : Bool) (old new : States) (call : Call) (reply : Reply) → (latched ≡ false → Serves call old new reply) → (latched ≡ true → IsUnavailable reply)
+    → MeetsDefinition latched old new (call ∷ []) (reply ∷ [])
+one_call false old new call reply serves silent = run_one old new call reply (serves refl)
+one_call true old new call reply serves silent =
+    run_latched true old old new [] [] call reply (run_none true old old (λ no. let both : true ≡ false = no in cc)) (silent refl)
+
 -- a call, and its reply as a line
-pub plays_call : (old new : States) (call : Call) (reply : Reply) (a b : Option (List ℕ)) → Serves call old new reply → Appends a b (wire reply) → Plays old new (Some call ∷ []) a b
-plays_call old new call reply a b serves written = record {
+pub plays_call : (latched : Bool) (old new : States) (call : Call) (reply : Reply) (a b : Option (List ℕ)) → (latched ≡ false → Serves call old new reply)
+    → (latched ≡ true → IsUnavailable reply) → Appends a b (wire reply) → Plays latched old new (Some call ∷ []) a b
+plays_call latched old new call reply a b serves silent written = record {
   replies = reply ∷ [];
-  meets = run_one old new call reply serves;
+  meets = one_call latched old new call reply serves silent;
   written = rw (append_none (wire reply)) written;
 }
 
 -- a call, and its reply as a line in part
-pub cut_call : (old new : States) (call : Call) (reply : Reply) (a b : Option (List ℕ)) → Serves call old new reply → AppendsPart a b (wire reply) → PlaysUpTo old new (Some call ∷ []) a b
-cut_call old new call reply a b serves part = record {
+pub cut_call : (latched : Bool) (old new : States) (call : Call) (reply : Reply) (a b : Option (List ℕ)) → (latched ≡ false → Serves call old new reply)
+    → (latched ≡ true → IsUnavailable reply) → AppendsPart a b (wire reply) → PlaysUpTo latched old new (Some call ∷ []) a b
+cut_call latched old new call reply a b serves silent part = record {
   before = [];
   cut = Some call;
   later = [];
@@ -72,7 +82,7 @@ cut_call old new call reply a b serves part = record {
   replies = [];
   last = reply ∷ [];
   count = refl;
-  meets = run_one old new call reply serves;
+  meets = one_call latched old new call reply serves silent;
   line = part.front.front;
   rest = part.rest;
   some = part.some;
@@ -81,14 +91,14 @@ cut_call old new call reply a b serves part = record {
 }
 
 -- a line that isn't of the form
-pub plays_bad : (old : States) (a b : Option (List ℕ)) → Appends a b (wire bad_line) → Plays old old (None ∷ []) a b
+pub plays_bad : (old : States) (a b : Option (List ℕ)) → Appends a b (wire bad_line) → Plays false old old (None ∷ []) a b
 plays_bad old a b written = record {
   replies = [];
-  meets = run_none old old (λ t s. (λ has. has, λ has. has));
+  meets = run_none false old old (λ _ t s. (λ has. has, λ has. has));
   written = rw (append_none (wire bad_line)) written;
 }
 
-pub cut_bad : (old : States) (a b : Option (List ℕ)) → AppendsPart a b (wire bad_line) → PlaysUpTo old old (None ∷ []) a b
+pub cut_bad : (old : States) (a b : Option (List ℕ)) → AppendsPart a b (wire bad_line) → PlaysUpTo false old old (None ∷ []) a b
 cut_bad old a b part = record {
   before = [];
   cut = None;
@@ -97,7 +107,7 @@ cut_bad old a b part = record {
   replies = [];
   last = [];
   count = refl;
-  meets = run_none old old (λ t s. (λ has. has, λ has. has));
+  meets = run_none false old old (λ _ t s. (λ has. has, λ has. has));
   line = part.front.front;
   rest = part.rest;
   some = part.some;
@@ -106,7 +116,7 @@ cut_bad old a b part = record {
 }
 
 -- an empty line asks nothing
-pub plays_empty : (old : States) (a : Option (List ℕ)) (line : List ℕ) → true ≡ (length line == 0) → Plays old old (messages_in (line ∷ [])) a a
+pub plays_empty : (old : States) (a : Option (List ℕ)) (line : List ℕ) → true ≡ (length line == 0) → Plays false old old (messages_in (line ∷ [])) a a
 plays_empty old a [] empty = plays_none old a
 plays_empty old a (b ∷ line) empty = let none : length (b ∷ line) ≡ 0 = grind (arith, nat_tests, sym empty) in absurd (omega (arith, none))
 
@@ -116,7 +126,7 @@ plays_empty old a (b ∷ line) empty = let none : length (b ∷ line) ≡ 0 = gr
 pub record PlaysRest (old mid : States) (a b : Option (List ℕ)) (input rest : List ℕ) : Type 0 where
   pub done : List (Option Call)
   pub all : done ++ messages rest ≡ messages input
-  pub plays : Plays old mid done a b
+  pub plays : Plays false old mid done a b
 
 pub rest_whole : (old : States) (a : Option (List ℕ)) (input : List ℕ) → PlaysRest old old a a input input
 rest_whole old a input = record { done = []; all = refl; plays = plays_none old a }
@@ -129,19 +139,20 @@ moved done m after rest input e h = append_assoc done m after ∙ ap (λ ys. don
 
 -- one more line was played
 pub rest_more : (old mid new : States) (a b c : Option (List ℕ)) (input rest line after : List ℕ) → lines rest ≡ line ∷ lines after
-    → PlaysRest old mid a b input rest → Plays mid new (messages_in (line ∷ [])) b c → PlaysRest old new a c input after
+    → PlaysRest old mid a b input rest → Plays false mid new (messages_in (line ∷ [])) b c → PlaysRest old new a c input after
 rest_more old mid new a b c input rest line after h played one = record {
   done = played.done ++ messages_in (line ∷ []);
   all = moved played.done (messages_in (line ∷ [])) (messages after) (messages rest) (messages input) (messages-line rest line after h) played.all;
-  plays = plays_both old mid new a b c played.done (messages_in (line ∷ [])) played.plays one;
+  plays = plays_both false old mid new a b c played.done (messages_in (line ∷ [])) played.plays one;
 }
 
 -- behind messages that were played whole, and before others
 cut-between : (done before after later : List (Option Call)) (cut : Option Call) → (done ++ before) ++ cut ∷ (later ++ after) ≡ done ++ ((before ++ cut ∷ later) ++ after)
 cut-between done before after later cut = append_assoc done before (cut ∷ (later ++ after)) ∙ ap (λ ys. done ++ ys) (sym (append_assoc before (cut ∷ later) after))
 
-pub cut_after : (old mid new : States) (a b c : Option (List ℕ)) (done ms after : List (Option Call)) → Plays old mid done a b → PlaysUpTo mid new ms b c → PlaysUpTo old new (done ++ (ms ++ after)) a c
-cut_after old mid new a b c done ms after first second = record {
+pub cut_after : (latched : Bool) (old mid new : States) (a b c : Option (List ℕ)) (done ms after : List (Option Call)) → Plays false old mid done a b → PlaysUpTo latched mid new ms b c
+    → PlaysUpTo latched old new (done ++ (ms ++ after)) a c
+cut_after latched old mid new a b c done ms after first second = record {
   before = done ++ second.before;
   cut = second.cut;
   later = second.later ++ after;
@@ -150,7 +161,7 @@ cut_after old mid new a b c done ms after first second = record {
   last = second.last;
   count = let one = first.meets.count in let two = second.count in rw (calls_in-append done second.before) (simp length-append (omega arith));
   meets =
-      let both = run_both old mid new (calls_in done) first.replies (calls_in (second.before ++ second.cut ∷ [])) (second.replies ++ second.last) first.meets second.meets in
+      let both = run_both latched old mid new (calls_in done) first.replies (calls_in (second.before ++ second.cut ∷ [])) (second.replies ++ second.last) first.meets second.meets in
       rw (append_assoc done second.before (second.cut ∷ []), calls_in-append done (second.before ++ second.cut ∷ []), append_assoc first.replies second.replies second.last) both;
   line = second.line;
   rest = second.rest;
@@ -162,20 +173,30 @@ cut_after old mid new a b c done ms after first second = record {
 }
 
 -- the next line was cut
-pub rest_cut : (old mid new : States) (a b c : Option (List ℕ)) (input rest line after : List ℕ) → lines rest ≡ line ∷ lines after
-    → PlaysRest old mid a b input rest → PlaysUpTo mid new (messages_in (line ∷ [])) b c → PlaysUpTo old new (messages input) a c
-rest_cut old mid new a b c input rest line after h played one =
-    rw (sym played.all, messages-line rest line after h) (cut_after old mid new a b c played.done (messages_in (line ∷ [])) (messages after) played.plays one)
+pub rest_cut : (latched : Bool) (old mid new : States) (a b c : Option (List ℕ)) (input rest line after : List ℕ) → lines rest ≡ line ∷ lines after
+    → PlaysRest old mid a b input rest → PlaysUpTo latched mid new (messages_in (line ∷ [])) b c → PlaysUpTo latched old new (messages input) a c
+rest_cut latched old mid new a b c input rest line after h played one =
+    rw (sym played.all, messages-line rest line after h) (cut_after latched old mid new a b c played.done (messages_in (line ∷ [])) (messages after) played.plays one)
+
+-- the next line latched the store
+pub rest_latched : (old mid new : States) (a b c : Option (List ℕ)) (input rest line after : List ℕ) → lines rest ≡ line ∷ lines after
+    → PlaysRest old mid a b input rest → Plays true mid new (messages_in (line ∷ [])) b c → PlaysUntilLatched old new (messages input) a c
+rest_latched old mid new a b c input rest line after h played one = record {
+  served = played.done ++ messages_in (line ∷ []);
+  later = messages after;
+  all = moved played.done (messages_in (line ∷ [])) (messages after) (messages rest) (messages input) (messages-line rest line after h) played.all;
+  plays = plays_both true old mid new a b c played.done (messages_in (line ∷ [])) played.plays one;
+}
 
 -- nothing is left
-pub rest_none : (old new : States) (a b : Option (List ℕ)) (input rest : List ℕ) → length rest ≤ 0 → PlaysRest old new a b input rest → Plays old new (messages input) a b
+pub rest_none : (old new : States) (a b : Option (List ℕ)) (input rest : List ℕ) → length rest ≤ 0 → PlaysRest old new a b input rest → Plays false old new (messages input) a b
 rest_none old new a b input [] h played = rw (sym played.all ∙ append_none played.done) played.plays
 rest_none old new a b input (x ∷ rest) h played = absurd (omega arith)
 
 -- ---- the headline of what was written
 
-pub headline_whole : (old new : States) (ms : List (Option Call)) (a b : Option (List ℕ)) → Plays old new ms a b → WritesHeadline old ms a b
-headline_whole old new ms a b plays = record {
+pub headline_whole : (latched : Bool) (old new : States) (ms : List (Option Call)) (a b : Option (List ℕ)) → Plays latched old new ms a b → WritesHeadline old ms a b
+headline_whole latched old new ms a b plays = record {
   served = ms;
   later = [];
   all = append_none ms;
@@ -185,8 +206,19 @@ headline_whole old new ms a b plays = record {
   headline = plays.meets.headline;
 }
 
-pub headline_part : (old new : States) (ms : List (Option Call)) (a b : Option (List ℕ)) → PlaysUpTo old new ms a b → WritesHeadline old ms a b
-headline_part old new ms a b plays = record {
+pub headline_latched : (old new : States) (ms : List (Option Call)) (a b : Option (List ℕ)) → PlaysUntilLatched old new ms a b → WritesHeadline old ms a b
+headline_latched old new ms a b first = record {
+  served = first.served;
+  later = first.later;
+  all = first.all;
+  replies = first.plays.replies;
+  rest = [];
+  written = record { front = output first.served first.plays.replies; all = append_none (output first.served first.plays.replies); written = first.plays.written };
+  headline = first.plays.meets.headline;
+}
+
+pub headline_part : (latched : Bool) (old new : States) (ms : List (Option Call)) (a b : Option (List ℕ)) → PlaysUpTo latched old new ms a b → WritesHeadline old ms a b
+headline_part latched old new ms a b plays = record {
   served = plays.before ++ plays.cut ∷ [];
   later = plays.later;
   all = append_assoc plays.before (plays.cut ∷ []) plays.later ∙ plays.all;
@@ -205,12 +237,16 @@ headline_part old new ms a b plays = record {
 -- ---- the input that was read
 
 pub script_played : (known : Option (List ℕ)) (read : List ℕ) (old new : States) (a b : Option (List ℕ)) → OfInput known (λ input. (read ≡ input) × (length input ≤ SCRIPT_LIMIT))
-    → Plays old new (messages read) a b → OfScript known (λ input. Plays old new (messages input) a b)
-script_played known read old new a b said plays = of_read known (λ input. Plays old new (messages input) a b) read said plays
+    → Plays false old new (messages read) a b → OfScript known (λ input. Plays false old new (messages input) a b)
+script_played known read old new a b said plays = of_read known (λ input. Plays false old new (messages input) a b) read said plays
 
-pub script_cut_off : (known : Option (List ℕ)) (read : List ℕ) (old new : States) (a b : Option (List ℕ)) → OfInput known (λ input. (read ≡ input) × (length input ≤ SCRIPT_LIMIT))
-    → PlaysUpTo old new (messages read) a b → OfScript known (λ input. PlaysUpTo old new (messages input) a b)
-script_cut_off known read old new a b said plays = of_read known (λ input. PlaysUpTo old new (messages input) a b) read said plays
+pub script_latched : (known : Option (List ℕ)) (read : List ℕ) (old new : States) (a b : Option (List ℕ)) → OfInput known (λ input. (read ≡ input) × (length input ≤ SCRIPT_LIMIT))
+    → PlaysUntilLatched old new (messages read) a b → OfScript known (λ input. PlaysUntilLatched old new (messages input) a b)
+script_latched known read old new a b said plays = of_read known (λ input. PlaysUntilLatched old new (messages input) a b) read said plays
+
+pub script_cut_off : (known : Option (List ℕ)) (read : List ℕ) (latched : Bool) (old new : States) (a b : Option (List ℕ)) → OfInput known (λ input. (read ≡ input) × (length input ≤ SCRIPT_LIMIT))
+    → PlaysUpTo latched old new (messages read) a b → OfScript known (λ input. PlaysUpTo latched old new (messages input) a b)
+script_cut_off known read latched old new a b said plays = of_read known (λ input. PlaysUpTo latched old new (messages input) a b) read said plays
 
 pub script_written : (known : Option (List ℕ)) (read : List ℕ) (old : States) (a b : Option (List ℕ)) → OfInput known (λ input. (read ≡ input) × (length input ≤ SCRIPT_LIMIT))
     → WritesHeadline old (messages read) a b → OfScript known (λ input. WritesHeadline old (messages input) a b)

@@ -2,12 +2,13 @@
 use Rattle.std.specs.Prelude.{Result, Ok, Err, ⊤}
 use Rattle.std.specs.declared.alloc.AllocError.{AllocError}
 use Rattle.crush_app.specs.declared.play.ScriptEnd.{ScriptEnd}
-use Rattle.crush_app.specs.declared.play.ScriptEnd.TheVariants.{Done, TooLong, ReadFault, WriteFault}
+use Rattle.crush_app.specs.declared.play.ScriptEnd.TheVariants.{Done, Latched, TooLong, ReadFault, WriteFault}
 
 -- the input was read whole, and its lines were served, all or a first part
 abbrev pub ServesLines : Result ScriptEnd AllocError → Type 0
 ServesLines (Ok Done) = ⊤
 ServesLines (Ok WriteFault) = ⊤
+ServesLines (Ok Latched) = ⊤
 ServesLines (Ok TooLong) = ⊥
 ServesLines (Ok ReadFault) = ⊥
 ServesLines (Err e) = ⊥
@@ -16,6 +17,7 @@ ServesLines (Err e) = ⊥
 abbrev pub ServesNone : Result ScriptEnd AllocError → Type 0
 ServesNone (Ok Done) = ⊥
 ServesNone (Ok WriteFault) = ⊥
+ServesNone (Ok Latched) = ⊥
 ServesNone (Ok TooLong) = ⊤
 ServesNone (Ok ReadFault) = ⊤
 ServesNone (Err e) = ⊤
@@ -24,6 +26,7 @@ ServesNone (Err e) = ⊤
 abbrev pub ReadsInput : Result ScriptEnd AllocError → Type 0
 ReadsInput (Ok Done) = ⊤
 ReadsInput (Ok WriteFault) = ⊤
+ReadsInput (Ok Latched) = ⊤
 ReadsInput (Ok TooLong) = ⊤
 ReadsInput (Ok ReadFault) = ⊥
 ReadsInput (Err e) = ⊥

@@ -1,5 +1,5 @@
 -- A script that was played: the states of tenants after it, and the bytes that were written.
-use Rattle.std.specs.Prelude.{ℕ, ◌≡◌, ◌<◌, List, [], ◌∷◌, ◌++◌, length, Option}
+use Rattle.std.specs.Prelude.{ℕ, ◌≡◌, ◌<◌, List, [], ◌∷◌, ◌++◌, length, Bool, true, Option}
 use Rattle.std.specs.Io.KnownBytes.{Appends}
 use Rattle.tenant_core.specs.States.{States, Headline, MeetsDefinition}
 use Rattle.tenant_messages.specs.declared.call.Call.{Call}
@@ -57,15 +57,28 @@ pub record WritesFirst (Meets : List Call → List Reply → Type 0) (ms : List 
   pub written : AppendsUpTo rest from to (output served replies)
   pub headline : Meets (calls_in served) replies
 
+-- the first messages were served, so that this is met by their calls and the replies, and their
+-- lines were written; no later message was served
+pub record PlaysFirstBy (Meets : List Call → List Reply → Type 0) (ms : List (Option Call)) (from to : Option (List ℕ)) : Type 0 where
+  pub served : List (Option Call)
+  pub later : List (Option Call)
+  pub all : served ++ later ≡ ms
+  pub plays : PlaysBy Meets served from to
+
 -- ---- messages, and the states of tenants
 
--- the messages were served as the definition says, and their lines were written
-abbrev pub Plays : States → States → List (Option Call) → Option (List ℕ) → Option (List ℕ) → Type 0
-Plays old new ms from to = PlaysBy (MeetsDefinition old new) ms from to
+-- the messages were served as the definition says, and their lines were written; the store is then
+-- latched, or not
+abbrev pub Plays : Bool → States → States → List (Option Call) → Option (List ℕ) → Option (List ℕ) → Type 0
+Plays is_latched old new ms from to = PlaysBy (MeetsDefinition is_latched old new) ms from to
 
 -- the same up to a message whose line was written in part
-abbrev pub PlaysUpTo : States → States → List (Option Call) → Option (List ℕ) → Option (List ℕ) → Type 0
-PlaysUpTo old new ms from to = PlaysUpToBy (MeetsDefinition old new) ms from to
+abbrev pub PlaysUpTo : Bool → States → States → List (Option Call) → Option (List ℕ) → Option (List ℕ) → Type 0
+PlaysUpTo is_latched old new ms from to = PlaysUpToBy (MeetsDefinition is_latched old new) ms from to
+
+-- the same up to a message whose call latched the store; its line was written whole
+abbrev pub PlaysUntilLatched : States → States → List (Option Call) → Option (List ℕ) → Option (List ℕ) → Type 0
+PlaysUntilLatched old new ms from to = PlaysFirstBy (MeetsDefinition true old new) ms from to
 
 -- the headline of what was written: for every tenant the replies other than 503 are the
 -- definition's

@@ -1,6 +1,6 @@
 //! Scripts that are played from nothing: a service over a new store serves their lines.
 
-ghost use Rattle.std.specs.Prelude.{◌≡◌, ◌≤◌, ◌<◌, ◌+◌, length, IfSome};
+ghost use Rattle.std.specs.Prelude.{◌≡◌, ◌≢◌, ◌≤◌, ◌<◌, ◌+◌, length, Ok, IfSome};
 ghost use Rattle.std.specs.Io.KnownBytes.{Keeps as KeepsBytes};
 ghost use Rattle.crush_app.specs.Input.{DropsFirst};
 ghost use Rattle.crush_app.specs.End.{ServesLines, ServesNone, ReadsInput};
@@ -40,6 +40,9 @@ pub fn script_in_memory<R: Read, W: Write>(
     // later line was served.
     ensures cut { result ≡ Ok ScriptEnd.WriteFault → OfScript (R.remaining reader.old)
         (λ input. PlaysUpToFromNothing (messages input) (W.contents writer.old) (W.contents writer.new)) }
+
+    // `Latched` doesn't come: a store in memory never fails for good.
+    ensures works { result ≢ Ok ScriptEnd.Latched }
 
     // An input is too long exactly by its length.
     ensures short { ServesLines result → IfSome (R.remaining reader.old) (λ input. length input ≤ SCRIPT_LIMIT) }

@@ -3,36 +3,16 @@
 ghost use Rattle.std.specs.Prelude.{◌≡◌, ℕ, List, Some, None, OnOk, OnErr, if◌then◌else◌, option_map};
 ghost use Rattle.std.specs.Str.{bytes_eq};
 ghost use Rattle.std.specs.BTreeMap.{get_by_text};
-ghost use Rattle.tenant_state.specs.State.{after};
+ghost use Rattle.tenant_state.specs.State.{CanMake, TenantState, after};
 
 use crate::service::Service;
 use std::alloc::{AllocError, Global};
 use std::collections::BTreeMap;
 use std::rc::Rc;
 use tenant_core::{StoreFault, TenantStore};
-use tenant_state::{Change, TenantState};
+use tenant_state::{Change, Inventory, Receipt, TenantState};
 
-type States = BTreeMap<String, Rc<TenantState>>;
-
-/// Makes a change of a shared state: in place where it has no other owner, and else on a copy,
-/// which shares versions and receipts. `Err(AllocError)`: an allocation failed; nothing is changed.
-fn change_shared(
-    alloc: Global,
-    shared: &mut Rc<TenantState>,
-    change: &Change,
-) -> Result<(), AllocError>
-    ensures ok { OnOk result (shared.new.value ≡ after change.now shared.old.value) }
-    ensures err { OnErr result (shared.new.value ≡ shared.old.value) }
-{
-    match Rc::get_mut(shared) {
-        Some(state) => state.change(alloc, change),
-        None => {
-            let next = shared.after(alloc, change)?;
-            *shared = Rc::new(alloc, next)?;
-            Ok(())
-        }
-    }
-}
+type States = BTreeMap<String, TenantState>;
 
 /// Makes a change of the state of a name, if it has one. `Err(AllocError)`: an allocation failed;
 /// nothing is changed.
@@ -42,25 +22,25 @@ fn change_named(
     name: &str,
     change: &Change,
 ) -> Result<(), AllocError>
-    ensures ok { OnOk result ((u : List ℕ) → option_map (λ r. r.value) (get_by_text states.new u)
-        ≡ (if bytes_eq name.now u then option_map (λ r. after change.now r.value) (get_by_text states.old u) else option_map (λ r. r.value) (get_by_text states.old u))) }
-    ensures err { OnErr result ((u : List ℕ) → option_map (λ r. r.value) (get_by_text states.new u) ≡ option_map (λ r. r.value) (get_by_text states.old u)) }
+    requires { (s : TenantState) → get_by_text states.old name.now ≡ Some s → CanMake change.now s }
+    ensures ok { OnOk result ((u : List ℕ) → get_by_text states.new u
+        ≡ (if bytes_eq name.now u then option_map (after change.now) (get_by_text states.old u) else get_by_text states.old u)) }
+    ensures err { OnErr result ((u : List ℕ) → get_by_text states.new u ≡ get_by_text states.old u) }
 {
     match states.get_mut(name) {
-        Some(shared) => change_shared(alloc, shared, change),
+        Some(state) => state.change(alloc, change),
         None => Ok(()),
     }
 }
 
 /// Sets the state of a name. `Err(AllocError)`: an allocation failed; nothing is changed.
 fn put(alloc: Global, states: &mut States, name: &str, state: TenantState) -> Result<(), AllocError>
-    ensures ok { OnOk result ((u : List ℕ) → option_map (λ r. r.value) (get_by_text states.new u)
-        ≡ (if bytes_eq name.now u then Some state else option_map (λ r. r.value) (get_by_text states.old u))) }
+    ensures ok { OnOk result ((u : List ℕ) → get_by_text states.new u
+        ≡ (if bytes_eq name.now u then Some state else get_by_text states.old u)) }
     ensures err { OnErr result ((u : List ℕ) → get_by_text states.new u ≡ get_by_text states.old u) }
 {
     let key = String::from_str(alloc, name)?;
-    let shared = Rc::new(alloc, state)?;
-    states.insert(key, shared)?;
+    states.insert(key, state)?;
     Ok(())
 }
 
@@ -94,17 +74,39 @@ impl MemoryStore {
 }
 
 impl TenantStore for MemoryStore {
-    ghost use Rattle.std.specs.Prelude.{◌≡◌, option_map};
-    ghost use Rattle.std.proofs.Common.{◌∙◌, sym};
+    ghost use Rattle.std.specs.Prelude.{◌≡◌, ℕ, List, false};
+    ghost use Rattle.std.proofs.Common.{◌∙◌, refl, sym};
     ghost use Rattle.std.specs.BTreeMap.{get_by_text};
 
     ghost is_honest = { λ store. Unit {0} };
 
-    ghost has_state = { λ store name s. option_map (λ r. r.value) (get_by_text store.states name) ≡ s };
+    ghost has_state = { λ store name s. get_by_text store.states name ≡ s };
 
-    fn load(&mut self, name: &str) -> Result<Option<Rc<TenantState>>, StoreFault> {
+    ghost latched = { λ store. false };
+
+    // nothing is left of memory
+    ghost may_leave = { λ store name found. ⊥ };
+
+    ghost keeps = { λ old new. (u : List ℕ) → get_by_text new.states u ≡ get_by_text old.states u };
+
+    fn is_latched(&self) -> bool {
+        false
+    }
+
+    fn load(&mut self, name: &str) -> Result<Option<Rc<Inventory>>, StoreFault> {
         match self.states.get(name) {
-            Some(state) => Ok(Some(state.clone()?)),
+            Some(state) => Ok(Some(state.inventory().clone()?)),
+            None => Ok(None),
+        }
+    }
+
+    fn find_receipt(
+        &mut self,
+        name: &str,
+        number: &str,
+    ) -> Result<Option<Rc<Receipt>>, StoreFault> {
+        match self.states.get(name) {
+            Some(state) => Ok(state.receipts().find(number)?),
             None => Ok(None),
         }
     }
@@ -129,7 +131,15 @@ impl TenantStore for MemoryStore {
         Ok(())
     }
 
-    ghost one_state = { λ store t s u honest is also. sym is ∙ also };
+    ghost one_state = { λ store t s u honest works is also. sym is ∙ also };
+
+    ghost keeps_itself = { λ store u. refl };
+
+    ghost keeps_both = { λ old mid new first second u. second u ∙ first u };
+
+    ghost keeps_states = { λ old new honest worked works same t s. (λ has. same t ∙ has, λ has. sym (same t) ∙ has) };
+
+    ghost settled = { λ store t found honest works there. absurd there };
 }
 
 impl Service<MemoryStore> {

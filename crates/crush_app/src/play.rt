@@ -1,13 +1,12 @@
 //! Scripts: the service serves each line of an input, and its reply is written.
 
-ghost use Rattle.std.specs.Prelude.{◌≡◌, ◌≤◌, ◌<◌, ◌∷◌, ◌+◌, [], length, IsTrue, IfSome, option_map};
+ghost use Rattle.std.specs.Prelude.{◌≡◌, ◌≤◌, ◌<◌, ◌∷◌, ◌+◌, [], Ok, true, false, length, IsTrue, IfSome, option_map};
 ghost use Rattle.std.specs.Bool.{IsFalse};
 ghost use Rattle.std.specs.Io.KnownBytes.{Keeps as KeepsBytes};
 ghost use Rattle.tenant_messages.specs.CallParts.{call_of};
-ghost use Rattle.tenant_core.specs.States.{Same};
 ghost use Rattle.crush_app.specs.Input.{DropsFirst};
 ghost use Rattle.crush_app.specs.End.{ServesLines, ServesNone, ReadsInput};
-ghost use Rattle.crush_app.specs.Play.{Plays, PlaysUpTo, WritesHeadline};
+ghost use Rattle.crush_app.specs.Play.{Plays, PlaysUntilLatched, PlaysUpTo, WritesHeadline};
 ghost use Rattle.crush_app.specs.declared.limits.TheConstants.{SCRIPT_LIMIT};
 ghost use Rattle.crush_app.specs.Script.{bad_line, messages, messages_in, OfScript};
 
@@ -32,6 +31,9 @@ pub enum ScriptEnd {
     ReadFault,
     /// A reply couldn't be written. No later line was served.
     WriteFault,
+    /// The store failed for good. The reply 503 of the call that met it was written, and no later
+    /// line was served.
+    Latched,
 }
 
 /// Serves the call of a line and writes its reply, or, for a line that is no call, the reply `bad`.
@@ -42,9 +44,10 @@ fn play_message<T: TenantStore, W: Write>(
     message: Option<CallParts<'_>>,
     writer: &mut W,
 ) -> bool
-    requires { bad.now ≡ bad_line }
-    ensures whole { T.is_honest service.new → IsTrue result → Plays (T.has_state service.old) (T.has_state service.new) (option_map call_of message.entry ∷ []) (W.contents writer.old) (W.contents writer.new) }
-    ensures cut { T.is_honest service.new → IsFalse result → PlaysUpTo (T.has_state service.old) (T.has_state service.new) (option_map call_of message.entry ∷ []) (W.contents writer.old) (W.contents writer.new) }
+    requires bad { bad.now ≡ bad_line }
+    requires works { T.latched service.old ≡ false }
+    ensures whole { T.is_honest service.new → IsTrue result → Plays (T.latched service.new) (T.has_state service.old) (T.has_state service.new) (option_map call_of message.entry ∷ []) (W.contents writer.old) (W.contents writer.new) }
+    ensures cut { T.is_honest service.new → IsFalse result → PlaysUpTo (T.latched service.new) (T.has_state service.old) (T.has_state service.new) (option_map call_of message.entry ∷ []) (W.contents writer.old) (W.contents writer.new) }
     ensures honest { T.is_honest service.new → T.is_honest service.old }
 {
     match message {
@@ -64,9 +67,10 @@ fn play_line<T: TenantStore, W: Write>(
     line: &[u8],
     writer: &mut W,
 ) -> bool
-    requires { bad.now ≡ bad_line }
-    ensures whole { T.is_honest service.new → IsTrue result → Plays (T.has_state service.old) (T.has_state service.new) (messages_in (line.now ∷ [])) (W.contents writer.old) (W.contents writer.new) }
-    ensures cut { T.is_honest service.new → IsFalse result → PlaysUpTo (T.has_state service.old) (T.has_state service.new) (messages_in (line.now ∷ [])) (W.contents writer.old) (W.contents writer.new) }
+    requires bad { bad.now ≡ bad_line }
+    requires works { T.latched service.old ≡ false }
+    ensures whole { T.is_honest service.new → IsTrue result → Plays (T.latched service.new) (T.has_state service.old) (T.has_state service.new) (messages_in (line.now ∷ [])) (W.contents writer.old) (W.contents writer.new) }
+    ensures cut { T.is_honest service.new → IsFalse result → PlaysUpTo (T.latched service.new) (T.has_state service.old) (T.has_state service.new) (messages_in (line.now ∷ [])) (W.contents writer.old) (W.contents writer.new) }
     ensures honest { T.is_honest service.new → T.is_honest service.old }
 {
     if line.is_empty() {
@@ -76,29 +80,37 @@ fn play_line<T: TenantStore, W: Write>(
     }
 }
 
-/// Serves the lines of an input in order, and ends at the first reply that can't be written whole.
-/// Returns whether all were written.
+/// Serves the lines of an input in order, and ends at the first reply that can't be written whole,
+/// or that latched the store. Returns how that ended: `Done`, `WriteFault` or `Latched`.
 fn play<T: TenantStore, W: Write>(
     service: &mut Service<T>,
     bad: &Reply,
     input: &[u8],
     writer: &mut W,
-) -> bool
-    requires { bad.now ≡ bad_line }
-    ensures whole { T.is_honest service.new → IsTrue result → Plays (T.has_state service.old) (T.has_state service.new) (messages input.now) (W.contents writer.old) (W.contents writer.new) }
-    ensures cut { T.is_honest service.new → IsFalse result → PlaysUpTo (T.has_state service.old) (T.has_state service.new) (messages input.now) (W.contents writer.old) (W.contents writer.new) }
+) -> ScriptEnd
+    requires bad { bad.now ≡ bad_line }
+    requires works { T.latched service.old ≡ false }
+    ensures done { T.is_honest service.new → result ≡ ScriptEnd.Done → Plays false (T.has_state service.old) (T.has_state service.new) (messages input.now) (W.contents writer.old) (W.contents writer.new) }
+    ensures cut { T.is_honest service.new → result ≡ ScriptEnd.WriteFault → PlaysUpTo (T.latched service.new) (T.has_state service.old) (T.has_state service.new) (messages input.now) (W.contents writer.old) (W.contents writer.new) }
+    ensures latched { T.is_honest service.new → result ≡ ScriptEnd.Latched → PlaysUntilLatched (T.has_state service.old) (T.has_state service.new) (messages input.now) (W.contents writer.old) (W.contents writer.new) }
     ensures headline { T.is_honest service.new → WritesHeadline (T.has_state service.old) (messages input.now) (W.contents writer.old) (W.contents writer.new) }
+    ensures served { ServesLines (Ok result) }
+    ensures works { result ≡ ScriptEnd.Done → T.latched service.new ≡ false }
+    ensures shut { result ≡ ScriptEnd.Latched → T.latched service.new ≡ true }
     ensures honest { T.is_honest service.new → T.is_honest service.old }
 {
     let mut rest = input;
     while !rest.is_empty() {
         let (line, after) = first_line(rest);
         if !play_line(service, bad, line, writer) {
-            return false;
+            return ScriptEnd::WriteFault;
+        }
+        if service.is_latched() {
+            return ScriptEnd::Latched;
         }
         rest = after;
     }
-    true
+    ScriptEnd::Done
 }
 
 /// Reads a whole script of at most `SCRIPT_LIMIT` bytes, serves its lines in order, writes a line
@@ -107,21 +119,30 @@ fn play<T: TenantStore, W: Write>(
 /// The clauses speak of an input, which is what the reader had where contracts know its bytes.
 /// `Err(AllocError)`: an allocation for the script itself failed; no line was served, nothing was
 /// written, and the script may have been read in part.
-#[tactic(auto, using(crate::proofs::Playing::script_played, crate::proofs::Playing::script_cut_off, crate::proofs::Playing::script_written, crate::proofs::Inputs::known_short, crate::proofs::Inputs::known_long))]
+#[tactic(auto, using(crate::proofs::Playing::script_played, crate::proofs::Playing::script_cut_off, crate::proofs::Playing::script_latched, crate::proofs::Playing::script_written, crate::proofs::Inputs::known_short, crate::proofs::Inputs::known_long))]
 pub fn script_run<T: TenantStore, R: Read, W: Write>(
     alloc: Global,
     service: &mut Service<T>,
     reader: &mut R,
     writer: &mut W,
 ) -> Result<ScriptEnd, AllocError>
+    requires { T.latched service.old ≡ false }
+
     // `Done`: all lines of the input were served; their replies were written, and nothing else.
     ensures done { T.is_honest service.new → result ≡ Ok ScriptEnd.Done → OfScript (R.remaining reader.old)
-        (λ input. Plays (T.has_state service.old) (T.has_state service.new) (messages input) (W.contents writer.old) (W.contents writer.new)) }
+        (λ input. Plays false (T.has_state service.old) (T.has_state service.new) (messages input) (W.contents writer.old) (W.contents writer.new)) }
 
     // `WriteFault`: the replies before the failed one were written whole, that one in part, and no
     // later line was served.
     ensures cut { T.is_honest service.new → result ≡ Ok ScriptEnd.WriteFault → OfScript (R.remaining reader.old)
-        (λ input. PlaysUpTo (T.has_state service.old) (T.has_state service.new) (messages input) (W.contents writer.old) (W.contents writer.new)) }
+        (λ input. PlaysUpTo (T.latched service.new) (T.has_state service.old) (T.has_state service.new) (messages input) (W.contents writer.old) (W.contents writer.new)) }
+
+    // `Latched`: the replies up to that of the call that latched the store were written whole, and
+    // no later line was served.
+    ensures latched { T.is_honest service.new → result ≡ Ok ScriptEnd.Latched → OfScript (R.remaining reader.old)
+        (λ input. PlaysUntilLatched (T.has_state service.old) (T.has_state service.new) (messages input) (W.contents writer.old) (W.contents writer.new)) }
+    ensures works { result ≡ Ok ScriptEnd.Done → T.latched service.new ≡ false }
+    ensures shut { result ≡ Ok ScriptEnd.Latched → T.latched service.new ≡ true }
 
     // The headline: for every tenant, the written replies other than 503 are those of the
     // definition, run over just the calls that have such a reply, from the state that the tenant
@@ -137,8 +158,8 @@ pub fn script_run<T: TenantStore, R: Read, W: Write>(
     // read, and the rest is left.
     ensures rest { ReadsInput result → DropsFirst (SCRIPT_LIMIT + 1) (R.remaining reader.old) (R.remaining reader.new) }
 
-    // Otherwise no state changed, and nothing was written.
-    ensures none { T.is_honest service.new → ServesNone result → Same (T.has_state service.old) (T.has_state service.new) }
+    // Otherwise the store wasn't asked, and nothing was written.
+    ensures none { ServesNone result → service.new ≡ service.old }
     ensures silent { ServesNone result → KeepsBytes (W.contents writer.old) (W.contents writer.new) }
     ensures honest { T.is_honest service.new → T.is_honest service.old }
 {
@@ -149,9 +170,5 @@ pub fn script_run<T: TenantStore, R: Read, W: Write>(
         Err(InputFault::TooLong) => return Ok(ScriptEnd::TooLong),
     };
     let bad = refused(alloc, Problem::BadRequest)?;
-    if play(service, &bad, input.as_slice(), writer) {
-        Ok(ScriptEnd::Done)
-    } else {
-        Ok(ScriptEnd::WriteFault)
-    }
+    Ok(play(service, &bad, input.as_slice(), writer))
 }

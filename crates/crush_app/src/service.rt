@@ -1,32 +1,41 @@
 //! The service of all tenants, over any store.
 
-ghost use Rattle.std.specs.Prelude.{◌≡◌, ◌≢◌, ◌↔◌, ℕ, List, Option, IfOk, OnOk, OnErr};
+ghost use Rattle.std.specs.Prelude.{◌≡◌, ◌≢◌, ◌↔◌, ℕ, List, true, false, Option, is_some, option_map, Err, IfOk, OnOk, OnErr};
 ghost use Rattle.tenant_messages.specs.CallParts.{call_of};
-ghost use Rattle.tenant_core.specs.Private.Performing.{Performs};
-ghost use Rattle.tenant_core.specs.States.{IsDamaged, Same, Follows};
+ghost use Rattle.tenant_core.specs.Private.Performing.{Decides, LeavesRequest, Performs};
+ghost use Rattle.tenant_core.specs.States.{IsDamaged, LeavesAsItWas, LeavesAsItWasOr, LeavesStep, Follows};
+ghost use Rattle.tenant_core.specs.Step.{is_of, receipt_in};
 ghost use Rattle.tenant_core.specs.Effects.{Fits, after_effect};
-ghost use Rattle.tenant_core.specs.StoreReply.{store_damaged};
+ghost use Rattle.tenant_core.specs.StoreReply.{is_failed, store_damaged};
 ghost use Rattle.tenant_state.specs.State.{TenantState};
 
 use std::alloc::{AllocError, Global};
 use std::marker::Model;
+use std::rc::Rc;
+use tenant_core::laws::each_decision_fits_its_state;
 use tenant_core::{
-    Effect, Request, Routes, StoreFault, TenantStore, decide, read_request, store_fault,
+    Action, Decision, Effect, Request, Routes, StoreFault, TenantStore, decide, read_request,
+    store_fault,
 };
 use tenant_messages::{Call, CallParts, Refusal, Reply, refused};
+use tenant_state::Receipt;
 
 /// Carries out the effect of a request on its tenant. `Err`: the store's fault, with nothing
-/// changed.
+/// changed, unless it latched the store.
 fn carry_out_effect<T: TenantStore>(
     store: &mut T,
     tenant: &str,
     effect: &Effect,
 ) -> Result<(), StoreFault>
-    requires { T.is_honest store.old → (s : Option TenantState) × T.has_state store.old tenant.now s × Fits effect.now s }
+    requires open { T.latched store.old ≡ false }
+    requires fits { T.is_honest store.old → (s : Option TenantState) × T.has_state store.old tenant.now s × Fits effect.now s }
     ensures left { T.is_honest store.new → (s : Option TenantState) → T.has_state store.old tenant.now s → Fits effect.now s → OnOk result (T.has_state store.new tenant.now (after_effect effect.now s)) }
-    ensures others { T.is_honest store.new → (t : List ℕ) (s : Option TenantState) → t ≢ tenant.now → (T.has_state store.old t s ↔ T.has_state store.new t s) }
-    ensures err { T.is_honest store.new → OnErr result (Same (T.has_state store.old) (T.has_state store.new)) }
+    ensures others { T.is_honest store.new → T.latched store.new ≡ false → (t : List ℕ) (s : Option TenantState) → t ≢ tenant.now → (T.has_state store.old t s ↔ T.has_state store.new t s) }
+    ensures err { T.is_honest store.new → T.latched store.new ≡ false → OnErr result (T.keeps store.old store.new) }
     ensures damaged { T.is_honest store.new → result ≢ Err StoreFault.Damaged }
+    ensures latch { T.latched store.new ≡ is_failed result }
+    ensures crash { T.is_honest store.new → T.latched store.new ≡ true → (s : Option TenantState) → T.has_state store.old tenant.now s → Fits effect.now s
+        → LeavesAsItWasOr tenant.now (after_effect effect.now s) (T.has_state store.old) (T.may_leave store.new) }
     ensures honest { T.is_honest store.new → T.is_honest store.old }
 {
     match effect {
@@ -37,38 +46,93 @@ fn carry_out_effect<T: TenantStore>(
     }
 }
 
-/// Loads the tenant's state, decides what the request does, carries that out, and returns the
-/// reply. `Err`: the store's fault, with nothing changed; a failed allocation is one.
+/// The receipt of an action's request number, if the action has one and the tenant is there.
+fn receipt_of<T: TenantStore>(
+    store: &mut T,
+    tenant: &str,
+    is_there: bool,
+    action: &Action<'_>,
+) -> Result<Option<Rc<Receipt>>, StoreFault>
+    requires open { T.latched store.old ≡ false }
+    requires there { T.is_honest store.old → (s : Option TenantState) × T.has_state store.old tenant.now s × (is_there ≡ is_some s) }
+    ensures found { T.is_honest store.new → (s : Option TenantState) → T.has_state store.old tenant.now s → is_there ≡ is_some s → IfOk result (λ found. option_map (λ r. r.value) found ≡ receipt_in action.now s) }
+    ensures damaged { T.is_honest store.new → result ≢ Err StoreFault.Damaged }
+    ensures same { T.is_honest store.new → T.latched store.new ≡ false → T.keeps store.old store.new }
+    ensures latch { T.latched store.new ≡ is_failed result }
+    ensures crash { T.is_honest store.new → T.latched store.new ≡ true → LeavesAsItWas (T.has_state store.old) (T.may_leave store.new) }
+    ensures honest { T.is_honest store.new → T.is_honest store.old }
+{
+    match action {
+        Action::Command(command) if is_there => {
+            store.find_receipt(tenant, command.number.as_str())
+        }
+        _ => Ok(None),
+    }
+}
+
+/// Loads what the tenant has, and the receipt of the request number, and decides what the request
+/// does. `Err`: the store's fault; a failed allocation is one. Nothing is changed.
+fn decide_request<T: TenantStore>(
+    alloc: Global,
+    store: &mut T,
+    request: &Request<'_>,
+) -> Result<Decision, StoreFault>
+    requires open { T.latched store.old ≡ false }
+    ensures decided { T.is_honest store.new → IfOk result (Decides request.now (T.has_state store.old)) }
+    ensures damaged { T.is_honest store.new → result ≡ Err StoreFault.Damaged → IsDamaged (T.has_state store.old) request.now.tenant }
+    ensures same { T.is_honest store.new → T.latched store.new ≡ false → T.keeps store.old store.new }
+    ensures latch { T.latched store.new ≡ is_failed result }
+    ensures crash { T.is_honest store.new → T.latched store.new ≡ true → LeavesAsItWas (T.has_state store.old) (T.may_leave store.new) }
+    ensures honest { T.is_honest store.new → T.is_honest store.old }
+{
+    let tenant = request.tenant;
+    let inventory = store.load(tenant)?;
+    let receipt = receipt_of(store, tenant, inventory.is_some(), &request.action)?;
+    Ok(decide(
+        alloc,
+        tenant,
+        inventory.as_deref(),
+        receipt.as_deref(),
+        &request.action,
+    )?)
+}
+
+/// Decides what a request does, carries that out, and returns the reply. `Err`: the store's fault,
+/// with nothing changed, unless it latched the store; a failed allocation is one.
 fn perform<T: TenantStore>(
     alloc: Global,
     store: &mut T,
     request: &Request<'_>,
 ) -> Result<Reply, StoreFault>
+    requires open { T.latched store.old ≡ false }
     ensures ok { T.is_honest store.new → IfOk result (Performs request.now (T.has_state store.old) (T.has_state store.new)) }
-    ensures err { T.is_honest store.new → OnErr result (Same (T.has_state store.old) (T.has_state store.new)) }
+    ensures err { T.is_honest store.new → T.latched store.new ≡ false → OnErr result (T.keeps store.old store.new) }
     ensures damaged { T.is_honest store.new → result ≡ Err StoreFault.Damaged → IsDamaged (T.has_state store.old) request.now.tenant }
+    ensures latch { T.latched store.new ≡ is_failed result }
+    ensures crash { T.is_honest store.new → T.latched store.new ≡ true → LeavesRequest request.now (T.has_state store.old) (T.may_leave store.new) }
     ensures honest { T.is_honest store.new → T.is_honest store.old }
 {
-    let tenant = request.tenant;
-    let state = store.load(tenant)?;
-    let decision = decide(alloc, tenant, state.as_deref(), &request.action)?;
-    // drops the shared state first, so that the store may change it in place
-    drop(state);
-    carry_out_effect(store, tenant, &decision.effect)?;
+    each_decision_fits_its_state();
+    let decision = decide_request(alloc, store, request)?;
+    carry_out_effect(store, request.tenant, &decision.effect)?;
     Ok(decision.reply)
 }
 
-/// Serves a call and returns its reply. `Err`: the store's fault, with nothing changed; a failed
-/// allocation is one.
+/// Serves a call and returns its reply. `Err`: the store's fault, with nothing changed, unless it
+/// latched the store; a failed allocation is one.
 fn reply_or_fault<T: TenantStore>(
     alloc: Global,
     routes: &Routes,
     store: &mut T,
     call: CallParts<'_>,
 ) -> Result<Reply, StoreFault>
+    requires open { T.latched store.old ≡ false }
     ensures ok { T.is_honest store.new → IfOk result (Follows (call_of call.entry) (T.has_state store.old) (T.has_state store.new)) }
-    ensures err { T.is_honest store.new → OnErr result (Same (T.has_state store.old) (T.has_state store.new)) }
+    ensures err { T.is_honest store.new → T.latched store.new ≡ false → OnErr result (T.keeps store.old store.new) }
     ensures damaged { T.is_honest store.new → result ≡ Err StoreFault.Damaged → Follows (call_of call.entry) (T.has_state store.old) (T.has_state store.new) store_damaged }
+    ensures rows { T.is_honest store.new → T.latched store.new ≡ false → (t : List ℕ) → is_of t (call_of call.entry) ≡ true → IsDamaged (T.has_state store.old) t → T.keeps store.old store.new }
+    ensures latch { T.latched store.new ≡ is_failed result }
+    ensures crash { T.is_honest store.new → T.latched store.new ≡ true → LeavesStep (call_of call.entry) (T.has_state store.old) (T.may_leave store.new) }
     ensures honest { T.is_honest store.new → T.is_honest store.old }
 {
     match read_request(alloc, routes, call) {
@@ -111,18 +175,36 @@ impl<T: TenantStore + Drop> Service<T> {
 }
 
 impl<T: TenantStore> Service<T> {
-    ghost use Rattle.std.specs.Prelude.{◌≡◌, ◌≤◌, [], IfOk, OnErr, length, vec_capacity};
+    ghost use Rattle.std.specs.Prelude.{◌≡◌, ◌≤◌, ℕ, List, [], true, false, IfOk, OnErr, length, vec_capacity};
     ghost use Rattle.std.specs.List.{All};
     ghost use Rattle.tenant_messages.specs.CallParts.{call_of};
-    ghost use Rattle.tenant_core.specs.States.{Same, Serves, MeetsDefinition, Headline, Leaves, ServesCallsOfNobody, KeepsDamaged, NamesCause};
+    ghost use Rattle.tenant_core.specs.States.{IsDamaged, LeavesStep, Serves, MeetsDefinition, Headline, Leaves, ServesCallsOfNobody, ServesCallsOfDamaged, StaysDamaged, NamesCause};
+    ghost use Rattle.tenant_core.specs.Step.{is_of};
+    ghost use Rattle.tenant_core.specs.StoreReply.{IsUnavailable};
+
+    /// Whether a call of the store failed for good. The service then answers 503 to every call.
+    pub fn is_latched(&self) -> bool
+        ensures { result ≡ T.latched self.now }
+    {
+        self.store.is_latched()
+    }
 
     /// Serves a call and returns its reply. The reply is the definition's for the state of the
     /// call's tenant, which then has the definition's new state, and every other tenant keeps its
-    /// own; or the reply is 503, and every tenant keeps its state.
+    /// own; or the reply is 503, and every tenant keeps its state. A call that latches the store is
+    /// answered 503; after a crash an opening may then find it done or not. A latched store isn't
+    /// asked.
     pub fn request(&mut self, call: CallParts<'_>) -> Reply
-        ensures serves { T.is_honest self.new → Serves (call_of call.entry) (T.has_state self.old) (T.has_state self.new) result }
+        ensures serves { T.is_honest self.new → T.latched self.new ≡ false → Serves (call_of call.entry) (T.has_state self.old) (T.has_state self.new) result }
+        ensures rows { T.is_honest self.new → T.latched self.new ≡ false → (t : List ℕ) → is_of t (call_of call.entry) ≡ true → IsDamaged (T.has_state self.old) t → T.keeps self.old self.new }
+        ensures crash { T.is_honest self.new → T.latched self.old ≡ false → T.latched self.new ≡ true → LeavesStep (call_of call.entry) (T.has_state self.old) (T.may_leave self.new) }
+        ensures rests { T.latched self.old ≡ true → self.new ≡ self.old }
+        ensures silent { T.latched self.new ≡ true → IsUnavailable result }
         ensures honest { T.is_honest self.new → T.is_honest self.old }
     {
+        if self.store.is_latched() {
+            return store_fault(self.alloc, StoreFault::Failed);
+        }
         match reply_or_fault(self.alloc, &self.routes, &mut self.store, call) {
             Ok(reply) => reply,
             Err(fault) => store_fault(self.alloc, fault),
@@ -134,7 +216,7 @@ impl<T: TenantStore> Service<T> {
         requires empty { replies.old.items ≡ [] }
         requires room { length calls.now ≤ vec_capacity replies.old }
         ensures count { length replies.new.items ≡ length calls.now }
-        ensures meets { T.is_honest self.new → MeetsDefinition (T.has_state self.old) (T.has_state self.new) calls.now replies.new.items }
+        ensures meets { T.is_honest self.new → MeetsDefinition (T.latched self.new) (T.has_state self.old) (T.has_state self.new) calls.now replies.new.items }
         ensures honest { T.is_honest self.new → T.is_honest self.old }
     {
         for call in calls {
@@ -154,11 +236,12 @@ impl<T: TenantStore> Service<T> {
     pub fn run(&mut self, calls: &[Call]) -> Result<Vec<Reply>, AllocError>
         ensures count { IfOk result (λ replies. length replies.items ≡ length calls.now) }
         ensures headline { T.is_honest self.new → IfOk result (λ replies. Headline (T.has_state self.old) calls.now replies.items) }
-        ensures leaves { T.is_honest self.new → IfOk result (λ replies. Leaves (T.has_state self.old) (T.has_state self.new) calls.now replies.items) }
+        ensures leaves { T.is_honest self.new → T.latched self.new ≡ false → IfOk result (λ replies. Leaves (T.has_state self.old) (T.has_state self.new) calls.now replies.items) }
         ensures nobody { T.is_honest self.new → IfOk result (λ replies. ServesCallsOfNobody calls.now replies.items) }
-        ensures damaged { T.is_honest self.new → IfOk result (λ replies. KeepsDamaged (T.has_state self.old) (T.has_state self.new) calls.now replies.items) }
+        ensures damaged { T.is_honest self.new → IfOk result (λ replies. ServesCallsOfDamaged (T.has_state self.old) calls.now replies.items) }
+        ensures stays { T.is_honest self.new → T.latched self.new ≡ false → StaysDamaged (T.has_state self.old) (T.has_state self.new) }
         ensures causes { T.is_honest self.new → IfOk result (λ replies. All NamesCause replies.items) }
-        ensures err { T.is_honest self.new → OnErr result (Same (T.has_state self.old) (T.has_state self.new)) }
+        ensures err { OnErr result (self.new ≡ self.old) }
         ensures honest { T.is_honest self.new → T.is_honest self.old }
     {
         let mut replies = Vec::with_capacity(self.alloc, calls.len())?;

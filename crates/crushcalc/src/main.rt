@@ -57,6 +57,8 @@ enum Stop {
     ReadFault,
     /// Standard output can't be written.
     WriteFault,
+    /// The store can't be opened, or failed for good.
+    StoreFault,
 }
 
 impl From<AllocError> for Stop {
@@ -118,6 +120,7 @@ fn run_script<R: AllocGlobal + Input + Print>(rt: &R) -> Result<(), Stop> {
         ScriptEnd::TooLong => Err(Stop::TooLong),
         ScriptEnd::ReadFault => Err(Stop::ReadFault),
         ScriptEnd::WriteFault => Err(Stop::WriteFault),
+        ScriptEnd::Latched => Err(Stop::StoreFault),
     }
 }
 
@@ -165,6 +168,7 @@ fn report<R: Print + Eprint>(rt: &R, stop: Stop) -> io::Result<ExitCode> {
         Stop::CannotRead => "cannot read",
         Stop::ReadFault => "read fault",
         Stop::WriteFault => "write fault",
+        Stop::StoreFault => "store fault",
     };
     eprintln!(rt; "crushcalc: {why}")?;
     Ok(ExitCode::from(1))

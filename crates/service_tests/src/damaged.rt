@@ -1,7 +1,7 @@
 //! What a service answers where the data of some names is damaged.
 
 ghost use Rattle.std.specs.Prelude.{◌≡◌, IfOk};
-ghost use Rattle.tenant_state.specs.State.{fresh};
+ghost use Rattle.tenant_state.specs.State.{fresh, inventory_of};
 ghost use Rattle.service_tests.specs.Damaged.{begins_with};
 
 use crate::maps::FIRST;
@@ -12,7 +12,7 @@ use std::rc::Rc;
 use std::test::Fail;
 use tenant_core::{StoreFault, TenantStore};
 use tenant_messages::Call;
-use tenant_state::{Change, TenantState};
+use tenant_state::{Change, Inventory, Receipt};
 
 fn begins_with(byte: u8, name: &str) -> bool
     ensures { result ≡ begins_with byte name.now }
@@ -23,10 +23,10 @@ fn begins_with(byte: u8, name: &str) -> bool
     }
 }
 
-fn fresh_tenant(alloc: Global) -> Result<Rc<TenantState>, AllocError>
-    ensures { IfOk result (λ state. state.value ≡ fresh) }
+fn fresh_tenant(alloc: Global) -> Result<Rc<Inventory>, AllocError>
+    ensures { IfOk result (λ inventory. inventory.value ≡ inventory_of fresh) }
 {
-    Ok(Rc::new(alloc, TenantState::fresh(alloc)?)?)
+    Ok(Rc::new(alloc, Inventory::fresh(alloc)?)?)
 }
 
 /// An import of a text without a word, which is refused where a tenant is there.
@@ -50,7 +50,18 @@ impl TenantStore for PartlyDamaged {
 
     ghost has_state = { λ store name s. (begins_with 100 name ≡ false) × (s ≡ state_of name) };
 
-    fn load(&mut self, name: &str) -> Result<Option<Rc<TenantState>>, StoreFault> {
+    ghost latched = { λ store. false };
+
+    ghost may_leave = { λ store name found. ⊥ };
+
+    // it has no data of its own
+    ghost keeps = { λ old new. Unit {0} };
+
+    fn is_latched(&self) -> bool {
+        false
+    }
+
+    fn load(&mut self, name: &str) -> Result<Option<Rc<Inventory>>, StoreFault> {
         if begins_with(b'd', name) {
             Err(StoreFault::Damaged)
         } else if begins_with(b'b', name) {
@@ -58,6 +69,14 @@ impl TenantStore for PartlyDamaged {
         } else {
             Ok(None)
         }
+    }
+
+    fn find_receipt(
+        &mut self,
+        _name: &str,
+        _number: &str,
+    ) -> Result<Option<Rc<Receipt>>, StoreFault> {
+        Ok(None)
     }
 
     fn create(&mut self, _name: &str) -> Result<(), StoreFault> {
@@ -72,7 +91,15 @@ impl TenantStore for PartlyDamaged {
         Err(StoreFault::Full)
     }
 
-    ghost one_state = { λ store t s u honest is also. is.1 ∙ sym also.1 };
+    ghost one_state = { λ store t s u honest works is also. is.1 ∙ sym also.1 };
+
+    ghost keeps_itself = { λ store. tt };
+
+    ghost keeps_both = { λ old mid new first second. tt };
+
+    ghost keeps_states = { λ old new honest worked works same t s. (λ has. has, λ has. has) };
+
+    ghost settled = { λ store t found honest works there. absurd there };
 }
 
 /// Calls of tenants whose data is damaged, and of others.

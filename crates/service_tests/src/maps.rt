@@ -1,15 +1,10 @@
 //! Imports, versions and rule tests over a store in memory, and the bodies that ask for them.
 
-use crate::requests::decided;
 use crate::rows::{
     CREATION_OF_A, CREATION_OF_B, IMPORT_BY_A, IMPORT_BY_B, Row, assert_each_alone, assert_requests,
 };
-use crush_app::{MemoryStore, Service};
-use std::alloc::{AllocError, Global};
+use crush_app::Service;
 use std::test::Fail;
-use tenant_core::{Decision, Effect, TenantStore};
-use tenant_messages::CallParts;
-use tenant_state::{Change, TenantState};
 
 /// The body of an import of a map with one device, under a request number: the device, its bucket's
 /// kind, and how the rule chooses.
@@ -171,80 +166,5 @@ fn a_version_is_read_as_its_canonical_text(rt: HostRuntime) -> Result<(), Fail> 
     let alloc = rt.alloc();
     let mut service = Service::in_memory(alloc)?;
     assert_requests(&rt, &mut service, &TWO_VERSIONS);
-    Ok(())
-}
-
-/// The change that an import makes of a tenant that was just created.
-fn change_by(alloc: Global, body: &str) -> Result<Option<Change>, AllocError> {
-    let call = CallParts {
-        method: b"POST",
-        path: "/t/a/maps",
-        body: body.as_bytes(),
-    };
-    let state = TenantState::fresh(alloc)?;
-    match decided(alloc, call, Some(&state))? {
-        Ok(decision) => Ok(change_of(decision)),
-        Err(_) => Ok(None),
-    }
-}
-
-/// The change that a decision asks the store for.
-fn change_of(decision: Decision) -> Option<Change> {
-    let Decision {
-        effect,
-        reply: _reply,
-    } = decision;
-    match effect {
-        Effect::Change(change) => Some(change),
-        _ => None,
-    }
-}
-
-/// The epochs of a state of tenant a that was held while an import changed the store, and of the
-/// state that the store then has.
-fn held_and_changed(
-    alloc: Global,
-    store: &mut MemoryStore,
-    body: &str,
-) -> Result<Option<(u64, u64)>, AllocError> {
-    let Some(change) = change_by(alloc, body)? else {
-        return Ok(None);
-    };
-    let Ok(Some(held)) = store.load("a") else {
-        return Ok(None);
-    };
-    if store.commit("a", &change).is_err() {
-        return Ok(None);
-    }
-    match store.load("a") {
-        Ok(Some(found)) => Ok(Some((held.epoch(), found.epoch()))),
-        _ => Ok(None),
-    }
-}
-
-/// The epoch of a state of tenant a that was held while the tenant was removed, if the store then
-/// has no such tenant.
-fn held_and_removed(store: &mut MemoryStore) -> Option<u64> {
-    let Ok(Some(held)) = store.load("a") else {
-        return None;
-    };
-    if store.remove("a").is_err() {
-        return None;
-    }
-    match store.load("a") {
-        Ok(None) => Some(held.epoch()),
-        _ => None,
-    }
-}
-
-/// A state that is held stays as it is while the store is changed, which then has the new state.
-#[test]
-fn a_state_that_is_held_stays(rt: HostRuntime) -> Result<(), Fail> {
-    let alloc = rt.alloc();
-    let mut store = MemoryStore::new(alloc);
-    assert!(rt; store.create("a").is_ok());
-    assert!(rt; held_and_changed(alloc, &mut store, FIRST)? == Some((0, 1)));
-    assert!(rt; held_and_changed(alloc, &mut store, SECOND)? == Some((1, 2)));
-    assert!(rt; held_and_removed(&mut store) == Some(2));
     Ok(())
 }

@@ -5,19 +5,19 @@ use std::process::Abort;
 use std::test::Fail;
 use tenant_core::{Decision, Effect, Routes, StoreFault, decide, read_request, store_fault};
 use tenant_messages::{CallParts, Problem, Refusal, Reply, refused};
-use tenant_state::TenantState;
+use tenant_state::Inventory;
 
-/// The decision on a call of tenant a, which has this state or is absent, where the call is a
-/// request. It is a function of its own since what holds both a request and a decision takes long
-/// to prove.
+/// The decision on a call of tenant a, which has this or is absent, where the call is a request
+/// with no receipt. It is a function of its own since what holds both a request and a decision
+/// takes long to prove.
 pub(crate) fn decided(
     alloc: Global,
     call: CallParts<'_>,
-    state: Option<&TenantState>,
+    inventory: Option<&Inventory>,
 ) -> Result<Result<Decision, Problem>, AllocError> {
     let routes = Routes::build(alloc)?;
     match read_request(alloc, &routes, call) {
-        Ok(request) => Ok(Ok(decide(alloc, "a", state, &request.action)?)),
+        Ok(request) => Ok(Ok(decide(alloc, "a", inventory, None, &request.action)?)),
         Err(Refusal::Problem(problem)) => Ok(Err(problem)),
         Err(Refusal::NoMemory) => Err(AllocError),
     }
@@ -30,8 +30,8 @@ fn pick_reply(alloc: Global, body: &str) -> Result<(u16, String), AllocError> {
         path: "/t/a/pick",
         body: body.as_bytes(),
     };
-    let state = TenantState::fresh(alloc)?;
-    let reply = match decided(alloc, call, Some(&state))? {
+    let inventory = Inventory::fresh(alloc)?;
+    let reply = match decided(alloc, call, Some(&inventory))? {
         Ok(decision) => decision.reply,
         Err(problem) => refused(alloc, problem)?,
     };
@@ -115,8 +115,8 @@ fn changed(alloc: Global, method: &str, there: bool) -> Result<(bool, Reply), Fa
         path: "/t/a",
         body: b"",
     };
-    let state = TenantState::fresh(alloc)?;
-    match decided(alloc, call, if there { Some(&state) } else { None })? {
+    let inventory = Inventory::fresh(alloc)?;
+    match decided(alloc, call, if there { Some(&inventory) } else { None })? {
         Ok(decision) => Ok(taken_apart(decision)),
         Err(_) => Err(Fail::new("the call isn't a request")),
     }

@@ -18,10 +18,11 @@ use Rattle.tenant_messages.specs.Reply.{refused, reply}
 use Rattle.tenant_core.specs.Route.{read, route_of}
 use Rattle.tenant_core.specs.Router.{target_of}
 use Rattle.tenant_core.specs.Target.{Target, methods_in}
-use Rattle.tenant_core.specs.States.{States, IsDamaged, Same, Follows, Serves}
-use Rattle.tenant_core.specs.Step.{decision, decision_or_refusal, step_of, step, tenant_of, is_of}
+use Rattle.tenant_core.specs.States.{States, HasState, IsDamaged, LeavesStep, Outcomes, Same, Follows, Serves, Shows}
+use Rattle.tenant_core.specs.Effects.{after_effect}
+use Rattle.tenant_core.specs.Step.{Step, decision, decision_or_refusal, step_of, step, tenant_of, is_of}
 use Rattle.tenant_core.specs.StoreReply.{no_memory, store_damaged, store_fault, refused_or_damaged}
-use Rattle.tenant_core.specs.Private.Performing.{Performs, HasOneState}
+use Rattle.tenant_core.specs.Private.Performing.{LeavesRequest, Performs, HasOneState}
 use Rattle.tenant_core.proofs.Replying.{reply-answered, damaged-answered}
 
 -- ---- whose call it is
@@ -52,7 +53,7 @@ tenant_of-request call r h = named-small call r (nat_lt BODY_LIMIT (length call.
 is_of-request : (call : Call) (r : Request) (t : List ℕ) → request_of call ≡ Ok r → is_of t call ≡ bytes_eq r.tenant t
 is_of-request call r t h = rw (tenant_of-request call r h) refl
 
-own-name : (call : Call) (r : Request) (t : List ℕ) → request_of call ≡ Ok r → is_of t call ≡ true → r.tenant ≡ t
+pub own-name : (call : Call) (r : Request) (t : List ℕ) → request_of call ≡ Ok r → is_of t call ≡ true → r.tenant ≡ t
 own-name call r t h is = grind (arith, bytes_eq-Decides r.tenant t, sym (is_of-request call r t h) ∙ is)
 
 other-name : (call : Call) (r : Request) (t : List ℕ) → request_of call ≡ Ok r → is_of t call ≡ false → t ≢ r.tenant
@@ -100,6 +101,20 @@ follows_request call old new r replied h one done = record {
 pub follows_result : (call : Call) (old new : States) (r : Request) (result : Result Reply StoreFault) → request_of call ≡ Ok r → HasOneState old → IfOk result (Performs r old new) → IfOk result (Follows call old new)
 follows_result call old new r (Ok replied) h one done = follows_request call old new r replied h one done
 follows_result call old new r (Err fault) h one done = tt
+
+-- a crash while it is carried out
+pub leaves_request : (call : Call) (old : States) (left : Outcomes) (r : Request) → request_of call ≡ Ok r → LeavesRequest r old left → LeavesStep call old left
+leaves_request call old left r h leaves t found may = at (leaves t found may)
+  where
+    at : Shows old t found ⊎ ((t ≡ r.tenant) × (s : Option TenantState) × old t s × (found ≡ HasState (after_effect (decision r s).effect s)))
+        → Shows old t found ⊎ ((is_of t call ≡ true) × (s : Option TenantState) × old t s × (found ≡ HasState (step call s).state))
+    at (inl shows) = inl shows
+    at (inr changed) = inr (
+      is_of-request call r t h ∙ grind (arith, bytes_eq-Decides r.tenant t, changed.0),
+      changed.1,
+      changed.2,
+      changed.3 ∙ ap (λ (x : Step). HasState x.state) (sym (step-request call r changed.1 h)),
+    )
 
 -- ---- a damaged tenant
 

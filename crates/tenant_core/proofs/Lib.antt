@@ -1,7 +1,8 @@
+pub mod Accepting
 pub mod Following
+pub mod Once
+pub mod PoolRules
+pub mod Reading
 pub mod Replying
 pub mod Running
 pub mod Targets
-pub mod Accepting
-pub mod Once
-pub mod PoolRules

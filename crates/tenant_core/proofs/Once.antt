@@ -1,16 +1,15 @@
--- A receipt that is added is found again, adds one, and leaves the others.
-use Rattle.std.proofs.Common.{◌≡◌, ◌∙◌, ℕ, suc, List, [], ◌∷◌, length, Bool, true, false, nat_le, if◌then◌else◌, Option, Some, None, Result, Ok, Err, bytes_eq, Ordering, Less, Equal, Greater, nat_cmp, is_eq, refl, sym, ap, subst, arith}
-use Rattle.std.proofs.lemmas.Map.Text.{is_eq-slice_cmp}
+-- A changing request acts once, and its change fits the state.
+use Rattle.std.proofs.Common.{◌≡◌, ◌<◌, ◌∙◌, ℕ, suc, List, Bool, true, false, nat_le, if◌then◌else◌, Option, Some, None, Result, Ok, Err, bytes_eq, refl, sym, ap, subst, arith}
+use Rattle.std.proofs.lemmas.Bool.Decides.{nat_tests}
 use Rattle.std.proofs.lemmas.Slice.Eq.{bytes_eq-Decides}
-use Rattle.std.specs.Cmp.Lexicographic.{slice_cmp}
-use Rattle.std.specs.Ordering.{match_ordering}
 use Rattle.tenant_core.specs.Commands.{decision, on_receipt, change_or_refusal, order_on, again, receipt_for, Command}
-use Rattle.tenant_core.specs.Effects.{Decided, decided}
+use Rattle.tenant_core.specs.Effects.{Decided, Fits, decided}
 use Rattle.tenant_resources.specs.Orders.{Accepted}
-use Rattle.tenant_state.specs.Receipts.{Receipts, receipt_of, with_receipt}
+use Rattle.tenant_state.proofs.Counting.{found, grown, kept, same_bytes}
+use Rattle.tenant_state.specs.Receipts.{receipt_of}
 use Rattle.tenant_messages.specs.Reply.{refused, repeated, reply}
 use Rattle.tenant_state.specs.declared.limits.TheConstants.{RECEIPT_LIMIT}
-use Rattle.tenant_state.specs.State.{TenantState, Change, after, epoch}
+use Rattle.tenant_state.specs.State.{TenantState, Change, after, epoch, inventory_of}
 use Rattle.tenant_core.specs.Step.{decision_on}
 use Rattle.tenant_state.specs.declared.receipts.Receipt.{Receipt}
 use Rattle.tenant_messages.specs.declared.reply.Problem.{Problem}
@@ -18,49 +17,6 @@ use Rattle.tenant_messages.specs.declared.reply.Problem.TheVariants.{TenantLimit
 use Rattle.tenant_core.specs.declared.request.Action.{Action}
 use Rattle.tenant_core.specs.declared.request.Action.TheVariants as action
 use Rattle.tenant_core.specs.declared.decision.Effect.TheVariants as effect
-
--- ---- bytes
-
-same_bytes : (xs : List ℕ) → bytes_eq xs xs ≡ true
-same_bytes xs = grind (arith, bytes_eq-Decides xs xs)
-
-other_bytes : (n m k : List ℕ) → bytes_eq m k ≡ true → bytes_eq n m ≡ false → bytes_eq n k ≡ false
-other_bytes n m k same other = grind (arith, bytes_eq-Decides n k, bytes_eq-Decides n m, bytes_eq-Decides m k, same, other)
-
--- ---- a receipt that is added
-
-abbrev Entry : Type 0
-Entry = List ℕ × Receipt
-
-found_at : (o : Ordering) (n : List ℕ) (r : Receipt) (e : Entry) (es later : Receipts) → is_eq o ≡ bytes_eq n e.0 → receipt_of n later ≡ Some r
-    → receipt_of n (match_ordering o ((n, r) ∷ e ∷ es) ((e.0, r) ∷ es) (e ∷ later)) ≡ Some r
-found_at Less n r e es later same h = rw (same_bytes n) refl
-found_at Equal n r e es later same h = rw (← same) refl
-found_at Greater n r e es later same h = rw (← same) h
-
-pub found : (n : List ℕ) (r : Receipt) (es : Receipts) → receipt_of n (with_receipt n r es) ≡ Some r
-found n r [] = rw (same_bytes n) refl
-found n r (e ∷ es) = found_at (slice_cmp nat_cmp n e.0) n r e es (with_receipt n r es) (is_eq-slice_cmp n e.0) (found n r es)
-
-kept_at : (o : Ordering) (n m : List ℕ) (r : Receipt) (e : Entry) (es later : Receipts) → is_eq o ≡ bytes_eq m e.0 → bytes_eq n m ≡ false → receipt_of n later ≡ receipt_of n es
-    → receipt_of n (match_ordering o ((m, r) ∷ e ∷ es) ((e.0, r) ∷ es) (e ∷ later)) ≡ receipt_of n (e ∷ es)
-kept_at Less n m r e es later same other h = rw other refl
-kept_at Equal n m r e es later same other h = rw (other_bytes n m e.0 (sym same) other) refl
-kept_at Greater n m r e es later same other h = ap (λ o. if bytes_eq n e.0 then Some e.1 else o) h
-
-kept : (n m : List ℕ) (r : Receipt) (es : Receipts) → bytes_eq n m ≡ false → receipt_of n (with_receipt m r es) ≡ receipt_of n es
-kept n m r [] other = rw other refl
-kept n m r (e ∷ es) other = kept_at (slice_cmp nat_cmp m e.0) n m r e es (with_receipt m r es) (is_eq-slice_cmp m e.0) other (kept n m r es other)
-
-grown_at : (o : Ordering) (n : List ℕ) (r : Receipt) (e : Entry) (es later : Receipts) → is_eq o ≡ bytes_eq n e.0 → receipt_of n (e ∷ es) ≡ None
-    → (receipt_of n es ≡ None → length later ≡ suc (length es)) → length (match_ordering o ((n, r) ∷ e ∷ es) ((e.0, r) ∷ es) (e ∷ later)) ≡ suc (suc (length es))
-grown_at Less n r e es later same none h = refl
-grown_at Equal n r e es later same none h = let both : Some e.1 ≡ None = rw (← same) at none in cc
-grown_at Greater n r e es later same none h = ap suc (h (rw (← same) at none))
-
-grown : (n : List ℕ) (r : Receipt) (es : Receipts) → receipt_of n es ≡ None → length (with_receipt n r es) ≡ suc (length es)
-grown n r [] none = refl
-grown n r (e ∷ es) none = grown_at (slice_cmp nat_cmp n e.0) n r e es (with_receipt n r es) (is_eq-slice_cmp n e.0) none (grown n r es)
 
 -- ---- a changing request that is accepted
 
@@ -82,15 +38,15 @@ accepts_order k s c (Ok a) none h =
     subst (λ (x : Change). Accepts k s x (change_or_refusal k (Ok a))) is (record { new = none; number = refl; path = refl; body = refl; reply = refl })
 
 accepts_new : (k : Command) (s : TenantState) (c : Change) (full : Bool) → receipt_of k.number s.receipts ≡ None
-    → (if full then decided effect.Keep (refused TenantLimit) else change_or_refusal k (order_on k.order s)).effect ≡ effect.Change c
-    → Accepts k s c (if full then decided effect.Keep (refused TenantLimit) else change_or_refusal k (order_on k.order s))
+    → (if full then decided effect.Keep (refused TenantLimit) else change_or_refusal k (order_on k.order (inventory_of s))).effect ≡ effect.Change c
+    → Accepts k s c (if full then decided effect.Keep (refused TenantLimit) else change_or_refusal k (order_on k.order (inventory_of s)))
 accepts_new k s c true none h = cc
-accepts_new k s c false none h = accepts_order k s c (order_on k.order s) none h
+accepts_new k s c false none h = accepts_order k s c (order_on k.order (inventory_of s)) none h
 
-accepts_on : (k : Command) (s : TenantState) (c : Change) (o : Option Receipt) → receipt_of k.number s.receipts ≡ o → (on_receipt k s o).effect ≡ effect.Change c
-    → Accepts k s c (on_receipt k s o)
+accepts_on : (k : Command) (s : TenantState) (c : Change) (o : Option Receipt) → receipt_of k.number s.receipts ≡ o → (on_receipt k (inventory_of s) o).effect ≡ effect.Change c
+    → Accepts k s c (on_receipt k (inventory_of s) o)
 accepts_on k s c (Some r) is h = cc
-accepts_on k s c None is h = accepts_new k s c (nat_le RECEIPT_LIMIT (length s.receipts)) is h
+accepts_on k s c None is h = accepts_new k s c (nat_le RECEIPT_LIMIT (epoch s)) is h
 
 pub accepts : (k : Command) (s : TenantState) (c : Change) → (decision k s).effect ≡ effect.Change c → Accepts k s c (decision k s)
 accepts k s c h = accepts_on k s c (receipt_of k.number s.receipts) refl h
@@ -134,3 +90,31 @@ only_commands_change P tenant (action.Query q) s c h by = cc
 
 pub action_grows : (tenant : List ℕ) (a : Action) (s : TenantState) (c : Change) → (decision_on tenant a (Some s)).effect ≡ effect.Change c → epoch (after c s) ≡ suc (epoch s)
 action_grows tenant a s c h = only_commands_change (λ c. epoch (after c s) ≡ suc (epoch s)) tenant a s c h (λ k is. epoch_grows k s c is)
+
+-- ---- what a decision needs of the state
+
+fits_order : (k : Command) (s : TenantState) (a : Result Accepted Problem) → receipt_of k.number s.receipts ≡ None → epoch s < RECEIPT_LIMIT
+    → Fits (change_or_refusal k a).effect (Some s)
+fits_order k s (Err problem) none room = tt
+fits_order k s (Ok a) none room = record { new = none; room = room }
+
+fits_new : (k : Command) (s : TenantState) (full : Bool) → nat_le RECEIPT_LIMIT (epoch s) ≡ full → receipt_of k.number s.receipts ≡ None
+    → Fits (if full then decided effect.Keep (refused TenantLimit) else change_or_refusal k (order_on k.order (inventory_of s))).effect (Some s)
+fits_new k s true is none = tt
+fits_new k s false is none = fits_order k s (order_on k.order (inventory_of s)) none (grind (arith, nat_tests, is))
+
+fits_on : (k : Command) (s : TenantState) (o : Option Receipt) → receipt_of k.number s.receipts ≡ o → Fits (on_receipt k (inventory_of s) o).effect (Some s)
+fits_on k s (Some r) is = tt
+fits_on k s None is = fits_new k s (nat_le RECEIPT_LIMIT (epoch s)) refl is
+
+pub decision_fits : (tenant : List ℕ) (a : Action) (s : Option TenantState) → Fits (decision_on tenant a s).effect s
+decision_fits tenant action.CreateTenant None = refl
+decision_fits tenant action.CreateTenant (Some s) = tt
+decision_fits tenant action.ShowTenant None = tt
+decision_fits tenant action.ShowTenant (Some s) = tt
+decision_fits tenant action.DropTenant None = tt
+decision_fits tenant action.DropTenant (Some s) = refl
+decision_fits tenant (action.Command k) None = tt
+decision_fits tenant (action.Command k) (Some s) = fits_on k s (receipt_of k.number s.receipts) refl
+decision_fits tenant (action.Query q) None = tt
+decision_fits tenant (action.Query q) (Some s) = tt

@@ -1,5 +1,5 @@
 -- The newest version has the rule of each pool.
-use Rattle.std.proofs.Common.{◌≡◌, ℕ, suc, ◌-◌, ◌<◌, ◌==◌, List, [], ◌∷◌, ◌++◌, length, map, find, Bool, true, false, ◌&&◌, nat_le, nat_lt, if◌then◌else◌, slice_get, Option, Some, None, is_some, option_and_then, Result, Ok, Err, is_ok, refl, sym, ap, subst, arith}
+use Rattle.std.proofs.Common.{◌≡◌, ◌∙◌, ℕ, suc, ◌-◌, ◌<◌, ◌==◌, List, [], ◌∷◌, ◌++◌, length, map, find, Bool, true, false, ◌&&◌, nat_le, nat_lt, if◌then◌else◌, slice_get, Option, Some, None, is_some, option_and_then, Result, Ok, Err, is_ok, refl, sym, ap, subst, arith}
 use Rattle.std.proofs.lemmas.Bool.Decides.{nat_tests}
 use Rattle.std.specs.List.{list_all, list_any}
 use Rattle.crush_grammar.specs.declared.code.TextFault.{TextFault}
@@ -28,9 +28,9 @@ use Rattle.tenant_resources.specs.Orders.{Accepted}
 use Rattle.tenant_resources.specs.Pools as pools
 use Rattle.tenant_resources.specs.Pools.{rule_of, have_rules}
 use Rattle.tenant_state.specs.Ordered.{with_element, without}
-use Rattle.tenant_state.specs.Receipts.{receipt_of}
+use Rattle.tenant_state.specs.Receipts.{Receipts, receipt_of, with_receipt}
 use Rattle.tenant_state.specs.declared.limits.TheConstants.{POOL_LIMIT, RECEIPT_LIMIT, VERSION_LIMIT}
-use Rattle.tenant_state.specs.State.{TenantState, Made, NewVersion, NewStates, NewPool, RemovedPool, Change, after, with_made, version, newest, on_version, if_there, pool}
+use Rattle.tenant_state.specs.State.{Inventory, TenantState, Made, NewVersion, NewStates, NewPool, RemovedPool, Change, after, epoch, inventory_of, with_made, with_receipts, version, newest, on_version, if_there, pool}
 use Rattle.tenant_state.specs.declared.receipts.Receipt.{Receipt}
 
 -- ---- tests of all elements
@@ -75,38 +75,38 @@ not_zero n = grind (arith, nat_tests)
 one_less : (n : ℕ) → suc n - 1 ≡ n
 one_less n = omega arith
 
-newest_is : (vs : List Map) (m : Map) (s : TenantState) → s.versions ≡ vs ++ m ∷ [] → version (newest s) s ≡ Some m
+newest_is : (vs : List Map) (m : Map) (s : Inventory) → s.versions ≡ vs ++ m ∷ [] → version (newest s) s ≡ Some m
 newest_is vs m s is = rw (is, longer vs m, not_zero (length vs), one_less (length vs)) (at_end vs m)
 
 -- ---- what each order makes
 
 record Makes (k : Command) (s : TenantState) (c : Change) : Type 0 where
   pub accepted : Accepted
-  pub is : order_on k.order s ≡ Ok accepted
+  pub is : order_on k.order (inventory_of s) ≡ Ok accepted
   pub made : c.made ≡ accepted.made
 
-makes_order : (k : Command) (s : TenantState) (c : Change) (a : Result Accepted Problem) → order_on k.order s ≡ a → (change_or_refusal k a).effect ≡ effect.Change c → Makes k s c
+makes_order : (k : Command) (s : TenantState) (c : Change) (a : Result Accepted Problem) → order_on k.order (inventory_of s) ≡ a → (change_or_refusal k a).effect ≡ effect.Change c → Makes k s c
 makes_order k s c (Err problem) is h = cc
 makes_order k s c (Ok a) is h = let made : a.made ≡ c.made = cc in record { accepted = a; is = is; made = sym made }
 
 makes_new : (k : Command) (s : TenantState) (c : Change) (full : Bool)
-    → (if full then decided effect.Keep (refused TenantLimit) else change_or_refusal k (order_on k.order s)).effect ≡ effect.Change c → Makes k s c
+    → (if full then decided effect.Keep (refused TenantLimit) else change_or_refusal k (order_on k.order (inventory_of s))).effect ≡ effect.Change c → Makes k s c
 makes_new k s c true h = cc
-makes_new k s c false h = makes_order k s c (order_on k.order s) refl h
+makes_new k s c false h = makes_order k s c (order_on k.order (inventory_of s)) refl h
 
-makes_on : (k : Command) (s : TenantState) (c : Change) (o : Option Receipt) → (on_receipt k s o).effect ≡ effect.Change c → Makes k s c
+makes_on : (k : Command) (s : TenantState) (c : Change) (o : Option Receipt) → (on_receipt k (inventory_of s) o).effect ≡ effect.Change c → Makes k s c
 makes_on k s c (Some r) h = cc
-makes_on k s c None h = makes_new k s c (nat_le RECEIPT_LIMIT (length s.receipts)) h
+makes_on k s c None h = makes_new k s c (nat_le RECEIPT_LIMIT (epoch s)) h
 
 makes : (k : Command) (s : TenantState) (c : Change) → (decision k s).effect ≡ effect.Change c → Makes k s c
 makes k s c h = makes_on k s c (receipt_of k.number s.receipts) h
 
 -- ---- each of them leaves the rules of pools in the newest version
 
-abbrev Leaves : TenantState → Made → Type 0
+abbrev Leaves : Inventory → Made → Type 0
 Leaves s made = have_rules s ≡ true → have_rules (with_made made s) ≡ true
 
-import_read : (s : TenantState) (m : Map) (a : Accepted) (fit : Bool) → list_all (λ p. is_some (rule_numbered m p.rule)) s.pools ≡ fit
+import_read : (s : Inventory) (m : Map) (a : Accepted) (fit : Bool) → list_all (λ p. is_some (rule_numbered m p.rule)) s.pools ≡ fit
     → (if fit then Ok (record { made = NewVersion m; status = Created; body = maps.import_reply s }) else Err RuleInUse) ≡ Ok a
     → Leaves s a.made
 import_read s m a false fits h had = cc
@@ -115,26 +115,26 @@ import_read s m a true fits h had =
     let new = newest_is s.versions m (with_made (NewVersion m) s) refl in
     subst (λ x. have_rules (with_made x s) ≡ true) made (rw new fits)
 
-import_text : (s : TenantState) (a : Accepted) (r : Result Map TextFault) → maps.on_text s r ≡ Ok a → Leaves s a.made
+import_text : (s : Inventory) (a : Accepted) (r : Result Map TextFault) → maps.on_text s r ≡ Ok a → Leaves s a.made
 import_text s a (Err fault) h = cc
 import_text s a (Ok m) h = import_read s m a (list_all (λ p. is_some (rule_numbered m p.rule)) s.pools) refl h
 
-import_at : (text : List ℕ) (s : TenantState) (a : Accepted) (full : Bool) → (if full then Err TenantLimit else maps.on_text s (map_of_text text)) ≡ Ok a → Leaves s a.made
+import_at : (text : List ℕ) (s : Inventory) (a : Accepted) (full : Bool) → (if full then Err TenantLimit else maps.on_text s (map_of_text text)) ≡ Ok a → Leaves s a.made
 import_at text s a true h = cc
 import_at text s a false h = import_text s a (map_of_text text) h
 
-devices_at : (cs : List DeviceChange) (s : TenantState) (a : Accepted) (known : Bool)
+devices_at : (cs : List DeviceChange) (s : Inventory) (a : Accepted) (known : Bool)
     → (if known then Ok (record { made = NewStates (map (devices.changed s.devices) cs); status = Done; body = devices.devices_reply (length cs) s }) else Err NoDevice) ≡ Ok a
     → Leaves s a.made
 devices_at cs s a false h had = cc
 devices_at cs s a true h had =
     let made : NewStates (map (devices.changed s.devices) cs) ≡ a.made = cc in subst (λ x. have_rules (with_made x s) ≡ true) made had
 
-devices_on : (cs : List DeviceChange) (s : TenantState) (a : Accepted) (o : Option Map) → devices.on_version cs s o ≡ Ok a → Leaves s a.made
+devices_on : (cs : List DeviceChange) (s : Inventory) (a : Accepted) (o : Option Map) → devices.on_version cs s o ≡ Ok a → Leaves s a.made
 devices_on cs s a None h = cc
 devices_on cs s a (Some m) h = devices_at cs s a (list_all (λ c. devices.has_device m c.device) cs) h
 
-pool_made : (p : PoolParts) (s : TenantState) (a : Accepted) (full : Bool) → is_some (rule_of s p) ≡ true
+pool_made : (p : PoolParts) (s : Inventory) (a : Accepted) (full : Bool) → is_some (rule_of s p) ≡ true
     → (if full then Err TenantLimit else Ok (record { made = NewPool p; status = Created; body = pools.creation p.id s })) ≡ Ok a
     → Leaves s a.made
 pool_made p s a true ruled h had = cc
@@ -142,38 +142,44 @@ pool_made p s a false ruled h had =
     let made : NewPool p ≡ a.made = cc in
     subst (λ x. have_rules (with_made x s) ≡ true) made (all_with (λ q. is_some (rule_of s q)) (λ q. q.id) p s.pools ruled had)
 
-pool_taken : (p : PoolParts) (s : TenantState) (a : Accepted) (taken : Bool) → is_some (rule_of s p) ≡ true
+pool_taken : (p : PoolParts) (s : Inventory) (a : Accepted) (taken : Bool) → is_some (rule_of s p) ≡ true
     → (if taken then Err Exists else (if nat_le POOL_LIMIT (length s.pools) then Err TenantLimit
     else Ok (record { made = NewPool p; status = Created; body = pools.creation p.id s }))) ≡ Ok a → Leaves s a.made
 pool_taken p s a true ruled h = cc
 pool_taken p s a false ruled h = pool_made p s a (nat_le POOL_LIMIT (length s.pools)) ruled h
 
-pool_rule : (p : PoolParts) (s : TenantState) (a : Accepted) (o : Option Rule) → rule_of s p ≡ o → pools.on_rule p s o ≡ Ok a → Leaves s a.made
+pool_rule : (p : PoolParts) (s : Inventory) (a : Accepted) (o : Option Rule) → rule_of s p ≡ o → pools.on_rule p s o ≡ Ok a → Leaves s a.made
 pool_rule p s a None is h = cc
 pool_rule p s a (Some r) is h = pool_taken p s a (list_any (pools.is_like p) s.pools) (ap is_some is) h
 
-pool_on : (p : PoolParts) (s : TenantState) (a : Accepted) (o : Option Map) → version (newest s) s ≡ o → pools.on_version p s o ≡ Ok a → Leaves s a.made
+pool_on : (p : PoolParts) (s : Inventory) (a : Accepted) (o : Option Map) → version (newest s) s ≡ o → pools.on_version p s o ≡ Ok a → Leaves s a.made
 pool_on p s a None is h = cc
 pool_on p s a (Some m) is h = pool_rule p s a (rule_numbered m p.rule) (ap (λ v. option_and_then (λ m. rule_numbered m p.rule) v) is) h
 
-removal_on : (id : ℕ) (s : TenantState) (a : Accepted) (o : Option PoolParts) → pools.on_pool id s o ≡ Ok a → Leaves s a.made
+removal_on : (id : ℕ) (s : Inventory) (a : Accepted) (o : Option PoolParts) → pools.on_pool id s o ≡ Ok a → Leaves s a.made
 removal_on id s a None h had = cc
 removal_on id s a (Some p) h had =
     let made : RemovedPool id ≡ a.made = cc in
     subst (λ x. have_rules (with_made x s) ≡ true) made (all_without (λ q. is_some (rule_of s q)) (λ q. q.id) id s.pools had)
 
-leaves : (o : Order) (s : TenantState) (a : Accepted) → order_on o s ≡ Ok a → Leaves s a.made
+leaves : (o : Order) (s : Inventory) (a : Accepted) → order_on o s ≡ Ok a → Leaves s a.made
 leaves (ImportMap text) s a h = import_at text s a (nat_le VERSION_LIMIT (length s.versions)) h
 leaves (ChangeDevices cs) s a h = devices_on cs s a (version (newest s) s) h
 leaves (CreatePool p) s a h = pool_on p s a (version (newest s) s) refl h
 leaves (RemovePool id) s a h = removal_on id s a (pool id s) h
 
-command_leaves : (k : Command) (s : TenantState) (c : Change) → (decision k s).effect ≡ effect.Change c → have_rules s ≡ true → have_rules (after c s) ≡ true
-command_leaves k s c h had =
-    let m = makes k s c h in subst (λ x. have_rules (with_made x s) ≡ true) (sym m.made) (leaves k.order s m.accepted m.is had)
+-- `with_receipts` keeps what the rules of pools are found in
+same_rules : (i : Inventory) (receipts : Receipts) → have_rules (inventory_of (with_receipts i receipts)) ≡ have_rules i
+same_rules i receipts = refl
 
-pub action_leaves : (tenant : List ℕ) (a : Action) (s : TenantState) (c : Change) → (decision_on tenant a (Some s)).effect ≡ effect.Change c → have_rules s ≡ true → have_rules (after c s) ≡ true
-action_leaves tenant a s c h had = only_commands_change (λ c. have_rules (after c s) ≡ true) tenant a s c h (λ k is. command_leaves k s c is had)
+command_leaves : (k : Command) (s : TenantState) (c : Change) → (decision k s).effect ≡ effect.Change c → have_rules (inventory_of s) ≡ true → have_rules (inventory_of (after c s)) ≡ true
+command_leaves k s c h had =
+    let m = makes k s c h in
+    same_rules (with_made c.made (inventory_of s)) (with_receipt c.number c.receipt s.receipts)
+    ∙ subst (λ x. have_rules (with_made x (inventory_of s)) ≡ true) (sym m.made) (leaves k.order (inventory_of s) m.accepted m.is had)
+
+pub action_leaves : (tenant : List ℕ) (a : Action) (s : TenantState) (c : Change) → (decision_on tenant a (Some s)).effect ≡ effect.Change c → have_rules (inventory_of s) ≡ true → have_rules (inventory_of (after c s)) ≡ true
+action_leaves tenant a s c h had = only_commands_change (λ c. have_rules (inventory_of (after c s)) ≡ true) tenant a s c h (λ k is. command_leaves k s c is had)
 
 -- ---- so each group is placed
 
@@ -186,15 +192,15 @@ found-passes t test (y ∷ ys) x all h =
     at true one rest is = let same : y ≡ x = cc in subst (λ z. t z ≡ true) same one
     at false one rest is = rest is
 
-ruled : (m : Map) (s : TenantState) (p : PoolParts) (group : ℕ) (o : Option Rule) → rule_numbered m p.rule ≡ o → is_some o ≡ true → is_ok (groups.on_map group (on_version s p m)) ≡ true
+ruled : (m : Map) (s : Inventory) (p : PoolParts) (group : ℕ) (o : Option Rule) → rule_numbered m p.rule ≡ o → is_some o ≡ true → is_ok (groups.on_map group (on_version s p m)) ≡ true
 ruled m s p group None is h = cc
 ruled m s p group (Some r) is h = rw is (rw is refl)
 
-placed_on : (s : TenantState) (p : PoolParts) (group : ℕ) (o : Option Map) → is_some (option_and_then (λ m. rule_numbered m p.rule) o) ≡ true → is_ok (groups.on_map group (if_there s p o)) ≡ true
+placed_on : (s : Inventory) (p : PoolParts) (group : ℕ) (o : Option Map) → is_some (option_and_then (λ m. rule_numbered m p.rule) o) ≡ true → is_ok (groups.on_map group (if_there s p o)) ≡ true
 placed_on s p group None h = cc
 placed_on s p group (Some m) h = ruled m s p group (rule_numbered m p.rule) refl h
 
-pub groups_are_placed : (s : TenantState) (id group : ℕ) (p : PoolParts) → have_rules s ≡ true → pool id s ≡ Some p → group < p.pg_num → is_ok (groups.placed s p group) ≡ true
+pub groups_are_placed : (s : Inventory) (id group : ℕ) (p : PoolParts) → have_rules s ≡ true → pool id s ≡ Some p → group < p.pg_num → is_ok (groups.placed s p group) ≡ true
 groups_are_placed s id group p had is below =
     let inside : nat_lt group p.pg_num ≡ true = grind (arith, nat_tests, below) in
     rw inside (placed_on s p group (version (newest s) s) (found-passes (λ q. is_some (rule_of s q)) (λ q. q.id == id) s.pools p had is))

@@ -1,6 +1,6 @@
 -- A run goes on.
 use Rattle.std.proofs.Common.{◌≡◌, ℕ, zero, suc, ◌&&◌, ◌==◌, inl, inr, List, [], ◌∷◌, ◌++◌, map, filter, zip, length, Bool, true, false, not, cond, Option, refl, ap, sym, ◌∙◌, arith, length-append}
-use Rattle.std.proofs.lemmas.List.{map-append}
+use Rattle.std.proofs.lemmas.List.{append-nil, map-append}
 use Rattle.std.proofs.lemmas.List.Elements.{filter-append, All-append}
 use Rattle.std.specs.List.{All, AllZip}
 use Rattle.tenant_messages.specs.declared.call.Call.{Call}
@@ -10,16 +10,18 @@ use Rattle.tenant_core.specs.Alone.{alone, is_answered, answered, calls_answered
 use Rattle.tenant_core.specs.States.{States, Same, Follows, Serves, ServesCallOfNobody, ServesCallOfDamaged, NamesCause, MeetsDefinition}
 use Rattle.tenant_core.specs.Step.{step, is_of}
 use Rattle.tenant_core.proofs.Replying.{status-unavailable}
+use Rattle.tenant_core.specs.StoreReply.{IsUnavailable}
 
 -- ---- the empty run
 
-pub run_none : (old new : States) → Same old new → MeetsDefinition old new [] []
-run_none old new same = record {
+pub run_none : (latched : Bool) (old new : States) → (latched ≡ false → Same old new) → MeetsDefinition latched old new [] []
+run_none latched old new same = record {
   count = refl;
   headline = λ t s has. refl;
-  leaves = λ t s has. (same t s).0 has;
+  leaves = λ open_yet t s has. (same open_yet t s).0 has;
   nobody = tt;
-  damaged = λ t bad. (λ s has. bad s ((same t s).1 has), tt);
+  damaged = λ t bad. tt;
+  stays = λ open_yet t bad s has. bad s ((same open_yet t s).1 has);
   causes = λ k d lt. absurd (omega arith);
 }
 
@@ -93,13 +95,14 @@ all_one : (P : Reply → Type 0) (r : Reply) → P r → All P (r ∷ [])
 all_one P r h zero d lt = h
 all_one P r h (suc k) d lt = absurd (omega arith)
 
-pub run_one : (old new : States) (c : Call) (r : Reply) → Serves c old new r → MeetsDefinition old new (c ∷ []) (r ∷ [])
+pub run_one : (old new : States) (c : Call) (r : Reply) → Serves c old new r → MeetsDefinition false old new (c ∷ []) (r ∷ [])
 run_one old new c r by = record {
   count = refl;
   headline = λ t s has. one-headline t s c r (new t) (counts t c r) (comes old new c r by t s has);
-  leaves = λ t s has. one-leaves t s c r (new t) (counts t c r) (comes old new c r by t s has);
+  leaves = λ _ t s has. one-leaves t s c r (new t) (counts t c r) (comes old new c r by t s has);
   nobody = (serves-nobody old new c r by, tt);
-  damaged = λ t bad. (still-damaged old new c r t by bad, (serves-damaged old new c r t by bad, tt));
+  damaged = λ t bad. (serves-damaged old new c r t by bad, tt);
+  stays = λ _ t bad. still-damaged old new c r t by bad;
   causes = all_one NamesCause r (names-cause old new c r by);
 }
 
@@ -131,8 +134,9 @@ answered-append : (t : List ℕ) (cs ds : List Call) (rs qs : List Reply) → le
 answered-append t cs ds rs qs h =
     let test = λ (p : Call × Reply). counts t p.0 p.1 in ap (filter test) (zip-append cs ds rs qs h) ∙ filter-append test (zip cs rs) (zip ds qs)
 
-pub run_both : (old mid new : States) (cs : List Call) (rs : List Reply) (ds : List Call) (qs : List Reply) → MeetsDefinition old mid cs rs → MeetsDefinition mid new ds qs → MeetsDefinition old new (cs ++ ds) (rs ++ qs)
-run_both old mid new cs rs ds qs first second =
+pub run_both : (latched : Bool) (old mid new : States) (cs : List Call) (rs : List Reply) (ds : List Call) (qs : List Reply) → MeetsDefinition false old mid cs rs
+    → MeetsDefinition latched mid new ds qs → MeetsDefinition latched old new (cs ++ ds) (rs ++ qs)
+run_both latched old mid new cs rs ds qs first second =
     let both_calls : (t : List ℕ) → calls_answered t (cs ++ ds) (rs ++ qs) ≡ calls_answered t cs rs ++ calls_answered t ds qs =
     λ t. ap (map (λ (p : Call × Reply). p.0)) (answered-append t cs ds rs qs first.count) ∙ map-append (λ (p : Call × Reply). p.0) (answered t cs rs) (answered t ds qs) in
     let both_replies : (t : List ℕ) → replies_answered t (cs ++ ds) (rs ++ qs) ≡ replies_answered t cs rs ++ replies_answered t ds qs =
@@ -146,20 +150,57 @@ run_both old mid new cs rs ds qs first second =
             both_calls t,
             alone-replies s (calls_answered t cs rs) (calls_answered t ds qs),
             first.headline t s has,
-            second.headline t between (first.leaves t s has),
+            second.headline t between (first.leaves refl t s has),
           ) refl;
-      leaves = λ t s has.
+      leaves = λ open_yet t s has.
           let between = (alone s (calls_answered t cs rs)).state in
-          rw (both_calls t, alone-state s (calls_answered t cs rs) (calls_answered t ds qs)) (second.leaves t between (first.leaves t s has));
+          rw (both_calls t, alone-state s (calls_answered t cs rs) (calls_answered t ds qs)) (second.leaves open_yet t between (first.leaves refl t s has));
       nobody = all_zip-append ServesCallOfNobody cs ds rs qs first.nobody second.nobody;
-      damaged = λ t bad.
-          let one = first.damaged t bad in
-          let two = second.damaged t one.0 in
-          (two.0, all_zip-append (ServesCallOfDamaged t) cs ds rs qs one.1 two.1);
+      damaged = λ t bad. all_zip-append (ServesCallOfDamaged t) cs ds rs qs (first.damaged t bad) (second.damaged t (first.stays refl t bad));
+      stays = λ open_yet t bad. second.stays open_yet t (first.stays refl t bad);
       causes = All-append NamesCause rs qs first.causes second.causes;
     }
 
 -- a run, and one call more
-pub run_more : (old mid new : States) (cs : List Call) (rs : List Reply) (c : Call) (r : Reply) → MeetsDefinition old mid cs rs → Serves c mid new r
-    → MeetsDefinition old new (cs ++ c ∷ []) (rs ++ r ∷ [])
-run_more old mid new cs rs c r before served = run_both old mid new cs rs (c ∷ []) (r ∷ []) before (run_one mid new c r served)
+pub run_more : (old mid new : States) (cs : List Call) (rs : List Reply) (c : Call) (r : Reply) → MeetsDefinition false old mid cs rs → Serves c mid new r
+    → MeetsDefinition false old new (cs ++ c ∷ []) (rs ++ r ∷ [])
+run_more old mid new cs rs c r before served = run_both false old mid new cs rs (c ∷ []) (r ∷ []) before (run_one mid new c r served)
+
+-- ---- a call to a store that is latched, or latches
+
+not_counted : (t : List ℕ) (c : Call) (r : Reply) → IsUnavailable r → answered t (c ∷ []) (r ∷ []) ≡ []
+not_counted t c r gone = at (is_of t c)
+  where
+    no : is_answered r ≡ false
+    no = ap (λ n. not (n == 503)) (status-unavailable r gone)
+
+    at : (own : Bool) → cond {A = List (Call × Reply)} (own && is_answered r) ((c, r) ∷ []) [] ≡ []
+    at true = ap (λ b. cond {A = List (Call × Reply)} b ((c, r) ∷ []) []) no
+    at false = refl
+
+-- it counts for no tenant
+same_answered : (t : List ℕ) (cs : List Call) (rs : List Reply) (c : Call) (r : Reply) → length rs ≡ length cs → IsUnavailable r
+    → answered t (cs ++ c ∷ []) (rs ++ r ∷ []) ≡ answered t cs rs
+same_answered t cs rs c r count gone =
+    answered-append t cs (c ∷ []) rs (r ∷ []) count ∙ ap (λ ps. answered t cs rs ++ ps) (not_counted t c r gone) ∙ append-nil (answered t cs rs)
+
+pub run_latched : (latched : Bool) (old mid new : States) (cs : List Call) (rs : List Reply) (c : Call) (r : Reply) → MeetsDefinition latched old mid cs rs → IsUnavailable r
+    → MeetsDefinition true old new (cs ++ c ∷ []) (rs ++ r ∷ [])
+run_latched latched old mid new cs rs c r before gone = record {
+  count = let few = before.count in simp length-append (omega arith);
+  headline = λ t s has.
+      let same = same_answered t cs rs c r before.count gone in
+      ap (map (λ (p : Call × Reply). p.1)) same ∙ before.headline t s has ∙ sym (ap (λ ps. (alone s (map (λ (p : Call × Reply). p.0) ps)).replies) same);
+  leaves = λ open_yet. let both : true ≡ false = open_yet in cc;
+  nobody = all_zip-append ServesCallOfNobody cs (c ∷ []) rs (r ∷ []) before.nobody (λ _. inr gone, tt);
+  damaged = λ t bad. all_zip-append (ServesCallOfDamaged t) cs (c ∷ []) rs (r ∷ []) (before.damaged t bad) (λ _. inr gone, tt);
+  stays = λ open_yet. let both : true ≡ false = open_yet in cc;
+  causes = All-append NamesCause rs (r ∷ []) before.causes (all_one NamesCause r (λ _. gone));
+}
+
+-- a run, and one call more, whatever the store did; a latched store stays so
+pub run_on : (was is : Bool) (old mid new : States) (cs : List Call) (rs : List Reply) (c : Call) (r : Reply) → MeetsDefinition was old mid cs rs
+    → (is ≡ false → Serves c mid new r) → (is ≡ true → IsUnavailable r) → (was ≡ true → is ≡ true) → MeetsDefinition is old new (cs ++ c ∷ []) (rs ++ r ∷ [])
+run_on was true old mid new cs rs c r before serves silent rests = run_latched was old mid new cs rs c r before (silent refl)
+run_on false false old mid new cs rs c r before serves silent rests = run_more old mid new cs rs c r before (serves refl)
+run_on true false old mid new cs rs c r before serves silent rests = let both : false ≡ true = rests refl in cc

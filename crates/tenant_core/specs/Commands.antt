@@ -1,5 +1,5 @@
 -- Changing requests: each has a request number, and acts once.
-use Rattle.std.specs.Prelude.{ℕ, List, length, nat_le, if◌then◌else◌, Option, Some, None, Result, Ok, Err}
+use Rattle.std.specs.Prelude.{ℕ, List, nat_le, if◌then◌else◌, Option, Some, None, Result, Ok, Err}
 use Rattle.serde_json.specs.Written.{compact_text}
 use Rattle.tenant_core.specs.Effects.{Decided, decided}
 use Rattle.tenant_resources.specs.Orders.{Accepted}
@@ -9,7 +9,7 @@ use Rattle.tenant_resources.specs.Pools as pools
 use Rattle.tenant_state.specs.Receipts.{receipt_of, is_repeat}
 use Rattle.tenant_messages.specs.Reply.{Answer, refused, answered, repeated}
 use Rattle.tenant_state.specs.declared.limits.TheConstants.{RECEIPT_LIMIT}
-use Rattle.tenant_state.specs.State.{TenantState}
+use Rattle.tenant_state.specs.State.{Inventory, TenantState, inventory_of}
 use Rattle.tenant_core.specs.declared.commands.Order.{Order}
 use Rattle.tenant_core.specs.declared.commands.Order.TheVariants.{ImportMap, ChangeDevices, CreatePool, RemovePool}
 use Rattle.tenant_state.specs.declared.receipts.Receipt.{Receipt}
@@ -25,11 +25,11 @@ pub record Command : Type 0 where
   pub order : Order
 
 -- what an order does, or why nothing: the table of all orders
-abbrev pub order_on : Order → TenantState → Result Accepted Problem
-order_on (ImportMap text) state = maps.imported text state
-order_on (ChangeDevices changes) state = devices.devices_changed changes state
-order_on (CreatePool pool) state = pools.created pool state
-order_on (RemovePool id) state = pools.removed id state
+abbrev pub order_on : Order → Inventory → Result Accepted Problem
+order_on (ImportMap text) inventory = maps.imported text inventory
+order_on (ChangeDevices changes) inventory = devices.devices_changed changes inventory
+order_on (CreatePool pool) inventory = pools.created pool inventory
+order_on (RemovePool id) inventory = pools.removed id inventory
 
 -- ---- once
 
@@ -48,11 +48,12 @@ abbrev pub again : Command → Receipt → Answer
 again command receipt =
     if is_repeat command.path command.body receipt then repeated receipt.status receipt.reply else refused RequestReused
 
-abbrev pub on_receipt : Command → TenantState → Option Receipt → Decided
-on_receipt command state (Some receipt) = decided Keep (again command receipt)
-on_receipt command state None =
-    if nat_le RECEIPT_LIMIT (length state.receipts) then decided Keep (refused TenantLimit)
-    else change_or_refusal command (order_on command.order state)
+-- from what the tenant has, and from the receipt of the request number
+abbrev pub on_receipt : Command → Inventory → Option Receipt → Decided
+on_receipt command inventory (Some receipt) = decided Keep (again command receipt)
+on_receipt command inventory None =
+    if nat_le RECEIPT_LIMIT inventory.epoch then decided Keep (refused TenantLimit)
+    else change_or_refusal command (order_on command.order inventory)
 
 abbrev pub decision : Command → TenantState → Decided
-decision command state = on_receipt command state (receipt_of command.number state.receipts)
+decision command state = on_receipt command (inventory_of state) (receipt_of command.number state.receipts)

@@ -2,7 +2,7 @@
 use Rattle.std.specs.Prelude.{◌≡◌, Option, Some, None, option_map, IsSome}
 use Rattle.tenant_messages.specs.Reply.{Answer, refused}
 use Rattle.tenant_state.specs.State as state
-use Rattle.tenant_state.specs.State.{TenantState, fresh, after}
+use Rattle.tenant_state.specs.State.{CanMake, Inventory, TenantState, fresh, after}
 use Rattle.tenant_messages.specs.declared.reply.Problem.TheVariants.{NoTenant}
 use Rattle.tenant_core.specs.declared.decision.Effect.{Effect}
 use Rattle.tenant_core.specs.declared.decision.Effect.TheVariants.{Keep, Create, Change, Remove}
@@ -19,11 +19,13 @@ abbrev pub effect_of : Option state.Change → Effect
 effect_of None = Keep
 effect_of (Some change) = Change change
 
--- only an absent tenant is created, and only one that exists is changed or removed
+-- only an absent tenant is created, and only one that exists is removed, or changed, by a change
+-- that its state can make
 abbrev pub Fits : Effect → Option TenantState → Type 0
 Fits Keep state = Unit {0}
 Fits Create state = state ≡ None
-Fits (Change change) state = IsSome state
+Fits (Change change) None = ⊥
+Fits (Change change) (Some state) = CanMake change state
 Fits Remove state = IsSome state
 
 -- ---- decisions
@@ -37,6 +39,6 @@ abbrev pub decided : Effect → Answer → Decided
 decided effect answer = record { effect = effect; answer = answer }
 
 -- a decision that needs a tenant that exists
-abbrev pub if_present : Option TenantState → (TenantState → Decided) → Decided
+abbrev pub if_present : Option Inventory → (Inventory → Decided) → Decided
 if_present None decide = decided Keep (refused NoTenant)
-if_present (Some state) decide = decide state
+if_present (Some inventory) decide = decide inventory

@@ -9,15 +9,15 @@ use Rattle.tenant_resources.specs.Picks as picks
 use Rattle.tenant_resources.specs.RuleTests as rule_tests
 use Rattle.tenant_core.specs.declared.queries.Query.{Query}
 use Rattle.tenant_core.specs.declared.queries.Query.TheVariants as query
-use Rattle.tenant_state.specs.State.{TenantState}
+use Rattle.tenant_state.specs.State.{Inventory}
 
 -- the answer to a query: the table of all queries
-abbrev pub answer : Query → TenantState → Answer
-answer (query.Version v) state = maps.answer v state
-answer (query.Group p g) state = groups.group_answer p g state
-answer (query.Object p name) state = groups.object_answer p name state
-answer (query.Usage p) state = usage.usage_answer p state
-answer (query.Moves p v w) state = moves.moves_answer p v w state
-answer (query.Impact p d) state = impact.impact_answer p d state
-answer (query.Pick pick) state = picks.answer pick
-answer (query.Test test) state = rule_tests.answer test state
+abbrev pub answer : Query → Inventory → Answer
+answer (query.Version v) inventory = maps.answer v inventory
+answer (query.Group p g) inventory = groups.group_answer p g inventory
+answer (query.Object p name) inventory = groups.object_answer p name inventory
+answer (query.Usage p) inventory = usage.usage_answer p inventory
+answer (query.Moves p v w) inventory = moves.moves_answer p v w inventory
+answer (query.Impact p d) inventory = impact.impact_answer p d inventory
+answer (query.Pick pick) inventory = picks.answer pick
+answer (query.Test test) inventory = rule_tests.answer test inventory

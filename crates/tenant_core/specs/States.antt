@@ -1,12 +1,12 @@
 -- What a reply, and a run, say of the states of all tenants.
-use Rattle.std.specs.Prelude.{ℕ, ◌≡◌, ◌⊎◌, ◌↔◌, List, length, true, false, Option, None}
+use Rattle.std.specs.Prelude.{ℕ, ◌≡◌, ◌⊎◌, ◌↔◌, List, length, Bool, true, false, Option, None, option_map}
 use Rattle.std.specs.List.{All, AllZip}
 use Rattle.tenant_core.specs.Alone.{alone, is_answered, replies_answered, calls_answered}
 use Rattle.tenant_core.specs.Step.{step, is_of, tenant_of}
 use Rattle.tenant_core.specs.StoreReply.{IsUnavailable, reply_where_damaged}
 use Rattle.tenant_messages.specs.declared.call.Call.{Call}
 use Rattle.tenant_messages.specs.declared.reply.Reply.{Reply}
-use Rattle.tenant_state.specs.State.{TenantState}
+use Rattle.tenant_state.specs.State.{Inventory, TenantState, inventory_of}
 
 -- ---- states
 
@@ -22,6 +22,40 @@ IsDamaged states t = (s : Option TenantState) → ¬ states t s
 -- each name has the state that it had, and no other
 abbrev pub Same : States → States → Type 0
 Same old new = (t : List ℕ) (s : Option TenantState) → old t s ↔ new t s
+
+-- what a store finds of a name: what its state has, or none where it is absent
+abbrev pub HasInventory : States → List ℕ → Option Inventory → Type 0
+HasInventory states t found = (s : Option TenantState) × states t s × (found ≡ option_map inventory_of s)
+
+-- ---- stops
+
+-- what an opening of a store may find of a name
+pub data Found : Type 0 where
+  Damaged : Found  -- data of no state
+  HasState : Option TenantState → Found  -- a state, or none where the tenant is absent
+
+-- what an opening may find of each name
+abbrev pub Outcomes : Type 1
+Outcomes = List ℕ → Found → Type 0
+
+abbrev pub Shows : States → List ℕ → Found → Type 0
+Shows states t Damaged = IsDamaged states t
+Shows states t (HasState s) = states t s
+
+-- an opening finds each name as it was
+abbrev pub LeavesAsItWas : States → Outcomes → Type 0
+LeavesAsItWas old left = (t : List ℕ) (found : Found) → left t found → Shows old t found
+
+-- or with this name in this state
+abbrev pub LeavesAsItWasOr : List ℕ → Option TenantState → States → Outcomes → Type 0
+LeavesAsItWasOr name s old left =
+    (t : List ℕ) (found : Found) → left t found → Shows old t found ⊎ ((t ≡ name) × (found ≡ HasState s))
+
+-- or with the call's tenant in the state that the call's step leaves
+abbrev pub LeavesStep : Call → States → Outcomes → Type 0
+LeavesStep call old left =
+    (t : List ℕ) (found : Found) → left t found
+    → Shows old t found ⊎ ((is_of t call ≡ true) × (s : Option TenantState) × old t s × (found ≡ HasState (step call s).state))
 
 -- ---- one reply
 
@@ -68,19 +102,24 @@ ServesCallsOfNobody calls replies = AllZip ServesCallOfNobody calls replies
 abbrev pub ServesCallOfDamaged : List ℕ → Call → Reply → Type 0
 ServesCallOfDamaged t call reply = is_of t call ≡ true → (reply ≡ reply_where_damaged call) ⊎ IsUnavailable reply
 
--- each damaged tenant stays so, and its calls are served so
-abbrev pub KeepsDamaged : States → States → List Call → List Reply → Type 0
-KeepsDamaged old new calls replies = (t : List ℕ) → IsDamaged old t → IsDamaged new t × AllZip (ServesCallOfDamaged t) calls replies
+-- the calls of each damaged tenant are served so
+abbrev pub ServesCallsOfDamaged : States → List Call → List Reply → Type 0
+ServesCallsOfDamaged old calls replies = (t : List ℕ) → IsDamaged old t → AllZip (ServesCallOfDamaged t) calls replies
+
+-- each damaged tenant stays so
+abbrev pub StaysDamaged : States → States → Type 0
+StaysDamaged old new = (t : List ℕ) → IsDamaged old t → IsDamaged new t
 
 -- each reply of the status 503 is one of the two
 abbrev pub NamesCause : Reply → Type 0
 NamesCause reply = reply.status ≡ 503 → IsUnavailable reply
 
--- a run: one reply for each call, the headline, and what it leaves
-pub record MeetsDefinition (old new : States) (calls : List Call) (replies : List Reply) : Type 0 where
+-- a run: one reply for each call, the headline, and what it leaves where the store isn't latched
+pub record MeetsDefinition (is_latched : Bool) (old new : States) (calls : List Call) (replies : List Reply) : Type 0 where
   pub count : length replies ≡ length calls
   pub headline : Headline old calls replies
-  pub leaves : Leaves old new calls replies
+  pub leaves : is_latched ≡ false → Leaves old new calls replies
   pub nobody : ServesCallsOfNobody calls replies
-  pub damaged : KeepsDamaged old new calls replies
+  pub damaged : ServesCallsOfDamaged old calls replies
+  pub stays : is_latched ≡ false → StaysDamaged old new
   pub causes : All NamesCause replies

@@ -1,6 +1,6 @@
 -- The service as one tenant sees it: one call on the state of that tenant. No other tenant, store
 -- or table is in it.
-use Rattle.std.specs.Prelude.{ℕ, List, Bool, false, Option, option_and_then, Result, Ok, Err}
+use Rattle.std.specs.Prelude.{ℕ, List, Bool, false, Option, None, option_map, option_and_then, Result, Ok, Err}
 use Rattle.std.specs.Option.{option_map_or}
 use Rattle.std.specs.Str.{bytes_eq}
 use Rattle.tenant_core.specs.Commands as commands
@@ -16,18 +16,32 @@ use Rattle.tenant_messages.specs.Reply.{refused, reply, success}
 use Rattle.tenant_messages.specs.declared.call.Call.{Call}
 use Rattle.tenant_messages.specs.declared.reply.Problem.{Problem}
 use Rattle.tenant_messages.specs.declared.reply.Reply.{Reply}
-use Rattle.tenant_state.specs.State.{TenantState}
+use Rattle.tenant_state.specs.Receipts.{receipt_of}
+use Rattle.tenant_state.specs.State.{Inventory, TenantState, inventory_of}
+use Rattle.tenant_state.specs.declared.receipts.Receipt.{Receipt}
 
 -- ---- one request
 
--- the decision on an action, from the state of its tenant, or from its absence. A query keeps the
--- state
+-- the decision on an action, from what its tenant has, or from its absence, and from the receipt of
+-- its request number, if it has one. A query keeps the state
+abbrev pub decision_from : List ℕ → Action → Option Inventory → Option Receipt → Decided
+decision_from tenant CreateTenant found receipt = tenants.created_on tenant found
+decision_from tenant ShowTenant found receipt = if_present found (λ inventory. decided Keep (success (tenants.summary tenant inventory)))
+decision_from tenant DropTenant found receipt = if_present found (λ inventory. decided Remove (success (tenants.removal tenant)))
+decision_from tenant (Command command) found receipt = if_present found (λ inventory. commands.on_receipt command inventory receipt)
+decision_from tenant (Query query) found receipt = if_present found (λ inventory. decided Keep (queries.answer query inventory))
+
+-- the receipt of an action's request number in a state
+abbrev pub receipt_in : Action → Option TenantState → Option Receipt
+receipt_in CreateTenant state = None
+receipt_in ShowTenant state = None
+receipt_in DropTenant state = None
+receipt_in (Command command) state = option_and_then (λ s. receipt_of command.number s.receipts) state
+receipt_in (Query query) state = None
+
+-- from the state of its tenant
 abbrev pub decision_on : List ℕ → Action → Option TenantState → Decided
-decision_on tenant CreateTenant found = tenants.created_on tenant found
-decision_on tenant ShowTenant found = if_present found (λ state. decided Keep (success (tenants.summary tenant state)))
-decision_on tenant DropTenant found = if_present found (λ state. decided Remove (success (tenants.removal tenant)))
-decision_on tenant (Command command) found = if_present found (commands.decision command)
-decision_on tenant (Query query) found = if_present found (λ state. decided Keep (queries.answer query state))
+decision_on tenant action state = decision_from tenant action (option_map inventory_of state) (receipt_in action state)
 
 abbrev pub decision : Request → Option TenantState → Decided
 decision request state = decision_on request.tenant request.action state

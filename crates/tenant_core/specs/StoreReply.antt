@@ -1,5 +1,5 @@
 -- The replies where a call of the store fails.
-use Rattle.std.specs.Prelude.{◌≡◌, ◌⊎◌, Result, Ok, Err, codes}
+use Rattle.std.specs.Prelude.{◌≡◌, ◌⊎◌, Bool, true, false, Result, Ok, Err, codes}
 use Rattle.tenant_messages.specs.Reply.{written, error, refused, reply, no_memory as out_of_memory}
 use Rattle.tenant_core.specs.Request.{request_of, Request}
 use Rattle.tenant_messages.specs.declared.call.Call.{Call}
@@ -18,6 +18,14 @@ store_failed = written 503 (error (codes "store_failed"))
 -- 500: the tenant's data isn't that of any state
 unfoldable pub store_damaged : Reply
 store_damaged = written 500 (error (codes "store_damaged"))
+
+-- whether a call of the store failed for good
+abbrev pub is_failed : {A : Type 0} → Result A StoreFault → Bool
+is_failed (Ok a) = false
+is_failed (Err NoMemory) = false
+is_failed (Err Full) = false
+is_failed (Err Damaged) = false
+is_failed (Err Failed) = true
 
 abbrev pub store_fault : StoreFault → Reply
 store_fault NoMemory = no_memory

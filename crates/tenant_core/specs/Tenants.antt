@@ -5,23 +5,23 @@ use Rattle.tenant_core.specs.Effects.{Decided, decided}
 use Rattle.tenant_core.specs.declared.decision.Effect.TheVariants.{Keep, Create}
 use Rattle.tenant_messages.specs.Reply.{refused, created, members_of, natural}
 use Rattle.tenant_messages.specs.declared.reply.Problem.TheVariants.{Exists}
-use Rattle.tenant_state.specs.State.{TenantState, epoch, newest}
+use Rattle.tenant_state.specs.State.{Inventory, newest}
 
 -- ---- bodies of replies
 
 abbrev pub creation : List ℕ → Data
 creation tenant = object (members_of ((codes "epoch", natural 0) ∷ (codes "tenant", string tenant) ∷ []))
 
-abbrev pub summary : List ℕ → TenantState → Data
-summary tenant state =
-    object (members_of ((codes "devices", natural (length state.devices)) ∷ (codes "epoch", natural (epoch state)) ∷ (codes "pools", natural (length state.pools))
-    ∷ (codes "tenant", string tenant) ∷ (codes "versions", natural (newest state)) ∷ []))
+abbrev pub summary : List ℕ → Inventory → Data
+summary tenant inventory =
+    object (members_of ((codes "devices", natural (length inventory.devices)) ∷ (codes "epoch", natural inventory.epoch) ∷ (codes "pools", natural (length inventory.pools))
+    ∷ (codes "tenant", string tenant) ∷ (codes "versions", natural (newest inventory)) ∷ []))
 
 abbrev pub removal : List ℕ → Data
 removal tenant = object (members_of ((codes "dropped", string tenant) ∷ []))
 
 -- ---- creation
 
-abbrev pub created_on : List ℕ → Option TenantState → Decided
+abbrev pub created_on : List ℕ → Option Inventory → Decided
 created_on tenant None = decided Create (created (creation tenant))
-created_on tenant (Some state) = decided Keep (refused Exists)
+created_on tenant (Some inventory) = decided Keep (refused Exists)

@@ -1,6 +1,6 @@
 //! Changing requests: each has a request number, and acts once.
 
-ghost use Rattle.std.specs.Prelude.{◌≡◌, ◌<◌, ◌^◌, Ok, Err, None, Some, IfOk, length, nat_le, false};
+ghost use Rattle.std.specs.Prelude.{◌≡◌, ◌<◌, ◌^◌, Ok, Err, None, Some, IfOk, option_map, nat_le, false};
 ghost use Rattle.serde_json.specs.View.{view};
 ghost use Rattle.serde_json.specs.Written.{has_float};
 ghost use Rattle.tenant_core.specs.Commands as spec;
@@ -15,10 +15,10 @@ use crush_pool::{DeviceChange, Pool};
 use std::alloc::{AllocError, Global};
 use std::marker::Model;
 use std::rc::Rc;
-use tenant_messages::{Bytes, Problem, Refusal, Reply, answered, or_problem, refused, repeated};
+use tenant_messages::{Problem, Refusal, Reply, answered, or_problem, refused, repeated};
 use tenant_resources::{Accepted, devices, maps, pools};
 use tenant_state::limits::RECEIPT_LIMIT;
-use tenant_state::{Change, Receipt, TenantState, is_repeat};
+use tenant_state::{Change, Inventory, Receipt, TenantState, is_repeat};
 
 /// What a changing request asks for.
 #[derive(Drop)]
@@ -40,7 +40,7 @@ pub struct Command<'a> {
     /// The request number, of 1 byte to `REQUEST_NUMBER_LIMIT`.
     pub number: Text,
     pub path: &'a str,
-    pub body: &'a [u8],
+    pub body: &'a str,
     pub order: Order,
 }
 
@@ -53,26 +53,21 @@ impl<'a> Model for Command<'a> {
 }
 
 /// What an order makes, with the reply, or why nothing: the table of all orders.
-fn accept(alloc: Global, order: &Order, state: &TenantState) -> Result<Accepted, Refusal>
-    requires { length state.now.receipts < 2 ^ 32 }
-    ensures given { Gives accepted_of result (spec.order_on order.now state.now) }
+fn accept(alloc: Global, order: &Order, inventory: &Inventory) -> Result<Accepted, Refusal>
+    requires { inventory.now.epoch < 2 ^ 32 }
+    ensures given { Gives accepted_of result (spec.order_on order.now inventory.now) }
     ensures plain { IfOk result (λ a. has_float (view a.body) ≡ false) }
 {
     match order {
-        Order::ImportMap(text) => maps::import(alloc, text.as_str(), state),
-        Order::ChangeDevices(changes) => devices::change_devices(alloc, changes.as_slice(), state),
-        Order::CreatePool(pool) => pools::create(alloc, pool, state),
-        Order::RemovePool(id) => pools::remove(alloc, *id, state),
+        Order::ImportMap(text) => maps::import(alloc, text.as_str(), inventory),
+        Order::ChangeDevices(changes) => devices::change_devices(
+            alloc,
+            changes.as_slice(),
+            inventory,
+        ),
+        Order::CreatePool(pool) => pools::create(alloc, pool, inventory),
+        Order::RemovePool(id) => pools::remove(alloc, *id, inventory),
     }
-}
-
-/// A copy of some bytes. `Err(AllocError)`: an allocation failed; nothing is changed.
-fn copied(alloc: Global, bytes: &[u8]) -> Result<Bytes, AllocError>
-    ensures { IfOk result (λ again. again ≡ bytes.now) }
-{
-    let mut again = Vec::new(alloc);
-    again.extend_from_slice(bytes)?;
-    Ok(Bytes::new(again))
 }
 
 /// The change that an accepted order makes, with its receipt, and the reply. `Err(AllocError)`: an
@@ -89,7 +84,7 @@ fn with_receipt(
     let reply = answered(alloc, accepted.status, &accepted.body)?;
     let receipt = Receipt {
         path: Text::copy(alloc, command.path)?,
-        body: copied(alloc, command.body)?,
+        body: Text::copy(alloc, command.body)?,
         status: accepted.status,
         reply: Text::copy(alloc, reply.body.as_str())?,
     };
@@ -104,16 +99,16 @@ fn with_receipt(
 /// What a command with a new request number does: its change, if it is accepted, and the reply.
 fn apply_new(
     alloc: Global,
-    state: &TenantState,
+    inventory: &Inventory,
     command: &Command<'_>,
 ) -> Result<(Option<Change>, Reply), AllocError>
-    ensures effect { IfOk result (λ p. effect_of p.0 ≡ (spec.on_receipt command.now state.now None).effect) }
-    ensures reply { IfOk result (λ p. p.1 ≡ reply (spec.on_receipt command.now state.now None).answer) }
+    ensures effect { IfOk result (λ p. effect_of p.0 ≡ (spec.on_receipt command.now inventory.now None).effect) }
+    ensures reply { IfOk result (λ p. p.1 ≡ reply (spec.on_receipt command.now inventory.now None).answer) }
 {
-    if state.receipts().len() >= RECEIPT_LIMIT {
+    if inventory.epoch() >= RECEIPT_LIMIT as u64 {
         return Ok((None, refused(alloc, Problem::TenantLimit)?));
     }
-    match or_problem(accept(alloc, &command.order, state))? {
+    match or_problem(accept(alloc, &command.order, inventory))? {
         Ok(accepted) => with_receipt(alloc, command, accepted),
         Err(problem) => Ok((None, refused(alloc, problem)?)),
     }
@@ -131,11 +126,27 @@ fn reply_again(alloc: Global, command: &Command<'_>, receipt: &Receipt) -> Resul
     }
 }
 
-/// What a changing request does to a tenant: its change, if it is accepted, and its reply, which is
-/// that of its receipt where it is a repeat. `Err(AllocError)`: an allocation failed; nothing is
-/// changed.
+/// What a changing request does to a tenant that has this, from the receipt of the request number,
+/// if there is one: its change, if it is accepted, and its reply, which is that of the receipt
+/// where the request is a repeat. `Err(AllocError)`: an allocation failed; nothing is changed.
 ///
 /// The change isn't made yet (`TenantState::change`, `TenantState::after`).
+pub fn apply_to(
+    alloc: Global,
+    inventory: &Inventory,
+    receipt: Option<&Receipt>,
+    command: &Command<'_>,
+) -> Result<(Option<Change>, Reply), AllocError>
+    ensures effect { IfOk result (λ p. effect_of p.0 ≡ (spec.on_receipt command.now inventory.now (option_map (λ r. r.now) receipt.entry)).effect) }
+    ensures reply { IfOk result (λ p. p.1 ≡ reply (spec.on_receipt command.now inventory.now (option_map (λ r. r.now) receipt.entry)).answer) }
+{
+    match receipt {
+        Some(receipt) => Ok((None, reply_again(alloc, command, receipt)?)),
+        None => apply_new(alloc, inventory, command),
+    }
+}
+
+/// The same from the whole state of the tenant.
 pub fn apply(
     alloc: Global,
     state: &TenantState,
@@ -144,8 +155,6 @@ pub fn apply(
     ensures effect { IfOk result (λ p. effect_of p.0 ≡ (spec.decision command.now state.now).effect) }
     ensures reply { IfOk result (λ p. p.1 ≡ reply (spec.decision command.now state.now).answer) }
 {
-    match state.receipts().get(command.number.as_str()) {
-        Some(receipt) => Ok((None, reply_again(alloc, command, receipt)?)),
-        None => apply_new(alloc, state, command),
-    }
+    let receipt = state.receipts().find(command.number.as_str())?;
+    apply_to(alloc, state.inventory(), receipt.as_deref(), command)
 }

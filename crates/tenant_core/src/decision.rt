@@ -1,18 +1,18 @@
 //! The decision what an action does to a tenant.
 
-ghost use Rattle.std.specs.Prelude.{◌≡◌, Some, IfOk, option_map};
-ghost use Rattle.tenant_core.specs.Effects.{Fits, effect_of};
-ghost use Rattle.tenant_state.specs.State.{TenantState};
+ghost use Rattle.std.specs.Prelude.{◌≡◌, Option, IfOk, option_map};
+ghost use Rattle.tenant_core.specs.Effects.{effect_of};
+ghost use Rattle.tenant_state.specs.State.{TenantState, inventory_of};
 ghost use Rattle.tenant_messages.specs.Reply.{reply};
-ghost use Rattle.tenant_core.specs.Step.{decision_on};
+ghost use Rattle.tenant_core.specs.Step.{decision_from, decision_on, receipt_in};
 
-use crate::commands::apply;
+use crate::commands::apply_to;
 use crate::queries::answer;
 use crate::request::Action;
 use crate::tenants;
 use std::alloc::{AllocError, Global};
 use tenant_messages::{Problem, Reply, refused};
-use tenant_state::{Change, TenantState};
+use tenant_state::{Change, Inventory, Receipt};
 
 /// What a request does to its tenant.
 #[derive(Drop)]
@@ -49,7 +49,6 @@ fn kept(written: Reply) -> Decision
 fn changed(change: Option<Change>, written: Reply) -> Decision
     ensures effect { result.effect ≡ effect_of change }
     ensures reply { result.reply ≡ written }
-    ensures fits { (s : TenantState) → Fits result.effect (Some s) }
 {
     let effect = match change {
         Some(change) => Effect::Change(change),
@@ -61,27 +60,44 @@ fn changed(change: Option<Change>, written: Reply) -> Decision
     }
 }
 
-/// What an action does to a tenant, and the reply, from the tenant's state, or from its absence
-/// (`None`). `Err(AllocError)`: an allocation failed; nothing is changed.
+/// What an action does to a tenant, and the reply, from what the tenant has, or from its absence
+/// (`None`), and from the receipt of the action's request number, if it has one: so from each state
+/// that has these. `Err(AllocError)`: an allocation failed; nothing is changed.
 pub fn decide(
     alloc: Global,
     tenant: &str,
-    state: Option<&TenantState>,
+    inventory: Option<&Inventory>,
+    receipt: Option<&Receipt>,
     action: &Action<'_>,
 ) -> Result<Decision, AllocError>
-    ensures effect { IfOk result (λ d. d.effect ≡ (decision_on tenant.now action.now (option_map (λ s. s.now) state.entry)).effect) }
-    ensures reply { IfOk result (λ d. d.reply ≡ reply (decision_on tenant.now action.now (option_map (λ s. s.now) state.entry)).answer) }
-    ensures fits { IfOk result (λ d. Fits d.effect (option_map (λ s. s.now) state.entry)) }
+    ensures effect { IfOk result (λ d. (s : Option TenantState) → option_map (λ i. i.now) inventory.entry ≡ option_map inventory_of s
+        → option_map (λ r. r.now) receipt.entry ≡ receipt_in action.now s → d.effect ≡ (decision_on tenant.now action.now s).effect) }
+    ensures reply { IfOk result (λ d. (s : Option TenantState) → option_map (λ i. i.now) inventory.entry ≡ option_map inventory_of s
+        → option_map (λ r. r.now) receipt.entry ≡ receipt_in action.now s → d.reply ≡ reply (decision_on tenant.now action.now s).answer) }
 {
-    match (action, state) {
-        (Action::CreateTenant, state) => tenants::create(alloc, tenant, state),
+    decide_from(alloc, tenant, inventory, receipt, action)
+}
+
+/// The same, by the definition over what the tenant has and the receipt.
+fn decide_from(
+    alloc: Global,
+    tenant: &str,
+    inventory: Option<&Inventory>,
+    receipt: Option<&Receipt>,
+    action: &Action<'_>,
+) -> Result<Decision, AllocError>
+    ensures effect { IfOk result (λ d. d.effect ≡ (decision_from tenant.now action.now (option_map (λ i. i.now) inventory.entry) (option_map (λ r. r.now) receipt.entry)).effect) }
+    ensures reply { IfOk result (λ d. d.reply ≡ reply (decision_from tenant.now action.now (option_map (λ i. i.now) inventory.entry) (option_map (λ r. r.now) receipt.entry)).answer) }
+{
+    match (action, inventory) {
+        (Action::CreateTenant, inventory) => tenants::create(alloc, tenant, inventory),
         (_, None) => Ok(kept(refused(alloc, Problem::NoTenant)?)),
-        (Action::ShowTenant, Some(state)) => Ok(kept(tenants::show(alloc, tenant, state)?)),
+        (Action::ShowTenant, Some(inventory)) => Ok(kept(tenants::show(alloc, tenant, inventory)?)),
         (Action::DropTenant, Some(_)) => tenants::drop_tenant(alloc, tenant),
-        (Action::Command(command), Some(state)) => {
-            let (change, reply) = apply(alloc, state, command)?;
+        (Action::Command(command), Some(inventory)) => {
+            let (change, reply) = apply_to(alloc, inventory, receipt, command)?;
             Ok(changed(change, reply))
         }
-        (Action::Query(query), Some(state)) => Ok(kept(answer(alloc, state, query)?)),
+        (Action::Query(query), Some(inventory)) => Ok(kept(answer(alloc, inventory, query)?)),
     }
 }

@@ -12,7 +12,8 @@ ghost use Rattle.tenant_messages.specs.declared.call.Call.{Call};
 ghost use Rattle.tenant_state.specs.declared.receipts.Receipt.{Receipt};
 ghost use Rattle.tenant_core.specs.declared.request.Action.{Action};
 ghost use Rattle.tenant_core.specs.declared.decision.Effect.{Effect};
-ghost use Rattle.tenant_state.specs.State.{TenantState, Change, epoch, fresh, after, pool};
+ghost use Rattle.tenant_core.specs.Effects.{Fits};
+ghost use Rattle.tenant_state.specs.State.{Inventory, TenantState, Change, epoch, fresh, after, inventory_of, pool};
 
 /// No step has the status 500 or 503: these are for a store that fails, and for no memory.
 pub fn no_step_answers_500_or_503()
@@ -44,11 +45,17 @@ pub fn a_changing_request_acts_once()
         → reply (decision k u).answer ≡ reply (decision k s).answer }
 {}
 
+/// Only an absent tenant is created, and only one that exists is removed or changed, by a change
+/// whose request number is new and for whose receipt there is room.
+pub fn each_decision_fits_its_state()
+    ensures { (tenant : List ℕ) (action : Action) (s : Option TenantState) → Fits (decision_on tenant action s).effect s }
+{}
+
 /// The newest version has the rule of each pool: so it is of a new tenant, and so it stays,
 /// whatever changes. Hence each group of a pool is placed.
 pub fn pools_have_their_rules()
-    ensures fresh { have_rules fresh ≡ true }
+    ensures fresh { have_rules (inventory_of fresh) ≡ true }
     ensures stays { (tenant : List ℕ) (action : Action) (s : TenantState) (c : Change) → (decision_on tenant action (Some s)).effect ≡ Effect.Change c
-        → have_rules s ≡ true → have_rules (after c s) ≡ true }
-    ensures placed { (s : TenantState) (id group : ℕ) (p : PoolParts) → have_rules s ≡ true → pool id s ≡ Some p → group < p.pg_num → is_ok (placed s p group) ≡ true }
+        → have_rules (inventory_of s) ≡ true → have_rules (inventory_of (after c s)) ≡ true }
+    ensures placed { (i : Inventory) (id group : ℕ) (p : PoolParts) → have_rules i ≡ true → pool id i ≡ Some p → group < p.pg_num → is_ok (placed i p group) ≡ true }
 {}

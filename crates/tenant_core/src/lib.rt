@@ -12,7 +12,7 @@ mod router;
 mod store;
 mod tenants;
 
-pub use commands::{Command, Order, apply};
+pub use commands::{Command, Order, apply, apply_to};
 pub use decision::{Decision, Effect, decide};
 pub use queries::{Query, answer};
 pub use request::{Action, Request, read_request};

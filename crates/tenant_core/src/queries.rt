@@ -9,7 +9,7 @@ use std::alloc::{AllocError, Global};
 use tenant_messages::{Refusal, Reply, or_refused};
 use tenant_reports::{impact, moves, usage};
 use tenant_resources::{ObjectName, PickRequest, RuleTest, groups, maps, picks, rule_tests};
-use tenant_state::TenantState;
+use tenant_state::Inventory;
 
 /// What is asked of a tenant's state.
 #[derive(Drop)]
@@ -33,26 +33,26 @@ pub enum Query {
     Test(RuleTest),
 }
 
-/// The reply to a query, from the state of its tenant, or the problem: the table of all queries.
-fn reply_or_refusal(alloc: Global, state: &TenantState, query: &Query) -> Result<Reply, Refusal>
-    ensures { Answers result (spec.answer query.now state.now) }
+/// The reply to a query, from what its tenant has, or the problem: the table of all queries.
+fn reply_or_refusal(alloc: Global, inventory: &Inventory, query: &Query) -> Result<Reply, Refusal>
+    ensures { Answers result (spec.answer query.now inventory.now) }
 {
     match query {
-        Query::Version(number) => maps::answer(alloc, *number, state),
-        Query::Group(pool, group) => groups::group_answer(alloc, *pool, *group, state),
-        Query::Object(pool, name) => groups::object_answer(alloc, *pool, name, state),
-        Query::Usage(pool) => usage::answer(alloc, *pool, state),
-        Query::Moves(pool, from, to) => moves::answer(alloc, *pool, *from, *to, state),
-        Query::Impact(pool, device) => impact::answer(alloc, *pool, *device, state),
+        Query::Version(number) => maps::answer(alloc, *number, inventory),
+        Query::Group(pool, group) => groups::group_answer(alloc, *pool, *group, inventory),
+        Query::Object(pool, name) => groups::object_answer(alloc, *pool, name, inventory),
+        Query::Usage(pool) => usage::answer(alloc, *pool, inventory),
+        Query::Moves(pool, from, to) => moves::answer(alloc, *pool, *from, *to, inventory),
+        Query::Impact(pool, device) => impact::answer(alloc, *pool, *device, inventory),
         Query::Pick(pick) => Ok(picks::answer(alloc, pick)?),
-        Query::Test(test) => rule_tests::answer(alloc, test, state),
+        Query::Test(test) => rule_tests::answer(alloc, test, inventory),
     }
 }
 
-/// The reply to a query, from the state of its tenant, or the reply that names the problem.
+/// The reply to a query, from what its tenant has, or the reply that names the problem.
 /// `Err(AllocError)`: an allocation failed; nothing is changed.
-pub fn answer(alloc: Global, state: &TenantState, query: &Query) -> Result<Reply, AllocError>
-    ensures { IfOk result (λ r. r ≡ reply (spec.answer query.now state.now)) }
+pub fn answer(alloc: Global, inventory: &Inventory, query: &Query) -> Result<Reply, AllocError>
+    ensures { IfOk result (λ r. r ≡ reply (spec.answer query.now inventory.now)) }
 {
-    or_refused(alloc, reply_or_refusal(alloc, state, query))
+    or_refused(alloc, reply_or_refusal(alloc, inventory, query))
 }

@@ -12,7 +12,7 @@ use crate::router::Target;
 use crush_map::Text;
 use crush_words::number_from_text;
 use std::alloc::Global;
-use tenant_messages::{Problem, Refusal};
+use tenant_messages::{Problem, Refusal, text_of};
 use tenant_reports::device_csv;
 use tenant_resources::{devices, groups, maps, picks, pools, rule_tests};
 
@@ -122,7 +122,7 @@ fn if_empty<'p>(body: &[u8], action: Action<'p>) -> Result<Action<'p>, Refusal>
 }
 
 /// A changing request, with its path and its body, by which a repeat is known.
-fn command<'p>(target: &Target<'_, 'p>, body: &'p [u8], number: Text, order: Order) -> Action<'p>
+fn command<'p>(target: &Target<'_, 'p>, body: &'p str, number: Text, order: Order) -> Action<'p>
     ensures { result ≡ spec.command_of target.now body.now number order }
 {
     Action::Command(Command {
@@ -148,23 +148,28 @@ pub(crate) fn read<'p>(
         Route::ShowTenant => if_empty(body, Action::ShowTenant),
         Route::DropTenant => if_empty(body, Action::DropTenant),
         Route::ImportMap => {
+            let body = text_of(body)?;
             let (number, text) = maps::read_import(alloc, body)?;
             Ok(command(target, body, number, Order::ImportMap(text)))
         }
         Route::Version => if_empty(body, Action::Query(Query::Version(number(target, "v")?))),
         Route::ChangeDevices => {
+            let body = text_of(body)?;
             let (number, changes) = devices::read_changes(alloc, body)?;
             Ok(command(target, body, number, Order::ChangeDevices(changes)))
         }
         Route::ChangeDevicesByCsv => {
+            let body = text_of(body)?;
             let (number, changes) = device_csv::read_changes(alloc, body)?;
             Ok(command(target, body, number, Order::ChangeDevices(changes)))
         }
         Route::CreatePool => {
+            let body = text_of(body)?;
             let (number, pool) = pools::read_pool(alloc, body)?;
             Ok(command(target, body, number, Order::CreatePool(pool)))
         }
         Route::RemovePool => {
+            let body = text_of(body)?;
             let (number, id) = pools::read_removal(alloc, body)?;
             Ok(command(target, body, number, Order::RemovePool(id)))
         }
@@ -174,7 +179,7 @@ pub(crate) fn read<'p>(
         }
         Route::Object => {
             let pool = number(target, "p")?;
-            let name = groups::read_name(alloc, body)?;
+            let name = groups::read_name(alloc, text_of(body)?)?;
             Ok(Action::Query(Query::Object(pool, name)))
         }
         Route::Usage => if_empty(body, Action::Query(Query::Usage(number(target, "p")?))),
@@ -187,7 +192,10 @@ pub(crate) fn read<'p>(
             let (pool, device) = (number(target, "p")?, number(target, "d")?);
             if_empty(body, Action::Query(Query::Impact(pool, device)))
         }
-        Route::Pick => Ok(Action::Query(Query::Pick(picks::read_pick(alloc, body)?))),
-        Route::Test => Ok(Action::Query(Query::Test(rule_tests::read_test(alloc, body)?))),
+        Route::Pick => Ok(Action::Query(Query::Pick(picks::read_pick(alloc, text_of(body)?)?))),
+        Route::Test => Ok(Action::Query(Query::Test(rule_tests::read_test(
+            alloc,
+            text_of(body)?,
+        )?))),
     }
 }

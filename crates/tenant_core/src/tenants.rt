@@ -2,7 +2,6 @@
 
 ghost use Rattle.std.specs.Prelude.{◌≡◌, IfOk, option_map};
 ghost use Rattle.serde_json.specs.View.{view};
-ghost use Rattle.tenant_core.specs.Effects.{Fits};
 ghost use Rattle.tenant_core.specs.Tenants as spec;
 ghost use Rattle.tenant_messages.specs.Reply.{reply, success};
 
@@ -10,7 +9,7 @@ use crate::decision::{Decision, Effect};
 use serde_json::{Value, json};
 use std::alloc::{AllocError, Global};
 use tenant_messages::{Problem, Reply, created, refused, success};
-use tenant_state::TenantState;
+use tenant_state::Inventory;
 
 // ---- bodies of replies
 
@@ -22,15 +21,15 @@ fn creation(alloc: Global, tenant: &str) -> Result<Value, AllocError>
 }
 
 /// The body with what a tenant has: how many states of devices, pools and versions, and its epoch.
-fn summary(alloc: Global, tenant: &str, state: &TenantState) -> Result<Value, AllocError>
-    ensures { IfOk result (λ v. view v ≡ spec.summary tenant.now state.now) }
+fn summary(alloc: Global, tenant: &str, inventory: &Inventory) -> Result<Value, AllocError>
+    ensures { IfOk result (λ v. view v ≡ spec.summary tenant.now inventory.now) }
 {
     json!(in alloc; {
-        "devices": state.devices().states().len() as u64,
-        "epoch": state.epoch(),
-        "pools": state.pools().len() as u64,
+        "devices": inventory.devices().states().len() as u64,
+        "epoch": inventory.epoch(),
+        "pools": inventory.pools().len() as u64,
         "tenant": tenant,
-        "versions": state.newest()
+        "versions": inventory.newest()
     })
 }
 
@@ -48,13 +47,12 @@ fn removal(alloc: Global, tenant: &str) -> Result<Value, AllocError>
 pub(crate) fn create(
     alloc: Global,
     tenant: &str,
-    state: Option<&TenantState>,
+    inventory: Option<&Inventory>,
 ) -> Result<Decision, AllocError>
-    ensures effect { IfOk result (λ d. d.effect ≡ (spec.created_on tenant.now (option_map (λ s. s.now) state.entry)).effect) }
-    ensures reply { IfOk result (λ d. d.reply ≡ reply (spec.created_on tenant.now (option_map (λ s. s.now) state.entry)).answer) }
-    ensures fits { IfOk result (λ d. Fits d.effect (option_map (λ s. s.now) state.entry)) }
+    ensures effect { IfOk result (λ d. d.effect ≡ (spec.created_on tenant.now (option_map (λ s. s.now) inventory.entry)).effect) }
+    ensures reply { IfOk result (λ d. d.reply ≡ reply (spec.created_on tenant.now (option_map (λ s. s.now) inventory.entry)).answer) }
 {
-    Ok(match state {
+    Ok(match inventory {
         None => Decision {
             effect: Effect::Create,
             reply: created(alloc, &creation(alloc, tenant)?)?,
@@ -67,10 +65,10 @@ pub(crate) fn create(
 }
 
 /// The reply with what a tenant has.
-pub(crate) fn show(alloc: Global, tenant: &str, state: &TenantState) -> Result<Reply, AllocError>
-    ensures { IfOk result (λ r. r ≡ reply (success (spec.summary tenant.now state.now))) }
+pub(crate) fn show(alloc: Global, tenant: &str, inventory: &Inventory) -> Result<Reply, AllocError>
+    ensures { IfOk result (λ r. r ≡ reply (success (spec.summary tenant.now inventory.now))) }
 {
-    success(alloc, &summary(alloc, tenant, state)?)
+    success(alloc, &summary(alloc, tenant, inventory)?)
 }
 
 /// The decision that drops a tenant, which is there.

@@ -7,10 +7,14 @@ use Rattle.serde_json.specs.Read.{read}
 use Rattle.serde_json.specs.Find.{get, as_number, as_u64, as_i64, as_array, as_object}
 use Rattle.serde_json.specs.Events.{members_len}
 
+-- the text that some bytes are in UTF-8
+abbrev pub text_of : List ℕ → Option (List ℕ)
+text_of bytes = if is_utf8 bytes then Some bytes else None
+
 -- the JSON value of some bytes (RFC 8259), as `serde_json` reads it: of a key that comes twice the
 -- last value counts
 abbrev pub value_of : List ℕ → Option Data
-value_of bytes = if is_utf8 bytes then read bytes else None
+value_of bytes = option_and_then read (text_of bytes)
 
 -- ---- numbers
 

@@ -12,12 +12,21 @@ use crate::reply::{Problem, Refusal};
 use serde_json::Value;
 use std::alloc::Global;
 
-/// The JSON value of a body. The problem is `BadRequest`, exactly where the body isn't JSON in
-/// UTF-8.
-pub fn read_value(alloc: Global, body: &[u8]) -> Result<Value, Refusal>
+/// A body as text. The problem is `BadRequest`, exactly where the body isn't UTF-8.
+pub fn text_of(body: &[u8]) -> Result<&str, Refusal>
+    ensures { Reads (λ t. t.now) result (spec.text_of body.now) }
+{
+    match str::from_utf8(body) {
+        Ok(text) => Ok(text),
+        Err(_) => Err(Refusal::Problem(Problem::BadRequest)),
+    }
+}
+
+/// The JSON value of a body. The problem is `BadRequest`, exactly where the body isn't JSON.
+pub fn read_value(alloc: Global, body: &str) -> Result<Value, Refusal>
     ensures { Reads view result (spec.value_of body.now) }
 {
-    match Value::from_slice(alloc, body) {
+    match Value::from_str(alloc, body) {
         Ok(value) => Ok(value),
         Err(error) if error.is_memory() => Err(Refusal::NoMemory),
         Err(_) => Err(Refusal::Problem(Problem::BadRequest)),

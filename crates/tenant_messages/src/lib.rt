@@ -11,7 +11,7 @@ mod slots;
 pub use call::{Bytes, Call, CallParts};
 pub use json::{
     boolean, has_keys, integer, natural, optional_boolean, optional_natural, read_value,
-    request_number, text,
+    request_number, text, text_of,
 };
 pub use reply::{
     Problem, Refusal, Reply, SuccessStatus, answered, created, error, no_memory, or_problem,

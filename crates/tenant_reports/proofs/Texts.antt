@@ -11,7 +11,7 @@ use Rattle.crush_report.specs.declared.rows.MoveRow.{MoveRow}
 use Rattle.tenant_messages.specs.Slots.{list_json}
 use Rattle.tenant_reports.specs.Moves.{moves_reply, row_json}
 use Rattle.tenant_reports.specs.Private.Pieces.{head_text}
-use Rattle.tenant_state.specs.State.{TenantState, epoch}
+use Rattle.tenant_state.specs.State.{Inventory}
 
 pub row_more : (old : List ℕ) (later : Bool) (d : Data) (ds : Items) → (old ++ (comma_if later ++ compact_text d)) ++ items_text true ds ≡ old ++ items_text later (item d ds)
 row_more old later d ds =
@@ -43,13 +43,13 @@ pieces epoch from gained moved id to list =
     ∙ five (codes "{\"epoch\":" ++ decimal epoch) (codes ",\"from\":" ++ decimal from) (codes ",\"gained\":" ++ decimal gained) (codes ",\"moved\":" ++ decimal moved) (codes ",\"pool\":" ++ decimal id) tail
     ∙ refl
 
-body_is : (state : TenantState) (id from to : ℕ) (rows : List MoveRow)
-    → joined (epoch state) from (gained_in rows) (length rows) id (compact_text (list_json (map row_json rows))) to ≡ compact_text (moves_reply state id from to rows)
+body_is : (inventory : Inventory) (id from to : ℕ) (rows : List MoveRow)
+    → joined inventory.epoch from (gained_in rows) (length rows) id (compact_text (list_json (map row_json rows))) to ≡ compact_text (moves_reply inventory id from to rows)
 unfolding escape_byte
-body_is state id from to rows = refl
+body_is inventory id from to rows = refl
 
-pub body_by_pieces : (state : TenantState) (id from to : ℕ) (rows : List MoveRow)
-    → head_text (epoch state) from (gained_in rows) (length rows) id ++ codes ",\"rows\":" ++ compact_text (list_json (map row_json rows)) ++ (codes ",\"to\":" ++ decimal to) ++ codes "}"
-    ≡ compact_text (moves_reply state id from to rows)
-body_by_pieces state id from to rows =
-    pieces (epoch state) from (gained_in rows) (length rows) id to (compact_text (list_json (map row_json rows))) ∙ body_is state id from to rows
+pub body_by_pieces : (inventory : Inventory) (id from to : ℕ) (rows : List MoveRow)
+    → head_text inventory.epoch from (gained_in rows) (length rows) id ++ codes ",\"rows\":" ++ compact_text (list_json (map row_json rows)) ++ (codes ",\"to\":" ++ decimal to) ++ codes "}"
+    ≡ compact_text (moves_reply inventory id from to rows)
+body_by_pieces inventory id from to rows =
+    pieces inventory.epoch from (gained_in rows) (length rows) id to (compact_text (list_json (map row_json rows))) ∙ body_is inventory id from to rows

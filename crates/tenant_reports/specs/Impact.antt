@@ -12,15 +12,15 @@ use Rattle.tenant_messages.specs.Reply.{Answer, refused, members_of, natural}
 use Rattle.tenant_messages.specs.Slots.{list_json}
 use Rattle.tenant_messages.specs.declared.reply.Problem.{Problem}
 use Rattle.tenant_messages.specs.declared.reply.Problem.TheVariants.{NoPool, NoDevice, NoRule}
-use Rattle.tenant_state.specs.State.{TenantState, epoch, newest, on_newest, pool}
+use Rattle.tenant_state.specs.State.{Inventory, newest, on_newest, pool}
 
 -- ---- the answer
 
 -- {"device": d, "epoch": E, "groups": [..], "pool": p, "version": V}
-abbrev pub impact_reply : TenantState → ℕ → ℕ → List ℕ → Data
-impact_reply state id device groups =
-    object (members_of ((codes "device", natural device) ∷ (codes "epoch", natural (epoch state)) ∷ (codes "groups", list_json (map natural groups))
-    ∷ (codes "pool", natural id) ∷ (codes "version", natural (newest state)) ∷ []))
+abbrev pub impact_reply : Inventory → ℕ → ℕ → List ℕ → Data
+impact_reply inventory id device groups =
+    object (members_of ((codes "device", natural device) ∷ (codes "epoch", natural inventory.epoch) ∷ (codes "groups", list_json (map natural groups))
+    ∷ (codes "pool", natural id) ∷ (codes "version", natural (newest inventory)) ∷ []))
 
 -- the id of the device with a number, if there is one
 abbrev pub id_of : List Device → ℕ → Option ℕ
@@ -38,13 +38,13 @@ on_map number (Err problem) = Err problem
 on_map number (Ok p) = on_device p (id_of p.map.devices number)
 
 -- the same on the newest version
-abbrev pub groups_of : TenantState → PoolParts → ℕ → Result (List ℕ) Problem
-groups_of state p number = on_map number (on_newest state p)
+abbrev pub groups_of : Inventory → PoolParts → ℕ → Result (List ℕ) Problem
+groups_of inventory p number = on_map number (on_newest inventory p)
 
-abbrev pub impact_on : TenantState → ℕ → Option PoolParts → Answer
-impact_on state device None = refused NoPool
-impact_on state device (Some p) = answer_with (impact_reply state p.id device) (groups_of state p device)
+abbrev pub impact_on : Inventory → ℕ → Option PoolParts → Answer
+impact_on inventory device None = refused NoPool
+impact_on inventory device (Some p) = answer_with (impact_reply inventory p.id device) (groups_of inventory p device)
 
 -- the groups of the pool with an id that a device can touch
-abbrev pub impact_answer : ℕ → ℕ → TenantState → Answer
-impact_answer id device state = impact_on state device (pool id state)
+abbrev pub impact_answer : ℕ → ℕ → Inventory → Answer
+impact_answer id device inventory = impact_on inventory device (pool id inventory)

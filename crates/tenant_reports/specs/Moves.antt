@@ -14,7 +14,7 @@ use Rattle.tenant_messages.specs.Reply.{Answer, refused, members_of, natural}
 use Rattle.tenant_messages.specs.Slots.{slot_json, list_json}
 use Rattle.tenant_messages.specs.declared.reply.Problem.{Problem}
 use Rattle.tenant_messages.specs.declared.reply.Problem.TheVariants.{NoVersion, NoPool, NoRule}
-use Rattle.tenant_state.specs.State.{TenantState, epoch, version, on_version, pool}
+use Rattle.tenant_state.specs.State.{Inventory, version, on_version, pool}
 
 -- ---- the answer
 
@@ -26,9 +26,9 @@ row_json row =
 
 -- {"epoch": E, "from": v, "gained": the sum of the rows', "moved": how many rows, "pool": p,
 -- "rows": [ROW, ..], "to": w}
-abbrev pub moves_reply : TenantState → ℕ → ℕ → ℕ → List MoveRow → Data
-moves_reply state id from to rows =
-    object (members_of ((codes "epoch", natural (epoch state)) ∷ (codes "from", natural from) ∷ (codes "gained", natural (gained_in rows))
+abbrev pub moves_reply : Inventory → ℕ → ℕ → ℕ → List MoveRow → Data
+moves_reply inventory id from to rows =
+    object (members_of ((codes "epoch", natural inventory.epoch) ∷ (codes "from", natural from) ∷ (codes "gained", natural (gained_in rows))
     ∷ (codes "moved", natural (length rows)) ∷ (codes "pool", natural id) ∷ (codes "rows", list_json (map row_json rows)) ∷ (codes "to", natural to) ∷ []))
 
 -- the groups that move between two maps with the pool's rule
@@ -38,18 +38,18 @@ on_maps (Ok from) (Err problem) = Err problem
 on_maps (Ok from) (Ok to) = ok_or (moves from.map to.map from.states from.pool) NoRule
 
 -- both versions have to be there, and then to have the pool's rule
-abbrev pub on_versions : TenantState → PoolParts → Option Map → Option Map → Result (List MoveRow) Problem
-on_versions state p None to = Err NoVersion
-on_versions state p (Some from) None = Err NoVersion
-on_versions state p (Some from) (Some to) = on_maps (on_version state p from) (on_version state p to)
+abbrev pub on_versions : Inventory → PoolParts → Option Map → Option Map → Result (List MoveRow) Problem
+on_versions inventory p None to = Err NoVersion
+on_versions inventory p (Some from) None = Err NoVersion
+on_versions inventory p (Some from) (Some to) = on_maps (on_version inventory p from) (on_version inventory p to)
 
-abbrev pub rows_of : TenantState → PoolParts → ℕ → ℕ → Result (List MoveRow) Problem
-rows_of state p from to = on_versions state p (version from state) (version to state)
+abbrev pub rows_of : Inventory → PoolParts → ℕ → ℕ → Result (List MoveRow) Problem
+rows_of inventory p from to = on_versions inventory p (version from inventory) (version to inventory)
 
-abbrev pub moves_on : TenantState → ℕ → ℕ → Option PoolParts → Answer
-moves_on state from to None = refused NoPool
-moves_on state from to (Some p) = answer_with (moves_reply state p.id from to) (rows_of state p from to)
+abbrev pub moves_on : Inventory → ℕ → ℕ → Option PoolParts → Answer
+moves_on inventory from to None = refused NoPool
+moves_on inventory from to (Some p) = answer_with (moves_reply inventory p.id from to) (rows_of inventory p from to)
 
 -- the groups of the pool with an id that move from a version to another
-abbrev pub moves_answer : ℕ → ℕ → ℕ → TenantState → Answer
-moves_answer id from to state = moves_on state from to (pool id state)
+abbrev pub moves_answer : ℕ → ℕ → ℕ → Inventory → Answer
+moves_answer id from to inventory = moves_on inventory from to (pool id inventory)

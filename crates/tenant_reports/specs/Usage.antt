@@ -12,7 +12,7 @@ use Rattle.tenant_messages.specs.Reply.{Answer, refused, members_of, natural}
 use Rattle.tenant_messages.specs.Slots.{list_json}
 use Rattle.tenant_messages.specs.declared.reply.Problem.{Problem}
 use Rattle.tenant_messages.specs.declared.reply.Problem.TheVariants.{NoPool, NoRule}
-use Rattle.tenant_state.specs.State.{TenantState, epoch, newest, on_newest, pool}
+use Rattle.tenant_state.specs.State.{Inventory, newest, on_newest, pool}
 
 -- ---- the answer
 
@@ -23,10 +23,10 @@ row_json row =
     ∷ (codes "permille", natural row.permille) ∷ (codes "primaries", natural row.primaries) ∷ []))
 
 -- {"epoch": E, "pool": p, "rows": [ROW, ..], "version": V}
-abbrev pub usage_reply : TenantState → ℕ → List UsageRow → Data
-usage_reply state id rows =
-    object (members_of ((codes "epoch", natural (epoch state)) ∷ (codes "pool", natural id) ∷ (codes "rows", list_json (map row_json rows))
-    ∷ (codes "version", natural (newest state)) ∷ []))
+abbrev pub usage_reply : Inventory → ℕ → List UsageRow → Data
+usage_reply inventory id rows =
+    object (members_of ((codes "epoch", natural inventory.epoch) ∷ (codes "pool", natural id) ∷ (codes "rows", list_json (map row_json rows))
+    ∷ (codes "version", natural (newest inventory)) ∷ []))
 
 -- the counts on a map with the pool's rule
 abbrev pub on_map : Result PoolOnMap Problem → Result (List UsageRow) Problem
@@ -34,13 +34,13 @@ on_map (Err problem) = Err problem
 on_map (Ok p) = ok_or (usage p.map p.states p.pool) NoRule
 
 -- the counts on the newest version, or why there are none
-abbrev pub rows_of : TenantState → PoolParts → Result (List UsageRow) Problem
-rows_of state p = on_map (on_newest state p)
+abbrev pub rows_of : Inventory → PoolParts → Result (List UsageRow) Problem
+rows_of inventory p = on_map (on_newest inventory p)
 
-abbrev pub usage_on : TenantState → Option PoolParts → Answer
-usage_on state None = refused NoPool
-usage_on state (Some p) = answer_with (usage_reply state p.id) (rows_of state p)
+abbrev pub usage_on : Inventory → Option PoolParts → Answer
+usage_on inventory None = refused NoPool
+usage_on inventory (Some p) = answer_with (usage_reply inventory p.id) (rows_of inventory p)
 
 -- the counts of the pool with an id
-abbrev pub usage_answer : ℕ → TenantState → Answer
-usage_answer id state = usage_on state (pool id state)
+abbrev pub usage_answer : ℕ → Inventory → Answer
+usage_answer id inventory = usage_on inventory (pool id inventory)

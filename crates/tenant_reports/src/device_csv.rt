@@ -41,7 +41,7 @@ fn changes_in(alloc: Global, value: &Value) -> Result<(Text, Listed<DeviceChange
 
 /// The request number and the changes that a body asks for. The problem is `BadRequest`, exactly
 /// where the body isn't of the form (`IsDeviceCsvBody`).
-pub fn read_changes(alloc: Global, body: &[u8]) -> Result<(Text, Listed<DeviceChange>), Refusal>
+pub fn read_changes(alloc: Global, body: &str) -> Result<(Text, Listed<DeviceChange>), Refusal>
     ensures { Reads (λ asked. asked) result (spec.device_csv_request_of body.now) }
 {
     changes_in(alloc, &read_value(alloc, body)?)

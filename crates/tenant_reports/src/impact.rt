@@ -14,7 +14,7 @@ use crush_report::impact_with;
 use serde_json::{Value, json};
 use std::alloc::{AllocError, Global};
 use tenant_messages::{Problem, Refusal, Reply, ids_json, success};
-use tenant_state::TenantState;
+use tenant_state::Inventory;
 
 // ---- the groups
 
@@ -34,13 +34,13 @@ fn id_of(devices: &[Device], number: u64) -> Option<u32>
 /// `NoRule`, or `NoDevice`.
 fn groups_of(
     alloc: Global,
-    state: &TenantState,
+    inventory: &Inventory,
     pool: &Pool,
     number: u64,
 ) -> Result<Listed<u32>, Refusal>
-    ensures { Gives (λ groups. groups) result (spec.groups_of state.now pool.now number) }
+    ensures { Gives (λ groups. groups) result (spec.groups_of inventory.now pool.now number) }
 {
-    let placer = state.on_newest(pool)?;
+    let placer = inventory.on_newest(pool)?;
     let device = id_of(placer.map().devices(), number).ok_or(Problem::NoDevice)?;
     let groups = impact_with(alloc, &placer, device)?;
     Ok(groups)
@@ -51,31 +51,31 @@ fn groups_of(
 /// The body of the reply with these groups.
 fn impact_reply(
     alloc: Global,
-    state: &TenantState,
+    inventory: &Inventory,
     id: u32,
     device: u64,
     groups: &[u32],
 ) -> Result<Value, AllocError>
-    ensures { IfOk result (λ v. view v ≡ spec.impact_reply state.now id device groups.now) }
+    ensures { IfOk result (λ v. view v ≡ spec.impact_reply inventory.now id device groups.now) }
 {
     let groups = ids_json(alloc, groups)?;
     json!(in alloc; {
         "device": device,
-        "epoch": state.epoch(),
+        "epoch": inventory.epoch(),
         "groups": groups,
         "pool": id,
-        "version": state.newest()
+        "version": inventory.newest()
     })
 }
 
 /// The reply with the groups, of the pool with an id, that a device can touch. The problem is, in
 /// this order, `NoPool`, `NoVersion`, `NoRule`, or `NoDevice` where the newest version lacks the
 /// device.
-pub fn answer(alloc: Global, id: u64, device: u64, state: &TenantState) -> Result<Reply, Refusal>
-    ensures { Answers result (spec.impact_answer id device state.now) }
+pub fn answer(alloc: Global, id: u64, device: u64, inventory: &Inventory) -> Result<Reply, Refusal>
+    ensures { Answers result (spec.impact_answer id device inventory.now) }
 {
-    let pool = state.pools().get(id).ok_or(Problem::NoPool)?;
-    let groups = groups_of(alloc, state, pool, device)?;
-    let body = impact_reply(alloc, state, pool.parts().id, device, groups.as_slice())?;
+    let pool = inventory.pools().get(id).ok_or(Problem::NoPool)?;
+    let groups = groups_of(alloc, inventory, pool, device)?;
+    let body = impact_reply(alloc, inventory, pool.parts().id, device, groups.as_slice())?;
     Ok(success(alloc, &body)?)
 }

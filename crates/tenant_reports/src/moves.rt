@@ -1,10 +1,12 @@
 //! Which groups of a pool move between two versions: at `/t/{t}/pools/{p}/moves/{v}/{w}` GET reads
 //! those whose up lists differ.
 
-ghost use Rattle.std.specs.Prelude.{◌≡◌, ◌≤◌, ◌++◌, IfOk, OnOk, map, string_bytes};
+ghost use Rattle.std.specs.Prelude.{◌≡◌, ◌≤◌, ◌++◌, ◌*◌, IfOk, OnOk, map, string_bytes};
 ghost use Rattle.std.specs.Fmt.{decimal};
 ghost use Rattle.serde_json.specs.View.{view};
 ghost use Rattle.serde_json.specs.Written.{comma_if, compact_text};
+ghost use Rattle.crush_choose.specs.declared.limits.TheConstants.{SIZE_LIMIT};
+ghost use Rattle.crush_pool.specs.declared.limits.TheConstants.{GROUP_LIMIT};
 ghost use Rattle.crush_report.specs.Moves.{gained_in};
 ghost use Rattle.tenant_messages.specs.Refusals.{Answers, Gives};
 ghost use Rattle.tenant_messages.specs.Reply.{reply, success};
@@ -18,7 +20,7 @@ use crush_report::{MoveRow, gained_in, moves_with};
 use serde_json::{Value, json};
 use std::alloc::{AllocError, Global};
 use tenant_messages::{Problem, Refusal, Reply, slots_json};
-use tenant_state::TenantState;
+use tenant_state::Inventory;
 
 // ---- the groups that move
 
@@ -26,18 +28,18 @@ use tenant_state::TenantState;
 /// `NoVersion` where one of them is absent, and else `NoRule` where one lacks the pool's rule.
 fn rows_of(
     alloc: Global,
-    state: &TenantState,
+    inventory: &Inventory,
     pool: &Pool,
     from: u64,
     to: u64,
 ) -> Result<Listed<MoveRow>, Refusal>
-    ensures rows { Gives (λ rows. rows) result (spec.rows_of state.now pool.now from to) }
-    ensures gained { IfOk result (λ rows. gained_in rows ≤ 2097152) }
+    ensures rows { Gives (λ rows. rows) result (spec.rows_of inventory.now pool.now from to) }
+    ensures gained { IfOk result (λ rows. gained_in rows ≤ SIZE_LIMIT * GROUP_LIMIT) }
 {
-    let before = state.version(from).ok_or(Problem::NoVersion)?;
-    let after = state.version(to).ok_or(Problem::NoVersion)?;
-    let old = state.on_version(before, pool)?;
-    let new = state.on_version(after, pool)?;
+    let before = inventory.version(from).ok_or(Problem::NoVersion)?;
+    let after = inventory.version(to).ok_or(Problem::NoVersion)?;
+    let old = inventory.on_version(before, pool)?;
+    let new = inventory.on_version(after, pool)?;
     let rows = moves_with(alloc, &old, &new)?;
     Ok(rows)
 }
@@ -134,17 +136,17 @@ fn head_text(
 #[tactic(auto, using(crate::proofs::Texts::body_by_pieces))]
 fn moves_text(
     alloc: Global,
-    state: &TenantState,
+    inventory: &Inventory,
     id: u32,
     from: u64,
     to: u64,
     rows: &[MoveRow],
 ) -> Result<String, AllocError>
-    requires { gained_in rows.now ≤ 2097152 }
-    ensures { IfOk result (λ text. string_bytes text ≡ compact_text (spec.moves_reply state.now id from to rows.now)) }
+    requires { gained_in rows.now ≤ SIZE_LIMIT * GROUP_LIMIT }
+    ensures { IfOk result (λ text. string_bytes text ≡ compact_text (spec.moves_reply inventory.now id from to rows.now)) }
 {
     let gained = gained_in(rows);
-    let mut text = head_text(alloc, state.epoch(), from, gained, rows.len(), id)?;
+    let mut text = head_text(alloc, inventory.epoch(), from, gained, rows.len(), id)?;
     let list = rows_text(alloc, rows)?;
     text.push_str(",\"rows\":")?;
     text.push_str(list.as_str())?;
@@ -157,16 +159,16 @@ fn moves_text(
 #[tactic(auto, unfolding(tenant_messages::specs::Reply::reply))]
 fn moves_reply(
     alloc: Global,
-    state: &TenantState,
+    inventory: &Inventory,
     id: u32,
     from: u64,
     to: u64,
     rows: &[MoveRow],
 ) -> Result<Reply, AllocError>
-    requires { gained_in rows.now ≤ 2097152 }
-    ensures { IfOk result (λ r. r ≡ reply (success (spec.moves_reply state.now id from to rows.now))) }
+    requires { gained_in rows.now ≤ SIZE_LIMIT * GROUP_LIMIT }
+    ensures { IfOk result (λ r. r ≡ reply (success (spec.moves_reply inventory.now id from to rows.now))) }
 {
-    let text = moves_text(alloc, state, id, from, to, rows)?;
+    let text = moves_text(alloc, inventory, id, from, to, rows)?;
     Ok(Reply {
         status: 200,
         body: Text::new(text),
@@ -181,12 +183,12 @@ pub fn answer(
     id: u64,
     from: u64,
     to: u64,
-    state: &TenantState,
+    inventory: &Inventory,
 ) -> Result<Reply, Refusal>
-    ensures { Answers result (spec.moves_answer id from to state.now) }
+    ensures { Answers result (spec.moves_answer id from to inventory.now) }
 {
-    let pool = state.pools().get(id).ok_or(Problem::NoPool)?;
-    let rows = rows_of(alloc, state, pool, from, to)?;
-    let written = moves_reply(alloc, state, pool.parts().id, from, to, rows.as_slice())?;
+    let pool = inventory.pools().get(id).ok_or(Problem::NoPool)?;
+    let rows = rows_of(alloc, inventory, pool, from, to)?;
+    let written = moves_reply(alloc, inventory, pool.parts().id, from, to, rows.as_slice())?;
     Ok(written)
 }

@@ -13,16 +13,16 @@ use crush_report::{UsageRow, usage_with};
 use serde_json::{Value, json};
 use std::alloc::{AllocError, Global};
 use tenant_messages::{Problem, Refusal, Reply, success};
-use tenant_state::TenantState;
+use tenant_state::Inventory;
 
 // ---- the counts
 
 /// A row for each device, on the newest version. The problem is `NoVersion` where there is no
 /// version, and `NoRule` where the newest lacks the pool's rule.
-fn rows_of(alloc: Global, state: &TenantState, pool: &Pool) -> Result<Listed<UsageRow>, Refusal>
-    ensures { Gives (λ rows. rows) result (spec.rows_of state.now pool.now) }
+fn rows_of(alloc: Global, inventory: &Inventory, pool: &Pool) -> Result<Listed<UsageRow>, Refusal>
+    ensures { Gives (λ rows. rows) result (spec.rows_of inventory.now pool.now) }
 {
-    let placer = state.on_newest(pool)?;
+    let placer = inventory.on_newest(pool)?;
     let rows = usage_with(alloc, &placer)?;
     Ok(rows)
 }
@@ -56,28 +56,28 @@ fn rows_json(alloc: Global, rows: &[UsageRow]) -> Result<Value, AllocError>
 /// The body of the reply with these rows.
 fn usage_reply(
     alloc: Global,
-    state: &TenantState,
+    inventory: &Inventory,
     id: u32,
     rows: &[UsageRow],
 ) -> Result<Value, AllocError>
-    ensures { IfOk result (λ v. view v ≡ spec.usage_reply state.now id rows.now) }
+    ensures { IfOk result (λ v. view v ≡ spec.usage_reply inventory.now id rows.now) }
 {
     let rows = rows_json(alloc, rows)?;
     json!(in alloc; {
-        "epoch": state.epoch(),
+        "epoch": inventory.epoch(),
         "pool": id,
         "rows": rows,
-        "version": state.newest()
+        "version": inventory.newest()
     })
 }
 
 /// The reply with the counts of the pool with an id. The problem is, in this order, `NoPool`,
 /// `NoVersion`, or `NoRule`.
-pub fn answer(alloc: Global, id: u64, state: &TenantState) -> Result<Reply, Refusal>
-    ensures { Answers result (spec.usage_answer id state.now) }
+pub fn answer(alloc: Global, id: u64, inventory: &Inventory) -> Result<Reply, Refusal>
+    ensures { Answers result (spec.usage_answer id inventory.now) }
 {
-    let pool = state.pools().get(id).ok_or(Problem::NoPool)?;
-    let rows = rows_of(alloc, state, pool)?;
-    let body = usage_reply(alloc, state, pool.parts().id, rows.as_slice())?;
+    let pool = inventory.pools().get(id).ok_or(Problem::NoPool)?;
+    let rows = rows_of(alloc, inventory, pool)?;
+    let body = usage_reply(alloc, inventory, pool.parts().id, rows.as_slice())?;
     Ok(success(alloc, &body)?)
 }

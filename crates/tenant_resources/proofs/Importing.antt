@@ -8,18 +8,18 @@ use Rattle.crush_pool.specs.Placements.{rule_numbered}
 use Rattle.crush_text.specs.Reading.{map_of_text}
 use Rattle.tenant_resources.specs.Maps.{imported, import_reply}
 use Rattle.tenant_state.specs.declared.limits.TheConstants.{VERSION_LIMIT}
-use Rattle.tenant_state.specs.State.{TenantState, NewVersion}
+use Rattle.tenant_state.specs.State.{Inventory, NewVersion}
 use Rattle.tenant_messages.specs.declared.reply.Problem.TheVariants.{RuleInUse, MapRefused}
 use Rattle.tenant_messages.specs.declared.reply.SuccessStatus.TheVariants.{Created}
 
-pub of_fault : (text : List ℕ) (state : TenantState) (f : TextFault) → nat_le VERSION_LIMIT (length state.versions) ≡ false → map_of_text text ≡ Err f → imported text state ≡ Err (MapRefused f)
-of_fault text state f few is = rw (few, is) refl
+pub of_fault : (text : List ℕ) (inventory : Inventory) (f : TextFault) → nat_le VERSION_LIMIT (length inventory.versions) ≡ false → map_of_text text ≡ Err f → imported text inventory ≡ Err (MapRefused f)
+of_fault text inventory f few is = rw (few, is) refl
 
-pub of_rule_in_use : (text : List ℕ) (state : TenantState) (m : Map) → nat_le VERSION_LIMIT (length state.versions) ≡ false → map_of_text text ≡ Ok m
-    → list_all (λ p. is_some (rule_numbered m p.rule)) state.pools ≡ false → imported text state ≡ Err RuleInUse
-of_rule_in_use text state m few is lacks = rw (few, is, lacks) refl
+pub of_rule_in_use : (text : List ℕ) (inventory : Inventory) (m : Map) → nat_le VERSION_LIMIT (length inventory.versions) ≡ false → map_of_text text ≡ Ok m
+    → list_all (λ p. is_some (rule_numbered m p.rule)) inventory.pools ≡ false → imported text inventory ≡ Err RuleInUse
+of_rule_in_use text inventory m few is lacks = rw (few, is, lacks) refl
 
-pub of_map : (text : List ℕ) (state : TenantState) (m n : Map) (body : Data) → nat_le VERSION_LIMIT (length state.versions) ≡ false → map_of_text text ≡ Ok m
-    → list_all (λ p. is_some (rule_numbered m p.rule)) state.pools ≡ true → n ≡ m → body ≡ import_reply state
-    → imported text state ≡ Ok (record { made = NewVersion n; status = Created; body = body })
-of_map text state m n body few is has same written = rw (few, is, has, same, written) refl
+pub of_map : (text : List ℕ) (inventory : Inventory) (m n : Map) (body : Data) → nat_le VERSION_LIMIT (length inventory.versions) ≡ false → map_of_text text ≡ Ok m
+    → list_all (λ p. is_some (rule_numbered m p.rule)) inventory.pools ≡ true → n ≡ m → body ≡ import_reply inventory
+    → imported text inventory ≡ Ok (record { made = NewVersion n; status = Created; body = body })
+of_map text inventory m n body few is has same written = rw (few, is, has, same, written) refl

@@ -9,3 +9,4 @@ pub mod PlainReplies
 pub mod GroupAnswers
 pub mod Mapped
 pub mod PoolForms
+mod Seen

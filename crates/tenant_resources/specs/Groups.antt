@@ -17,7 +17,7 @@ use Rattle.tenant_messages.specs.declared.reply.Problem.{Problem}
 use Rattle.tenant_messages.specs.declared.reply.Problem.TheVariants.{NoPool, NoGroup, NoRule}
 use Rattle.tenant_messages.specs.Slots.{slot_json, list_json}
 use Rattle.tenant_resources.specs.declared.limits.TheConstants.{OBJECT_NAME_LIMIT}
-use Rattle.tenant_state.specs.State.{TenantState, epoch, newest, on_newest, pool}
+use Rattle.tenant_state.specs.State.{Inventory, newest, on_newest, pool}
 
 -- ---- the form of the body that asks for an object
 
@@ -44,17 +44,17 @@ locate_request_of body = option_and_then name_of (value_of body)
 
 -- {"epoch": E, "group": g, "primary": .., "raw": [..], "seed": .., "up": [..], "version": V}; for
 -- an object with "hash" after "group"
-abbrev pub group_reply : TenantState → ℕ → Placement → Data
-group_reply state group p =
-    object (members_of ((codes "epoch", natural (epoch state)) ∷ (codes "group", natural group) ∷ (codes "primary", slot_json p.primary)
+abbrev pub group_reply : Inventory → ℕ → Placement → Data
+group_reply inventory group p =
+    object (members_of ((codes "epoch", natural inventory.epoch) ∷ (codes "group", natural group) ∷ (codes "primary", slot_json p.primary)
     ∷ (codes "raw", list_json (map slot_json p.raw)) ∷ (codes "seed", natural p.seed) ∷ (codes "up", list_json (map slot_json p.up))
-    ∷ (codes "version", natural (newest state)) ∷ []))
+    ∷ (codes "version", natural (newest inventory)) ∷ []))
 
-abbrev pub object_reply : List ℕ → TenantState → ℕ → Placement → Data
-object_reply name state group p =
-    object (members_of ((codes "epoch", natural (epoch state)) ∷ (codes "group", natural group) ∷ (codes "hash", natural (name_hash name))
+abbrev pub object_reply : List ℕ → Inventory → ℕ → Placement → Data
+object_reply name inventory group p =
+    object (members_of ((codes "epoch", natural inventory.epoch) ∷ (codes "group", natural group) ∷ (codes "hash", natural (name_hash name))
     ∷ (codes "primary", slot_json p.primary) ∷ (codes "raw", list_json (map slot_json p.raw)) ∷ (codes "seed", natural p.seed)
-    ∷ (codes "up", list_json (map slot_json p.up)) ∷ (codes "version", natural (newest state)) ∷ []))
+    ∷ (codes "up", list_json (map slot_json p.up)) ∷ (codes "version", natural (newest inventory)) ∷ []))
 
 -- a group is placed by the rule of its pool
 abbrev pub on_map : ℕ → Result PoolOnMap Problem → Result Placement Problem
@@ -62,21 +62,21 @@ on_map group (Err problem) = Err problem
 on_map group (Ok p) = ok_or (placement p.map p.states p.pool group) NoRule
 
 -- the placement of a group on the newest version, or why there is none
-abbrev pub placed : TenantState → PoolParts → ℕ → Result Placement Problem
-placed state p group = if nat_lt group p.pg_num then on_map group (on_newest state p) else Err NoGroup
+abbrev pub placed : Inventory → PoolParts → ℕ → Result Placement Problem
+placed inventory p group = if nat_lt group p.pg_num then on_map group (on_newest inventory p) else Err NoGroup
 
-abbrev pub group_on : TenantState → ℕ → Option PoolParts → Answer
-group_on state group None = refused NoPool
-group_on state group (Some p) = answer_with (group_reply state group) (placed state p group)
+abbrev pub group_on : Inventory → ℕ → Option PoolParts → Answer
+group_on inventory group None = refused NoPool
+group_on inventory group (Some p) = answer_with (group_reply inventory group) (placed inventory p group)
 
 -- the group with a number of the pool with an id
-abbrev pub group_answer : ℕ → ℕ → TenantState → Answer
-group_answer id group state = group_on state group (pool id state)
+abbrev pub group_answer : ℕ → ℕ → Inventory → Answer
+group_answer id group inventory = group_on inventory group (pool id inventory)
 
-abbrev pub object_on : TenantState → List ℕ → Option PoolParts → Answer
-object_on state name None = refused NoPool
-object_on state name (Some p) = let group = group_of p name in answer_with (object_reply name state group) (placed state p group)
+abbrev pub object_on : Inventory → List ℕ → Option PoolParts → Answer
+object_on inventory name None = refused NoPool
+object_on inventory name (Some p) = let group = group_of p name in answer_with (object_reply name inventory group) (placed inventory p group)
 
 -- the group of the object with a name, of the pool with an id
-abbrev pub object_answer : ℕ → List ℕ → TenantState → Answer
-object_answer id name state = object_on state name (pool id state)
+abbrev pub object_answer : ℕ → List ℕ → Inventory → Answer
+object_answer id name inventory = object_on inventory name (pool id inventory)

@@ -15,7 +15,7 @@ use Rattle.tenant_messages.specs.Json.{value_of, both, has_keys, under}
 use Rattle.tenant_messages.specs.Numbers.{IsRequestNumber, request_number_of}
 use Rattle.tenant_messages.specs.Reply.{Answer, refused, success, members_of, natural}
 use Rattle.tenant_state.specs.declared.limits.TheConstants.{VERSION_LIMIT}
-use Rattle.tenant_state.specs.State.{TenantState, NewVersion, epoch, newest, version}
+use Rattle.tenant_state.specs.State.{Inventory, NewVersion, newest, version}
 use Rattle.tenant_messages.specs.declared.reply.Problem.{Problem}
 use Rattle.tenant_messages.specs.declared.reply.Problem.TheVariants.{NoVersion, RuleInUse, MapRefused, TenantLimit}
 use Rattle.tenant_messages.specs.declared.reply.SuccessStatus.TheVariants.{Created}
@@ -43,18 +43,18 @@ import_request_of body = option_and_then import_of (value_of body)
 -- ---- importing a text
 
 -- {"epoch": E, "version": V}
-abbrev pub import_reply : TenantState → Data
-import_reply state = object (members_of ((codes "epoch", natural (suc (epoch state))) ∷ (codes "version", natural (suc (newest state))) ∷ []))
+abbrev pub import_reply : Inventory → Data
+import_reply inventory = object (members_of ((codes "epoch", natural (suc inventory.epoch)) ∷ (codes "version", natural (suc (newest inventory))) ∷ []))
 
 -- each pool's rule has to be in the new map
-abbrev pub on_text : TenantState → Result Map TextFault → Result Accepted Problem
-on_text state (Err fault) = Err (MapRefused fault)
-on_text state (Ok m) =
-    if list_all (λ p. is_some (rule_numbered m p.rule)) state.pools then Ok (record { made = NewVersion m; status = Created; body = import_reply state })
+abbrev pub on_text : Inventory → Result Map TextFault → Result Accepted Problem
+on_text inventory (Err fault) = Err (MapRefused fault)
+on_text inventory (Ok m) =
+    if list_all (λ p. is_some (rule_numbered m p.rule)) inventory.pools then Ok (record { made = NewVersion m; status = Created; body = import_reply inventory })
     else Err RuleInUse
 
-abbrev pub imported : List ℕ → TenantState → Result Accepted Problem
-imported text state = if nat_le VERSION_LIMIT (length state.versions) then Err TenantLimit else on_text state (map_of_text text)
+abbrev pub imported : List ℕ → Inventory → Result Accepted Problem
+imported text inventory = if nat_le VERSION_LIMIT (length inventory.versions) then Err TenantLimit else on_text inventory (map_of_text text)
 
 -- ---- reading a version
 
@@ -66,5 +66,5 @@ abbrev pub on_version : ℕ → Option Map → Answer
 on_version number None = refused NoVersion
 on_version number (Some m) = success (version_reply number m)
 
-abbrev pub answer : ℕ → TenantState → Answer
-answer number state = on_version number (version number state)
+abbrev pub answer : ℕ → Inventory → Answer
+answer number inventory = on_version number (version number inventory)

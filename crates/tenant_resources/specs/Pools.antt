@@ -19,7 +19,7 @@ use Rattle.tenant_messages.specs.declared.reply.Problem.TheVariants.{NoVersion, 
 use Rattle.tenant_messages.specs.declared.reply.SuccessStatus.TheVariants.{Done, Created}
 use Rattle.tenant_resources.specs.Orders.{Accepted}
 use Rattle.tenant_state.specs.declared.limits.TheConstants.{POOL_LIMIT}
-use Rattle.tenant_state.specs.State.{TenantState, NewPool, RemovedPool, epoch, newest, version, pool}
+use Rattle.tenant_state.specs.State.{Inventory, NewPool, RemovedPool, newest, version, pool}
 
 -- ---- the form of a body, and the pool that it says
 
@@ -126,41 +126,41 @@ abbrev pub is_like : PoolParts → PoolParts → Bool
 is_like p other = other.id == p.id || bytes_eq other.name p.name
 
 -- {"epoch": E, "pool": id}
-abbrev pub creation : ℕ → TenantState → Data
-creation id state = object (members_of ((codes "epoch", natural (suc (epoch state))) ∷ (codes "pool", natural id) ∷ []))
+abbrev pub creation : ℕ → Inventory → Data
+creation id inventory = object (members_of ((codes "epoch", natural (suc inventory.epoch)) ∷ (codes "pool", natural id) ∷ []))
 
-abbrev pub on_rule : PoolParts → TenantState → Option Rule → Result Accepted Problem
-on_rule p state None = Err NoRule
-on_rule p state (Some rule) =
-    if list_any (is_like p) state.pools then Err Exists
-    else (if nat_le POOL_LIMIT (length state.pools) then Err TenantLimit
-    else Ok (record { made = NewPool p; status = Created; body = creation p.id state }))
+abbrev pub on_rule : PoolParts → Inventory → Option Rule → Result Accepted Problem
+on_rule p inventory None = Err NoRule
+on_rule p inventory (Some rule) =
+    if list_any (is_like p) inventory.pools then Err Exists
+    else (if nat_le POOL_LIMIT (length inventory.pools) then Err TenantLimit
+    else Ok (record { made = NewPool p; status = Created; body = creation p.id inventory }))
 
 -- the newest version has to have the pool's rule
-abbrev pub on_version : PoolParts → TenantState → Option Map → Result Accepted Problem
-on_version p state None = Err NoVersion
-on_version p state (Some m) = on_rule p state (rule_numbered m p.rule)
+abbrev pub on_version : PoolParts → Inventory → Option Map → Result Accepted Problem
+on_version p inventory None = Err NoVersion
+on_version p inventory (Some m) = on_rule p inventory (rule_numbered m p.rule)
 
-abbrev pub created : PoolParts → TenantState → Result Accepted Problem
-created p state = on_version p state (version (newest state) state)
+abbrev pub created : PoolParts → Inventory → Result Accepted Problem
+created p inventory = on_version p inventory (version (newest inventory) inventory)
 
 -- the rule of a pool in the newest version
-abbrev pub rule_of : TenantState → PoolParts → Option Rule
-rule_of state p = option_and_then (λ m. rule_numbered m p.rule) (version (newest state) state)
+abbrev pub rule_of : Inventory → PoolParts → Option Rule
+rule_of inventory p = option_and_then (λ m. rule_numbered m p.rule) (version (newest inventory) inventory)
 
 -- whether the newest version has each pool's rule
-abbrev pub have_rules : TenantState → Bool
-have_rules state = list_all (λ p. is_some (rule_of state p)) state.pools
+abbrev pub have_rules : Inventory → Bool
+have_rules inventory = list_all (λ p. is_some (rule_of inventory p)) inventory.pools
 
 -- ---- removing a pool
 
 -- {"epoch": E, "removed": id}
-abbrev pub removal : ℕ → TenantState → Data
-removal id state = object (members_of ((codes "epoch", natural (suc (epoch state))) ∷ (codes "removed", natural id) ∷ []))
+abbrev pub removal : ℕ → Inventory → Data
+removal id inventory = object (members_of ((codes "epoch", natural (suc inventory.epoch)) ∷ (codes "removed", natural id) ∷ []))
 
-abbrev pub on_pool : ℕ → TenantState → Option PoolParts → Result Accepted Problem
-on_pool id state None = Err NoPool
-on_pool id state (Some p) = Ok (record { made = RemovedPool id; status = Done; body = removal id state })
+abbrev pub on_pool : ℕ → Inventory → Option PoolParts → Result Accepted Problem
+on_pool id inventory None = Err NoPool
+on_pool id inventory (Some p) = Ok (record { made = RemovedPool id; status = Done; body = removal id inventory })
 
-abbrev pub removed : ℕ → TenantState → Result Accepted Problem
-removed id state = on_pool id state (pool id state)
+abbrev pub removed : ℕ → Inventory → Result Accepted Problem
+removed id inventory = on_pool id inventory (pool id inventory)

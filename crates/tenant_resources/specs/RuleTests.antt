@@ -17,7 +17,7 @@ use Rattle.tenant_messages.specs.Forms.{IsNatural, IsOptional, if_any, HasExactl
 use Rattle.tenant_messages.specs.Json.{value_of, natural_of, both, has_keys, under, optional, present}
 use Rattle.tenant_messages.specs.Reply.{Answer, refused, success, members_of, natural}
 use Rattle.tenant_messages.specs.Slots.{slot_json, list_json}
-use Rattle.tenant_state.specs.State.{TenantState, epoch, newest, version}
+use Rattle.tenant_state.specs.State.{Inventory, newest, version}
 use Rattle.tenant_messages.specs.declared.reply.Problem.TheVariants.{NoVersion, NoRule}
 
 -- a test: the rule with this id gives at most so many items for an input, on a version, or else on
@@ -73,14 +73,14 @@ abbrev pub tested : ℕ → ℕ → Map → List ℕ → Rule → ℕ → ℕ �
 tested e v m weights rule x size =
     outcome e v (rule_answer (tables_of m) weights rule.steps x size) (rule_trace (tables_of m) weights rule.steps x size)
 
-abbrev pub on_rule : RuleTest → TenantState → ℕ → Map → Option Rule → Answer
-on_rule t state v m None = refused NoRule
-on_rule t state v m (Some rule) = success (tested (epoch state) v m (weights_of (reweights state.devices)) rule t.x t.size)
+abbrev pub on_rule : RuleTest → Inventory → ℕ → Map → Option Rule → Answer
+on_rule t inventory v m None = refused NoRule
+on_rule t inventory v m (Some rule) = success (tested inventory.epoch v m (weights_of (reweights inventory.devices)) rule t.x t.size)
 
-abbrev pub on_version : RuleTest → TenantState → ℕ → Option Map → Answer
-on_version t state v None = refused NoVersion
-on_version t state v (Some m) = on_rule t state v m (rule_numbered m t.rule)
+abbrev pub on_version : RuleTest → Inventory → ℕ → Option Map → Answer
+on_version t inventory v None = refused NoVersion
+on_version t inventory v (Some m) = on_rule t inventory v m (rule_numbered m t.rule)
 
 -- the version that the body names, or else the newest, with the states of devices as they are now
-abbrev pub answer : RuleTest → TenantState → Answer
-answer t state = let v = unwrap_or t.version (newest state) in on_version t state v (version v state)
+abbrev pub answer : RuleTest → Inventory → Answer
+answer t inventory = let v = unwrap_or t.version (newest inventory) in on_version t inventory v (version v inventory)

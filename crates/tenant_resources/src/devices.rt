@@ -23,7 +23,7 @@ use tenant_messages::{
     Problem, Refusal, SuccessStatus, has_keys, natural, optional_boolean, optional_natural,
     read_value, request_number,
 };
-use tenant_state::{Devices, Made, TenantState, Version};
+use tenant_state::{Devices, Inventory, Made, Version};
 
 // ---- the body
 
@@ -94,7 +94,7 @@ fn changes_in(alloc: Global, value: &Value) -> Result<(Text, Listed<DeviceChange
 
 /// The request number and the changes that a body asks for. The problem is `BadRequest`, exactly
 /// where the body isn't of the form (`IsDevicesBody`).
-pub fn read_changes(alloc: Global, body: &[u8]) -> Result<(Text, Listed<DeviceChange>), Refusal>
+pub fn read_changes(alloc: Global, body: &str) -> Result<(Text, Listed<DeviceChange>), Refusal>
     ensures { Reads (λ asked. asked) result (spec.devices_request_of body.now) }
 {
     changes_in(alloc, &read_value(alloc, body)?)
@@ -168,11 +168,11 @@ fn has_devices(version: &Version, changes: &[DeviceChange]) -> bool
 }
 
 /// The body of the reply: how many devices were changed, and the epoch after the change.
-fn devices_reply(alloc: Global, count: usize, state: &TenantState) -> Result<Value, AllocError>
-    requires receipts { length state.now.receipts < 2 ^ 32 }
-    ensures { IfOk result (λ v. view v ≡ spec.devices_reply count state.now) }
+fn devices_reply(alloc: Global, count: usize, inventory: &Inventory) -> Result<Value, AllocError>
+    requires receipts { inventory.now.epoch < 2 ^ 32 }
+    ensures { IfOk result (λ v. view v ≡ spec.devices_reply count inventory.now) }
 {
-    json!(in alloc; {"devices": count as u64, "epoch": state.epoch() + 1})
+    json!(in alloc; {"devices": count as u64, "epoch": inventory.epoch() + 1})
 }
 
 /// The new states of devices, with the reply. The problem is `NoVersion` where there is no version,
@@ -180,22 +180,22 @@ fn devices_reply(alloc: Global, count: usize, state: &TenantState) -> Result<Val
 pub fn change_devices(
     alloc: Global,
     changes: &[DeviceChange],
-    state: &TenantState,
+    inventory: &Inventory,
 ) -> Result<Accepted, Refusal>
-    requires { length state.now.receipts < 2 ^ 32 }
-    ensures given { Gives accepted_of result (spec.devices_changed changes.now state.now) }
+    requires { inventory.now.epoch < 2 ^ 32 }
+    ensures given { Gives accepted_of result (spec.devices_changed changes.now inventory.now) }
     ensures plain { IfOk result (λ a. has_float (view a.body) ≡ false) }
 {
-    let Some(version) = state.version(state.newest()) else {
+    let Some(version) = inventory.version(inventory.newest()) else {
         return Err(Refusal::Problem(Problem::NoVersion));
     };
     if !has_devices(version, changes) {
         return Err(Refusal::Problem(Problem::NoDevice));
     }
-    let states = all_changed(alloc, state.devices(), changes)?;
+    let states = all_changed(alloc, inventory.devices(), changes)?;
     Ok(Accepted {
         made: Made::States(Listed::new(states)),
         status: SuccessStatus::Done,
-        body: devices_reply(alloc, changes.len(), state)?,
+        body: devices_reply(alloc, changes.len(), inventory)?,
     })
 }

@@ -20,7 +20,7 @@ use std::marker::Model;
 use tenant_messages::{
     Problem, Refusal, Reply, has_keys, read_value, slot_json, slots_json, success, text,
 };
-use tenant_state::TenantState;
+use tenant_state::Inventory;
 
 /// The name of an object: a text of at most `OBJECT_NAME_LIMIT` bytes.
 #[derive(Drop)]
@@ -72,7 +72,7 @@ fn name_in(alloc: Global, value: &Value) -> Result<ObjectName, Refusal>
 
 /// The name of the object that a body asks for. The problem is `BadRequest`, exactly where the body
 /// isn't of the form (`IsLocateBody`).
-pub fn read_name(alloc: Global, body: &[u8]) -> Result<ObjectName, Refusal>
+pub fn read_name(alloc: Global, body: &str) -> Result<ObjectName, Refusal>
     ensures { Reads (λ name. name) result (spec.locate_request_of body.now) }
 {
     name_in(alloc, &read_value(alloc, body)?)
@@ -82,11 +82,16 @@ pub fn read_name(alloc: Global, body: &[u8]) -> Result<ObjectName, Refusal>
 
 /// The placement of a group of a pool on the newest version. The problem is `NoVersion` where there
 /// is no version, and `NoRule` where the newest lacks the pool's rule.
-fn placed(alloc: Global, state: &TenantState, pool: &Pool, group: u32) -> Result<Placement, Refusal>
+fn placed(
+    alloc: Global,
+    inventory: &Inventory,
+    pool: &Pool,
+    group: u32,
+) -> Result<Placement, Refusal>
     requires { group < pool.now.pg_num }
-    ensures { Gives (λ p. p) result (spec.placed state.now pool.now group) }
+    ensures { Gives (λ p. p) result (spec.placed inventory.now pool.now group) }
 {
-    let placer = state.on_newest(pool)?;
+    let placer = inventory.on_newest(pool)?;
     let mut scratch = Scratch::build(alloc, placer.tables())?;
     let mut out = Out::build(alloc)?;
     let placement = placer.place_with(alloc, &mut scratch, &mut out, group)?;
@@ -110,21 +115,21 @@ fn placement_json(alloc: Global, placement: &Placement) -> Result<(Value, Value,
 /// The body of the reply for a group.
 fn group_reply(
     alloc: Global,
-    state: &TenantState,
+    inventory: &Inventory,
     group: u32,
     placement: &Placement,
 ) -> Result<Value, AllocError>
-    ensures { IfOk result (λ v. view v ≡ spec.group_reply state.now group placement.now) }
+    ensures { IfOk result (λ v. view v ≡ spec.group_reply inventory.now group placement.now) }
 {
     let (primary, raw, up) = placement_json(alloc, placement)?;
     json!(in alloc; {
-        "epoch": state.epoch(),
+        "epoch": inventory.epoch(),
         "group": group,
         "primary": primary,
         "raw": raw,
         "seed": placement.seed,
         "up": up,
-        "version": state.newest()
+        "version": inventory.newest()
     })
 }
 
@@ -132,24 +137,24 @@ fn group_reply(
 fn object_reply(
     alloc: Global,
     name: &str,
-    state: &TenantState,
+    inventory: &Inventory,
     group: u32,
     placement: &Placement,
 ) -> Result<Value, AllocError>
     requires { length name.now < 2 ^ 32 }
-    ensures { IfOk result (λ v. view v ≡ spec.object_reply name.now state.now group placement.now) }
+    ensures { IfOk result (λ v. view v ≡ spec.object_reply name.now inventory.now group placement.now) }
 {
     let hash = name_hash(name.as_bytes());
     let (primary, raw, up) = placement_json(alloc, placement)?;
     json!(in alloc; {
-        "epoch": state.epoch(),
+        "epoch": inventory.epoch(),
         "group": group,
         "hash": hash,
         "primary": primary,
         "raw": raw,
         "seed": placement.seed,
         "up": up,
-        "version": state.newest()
+        "version": inventory.newest()
     })
 }
 
@@ -159,17 +164,17 @@ pub fn group_answer(
     alloc: Global,
     id: u64,
     group: u64,
-    state: &TenantState,
+    inventory: &Inventory,
 ) -> Result<Reply, Refusal>
-    ensures { Answers result (spec.group_answer id group state.now) }
+    ensures { Answers result (spec.group_answer id group inventory.now) }
 {
-    let pool = state.pools().get(id).ok_or(Problem::NoPool)?;
+    let pool = inventory.pools().get(id).ok_or(Problem::NoPool)?;
     if group >= u64::from(pool.parts().pg_num) {
         return Err(Refusal::Problem(Problem::NoGroup));
     }
     let group = group as u32;
-    let placement = placed(alloc, state, pool, group)?;
-    let body = group_reply(alloc, state, group, &placement)?;
+    let placement = placed(alloc, inventory, pool, group)?;
+    let body = group_reply(alloc, inventory, group, &placement)?;
     Ok(success(alloc, &body)?)
 }
 
@@ -179,14 +184,14 @@ pub fn object_answer(
     alloc: Global,
     id: u64,
     name: &ObjectName,
-    state: &TenantState,
+    inventory: &Inventory,
 ) -> Result<Reply, Refusal>
-    ensures { Answers result (spec.object_answer id name.now state.now) }
+    ensures { Answers result (spec.object_answer id name.now inventory.now) }
 {
-    let pool = state.pools().get(id).ok_or(Problem::NoPool)?;
+    let pool = inventory.pools().get(id).ok_or(Problem::NoPool)?;
     let name = name.as_str();
     let group = pool.group_of(name.as_bytes());
-    let placement = placed(alloc, state, pool, group)?;
-    let body = object_reply(alloc, name, state, group, &placement)?;
+    let placement = placed(alloc, inventory, pool, group)?;
+    let body = object_reply(alloc, name, inventory, group, &placement)?;
     Ok(success(alloc, &body)?)
 }

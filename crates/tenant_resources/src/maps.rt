@@ -22,7 +22,7 @@ use tenant_messages::{
     Problem, Refusal, Reply, SuccessStatus, has_keys, read_value, request_number, success, text,
 };
 use tenant_state::limits::VERSION_LIMIT;
-use tenant_state::{Made, Pools, TenantState, Version};
+use tenant_state::{Inventory, Made, Pools, Version};
 
 // ---- the body of an import
 
@@ -41,7 +41,7 @@ fn import_in(alloc: Global, value: &Value) -> Result<(Text, Text), Refusal>
 
 /// The request number and the text of the import that a body asks for. The problem is `BadRequest`,
 /// exactly where the body isn't of the form (`IsImportBody`).
-pub fn read_import(alloc: Global, body: &[u8]) -> Result<(Text, Text), Refusal>
+pub fn read_import(alloc: Global, body: &str) -> Result<(Text, Text), Refusal>
     ensures { Reads (λ asked. asked) result (spec.import_request_of body.now) }
 {
     import_in(alloc, &read_value(alloc, body)?)
@@ -50,12 +50,12 @@ pub fn read_import(alloc: Global, body: &[u8]) -> Result<(Text, Text), Refusal>
 // ---- importing a text
 
 /// The body of the reply: the epoch after the import, and the number of the new version.
-fn import_reply(alloc: Global, state: &TenantState) -> Result<Value, AllocError>
-    requires receipts { length state.now.receipts < 2 ^ 32 }
-    requires versions { length state.now.versions < 2 ^ 32 }
-    ensures { IfOk result (λ v. view v ≡ spec.import_reply state.now) }
+fn import_reply(alloc: Global, inventory: &Inventory) -> Result<Value, AllocError>
+    requires receipts { inventory.now.epoch < 2 ^ 32 }
+    requires versions { length inventory.now.versions < 2 ^ 32 }
+    ensures { IfOk result (λ v. view v ≡ spec.import_reply inventory.now) }
 {
-    json!(in alloc; {"epoch": state.epoch() + 1, "version": state.newest() + 1})
+    json!(in alloc; {"epoch": inventory.epoch() + 1, "version": inventory.newest() + 1})
 }
 
 /// The version with this map, to be shared. `Err(AllocError)`: an allocation failed; the map is
@@ -86,26 +86,26 @@ fn has_rules_of(map: &CrushMap, pools: &Pools) -> bool
 /// The version of a map's text, with the reply. The problem is, in this order, `TenantLimit` where
 /// there are `VERSION_LIMIT` versions already, `MapRefused` with the text's first fault, or
 /// `RuleInUse` where the new map lacks the rule of a pool.
-pub fn import(alloc: Global, text: &str, state: &TenantState) -> Result<Accepted, Refusal>
-    requires { length state.now.receipts < 2 ^ 32 }
-    ensures given { Gives accepted_of result (spec.imported text.now state.now) }
+pub fn import(alloc: Global, text: &str, inventory: &Inventory) -> Result<Accepted, Refusal>
+    requires { inventory.now.epoch < 2 ^ 32 }
+    ensures given { Gives accepted_of result (spec.imported text.now inventory.now) }
     ensures plain { IfOk result (λ a. has_float (view a.body) ≡ false) }
 {
-    if state.newest() >= VERSION_LIMIT as u64 {
+    if inventory.newest() >= VERSION_LIMIT as u64 {
         return Err(Refusal::Problem(Problem::TenantLimit));
     }
     texts_are_read_as_they_say();
     match read_map(alloc, text.as_bytes())? {
         Err(fault) => Err(Refusal::Problem(Problem::MapRefused(fault))),
         Ok(map) => {
-            if !has_rules_of(&map, state.pools()) {
+            if !has_rules_of(&map, inventory.pools()) {
                 return Err(Refusal::Problem(Problem::RuleInUse));
             }
             let version = shared_version(alloc, map)?;
             Ok(Accepted {
                 made: Made::Version(version),
                 status: SuccessStatus::Created,
-                body: import_reply(alloc, state)?,
+                body: import_reply(alloc, inventory)?,
             })
         }
     }
@@ -121,10 +121,10 @@ fn version_reply(alloc: Global, number: u64, version: &Version) -> Result<Value,
 }
 
 /// The reply with the canonical text of the version with a number. The problem is `NoVersion`.
-pub fn answer(alloc: Global, number: u64, state: &TenantState) -> Result<Reply, Refusal>
-    ensures { Answers result (spec.answer number state.now) }
+pub fn answer(alloc: Global, number: u64, inventory: &Inventory) -> Result<Reply, Refusal>
+    ensures { Answers result (spec.answer number inventory.now) }
 {
-    let version = state.version(number).ok_or(Problem::NoVersion)?;
+    let version = inventory.version(number).ok_or(Problem::NoVersion)?;
     let body = version_reply(alloc, number, version)?;
     Ok(success(alloc, &body)?)
 }

@@ -1,19 +1,21 @@
 //! Picks, at `/t/{t}/pick`: POST asks which item a bucket picks. The bucket is described in the
 //! body.
 
-ghost use Rattle.std.specs.Prelude.{◌≡◌, ◌<◌, ◌^◌, IfOk, codes, length};
+ghost use Rattle.std.specs.Prelude.{◌≡◌, ◌<◌, ◌^◌, ◌&&◌, ◌||◌, ◌+ℤ◌, IfOk, None, Some, codes, false, int_le, int_lt, length, pos, slice_index_or, true, ℕ, ℤ};
 ghost use Rattle.std.specs.List.{list_any};
 ghost use Rattle.serde_json.specs.View.{view, items_view};
 ghost use Rattle.crush_bucket.specs.Bucket.{total_weight, HasEqualWeights};
 ghost use Rattle.crush_bucket.specs.Pick.{pick};
 ghost use Rattle.tenant_messages.specs.Json as json;
 ghost use Rattle.tenant_resources.specs.Picks as spec;
+ghost use Rattle.tenant_resources.specs.Private.Seen.{HasItems};
 ghost use Rattle.tenant_messages.specs.Reading.{Reads};
+ghost use Rattle.crush_values.specs.declared.limits.TheConstants.{ID_COUNT};
 ghost use Rattle.tenant_messages.specs.Reply.{reply};
 
 use crate::limits::ATTEMPT_LIMIT;
 use crush_bucket::{AnyBucket, Perm, Picker};
-use crush_map::limits::{ITEM_LIMIT, NUMBER_LIMIT, TOTAL_WEIGHT_LIMIT};
+use crush_map::limits::{ID_COUNT, ITEM_LIMIT, NUMBER_LIMIT, TOTAL_WEIGHT_LIMIT};
 use crush_map::{ItemId, Kind, Weight, has_equal_weights, total_weight};
 use serde_json::{Value, json};
 use std::alloc::{AllocError, Global};
@@ -116,16 +118,51 @@ fn contains(item: i32, entries: &[(ItemId, Weight)]) -> bool
     entries.iter().any(|entry| entry.0.0 == item)
 }
 
-/// Whether no item comes twice.
+/// The place of an item in a table of flags for all ids that an item can have, from the least one
+/// on. `None` where the item is less than each.
+fn place_of(item: i32) -> Option<usize>
+    ensures below { result ≡ None → int_lt (pos ID_COUNT +ℤ item) (pos 0) ≡ true }
+    ensures there { (place : ℕ) → result ≡ Some place → pos place ≡ pos ID_COUNT +ℤ item }
+{
+    usize::try_from(ID_COUNT as i64 + i64::from(item)).ok()
+}
+
+/// Whether one of the entries has this item. A table of flags says which of the items that it
+/// reaches one has; for other items the entries are looked through.
+fn is_again(seen: &[bool], item: i32, entries: &[(ItemId, Weight)]) -> bool
+    requires { HasItems seen.now entries.now }
+    ensures { result ≡ list_any (spec.is_of_item item) entries.now }
+{
+    match place_of(item) {
+        Some(place) if place < seen.len() => seen[place],
+        _ => contains(item, entries),
+    }
+}
+
+/// Sets the flag of an item, if the table reaches it.
+fn mark(seen: &mut [bool], item: i32)
+    ensures len { length seen.new ≡ length seen.old }
+    ensures each { (z : ℤ) → (place : ℕ) → place < length seen.old → pos place ≡ pos ID_COUNT +ℤ z → slice_index_or seen.new place false ≡ ((int_le z item && int_le item z) || slice_index_or seen.old place false) }
+{
+    if let Some(place) = place_of(item)
+        && place < seen.len()
+    {
+        seen[place] = true;
+    }
+}
+
+/// Whether no item comes twice, by a table of flags for all ids that an item can have: in linear
+/// time where all ids are such. Allocates nothing.
 fn are_distinct(entries: &[(ItemId, Weight)]) -> bool
     ensures { result ≡ spec.are_distinct entries.now }
 {
-    let mut rest = entries;
-    while let [first, others @ ..] = rest {
-        if contains(first.0.0, others) {
+    let mut seen = [false; 2 * ID_COUNT];
+    for place in (0..entries.len()).rev() {
+        let item = entries[place].0.0;
+        if is_again(&seen, item, &entries[place + 1..]) {
             return false;
         }
-        rest = others;
+        mark(&mut seen, item);
     }
     true
 }
@@ -191,7 +228,7 @@ fn pick(alloc: Global, value: &Value) -> Result<PickRequest, Refusal>
 
 /// The pick that a body asks for. The problem is `BadRequest`, exactly where the body isn't of the
 /// form (`IsPickBody`).
-pub fn read_pick(alloc: Global, body: &[u8]) -> Result<PickRequest, Refusal>
+pub fn read_pick(alloc: Global, body: &str) -> Result<PickRequest, Refusal>
     ensures { Reads (λ p. p) result (spec.pick_request_of body.now) }
 {
     pick(alloc, &read_value(alloc, body)?)

@@ -22,7 +22,7 @@ use tenant_messages::{
     Problem, Refusal, SuccessStatus, boolean, has_keys, natural, read_value, request_number, text,
 };
 use tenant_state::limits::POOL_LIMIT;
-use tenant_state::{Made, Pools, TenantState};
+use tenant_state::{Inventory, Made, Pools};
 
 // ---- the body of a creation
 
@@ -102,7 +102,7 @@ fn pool_in(alloc: Global, value: &Value) -> Result<(Text, Pool), Refusal>
 
 /// The request number and the pool that a body asks for. The problem is `BadRequest`, exactly where
 /// the body isn't of the form (`IsPoolBody`).
-pub fn read_pool(alloc: Global, body: &[u8]) -> Result<(Text, Pool), Refusal>
+pub fn read_pool(alloc: Global, body: &str) -> Result<(Text, Pool), Refusal>
     ensures { Reads (λ asked. asked) result (spec.pool_request_of body.now) }
 {
     pool_in(alloc, &read_value(alloc, body)?)
@@ -128,7 +128,7 @@ fn removal_in(alloc: Global, value: &Value) -> Result<(Text, u32), Refusal>
 
 /// The request number and the id of the pool that a body asks to remove. The problem is
 /// `BadRequest`, exactly where the body isn't of the form (`IsRemovalBody`).
-pub fn read_removal(alloc: Global, body: &[u8]) -> Result<(Text, u32), Refusal>
+pub fn read_removal(alloc: Global, body: &str) -> Result<(Text, u32), Refusal>
     ensures { Reads (λ asked. asked) result (spec.removal_request_of body.now) }
 {
     removal_in(alloc, &read_value(alloc, body)?)
@@ -158,11 +158,11 @@ fn is_taken(parts: &PoolParts, pools: &Pools) -> bool
 }
 
 /// The body of the reply: the epoch after the creation, and the pool's id.
-fn creation(alloc: Global, id: u32, state: &TenantState) -> Result<Value, AllocError>
-    requires receipts { length state.now.receipts < 2 ^ 32 }
-    ensures { IfOk result (λ v. view v ≡ spec.creation id state.now) }
+fn creation(alloc: Global, id: u32, inventory: &Inventory) -> Result<Value, AllocError>
+    requires receipts { inventory.now.epoch < 2 ^ 32 }
+    ensures { IfOk result (λ v. view v ≡ spec.creation id inventory.now) }
 {
-    json!(in alloc; {"epoch": state.epoch() + 1, "pool": id})
+    json!(in alloc; {"epoch": inventory.epoch() + 1, "pool": id})
 }
 
 /// A copy of a pool, to be shared. `Err(AllocError)`: an allocation failed; nothing is changed.
@@ -183,53 +183,53 @@ fn shared(alloc: Global, pool: &Pool) -> Result<Rc<Pool>, AllocError>
 /// One more pool, with the reply. The problem is, in this order, `NoVersion`, `NoRule` where the
 /// newest version lacks the pool's rule, `Exists` where a pool has the id or the name, or
 /// `TenantLimit` where there are `POOL_LIMIT` pools already.
-pub fn create(alloc: Global, pool: &Pool, state: &TenantState) -> Result<Accepted, Refusal>
-    requires { length state.now.receipts < 2 ^ 32 }
-    ensures given { Gives accepted_of result (spec.created pool.now state.now) }
+pub fn create(alloc: Global, pool: &Pool, inventory: &Inventory) -> Result<Accepted, Refusal>
+    requires { inventory.now.epoch < 2 ^ 32 }
+    ensures given { Gives accepted_of result (spec.created pool.now inventory.now) }
     ensures plain { IfOk result (λ a. has_float (view a.body) ≡ false) }
 {
     let parts = pool.parts();
-    let Some(version) = state.version(state.newest()) else {
+    let Some(version) = inventory.version(inventory.newest()) else {
         return Err(Refusal::Problem(Problem::NoVersion));
     };
     if rule_with_id(version.map(), parts.rule).is_none() {
         return Err(Refusal::Problem(Problem::NoRule));
     }
-    if is_taken(parts, state.pools()) {
+    if is_taken(parts, inventory.pools()) {
         return Err(Refusal::Problem(Problem::Exists));
     }
-    if state.pools().len() >= POOL_LIMIT {
+    if inventory.pools().len() >= POOL_LIMIT {
         return Err(Refusal::Problem(Problem::TenantLimit));
     }
     Ok(Accepted {
         made: Made::Pool(shared(alloc, pool)?),
         status: SuccessStatus::Created,
-        body: creation(alloc, parts.id, state)?,
+        body: creation(alloc, parts.id, inventory)?,
     })
 }
 
 // ---- removing a pool
 
 /// The body of the reply: the epoch after the removal, and the pool's id.
-fn removal(alloc: Global, id: u32, state: &TenantState) -> Result<Value, AllocError>
-    requires receipts { length state.now.receipts < 2 ^ 32 }
-    ensures { IfOk result (λ v. view v ≡ spec.removal id state.now) }
+fn removal(alloc: Global, id: u32, inventory: &Inventory) -> Result<Value, AllocError>
+    requires receipts { inventory.now.epoch < 2 ^ 32 }
+    ensures { IfOk result (λ v. view v ≡ spec.removal id inventory.now) }
 {
-    json!(in alloc; {"epoch": state.epoch() + 1, "removed": id})
+    json!(in alloc; {"epoch": inventory.epoch() + 1, "removed": id})
 }
 
 /// The removal of the pool with an id, with the reply. The problem is `NoPool`.
-pub fn remove(alloc: Global, id: u32, state: &TenantState) -> Result<Accepted, Refusal>
-    requires { length state.now.receipts < 2 ^ 32 }
-    ensures given { Gives accepted_of result (spec.removed id state.now) }
+pub fn remove(alloc: Global, id: u32, inventory: &Inventory) -> Result<Accepted, Refusal>
+    requires { inventory.now.epoch < 2 ^ 32 }
+    ensures given { Gives accepted_of result (spec.removed id inventory.now) }
     ensures plain { IfOk result (λ a. has_float (view a.body) ≡ false) }
 {
-    if state.pools().get(u64::from(id)).is_none() {
+    if inventory.pools().get(u64::from(id)).is_none() {
         return Err(Refusal::Problem(Problem::NoPool));
     }
     Ok(Accepted {
         made: Made::NoPool(id),
         status: SuccessStatus::Done,
-        body: removal(alloc, id, state)?,
+        body: removal(alloc, id, inventory)?,
     })
 }

@@ -25,7 +25,7 @@ use tenant_messages::{
     Problem, Refusal, Reply, has_keys, ids_json, natural, optional_natural, read_value, slots_json,
     success,
 };
-use tenant_state::{TenantState, Version};
+use tenant_state::{Inventory, Version};
 
 /// The body of a rule test: which items the rule gives for the input `x`, at most `size` of them.
 #[derive(Drop)]
@@ -78,7 +78,7 @@ fn test(value: &Value) -> Option<RuleTest>
 
 /// The test that a body asks for. The problem is `BadRequest`, exactly where the body isn't of the
 /// form (`IsTestBody`).
-pub fn read_test(alloc: Global, body: &[u8]) -> Result<RuleTest, Refusal>
+pub fn read_test(alloc: Global, body: &str) -> Result<RuleTest, Refusal>
     ensures { Reads (λ t. t) result (spec.test_request_of body.now) }
 {
     let value = read_value(alloc, body)?;
@@ -137,28 +137,36 @@ fn tested(
 fn answer_on(
     alloc: Global,
     test: &RuleTest,
-    state: &TenantState,
+    inventory: &Inventory,
     number: u64,
     version: &Version,
 ) -> Result<Reply, Refusal>
-    ensures { Answers result (spec.on_version test.now state.now number (Some version.now)) }
+    ensures { Answers result (spec.on_version test.now inventory.now number (Some version.now)) }
 {
     let rule = rule_with_id(version.map(), test.rule).ok_or(Problem::NoRule)?;
-    let weights = state.devices().weights();
-    let body = tested(alloc, state.epoch(), number, version, weights, rule, test)?;
+    let weights = inventory.devices().weights();
+    let body = tested(
+        alloc,
+        inventory.epoch(),
+        number,
+        version,
+        weights,
+        rule,
+        test,
+    )?;
     Ok(success(alloc, &body)?)
 }
 
 /// The reply to a rule test: what the rule gives on the version that is named, or else on the
 /// newest, with the states of devices as they are now. The problem is `NoVersion` where there is no
 /// such version, and `NoRule` where it lacks the rule.
-pub fn answer(alloc: Global, test: &RuleTest, state: &TenantState) -> Result<Reply, Refusal>
-    ensures { Answers result (spec.answer test.now state.now) }
+pub fn answer(alloc: Global, test: &RuleTest, inventory: &Inventory) -> Result<Reply, Refusal>
+    ensures { Answers result (spec.answer test.now inventory.now) }
 {
     let number = match test.version {
         Some(number) => u64::from(number),
-        None => state.newest(),
+        None => inventory.newest(),
     };
-    let version = state.version(number).ok_or(Problem::NoVersion)?;
-    answer_on(alloc, test, state, number, version)
+    let version = inventory.version(number).ok_or(Problem::NoVersion)?;
+    answer_on(alloc, test, inventory, number, version)
 }

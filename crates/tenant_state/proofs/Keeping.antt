@@ -16,7 +16,7 @@ use Rattle.crush_pool.specs.declared.states.DeviceState.{DeviceState}
 use Rattle.tenant_state.proofs.Ordering.{before_rest}
 use Rattle.tenant_state.specs.Ordered.{is_ascending, is_before_first}
 use Rattle.tenant_state.specs.Receipts.{Receipts, is_before, receipt_of, with_receipt}
-use Rattle.tenant_state.specs.State.{TenantState}
+use Rattle.tenant_state.specs.State.{Inventory}
 use Rattle.tenant_state.specs.declared.receipts.Receipt.{Receipt}
 
 abbrev Kept : Type 0
@@ -103,7 +103,7 @@ copied_in [] (f ∷ fs) h = absurd h
 copied_in (e ∷ es) [] h = absurd h
 copied_in (e ∷ es) (f ∷ fs) h = let head = h.0 in let tail : pairs_of fs ≡ pairs_of es = copied_in es fs h.1 in rw (head.0, head.1, tail) refl
 
--- ---- states
+-- ---- inventories
 
 -- a copy of a list of shared values has the same values
 pub same_shared : {A : Type 0} (vs ws : List (Rc A Global)) → AllZip (λ (p q : Rc A Global). q.value ≡ p.value) vs ws
@@ -113,8 +113,8 @@ same_shared [] (w ∷ ws) h = absurd h
 same_shared (v ∷ vs) [] h = absurd h
 same_shared (v ∷ vs) (w ∷ ws) h = let head = h.0 in let tail = same_shared vs ws h.1 in rw (head, tail) refl
 
-pub same_state : (vs ws : List (Rc Map Global)) (devices again-devices : List DeviceState) (pools again-pools : List PoolParts) (receipts again : Receipts)
-    → AllZip (λ (p q : Rc Map Global). q.value ≡ p.value) vs ws → again-devices ≡ devices → again-pools ≡ pools → again ≡ receipts
-    → ◌≡◌ {A = TenantState} (record { versions = map (λ (v : Rc Map Global). v.value) ws; devices = again-devices; pools = again-pools; receipts = again })
-    (record { versions = map (λ (v : Rc Map Global). v.value) vs; devices = devices; pools = pools; receipts = receipts })
-same_state vs ws devices again-devices pools again-pools receipts again h d p r = let versions = same_shared vs ws h in rw (versions, d, p, r) refl
+pub same_inventory : (vs ws : List (Rc Map Global)) (devices again-devices : List DeviceState) (pools again : List PoolParts) (epoch : ℕ)
+    → AllZip (λ (p q : Rc Map Global). q.value ≡ p.value) vs ws → again-devices ≡ devices → again ≡ pools
+    → ◌≡◌ {A = Inventory} (record { versions = map (λ (v : Rc Map Global). v.value) ws; devices = again-devices; pools = again; epoch = epoch })
+    (record { versions = map (λ (v : Rc Map Global). v.value) vs; devices = devices; pools = pools; epoch = epoch })
+same_inventory vs ws devices again-devices pools again epoch h d p = let versions = same_shared vs ws h in rw (versions, d, p) refl

@@ -1,5 +1,5 @@
 -- The state of a tenant, and its changes.
-use Rattle.std.specs.Prelude.{ℕ, ◌-◌, ◌==◌, List, [], ◌∷◌, ◌++◌, length, slice_get, find, fold, Bool, nat_lt, if◌then◌else◌, Option, Some, None, option_map, ok_or, Result, Err}
+use Rattle.std.specs.Prelude.{ℕ, ◌≡◌, ◌<◌, ◌+◌, ◌-◌, ◌==◌, List, [], ◌∷◌, ◌++◌, length, slice_get, find, fold, Bool, nat_lt, if◌then◌else◌, Option, Some, None, option_map, ok_or, Result, Err}
 use Rattle.crush_map.specs.Map.{Map}
 use Rattle.crush_pool.specs.Placements.{rule_numbered}
 use Rattle.crush_pool.specs.Placers.{PoolOnMap}
@@ -8,7 +8,8 @@ use Rattle.crush_pool.specs.declared.states.DeviceState.{DeviceState}
 use Rattle.tenant_messages.specs.declared.reply.Problem.{Problem}
 use Rattle.tenant_messages.specs.declared.reply.Problem.TheVariants.{NoVersion, NoRule}
 use Rattle.tenant_state.specs.Ordered.{with_element, without}
-use Rattle.tenant_state.specs.Receipts.{Receipts, with_receipt}
+use Rattle.tenant_state.specs.Receipts.{Receipts, receipt_of, with_receipt}
+use Rattle.tenant_state.specs.declared.limits.TheConstants.{RECEIPT_LIMIT}
 use Rattle.tenant_state.specs.declared.receipts.Receipt.{Receipt}
 
 -- the versions 1, 2, .. of the tenant's map; the states of devices that were stored, and the pools,
@@ -27,15 +28,25 @@ fresh = record { versions = []; devices = []; pools = []; receipts = [] }
 abbrev pub epoch : TenantState → ℕ
 epoch state = length state.receipts
 
+-- what a tenant has: its state but for the receipts, of which their number, the epoch, is left
+pub record Inventory : Type 0 where
+  pub versions : List Map
+  pub devices : List DeviceState
+  pub pools : List PoolParts
+  pub epoch : ℕ
+
+abbrev pub inventory_of : TenantState → Inventory
+inventory_of state = record { versions = state.versions; devices = state.devices; pools = state.pools; epoch = epoch state }
+
 -- ---- versions
 
 -- the number of the newest version, or 0 where there is none
-abbrev pub newest : TenantState → ℕ
-newest state = length state.versions
+abbrev pub newest : Inventory → ℕ
+newest inventory = length inventory.versions
 
 -- the map of a version
-abbrev pub version : ℕ → TenantState → Option Map
-version number state = if number == 0 then None else slice_get state.versions (number - 1)
+abbrev pub version : ℕ → Inventory → Option Map
+version number inventory = if number == 0 then None else slice_get inventory.versions (number - 1)
 
 -- ---- devices and pools
 
@@ -55,22 +66,23 @@ abbrev pub is_lower_pool : PoolParts → PoolParts → Bool
 is_lower_pool p q = nat_lt p.id q.id
 
 -- the pool with an id
-abbrev pub pool : ℕ → TenantState → Option PoolParts
-pool id state = find (λ p. p.id == id) state.pools
+abbrev pub pool : ℕ → Inventory → Option PoolParts
+pool id inventory = find (λ p. p.id == id) inventory.pools
 
 -- ---- a pool on a version, with the states of devices as they are now
 
 -- on a version, which has to have the pool's rule
-abbrev pub on_version : TenantState → PoolParts → Map → Result PoolOnMap Problem
-on_version state p m = ok_or (option_map (λ rule. record { map = m; states = state.devices; pool = p }) (rule_numbered m p.rule)) NoRule
+abbrev pub on_version : Inventory → PoolParts → Map → Result PoolOnMap Problem
+on_version inventory p m =
+    ok_or (option_map (λ rule. record { map = m; states = inventory.devices; pool = p }) (rule_numbered m p.rule)) NoRule
 
-abbrev pub if_there : TenantState → PoolParts → Option Map → Result PoolOnMap Problem
-if_there state p None = Err NoVersion
-if_there state p (Some m) = on_version state p m
+abbrev pub if_there : Inventory → PoolParts → Option Map → Result PoolOnMap Problem
+if_there inventory p None = Err NoVersion
+if_there inventory p (Some m) = on_version inventory p m
 
 -- on the newest version, which has the pool's rule (law `pools_have_their_rules`)
-abbrev pub on_newest : TenantState → PoolParts → Result PoolOnMap Problem
-on_newest state p = if_there state p (version (newest state) state)
+abbrev pub on_newest : Inventory → PoolParts → Result PoolOnMap Problem
+on_newest inventory p = if_there inventory p (version (newest inventory) inventory)
 
 -- ---- changes
 
@@ -87,12 +99,28 @@ pub record Change : Type 0 where
   pub receipt : Receipt
   pub made : Made
 
-abbrev pub with_made : Made → TenantState → TenantState
-with_made (NewVersion m) state = record state { versions = state.versions ++ m ∷ [] }
-with_made (NewStates changed) state = record state { devices = with_states changed state.devices }
-with_made (NewPool p) state = record state { pools = with_element (λ p. p.id) p state.pools }
-with_made (RemovedPool id) state = record state { pools = without (λ p. p.id) id state.pools }
+abbrev pub with_made : Made → Inventory → Inventory
+with_made (NewVersion m) inventory = record inventory { versions = inventory.versions ++ m ∷ [] }
+with_made (NewStates changed) inventory = record inventory { devices = with_states changed inventory.devices }
+with_made (NewPool p) inventory = record inventory { pools = with_element (λ p. p.id) p inventory.pools }
+with_made (RemovedPool id) inventory = record inventory { pools = without (λ p. p.id) id inventory.pools }
+
+-- the state with these receipts of a tenant that has this
+abbrev pub with_receipts : Inventory → Receipts → TenantState
+with_receipts inventory receipts =
+    record { versions = inventory.versions; devices = inventory.devices; pools = inventory.pools; receipts = receipts }
 
 -- the state after an accepted change
 abbrev pub after : Change → TenantState → TenantState
-after change state = record (with_made change.made state) { receipts = with_receipt change.number change.receipt state.receipts }
+after change state =
+    with_receipts (with_made change.made (inventory_of state)) (with_receipt change.number change.receipt state.receipts)
+
+-- what the tenant then has, where the change's request number is new
+abbrev pub inventory_after : Change → Inventory → Inventory
+inventory_after change inventory = record (with_made change.made inventory) { epoch = inventory.epoch + 1 }
+
+-- what a change needs of the state that it changes: its request number is new, and there is room
+-- for its receipt
+pub record CanMake (change : Change) (state : TenantState) : Type 0 where
+  pub new : receipt_of change.number state.receipts ≡ None
+  pub room : length state.receipts < RECEIPT_LIMIT

@@ -12,5 +12,5 @@ mod version;
 pub use devices::Devices;
 pub use pools::Pools;
 pub use receipts::{Receipt, Receipts, is_repeat};
-pub use state::{Change, Made, TenantState};
+pub use state::{Change, Inventory, Made, TenantState};
 pub use version::Version;

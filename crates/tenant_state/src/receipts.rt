@@ -9,23 +9,23 @@ use std::alloc::{AllocError, Global};
 use std::collections::BTreeMap;
 use std::marker::Model;
 use std::rc::Rc;
-use tenant_messages::{Bytes, SuccessStatus};
+use tenant_messages::SuccessStatus;
 
 /// What is kept of an accepted changing request: its path and body, and its reply.
 #[derive(Drop)]
 pub struct Receipt {
     pub path: Text,
-    pub body: Bytes,
+    pub body: Text,
     pub status: SuccessStatus,
     pub reply: Text,
 }
 
 /// Whether a request is the one that left the receipt: the same path and the same body, to the
 /// byte.
-pub fn is_repeat(path: &str, body: &[u8], receipt: &Receipt) -> bool
+pub fn is_repeat(path: &str, body: &str, receipt: &Receipt) -> bool
     ensures { result ≡ spec.is_repeat path.now body.now receipt.now }
 {
-    path == receipt.path.as_str() && body == receipt.body.as_slice()
+    path == receipt.path.as_str() && body == receipt.body.as_str()
 }
 
 /// The receipts of a tenant. Contracts see pairs of a request number and its receipt, in the order
@@ -86,12 +86,23 @@ impl Receipts {
     }
 
     /// The receipt of a request number, or `None`.
-    pub fn get(&self, number: &str) -> Option<&Receipt>
-        ensures { option_map (λ r. r.now) result ≡ receipt_of number.now self.now }
+    pub fn get(&self, number: &str) -> Option<&Rc<Receipt>>
+        ensures { option_map (λ r. r.now.value) result ≡ receipt_of number.now self.now }
     {
         match self.by_number.get(number) {
-            Some(receipt) => Some(receipt.as_ref()),
+            Some(receipt) => Some(receipt),
             None => None,
+        }
+    }
+
+    /// The receipt of a request number, shared, or `None`. `Err(AllocError)`: an allocation failed;
+    /// nothing is changed.
+    pub fn find(&self, number: &str) -> Result<Option<Rc<Receipt>>, AllocError>
+        ensures { IfOk result (λ found. option_map (λ r. r.value) found ≡ receipt_of number.now self.now) }
+    {
+        match self.get(number) {
+            Some(receipt) => Ok(Some(receipt.clone()?)),
+            None => Ok(None),
         }
     }
 

@@ -43,67 +43,68 @@ impl Model for Change {
     ghost view = { λ a. record { number = a.number; receipt = a.receipt.value; made = made_of a.made } };
 }
 
-// ---- states
+// ---- what a tenant has
 
-/// The state of a tenant that exists: the versions of its map, the states of devices, the pools,
-/// and the receipts of its accepted changes.
+/// What a tenant has: the versions of its map, the states of devices, the pools, and its epoch. It
+/// is all that its queries are answered from; of the receipts it has the number alone, the epoch.
 #[derive(Drop)]
-pub struct TenantState {
+pub struct Inventory {
     versions: Vec<Rc<Version>>,
     devices: Rc<Devices>,
     pools: Pools,
-    receipts: Receipts,
+    epoch: u64,
 }
 
-impl Model for TenantState {
+impl Model for Inventory {
     ghost use Rattle.std.specs.Prelude.{map};
-    ghost use Rattle.tenant_state.specs.State.{TenantState};
+    ghost use Rattle.tenant_state.specs.State.{Inventory};
 
-    ghost Value = { TenantState };
+    ghost Value = { Inventory };
 
-    ghost view = { λ a. record { versions = map (λ v. v.value) a.versions.items; devices = a.devices.value; pools = a.pools; receipts = a.receipts } };
+    ghost view = { λ a. record { versions = map (λ v. v.value) a.versions.items; devices = a.devices.value; pools = a.pools; epoch = a.epoch } };
 }
 
-impl TenantState {
-    ghost use Rattle.std.specs.Prelude.{◌≡◌, IfOk, OnOk, OnErr, map, option_map};
+impl Inventory {
+    ghost use Rattle.std.specs.Prelude.{◌≡◌, ◌<◌, [], IfOk, map, option_map};
     ghost use Rattle.tenant_state.specs.State as spec;
+    ghost use Rattle.tenant_state.specs.declared.limits.TheConstants.{RECEIPT_LIMIT};
 
-    /// The state with these parts: the versions 1, 2, .., the states of devices, the pools and the
-    /// receipts. Allocates nothing.
+    /// The inventory with these parts: the versions 1, 2, .., the states of devices, the pools and
+    /// the epoch. Allocates nothing.
     pub fn of(
         versions: Vec<Rc<Version>>,
         devices: Rc<Devices>,
         pools: Pools,
-        receipts: Receipts,
-    ) -> TenantState
-        ensures { result ≡ record { versions = map (λ v. v.value) versions.items; devices = devices.value; pools = pools; receipts = receipts } }
+        epoch: u64,
+    ) -> Inventory
+        ensures { result ≡ record { versions = map (λ v. v.value) versions.items; devices = devices.value; pools = pools; epoch = epoch } }
     {
-        TenantState {
+        Inventory {
             versions,
             devices,
             pools,
-            receipts,
+            epoch,
         }
     }
 
-    /// The state of a tenant that was just created. `Err(AllocError)`: an allocation failed;
-    /// nothing is changed.
-    pub fn fresh(alloc: Global) -> Result<TenantState, AllocError>
-        ensures { IfOk result (λ s. s ≡ spec.fresh) }
+    /// That of a tenant that was just created. `Err(AllocError)`: an allocation failed; nothing is
+    /// changed.
+    pub fn fresh(alloc: Global) -> Result<Inventory, AllocError>
+        ensures { IfOk result (λ i. i ≡ spec.inventory_of spec.fresh) }
     {
-        Ok(TenantState::of(
+        Ok(Inventory::of(
             Vec::new(alloc),
             Rc::new(alloc, Devices::new(alloc)?)?,
             Pools::new(alloc),
-            Receipts::new(alloc),
+            0,
         ))
     }
 
     /// The number of accepted changes, each of which left one receipt.
     pub fn epoch(&self) -> u64
-        ensures { result ≡ spec.epoch self.now }
+        ensures { result ≡ self.now.epoch }
     {
-        self.receipts.len() as u64
+        self.epoch
     }
 
     /// The number of the newest version, or 0 where there is none.
@@ -172,6 +173,100 @@ impl TenantState {
         }
     }
 
+    /// A copy that shares what it has. `Err(AllocError)`: an allocation failed; nothing is changed.
+    fn copy(&self) -> Result<Inventory, AllocError>
+        ensures { IfOk result (λ again. again ≡ self.now) }
+    {
+        Ok(Inventory {
+            versions: self.versions.clone()?,
+            devices: self.devices.clone()?,
+            pools: self.pools.copy()?,
+            epoch: self.epoch,
+        })
+    }
+
+    /// What the tenant has after a change. What stays is shared, and not copied.
+    /// `Err(AllocError)`: an allocation failed; nothing is changed.
+    pub fn after(&self, alloc: Global, change: &Change) -> Result<Inventory, AllocError>
+        requires { self.now.epoch < RECEIPT_LIMIT }
+        ensures { IfOk result (λ i. i ≡ spec.inventory_after change.now self.now) }
+    {
+        let mut next = self.copy()?;
+        next.epoch += 1;
+        match &change.made {
+            Made::Version(version) => {
+                next.versions.push(version.clone()?)?;
+                Ok(next)
+            }
+            Made::States(changed) => {
+                let devices = next.devices.with(alloc, changed.as_slice())?;
+                next.devices = Rc::new(alloc, devices)?;
+                Ok(next)
+            }
+            Made::Pool(pool) => {
+                next.pools = next.pools.with(pool)?;
+                Ok(next)
+            }
+            Made::NoPool(id) => {
+                next.pools = next.pools.without(*id)?;
+                Ok(next)
+            }
+        }
+    }
+}
+
+// ---- states
+
+/// The state of a tenant that exists: what it has, and the receipts of its accepted changes.
+#[derive(Drop)]
+pub struct TenantState {
+    inventory: Rc<Inventory>,
+    receipts: Receipts,
+}
+
+impl Model for TenantState {
+    ghost use Rattle.std.specs.Prelude.{◌≡◌, length};
+    ghost use Rattle.tenant_state.specs.State.{TenantState, with_receipts};
+
+    ghost Value = { TenantState };
+
+    ghost view = { λ a. with_receipts a.inventory.value a.receipts };
+
+    ghost invariant = { λ a. a.inventory.value.epoch ≡ length a.receipts };
+}
+
+impl TenantState {
+    ghost use Rattle.std.specs.Prelude.{◌≡◌, IfOk, OnOk, OnErr, length, option_map};
+    ghost use Rattle.tenant_state.specs.Receipts.{receipt_of};
+    ghost use Rattle.tenant_state.specs.State as spec;
+
+    /// The state of a tenant that has this, with these receipts. Allocates nothing.
+    pub fn of(inventory: Rc<Inventory>, receipts: Receipts) -> TenantState
+        requires { inventory.value.epoch ≡ length receipts }
+        ensures { result ≡ spec.with_receipts inventory.value receipts }
+    {
+        TenantState {
+            inventory,
+            receipts,
+        }
+    }
+
+    /// The state of a tenant that was just created. `Err(AllocError)`: an allocation failed;
+    /// nothing is changed.
+    pub fn fresh(alloc: Global) -> Result<TenantState, AllocError>
+        ensures { IfOk result (λ s. s ≡ spec.fresh) }
+    {
+        let inventory = Rc::new(alloc, Inventory::fresh(alloc)?)?;
+        Ok(TenantState::of(inventory, Receipts::new(alloc)))
+    }
+
+    /// What the tenant has, shared.
+    pub fn inventory(&self) -> &Rc<Inventory>
+        ensures { result.now.value ≡ spec.inventory_of self.now }
+    {
+        &self.inventory
+    }
+
     /// The receipts.
     pub fn receipts(&self) -> &Receipts
         ensures { result.now ≡ self.now.receipts }
@@ -181,49 +276,26 @@ impl TenantState {
 
     /// Makes a change in place. `Err(AllocError)`: an allocation failed; nothing is changed.
     pub fn change(&mut self, alloc: Global, change: &Change) -> Result<(), AllocError>
+        requires { spec.CanMake change.now self.old }
         ensures ok { OnOk result (self.new ≡ spec.after change.now self.old) }
         ensures err { OnErr result (self.new ≡ self.old) }
     {
         let number = String::from_str(alloc, change.number.as_str())?;
         let receipt = change.receipt.clone()?;
-        match &change.made {
-            Made::Version(version) => {
-                let version = version.clone()?;
-                self.versions.reserve(1)?;
-                self.receipts.insert(number, receipt)?;
-                if self.versions.push(version).is_err() {
-                    unreachable!();
-                }
-            }
-            Made::States(changed) => {
-                let devices = self.devices.with(alloc, changed.as_slice())?;
-                let devices = Rc::new(alloc, devices)?;
-                self.receipts.insert(number, receipt)?;
-                self.devices = devices;
-            }
-            Made::Pool(pool) => {
-                let pools = self.pools.with(pool)?;
-                self.receipts.insert(number, receipt)?;
-                self.pools = pools;
-            }
-            Made::NoPool(id) => {
-                let pools = self.pools.without(*id)?;
-                self.receipts.insert(number, receipt)?;
-                self.pools = pools;
-            }
-        }
+        let inventory = Rc::new(alloc, self.inventory.after(alloc, change)?)?;
+        self.receipts.insert(number, receipt)?;
+        self.inventory = inventory;
         Ok(())
     }
 
     /// The state after a change. What stays is shared, and not copied. `Err(AllocError)`: an
     /// allocation failed; nothing is changed.
     pub fn after(&self, alloc: Global, change: &Change) -> Result<TenantState, AllocError>
+        requires { spec.CanMake change.now self.now }
         ensures { IfOk result (λ s. s ≡ spec.after change.now self.now) }
     {
         let mut state = TenantState {
-            versions: self.versions.clone()?,
-            devices: self.devices.clone()?,
-            pools: self.pools.copy()?,
+            inventory: self.inventory.clone()?,
             receipts: self.receipts.copy()?,
         };
         state.change(alloc, change)?;

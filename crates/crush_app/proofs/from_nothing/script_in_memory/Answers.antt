@@ -8,4 +8,4 @@ returns-clause-done g c done =
 
 pub returns-clause-cut : goal.returns-clause-cut
 returns-clause-cut g c cut =
-    script_cut _ _ _ _ _ c.in_ok-service.ensures (c.script_run.ensures.cut (c.memory_stores_are_honest.ensures.honest c.script_run.new.service) cut)
+    script_cut _ _ _ _ _ _ c.in_ok-service.ensures (c.script_run.ensures.cut (c.memory_stores_are_honest.ensures.honest c.script_run.new.service) cut)

@@ -4,4 +4,4 @@ use Rattle.tenant_reports.proofs.PlainReplies.{impact_plain}
 use Rattle.tenant_reports.proofs.impact.answer.Goals as goal
 
 pub success-requires : goal.success-requires
-success-requires c = ap has_float c.in_ok-body.ensures ∙ impact_plain c.args.state.now c.parts.result.now.id c.args.device c.as_slice.result.now
+success-requires c = ap has_float c.in_ok-body.ensures ∙ impact_plain c.args.inventory.now c.parts.result.now.id c.args.device c.as_slice.result.now

@@ -10,24 +10,24 @@ use Rattle.tenant_state.specs.State.{pool}
 use Rattle.tenant_resources.proofs.groups.object_answer.Goals as goal
 
 pub success-requires : goal.success-requires
-success-requires c = ap has_float c.in_ok-body.ensures ∙ object_plain c.as_str-name.result.now c.args.state.now c.group_of-group.result c.in_ok-placement.placement
+success-requires c = ap has_float c.in_ok-body.ensures ∙ object_plain c.as_str-name.result.now c.args.inventory.now c.group_of-group.result c.in_ok-placement.placement
 
 pub returns-in_err-placement : goal.returns-in_err-placement
 returns-in_err-placement c =
     let found : Some c.in_ok-pool.pool.now ≡ find (λ p. p.id == c.args.id) c.pools.result.now = rw c.in_ok-pool.ensures.ok_part at c.get.ensures in
-    let there : pool c.args.id c.args.state.now ≡ Some c.in_ok-pool.pool.now = pool_there c.args.id c.args.state.now c.pools.result.now c.in_ok-pool.pool.now c.pools.ensures found in
+    let there : pool c.args.id c.args.inventory.now ≡ Some c.in_ok-pool.pool.now = pool_there c.args.id c.args.inventory.now c.pools.result.now c.in_ok-pool.pool.now c.pools.ensures found in
     let own : c.group_of-group.result ≡ group_of c.in_ok-pool.pool.now c.args.name.now =
     c.group_of-group.ensures.value ∙ ap (group_of c.in_ok-pool.pool.now) (c.as_bytes.ensures.value ∙ c.as_str-name.ensures.same) in
     let p = err_from_is_err_and c.from_residual-in_err-placement.result c.from_residual-in_err-placement.ensures.1 in
     rw (p.1, p.2)
-    (object_refused c.args.id c.args.name.now c.args.state.now c.in_ok-pool.pool.now c.group_of-group.result _ there own c.in_err-placement.ensures)
+    (object_refused c.args.id c.args.name.now c.args.inventory.now c.in_ok-pool.pool.now c.group_of-group.result _ there own c.in_err-placement.ensures)
 
 pub returns : goal.returns
 returns c =
     let found : Some c.in_ok-pool.pool.now ≡ find (λ p. p.id == c.args.id) c.pools.result.now = rw c.in_ok-pool.ensures.ok_part at c.get.ensures in
-    let there : pool c.args.id c.args.state.now ≡ Some c.in_ok-pool.pool.now = pool_there c.args.id c.args.state.now c.pools.result.now c.in_ok-pool.pool.now c.pools.ensures found in
+    let there : pool c.args.id c.args.inventory.now ≡ Some c.in_ok-pool.pool.now = pool_there c.args.id c.args.inventory.now c.pools.result.now c.in_ok-pool.pool.now c.pools.ensures found in
     let own : c.group_of-group.result ≡ group_of c.in_ok-pool.pool.now c.args.name.now =
     c.group_of-group.ensures.value ∙ ap (group_of c.in_ok-pool.pool.now) (c.as_bytes.ensures.value ∙ c.as_str-name.ensures.same) in
     c.in_ok-success.ensures
-    ∙ ap reply (object_placed c.args.id c.args.name.now c.args.state.now c.in_ok-pool.pool.now c.as_str-name.result.now c.group_of-group.result c.in_ok-placement.placement _ there
+    ∙ ap reply (object_placed c.args.id c.args.name.now c.args.inventory.now c.in_ok-pool.pool.now c.as_str-name.result.now c.group_of-group.result c.in_ok-placement.placement _ there
     c.as_str-name.ensures.same own c.in_ok-placement.ensures c.in_ok-body.ensures)

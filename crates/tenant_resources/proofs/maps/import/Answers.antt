@@ -10,34 +10,34 @@ use Rattle.tenant_resources.proofs.maps.import.Goals as goal
 
 pub returns-in-Err-clause-given : goal.returns-in-Err-clause-given
 returns-in-Err-clause-given c =
-    let few : nat_le VERSION_LIMIT (length c.args.state.now.versions) ≡ false = grind (arith, nat_tests, c.newest.ensures, c.if-newest.false) in
+    let few : nat_le VERSION_LIMIT (length c.args.inventory.now.versions) ≡ false = grind (arith, nat_tests, c.newest.ensures, c.if-newest.false) in
     let h = c.in_ok-fault.ensures.refused in
     let is = c.in-Err.is in
     let refused = rw is at h in
     let own = subst (λ t. IsRefusedFor t c.in-Err.fault) c.as_bytes.ensures.value refused in
-    of_fault c.args.text.now c.args.state.now c.in-Err.fault few ((c.texts_are_read_as_they_say.ensures.refused c.args.text.now c.in-Err.fault).1 own)
+    of_fault c.args.text.now c.args.inventory.now c.in-Err.fault few ((c.texts_are_read_as_they_say.ensures.refused c.args.text.now c.in-Err.fault).1 own)
 
 pub returns-then-not-has_rules_of-clause-given : goal.returns-then-not-has_rules_of-clause-given
 returns-then-not-has_rules_of-clause-given c =
-    let few : nat_le VERSION_LIMIT (length c.args.state.now.versions) ≡ false = grind (arith, nat_tests, c.newest.ensures, c.if-newest.false) in
+    let few : nat_le VERSION_LIMIT (length c.args.inventory.now.versions) ≡ false = grind (arith, nat_tests, c.newest.ensures, c.if-newest.false) in
     let h = c.in_ok-fault.ensures.map in
     let is = c.in-Ok.is in
     let read = rw is at h in
     let own = subst (λ t. IsShort t × IsTextOf t c.in-Ok.map) c.as_bytes.ensures.value read in
-    let asked : c.has_rules_of.result ≡ list_all (λ (p : PoolParts). is_some (rule_numbered c.in-Ok.map p.rule)) c.args.state.now.pools =
+    let asked : c.has_rules_of.result ≡ list_all (λ (p : PoolParts). is_some (rule_numbered c.in-Ok.map p.rule)) c.args.inventory.now.pools =
     c.has_rules_of.ensures ∙ ap (list_all (λ (p : PoolParts). is_some (rule_numbered c.in-Ok.map p.rule))) c.pools.ensures in
-    let lacks : list_all (λ (p : PoolParts). is_some (rule_numbered c.in-Ok.map p.rule)) c.args.state.now.pools ≡ false = grind (arith, asked, c.if-not-has_rules_of.true) in
-    of_rule_in_use c.args.text.now c.args.state.now c.in-Ok.map few ((c.texts_are_read_as_they_say.ensures.map c.args.text.now c.in-Ok.map).1 own) lacks
+    let lacks : list_all (λ (p : PoolParts). is_some (rule_numbered c.in-Ok.map p.rule)) c.args.inventory.now.pools ≡ false = grind (arith, asked, c.if-not-has_rules_of.true) in
+    of_rule_in_use c.args.text.now c.args.inventory.now c.in-Ok.map few ((c.texts_are_read_as_they_say.ensures.map c.args.text.now c.in-Ok.map).1 own) lacks
 
 pub returns-in_ok-import_reply-in-Ok-clause-given : goal.returns-in_ok-import_reply-in-Ok-clause-given
 returns-in_ok-import_reply-in-Ok-clause-given c =
-    let few : nat_le VERSION_LIMIT (length c.args.state.now.versions) ≡ false = grind (arith, nat_tests, c.newest.ensures, c.if-newest.false) in
+    let few : nat_le VERSION_LIMIT (length c.args.inventory.now.versions) ≡ false = grind (arith, nat_tests, c.newest.ensures, c.if-newest.false) in
     let h = c.in_ok-fault.ensures.map in
     let is = c.in-Ok.is in
     let read = rw is at h in
     let own = subst (λ t. IsShort t × IsTextOf t c.in-Ok.map) c.as_bytes.ensures.value read in
-    let asked : c.has_rules_of.result ≡ list_all (λ (p : PoolParts). is_some (rule_numbered c.in-Ok.map p.rule)) c.args.state.now.pools =
+    let asked : c.has_rules_of.result ≡ list_all (λ (p : PoolParts). is_some (rule_numbered c.in-Ok.map p.rule)) c.args.inventory.now.pools =
     c.has_rules_of.ensures ∙ ap (list_all (λ (p : PoolParts). is_some (rule_numbered c.in-Ok.map p.rule))) c.pools.ensures in
-    let has : list_all (λ (p : PoolParts). is_some (rule_numbered c.in-Ok.map p.rule)) c.args.state.now.pools ≡ true = grind (arith, asked, c.if-not-has_rules_of.false) in
-    of_map c.args.text.now c.args.state.now c.in-Ok.map c.in_ok-version-in-Ok.version.value _ few ((c.texts_are_read_as_they_say.ensures.map c.args.text.now c.in-Ok.map).1 own) has
+    let has : list_all (λ (p : PoolParts). is_some (rule_numbered c.in-Ok.map p.rule)) c.args.inventory.now.pools ≡ true = grind (arith, asked, c.if-not-has_rules_of.false) in
+    of_map c.args.text.now c.args.inventory.now c.in-Ok.map c.in_ok-version-in-Ok.version.value _ few ((c.texts_are_read_as_they_say.ensures.map c.args.text.now c.in-Ok.map).1 own) has
     c.in_ok-version-in-Ok.ensures c.in_ok-import_reply-in-Ok.ensures

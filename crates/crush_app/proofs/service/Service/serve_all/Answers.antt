@@ -1,7 +1,7 @@
 use Rattle.std.proofs.Common.{◌≡◌, ◌+◌, [], ◌∷◌, ◌++◌, take, length-append, sym, ap, ◌∙◌, arith}
 use Rattle.std.proofs.lemmas.List.{take_more}
 use Rattle.tenant_messages.specs.declared.call.Call.{Call}
-use Rattle.tenant_core.proofs.Running.{run_more}
+use Rattle.tenant_core.proofs.Running.{run_on}
 use Rattle.crush_app.proofs.service.Service.serve_all.Goals as goal
 
 -- one call more was served, and its reply added to the others
@@ -17,8 +17,10 @@ loop-call-preserved g c =
     record {
       honest = λ h. so_far.honest (c.request-reply.ensures.honest h);
       meets = λ h. rw (calls_then, replies_then)
-          (run_more (g.T.TenantStore.has_state c.args.self.now) (g.T.TenantStore.has_state c.loop-call.self) (g.T.TenantStore.has_state c.request-reply.new.self)
-          done replies c.call-item.result c.request-reply.result (so_far.meets (c.request-reply.ensures.honest h)) (serves h));
+          (run_on (g.T.TenantStore.latched c.loop-call.self) (g.T.TenantStore.latched c.request-reply.new.self)
+          (g.T.TenantStore.has_state c.args.self.now) (g.T.TenantStore.has_state c.loop-call.self) (g.T.TenantStore.has_state c.request-reply.new.self)
+          done replies c.call-item.result c.request-reply.result (so_far.meets (c.request-reply.ensures.honest h)) (serves h) c.request-reply.ensures.silent
+          (λ was. ap g.T.TenantStore.latched (c.request-reply.ensures.rests was) ∙ was));
       room = omega (arith, c.push.ensures.capacity, so_far.room);
       count = rw replies_then (omega (arith, length-append replies (c.request-reply.result ∷ []), so_far.count));
     }

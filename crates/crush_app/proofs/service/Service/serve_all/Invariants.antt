@@ -6,7 +6,7 @@ use Rattle.crush_app.proofs.service.Service.serve_all.Given as goal
 abbrev pub invariant-loop-call : goal.invariant-loop-call
 invariant-loop-call g l = record {
   honest : g.T.TenantStore.is_honest l.self → g.T.TenantStore.is_honest l.fn.self;
-  meets : g.T.TenantStore.is_honest l.self → MeetsDefinition (g.T.TenantStore.has_state l.fn.self) (g.T.TenantStore.has_state l.self) (take l.call-index l.calls) l.replies.items;
+  meets : g.T.TenantStore.is_honest l.self → MeetsDefinition (g.T.TenantStore.latched l.self) (g.T.TenantStore.has_state l.fn.self) (g.T.TenantStore.has_state l.self) (take l.call-index l.calls) l.replies.items;
   room : length l.calls ≤ vec_capacity l.replies;
   count : length l.replies.items ≡ l.call-index;
 }

@@ -6,10 +6,9 @@ use Rattle.tenant_state.proofs.receipts.Receipts.get.Goals as goal
 
 pub returns-in-Some : goal.returns-in-Some
 returns-in-Some c =
-    ap Some c.as_ref.ensures
-    ∙ (ap (option_map (λ r. r.value)) (ap option_copied (sym c.in-Some.is) ∙ c.get.ensures.value)
+    ap (option_map (λ r. r.value)) (ap option_copied (sym c.in-Some.is) ∙ c.get.ensures.value)
     ∙ (found_in c.args.number.now c.self.inside.by_number.entries
-    ∙ ap (receipt_of c.args.number.now) c.self.view_is))
+    ∙ ap (receipt_of c.args.number.now) c.self.view_is)
 
 pub returns-in-None : goal.returns-in-None
 returns-in-None c =

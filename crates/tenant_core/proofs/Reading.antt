@@ -1,0 +1,24 @@
+-- Reading a changing request whose body is text.
+use Rattle.std.proofs.Common.{◌≡◌, ◌∙◌, ℕ, List, Bool, true, false, Option, Some, None, option_map, if◌then◌else◌, sym, ap}
+use Rattle.std.specs.Str.{is_utf8}
+use Rattle.crush_pool.specs.declared.pool.PoolParts.{PoolParts}
+use Rattle.tenant_core.specs.Route.{command_of, read}
+use Rattle.tenant_core.specs.Target.{Target}
+use Rattle.tenant_core.specs.declared.commands.Order.TheVariants.{CreatePool}
+use Rattle.tenant_core.specs.declared.request.Action.{Action}
+use Rattle.tenant_core.specs.declared.route.Route.TheVariants as route
+use Rattle.tenant_messages.specs.Json.{text_of}
+use Rattle.tenant_resources.specs.Pools as pools
+
+-- the text of a body has its bytes
+pub same_text : (body text : List ℕ) → text_of body ≡ Some text → text ≡ body
+same_text body text h = at (is_utf8 body) h
+  where
+    at : (b : Bool) → (if b then Some body else None) ≡ Some text → text ≡ body
+    at true h = let same : body ≡ text = cc in sym same
+    at false h = cc
+
+pub pool_read : (target : Target) (body text number : List ℕ) (pool : PoolParts) (action : Action) → text_of body ≡ Some text
+    → pools.pool_request_of text ≡ Some (number, pool) → action ≡ command_of target text number (CreatePool pool) → read route.CreatePool target body ≡ Some action
+pool_read target body text number pool action utf8 found is =
+    rw (← same_text body text utf8) (ap (option_map (λ asked. command_of target text asked.0 (CreatePool asked.1))) found ∙ ap Some (sym is))

@@ -1,0 +1,14 @@
+pub mod Statements
+pub mod RunFacts
+pub mod RowFacts
+pub mod Inserting
+pub mod Taking
+pub mod Creating
+pub mod Raising
+pub mod Deleting
+pub mod Removing
+pub mod Turning
+pub mod Committing
+pub mod Accepting
+pub mod Making
+pub mod QueryFacts

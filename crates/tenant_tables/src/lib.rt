@@ -1,0 +1,10 @@
+//! The tables of tenants in SQLite: rows in and rows out.
+#![tactic(auto)]
+
+pub mod commit;
+pub mod create;
+pub mod open;
+pub mod refuse;
+pub mod remove;
+pub mod tables;
+pub mod write;
