@@ -6,6 +6,7 @@ mod devices;
 pub mod limits;
 mod pools;
 mod receipts;
+pub mod size;
 mod state;
 mod version;
 
