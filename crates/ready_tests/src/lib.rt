@@ -1,5 +1,5 @@
-//! Tests of `tenant_ready`: a store that keeps ready what tenants have, over a store in memory whose
-//! calls are counted, and one of which may meet a fault. They stand apart, since they are over both.
+//! Tests of `tenant_ready`, over a store in memory whose loads are counted and one of whose calls
+//! may meet a fault. They stand apart, since they are over `crush_app` too.
 #![tactic(auto)]
 
 #[cfg(test)]
