@@ -1,7 +1,6 @@
-use Rattle.std.proofs.Common.{◌≡◌, ◌∙◌, ◌+◌, length, None, string_bytes, suc, ap, sym, arith}
+use Rattle.std.proofs.Common.{◌≡◌, ◌∙◌, ◌+◌, length, None, string_bytes, ap, arith}
 use Rattle.tenant_state.proofs.Counting.{grown}
 use Rattle.tenant_state.specs.Receipts.{receipt_of}
-use Rattle.tenant_state.specs.State.{inventory_after}
 use Rattle.tenant_state.proofs.state.TenantState.change.Goals as goal
 
 -- the receipt of a number that is new is one more
