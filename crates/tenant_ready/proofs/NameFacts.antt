@@ -31,9 +31,6 @@ module _ {V : Type 0} where
       go rest true is = let now = rw is at found in rw is now
       go rest false is = let now = rw is at found in rw is (rest now)
 
-  pub seen_taken : (old new : LruCache (String Global) V) (n : ℕ) → new ≡ lru_cache (take n old.entries) old.cap → (u : List ℕ) (v : V) → at new.entries u ≡ Some v → at old.entries u ≡ Some v
-  seen_taken old new n is u v found = at_taken n old.entries u v (subst (λ (c : LruCache (String Global) V). at c.entries u ≡ Some v) is found)
-
   -- an entry of the name is what a look-up finds
   stands : (es : List (String Global × V)) (u : List ℕ) (k : String Global) (v : V) → IsDistinct string_eq (keys_of es) → string_bytes k ≡ u → Contains es (k, v) → at es u ≡ Some v
   stands es u k v distinct named here = subst (λ w. at es w ≡ Some v) named (lookup-from_Contains string_eq_equiv k v es distinct here)

@@ -1,15 +1,43 @@
 -- The sum of the sizes of a cache's values, before and after a call.
 use native.Mathlib.Omega.{arith}
-use Rattle.std.proofs.Common.{◌≡◌, ◌≤◌, ◌<◌, ℕ, zero, suc, ◌+◌, ◌-◌, List, [], ◌∷◌, Bool, length, take, Option, Some, None, option_map, is_some, min, ◌^◌, true≢false, refl, sym, ap, ◌∙◌}
+use Rattle.std.proofs.Common.{◌≡◌, ◌≤◌, ◌<◌, ℕ, zero, suc, ◌+◌, ◌-◌, List, [], ◌∷◌, Bool, length, take, Option, Some, None, option_map, is_some, min, ◌^◌, true≢false, refl, sym, ap, ◌∙◌, ◌⊎◌, inl, inr, subst}
 use Rattle.std.specs.Option.{option_map_or, unwrap_or}
 use Rattle.std.specs.List.{sum_by, slice_get}
 use Rattle.std.specs.Map.{lookup, lookup_entry, remove_entry, values_of}
+use Rattle.std.proofs.lemmas.List.{length-take-le}
 use Rattle.std.proofs.lemmas.List.Sums.{sum_by-cons}
 use Rattle.std.proofs.lemmas.Map.Entries.{sum_by-remove_entry}
 use Rattle.std.proofs.Math.Nat.{min-eq_left}
 use Rattle.std.proofs.lemmas.Option.{slice_get-get_or}
 use Rattle.lru.proofs.Pairs.{lookup-lookup_entry}
 use Rattle.lru.specs.LruCache.{LruCache, IsValid, lru_cache, last_entry, promoted, put_entries, displaced}
+
+-- the first of the first elements
+take_fewer : {X : Type 0} (m n : ℕ) (xs : List X) → m ≤ n → take m (take n xs) ≡ take m xs
+take_fewer zero n xs le = refl
+take_fewer (suc m) zero xs le = absurd (omega arith)
+take_fewer (suc m) (suc n) [] le = refl
+take_fewer (suc m) (suc n) (x ∷ xs) le = ap (λ ys. x ∷ ys) (take_fewer m n xs (omega arith))
+
+lt_or_same : (m n : ℕ) → m ≤ n → (m < n) ⊎ (m ≡ n)
+lt_or_same zero zero le = inr refl
+lt_or_same zero (suc n) le = inl (omega arith)
+lt_or_same (suc m) zero le = absurd (omega arith)
+lt_or_same (suc m) (suc n) le = elim (lt_or_same m n (omega arith)) [
+  | inl less ↦ inl (omega (arith, less))
+  | inr same ↦ inr (ap suc same)
+]
+
+-- the sum of the sizes after an entry is gone, from a size that is read as a number of 64 bits
+freed : (bytes size read old new : ℕ) → bytes ≡ old → new + size ≡ old → bytes < 2 ^ 64 → read ≡ min size (2 ^ 64 - 1) → (read ≤ bytes) × (bytes - read ≡ new)
+freed bytes size read old new is sum fits size_is =
+    let small : size ≤ 2 ^ 64 - 1 = omega arith in
+    let exact : read ≡ size = size_is ∙ min-eq_left small in
+    (omega arith, omega arith)
+
+-- a size that is read as a number of 64 bits, and is small
+exact : (size read bound : ℕ) → read ≡ min size (2 ^ 64 - 1) → read ≤ bound → bound < 2 ^ 63 → read ≡ size
+exact size read bound is fits small = omega arith
 
 module _ {K V : Type 0} (f : V → ℕ) where
   abbrev pub total : List (K × V) → ℕ
@@ -79,29 +107,48 @@ module _ {K V : Type 0} (f : V → ℕ) where
   total-none [] none = refl
   total-none (e ∷ es) none = absurd (true≢false (ap is_some (sym (slice_get-get_or (e ∷ es) (length (e ∷ es) - 1) e (omega arith)) ∙ none)))
 
+  -- the last of the first entries goes, where they are too large
+  pub fewer : (old es : List (K × V)) (bound : ℕ) → es ≡ take (length es) old → ((n : ℕ) → length es < n → n ≤ length old → bound < total (take n old)) → bound < total es
+      → (take (length es - 1) es ≡ take (length (take (length es - 1) es)) old)
+      × ((n : ℕ) → length (take (length es - 1) es) < n → n ≤ length old → bound < total (take n old))
+  fewer old es bound first most over =
+      let len : length (take (length es - 1) es) ≡ length es - 1 = length-take-le (length es - 1) es (omega arith) in
+      let all : bound < total (take (length es) old) = subst (λ xs. bound < total xs) first over in (
+        ap (take (length es - 1)) first ∙ take_fewer (length es - 1) (length es) old (omega arith) ∙ ap (λ n. take n old) (sym len),
+        λ n more within. elim (lt_or_same (length es) n (omega (arith, len, more))) [
+          | inl larger ↦ most n larger within
+          | inr same ↦ subst (λ m. bound < total (take m old)) same all
+        ],
+      )
+
   -- the same of caches
-  pub popped_sum : (test : K → Bool) (old new : LruCache K V) (o : Option (K × V)) → o ≡ lookup_entry test old.entries → new ≡ lru_cache (remove_entry test old.entries) old.cap
+  popped_sum : (test : K → Bool) (old new : LruCache K V) (o : Option (K × V)) → o ≡ lookup_entry test old.entries → new ≡ lru_cache (remove_entry test old.entries) old.cap
       → total new.entries + size_of o ≡ total old.entries
   popped_sum test old new o is now = rw is (rw now (total-popped_entry test old.entries))
 
   pub promoted_sum : (old new : LruCache K V) (test : K → Bool) → new ≡ lru_cache (promoted test old.entries) old.cap → total new.entries ≡ total old.entries
   promoted_sum old new test now = rw now (total-promoted test old.entries)
 
-  pub evicted_sum : (old new : LruCache K V) (o : Option (K × V)) → o ≡ last_entry old.entries → new ≡ lru_cache (take (length old.entries - 1) old.entries) old.cap
+  evicted_sum : (old new : LruCache K V) (o : Option (K × V)) → o ≡ last_entry old.entries → new ≡ lru_cache (take (length old.entries - 1) old.entries) old.cap
       → total new.entries + size_of o ≡ total old.entries
   evicted_sum old new o is now = rw is (rw now (total-popped old.entries))
 
-  pub pushed_sum : (eq : K → K → Bool) (old new : LruCache K V) (k : K) (v : V) (o : Option (K × V)) → IsValid eq old → o ≡ displaced eq old k v → new ≡ lru_cache (put_entries eq old k v) old.cap
+  pushed_sum : (eq : K → K → Bool) (old new : LruCache K V) (k : K) (v : V) (o : Option (K × V)) → IsValid eq old → o ≡ displaced eq old k v → new ≡ lru_cache (put_entries eq old k v) old.cap
       → total new.entries + size_of o ≡ total old.entries + f v
   pushed_sum eq old new k v o valid is now = rw is (rw now (total-pushed eq old k v valid.1 valid.2))
 
--- the sum of the sizes after an entry is gone, from a size that is read as a number of 64 bits
-pub freed : (bytes size read old new : ℕ) → bytes ≡ old → new + size ≡ old → bytes < 2 ^ 64 → read ≡ min size (2 ^ 64 - 1) → (read ≤ bytes) × (bytes - read ≡ new)
-freed bytes size read old new is sum fits size_is =
-    let small : size ≤ 2 ^ 64 - 1 = omega arith in
-    let exact : read ≡ size = size_is ∙ min-eq_left small in
-    (omega arith, omega arith)
+  -- and with sizes that are read as numbers of 64 bits
+  pub popped_read : (test : K → Bool) (old new : LruCache K V) (o : Option (K × V)) (bytes read : ℕ) → o ≡ lookup_entry test old.entries → new ≡ lru_cache (remove_entry test old.entries) old.cap
+      → bytes ≡ total old.entries → bytes < 2 ^ 64 → read ≡ min (size_of o) (2 ^ 64 - 1) → (read ≤ bytes) × (bytes - read ≡ total new.entries)
+  popped_read test old new o bytes read is now counted fits read_is = freed bytes (size_of o) read (total old.entries) (total new.entries) counted (popped_sum test old new o is now) fits read_is
 
--- a size that is read as a number of 64 bits, and is small
-pub exact : (size read bound : ℕ) → read ≡ min size (2 ^ 64 - 1) → read ≤ bound → bound < 2 ^ 63 → read ≡ size
-exact size read bound is fits small = omega arith
+  pub evicted_read : (old new : LruCache K V) (o : Option (K × V)) (bytes read : ℕ) → o ≡ last_entry old.entries → new ≡ lru_cache (take (length old.entries - 1) old.entries) old.cap
+      → bytes ≡ total old.entries → bytes < 2 ^ 64 → read ≡ min (size_of o) (2 ^ 64 - 1) → (read ≤ bytes) × (bytes - read ≡ total new.entries)
+  evicted_read old new o bytes read is now counted fits read_is = freed bytes (size_of o) read (total old.entries) (total new.entries) counted (evicted_sum old new o is now) fits read_is
+
+  pub pushed_read : (eq : K → K → Bool) (old new : LruCache K V) (k : K) (v : V) (o : Option (K × V)) (bytes bound size read : ℕ) → IsValid eq old → o ≡ displaced eq old k v
+      → new ≡ lru_cache (put_entries eq old k v) old.cap → bytes ≡ total old.entries → bytes ≤ bound → bound < 2 ^ 63 → size ≡ min (f v) (2 ^ 64 - 1) → size ≤ bound
+      → read ≡ min (size_of o) (2 ^ 64 - 1) → (read ≤ bytes + size) × (bytes + size - read ≡ total new.entries)
+  pushed_read eq old new k v o bytes bound size read valid is now counted fits small size_is room read_is =
+      let added : size ≡ f v = exact (f v) size bound size_is room small in
+      freed (bytes + size) (size_of o) read (total old.entries + f v) (total new.entries) (omega (arith, counted, added)) (pushed_sum eq old new k v o valid is now) (omega (arith, fits, small, room)) read_is

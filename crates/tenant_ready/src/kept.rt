@@ -1,8 +1,6 @@
 //! Inventories of the tenants that were used last, by name, as many as a number of bytes holds.
 
-ghost use Rattle.std.specs.Prelude.{◌≡◌, ◌≤◌, ◌-◌, ◌^◌, ℕ, List, Some, min, string_bytes};
-ghost use Rattle.std.specs.Map.{lookup};
-ghost use Rattle.std.specs.Str.{bytes_eq};
+ghost use Rattle.std.specs.Prelude.{◌≡◌, ◌≤◌, ◌<◌, ◌-◌, ◌^◌, ℕ, length, min, take};
 ghost use Rattle.tenant_ready.specs.Bytes.{bytes_in, bytes_of};
 
 use lru::LruCache;
@@ -124,14 +122,14 @@ fn size_of(entry: &Option<(String, Rc<Inventory>)>) -> u64
     }
 }
 
-/// Forgets what was used least recently, until the rest takes at most `bound` bytes. Returns how
-/// many it takes.
+/// Forgets what was used least recently, no more than it must so that the rest takes at most `bound`
+/// bytes. Returns how many the rest takes.
 fn evict(by_name: &mut ByName, bytes: u64, bound: u64) -> u64
     requires { bytes ≡ bytes_in by_name.old.entries }
     ensures value { result ≡ bytes_in by_name.new.entries }
     ensures fits { result ≤ bound }
-    ensures same { (u : List ℕ) (v : _) → lookup (λ k. bytes_eq u (string_bytes k)) by_name.new.entries ≡ Some v
-        → lookup (λ k. bytes_eq u (string_bytes k)) by_name.old.entries ≡ Some v }
+    ensures first { by_name.new.entries ≡ take (length by_name.new.entries) by_name.old.entries }
+    ensures most { (n : ℕ) → length by_name.new.entries < n → n ≤ length by_name.old.entries → bound < bytes_in (take n by_name.old.entries) }
 {
     let mut rest = bytes;
     while rest > bound {

@@ -1,13 +1,13 @@
-use Rattle.std.proofs.Common.{◌≡◌, ℕ, length, List, Some, string_bytes}
-use Rattle.std.specs.Map.{lookup}
-use Rattle.std.specs.Str.{bytes_eq}
+use Rattle.std.proofs.Common.{◌≡◌, ◌≤◌, ◌<◌, ℕ, length, take}
 use Rattle.tenant_ready.specs.Bytes.{bytes_in}
 use Rattle.tenant_ready.proofs.kept.evict.Given as goal
 
+-- what is left are the first entries, and one more has no room
 abbrev pub invariant-loop-rest : goal.invariant-loop-rest
 invariant-loop-rest l = record {
   rest : l.rest ≡ bytes_in l.by_name.entries;
-  same : (u : List ℕ) (v : _) → lookup (λ k. bytes_eq u (string_bytes k)) l.by_name.entries ≡ Some v → lookup (λ k. bytes_eq u (string_bytes k)) l.initial.by_name.entries ≡ Some v;
+  first : l.by_name.entries ≡ take (length l.by_name.entries) l.initial.by_name.entries;
+  most : (n : ℕ) → length l.by_name.entries < n → n ≤ length l.initial.by_name.entries → l.bound < bytes_in (take n l.initial.by_name.entries);
 }
 
 abbrev pub decreases-loop-rest : goal.decreases-loop-rest
