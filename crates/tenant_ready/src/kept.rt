@@ -122,8 +122,8 @@ fn size_of(entry: &Option<(String, Rc<Inventory>)>) -> u64
     }
 }
 
-/// Forgets what was used least recently, no more than it must so that the rest takes at most `bound`
-/// bytes. Returns how many the rest takes.
+/// Forgets what was used least recently, and no more than it must, until the rest takes at most
+/// `bound` bytes. Returns how many the rest takes.
 fn evict(by_name: &mut ByName, bytes: u64, bound: u64) -> u64
     requires { bytes ≡ bytes_in by_name.old.entries }
     ensures value { result ≡ bytes_in by_name.new.entries }
