@@ -1,11 +1,20 @@
-//! A map at the limits of its numbers, with 1,024 devices and 1,024 buckets: what is built of it
-//! answers.
+//! A map at the limits of its numbers of devices and of buckets: what is built of it answers.
 
 use crate::drafts::{ONE, SOUND, Short, bucket, choose, generated};
 use crate::rules::ask;
+use crush_map::limits::{BUCKET_LIMIT, DEVICE_LIMIT};
 use crush_map::{Bucket, ItemId, Kind, Listed, Step};
 use std::alloc::{AllocError, Global};
 use std::test::Fail;
+
+/// Racks of 32 hosts each, below one root.
+const RACKS: i32 = 31;
+
+/// All other buckets are hosts: 992 where a map has at most 1,024 buckets.
+const HOSTS: i32 = BUCKET_LIMIT as i32 - RACKS - 1;
+
+/// The id of the first rack, which stands behind the root's and those of the hosts.
+const FIRST_RACK: i32 = -2 - HOSTS;
 
 /// A bucket of items whose ids fall from the first on, all of whose weight is at one place.
 fn spread(
@@ -27,7 +36,7 @@ fn spread(
 /// further device without weight behind it.
 fn host(alloc: Global, device: i32) -> Result<Bucket, AllocError> {
     let id = (-2i32).wrapping_sub(device);
-    let both = [(device, ONE), (device.wrapping_add(992), 0)];
+    let both = [(device, ONE), (device.wrapping_add(HOSTS), 0)];
     if device < 32 {
         bucket(alloc, id, 1, Kind::List, &both)
     } else {
@@ -35,21 +44,21 @@ fn host(alloc: Global, device: i32) -> Result<Bucket, AllocError> {
     }
 }
 
-/// 992 hosts -2 - device. 31 racks -994 - k, trees of 32 hosts: rack k has those of the devices
-/// from 32 k on, and all its weight is in that of device 33 k. A root of the racks, all of whose
-/// weight is in rack 17.
+/// The hosts -2 - device. The racks `FIRST_RACK` - k, trees of 32 hosts: rack k has those of the
+/// devices from 32 k on, and all its weight is in that of device 33 k. A root of the racks, all of
+/// whose weight is in rack 17.
 fn all_buckets(alloc: Global) -> Result<Listed<Bucket>, AllocError> {
     let mut all = Vec::new(alloc);
-    for device in 0..992i32 {
+    for device in 0..HOSTS {
         all.push(host(alloc, device)?)?;
     }
-    for k in 0..31i32 {
-        let rack = ((-994i32).wrapping_sub(k), 3, Kind::Tree);
+    for k in 0..RACKS {
+        let rack = (FIRST_RACK.wrapping_sub(k), 3, Kind::Tree);
         let first = (-2i32).wrapping_sub(k.wrapping_mul(32));
         all.push(spread(alloc, rack, first, 32, k)?)?;
     }
     let root = (-1, 10, Kind::List);
-    all.push(spread(alloc, root, -994, 31, 17)?)?;
+    all.push(spread(alloc, root, FIRST_RACK, RACKS, 17)?)?;
     Ok(Listed::new(all))
 }
 
@@ -64,13 +73,22 @@ macro_rules! a_device_of_each {
 
 /// A device from the root, and then one from each of nine racks, each third one.
 const STEPS: &[Step] = a_device_of_each!(
-    -1, -994, -997, -1000, -1003, -1006, -1009, -1012, -1015, -1018
+    -1,
+    FIRST_RACK,
+    FIRST_RACK - 3,
+    FIRST_RACK - 6,
+    FIRST_RACK - 9,
+    FIRST_RACK - 12,
+    FIRST_RACK - 15,
+    FIRST_RACK - 18,
+    FIRST_RACK - 21,
+    FIRST_RACK - 24
 );
 
 /// Devices with an even number are out, the others are in.
 fn reweights(alloc: Global) -> Result<Vec<(u32, u32)>, AllocError> {
     let mut given = Vec::new(alloc);
-    for device in 0..1024u32 {
+    for device in 0..DEVICE_LIMIT as u32 {
         given.push((device, if device % 2 == 0 { 0 } else { ONE }))?;
     }
     Ok(given)
@@ -78,15 +96,13 @@ fn reweights(alloc: Global) -> Result<Vec<(u32, u32)>, AllocError> {
 
 /// The root holds device 561, rack 3 k holds device 99 k, and those with an even number are out.
 #[test]
-fn a_map_of_1024_devices_and_1024_buckets_is_built_and_answers(
-    rt: HostRuntime,
-) -> Result<(), Fail> {
+fn a_map_at_its_limits_is_built_and_answers(rt: HostRuntime) -> Result<(), Fail> {
     let alloc = rt.alloc();
     let short = Short {
         rules: &[(0, "rule", STEPS)],
         ..SOUND
     };
-    let draft = generated(alloc, short, 1024, all_buckets(alloc)?)?;
+    let draft = generated(alloc, short, DEVICE_LIMIT as u32, all_buckets(alloc)?)?;
     let given = reweights(alloc)?;
     let items = [
         Some(ItemId(561)),

@@ -1,6 +1,7 @@
 //! Reports as CSV, and changes of devices from CSV.
 
 use crush_map::{ItemId, Listed};
+use crush_pool::limits::CHANGE_LIMIT;
 use crush_report::{DeviceChange, MoveRow, UsageRow, moves_csv, read_device_csv, usage_csv};
 use std::alloc::{AllocError, Global};
 use std::test::Fail;
@@ -144,12 +145,12 @@ fn lines(alloc: Global, count: u32) -> Result<Vec<u8>, AllocError> {
 }
 
 #[test]
-fn changes_are_1024_at_most(rt: HostRuntime) -> Result<(), Fail> {
+fn changes_are_as_many_as_the_limit_at_most(rt: HostRuntime) -> Result<(), Fail> {
     let alloc = rt.alloc();
-    let most = read_device_csv(alloc, lines(alloc, 1024)?.as_slice())?;
+    let most = read_device_csv(alloc, lines(alloc, CHANGE_LIMIT as u32)?.as_slice())?;
     assert!(rt; most.is_ok());
-    assert_eq!(rt; most.ok().unwrap().len(), 1024);
-    let past = read_device_csv(alloc, lines(alloc, 1025)?.as_slice())?;
+    assert_eq!(rt; most.ok().unwrap().len(), CHANGE_LIMIT);
+    let past = read_device_csv(alloc, lines(alloc, CHANGE_LIMIT as u32 + 1)?.as_slice())?;
     assert!(rt; past.is_err());
     Ok(())
 }

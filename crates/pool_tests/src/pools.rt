@@ -1,6 +1,9 @@
 //! Pools, written shortly, and the ranges of their numbers and names.
 
+use crush_choose::limits::SIZE_LIMIT;
 use crush_map::Text;
+use crush_map::limits::RULE_ID_LIMIT;
+use crush_pool::limits::{GROUP_LIMIT, POOL_ID_LIMIT};
 use crush_pool::{Pool, PoolFault, PoolParts};
 use std::alloc::{AllocError, Global};
 use std::process::Abort;
@@ -57,12 +60,15 @@ pub(crate) fn pool(rt: &impl Abort, alloc: Global, short: Short) -> Result<Pool,
 /// Numbers and names in range, each at an end of its range.
 const IN_RANGE: &[Short] = &[
     Short {
-        id: 2_147_483_647,
+        id: POOL_ID_LIMIT,
         ..TWELVE
     },
-    Short { size: 32, ..TWELVE },
     Short {
-        rule: 255,
+        size: SIZE_LIMIT as u32,
+        ..TWELVE
+    },
+    Short {
+        rule: RULE_ID_LIMIT,
         ..TWELVE
     },
     Short {
@@ -71,8 +77,8 @@ const IN_RANGE: &[Short] = &[
         ..TWELVE
     },
     Short {
-        pg_num: 65_536,
-        pgp_num: 65_536,
+        pg_num: GROUP_LIMIT,
+        pgp_num: GROUP_LIMIT,
         ..TWELVE
     },
     Short {
@@ -102,13 +108,16 @@ fn numbers_and_names_in_range_make_a_pool(rt: HostRuntime) -> Result<(), Fail> {
 const OUT_OF_RANGE: &[Short] = &[
     Short { id: 0, ..TWELVE },
     Short {
-        id: 2_147_483_648,
+        id: POOL_ID_LIMIT + 1,
         ..TWELVE
     },
     Short { size: 0, ..TWELVE },
-    Short { size: 33, ..TWELVE },
     Short {
-        rule: 256,
+        size: SIZE_LIMIT as u32 + 1,
+        ..TWELVE
+    },
+    Short {
+        rule: RULE_ID_LIMIT + 1,
         ..TWELVE
     },
     Short {
@@ -117,7 +126,7 @@ const OUT_OF_RANGE: &[Short] = &[
         ..TWELVE
     },
     Short {
-        pg_num: 65_537,
+        pg_num: GROUP_LIMIT + 1,
         ..TWELVE
     },
     Short {

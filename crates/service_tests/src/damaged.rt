@@ -14,7 +14,7 @@ use tenant_core::{StoreFault, TenantStore};
 use tenant_messages::Call;
 use tenant_state::{Change, Inventory, Receipt};
 
-fn begins_with(byte: u8, name: &str) -> bool
+pub(crate) fn begins_with(byte: u8, name: &str) -> bool
     ensures { result ≡ begins_with byte name.now }
 {
     match name.as_bytes() {
@@ -23,7 +23,7 @@ fn begins_with(byte: u8, name: &str) -> bool
     }
 }
 
-fn fresh_tenant(alloc: Global) -> Result<Rc<Inventory>, AllocError>
+pub(crate) fn fresh_tenant(alloc: Global) -> Result<Rc<Inventory>, AllocError>
     ensures { IfOk result (λ inventory. inventory.value ≡ inventory_of fresh) }
 {
     Ok(Rc::new(alloc, Inventory::fresh(alloc)?)?)

@@ -2,6 +2,7 @@
 
 ghost use Rattle.std.specs.Prelude.{◌≡◌, false, IfOk};
 
+use crate::damaged::{begins_with, fresh_tenant};
 use crate::rows::{Row, assert_requests};
 use crush_app::{ScriptEnd, Service, script_run};
 use std::alloc::Global;
@@ -10,20 +11,23 @@ use std::test::Fail;
 use tenant_core::{StoreFault, TenantStore};
 use tenant_state::{Change, Inventory, Receipt};
 
-/// A full store with no tenant that fails for good at its first call after some that it serves.
+/// A full store that fails for good at its first `load` after some that it serves. Each name that
+/// begins with `b` is a tenant that was just made; the others are absent.
 #[derive(Drop)]
 struct Failing {
+    alloc: Global,
     left: u32,
     has_failed: bool,
 }
 
 impl TenantStore for Failing {
-    ghost use Rattle.std.specs.Prelude.{◌≡◌, None};
+    ghost use Rattle.std.specs.Prelude.{◌≡◌};
     ghost use Rattle.std.proofs.Common.{◌∙◌, sym};
+    ghost use Rattle.service_tests.specs.Damaged.{state_of};
 
     ghost is_honest = { λ store. Unit {0} };
 
-    ghost has_state = { λ store name s. s ≡ None };
+    ghost has_state = { λ store name s. s ≡ state_of name };
 
     ghost latched = { λ store. store.has_failed };
 
@@ -36,13 +40,17 @@ impl TenantStore for Failing {
         self.has_failed
     }
 
-    fn load(&mut self, _name: &str) -> Result<Option<Rc<Inventory>>, StoreFault> {
+    fn load(&mut self, name: &str) -> Result<Option<Rc<Inventory>>, StoreFault> {
         if self.left == 0 {
             self.has_failed = true;
             return Err(StoreFault::Failed);
         }
         self.left -= 1;
-        Ok(None)
+        if begins_with(b'b', name) {
+            Ok(Some(fresh_tenant(self.alloc)?))
+        } else {
+            Ok(None)
+        }
     }
 
     fn find_receipt(
@@ -50,7 +58,7 @@ impl TenantStore for Failing {
         _name: &str,
         _number: &str,
     ) -> Result<Option<Rc<Receipt>>, StoreFault> {
-        Err(StoreFault::NoMemory)
+        Ok(None)
     }
 
     fn create(&mut self, _name: &str) -> Result<(), StoreFault> {
@@ -76,9 +84,16 @@ impl TenantStore for Failing {
     ghost settled = { λ store t found honest works there. absurd there };
 }
 
-/// The third call that reaches the store is its last one. From then on every call is answered 503,
+/// The fourth call that reaches the store is its last one. From then on every call is answered 503,
 /// also one that no tenant is asked for.
 const ROWS: &[Row] = &[
+    (
+        "GET",
+        "/t/b",
+        "",
+        200,
+        "{\"devices\":0,\"epoch\":0,\"pools\":0,\"tenant\":\"b\",\"versions\":0}",
+    ),
     ("GET", "/t/a", "", 404, "{\"error\":\"no_tenant\"}"),
     ("PUT", "/t/a", "", 503, "{\"error\":\"store_failed\"}"),
     ("GET", "/x/d", "", 404, "{\"error\":\"no_path\"}"),
@@ -94,6 +109,7 @@ fn over_failing(alloc: Global, left: u32) -> Result<Service<Failing>, Fail>
     ensures { IfOk result (λ service. service.has_failed ≡ false) }
 {
     let store = Failing {
+        alloc,
         left,
         has_failed: false,
     };
@@ -102,7 +118,7 @@ fn over_failing(alloc: Global, left: u32) -> Result<Service<Failing>, Fail>
 
 #[test]
 fn a_latched_service_answers_503_to_every_call(rt: HostRuntime) -> Result<(), Fail> {
-    let mut service = over_failing(rt.alloc(), 2)?;
+    let mut service = over_failing(rt.alloc(), 3)?;
     assert!(rt; !service.is_latched());
     assert_requests(&rt, &mut service, ROWS);
     assert!(rt; service.is_latched());
