@@ -12,3 +12,4 @@ pub mod Committing
 pub mod Accepting
 pub mod Making
 pub mod QueryFacts
+pub mod Asking

@@ -1,0 +1,39 @@
+-- What reads of the tables find.
+use Rattle.std.specs.Prelude.{◌≡◌, ℕ, ℤ, List, [], ◌∷◌, Option, Some, None, IsPermutation, IsUtf8, string_bytes}
+use Rattle.std.specs.declared.cmp.Ordering.TheVariants.{Less}
+use Rattle.sqlite_value.specs.declared.value.Value.TheVariants.{Int}
+use Rattle.sqlite_value.specs.Order.{Row, column, value_cmp}
+use Rattle.sqlite_trees.specs.Tree.{Trees, IsAscending}
+use Rattle.tenant_tables.specs.Holds.{tenants_of, IsAbsent}
+use Rattle.tenant_tables.specs.Change.{version_row}
+use Rattle.tenant_tables.specs.declared.find.Tenant.{Tenant}
+use Rattle.tenant_tables.specs.declared.rows.VersionRow.{VersionRow}
+
+-- the number and the epoch of a row of tenants
+abbrev pub head_of : Row → Row
+head_of row = column row 0 ∷ column row 3 ∷ []
+
+-- The one row of tenants with the name has this number and this epoch, or there is none.
+abbrev pub Names : Trees → List ℕ → Option Tenant → Type 0
+Names db name None = IsAbsent db name
+Names db name (Some tenant) =
+    (row : Row) × (tenants_of db name ≡ row ∷ []) × (column row 0 ≡ Int tenant.id) × (column row 3 ≡ Int tenant.epoch)
+
+-- ---- the rows of a tenant, as values behind its number
+
+-- The first values rise strictly, as SQL orders values: integers as numbers, texts by their bytes.
+abbrev pub IsRising : List Row → Type 0
+IsRising = IsAscending (λ a b. value_cmp (column a 0) (column b 0) ≡ Less)
+
+-- the list has each of these rows once, in the order of the keys
+pub record Lists (all list : List Row) : Type 0 where
+  pub same : IsPermutation all list
+  pub rising : IsRising list
+
+-- the values of a row of maps that was read
+abbrev pub version_values : VersionRow → Row
+version_values row = version_row row.version (string_bytes row.text)
+
+-- the values are those of a version
+abbrev pub IsVersion : Row → Type 0
+IsVersion row = (version : ℤ) × (text : List ℕ) × IsUtf8 text × (row ≡ version_row version text)
