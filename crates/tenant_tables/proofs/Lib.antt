@@ -13,3 +13,5 @@ pub mod Accepting
 pub mod Making
 pub mod QueryFacts
 pub mod Asking
+pub mod Rising
+pub mod Listing

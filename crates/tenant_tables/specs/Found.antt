@@ -5,9 +5,10 @@ use Rattle.sqlite_value.specs.declared.value.Value.TheVariants.{Int}
 use Rattle.sqlite_value.specs.Order.{Row, column, value_cmp}
 use Rattle.sqlite_trees.specs.Tree.{Trees, IsAscending}
 use Rattle.tenant_tables.specs.Holds.{tenants_of, IsAbsent}
-use Rattle.tenant_tables.specs.Change.{version_row}
+use Rattle.tenant_tables.specs.Change.{version_row, state_row}
 use Rattle.tenant_tables.specs.declared.find.Tenant.{Tenant}
 use Rattle.tenant_tables.specs.declared.rows.VersionRow.{VersionRow}
+use Rattle.tenant_tables.specs.declared.write.State.{State}
 
 -- the number and the epoch of a row of tenants
 abbrev pub head_of : Row → Row
@@ -35,5 +36,14 @@ abbrev pub version_values : VersionRow → Row
 version_values row = version_row row.version (string_bytes row.text)
 
 -- the values are those of a version
-abbrev pub IsVersion : Row → Type 0
-IsVersion row = (version : ℤ) × (text : List ℕ) × IsUtf8 text × (row ≡ version_row version text)
+abbrev pub IsVersionRow : Row → Type 0
+IsVersionRow row = (version : ℤ) × (text : List ℕ) × IsUtf8 text × (row ≡ version_row version text)
+
+-- the values are those of a device's state
+abbrev pub IsStateRow : Row → Type 0
+IsStateRow row = (state : State) × (row ≡ state_row state)
+
+-- The rows are these in some order, and in the order of the keys where no key stands twice.
+pub record AreOrdered (all rows : List Row) : Type 0 where
+  pub same : IsPermutation all rows
+  pub in_order : (list : List Row) → Lists all list → rows ≡ list

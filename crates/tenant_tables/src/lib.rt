@@ -5,6 +5,7 @@ pub mod ask;
 pub mod commit;
 pub mod create;
 pub mod find;
+pub mod lists;
 pub mod open;
 pub mod refuse;
 pub mod remove;

@@ -87,11 +87,11 @@ pub trait TenantRow: Sized {
 }
 
 impl TenantRow for VersionRow {
-    ghost use Rattle.tenant_tables.specs.Found.{version_values, IsVersion};
+    ghost use Rattle.tenant_tables.specs.Found.{version_values, IsVersionRow};
 
     ghost values = { version_values };
 
-    ghost is_one = { IsVersion };
+    ghost is_one = { IsVersionRow };
 
     fn from_values(row: &Row) -> Result<Option<VersionRow>, AllocError> {
         if row.column_count() != 2 {
@@ -108,6 +108,39 @@ impl TenantRow for VersionRow {
 
     fn is_below(&self, other: &VersionRow) -> bool {
         self.version < other.version
+    }
+}
+
+impl TenantRow for State {
+    ghost use Rattle.tenant_tables.specs.Change.{state_row};
+    ghost use Rattle.tenant_tables.specs.Found.{IsStateRow};
+
+    ghost values = { state_row };
+
+    ghost is_one = { IsStateRow };
+
+    fn from_values(row: &Row) -> Result<Option<State>, AllocError> {
+        if row.column_count() != 3 {
+            return Ok(None);
+        }
+        let Some(device) = int_at(row, 0)? else {
+            return Ok(None);
+        };
+        let Some(reweight) = int_at(row, 1)? else {
+            return Ok(None);
+        };
+        let Some(up) = int_at(row, 2)? else {
+            return Ok(None);
+        };
+        Ok(Some(State {
+            device,
+            reweight,
+            up,
+        }))
+    }
+
+    fn is_below(&self, other: &State) -> bool {
+        self.device < other.device
     }
 }
 

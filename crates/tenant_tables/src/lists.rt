@@ -1,0 +1,56 @@
+//! The rows of a tenant in each table.
+
+ghost use Rattle.std.specs.Prelude.{◌≡◌, ◌≢◌, ◌⊎◌, map, false, IfOk, IfErr, Err};
+ghost use Rattle.std.specs.List.{AllByRecursion};
+ghost use Rattle.sqlite.specs.Held.{state};
+ghost use Rattle.sqlite.specs.State.{HasCleanDisk, Survives};
+ghost use Rattle.tenant_tables.specs.Layout.{maps_table};
+ghost use Rattle.tenant_tables.specs.Holds.{of_tenant};
+ghost use Rattle.tenant_tables.specs.Found.{AreOrdered, Lists, version_values, IsVersionRow};
+ghost use Rattle.tenant_tables.specs.Run.{IsReady, Remains};
+
+use crate::ask::ask;
+use crate::refuse::Fault;
+use crate::rows::{VersionRow, list_of};
+use sqlite::types::ValueRef;
+use sqlite::{Alter, Connection, Row};
+use std::alloc::Global;
+
+/// The versions and the texts of the tenant's maps, by version.
+fn version_rows<S: Alter>(conn: &mut Connection<S>, id: i64) -> Result<Vec<Row>, Fault>
+    requires autocommit { conn.old.in_transaction ≡ false }
+    requires ready { HasCleanDisk (state S.Store conn.old) → IsReady (state S.Store conn.old) }
+    ensures found { HasCleanDisk (state S.Store conn.new) → IfOk result (λ rows. AreOrdered (of_tenant maps_table id (state S.Store conn.old).now.trees) rows.items) }
+    ensures remains { HasCleanDisk (state S.Store conn.new) → result ≢ Err Fault.Failed → Remains (state S.Store conn.old) (state S.Store conn.new) }
+    ensures faults { IfErr result (λ fault. (fault ≡ Fault.NoMemory) ⊎ (fault ≡ Fault.Failed)) }
+    ensures survives { Survives (state S.Store conn.old) (state S.Store conn.new) (λ _. ⊥) }
+    ensures ended { conn.new.in_transaction ≡ false }
+{
+    ask(
+        conn,
+        "SELECT version, text FROM maps WHERE tenant = ?1 ORDER BY version",
+        &[ValueRef::Int(id)],
+    )
+}
+
+/// The versions of the tenant's map, which rise strictly.
+///
+/// `Err(Fault::Damaged)`: a version stands twice, or a row is none of this service's.
+/// `Err(Fault::NoMemory)`: nothing is changed.
+pub fn versions_of<S: Alter>(
+    alloc: Global,
+    conn: &mut Connection<S>,
+    id: i64,
+) -> Result<Vec<VersionRow>, Fault>
+    requires autocommit { conn.old.in_transaction ≡ false }
+    requires ready { HasCleanDisk (state S.Store conn.old) → IsReady (state S.Store conn.old) }
+    ensures found { HasCleanDisk (state S.Store conn.new) → IfOk result (λ versions. Lists (of_tenant maps_table id (state S.Store conn.old).now.trees) (map version_values versions.items)) }
+    ensures damaged { HasCleanDisk (state S.Store conn.new) → result ≡ Err Fault.Damaged → (list : _) → AllByRecursion IsVersionRow list → ¬ Lists (of_tenant maps_table id (state S.Store conn.old).now.trees) list }
+    ensures full { result ≢ Err Fault.Full }
+    ensures remains { HasCleanDisk (state S.Store conn.new) → result ≢ Err Fault.Failed → Remains (state S.Store conn.old) (state S.Store conn.new) }
+    ensures survives { Survives (state S.Store conn.old) (state S.Store conn.new) (λ _. ⊥) }
+    ensures ended { conn.new.in_transaction ≡ false }
+{
+    let rows = version_rows(conn, id)?;
+    list_of(alloc, &rows)
+}
