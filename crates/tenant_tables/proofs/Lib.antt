@@ -13,5 +13,6 @@ pub mod Accepting
 pub mod Making
 pub mod QueryFacts
 pub mod Asking
+pub mod Columns
 pub mod Rising
 pub mod Listing

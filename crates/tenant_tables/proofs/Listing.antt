@@ -22,7 +22,7 @@ use Rattle.sqlite.specs.Command.TheVariants.{Select}
 use Rattle.sqlite.specs.Listing.{understood, reads_listing}
 use Rattle.sqlite.specs.State.{State, Shown}
 use Rattle.sqlite.proofs.Callers.{IsPlain, command_of, reads_as}
-use Rattle.tenant_tables.specs.Layout.{store_schema, maps_table}
+use Rattle.tenant_tables.specs.Layout.{store_schema, maps_table, devices_table, pools_table}
 use Rattle.tenant_tables.specs.Holds.{rows_with, values_of, of_tenant}
 use Rattle.tenant_tables.specs.Found.{IsRising, Lists, AreOrdered}
 use Rattle.tenant_tables.specs.declared.refuse.Fault.{Fault}
@@ -88,16 +88,6 @@ pub reads_rows : (table : schema.Table) (text : List ℕ) (tree : ℕ) (project 
 reads_rows table text tree project names id old new rows at over shows asks has h =
     reads_ordered tree project table id old.now.trees rows at (over old.now.trees) shows ((reads_as text (Int id ∷ []) old new store_schema has _ asks.command asks.plain asks.tables rows h).answer Null)
 
--- rows that are read whole and rise are a list of all
-pub lists : (all rows list : List Row) → AreOrdered all rows → rows ≡ list → IsRising rows → Lists all list
-lists all rows list are is up = record { same = subst (IsPermutation all) is are.same; rising = subst IsRising is up }
-
--- and where they are not, there is no list
-pub lists_none : (IsOne : Row → Type 0) (all rows : List Row) → AreOrdered all rows → (AllByRecursion IsOne rows → IsRising rows → ⊥) → (list : List Row) → AllByRecursion IsOne list → Lists all list → ⊥
-lists_none IsOne all rows are none list each is =
-    let same = are.in_order list is in
-    none (subst (AllByRecursion IsOne) (sym same) each) (subst IsRising (sym same) is.rising)
-
 -- ---- the queries
 
 abbrev pub versions_of_text : List ℕ
@@ -109,3 +99,24 @@ versions_of_is = record { command = refl; tables = refl; plain = (refl, refl) }
 
 pub reads_versions : (id : ℤ) (old new : State) (rows : List Row) → old.now.schema ≡ store_schema → Shown versions_of_text (Int id ∷ []) old new rows → AreOrdered (of_tenant maps_table id old.now.trees) rows
 reads_versions id old new rows = reads_rows maps_table versions_of_text 4 _ _ id old new rows refl (λ db. refl) (λ r. refl) versions_of_is
+
+abbrev pub devices_of_text : List ℕ
+devices_of_text = codes "SELECT device, reweight, up FROM devices WHERE tenant = ?1 ORDER BY device"
+
+pub devices_of_is : AsksFor devices_of_text 6 (col 1 2 ∷ col 1 3 ∷ col 1 4 ∷ []) (codes "device" ∷ codes "reweight" ∷ codes "up" ∷ [])
+unfolding understood everything
+devices_of_is = record { command = refl; tables = refl; plain = (refl, refl) }
+
+pub reads_devices : (id : ℤ) (old new : State) (rows : List Row) → old.now.schema ≡ store_schema → Shown devices_of_text (Int id ∷ []) old new rows → AreOrdered (of_tenant devices_table id old.now.trees) rows
+reads_devices id old new rows = reads_rows devices_table devices_of_text 6 _ _ id old new rows refl (λ db. refl) (λ r. refl) devices_of_is
+
+abbrev pub pools_of_text : List ℕ
+pools_of_text = codes "SELECT id, name, erasure, size, rule, pg_num, pgp_num, hashpspool FROM pools WHERE tenant = ?1 ORDER BY id"
+
+pub pools_of_is : AsksFor pools_of_text 8 (col 1 2 ∷ col 1 3 ∷ col 1 4 ∷ col 1 5 ∷ col 1 6 ∷ col 1 7 ∷ col 1 8 ∷ col 1 9 ∷ [])
+    (codes "id" ∷ codes "name" ∷ codes "erasure" ∷ codes "size" ∷ codes "rule" ∷ codes "pg_num" ∷ codes "pgp_num" ∷ codes "hashpspool" ∷ [])
+unfolding understood everything
+pools_of_is = record { command = refl; tables = refl; plain = (refl, refl) }
+
+pub reads_pools : (id : ℤ) (old new : State) (rows : List Row) → old.now.schema ≡ store_schema → Shown pools_of_text (Int id ∷ []) old new rows → AreOrdered (of_tenant pools_table id old.now.trees) rows
+reads_pools id old new rows = reads_rows pools_table pools_of_text 8 _ _ id old new rows refl (λ db. refl) (λ r. refl) pools_of_is

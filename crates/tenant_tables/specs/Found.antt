@@ -1,13 +1,14 @@
 -- What reads of the tables find.
 use Rattle.std.specs.Prelude.{◌≡◌, ℕ, ℤ, List, [], ◌∷◌, Option, Some, None, IsPermutation, IsUtf8, string_bytes}
 use Rattle.std.specs.declared.cmp.Ordering.TheVariants.{Less}
-use Rattle.sqlite_value.specs.declared.value.Value.TheVariants.{Int}
+use Rattle.sqlite_value.specs.declared.value.Value.TheVariants.{Int, Text as Words}
 use Rattle.sqlite_value.specs.Order.{Row, column, value_cmp}
 use Rattle.sqlite_trees.specs.Tree.{Trees, IsAscending}
 use Rattle.tenant_tables.specs.Holds.{tenants_of, IsAbsent}
 use Rattle.tenant_tables.specs.Change.{version_row, state_row}
 use Rattle.tenant_tables.specs.declared.find.Tenant.{Tenant}
 use Rattle.tenant_tables.specs.declared.rows.VersionRow.{VersionRow}
+use Rattle.tenant_tables.specs.declared.rows.PoolRow.{PoolRow}
 use Rattle.tenant_tables.specs.declared.write.State.{State}
 
 -- the number and the epoch of a row of tenants
@@ -42,6 +43,25 @@ IsVersionRow row = (version : ℤ) × (text : List ℕ) × IsUtf8 text × (row �
 -- the values are those of a device's state
 abbrev pub IsStateRow : Row → Type 0
 IsStateRow row = (state : State) × (row ≡ state_row state)
+
+-- the values of a row of pools that was read
+abbrev pub pool_values : PoolRow → Row
+pool_values pool =
+    Int pool.id
+    ∷ Words (string_bytes pool.name)
+    ∷ Int pool.erasure
+    ∷ Int pool.size
+    ∷ Int pool.rule
+    ∷ Int pool.pg_num
+    ∷ Int pool.pgp_num
+    ∷ Int pool.hashpspool
+    ∷ []
+
+-- the values are those of a pool
+abbrev pub IsPoolRow : Row → Type 0
+IsPoolRow row =
+    (id : ℤ) × (name : List ℕ) × IsUtf8 name × (erasure : ℤ) × (size : ℤ) × (rule : ℤ) × (pg_num : ℤ) × (pgp_num : ℤ) × (hashpspool : ℤ)
+    × (row ≡ Int id ∷ Words name ∷ Int erasure ∷ Int size ∷ Int rule ∷ Int pg_num ∷ Int pgp_num ∷ Int hashpspool ∷ [])
 
 -- The rows are these in some order, and in the order of the keys where no key stands twice.
 pub record AreOrdered (all rows : List Row) : Type 0 where

@@ -144,6 +144,58 @@ impl TenantRow for State {
     }
 }
 
+impl TenantRow for PoolRow {
+    ghost use Rattle.tenant_tables.specs.Found.{pool_values, IsPoolRow};
+
+    ghost values = { pool_values };
+
+    ghost is_one = { IsPoolRow };
+
+    fn from_values(row: &Row) -> Result<Option<PoolRow>, AllocError> {
+        if row.column_count() != 8 {
+            return Ok(None);
+        }
+        let Some(id) = int_at(row, 0)? else {
+            return Ok(None);
+        };
+        let Some(name) = text_at(row, 1)? else {
+            return Ok(None);
+        };
+        let Some(erasure) = int_at(row, 2)? else {
+            return Ok(None);
+        };
+        let Some(size) = int_at(row, 3)? else {
+            return Ok(None);
+        };
+        let Some(rule) = int_at(row, 4)? else {
+            return Ok(None);
+        };
+        let Some(pg_num) = int_at(row, 5)? else {
+            return Ok(None);
+        };
+        let Some(pgp_num) = int_at(row, 6)? else {
+            return Ok(None);
+        };
+        let Some(hashpspool) = int_at(row, 7)? else {
+            return Ok(None);
+        };
+        Ok(Some(PoolRow {
+            id,
+            name,
+            erasure,
+            size,
+            rule,
+            pg_num,
+            pgp_num,
+            hashpspool,
+        }))
+    }
+
+    fn is_below(&self, other: &PoolRow) -> bool {
+        self.id < other.id
+    }
+}
+
 /// The values of the rows, in their order, or `None` where one of them is no such row.
 fn all_in<T: TenantRow + Drop>(alloc: Global, rows: &[Row]) -> Result<Option<Vec<T>>, AllocError>
     ensures some { IfOk result (λ o. IfSome o (λ list. rows.now ≡ map T.values list.items)) }
