@@ -174,5 +174,5 @@ one_receipt all rows (Ok (Some receipt)) same some none = one_permutation (recei
 pub no_receipt : (all rows : List Row) → IsPermutation all rows → (rows ≢ []) × ((row : Row) → IsReceiptRow row → rows ≢ row ∷ []) → (all ≢ []) × ((row : Row) → IsReceiptRow row → all ≢ row ∷ [])
 no_receipt all rows same not = (
   λ none. not.0 (no_rows rows all (IsPermutation-sym _ _ same) none),
-  λ row is one. not.1 row is (one_permutation row rows (subst (λ l. IsPermutation l rows) one same))
+  λ row is one. not.1 row is (one_permutation row rows (subst (λ l. IsPermutation l rows) one same)),
 )
