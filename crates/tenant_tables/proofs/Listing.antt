@@ -46,13 +46,13 @@ ordered_query tree project = record {
   offset = lit (Int (pos 0));
 }
 
-abbrev by_key : Row → Output
+abbrev pub by_key : Row → Output
 by_key row = (column row 0 ∷ [], row)
 
-back : (rows : List Row) → map (λ (o : Output). o.1) (map by_key rows) ≡ rows
+pub back : (rows : List Row) → map (λ (o : Output). o.1) (map by_key rows) ≡ rows
 back rows = map-map (λ (o : Output). o.1) by_key rows ∙ map-id rows
 
-no_tie : (a b : Row) → value_cmp (column a 0) (column b 0) ≡ Less → ordering_then (value_cmp (column a 0) (column b 0)) Equal ≡ Less
+pub no_tie : (a b : Row) → value_cmp (column a 0) (column b 0) ≡ Less → ordering_then (value_cmp (column a 0) (column b 0)) Equal ≡ Less
 no_tie a b less = ap (λ o. ordering_then o Equal) less
 
 module _ (tree : ℕ) (project : List Term) where
@@ -137,7 +137,7 @@ unfolding understood everything
 receipt_is = (refl, refl, (refl, refl))
 
 -- the rows that pass two tests
-filter_two : (p q : Row → Bool) (rows : List Row) → filter (λ r. p r && q r) rows ≡ filter q (filter p rows)
+pub filter_two : (p q : Row → Bool) (rows : List Row) → filter (λ r. p r && q r) rows ≡ filter q (filter p rows)
 filter_two p q [] = refl
 filter_two p q (r ∷ rows) = go (p r) (filter_two p q rows)
   where
