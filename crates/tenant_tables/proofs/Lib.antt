@@ -12,3 +12,10 @@ pub mod Committing
 pub mod Accepting
 pub mod Making
 pub mod QueryFacts
+pub mod Asking
+pub mod Columns
+pub mod Tested
+pub mod Opening
+pub mod Paging
+pub mod Rising
+pub mod Listing

@@ -1,15 +1,26 @@
 //! The tables of a connection as a value that latches after a failure.
 
-ghost use Rattle.std.specs.Prelude.{◌≡◌, ◌≢◌, ◌↔◌, true, false, OnOk, OnErr, Err, IsTrue};
+ghost use Rattle.std.specs.Prelude.{◌≡◌, ◌≢◌, ◌↔◌, ◌⊎◌, [], ◌∷◌, map, true, false, IfOk, IfErr, OnOk, OnErr, Err, IsTrue};
 ghost use Rattle.sqlite.specs.Held.{state};
 ghost use Rattle.sqlite.specs.State.{HasCleanDisk, Survives};
-ghost use Rattle.tenant_tables.specs.Holds.{IsAbsent};
-ghost use Rattle.tenant_tables.specs.Change.{Accepts, Creates, Drops, IsNumber, with_version, with_states, with_pool, without_pool};
+ghost use Rattle.std.specs.List.{AllByRecursion};
+ghost use Rattle.sqlite_trees.specs.View.{IsClean};
+ghost use Rattle.tenant_tables.specs.Layout.{no_schema, store_schema, maps_table, devices_table, pools_table, receipts_table};
+ghost use Rattle.tenant_tables.specs.Run.{HasVersion, IsBare};
+ghost use Rattle.tenant_tables.specs.Holds.{IsAbsent, of_tenant};
+ghost use Rattle.tenant_tables.specs.Found.{Names, Lists, Begins, rows_above, receipt_values, receipts_with, AreReceipt, IsReceiptRow, version_values, pool_values, IsVersionRow, IsStateRow, IsPoolRow};
+ghost use Rattle.tenant_tables.specs.Change.{Accepts, Creates, Drops, IsNumber, with_version, with_states, with_pool, without_pool, state_row};
 
 use crate::commit::{commit_no_pool, commit_pool, commit_states, commit_version};
 use crate::create::create;
+use crate::find::{Tenant, find};
+use crate::lists::{devices_of, pools_of, receipt_of, versions_of};
+use crate::open::{get_ready, set_up};
+use crate::pages::{first_receipts, receipts_after};
 use crate::refuse::Fault;
 use crate::remove::remove;
+use crate::reopen::reopen;
+use crate::rows::{PoolRow, ReceiptRow, VersionRow};
 use crate::write::{Pool, Receipt, State};
 use sqlite::{Alter, Connection};
 use std::alloc::Global;
@@ -39,7 +50,59 @@ impl<S: Alter> Model for Tables<S> {
     ghost invariant = { λ s. (s.conn.in_transaction ≡ false) × (s.is_latched ≡ false → HasCleanDisk (state S.Store s.conn) → IsReady (state S.Store s.conn)) };
 }
 
+impl<S: Alter + Drop> Tables<S> {
+    /// The tables of a connection. They are made where the database has none, and else tested: the
+    /// whole schema, its version, and that rows stand by their rowids. So what the other calls
+    /// rest on holds of each file that this opens, and no caller has to know where it came from.
+    ///
+    /// `Err((Fault::Damaged, store))`: the tables are another's, or of another version. Nothing is
+    /// changed. `Err((Fault::NoMemory, store))`, `Err((Fault::Full, store))`,
+    /// `Err((Fault::Failed, store))`: no row is changed, and the tables may have been made.
+    pub fn open(alloc: Global, conn: Connection<S>) -> Result<Tables<S>, (Fault, S)>
+        requires autocommit { conn.in_transaction ≡ false }
+        requires open { HasCleanDisk (state S.Store conn) → IsTrue (state S.Store conn).is_open }
+        requires settled { HasCleanDisk (state S.Store conn) → (state S.Store conn).now ≡ (state S.Store conn).committed }
+        ensures live { IfOk result (λ tables. tables.1 ≡ false) }
+        ensures made { IfOk result (λ tables. HasCleanDisk (state S.Store tables.0) → (state S.Store conn).now.schema ≡ no_schema → IsBare (state S.Store tables.0).now) }
+        ensures adopted { IfOk result (λ tables. HasCleanDisk (state S.Store tables.0) → (state S.Store conn).now.schema ≢ no_schema
+            → ((state S.Store conn).now.schema ≡ store_schema) × ((state S.Store tables.0).now.trees ≡ (state S.Store conn).now.trees) × HasVersion (state S.Store conn).now.trees) }
+        ensures alone { IfOk result (λ tables. HasCleanDisk (state S.Store tables.0) → (db : _) → (state S.Store tables.0).may_leave db → db ≡ (state S.Store tables.0).now.trees) }
+        ensures damaged { IfErr result (λ e. IsClean (S.Store.view e.1) → e.0 ≡ Fault.Damaged → ((state S.Store conn).now.schema ≢ no_schema) × ((state S.Store conn).now.schema ≡ store_schema → ¬ HasVersion (state S.Store conn).now.trees)) }
+        ensures crash { IfErr result (λ e. IsClean (S.Store.view e.1) → (trees : _) → S.Store.recovers e.1 trees
+            → (state S.Store conn).may_leave trees ⊎ (((state S.Store conn).now.schema ≡ no_schema) × ((db : _) × IsBare db × (trees ≡ db.trees)))) }
+    {
+        let mut conn = conn;
+        if let Err(fault) = set_up(&mut conn) {
+            return Err((fault, conn.into_store()));
+        }
+        let mut conn = match reopen(alloc, conn) {
+            Ok(conn) => conn,
+            Err((fault, store)) => return Err((fault, store)),
+        };
+        match get_ready(&mut conn) {
+            Ok(()) => Ok(Tables {
+                conn,
+                alloc,
+                is_latched: false,
+            }),
+            Err(fault) => Err((fault, conn.into_store())),
+        }
+    }
+}
+
 impl<S: Alter> Tables<S> {
+    /// Gives the connection back, as it stands.
+    pub fn close(self) -> Connection<S>
+        ensures { result ≡ self.0 }
+    {
+        let Tables {
+            conn,
+            alloc: _,
+            is_latched: _,
+        } = self;
+        conn
+    }
+
     /// Whether a call has failed for good.
     pub fn is_latched(&self) -> bool
         ensures { result ≡ self.now.1 }
@@ -210,5 +273,150 @@ impl<S: Alter> Tables<S> {
                 Err(fault)
             }
         }
+    }
+
+    /// The tenant with the name, or `None` where there is none.
+    ///
+    /// No row is changed. `Err(Fault::Damaged)`: there are several, or the row is none of this service's.
+    /// `Err(Fault::Failed)`: the tables are latched.
+    pub fn find(&mut self, name: &str) -> Result<Option<Tenant>, Fault>
+        requires live { self.old.1 ≡ false }
+        ensures found { HasCleanDisk (state S.Store self.new.0) → IfOk result (Names (state S.Store self.old.0).now.trees name.now) }
+        ensures damaged { HasCleanDisk (state S.Store self.new.0) → result ≡ Err Fault.Damaged → (tenant : _) → ¬ Names (state S.Store self.old.0).now.trees name.now tenant }
+        ensures full { result ≢ Err Fault.Full }
+        ensures kept { HasCleanDisk (state S.Store self.new.0) → self.new.1 ≡ false → (state S.Store self.new.0).now ≡ (state S.Store self.old.0).now }
+        ensures latches { self.new.1 ≡ true ↔ result ≡ Err Fault.Failed }
+        ensures crash { Survives (state S.Store self.old.0) (state S.Store self.new.0) (λ _. ⊥) }
+    {
+        let found = find(&mut self.conn, name);
+        if let Err(fault) = &found {
+            self.is_latched = *fault == Fault::Failed;
+        }
+        found
+    }
+
+    /// The versions of the map of the tenant with the number, which rise strictly.
+    ///
+    /// No row is changed. `Err(Fault::Damaged)`: a version stands twice, or a row is none of this
+    /// service's.
+    /// `Err(Fault::Failed)`: the tables are latched.
+    pub fn versions_of(&mut self, id: i64) -> Result<Vec<VersionRow>, Fault>
+        requires live { self.old.1 ≡ false }
+        ensures found { HasCleanDisk (state S.Store self.new.0) → IfOk result (λ versions. Lists (of_tenant maps_table id (state S.Store self.old.0).now.trees) (map version_values versions.items)) }
+        ensures damaged { HasCleanDisk (state S.Store self.new.0) → result ≡ Err Fault.Damaged → (list : _) → AllByRecursion IsVersionRow list → ¬ Lists (of_tenant maps_table id (state S.Store self.old.0).now.trees) list }
+        ensures full { result ≢ Err Fault.Full }
+        ensures kept { HasCleanDisk (state S.Store self.new.0) → self.new.1 ≡ false → (state S.Store self.new.0).now ≡ (state S.Store self.old.0).now }
+        ensures latches { self.new.1 ≡ true ↔ result ≡ Err Fault.Failed }
+        ensures crash { Survives (state S.Store self.old.0) (state S.Store self.new.0) (λ _. ⊥) }
+    {
+        let found = versions_of(self.alloc, &mut self.conn, id);
+        if let Err(fault) = &found {
+            self.is_latched = *fault == Fault::Failed;
+        }
+        found
+    }
+
+    /// The states of devices of the tenant with the number, by the devices, which rise strictly.
+    ///
+    /// No row is changed. `Err(Fault::Damaged)`: a device stands twice, or a row is none of this
+    /// service's.
+    /// `Err(Fault::Failed)`: the tables are latched.
+    pub fn devices_of(&mut self, id: i64) -> Result<Vec<State>, Fault>
+        requires live { self.old.1 ≡ false }
+        ensures found { HasCleanDisk (state S.Store self.new.0) → IfOk result (λ states. Lists (of_tenant devices_table id (state S.Store self.old.0).now.trees) (map state_row states.items)) }
+        ensures damaged { HasCleanDisk (state S.Store self.new.0) → result ≡ Err Fault.Damaged → (list : _) → AllByRecursion IsStateRow list → ¬ Lists (of_tenant devices_table id (state S.Store self.old.0).now.trees) list }
+        ensures full { result ≢ Err Fault.Full }
+        ensures kept { HasCleanDisk (state S.Store self.new.0) → self.new.1 ≡ false → (state S.Store self.new.0).now ≡ (state S.Store self.old.0).now }
+        ensures latches { self.new.1 ≡ true ↔ result ≡ Err Fault.Failed }
+        ensures crash { Survives (state S.Store self.old.0) (state S.Store self.new.0) (λ _. ⊥) }
+    {
+        let found = devices_of(self.alloc, &mut self.conn, id);
+        if let Err(fault) = &found {
+            self.is_latched = *fault == Fault::Failed;
+        }
+        found
+    }
+
+    /// The pools of the tenant with the number, by their ids, which rise strictly.
+    ///
+    /// No row is changed. `Err(Fault::Damaged)`: an id stands twice, or a row is none of this
+    /// service's.
+    /// `Err(Fault::Failed)`: the tables are latched.
+    pub fn pools_of(&mut self, id: i64) -> Result<Vec<PoolRow>, Fault>
+        requires live { self.old.1 ≡ false }
+        ensures found { HasCleanDisk (state S.Store self.new.0) → IfOk result (λ pools. Lists (of_tenant pools_table id (state S.Store self.old.0).now.trees) (map pool_values pools.items)) }
+        ensures damaged { HasCleanDisk (state S.Store self.new.0) → result ≡ Err Fault.Damaged → (list : _) → AllByRecursion IsPoolRow list → ¬ Lists (of_tenant pools_table id (state S.Store self.old.0).now.trees) list }
+        ensures full { result ≢ Err Fault.Full }
+        ensures kept { HasCleanDisk (state S.Store self.new.0) → self.new.1 ≡ false → (state S.Store self.new.0).now ≡ (state S.Store self.old.0).now }
+        ensures latches { self.new.1 ≡ true ↔ result ≡ Err Fault.Failed }
+        ensures crash { Survives (state S.Store self.old.0) (state S.Store self.new.0) (λ _. ⊥) }
+    {
+        let found = pools_of(self.alloc, &mut self.conn, id);
+        if let Err(fault) = &found {
+            self.is_latched = *fault == Fault::Failed;
+        }
+        found
+    }
+
+    /// The receipt of the request of the tenant with the number, or `None` where there is none.
+    ///
+    /// No row is changed. `Err(Fault::Damaged)`: there are several, or the row is none of this service's.
+    /// `Err(Fault::Failed)`: the tables are latched.
+    pub fn receipt_of(&mut self, id: i64, request: &str) -> Result<Option<ReceiptRow>, Fault>
+        requires live { self.old.1 ≡ false }
+        ensures found { HasCleanDisk (state S.Store self.new.0) → IfOk result (AreReceipt (receipts_with (state S.Store self.old.0).now.trees id request.now)) }
+        ensures damaged { HasCleanDisk (state S.Store self.new.0) → result ≡ Err Fault.Damaged → (receipts_with (state S.Store self.old.0).now.trees id request.now ≢ []) × ((row : _) → IsReceiptRow row → receipts_with (state S.Store self.old.0).now.trees id request.now ≢ row ∷ []) }
+        ensures full { result ≢ Err Fault.Full }
+        ensures kept { HasCleanDisk (state S.Store self.new.0) → self.new.1 ≡ false → (state S.Store self.new.0).now ≡ (state S.Store self.old.0).now }
+        ensures latches { self.new.1 ≡ true ↔ result ≡ Err Fault.Failed }
+        ensures crash { Survives (state S.Store self.old.0) (state S.Store self.new.0) (λ _. ⊥) }
+    {
+        let found = receipt_of(&mut self.conn, id, request);
+        if let Err(fault) = &found {
+            self.is_latched = *fault == Fault::Failed;
+        }
+        found
+    }
+
+    /// The first receipts of the tenant with the number, in the order of their requests' bytes: a
+    /// page, or fewer where there are no more.
+    ///
+    /// No row is changed. `Err(Fault::Damaged)`: a request stands twice, or a row is none of this
+    /// service's. `Err(Fault::Failed)`: the tables are latched.
+    pub fn first_receipts(&mut self, id: i64) -> Result<Vec<ReceiptRow>, Fault>
+        requires live { self.old.1 ≡ false }
+        ensures found { HasCleanDisk (state S.Store self.new.0) → IfOk result (λ page. Begins 16 (of_tenant receipts_table id (state S.Store self.old.0).now.trees) (map receipt_values page.items)) }
+        ensures damaged { HasCleanDisk (state S.Store self.new.0) → result ≡ Err Fault.Damaged → (list : _) → AllByRecursion IsReceiptRow list → ¬ Lists (of_tenant receipts_table id (state S.Store self.old.0).now.trees) list }
+        ensures full { result ≢ Err Fault.Full }
+        ensures kept { HasCleanDisk (state S.Store self.new.0) → self.new.1 ≡ false → (state S.Store self.new.0).now ≡ (state S.Store self.old.0).now }
+        ensures latches { self.new.1 ≡ true ↔ result ≡ Err Fault.Failed }
+        ensures crash { Survives (state S.Store self.old.0) (state S.Store self.new.0) (λ _. ⊥) }
+    {
+        let found = first_receipts(self.alloc, &mut self.conn, id);
+        if let Err(fault) = &found {
+            self.is_latched = *fault == Fault::Failed;
+        }
+        found
+    }
+
+    /// The first of its receipts whose requests are above `after`: a page, or fewer where there are
+    /// no more. With the last request of a page it gives the next page.
+    ///
+    /// No row is changed. `Err(Fault::Damaged)`: a request stands twice, or a row is none of this
+    /// service's. `Err(Fault::Failed)`: the tables are latched.
+    pub fn receipts_after(&mut self, id: i64, after: &str) -> Result<Vec<ReceiptRow>, Fault>
+        requires live { self.old.1 ≡ false }
+        ensures found { HasCleanDisk (state S.Store self.new.0) → IfOk result (λ page. Begins 16 (rows_above after.now (of_tenant receipts_table id (state S.Store self.old.0).now.trees)) (map receipt_values page.items)) }
+        ensures damaged { HasCleanDisk (state S.Store self.new.0) → result ≡ Err Fault.Damaged → (list : _) → AllByRecursion IsReceiptRow list → ¬ Lists (rows_above after.now (of_tenant receipts_table id (state S.Store self.old.0).now.trees)) list }
+        ensures full { result ≢ Err Fault.Full }
+        ensures kept { HasCleanDisk (state S.Store self.new.0) → self.new.1 ≡ false → (state S.Store self.new.0).now ≡ (state S.Store self.old.0).now }
+        ensures latches { self.new.1 ≡ true ↔ result ≡ Err Fault.Failed }
+        ensures crash { Survives (state S.Store self.old.0) (state S.Store self.new.0) (λ _. ⊥) }
+    {
+        let found = receipts_after(self.alloc, &mut self.conn, id, after);
+        if let Err(fault) = &found {
+            self.is_latched = *fault == Fault::Failed;
+        }
+        found
     }
 }
