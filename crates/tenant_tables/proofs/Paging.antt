@@ -86,7 +86,7 @@ begins all rows page first it = go it.split
   where
     go : ((rows ≡ page) × (length page ≤ 16)) ⊎ ((last : Row) × (rows ≡ page ++ last ∷ []) × (16 ≤ length page)) → Begins 16 all page
     go (inl whole) =
-        let none : first.rest ≡ [] = elim first.whole [ | inl none ↦ none | inr full ↦ absurd (omega (arith, full, ap length whole.0, whole.1)) ] in
+        let none : first.rest ≡ [] = elim first.whole [ inl none ↦ none | inr full ↦ absurd (omega (arith, full, ap length whole.0, whole.1)) ] in
         record {
           rest = [];
           same = subst₂ (λ r s. IsPermutation all (r ++ s)) whole.0 none first.same;
@@ -158,7 +158,7 @@ cut zero rows = (omega arith, inr refl)
 cut (suc n) [] = (omega arith, inl refl)
 cut (suc n) (r ∷ rows) =
     let it = cut n rows in
-    (omega (arith, it.0), elim it.1 [ | inl none ↦ inl none | inr full ↦ inr (ap suc full) ])
+    (omega (arith, it.0), elim it.1 [ inl none ↦ inl none | inr full ↦ inr (ap suc full) ])
 
 first_of : (filter : List Term) (params : Row) (all rows : List Row) (db : Trees) (a : IsAnswer (page_query filter) (overlay db []) params rows) → a.kept ≡ map by_key all → AreFirst 17 all rows
 first_of filter params all rows db a kept =
@@ -181,7 +181,7 @@ first_of filter params all rows db a kept =
           let theirs = IsPermutation-trans _ _ _ (IsPermutation-sym _ _ (IsPermutation-map by_key _ _ is.same)) mixed in
           let ordered = sorted_unique (output_cmp q) (output_cmp_total q) (map by_key ys) os (rising_keys filter ys is.rising) theirs a.sorted in
           split ∙ ap (map (λ (o : Output). o.1)) ordered ∙ back ys;
-      whole = elim cuts.1 [ | inl none ↦ inl none | inr full ↦ inr (ap length shown ∙ full) ];
+      whole = elim cuts.1 [ inl none ↦ inl none | inr full ↦ inr (ap length shown ∙ full) ];
     }
   where
     rising_keys : (filter : List Term) (ys : List Row) → IsRising ys → IsAscending (λ a b. output_cmp (page_query filter) a b ≡ Less) (map by_key ys)

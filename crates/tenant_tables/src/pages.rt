@@ -74,7 +74,11 @@ fn page_of(alloc: Global, rows: &[Row]) -> Result<Vec<ReceiptRow>, Fault>
 ///
 /// `Err(Fault::Damaged)`: a request stands twice, or a row is none of this service's.
 /// `Err(Fault::NoMemory)`: nothing is changed.
-pub fn first_receipts<S: Alter>(alloc: Global, conn: &mut Connection<S>, id: i64) -> Result<Vec<ReceiptRow>, Fault>
+pub fn first_receipts<S: Alter>(
+    alloc: Global,
+    conn: &mut Connection<S>,
+    id: i64,
+) -> Result<Vec<ReceiptRow>, Fault>
     requires autocommit { conn.old.in_transaction ≡ false }
     requires ready { HasCleanDisk (state S.Store conn.old) → IsReady (state S.Store conn.old) }
     ensures found { HasCleanDisk (state S.Store conn.new) → IfOk result (λ page. Begins 16 (of_tenant receipts_table id (state S.Store conn.old).now.trees) (map receipt_values page.items)) }
@@ -93,7 +97,12 @@ pub fn first_receipts<S: Alter>(alloc: Global, conn: &mut Connection<S>, id: i64
 ///
 /// `Err(Fault::Damaged)`: a request stands twice, or a row is none of this service's.
 /// `Err(Fault::NoMemory)`: nothing is changed.
-pub fn receipts_after<S: Alter>(alloc: Global, conn: &mut Connection<S>, id: i64, after: &str) -> Result<Vec<ReceiptRow>, Fault>
+pub fn receipts_after<S: Alter>(
+    alloc: Global,
+    conn: &mut Connection<S>,
+    id: i64,
+    after: &str,
+) -> Result<Vec<ReceiptRow>, Fault>
     requires autocommit { conn.old.in_transaction ≡ false }
     requires ready { HasCleanDisk (state S.Store conn.old) → IsReady (state S.Store conn.old) }
     ensures found { HasCleanDisk (state S.Store conn.new) → IfOk result (λ page. Begins 16 (rows_above after.now (of_tenant receipts_table id (state S.Store conn.old).now.trees)) (map receipt_values page.items)) }
