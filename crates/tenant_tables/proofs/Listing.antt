@@ -1,6 +1,5 @@
 -- What the queries of a tenant's rows answer.
-use Rattle.std.proofs.Common.{◌≡◌, ◌≢◌, ℕ, ℤ, pos, negsuc, List, [], ◌∷◌, map, filter, Bool, true, cond, ◌&&◌, codes, false, Option, Some, None, Result, Ok, Err, IfOk, IfSome, length, arith, Equal, Ordering, Less, refl, sym, ap, subst, ◌∙◌, map-id}
-use Rattle.std.specs.List.{AllByRecursion}
+use Rattle.std.proofs.Common.{◌≡◌, ◌≢◌, ℕ, ℤ, pos, negsuc, List, [], ◌∷◌, map, filter, Bool, true, cond, ◌&&◌, codes, false, Option, Some, None, Result, Ok, Err, IfOk, IfSome, length, arith, Equal, Less, refl, sym, ap, subst, ◌∙◌, map-id}
 use Rattle.std.specs.List.Sorted.{IsPermutation}
 use Rattle.std.specs.Ordering.{ordering_then}
 use Rattle.std.proofs.lemmas.List.Sorted.{IsPermutation-map, IsPermutation-trans, IsPermutation-sym, length_permutation}
@@ -25,7 +24,7 @@ use Rattle.sqlite.specs.State.{State, Shown}
 use Rattle.sqlite.proofs.Callers.{IsPlain, command_of, reads_as, one_permutation}
 use Rattle.tenant_tables.specs.Layout.{store_schema, maps_table, devices_table, pools_table, receipts_table}
 use Rattle.tenant_tables.specs.Holds.{rows_with, values_of, of_tenant}
-use Rattle.tenant_tables.specs.Found.{IsRising, Lists, AreOrdered, receipts_with, receipt_values, AreReceipt, IsReceiptRow}
+use Rattle.tenant_tables.specs.Found.{IsRising, AreOrdered, receipts_with, receipt_values, AreReceipt, IsReceiptRow}
 use Rattle.tenant_tables.specs.declared.refuse.Fault.{Fault}
 use Rattle.tenant_tables.specs.declared.rows.ReceiptRow.{ReceiptRow}
 use Rattle.tenant_tables.proofs.Statements.{plain_query, equals}

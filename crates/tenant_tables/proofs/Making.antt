@@ -1,5 +1,5 @@
 -- How the tables are made.
-use Rattle.std.proofs.Common.{◌≡◌, ℕ, pos, List, [], ◌∷◌, map, true, false, None, Ok, Err, Result, refl, sym, ap, subst, ◌∙◌}
+use Rattle.std.proofs.Common.{◌≡◌, ℕ, pos, List, [], ◌∷◌, map, true, false, None, Ok, refl, sym, ap, subst, ◌∙◌}
 use Rattle.sqlite_value.specs.declared.value.Value.TheVariants.{Null, Int}
 use Rattle.sqlite_value.specs.Order.{Row, column}
 use Rattle.sqlite_trees.specs.Tree.{put_row}
@@ -12,11 +12,10 @@ use Rattle.sqlite.specs.Command.TheVariants.{CreateTable}
 use Rattle.sqlite.specs.Compile.{table_defined_by}
 use Rattle.sqlite.specs.Change.{created, next_tree}
 use Rattle.sqlite.specs.Does.{Tally, MakesTable, sequence_text, lacks_sequence}
-use Rattle.sqlite.specs.Effect.{Database, IsDatabase}
-use Rattle.sqlite.specs.State.{State, IsUnchanged, Writes, Executes}
+use Rattle.sqlite.specs.Effect.{Database}
+use Rattle.sqlite.specs.State.{State, Writes, Executes}
 use Rattle.sqlite.proofs.Callers.{runs_as}
 use Rattle.tenant_tables.specs.Layout.{no_schema, info, tenants, sequence, maps, devices, pools, receipts, schema_with_info, schema_with_tenants, schema_with_maps, schema_with_devices, schema_with_pools, store_schema, info_table}
-use Rattle.tenant_tables.specs.declared.refuse.Fault.{Fault}
 use Rattle.tenant_tables.specs.Holds.{AreTables}
 use Rattle.tenant_tables.specs.Run.{IsBare}
 use Rattle.tenant_tables.proofs.Statements.{Makes, info_text, tenants_text, maps_text, devices_text, pools_text, receipts_text, version_text, info_is, tenants_are, sequence_is, maps_are, devices_are, pools_are, receipts_are, version_is}

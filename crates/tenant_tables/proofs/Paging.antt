@@ -1,5 +1,5 @@
 -- What a page has of the rows.
-use Rattle.std.proofs.Common.{◌≡◌, ◌⊎◌, inl, inr, ℕ, ℤ, suc, zero, pos, ◌+◌, ◌≤◌, ◌<◌, List, [], ◌∷◌, ◌++◌, map, filter, take, drop, length, get_or, Bool, true, false, codes, Ordering, Less, Equal, Greater, is_gt, is_lt, refl, sym, ap, subst, subst₂, ◌∙◌, arith, true≢false, append_assoc, length-append}
+use Rattle.std.proofs.Common.{◌≡◌, ◌⊎◌, inl, inr, ℕ, ℤ, suc, zero, pos, ◌+◌, ◌≤◌, List, [], ◌∷◌, ◌++◌, map, filter, take, drop, length, get_or, Bool, true, false, codes, Ordering, Less, Equal, Greater, is_gt, is_lt, refl, sym, ap, subst, subst₂, ◌∙◌, arith, true≢false, append_assoc, length-append}
 use Rattle.std.specs.List.{AllByRecursion}
 use Rattle.std.specs.List.Sorted.{IsPermutation, IsSorted}
 use Rattle.std.specs.Ordering.{ordering_then, ordering_reverse}

@@ -1,9 +1,8 @@
 use mir.Val.{SFits}
 use mir.Syntax.{w64}
-use Rattle.std.proofs.Common.{rules, List, map, sym, subst}
+use Rattle.std.proofs.Common.{rules, map, sym, subst}
 use Rattle.std.proofs.lemmas.Int.{to_z-of_z}
 use Rattle.std.proofs.lemmas.Result.{IfOk-weaker}
-use Rattle.sqlite_value.specs.Order.{Row}
 use Rattle.tenant_tables.specs.Found.{AreFirst, receipt_values, IsReceiptRow}
 use Rattle.tenant_tables.proofs.Paging.{begins, begins_none}
 use Rattle.tenant_tables.proofs.pages.first_receipts.Goals as goal

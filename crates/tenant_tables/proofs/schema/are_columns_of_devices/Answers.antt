@@ -1,4 +1,4 @@
-use Rattle.std.proofs.Common.{rules, ◌≡◌, length, get_or, true≢false, sym, ap, ◌∙◌, arith}
+use Rattle.std.proofs.Common.{◌≡◌, length, get_or, ap, ◌∙◌, arith}
 use Rattle.tenant_tables.proofs.Columns.{of_4}
 use Rattle.tenant_tables.proofs.schema.are_columns_of_devices.Goals as goal
 
