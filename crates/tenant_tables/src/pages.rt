@@ -1,7 +1,7 @@
 //! The receipts of a tenant, a page at a time.
 //!
-//! A body and a reply may have a megabyte each, so a page is short. One row more is read than a page
-//! has: it shows that what follows lies above the page.
+//! A body and a reply may have a megabyte each, so a page is short. One row more than a page is
+//! read: it shows that what follows lies above the page.
 
 ghost use Rattle.std.specs.Prelude.{◌≡◌, ◌≢◌, ◌⊎◌, map, false, IfOk, IfErr, Err};
 ghost use Rattle.std.specs.List.{AllByRecursion};
@@ -92,8 +92,8 @@ pub fn first_receipts<S: Alter>(
     page_of(alloc, &rows)
 }
 
-/// The first receipts of the tenant whose requests are above `after`, in the order of their requests'
-/// bytes: a page, or fewer where there are no more.
+/// The first receipts of the tenant whose requests are above `after`, in the order of their
+/// requests' bytes: a page, or fewer where there are no more.
 ///
 /// `Err(Fault::Damaged)`: a request stands twice, or a row is none of this service's.
 /// `Err(Fault::NoMemory)`: nothing is changed.

@@ -277,7 +277,8 @@ impl<S: Alter> Tables<S> {
 
     /// The tenant with the name, or `None` where there is none.
     ///
-    /// No row is changed. `Err(Fault::Damaged)`: there are several, or the row is none of this service's.
+    /// No row is changed. `Err(Fault::Damaged)`: there are several, or the row is none of this
+    /// service's.
     /// `Err(Fault::Failed)`: the tables are latched.
     pub fn find(&mut self, name: &str) -> Result<Option<Tenant>, Fault>
         requires live { self.old.1 ≡ false }
@@ -360,7 +361,8 @@ impl<S: Alter> Tables<S> {
 
     /// The receipt of the request of the tenant with the number, or `None` where there is none.
     ///
-    /// No row is changed. `Err(Fault::Damaged)`: there are several, or the row is none of this service's.
+    /// No row is changed. `Err(Fault::Damaged)`: there are several, or the row is none of this
+    /// service's.
     /// `Err(Fault::Failed)`: the tables are latched.
     pub fn receipt_of(&mut self, id: i64, request: &str) -> Result<Option<ReceiptRow>, Fault>
         requires live { self.old.1 ≡ false }
