@@ -42,12 +42,12 @@ fn unanswered(
 ) -> Result<usize, Fail> {
     let mut service = watched_service(alloc, bound, Rc::new(alloc, Cell::new(0))?, left, fault)?;
     let mut alone = Service::in_memory(alloc)?;
-    let mut count = 0;
+    let mut count: usize = 0;
     for place in 0..ASKED.len() {
         let asked = &ASKED[place];
         let reply = ask(&mut service, asked);
         if reply.status == 503 {
-            count += 1;
+            count = count.wrapping_add(1);
         } else {
             let wanted = ask(&mut alone, asked);
             assert_eq!(rt; reply.status, wanted.status, "{} {}", asked.0, asked.1);
