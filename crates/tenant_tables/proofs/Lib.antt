@@ -12,3 +12,7 @@ pub mod Committing
 pub mod Accepting
 pub mod Making
 pub mod QueryFacts
+pub mod Asking
+pub mod Columns
+pub mod Rising
+pub mod Listing

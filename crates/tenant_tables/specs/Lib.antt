@@ -2,3 +2,4 @@ pub mod Layout
 pub mod Holds
 pub mod Run
 pub mod Change
+pub mod Found

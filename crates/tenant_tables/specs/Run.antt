@@ -110,6 +110,11 @@ pub record Refuses (old new : Shown) : Type 0 where
   pub same : new.now ≡ old.now
   pub alone : (db : Trees) → new.may_leave db → db ≡ old.now.trees
 
+-- The connection is ready as before, with the same rows.
+pub record Remains (old new : Shown) : Type 0 where
+  pub ready : IsReady new
+  pub same : new.now ≡ old.now
+
 -- The tables say that they are those of this schema.
 abbrev pub HasVersion : Trees → Type 0
 HasVersion db = map (λ row. column row 2) (db info_table.tree) ≡ Int (pos 1) ∷ []

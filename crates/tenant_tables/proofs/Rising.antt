@@ -1,0 +1,59 @@
+-- Lists that rise from each element to the next.
+use Rattle.std.proofs.Common.{◌≡◌, ◌⊎◌, inl, inr, ℕ, ℤ, suc, zero, ◌+◌, ◌<◌, List, [], ◌∷◌, length, get_or, Bool, true, false, T, IsTrue, Less, refl, sym, ap, subst, subst₂, ◌∙◌, arith}
+use Rattle.std.specs.Int.Signed.{lt_z, lt_z_yes, ◌<ℤ◌}
+use Rattle.std.specs.Ordering.{MatchOrdering}
+use Rattle.std.specs.Cmp.{int_cmp_is, int_ranks}
+use Rattle.std.proofs.lemmas.Bool.{cases_order}
+use Rattle.std.proofs.lemmas.List.{get_or_default}
+use Rattle.sqlite_value.specs.declared.value.Value.TheVariants.{Int}
+use Rattle.sqlite_value.specs.Order.{value_cmp}
+use Rattle.sqlite_value.proofs.OrderLemmas.{value_cmp-Int}
+use Rattle.sqlite_trees.specs.Tree.{IsAscending}
+use Rattle.sqlite_keyed.proofs.ListLemmas.{all_weaker}
+
+is_so : (b : Bool) → T b → IsTrue b
+is_so true h = refl
+is_so false h = elim h [ ]
+
+-- integers are compared as numbers
+pub below_int : (m n : ℤ) → IsTrue (lt_z m n) → value_cmp (Int m) (Int n) ≡ Less
+below_int m n low = value_cmp-Int m n ∙ sym (int_cmp_is m n Less (lt_z_yes (subst T (sym low) tt)))
+
+pub below_int_back : (m n : ℤ) → value_cmp (Int m) (Int n) ≡ Less → IsTrue (lt_z m n)
+below_int_back m n less =
+    let it : m <ℤ n = subst (λ o. MatchOrdering o (m <ℤ n) (m ≡ n) (n <ℤ m)) (sym (value_cmp-Int m n) ∙ less) (int_ranks m n) in
+    is_so (lt_z m n) it.lt
+
+module _ {X : Type 0} (R : X → X → Type 0) where
+  -- each two neighbours among the first so many
+  abbrev pub RisesTo : ℕ → List X → Type 0
+  RisesTo n xs = (i : ℕ) (d e : X) → suc i < n → suc i < length xs → R (get_or xs i d) (get_or xs (suc i) e)
+
+  pub neighbours : (xs : List X) → IsAscending R xs → (i : ℕ) (d e : X) → suc i < length xs → R (get_or xs i d) (get_or xs (suc i) e)
+  neighbours [] up i d e low = absurd (omega (arith, low))
+  neighbours (x ∷ []) up i d e low = absurd (omega (arith, low))
+  neighbours (x ∷ y ∷ xs) up zero d e low = up.0.0
+  neighbours (x ∷ y ∷ xs) up (suc i) d e low = neighbours (y ∷ xs) up.1 i d e (omega (arith, low))
+
+  pub from_neighbours : ((a b c : X) → R a b → R b c → R a c) → (n : ℕ) (xs : List X) → length xs < suc n → RisesTo n xs → IsAscending R xs
+  from_neighbours trans n [] long near = tt
+  from_neighbours trans n (x ∷ []) long near = (tt, tt)
+  from_neighbours trans n (x ∷ y ∷ xs) long near =
+      let first : R x y = near 0 x x (omega (arith, long)) (omega arith) in
+      let tail : IsAscending R (y ∷ xs) = from_neighbours trans n (y ∷ xs) (omega (arith, long)) (λ i d e low in_it. near_tail i d e low in_it) in
+      ((first, all_weaker (R y) (R x) (λ z. trans x y z first) xs tail.0), tail)
+    where
+      near_tail : RisesTo n (y ∷ xs)
+      near_tail i d e low in_it = near (suc i) d e (omega (arith, in_it, long)) (omega (arith, in_it))
+
+  -- one more pair of neighbours
+  pub rises_more : (n m : ℕ) (xs : List X) (a b : X) → RisesTo n xs → n ≡ suc m → n < length xs → a ≡ get_or xs m a → b ≡ get_or xs n b → R a b → RisesTo (suc n) xs
+  rises_more n m xs a b near is inside at next less i d e low in_it = go (cases_order i m)
+    where
+      go : (i ≡ m) ⊎ ((i < m) ⊎ (m < i)) → R (get_or xs i d) (get_or xs (suc i) e)
+      go (inl here) =
+          let first : get_or xs i d ≡ a = get_or_default xs i d a (omega (arith, in_it)) ∙ ap (λ k. get_or xs k a) here ∙ sym at in
+          let second : get_or xs (suc i) e ≡ b = get_or_default xs (suc i) e b in_it ∙ ap (λ k. get_or xs k b) (ap suc here ∙ sym is) ∙ sym next in
+          subst₂ R (sym first) (sym second) less
+      go (inr (inl before)) = near i d e (omega (arith, before, is)) in_it
+      go (inr (inr after)) = absurd (omega (arith, after, low, is))

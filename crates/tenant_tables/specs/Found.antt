@@ -1,0 +1,69 @@
+-- What reads of the tables find.
+use Rattle.std.specs.Prelude.{◌≡◌, ℕ, ℤ, List, [], ◌∷◌, Option, Some, None, IsPermutation, IsUtf8, string_bytes}
+use Rattle.std.specs.declared.cmp.Ordering.TheVariants.{Less}
+use Rattle.sqlite_value.specs.declared.value.Value.TheVariants.{Int, Text as Words}
+use Rattle.sqlite_value.specs.Order.{Row, column, value_cmp}
+use Rattle.sqlite_trees.specs.Tree.{Trees, IsAscending}
+use Rattle.tenant_tables.specs.Holds.{tenants_of, IsAbsent}
+use Rattle.tenant_tables.specs.Change.{version_row, state_row}
+use Rattle.tenant_tables.specs.declared.find.Tenant.{Tenant}
+use Rattle.tenant_tables.specs.declared.rows.VersionRow.{VersionRow}
+use Rattle.tenant_tables.specs.declared.rows.PoolRow.{PoolRow}
+use Rattle.tenant_tables.specs.declared.write.State.{State}
+
+-- the number and the epoch of a row of tenants
+abbrev pub head_of : Row → Row
+head_of row = column row 0 ∷ column row 3 ∷ []
+
+-- The one row of tenants with the name has this number and this epoch, or there is none.
+abbrev pub Names : Trees → List ℕ → Option Tenant → Type 0
+Names db name None = IsAbsent db name
+Names db name (Some tenant) =
+    (row : Row) × (tenants_of db name ≡ row ∷ []) × (column row 0 ≡ Int tenant.id) × (column row 3 ≡ Int tenant.epoch)
+
+-- ---- the rows of a tenant, as values behind its number
+
+-- The first values rise strictly, as SQL orders values: integers as numbers, texts by their bytes.
+abbrev pub IsRising : List Row → Type 0
+IsRising = IsAscending (λ a b. value_cmp (column a 0) (column b 0) ≡ Less)
+
+-- the list has each of these rows once, in the order of the keys
+pub record Lists (all list : List Row) : Type 0 where
+  pub same : IsPermutation all list
+  pub rising : IsRising list
+
+-- the values of a row of maps that was read
+abbrev pub version_values : VersionRow → Row
+version_values row = version_row row.version (string_bytes row.text)
+
+-- the values are those of a version
+abbrev pub IsVersionRow : Row → Type 0
+IsVersionRow row = (version : ℤ) × (text : List ℕ) × IsUtf8 text × (row ≡ version_row version text)
+
+-- the values are those of a device's state
+abbrev pub IsStateRow : Row → Type 0
+IsStateRow row = (state : State) × (row ≡ state_row state)
+
+-- the values of a row of pools that was read
+abbrev pub pool_values : PoolRow → Row
+pool_values pool =
+    Int pool.id
+    ∷ Words (string_bytes pool.name)
+    ∷ Int pool.erasure
+    ∷ Int pool.size
+    ∷ Int pool.rule
+    ∷ Int pool.pg_num
+    ∷ Int pool.pgp_num
+    ∷ Int pool.hashpspool
+    ∷ []
+
+-- the values are those of a pool
+abbrev pub IsPoolRow : Row → Type 0
+IsPoolRow row =
+    (id : ℤ) × (name : List ℕ) × IsUtf8 name × (erasure : ℤ) × (size : ℤ) × (rule : ℤ) × (pg_num : ℤ) × (pgp_num : ℤ) × (hashpspool : ℤ)
+    × (row ≡ Int id ∷ Words name ∷ Int erasure ∷ Int size ∷ Int rule ∷ Int pg_num ∷ Int pgp_num ∷ Int hashpspool ∷ [])
+
+-- The rows are these in some order, and in the order of the keys where no key stands twice.
+pub record AreOrdered (all rows : List Row) : Type 0 where
+  pub same : IsPermutation all rows
+  pub in_order : (list : List Row) → Lists all list → rows ≡ list
