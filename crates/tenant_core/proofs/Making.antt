@@ -1,5 +1,5 @@
 -- What an accepted order makes: what the tenant has can take it, and it is in its ranges where the order is.
-use Rattle.std.proofs.Common.{◌≡◌, ℕ, ◌<◌, List, length, map, Bool, true, false, nat_le, if◌then◌else◌, Option, Some, None, is_some, option_and_then, Result, Ok, Err, IfOk, refl, ap, subst, arith}
+use Rattle.std.proofs.Common.{◌≡◌, ◌↔◌, ℕ, ◌<◌, List, length, map, Bool, true, false, nat_le, if◌then◌else◌, Option, Some, None, is_some, option_and_then, Result, Ok, Err, IfOk, refl, ap, subst, arith}
 use Rattle.std.proofs.lemmas.Bool.Decides.{nat_tests}
 use Rattle.std.specs.List.{list_all, list_any}
 use Rattle.crush_grammar.specs.declared.code.TextFault.{TextFault}
@@ -34,8 +34,8 @@ abbrev pub ReadsMaps : Type 0
 ReadsMaps = (text : List ℕ) (m : Map) → map_of_text text ≡ Ok m → IsMap m
 
 -- by the law of reading
-pub reads_maps : ((text : List ℕ) (m : Map) → (map_of_text text ≡ Ok m) → (IsShort text × IsTextOf text m)) → ReadsMaps
-reads_maps law text m h = (law text m h).1.map
+pub reads_maps : ((text : List ℕ) (m : Map) → (map_of_text text ≡ Ok m) ↔ (IsShort text × IsTextOf text m)) → ReadsMaps
+reads_maps law text m h = ((law text m).0 h).1.map
 
 -- what is made can be taken, and where something is valid it is in its ranges
 record Makes (valid : Type 0) (made : Made) (s : Inventory) : Type 0 where
