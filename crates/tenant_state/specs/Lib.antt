@@ -1,4 +1,5 @@
 pub mod Ordered
 pub mod Receipts
 pub mod State
+pub mod Valid
 pub mod Made
