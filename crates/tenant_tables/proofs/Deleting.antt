@@ -43,7 +43,7 @@ pub record TakenOut (table : Table) (p : Row → Bool) (old new : Trees) : Type 
 abbrev pub is_keyed : ℤ → ℤ → Row → Bool
 is_keyed id key row = equal Binary (column row 1) (Int id) && equal Binary (column row 2) (Int key)
 
-staged_are : (params : Row) (p q : Row → Bool) (rows : List Row)
+pub staged_are : (params : Row) (p q : Row → Bool) (rows : List Row)
     → flat_map (λ r. cond (p r && (q r && true)) ((params ∷ r ∷ []) ∷ []) []) rows ≡ map (λ r. params ∷ r ∷ []) (filter (λ r. p r && q r) rows)
 staged_are params p q [] = refl
 staged_are params p q (r ∷ rows) = go (p r) (q r) (staged_are params p q rows)

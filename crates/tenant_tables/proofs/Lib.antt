@@ -14,5 +14,6 @@ pub mod Making
 pub mod QueryFacts
 pub mod Asking
 pub mod Columns
+pub mod Tested
 pub mod Rising
 pub mod Listing

@@ -1,15 +1,16 @@
 -- What the queries of a tenant's rows answer.
-use Rattle.std.proofs.Common.{◌≡◌, ◌≢◌, ℕ, ℤ, pos, negsuc, List, [], ◌∷◌, map, filter, codes, false, None, Result, Ok, Err, IfOk, Vec, Global, Equal, Ordering, Less, refl, sym, ap, subst, ◌∙◌, map-id}
+use Rattle.std.proofs.Common.{◌≡◌, ◌≢◌, ℕ, ℤ, pos, negsuc, List, [], ◌∷◌, map, filter, Bool, true, cond, ◌&&◌, codes, false, Option, Some, None, Result, Ok, Err, IfOk, IfSome, length, arith, Equal, Ordering, Less, refl, sym, ap, subst, ◌∙◌, map-id}
 use Rattle.std.specs.List.{AllByRecursion}
 use Rattle.std.specs.List.Sorted.{IsPermutation}
 use Rattle.std.specs.Ordering.{ordering_then}
-use Rattle.std.proofs.lemmas.List.Sorted.{IsPermutation-map, IsPermutation-trans, IsPermutation-sym}
-use Rattle.sqlite_value.specs.declared.value.Value.TheVariants.{Null, Int}
+use Rattle.std.proofs.lemmas.List.Sorted.{IsPermutation-map, IsPermutation-trans, IsPermutation-sym, length_permutation}
+use Rattle.sqlite_value.specs.declared.value.Value.TheVariants.{Null, Int, Text as Words}
 use Rattle.sqlite_value.specs.Order.{Row, column, value_cmp}
 use Rattle.sqlite_trees.specs.Tree.{Trees, IsAscending}
 use Rattle.sqlite_trees.proofs.ListLemmas.{map-map}
 use Rattle.sqlite_schema.specs.declared.schema.Table as schema
-use Rattle.sqlite_keyed.proofs.ListLemmas.{map_same, ascending-map, ascending_weaker}
+use Rattle.sqlite_schema.specs.Rules.{equal}
+use Rattle.sqlite_keyed.proofs.ListLemmas.{filter-map, map_same, ascending-map, ascending_weaker}
 use Rattle.sqlite_keyed.proofs.SortLemmas.{sorted_unique}
 use Rattle.sqlite_sql.specs.Query.{output_cmp}
 use Rattle.sqlite_sql.proofs.QueryLemmas.{output_cmp_total}
@@ -21,14 +22,15 @@ use Rattle.sqlite.specs.Term.{Term, lit, col}
 use Rattle.sqlite.specs.Command.TheVariants.{Select}
 use Rattle.sqlite.specs.Listing.{understood, reads_listing}
 use Rattle.sqlite.specs.State.{State, Shown}
-use Rattle.sqlite.proofs.Callers.{IsPlain, command_of, reads_as}
-use Rattle.tenant_tables.specs.Layout.{store_schema, maps_table, devices_table, pools_table}
+use Rattle.sqlite.proofs.Callers.{IsPlain, command_of, reads_as, one_permutation}
+use Rattle.tenant_tables.specs.Layout.{store_schema, maps_table, devices_table, pools_table, receipts_table}
 use Rattle.tenant_tables.specs.Holds.{rows_with, values_of, of_tenant}
-use Rattle.tenant_tables.specs.Found.{IsRising, Lists, AreOrdered}
+use Rattle.tenant_tables.specs.Found.{IsRising, Lists, AreOrdered, receipts_with, receipt_values, AreReceipt, IsReceiptRow}
 use Rattle.tenant_tables.specs.declared.refuse.Fault.{Fault}
-use Rattle.tenant_tables.specs.declared.refuse.Fault.TheVariants.{Damaged}
-use Rattle.tenant_tables.proofs.Statements.{equals}
+use Rattle.tenant_tables.specs.declared.rows.ReceiptRow.{ReceiptRow}
+use Rattle.tenant_tables.proofs.Statements.{plain_query, equals}
 use Rattle.tenant_tables.proofs.Raising.{staged_is}
+use Rattle.tenant_tables.proofs.Deleting.{staged_are}
 
 -- the columns of a tenant's rows, in the order of their keys
 abbrev pub ordered_query : ℕ → List Term → Query
@@ -120,3 +122,57 @@ pools_of_is = record { command = refl; tables = refl; plain = (refl, refl) }
 
 pub reads_pools : (id : ℤ) (old new : State) (rows : List Row) → old.now.schema ≡ store_schema → Shown pools_of_text (Int id ∷ []) old new rows → AreOrdered (of_tenant pools_table id old.now.trees) rows
 reads_pools id old new rows = reads_rows pools_table pools_of_text 8 _ _ id old new rows refl (λ db. refl) (λ r. refl) pools_of_is
+
+-- ---- a receipt
+
+abbrev pub receipt_text : List ℕ
+receipt_text = codes "SELECT request, path, body, status, reply FROM receipts WHERE tenant = ?1 AND request = ?2"
+
+abbrev pub receipt_query : Query
+receipt_query = plain_query 11 (equals 1 0 ∷ equals 2 1 ∷ []) (col 1 2 ∷ col 1 3 ∷ col 1 4 ∷ col 1 5 ∷ col 1 6 ∷ [])
+
+pub receipt_is : (command_of (understood store_schema receipt_text) ≡ Select (record { lets = []; body = receipt_query }) (codes "request" ∷ codes "path" ∷ codes "body" ∷ codes "status" ∷ codes "reply" ∷ []))
+    × (reads_listing store_schema receipt_text ≡ false) × IsPlain (understood store_schema receipt_text)
+unfolding understood everything
+receipt_is = (refl, refl, (refl, refl))
+
+-- the rows that pass two tests
+filter_two : (p q : Row → Bool) (rows : List Row) → filter (λ r. p r && q r) rows ≡ filter q (filter p rows)
+filter_two p q [] = refl
+filter_two p q (r ∷ rows) = go (p r) (filter_two p q rows)
+  where
+    go : (a : Bool) → filter (λ r. p r && q r) rows ≡ filter q (filter p rows) → cond (a && q r) (r ∷ filter (λ r. p r && q r) rows) (filter (λ r. p r && q r) rows) ≡ filter q (cond a (r ∷ filter p rows) (filter p rows))
+    go false more = more
+    go true more = ap (λ l. cond (q r) (r ∷ l) l) more
+
+pub reads_receipt : (id : ℤ) (request : List ℕ) (old new : State) (rows : List Row) → old.now.schema ≡ store_schema → Shown receipt_text (Int id ∷ Words request ∷ []) old new rows
+    → IsPermutation (receipts_with old.now.trees id request) rows
+reads_receipt id request old new rows has h =
+    let params : Row = Int id ∷ Words request ∷ [] in
+    let got = reads_as receipt_text params old new store_schema has _ receipt_is.0 receipt_is.2 receipt_is.1 rows h in
+    let a : IsAnswer receipt_query (overlay old.now.trees []) params rows = got.answer Null in
+    let all = old.now.trees 11 in
+    let mine : Row → Bool = λ r. equal Binary (column r 1) (Int id) in
+    let asked : Row → Bool = λ r. equal Binary (column r 2) (Words request) in
+    let passed : filter (λ r. mine r && asked r) all ≡ filter asked (rows_with 1 (Int id) all) = filter_two mine asked all in
+    let staged = a.grouped ∙ staged_are params mine asked all ∙ ap (map (λ r. params ∷ r ∷ [])) passed in
+    let kept : map (λ (o : Output). o.1) a.kept ≡ receipts_with old.now.trees id request =
+    ap (map (λ (o : Output). o.1)) (a.distinct ∙ ap (map (output receipt_query)) staged) ∙ ap (map (λ (o : Output). o.1)) (map-map (output receipt_query) (λ (r : Row). params ∷ r ∷ []) _) ∙ map-map (λ (o : Output). o.1) _ _
+    ∙ sym (filter-map (λ r. equal Binary (column r 0) (Words request)) (values_of receipts_table) (rows_with 1 (Int id) all)) in
+    subst (λ l. IsPermutation l rows) kept (subst (IsPermutation _) (sym a.shown) (IsPermutation-map (λ (o : Output). o.1) a.kept a.ordered a.same))
+
+no_rows : (all rows : List Row) → IsPermutation all rows → rows ≡ [] → all ≡ []
+no_rows [] rows same none = refl
+no_rows (r ∷ all) rows same none = absurd (omega (arith, length_permutation _ _ same, ap length none))
+
+pub one_receipt : (all rows : List Row) (result : Result (Option ReceiptRow) Fault) → IsPermutation all rows → IfOk result (λ o. IfSome o (λ x. rows ≡ receipt_values x ∷ [])) → IfOk result (λ o. o ≡ None → rows ≡ [])
+    → IfOk result (AreReceipt all)
+one_receipt all rows (Err e) same some none = tt
+one_receipt all rows (Ok None) same some none = no_rows all rows same (none refl)
+one_receipt all rows (Ok (Some receipt)) same some none = one_permutation (receipt_values receipt) all (IsPermutation-sym _ _ (subst (IsPermutation all) some same))
+
+pub no_receipt : (all rows : List Row) → IsPermutation all rows → (rows ≢ []) × ((row : Row) → IsReceiptRow row → rows ≢ row ∷ []) → (all ≢ []) × ((row : Row) → IsReceiptRow row → all ≢ row ∷ [])
+no_receipt all rows same not = (
+  λ none. not.0 (no_rows rows all (IsPermutation-sym _ _ same) none),
+  λ row is one. not.1 row is (one_permutation row rows (subst (λ l. IsPermutation l rows) one same)),
+)

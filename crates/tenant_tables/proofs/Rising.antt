@@ -1,13 +1,14 @@
 -- Lists that rise from each element to the next.
-use Rattle.std.proofs.Common.{◌≡◌, ◌⊎◌, inl, inr, ℕ, ℤ, suc, zero, ◌+◌, ◌<◌, List, [], ◌∷◌, length, get_or, Bool, true, false, T, IsTrue, Less, refl, sym, ap, subst, subst₂, ◌∙◌, arith}
+use Rattle.std.proofs.Common.{◌≡◌, ◌⊎◌, inl, inr, ℕ, ℤ, suc, zero, ◌+◌, ◌<◌, List, [], ◌∷◌, length, get_or, Bool, true, false, T, IsTrue, Ordering, Less, Equal, Greater, is_lt, nat_cmp, true≢false, refl, sym, ap, subst, subst₂, ◌∙◌, arith}
 use Rattle.std.specs.Int.Signed.{lt_z, lt_z_yes, ◌<ℤ◌}
+use Rattle.std.specs.Cmp.Lexicographic.{slice_cmp}
 use Rattle.std.specs.Ordering.{MatchOrdering}
 use Rattle.std.specs.Cmp.{int_cmp_is, int_ranks}
 use Rattle.std.proofs.lemmas.Bool.{cases_order}
 use Rattle.std.proofs.lemmas.List.{get_or_default}
-use Rattle.sqlite_value.specs.declared.value.Value.TheVariants.{Int}
+use Rattle.sqlite_value.specs.declared.value.Value.TheVariants.{Int, Text as Words}
 use Rattle.sqlite_value.specs.Order.{value_cmp}
-use Rattle.sqlite_value.proofs.OrderLemmas.{value_cmp-Int}
+use Rattle.sqlite_value.proofs.OrderLemmas.{value_cmp-Int, value_cmp-Text}
 use Rattle.sqlite_trees.specs.Tree.{IsAscending}
 use Rattle.sqlite_keyed.proofs.ListLemmas.{all_weaker}
 
@@ -23,6 +24,18 @@ pub below_int_back : (m n : ℤ) → value_cmp (Int m) (Int n) ≡ Less → IsTr
 below_int_back m n less =
     let it : m <ℤ n = subst (λ o. MatchOrdering o (m <ℤ n) (m ≡ n) (n <ℤ m)) (sym (value_cmp-Int m n) ∙ less) (int_ranks m n) in
     is_so (lt_z m n) it.lt
+
+-- and texts by their bytes
+pub below_text : (s t : List ℕ) → IsTrue (is_lt (slice_cmp nat_cmp s t)) → value_cmp (Words s) (Words t) ≡ Less
+below_text s t low = value_cmp-Text s t ∙ least (slice_cmp nat_cmp s t) low
+  where
+    least : (o : Ordering) → IsTrue (is_lt o) → o ≡ Less
+    least Less h = refl
+    least Equal h = absurd (true≢false (sym h))
+    least Greater h = absurd (true≢false (sym h))
+
+pub below_text_back : (s t : List ℕ) → value_cmp (Words s) (Words t) ≡ Less → IsTrue (is_lt (slice_cmp nat_cmp s t))
+below_text_back s t less = ap is_lt (sym (value_cmp-Text s t) ∙ less)
 
 module _ {X : Type 0} (R : X → X → Type 0) where
   -- each two neighbours among the first so many

@@ -4,11 +4,13 @@ use Rattle.std.specs.declared.cmp.Ordering.TheVariants.{Less}
 use Rattle.sqlite_value.specs.declared.value.Value.TheVariants.{Int, Text as Words}
 use Rattle.sqlite_value.specs.Order.{Row, column, value_cmp}
 use Rattle.sqlite_trees.specs.Tree.{Trees, IsAscending}
-use Rattle.tenant_tables.specs.Holds.{tenants_of, IsAbsent}
+use Rattle.tenant_tables.specs.Layout.{receipts_table}
+use Rattle.tenant_tables.specs.Holds.{rows_with, of_tenant, tenants_of, IsAbsent}
 use Rattle.tenant_tables.specs.Change.{version_row, state_row}
 use Rattle.tenant_tables.specs.declared.find.Tenant.{Tenant}
 use Rattle.tenant_tables.specs.declared.rows.VersionRow.{VersionRow}
 use Rattle.tenant_tables.specs.declared.rows.PoolRow.{PoolRow}
+use Rattle.tenant_tables.specs.declared.rows.ReceiptRow.{ReceiptRow}
 use Rattle.tenant_tables.specs.declared.write.State.{State}
 
 -- the number and the epoch of a row of tenants
@@ -62,6 +64,31 @@ abbrev pub IsPoolRow : Row → Type 0
 IsPoolRow row =
     (id : ℤ) × (name : List ℕ) × IsUtf8 name × (erasure : ℤ) × (size : ℤ) × (rule : ℤ) × (pg_num : ℤ) × (pgp_num : ℤ) × (hashpspool : ℤ)
     × (row ≡ Int id ∷ Words name ∷ Int erasure ∷ Int size ∷ Int rule ∷ Int pg_num ∷ Int pgp_num ∷ Int hashpspool ∷ [])
+
+-- the values of a row of receipts that was read
+abbrev pub receipt_values : ReceiptRow → Row
+receipt_values receipt =
+    Words (string_bytes receipt.request)
+    ∷ Words (string_bytes receipt.path)
+    ∷ Words (string_bytes receipt.body)
+    ∷ Int receipt.status
+    ∷ Words (string_bytes receipt.reply)
+    ∷ []
+
+-- the values are those of a receipt
+abbrev pub IsReceiptRow : Row → Type 0
+IsReceiptRow row =
+    (request : List ℕ) × IsUtf8 request × (path : List ℕ) × IsUtf8 path × (body : List ℕ) × IsUtf8 body × (status : ℤ) × (reply : List ℕ) × IsUtf8 reply
+    × (row ≡ Words request ∷ Words path ∷ Words body ∷ Int status ∷ Words reply ∷ [])
+
+-- the tenant's receipts with the request
+abbrev pub receipts_with : Trees → ℤ → List ℕ → List Row
+receipts_with db id request = rows_with 0 (Words request) (of_tenant receipts_table id db)
+
+-- the rows are this receipt, or none
+abbrev pub AreReceipt : List Row → Option ReceiptRow → Type 0
+AreReceipt rows None = rows ≡ []
+AreReceipt rows (Some receipt) = rows ≡ receipt_values receipt ∷ []
 
 -- The rows are these in some order, and in the order of the keys where no key stands twice.
 pub record AreOrdered (all rows : List Row) : Type 0 where

@@ -9,6 +9,8 @@ use Rattle.sqlite.specs.Kind.TheVariants.{Integer, Text, Any}
 use Rattle.sqlite_schema.specs.declared.schema.Column.{Column}
 use Rattle.sqlite_schema.specs.declared.schema.Action.TheVariants.{NoAction, Cascade}
 use Rattle.sqlite_schema.specs.declared.schema.Reference.{Reference}
+use Rattle.sqlite_schema.specs.declared.schema.Stamps.{Stamps}
+use Rattle.sqlite_value.specs.declared.keys.Order.{Order}
 use Rattle.sqlite_sql.specs.Term.{lit, col, op2}
 use Rattle.sqlite_sql.specs.declared.ops.BinaryOp.TheVariants.{Compare}
 use Rattle.sqlite_sql.specs.declared.ops.CompareOp.TheVariants.{Eq}
@@ -40,6 +42,10 @@ loose name = record {
   default = Null;
   collation = Binary;
 }
+
+-- no default reads the time
+abbrev pub no_stamps : Stamps
+no_stamps = record { places = []; terms = []; formats = [] }
 
 -- the number of the version of the schema, in one row
 abbrev pub info : Table
@@ -101,6 +107,23 @@ to_tenant = record {
   on_delete = Cascade;
   on_update = NoAction;
   is_deferred = false;
+}
+
+-- a table of tenants' rows
+abbrev pub child : List ℕ → ℕ → List Column → List (List ℕ) → List Order → Table
+child name tree columns uniques orders = record {
+  name = name;
+  tree = tree;
+  columns = columns;
+  key = None;
+  primary = 1 ∷ 2 ∷ [];
+  uniques = uniques;
+  orders = orders;
+  checks = [];
+  references = to_tenant ∷ [];
+  computed = [];
+  stamps = no_stamps;
+  is_counted = false;
 }
 
 -- the versions of maps, each with its canonical text

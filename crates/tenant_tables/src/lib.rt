@@ -10,5 +10,6 @@ pub mod open;
 pub mod refuse;
 pub mod remove;
 pub mod rows;
+pub mod schema;
 pub mod tables;
 pub mod write;

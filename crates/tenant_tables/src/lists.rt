@@ -1,18 +1,18 @@
 //! The rows of a tenant in each table.
 
-ghost use Rattle.std.specs.Prelude.{◌≡◌, ◌≢◌, ◌⊎◌, map, false, IfOk, IfErr, Err};
+ghost use Rattle.std.specs.Prelude.{◌≡◌, ◌≢◌, ◌⊎◌, [], ◌∷◌, map, false, IfOk, IfErr, Err, IsPermutation};
 ghost use Rattle.std.specs.List.{AllByRecursion};
 ghost use Rattle.sqlite.specs.Held.{state};
 ghost use Rattle.sqlite.specs.State.{HasCleanDisk, Survives};
 ghost use Rattle.tenant_tables.specs.Layout.{maps_table, devices_table, pools_table};
 ghost use Rattle.tenant_tables.specs.Holds.{of_tenant};
 ghost use Rattle.tenant_tables.specs.Change.{state_row};
-ghost use Rattle.tenant_tables.specs.Found.{AreOrdered, Lists, version_values, pool_values, IsVersionRow, IsStateRow, IsPoolRow};
+ghost use Rattle.tenant_tables.specs.Found.{AreOrdered, Lists, receipts_with, AreReceipt, IsReceiptRow, version_values, pool_values, IsVersionRow, IsStateRow, IsPoolRow};
 ghost use Rattle.tenant_tables.specs.Run.{IsReady, Remains};
 
 use crate::ask::ask;
 use crate::refuse::Fault;
-use crate::rows::{PoolRow, VersionRow, list_of};
+use crate::rows::{PoolRow, ReceiptRow, VersionRow, list_of, one_of};
 use crate::write::State;
 use sqlite::types::ValueRef;
 use sqlite::{Alter, Connection, Row};
@@ -133,4 +133,47 @@ pub fn pools_of<S: Alter>(
 {
     let rows = pool_rows(conn, id)?;
     list_of(alloc, &rows)
+}
+
+/// The tenant's receipts with the request.
+fn receipt_rows<S: Alter>(
+    conn: &mut Connection<S>,
+    id: i64,
+    request: &str,
+) -> Result<Vec<Row>, Fault>
+    requires autocommit { conn.old.in_transaction ≡ false }
+    requires ready { HasCleanDisk (state S.Store conn.old) → IsReady (state S.Store conn.old) }
+    ensures found { HasCleanDisk (state S.Store conn.new) → IfOk result (λ rows. IsPermutation (receipts_with (state S.Store conn.old).now.trees id request.now) rows.items) }
+    ensures remains { HasCleanDisk (state S.Store conn.new) → result ≢ Err Fault.Failed → Remains (state S.Store conn.old) (state S.Store conn.new) }
+    ensures faults { IfErr result (λ fault. (fault ≡ Fault.NoMemory) ⊎ (fault ≡ Fault.Failed)) }
+    ensures survives { Survives (state S.Store conn.old) (state S.Store conn.new) (λ _. ⊥) }
+    ensures ended { conn.new.in_transaction ≡ false }
+{
+    ask(
+        conn,
+        "SELECT request, path, body, status, reply FROM receipts WHERE tenant = ?1 AND request = ?2",
+        &[ValueRef::Int(id), ValueRef::Text(request.as_bytes())],
+    )
+}
+
+/// The tenant's receipt of the request, or `None` where there is none.
+///
+/// `Err(Fault::Damaged)`: there are several, or the row is none of this service's.
+/// `Err(Fault::NoMemory)`: nothing is changed.
+pub fn receipt_of<S: Alter>(
+    conn: &mut Connection<S>,
+    id: i64,
+    request: &str,
+) -> Result<Option<ReceiptRow>, Fault>
+    requires autocommit { conn.old.in_transaction ≡ false }
+    requires ready { HasCleanDisk (state S.Store conn.old) → IsReady (state S.Store conn.old) }
+    ensures found { HasCleanDisk (state S.Store conn.new) → IfOk result (AreReceipt (receipts_with (state S.Store conn.old).now.trees id request.now)) }
+    ensures damaged { HasCleanDisk (state S.Store conn.new) → result ≡ Err Fault.Damaged → (receipts_with (state S.Store conn.old).now.trees id request.now ≢ []) × ((row : _) → IsReceiptRow row → receipts_with (state S.Store conn.old).now.trees id request.now ≢ row ∷ []) }
+    ensures full { result ≢ Err Fault.Full }
+    ensures remains { HasCleanDisk (state S.Store conn.new) → result ≢ Err Fault.Failed → Remains (state S.Store conn.old) (state S.Store conn.new) }
+    ensures survives { Survives (state S.Store conn.old) (state S.Store conn.new) (λ _. ⊥) }
+    ensures ended { conn.new.in_transaction ≡ false }
+{
+    let rows = receipt_rows(conn, id, request)?;
+    one_of(&rows)
 }

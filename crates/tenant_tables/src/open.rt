@@ -7,9 +7,10 @@ ghost use Rattle.sqlite.specs.State.{HasCleanDisk, IsLive, IsUnchanged, Survives
 ghost use Rattle.sqlite_trees.specs.View.{doubt};
 ghost use Rattle.sqlite_value.specs.Order.{column};
 ghost use Rattle.tenant_tables.specs.Layout.{no_schema, store_schema};
-ghost use Rattle.tenant_tables.specs.Run.{Commits, HasVersion, IsBare, IsOurs, IsReady, Rests, Stays};
+ghost use Rattle.tenant_tables.specs.Run.{Commits, HasVersion, IsBare, IsReady, Rests, Stays};
 
 use crate::refuse::{Fault, refusal};
+use crate::schema::is_ours;
 use crate::write::{Write, run_all};
 use sqlite::{Alter, Connection, Error, ErrorCode, Row};
 use std::alloc::AllocError;
@@ -123,25 +124,27 @@ fn adopt<S: Alter>(conn: &mut Connection<S>) -> Result<(), Fault>
     }
 }
 
-/// Makes the tables in a database that has none, and else adopts them.
+/// Makes the tables in a database that has none, and else tests that they are this service's.
 ///
-/// `Err(Fault::Damaged)`: they are of another version, or none of this service's.
+/// `Err(Fault::Damaged)`: they are another's, or of another version. Nothing is changed.
 /// `Err(Fault::NoMemory)`, `Err(Fault::Full)`: nothing is changed.
 pub fn set_up<S: Alter>(conn: &mut Connection<S>) -> Result<(), Fault>
     requires autocommit { conn.old.in_transaction ≡ false }
     requires open { HasCleanDisk (state S.Store conn.old) → IsTrue (state S.Store conn.old).is_open }
     requires settled { HasCleanDisk (state S.Store conn.old) → (state S.Store conn.old).now ≡ (state S.Store conn.old).committed }
     ensures made { HasCleanDisk (state S.Store conn.new) → (state S.Store conn.old).now.schema ≡ no_schema → OnOk result (IsReady (state S.Store conn.new) × IsBare (state S.Store conn.new).now) }
-    ensures adopted { HasCleanDisk (state S.Store conn.new) → IsOurs (state S.Store conn.old).now → OnOk result (IsReady (state S.Store conn.new) × ((state S.Store conn.new).now ≡ (state S.Store conn.old).now) × HasVersion (state S.Store conn.old).now.trees) }
+    ensures adopted { HasCleanDisk (state S.Store conn.new) → (state S.Store conn.old).now.schema ≢ no_schema → OnOk result (Stays (state S.Store conn.old) (state S.Store conn.new) × ((state S.Store conn.old).now.schema ≡ store_schema) × HasVersion (state S.Store conn.old).now.trees) }
     ensures damaged { HasCleanDisk (state S.Store conn.new) → result ≡ Err Fault.Damaged → ((state S.Store conn.old).now.schema ≢ no_schema) × ((state S.Store conn.old).now.schema ≡ store_schema → ¬ HasVersion (state S.Store conn.old).now.trees) }
-    ensures refused { HasCleanDisk (state S.Store conn.new) → ((state S.Store conn.old).now.schema ≡ no_schema) ⊎ ((state S.Store conn.old).now.schema ≡ store_schema) → result ≢ Err Fault.Failed → OnErr result (Stays (state S.Store conn.old) (state S.Store conn.new)) }
-    ensures crash { ((state S.Store conn.old).now.schema ≡ no_schema) ⊎ ((state S.Store conn.old).now.schema ≡ store_schema) → Survives (state S.Store conn.old) (state S.Store conn.new) (λ trees. ((state S.Store conn.old).now.schema ≡ no_schema) × ((db : _) × IsBare db × (trees ≡ db.trees))) }
+    ensures refused { HasCleanDisk (state S.Store conn.new) → result ≢ Err Fault.Failed → OnErr result (Stays (state S.Store conn.old) (state S.Store conn.new)) }
+    ensures crash { Survives (state S.Store conn.old) (state S.Store conn.new) (λ trees. ((state S.Store conn.old).now.schema ≡ no_schema) × ((db : _) × IsBare db × (trees ≡ db.trees))) }
     ensures ended { conn.new.in_transaction ≡ false }
 {
     if is_empty(conn) {
         make(conn)?;
-    } else {
+    } else if is_ours(conn.schema()) {
         adopt(conn)?;
+    } else {
+        return Err(Fault::Damaged);
     }
     get_ready(conn)
 }

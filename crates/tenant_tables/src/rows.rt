@@ -1,6 +1,6 @@
 //! The rows of a tenant as values.
 
-ghost use Rattle.std.specs.Prelude.{◌≡◌, ◌≢◌, ◌⊎◌, ◌↔◌, ◌<◌, ℤ, ℕ, List, map, false, IsTrue, IsUtf8, IfOk, IfErr, IfSome, None, Err, length, string_bytes};
+ghost use Rattle.std.specs.Prelude.{◌≡◌, ◌≢◌, ◌⊎◌, ◌↔◌, ◌<◌, ℤ, ℕ, List, [], ◌∷◌, map, false, IsTrue, IsUtf8, IfOk, IfErr, IfSome, None, Err, length, string_bytes};
 ghost use Rattle.std.specs.declared.cmp.Ordering.TheVariants.{Less};
 ghost use Rattle.std.specs.List.{AllByRecursion};
 ghost use Rattle.sqlite_value.specs.declared.value.Value.TheVariants.{Int, Text as Words};
@@ -193,6 +193,69 @@ impl TenantRow for PoolRow {
 
     fn is_below(&self, other: &PoolRow) -> bool {
         self.id < other.id
+    }
+}
+
+impl TenantRow for ReceiptRow {
+    ghost use Rattle.tenant_tables.specs.Found.{receipt_values, IsReceiptRow};
+
+    ghost values = { receipt_values };
+
+    ghost is_one = { IsReceiptRow };
+
+    fn from_values(row: &Row) -> Result<Option<ReceiptRow>, AllocError> {
+        if row.column_count() != 5 {
+            return Ok(None);
+        }
+        let Some(request) = text_at(row, 0)? else {
+            return Ok(None);
+        };
+        let Some(path) = text_at(row, 1)? else {
+            return Ok(None);
+        };
+        let Some(body) = text_at(row, 2)? else {
+            return Ok(None);
+        };
+        let Some(status) = int_at(row, 3)? else {
+            return Ok(None);
+        };
+        let Some(reply) = text_at(row, 4)? else {
+            return Ok(None);
+        };
+        Ok(Some(ReceiptRow {
+            request,
+            path,
+            body,
+            status,
+            reply,
+        }))
+    }
+
+    fn is_below(&self, other: &ReceiptRow) -> bool {
+        self.request.as_str() < other.request.as_str()
+    }
+}
+
+/// The one row, or `None` where there is no row.
+///
+/// `Err(Fault::Damaged)`: there are several, or it is no such row.
+pub fn one_of<T: TenantRow + Drop>(rows: &[Row]) -> Result<Option<T>, Fault>
+    ensures some { IfOk result (λ o. IfSome o (λ x. rows.now ≡ T.values x ∷ [])) }
+    ensures none { IfOk result (λ o. o ≡ None → rows.now ≡ []) }
+    ensures damaged { result ≡ Err Fault.Damaged → (rows.now ≢ []) × ((row : Values) → T.is_one row → rows.now ≢ row ∷ []) }
+    ensures faults { IfErr result (λ fault. (fault ≡ Fault.NoMemory) ⊎ (fault ≡ Fault.Damaged)) }
+{
+    let [row] = rows else {
+        return if rows.is_empty() {
+            Ok(None)
+        } else {
+            Err(Fault::Damaged)
+        };
+    };
+    match T::from_values(row) {
+        Ok(Some(value)) => Ok(Some(value)),
+        Ok(None) => Err(Fault::Damaged),
+        Err(AllocError) => Err(Fault::NoMemory),
     }
 }
 

@@ -1,15 +1,21 @@
 //! The tables of a connection as a value that latches after a failure.
 
-ghost use Rattle.std.specs.Prelude.{◌≡◌, ◌≢◌, ◌↔◌, true, false, OnOk, OnErr, Err, IsTrue};
+ghost use Rattle.std.specs.Prelude.{◌≡◌, ◌≢◌, ◌↔◌, [], ◌∷◌, map, true, false, IfOk, OnOk, OnErr, Err, IsTrue};
 ghost use Rattle.sqlite.specs.Held.{state};
 ghost use Rattle.sqlite.specs.State.{HasCleanDisk, Survives};
-ghost use Rattle.tenant_tables.specs.Holds.{IsAbsent};
-ghost use Rattle.tenant_tables.specs.Change.{Accepts, Creates, Drops, IsNumber, with_version, with_states, with_pool, without_pool};
+ghost use Rattle.std.specs.List.{AllByRecursion};
+ghost use Rattle.tenant_tables.specs.Layout.{maps_table, devices_table, pools_table};
+ghost use Rattle.tenant_tables.specs.Holds.{IsAbsent, of_tenant};
+ghost use Rattle.tenant_tables.specs.Found.{Names, Lists, receipts_with, AreReceipt, IsReceiptRow, version_values, pool_values, IsVersionRow, IsStateRow, IsPoolRow};
+ghost use Rattle.tenant_tables.specs.Change.{Accepts, Creates, Drops, IsNumber, with_version, with_states, with_pool, without_pool, state_row};
 
 use crate::commit::{commit_no_pool, commit_pool, commit_states, commit_version};
 use crate::create::create;
+use crate::find::{Tenant, find};
+use crate::lists::{devices_of, pools_of, receipt_of, versions_of};
 use crate::refuse::Fault;
 use crate::remove::remove;
+use crate::rows::{PoolRow, ReceiptRow, VersionRow};
 use crate::write::{Pool, Receipt, State};
 use sqlite::{Alter, Connection};
 use std::alloc::Global;
@@ -210,5 +216,108 @@ impl<S: Alter> Tables<S> {
                 Err(fault)
             }
         }
+    }
+
+    /// The tenant with the name, or `None` where there is none.
+    ///
+    /// No row is changed. `Err(Fault::Damaged)`: there are several, or the row is none of this service's.
+    /// `Err(Fault::Failed)`: the tables are latched.
+    pub fn find(&mut self, name: &str) -> Result<Option<Tenant>, Fault>
+        requires live { self.old.1 ≡ false }
+        ensures found { HasCleanDisk (state S.Store self.new.0) → IfOk result (Names (state S.Store self.old.0).now.trees name.now) }
+        ensures damaged { HasCleanDisk (state S.Store self.new.0) → result ≡ Err Fault.Damaged → (tenant : _) → ¬ Names (state S.Store self.old.0).now.trees name.now tenant }
+        ensures full { result ≢ Err Fault.Full }
+        ensures kept { HasCleanDisk (state S.Store self.new.0) → self.new.1 ≡ false → (state S.Store self.new.0).now ≡ (state S.Store self.old.0).now }
+        ensures latches { self.new.1 ≡ true ↔ result ≡ Err Fault.Failed }
+        ensures crash { Survives (state S.Store self.old.0) (state S.Store self.new.0) (λ _. ⊥) }
+    {
+        let found = find(&mut self.conn, name);
+        if let Err(fault) = &found {
+            self.is_latched = *fault == Fault::Failed;
+        }
+        found
+    }
+
+    /// The versions of the map of the tenant with the number, which rise strictly.
+    ///
+    /// No row is changed. `Err(Fault::Damaged)`: a version stands twice, or a row is none of this
+    /// service's.
+    /// `Err(Fault::Failed)`: the tables are latched.
+    pub fn versions_of(&mut self, id: i64) -> Result<Vec<VersionRow>, Fault>
+        requires live { self.old.1 ≡ false }
+        ensures found { HasCleanDisk (state S.Store self.new.0) → IfOk result (λ versions. Lists (of_tenant maps_table id (state S.Store self.old.0).now.trees) (map version_values versions.items)) }
+        ensures damaged { HasCleanDisk (state S.Store self.new.0) → result ≡ Err Fault.Damaged → (list : _) → AllByRecursion IsVersionRow list → ¬ Lists (of_tenant maps_table id (state S.Store self.old.0).now.trees) list }
+        ensures full { result ≢ Err Fault.Full }
+        ensures kept { HasCleanDisk (state S.Store self.new.0) → self.new.1 ≡ false → (state S.Store self.new.0).now ≡ (state S.Store self.old.0).now }
+        ensures latches { self.new.1 ≡ true ↔ result ≡ Err Fault.Failed }
+        ensures crash { Survives (state S.Store self.old.0) (state S.Store self.new.0) (λ _. ⊥) }
+    {
+        let found = versions_of(self.alloc, &mut self.conn, id);
+        if let Err(fault) = &found {
+            self.is_latched = *fault == Fault::Failed;
+        }
+        found
+    }
+
+    /// The states of devices of the tenant with the number, by the devices, which rise strictly.
+    ///
+    /// No row is changed. `Err(Fault::Damaged)`: a device stands twice, or a row is none of this
+    /// service's.
+    /// `Err(Fault::Failed)`: the tables are latched.
+    pub fn devices_of(&mut self, id: i64) -> Result<Vec<State>, Fault>
+        requires live { self.old.1 ≡ false }
+        ensures found { HasCleanDisk (state S.Store self.new.0) → IfOk result (λ states. Lists (of_tenant devices_table id (state S.Store self.old.0).now.trees) (map state_row states.items)) }
+        ensures damaged { HasCleanDisk (state S.Store self.new.0) → result ≡ Err Fault.Damaged → (list : _) → AllByRecursion IsStateRow list → ¬ Lists (of_tenant devices_table id (state S.Store self.old.0).now.trees) list }
+        ensures full { result ≢ Err Fault.Full }
+        ensures kept { HasCleanDisk (state S.Store self.new.0) → self.new.1 ≡ false → (state S.Store self.new.0).now ≡ (state S.Store self.old.0).now }
+        ensures latches { self.new.1 ≡ true ↔ result ≡ Err Fault.Failed }
+        ensures crash { Survives (state S.Store self.old.0) (state S.Store self.new.0) (λ _. ⊥) }
+    {
+        let found = devices_of(self.alloc, &mut self.conn, id);
+        if let Err(fault) = &found {
+            self.is_latched = *fault == Fault::Failed;
+        }
+        found
+    }
+
+    /// The pools of the tenant with the number, by their ids, which rise strictly.
+    ///
+    /// No row is changed. `Err(Fault::Damaged)`: an id stands twice, or a row is none of this
+    /// service's.
+    /// `Err(Fault::Failed)`: the tables are latched.
+    pub fn pools_of(&mut self, id: i64) -> Result<Vec<PoolRow>, Fault>
+        requires live { self.old.1 ≡ false }
+        ensures found { HasCleanDisk (state S.Store self.new.0) → IfOk result (λ pools. Lists (of_tenant pools_table id (state S.Store self.old.0).now.trees) (map pool_values pools.items)) }
+        ensures damaged { HasCleanDisk (state S.Store self.new.0) → result ≡ Err Fault.Damaged → (list : _) → AllByRecursion IsPoolRow list → ¬ Lists (of_tenant pools_table id (state S.Store self.old.0).now.trees) list }
+        ensures full { result ≢ Err Fault.Full }
+        ensures kept { HasCleanDisk (state S.Store self.new.0) → self.new.1 ≡ false → (state S.Store self.new.0).now ≡ (state S.Store self.old.0).now }
+        ensures latches { self.new.1 ≡ true ↔ result ≡ Err Fault.Failed }
+        ensures crash { Survives (state S.Store self.old.0) (state S.Store self.new.0) (λ _. ⊥) }
+    {
+        let found = pools_of(self.alloc, &mut self.conn, id);
+        if let Err(fault) = &found {
+            self.is_latched = *fault == Fault::Failed;
+        }
+        found
+    }
+
+    /// The receipt of the request of the tenant with the number, or `None` where there is none.
+    ///
+    /// No row is changed. `Err(Fault::Damaged)`: there are several, or the row is none of this service's.
+    /// `Err(Fault::Failed)`: the tables are latched.
+    pub fn receipt_of(&mut self, id: i64, request: &str) -> Result<Option<ReceiptRow>, Fault>
+        requires live { self.old.1 ≡ false }
+        ensures found { HasCleanDisk (state S.Store self.new.0) → IfOk result (AreReceipt (receipts_with (state S.Store self.old.0).now.trees id request.now)) }
+        ensures damaged { HasCleanDisk (state S.Store self.new.0) → result ≡ Err Fault.Damaged → (receipts_with (state S.Store self.old.0).now.trees id request.now ≢ []) × ((row : _) → IsReceiptRow row → receipts_with (state S.Store self.old.0).now.trees id request.now ≢ row ∷ []) }
+        ensures full { result ≢ Err Fault.Full }
+        ensures kept { HasCleanDisk (state S.Store self.new.0) → self.new.1 ≡ false → (state S.Store self.new.0).now ≡ (state S.Store self.old.0).now }
+        ensures latches { self.new.1 ≡ true ↔ result ≡ Err Fault.Failed }
+        ensures crash { Survives (state S.Store self.old.0) (state S.Store self.new.0) (λ _. ⊥) }
+    {
+        let found = receipt_of(&mut self.conn, id, request);
+        if let Err(fault) = &found {
+            self.is_latched = *fault == Fault::Failed;
+        }
+        found
     }
 }

@@ -19,7 +19,7 @@ returns-then-not-is_below g c = (
       let first : get_or xs m c.index-list-place.result ≡ c.index-list-place.result = sym c.index-list-place.is in
       let second : get_or xs (suc m) c.index-list-place-in-loop-place.result ≡ c.index-list-place-in-loop-place.result = ap (λ k. get_or xs k c.index-list-place-in-loop-place.result) place ∙ sym c.index-list-place-in-loop-place.is in
       let below : IsTrue c.is_below.result = c.is_below.ensures.1 (subst₂ (λ a b. value_cmp (column (values a) 0) (column (values b) 0) ≡ Less) first second less) in
-      absurd (true≢false (sym below ∙ c.if-not-is_below.true))
+      absurd (true≢false (sym below ∙ c.if-not-is_below.true)),
 )
 
 pub returns : goal.returns
@@ -29,5 +29,5 @@ returns g c = (
       let xs = c.args.list.now in
       ascending-map (λ a b. value_cmp (column a 0) (column b 0) ≡ Less) values xs
       (from_neighbours (λ a b. value_cmp (column (values a) 0) (column (values b) 0) ≡ Less) (λ x y z. value_cmp_total.trans _ _ _) c.loop-place.place xs (omega arith) c.loop-place.invariant.rises),
-  λ _. refl
+  λ _. refl,
 )
