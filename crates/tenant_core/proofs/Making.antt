@@ -1,4 +1,5 @@
--- What an accepted order makes: what the tenant has can take it, and it is in its ranges where the order is.
+-- What an accepted order makes: what the tenant has can take it, and it is in its ranges where the
+-- order is.
 use Rattle.std.proofs.Common.{◌≡◌, ◌↔◌, ℕ, ◌<◌, List, length, map, Bool, true, false, nat_le, if◌then◌else◌, Option, Some, None, is_some, option_and_then, Result, Ok, Err, IfOk, refl, ap, subst, arith}
 use Rattle.std.proofs.lemmas.Bool.Decides.{nat_tests}
 use Rattle.std.specs.List.{list_all, list_any}

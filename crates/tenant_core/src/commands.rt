@@ -92,14 +92,11 @@ fn with_receipt(
     ensures reply { IfOk result (λ p. p.1 ≡ reply (spec.change_or_refusal command.now (Ok (accepted_of accepted))).answer) }
 {
     let reply = answered(alloc, accepted.status, &accepted.body)?;
-    let text = reply.body.as_str();
-    // of the bytes of a text the prover knows that they are UTF-8
-    let _bytes = text.as_bytes();
     let receipt = Receipt {
         path: Text::copy(alloc, command.path)?,
         body: Text::copy(alloc, command.body)?,
         status: accepted.status,
-        reply: Text::copy(alloc, text)?,
+        reply: Text::copy(alloc, reply.body.as_str())?,
     };
     let change = Change {
         number: Text::copy(alloc, command.number.as_str())?,

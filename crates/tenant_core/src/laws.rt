@@ -56,9 +56,9 @@ pub fn each_decision_fits_its_state()
     ensures { (tenant : List ℕ) (action : Action) (s : Option TenantState) → Fits (decision_on tenant action s).effect s }
 {}
 
-/// Where the decision on an action as it is read is a change of a state, what the change leaves is a
-/// state too: within its limits, and with its orders and ranges. Premise: the reply that the receipt
-/// keeps is UTF-8, as that of each `Receipt` is.
+/// Where the decision on an action as it is read is a change of a state, it leaves a state: one
+/// within the limits, orders and ranges of a state. Premise: the reply in the receipt is UTF-8, as
+/// the text of each `Receipt` is.
 pub fn each_change_leaves_a_state()
     ensures { (tenant : List ℕ) (action : Action) (s : TenantState) (c : Change) → IsAction action → IsState s → (decision_on tenant action (Some s)).effect ≡ Effect.Change c
         → is_utf8 c.receipt.reply ≡ true → IsState (after c s) }

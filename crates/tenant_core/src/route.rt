@@ -129,14 +129,11 @@ fn command<'p>(target: &Target<'_, 'p>, body: &'p str, number: Text, order: Orde
     requires order { IsOrder order }
     ensures { result ≡ spec.command_of target.now body.now number order }
 {
-    let path = target.path();
-    // of the bytes of a text the prover knows that they are UTF-8
-    let _number = number.as_str().as_bytes();
-    let _path = path.as_bytes();
-    let _body = body.as_bytes();
+    // of a string slice the prover knows that it is UTF-8, and of a `Text` it doesn't
+    let _number = number.as_str();
     Action::Command(Command {
         number,
-        path,
+        path: target.path(),
         body,
         order,
     })

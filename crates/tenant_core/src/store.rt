@@ -44,10 +44,10 @@ impl From<AllocError> for StoreFault {
 /// and no call but `is_latched` may follow. `may_leave`: what an opening may find of a name after a
 /// crash now. `keeps`: a call changed nothing, not even data that is no state.
 ///
-/// In an honest store that isn't latched each name has one state (`IsState`), or is absent, or has
-/// damaged data. Clauses on states have the premise that the store is honest after the call; it then was
-/// honest before. A call that fails changes nothing, and no call changes another name, unless it
-/// latches the store. It does so exactly where it answers `Failed`.
+/// In an honest store that isn't latched each name has one state (`IsState`), is absent, or has
+/// damaged data. Clauses on states have the premise that the store is honest after the call; it
+/// then was honest before. A call that fails changes nothing, and no call changes another name,
+/// unless it latches the store. It does so exactly where it answers `Failed`.
 pub trait TenantStore {
     /// What is read is what was written.
     ghost is_honest: { Self → Type 0 };

@@ -1,5 +1,5 @@
 -- A change that a state can make leaves a state.
-use Rattle.std.proofs.Common.{◌≡◌, ◌∙◌, ℕ, suc, ◌<◌, ◌≤◌, ◌-◌, ◌==◌, List, [], ◌∷◌, ◌++◌, length, Bool, true, false, Option, Some, is_some, slice_get, refl, sym, ap, arith}
+use Rattle.std.proofs.Common.{◌≡◌, ℕ, suc, ◌+◌, ◌<◌, ◌≤◌, ◌-◌, ◌==◌, List, [], ◌∷◌, ◌++◌, length, Bool, true, false, Option, Some, is_some, slice_get, refl, subst, ap, arith}
 use Rattle.std.proofs.lemmas.Bool.Decides.{nat_tests}
 use Rattle.std.proofs.lemmas.List.Elements.{All-nil, All-push}
 use Rattle.std.specs.List.{list_all}
@@ -12,7 +12,7 @@ use Rattle.tenant_state.proofs.Naming.{named_with, named_without}
 use Rattle.tenant_state.proofs.Receiving.{all_received, ascending_received}
 use Rattle.tenant_state.proofs.Staying.{all_with, all_without, ascending_with, ascending_without, both_true, fewer_without, more_with}
 use Rattle.tenant_state.specs.Ordered.{is_ascending}
-use Rattle.tenant_state.specs.Receipts.{Receipts}
+use Rattle.tenant_state.specs.Receipts.{Receipts, with_receipt}
 use Rattle.tenant_state.specs.State.{CanMake, CanTake, Change, Inventory, Made, NewPool, NewStates, NewVersion, RemovedPool, TenantState, after, fresh, have_rules, inventory_after, inventory_of, is_lower_device, newest, rule_of, version, with_made, with_receipts, with_states, with_state}
 use Rattle.tenant_state.specs.Valid.{IsChange, IsInventory, IsMade, IsState, are_named_once, is_device_state, is_receipt}
 use Rattle.tenant_state.specs.declared.limits.TheConstants.{POOL_LIMIT, VERSION_LIMIT}
@@ -73,6 +73,14 @@ inventory_stays (RemovedPool id) i made is = record {
   pools = all_without is_pool (λ q. q.id) id i.pools is.pools;
   pool_order = ascending_without (λ q. q.id) id i.pools is.pool_order;
 }
+
+-- the same of its parts
+pub parts_stay : (m : Made) (i : Inventory) (versions : List Map) (devices : List DeviceState) (pools : List PoolParts) (epoch : ℕ) → versions ≡ (with_made m i).versions
+    → devices ≡ (with_made m i).devices → pools ≡ (with_made m i).pools → IsMade m → IsInventory i
+    → IsInventory (record { versions = versions; devices = devices; pools = pools; epoch = epoch })
+parts_stay m i versions devices pools epoch v d p made is =
+    rw (v, d, p) (let left = inventory_stays m i made is in
+    record { maps = left.maps; devices = left.devices; device_order = left.device_order; pools = left.pools; pool_order = left.pool_order })
 
 pub inventory_after_stays : (c : Change) (i : Inventory) → IsMade c.made → IsInventory i → IsInventory (inventory_after c i)
 inventory_after_stays c i made is = let left = inventory_stays c.made i made is in
@@ -135,3 +143,17 @@ state_stays c s change can is =
       receipts = all_received is_receipt c.number c.receipt s.receipts change.receipt is.receipts;
       receipt_order = ascending_received c.number c.receipt s.receipts is.receipt_order;
     }
+
+-- ---- a state by its parts
+
+-- the epoch is no part of a state
+same_made : (m : Made) (i : Inventory) (n k : ℕ) (receipts : Receipts) → with_receipts (record (with_made m i) { epoch = n }) receipts ≡ with_receipts (with_made m (record i { epoch = k })) receipts
+same_made (NewVersion m) i n k receipts = refl
+same_made (NewStates changed) i n k receipts = refl
+same_made (NewPool p) i n k receipts = refl
+same_made (RemovedPool id) i n k receipts = refl
+
+pub left_is : (c : Change) (s : TenantState) (i next : Inventory) (old new : Receipts) → with_receipts i old ≡ s → next ≡ inventory_after c i → new ≡ with_receipt c.number c.receipt old
+    → with_receipts next new ≡ after c s
+left_is c s i next old new is made added =
+    subst (λ s. with_receipts next new ≡ after c s) is (rw (made, added) (same_made c.made i (i.epoch + 1) (length old) (with_receipt c.number c.receipt old)))

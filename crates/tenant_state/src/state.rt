@@ -300,9 +300,9 @@ impl TenantState {
         ensures err { OnErr result (self.new ≡ self.old) }
         ensures valid { IsState self.new }
     {
+        let inventory = Rc::new(alloc, self.inventory.after(alloc, change)?)?;
         let number = String::from_str(alloc, change.number.as_str())?;
         let receipt = change.receipt.clone()?;
-        let inventory = Rc::new(alloc, self.inventory.after(alloc, change)?)?;
         self.receipts.insert(number, receipt)?;
         self.inventory = inventory;
         Ok(())
