@@ -3,3 +3,4 @@ pub mod Receipts
 pub mod State
 pub mod Valid
 pub mod Made
+pub mod Size

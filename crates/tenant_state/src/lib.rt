@@ -7,6 +7,7 @@ pub mod laws;
 pub mod limits;
 mod pools;
 mod receipts;
+pub mod size;
 mod state;
 mod version;
 

@@ -125,6 +125,13 @@ impl Inventory {
         self.versions.len() as u64
     }
 
+    /// The versions 1, 2, ..
+    pub fn versions(&self) -> &[Rc<Version>]
+        ensures { map (λ v. v.value) result.now ≡ self.now.versions }
+    {
+        self.versions.as_slice()
+    }
+
     /// The version with a number, from 1 on, or `None`.
     pub fn version(&self, number: u64) -> Option<&Version>
         ensures { option_map (λ v. v.now) result ≡ spec.version number self.now }

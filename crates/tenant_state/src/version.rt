@@ -3,6 +3,7 @@
 ghost use Rattle.std.specs.Prelude.{◌≡◌, IfOk};
 ghost use Rattle.crush_writing.specs.Canonical.{canonical};
 
+use crate::size::size_of_version;
 use crush_bucket::Tables;
 use crush_map::{CrushMap, Text};
 use crush_text::{canonical_texts_are_ascii, read_stored, write_map, written_maps_are_read_back};
@@ -16,13 +17,15 @@ pub struct Version {
     map: CrushMap,
     text: Text,
     tables: Tables,
+    size: u64,
 }
 
 impl Model for Version {
-    ghost use Rattle.std.specs.Prelude.{◌≡◌};
+    ghost use Rattle.std.specs.Prelude.{◌≡◌, ◌-◌, ◌^◌, min};
     ghost use Rattle.crush_bucket.specs.Tables.{tables_of};
     ghost use Rattle.crush_map.specs.Map.{Map};
     ghost use Rattle.crush_writing.specs.Canonical.{canonical};
+    ghost use Rattle.tenant_state.specs.Size.{version_size};
 
     ghost Value = { Map };
 
@@ -31,14 +34,16 @@ impl Model for Version {
     ghost invariant = { λ a. record {
       text : a.text ≡ canonical a.map;
       tables : a.tables ≡ tables_of a.map;
+      size : a.size ≡ min (version_size a.map) (2 ^ 64 - 1);
     } };
 }
 
 impl Version {
-    ghost use Rattle.std.specs.Prelude.{◌≡◌, ◌↔◌, IfOk, Some};
+    ghost use Rattle.std.specs.Prelude.{◌≡◌, ◌-◌, ◌^◌, ◌↔◌, IfOk, Some, min};
     ghost use Rattle.crush_bucket.specs.Tables.{tables_of};
     ghost use Rattle.crush_map.specs.Map.{IsMap, Map};
     ghost use Rattle.crush_writing.specs.Canonical.{canonical};
+    ghost use Rattle.tenant_state.specs.Size.{version_size};
 
     /// The version with this map. `Err(AllocError)`: an allocation failed; the map is dropped.
     pub fn build(alloc: Global, map: CrushMap) -> Result<Self, AllocError>
@@ -46,7 +51,13 @@ impl Version {
     {
         let text = canonical_text(alloc, &map)?;
         let tables = Tables::build(alloc, &map)?;
-        Ok(Version { map, text, tables })
+        let size = size_of_version(&map, text.as_str().len() as u64);
+        Ok(Version {
+            map,
+            text,
+            tables,
+            size,
+        })
     }
 
     /// The version of a canonical text, as `text` gives it. `None`, exactly where the text isn't
@@ -82,6 +93,13 @@ impl Version {
         ensures { result.now ≡ canonical self.now }
     {
         self.text.as_str()
+    }
+
+    /// How many bytes of memory it takes at most, by an estimate.
+    pub fn size(&self) -> u64
+        ensures { result ≡ min (version_size self.now) (2 ^ 64 - 1) }
+    {
+        self.size
     }
 
     /// Its tables.

@@ -1,0 +1,79 @@
+//! Services over a store that keeps ready what tenants have, and what asks them.
+
+use crate::watched::{Fault, Watched};
+use crush_app::{MemoryStore, Service};
+use std::alloc::{AllocError, Global};
+use std::cell::Cell;
+use std::process::Abort;
+use std::rc::Rc;
+use tenant_core::TenantStore;
+use tenant_messages::{CallParts, Reply};
+use tenant_ready::ReadyStore;
+
+/// The body of an import of a map with one device.
+pub(crate) const IMPORT: &str =
+    "{\"request\":\"m1\",\"text\":\"tunable choose_local_tries 0\\ntunable choose_local_fallback_tries 0\\ntunable choose_total_tries 50\\ntunable chooseleaf_descend_once 1\\ntunable chooseleaf_vary_r 1\\ntunable chooseleaf_stable 1\\ndevice 0 osd.0\\ntype 0 osd\\ntype 1 host\\ntype 10 root\\nroot default {\\n id -1\\n alg uniform\\n hash 0\\n item osd.0 weight 1.0\\n}\\nrule all {\\n id 0\\n type replicated\\n step take default\\n step choose firstn 0 type osd\\n step emit\\n}\\n\"}";
+
+/// The body that adds a pool by the map's rule.
+pub(crate) const POOL: &str =
+    "{\"request\":\"p1\",\"id\":1,\"name\":\"p\",\"kind\":\"replicated\",\"size\":1,\"rule\":0,\"pg_num\":8,\"pgp_num\":8,\"hashpspool\":true}";
+
+/// The body that takes the device down.
+pub(crate) const DOWN: &str = "{\"request\":\"d1\",\"devices\":[{\"id\":0,\"up\":false}]}";
+
+/// A method, a path and a body.
+pub(crate) type Asked = (&'static str, &'static str, &'static str);
+
+/// A service over a store that keeps ready what takes at most `bound` bytes, over one whose call
+/// after `left` others meets a fault.
+pub(crate) fn watched_service(
+    alloc: Global,
+    bound: u64,
+    loads: Rc<Cell<u64>>,
+    left: u64,
+    fault: Fault,
+) -> Result<Service<ReadyStore<Watched<MemoryStore>>>, AllocError> {
+    let below = Watched {
+        below: MemoryStore::new(alloc),
+        loads,
+        left,
+        fault,
+        has_failed: false,
+    };
+    Service::over(alloc, ReadyStore::over(alloc, below, bound)?)
+}
+
+/// The same, of which no call meets a fault.
+pub(crate) fn counted_service(
+    alloc: Global,
+    bound: u64,
+    loads: &Rc<Cell<u64>>,
+) -> Result<Service<ReadyStore<Watched<MemoryStore>>>, AllocError> {
+    let shared: Result<Rc<Cell<u64>>, AllocError> = loads.clone();
+    watched_service(alloc, bound, shared?, u64::MAX, Fault::Full)
+}
+
+/// The reply to a request.
+pub(crate) fn ask<T: TenantStore>(service: &mut Service<T>, asked: &Asked) -> Reply {
+    let (method, path, body) = *asked;
+    service.request(CallParts {
+        method: method.as_bytes(),
+        path,
+        body: body.as_bytes(),
+    })
+}
+
+/// Asserts that a request is answered with this status, after which so many calls of `load` have
+/// reached the store below.
+pub(crate) fn assert_loads<T: TenantStore>(
+    rt: &impl Abort,
+    service: &mut Service<T>,
+    loads: &Rc<Cell<u64>>,
+    rows: &[(Asked, u16, u64)],
+) {
+    for (asked, status, count) in rows {
+        let reply = ask(service, asked);
+        assert_eq!(rt; reply.status, *status, "{} {}", asked.0, asked.1);
+        assert_eq!(rt; loads.get(), *count, "{} {}", asked.0, asked.1);
+    }
+}

@@ -1,0 +1,78 @@
+//! What is kept of tenants within a number of bytes.
+
+use crate::asking::{IMPORT, assert_loads, counted_service};
+use crush_app::MemoryStore;
+use std::cell::Cell;
+use std::rc::Rc;
+use std::test::Fail;
+use tenant_core::TenantStore;
+use tenant_ready::ReadyStore;
+use tenant_state::size::INVENTORY_BYTES;
+
+/// Room for two tenants that were just created.
+const TWO: u64 = 2 * INVENTORY_BYTES;
+
+#[test]
+fn the_tenant_used_least_recently_is_given_up(rt: HostRuntime) -> Result<(), Fail> {
+    let alloc = rt.alloc();
+    let loads = Rc::new(alloc, Cell::new(0))?;
+    let mut service = counted_service(alloc, TWO, &loads)?;
+    assert_loads(
+        &rt,
+        &mut service,
+        &loads,
+        &[
+            (("PUT", "/t/a", ""), 201, 1),
+            (("PUT", "/t/b", ""), 201, 2),
+            (("PUT", "/t/c", ""), 201, 3),
+            (("GET", "/t/a", ""), 200, 4),
+            (("GET", "/t/b", ""), 200, 5),
+            (("GET", "/t/a", ""), 200, 5),
+            (("GET", "/t/b", ""), 200, 5),
+            (("GET", "/t/a", ""), 200, 5),
+            (("GET", "/t/c", ""), 200, 6),
+            (("GET", "/t/a", ""), 200, 6),
+            (("GET", "/t/b", ""), 200, 7),
+            (("GET", "/t/c", ""), 200, 8),
+            (("GET", "/t/a", ""), 200, 9),
+            (("GET", "/t/b", ""), 200, 10),
+        ],
+    );
+    Ok(())
+}
+
+/// With a map tenant a has no room beside the bound, and takes none of that of another tenant.
+#[test]
+fn a_tenant_larger_than_the_bound_is_not_kept(rt: HostRuntime) -> Result<(), Fail> {
+    let alloc = rt.alloc();
+    let loads = Rc::new(alloc, Cell::new(0))?;
+    let mut service = counted_service(alloc, TWO, &loads)?;
+    assert_loads(
+        &rt,
+        &mut service,
+        &loads,
+        &[
+            (("PUT", "/t/a", ""), 201, 1),
+            (("PUT", "/t/b", ""), 201, 2),
+            (("GET", "/t/b", ""), 200, 3),
+            (("GET", "/t/a", ""), 200, 4),
+            (("POST", "/t/a/maps", IMPORT), 201, 4),
+            (("GET", "/t/a", ""), 200, 5),
+            (("GET", "/t/b", ""), 200, 5),
+            (("GET", "/t/a", ""), 200, 6),
+            (("GET", "/t/b", ""), 200, 6),
+        ],
+    );
+    Ok(())
+}
+
+#[test]
+fn the_store_below_is_given_back(rt: HostRuntime) -> Result<(), Fail> {
+    let alloc = rt.alloc();
+    let mut store = ReadyStore::over(alloc, MemoryStore::new(alloc), TWO)?;
+    assert!(rt; store.create("a").is_ok());
+    let mut below = store.into_below();
+    assert!(rt; matches!(below.load("a"), Ok(Some(_))));
+    assert!(rt; matches!(below.load("b"), Ok(None)));
+    Ok(())
+}

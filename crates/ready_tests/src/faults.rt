@@ -1,0 +1,94 @@
+//! Replies where a call of the store below meets a fault, beside those of a run without a fault and
+//! with nothing kept.
+
+use crate::asking::{Asked, DOWN, IMPORT, POOL, ask, watched_service};
+use crate::watched::Fault;
+use crush_app::Service;
+use std::alloc::Global;
+use std::cell::Cell;
+use std::process::Abort;
+use std::rc::Rc;
+use std::test::Fail;
+
+/// Requests of two tenants, one of which is dropped and created again.
+const ASKED: &[Asked] = &[
+    ("PUT", "/t/a", ""),
+    ("PUT", "/t/b", ""),
+    ("POST", "/t/a/maps", IMPORT),
+    ("POST", "/t/a/pools", POOL),
+    ("GET", "/t/a", ""),
+    ("POST", "/t/b/maps", IMPORT),
+    ("POST", "/t/a/devices", DOWN),
+    ("GET", "/t/a/pools/1/groups/3", ""),
+    ("POST", "/t/a/devices", DOWN),
+    ("GET", "/t/b", ""),
+    ("DELETE", "/t/a", ""),
+    ("GET", "/t/a", ""),
+    ("PUT", "/t/a", ""),
+    ("GET", "/t/a", ""),
+    ("POST", "/t/a/maps", IMPORT),
+    ("GET", "/t/a/maps/1", ""),
+    ("GET", "/t/b/maps/1", ""),
+];
+
+/// How many of these requests are answered 503 where the store's call after `left` others meets a
+/// fault. The others have the replies that a service in memory gives to them alone.
+fn unanswered(
+    rt: &impl Abort,
+    alloc: Global,
+    bound: u64,
+    left: u64,
+    fault: Fault,
+) -> Result<usize, Fail> {
+    let mut service = watched_service(alloc, bound, Rc::new(alloc, Cell::new(0))?, left, fault)?;
+    let mut alone = Service::in_memory(alloc)?;
+    let mut count = 0;
+    for place in 0..ASKED.len() {
+        let asked = &ASKED[place];
+        let reply = ask(&mut service, asked);
+        if reply.status == 503 {
+            count += 1;
+        } else {
+            let wanted = ask(&mut alone, asked);
+            assert_eq!(rt; reply.status, wanted.status, "{} {}", asked.0, asked.1);
+            assert_eq!(rt;
+                reply.body.as_str(),
+                wanted.body.as_str(),
+                "{} {}",
+                asked.0,
+                asked.1
+            );
+        }
+    }
+    Ok(count)
+}
+
+/// Nothing is kept, one of the tenants is, or all are.
+const BOUNDS: [u64; 3] = [0, 30_000, 1_000_000];
+
+#[test]
+fn a_call_that_fails_changes_no_other_reply(rt: HostRuntime) -> Result<(), Fail> {
+    let alloc = rt.alloc();
+    for bound in BOUNDS {
+        for left in 0..16 {
+            assert_eq!(rt; unanswered(&rt, alloc, bound, left, Fault::NoMemory)?, 1);
+            assert_eq!(rt; unanswered(&rt, alloc, bound, left, Fault::Full)?, 1);
+        }
+    }
+    Ok(())
+}
+
+/// After a call that fails for good each request is answered 503.
+#[test]
+fn a_store_that_latches_is_asked_no_more(rt: HostRuntime) -> Result<(), Fail> {
+    let alloc = rt.alloc();
+    for bound in BOUNDS {
+        let mut before = ASKED.len() + 1;
+        for left in 0..16 {
+            let count = unanswered(&rt, alloc, bound, left, Fault::Failed)?;
+            assert!(rt; 0 < count && count <= before);
+            before = count;
+        }
+    }
+    Ok(())
+}

@@ -1,0 +1,14 @@
+//! Tests of `tenant_ready`, over a store in memory whose loads are counted and one of whose calls
+//! may meet a fault. They stand apart, since they are over `crush_app` too.
+#![tactic(auto)]
+
+#[cfg(test)]
+mod asking;
+#[cfg(test)]
+mod bounds;
+#[cfg(test)]
+mod faults;
+#[cfg(test)]
+mod loads;
+#[cfg(test)]
+mod watched;

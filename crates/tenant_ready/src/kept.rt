@@ -1,0 +1,139 @@
+//! Inventories of the tenants that were used last, by name, as many as a number of bytes holds.
+
+ghost use Rattle.std.specs.Prelude.{◌≡◌, ◌≤◌, ◌<◌, ◌-◌, ◌^◌, ℕ, length, min, take};
+ghost use Rattle.tenant_ready.specs.Bytes.{bytes_in, bytes_of};
+
+use lru::LruCache;
+use std::alloc::{AllocError, Global};
+use std::marker::Model;
+use std::rc::Rc;
+use tenant_state::Inventory;
+
+/// The greatest bound. No memory is larger.
+const GREATEST_BOUND: u64 = u64::MAX / 2;
+
+type ByName = LruCache<String, Rc<Inventory>>;
+
+/// Inventories by name, whose sizes together are at most a bound. What was used least recently goes
+/// first. Contracts say what a name may still have, and never that it has it.
+#[derive(Drop)]
+pub struct Kept {
+    by_name: ByName,
+    bytes: u64,
+    bound: u64,
+}
+
+impl Model for Kept {
+    ghost use Rattle.std.specs.Prelude.{◌≡◌, ◌≤◌, ◌<◌, ◌^◌, map, string_bytes};
+    ghost use Rattle.tenant_ready.specs.Bytes.{bytes_in};
+    ghost use Rattle.tenant_ready.specs.Kept.{Kept};
+
+    ghost Value = { Kept };
+
+    ghost view = { λ a. record { entries = map (λ e. (string_bytes e.0, e.1.value)) a.by_name.entries; bound = a.bound } };
+
+    ghost invariant = { λ a. record {
+      bytes : a.bytes ≡ bytes_in a.by_name.entries;
+      fits : a.bytes ≤ a.bound;
+      least : a.bound < 2 ^ 63;
+    } };
+}
+
+impl Kept {
+    ghost use Rattle.std.specs.Prelude.{◌≡◌, ◌≤◌, ◌≢◌, ℕ, [], List, Option, Some, None, IfOk, min, option_map, string_bytes};
+    ghost use Rattle.tenant_ready.specs.Kept as spec;
+    ghost use Rattle.tenant_ready.specs.Kept.{kept_at, bytes_kept, Updates};
+    ghost use Rattle.tenant_ready.specs.declared.kept.TheConstants.{GREATEST_BOUND};
+
+    /// No inventory is kept yet. Those that will be take at most `bound` bytes together; a bound
+    /// above 2^63 - 1 counts as that. `Err(AllocError)`: an allocation failed; nothing is changed.
+    pub fn new(alloc: Global, bound: u64) -> Result<Self, AllocError>
+        ensures { IfOk result (λ kept. kept ≡ record { entries = []; bound = min bound GREATEST_BOUND }) }
+    {
+        Ok(Kept {
+            by_name: LruCache::unbounded(alloc)?,
+            bytes: 0,
+            bound: bound.min(GREATEST_BOUND),
+        })
+    }
+
+    /// How many bytes the inventories take together.
+    pub fn bytes(&self) -> u64
+        ensures value { result ≡ bytes_kept self.now }
+        ensures within { result ≤ self.now.bound }
+    {
+        self.bytes
+    }
+
+    /// The inventory of a name, which is then the one used last.
+    pub fn get(&mut self, name: &str) -> Result<Option<Rc<Inventory>>, AllocError>
+        ensures found { IfOk result (λ found. option_map (λ r. r.value) found ≡ kept_at self.old name.now) }
+        ensures same { (u : List ℕ) (i : _) → kept_at self.new u ≡ Some i → kept_at self.old u ≡ Some i }
+    {
+        let _count = self.by_name.len();
+        self.by_name.promote(name);
+        let Some(inventory) = self.by_name.peek(name) else {
+            return Ok(None);
+        };
+        Ok(Some(inventory.clone()?))
+    }
+
+    /// Forgets a name.
+    pub fn forget(&mut self, name: &str)
+        ensures { Updates name.now None self.old self.new }
+    {
+        let _count = self.by_name.len();
+        self.bytes -= size_of(&self.by_name.pop_entry(name));
+    }
+
+    /// Keeps the inventory of a name, in place of the one that it had, and forgets others where it
+    /// has no room beside them. One that is larger than the bound isn't kept, nor is one for which
+    /// there is no memory; a name that is there needs none.
+    pub fn put(&mut self, name: String, inventory: Rc<Inventory>)
+        ensures { Updates (string_bytes name) (Some inventory.value) self.old self.new }
+    {
+        let size = inventory.size();
+        if size > self.bound {
+            self.forget(name.as_str());
+            return;
+        }
+        let bytes = self.bytes + size;
+        let _count = self.by_name.len();
+        match self.by_name.push(name, inventory) {
+            Ok(displaced) => {
+                let bytes = bytes - size_of(&displaced);
+                self.bytes = evict(&mut self.by_name, bytes, self.bound);
+            }
+            Err(refused) => {
+                let (name, _inventory) = refused.value;
+                self.forget(name.as_str());
+            }
+        }
+    }
+}
+
+/// How many bytes an inventory takes that may be there.
+fn size_of(entry: &Option<(String, Rc<Inventory>)>) -> u64
+    ensures { result ≡ min (bytes_of entry.now) (2 ^ 64 - 1) }
+{
+    match entry {
+        Some((_name, inventory)) => inventory.size(),
+        None => 0,
+    }
+}
+
+/// Forgets what was used least recently, and no more than it must, until the rest takes at most
+/// `bound` bytes. Returns how many the rest takes.
+fn evict(by_name: &mut ByName, bytes: u64, bound: u64) -> u64
+    requires { bytes ≡ bytes_in by_name.old.entries }
+    ensures value { result ≡ bytes_in by_name.new.entries }
+    ensures fits { result ≤ bound }
+    ensures first { by_name.new.entries ≡ take (length by_name.new.entries) by_name.old.entries }
+    ensures most { (n : ℕ) → length by_name.new.entries < n → n ≤ length by_name.old.entries → bound < bytes_in (take n by_name.old.entries) }
+{
+    let mut rest = bytes;
+    while rest > bound {
+        rest -= size_of(&by_name.pop_lru());
+    }
+    rest
+}

@@ -1,0 +1,9 @@
+//! A store of tenants' states that keeps ready what tenants have in another store, within a number
+//! of bytes.
+#![tactic(auto)]
+
+mod kept;
+mod ready_store;
+
+pub use kept::Kept;
+pub use ready_store::ReadyStore;

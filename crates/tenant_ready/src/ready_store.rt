@@ -1,0 +1,166 @@
+//! A store that keeps ready what tenants have in another store.
+
+ghost use Rattle.std.specs.Prelude.{◌≡◌, ◌≢◌, ◌⊎◌, ◌↔◌, ◌<◌, ℕ, List, Bool, true, false, Option, Some, None, Err, IfOk, OnOk, OnErr, option_map};
+ghost use Rattle.tenant_state.specs.State.{CanMake, TenantState, fresh, after, inventory_after};
+ghost use Rattle.tenant_state.specs.Receipts.{receipt_of};
+ghost use Rattle.tenant_core.specs.States.{Found, HasInventory, IsDamaged, LeavesAsItWas, LeavesAsItWasOr, Same, Shows};
+ghost use Rattle.tenant_core.specs.StoreReply.{is_failed};
+ghost use Rattle.tenant_state.specs.declared.limits.TheConstants.{RECEIPT_LIMIT};
+
+use crate::kept::Kept;
+use std::alloc::{AllocError, Global};
+use std::marker::Model;
+use std::rc::Rc;
+use tenant_core::{StoreFault, TenantStore};
+use tenant_state::limits::RECEIPT_LIMIT;
+use tenant_state::{Change, Inventory, Receipt};
+
+/// A store over another one, which keeps in memory what the tenants that were used last have.
+/// Contracts see the store below alone.
+#[derive(Drop)]
+pub struct ReadyStore<T: TenantStore> {
+    alloc: Global,
+    below: T,
+    kept: Kept,
+}
+
+impl<T: TenantStore> Model for ReadyStore<T> {
+    ghost use Rattle.std.specs.Prelude.{◌≡◌, false};
+    ghost use Rattle.tenant_ready.specs.Ready.{AreTrue};
+
+    ghost Value = { T };
+
+    ghost coded = { T.code };
+
+    ghost view = { λ a. a.below };
+
+    ghost invariant = { λ a. T.is_honest a.below → T.latched a.below ≡ false → AreTrue (T.has_state a.below) a.kept };
+}
+
+impl<T: TenantStore + Drop> ReadyStore<T> {
+    ghost use Rattle.std.specs.Prelude.{◌≡◌, IfOk};
+
+    /// A store over this one, which keeps what takes at most `bound` bytes. Nothing is kept yet.
+    /// `Err(AllocError)`: an allocation failed; the store below is dropped.
+    pub fn over(alloc: Global, below: T, bound: u64) -> Result<Self, AllocError>
+        ensures { IfOk result (λ store. store ≡ below) }
+    {
+        Ok(ReadyStore {
+            alloc,
+            kept: Kept::new(alloc, bound)?,
+            below,
+        })
+    }
+}
+
+impl<T: TenantStore> ReadyStore<T> {
+    ghost use Rattle.std.specs.Prelude.{◌≡◌, false, Some};
+    ghost use Rattle.tenant_core.specs.States.{HasInventory};
+
+    /// The store below. Allocates nothing.
+    pub fn into_below(self) -> T
+        ensures { result ≡ self }
+    {
+        let ReadyStore { below, .. } = self;
+        below
+    }
+
+    /// Keeps what a tenant has, where there is memory for it.
+    fn keep(&mut self, name: &str, inventory: &Rc<Inventory>)
+        requires { T.is_honest self.old → T.latched self.old ≡ false → HasInventory (T.has_state self.old) name.now (Some inventory.now.value) }
+        ensures { self.new ≡ self.old }
+    {
+        let Ok(key) = String::from_str(self.alloc, name) else {
+            return;
+        };
+        let shared: Result<Rc<Inventory>, AllocError> = inventory.clone();
+        let Ok(shared) = shared else {
+            return;
+        };
+        self.kept.put(key, shared);
+    }
+}
+
+/// What a tenant has after a change.
+fn next(alloc: Global, inventory: &Inventory, change: &Change) -> Result<Rc<Inventory>, AllocError>
+    requires { inventory.now.epoch < RECEIPT_LIMIT }
+    ensures { IfOk result (λ r. r.value ≡ inventory_after change.now inventory.now) }
+{
+    Ok(Rc::new(alloc, inventory.after(alloc, change)?)?)
+}
+
+impl<T: TenantStore> TenantStore for ReadyStore<T> {
+    ghost use Rattle.std.specs.Prelude.{◌≡◌, ℕ, List, false};
+
+    ghost is_honest = { λ store. T.is_honest store };
+
+    ghost has_state = { λ store name s. T.has_state store name s };
+
+    ghost latched = { λ store. T.latched store };
+
+    ghost may_leave = { λ store name found. T.may_leave store name found };
+
+    ghost keeps = { λ old new. T.keeps old new };
+
+    fn is_latched(&self) -> bool {
+        self.below.is_latched()
+    }
+
+    fn load(&mut self, name: &str) -> Result<Option<Rc<Inventory>>, StoreFault> {
+        if let Some(inventory) = self.kept.get(name)? {
+            return Ok(Some(inventory));
+        }
+        let found = self.below.load(name)?;
+        if let Some(inventory) = &found {
+            self.keep(name, inventory);
+        }
+        Ok(found)
+    }
+
+    fn find_receipt(
+        &mut self,
+        name: &str,
+        number: &str,
+    ) -> Result<Option<Rc<Receipt>>, StoreFault> {
+        self.below.find_receipt(name, number)
+    }
+
+    fn create(&mut self, name: &str) -> Result<(), StoreFault> {
+        self.kept.forget(name);
+        self.below.create(name)
+    }
+
+    fn commit(&mut self, name: &str, change: &Change) -> Result<(), StoreFault> {
+        match self.kept.get(name)? {
+            Some(inventory) if inventory.epoch() < RECEIPT_LIMIT as u64 => {
+                // all that needs memory is made before the change
+                let next = next(self.alloc, &inventory, change)?;
+                let key = String::from_str(self.alloc, name)?;
+                self.below.commit(name, change)?;
+                self.kept.put(key, next);
+                Ok(())
+            }
+            _ => {
+                self.kept.forget(name);
+                self.below.commit(name, change)
+            }
+        }
+    }
+
+    fn remove(&mut self, name: &str) -> Result<(), StoreFault> {
+        self.kept.forget(name);
+        self.below.remove(name)
+    }
+
+    ghost one_state = { λ store t s u honest works is also. T.one_state store t s u honest works is also };
+
+    ghost are_states = { λ store t s honest works has. T.are_states store t s honest works has };
+
+    ghost keeps_itself = { λ store. T.keeps_itself store };
+
+    ghost keeps_both = { λ old mid new first second. T.keeps_both old mid new first second };
+
+    ghost keeps_states = { λ old new honest worked works same. T.keeps_states old new honest worked works same };
+
+    ghost settled = { λ store t found honest works there. T.settled store t found honest works there };
+}

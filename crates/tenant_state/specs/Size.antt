@@ -1,0 +1,33 @@
+-- How much memory what a tenant has takes, in bytes. It is an estimate from above: the numbers are
+-- those of `size`, which says where each comes from.
+use Rattle.std.specs.Prelude.{ℕ, ◌+◌, ◌*◌, List, fold, length, max, unsigned_abs}
+use Rattle.std.specs.List.{sum_by}
+use Rattle.crush_map.specs.Map.{Map}
+use Rattle.crush_map.specs.declared.draft.Bucket.{Bucket}
+use Rattle.crush_pool.specs.declared.states.DeviceState.{DeviceState}
+use Rattle.crush_writing.specs.Canonical.{canonical}
+use Rattle.tenant_state.specs.State.{Inventory}
+use Rattle.tenant_state.specs.declared.size.TheConstants.{INVENTORY_BYTES, VERSION_BYTES, TEXT_BYTES, BUCKET_ID_BYTES, STATE_BYTES, DEVICE_ID_BYTES, POOL_BYTES}
+
+-- how many places a list by bucket has: up to that of the lowest id, -1 being that of the first
+abbrev pub bucket_reach : List Bucket → ℕ
+bucket_reach buckets = fold (λ reach b. max reach (unsigned_abs b.id.0)) 0 buckets
+
+-- a version: its map, the map's text and its tables
+abbrev pub version_size : Map → ℕ
+version_size m = VERSION_BYTES + TEXT_BYTES * length (canonical m) + BUCKET_ID_BYTES * bucket_reach m.buckets
+
+-- how many places a list by device has: up to that of the greatest id, 0 being that of the first
+abbrev pub device_reach : List DeviceState → ℕ
+device_reach states = fold (λ reach s. max reach (s.device + 1)) 0 states
+
+-- states of devices, and their tables
+abbrev pub states_size : List DeviceState → ℕ
+states_size states = STATE_BYTES * length states + DEVICE_ID_BYTES * device_reach states
+
+abbrev pub size : Inventory → ℕ
+size inventory =
+    INVENTORY_BYTES
+    + sum_by version_size inventory.versions
+    + states_size inventory.devices
+    + POOL_BYTES * length inventory.pools

@@ -1,0 +1,126 @@
+//! How much memory what a tenant has takes, in bytes.
+//!
+//! It is an estimate from above, which is not measured: each number below is at least what the
+//! types keep for one such part on a machine of 64 bits, where a list that grew may have room for
+//! twice its elements, and each allocation takes up to 32 bytes more than it gives. A number that
+//! has no room in 64 bits is given as the greatest one that has.
+
+ghost use Rattle.std.specs.Prelude.{◌≡◌, ◌+◌, ◌-◌, ◌*◌, ◌^◌, length, map, min};
+ghost use Rattle.std.specs.List.{sum_by};
+ghost use Rattle.crush_writing.specs.Canonical.{canonical};
+ghost use Rattle.tenant_state.specs.Size as spec;
+ghost use Rattle.tenant_state.specs.Size.{bucket_reach, device_reach, states_size, version_size};
+
+use crate::state::Inventory;
+use crate::version::Version;
+use crush_map::{Bucket, CrushMap};
+use crush_pool::DeviceState;
+use std::rc::Rc;
+
+/// What an inventory takes without its parts: itself, and its entry in a table by name, with the
+/// name.
+pub const INVENTORY_BYTES: u64 = 1_024;
+
+/// What a version takes beside what follows: the lists of its map and its tables, while they are
+/// empty, and its place among the versions.
+pub const VERSION_BYTES: u64 = 1_024;
+
+/// What a version takes for each byte of its text. The text itself may take 2. Most else is taken
+/// for a type of 9 bytes, as `type 1 a`: 64 for it and 33 for its name. A device of 11 bytes takes
+/// 4 more in the tables. A bucket of at least 37 bytes takes about 400, and an item of at least 23
+/// about 50.
+pub const TEXT_BYTES: u64 = 16;
+
+/// What the index of a map's buckets takes for each place.
+pub const BUCKET_ID_BYTES: u64 = 16;
+
+/// What a state of a device takes: 12, and as much again for room.
+pub const STATE_BYTES: u64 = 32;
+
+/// What the tables of reweights and of the devices that are up take for each place: 4 and 1, and as
+/// much again for room.
+pub const DEVICE_ID_BYTES: u64 = 16;
+
+/// What a pool takes, with a name of at most 64 bytes, and its place among the pools.
+pub const POOL_BYTES: u64 = 256;
+
+/// A sum.
+fn plus(a: u64, b: u64) -> u64
+    ensures { result ≡ min (a + b) (2 ^ 64 - 1) }
+{
+    a.saturating_add(b)
+}
+
+/// A product.
+fn times(a: u64, b: u64) -> u64
+    ensures { result ≡ min (a * b) (2 ^ 64 - 1) }
+{
+    a.saturating_mul(b)
+}
+
+/// How many places a list by bucket has.
+fn bucket_reach(buckets: &[Bucket]) -> u32
+    ensures { result ≡ bucket_reach buckets.now }
+{
+    let mut reach = 0;
+    for bucket in buckets {
+        reach = reach.max(bucket.id.0.unsigned_abs());
+    }
+    reach
+}
+
+/// How many bytes a version takes that has this map, whose text has so many bytes.
+pub(crate) fn size_of_version(map: &CrushMap, text: u64) -> u64
+    requires { text ≡ length (canonical map.now) }
+    ensures { result ≡ min (version_size map.now) (2 ^ 64 - 1) }
+{
+    let texts = times(TEXT_BYTES, text);
+    let index = BUCKET_ID_BYTES * u64::from(bucket_reach(map.buckets()));
+    plus(plus(VERSION_BYTES, texts), index)
+}
+
+/// How many bytes versions take.
+fn size_of_versions(versions: &[Rc<Version>]) -> u64
+    ensures { result ≡ min (sum_by version_size (map (λ v. v.value) versions.now)) (2 ^ 64 - 1) }
+{
+    let mut total = 0;
+    for version in versions {
+        total = plus(total, version.size());
+    }
+    total
+}
+
+/// How many places a list by device has.
+fn device_reach(states: &[DeviceState]) -> u64
+    ensures { result ≡ device_reach states.now }
+{
+    let mut reach = 0;
+    for state in states {
+        reach = reach.max(u64::from(state.device) + 1);
+    }
+    reach
+}
+
+/// How many bytes states of devices take, with their tables.
+fn size_of_states(states: &[DeviceState]) -> u64
+    ensures { result ≡ min (states_size states.now) (2 ^ 64 - 1) }
+{
+    let each = times(STATE_BYTES, states.len() as u64);
+    let tables = times(DEVICE_ID_BYTES, device_reach(states));
+    plus(each, tables)
+}
+
+impl Inventory {
+    ghost use Rattle.std.specs.Prelude.{◌≡◌, ◌-◌, ◌^◌, min};
+    ghost use Rattle.tenant_state.specs.Size as spec;
+
+    /// How many bytes of memory it takes at most, by an estimate.
+    pub fn size(&self) -> u64
+        ensures { result ≡ min (spec.size self.now) (2 ^ 64 - 1) }
+    {
+        let versions = plus(INVENTORY_BYTES, size_of_versions(self.versions()));
+        let states = size_of_states(self.devices().states());
+        let pools = times(POOL_BYTES, self.pools().len() as u64);
+        plus(plus(versions, states), pools)
+    }
+}
