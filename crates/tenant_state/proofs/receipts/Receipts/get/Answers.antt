@@ -1,4 +1,4 @@
-use Rattle.std.proofs.Common.{◌∙◌, Some, sym, ap, option_map}
+use Rattle.std.proofs.Common.{◌∙◌, sym, ap, option_map}
 use Rattle.std.specs.Option.{option_copied}
 use Rattle.tenant_state.proofs.Keeping.{found_in}
 use Rattle.tenant_state.specs.Receipts.{receipt_of}
