@@ -1,5 +1,5 @@
 -- No two pools have one name, also when a pool is added that is like none, or one is removed.
-use Rattle.std.proofs.Common.{◌≡◌, ℕ, ◌==◌, ◌&&◌, ◌||◌, not, List, [], ◌∷◌, Bool, true, false, nat_le, if◌then◌else◌, bytes_eq, refl, arith}
+use Rattle.std.proofs.Common.{◌≡◌, ℕ, ◌==◌, ◌||◌, not, List, [], ◌∷◌, Bool, true, false, nat_le, if◌then◌else◌, bytes_eq, refl, arith}
 use Rattle.std.proofs.lemmas.Slice.Eq.{bytes_eq-Decides}
 use Rattle.std.specs.List.{list_any}
 use Rattle.crush_pool.specs.declared.pool.PoolParts.{PoolParts}

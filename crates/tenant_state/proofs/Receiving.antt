@@ -1,5 +1,5 @@
 -- What stays true of receipts in the order of their numbers when one is added.
-use Rattle.std.proofs.Common.{◌≡◌, ℕ, ◌&&◌, List, [], ◌∷◌, Bool, true, bytes_eq, Ordering, Less, Equal, Greater, nat_cmp, is_eq, refl, sym, ap, subst, ◌∙◌, arith}
+use Rattle.std.proofs.Common.{◌≡◌, ℕ, List, [], ◌∷◌, Bool, true, bytes_eq, Ordering, Less, Equal, Greater, nat_cmp, is_eq, refl, sym, ap, subst, ◌∙◌, arith}
 use Rattle.std.proofs.lemmas.Cmp.{nat_list_cmp_total}
 use Rattle.std.proofs.lemmas.Map.Text.{is_eq-slice_cmp}
 use Rattle.std.proofs.lemmas.Slice.Eq.{bytes_eq-Decides}
@@ -10,7 +10,6 @@ use Rattle.tenant_state.proofs.Staying.{both_true}
 use Rattle.tenant_state.specs.Ordered.{is_ascending, is_before_first}
 use Rattle.tenant_state.specs.Receipts.{Receipts, is_before, with_receipt}
 use Rattle.tenant_state.specs.declared.receipts.Receipt.{Receipt}
-
 
 same_key : (n m : List ℕ) → slice_cmp nat_cmp n m ≡ Equal → m ≡ n
 same_key n m h =
