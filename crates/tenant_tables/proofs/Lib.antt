@@ -15,5 +15,6 @@ pub mod QueryFacts
 pub mod Asking
 pub mod Columns
 pub mod Tested
+pub mod Opening
 pub mod Rising
 pub mod Listing

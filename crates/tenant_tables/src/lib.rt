@@ -9,6 +9,7 @@ pub mod lists;
 pub mod open;
 pub mod refuse;
 pub mod remove;
+pub mod reopen;
 pub mod rows;
 pub mod schema;
 pub mod tables;

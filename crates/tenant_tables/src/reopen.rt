@@ -1,0 +1,64 @@
+//! A connection whose rows are known to stand by rising rowids.
+//!
+//! Writes go by rowid, and no clause of a connection says that each names one row: a store says it.
+//! So a connection is given up for its store, and opened again over it.
+
+ghost use Rattle.std.specs.Prelude.{◌≡◌, ◌⊎◌, false, IfOk, IfErr, IsTrue};
+ghost use Rattle.sqlite.specs.Held.{state};
+ghost use Rattle.sqlite.specs.State.{HasCleanDisk};
+ghost use Rattle.sqlite_trees.specs.View.{IsClean};
+ghost use Rattle.tenant_tables.specs.Holds.{AreTables};
+ghost use Rattle.tenant_tables.specs.Run.{IsReady};
+
+use crate::refuse::{Fault, fault_of};
+use crate::schema::is_ours;
+use sqlite::{Alter, Connection};
+use sqlite_trees::store::Shape;
+use std::alloc::Global;
+
+/// Whether the trees of the tables hold rows by rowids.
+fn are_rows<S: Alter>(store: &S) -> bool
+    ensures sound { IsTrue result → IsClean (S.Store.view store.now) → (S.Store.view store.now).is_broken ≡ false }
+    ensures tables { IsTrue result → IsClean (S.Store.view store.now) → AreTables (S.Store.view store.now).trees }
+{
+    !store.is_broken()
+        && store.shape(1) == Shape::Table
+        && store.shape(4) == Shape::Table
+        && store.shape(6) == Shape::Table
+        && store.shape(8) == Shape::Table
+        && store.shape(11) == Shape::Table
+}
+
+/// Opens a connection again, with this service's tables as they were committed.
+///
+/// `Err((Fault::NoMemory, store))`, `Err((Fault::Failed, store))`: no row is changed.
+pub fn reopen<S: Alter + Drop>(
+    alloc: Global,
+    conn: Connection<S>,
+) -> Result<Connection<S>, (Fault, S)>
+    ensures ready { IfOk result (λ c. HasCleanDisk (state S.Store c) → IsReady (state S.Store c)) }
+    ensures same { IfOk result (λ c. HasCleanDisk (state S.Store c) → (state S.Store c).now.trees ≡ (state S.Store conn).committed.trees) }
+    ensures clean { IfOk result (λ c. HasCleanDisk (state S.Store c) → HasCleanDisk (state S.Store conn)) }
+    ensures ended { IfOk result (λ c. c.in_transaction ≡ false) }
+    ensures faults { IfErr result (λ e. (e.0 ≡ Fault.NoMemory) ⊎ (e.0 ≡ Fault.Failed)) }
+    ensures crash { IfErr result (λ e. IsClean (S.Store.view e.1) → (db : _) → S.Store.recovers e.1 db → (state S.Store conn).may_leave db) }
+    ensures told { IfErr result (λ e. IsClean (S.Store.view e.1) → HasCleanDisk (state S.Store conn)) }
+{
+    let store = conn.into_store();
+    if !are_rows(&store) {
+        return Err((Fault::Failed, store));
+    }
+    match Connection::over(alloc, store) {
+        Ok(conn) => {
+            if is_ours(conn.schema()) {
+                Ok(conn)
+            } else {
+                Err((Fault::Failed, conn.into_store()))
+            }
+        }
+        Err((error, store)) => match fault_of(error) {
+            Fault::NoMemory => Err((Fault::NoMemory, store)),
+            _ => Err((Fault::Failed, store)),
+        },
+    }
+}
