@@ -1,15 +1,9 @@
-<<<<<<< HEAD
 use Rattle.std.proofs.Common.{◌≡◌, ◌∙◌, ◌+◌, length, None, string_bytes, ap, sym, subst, arith}
 use Rattle.tenant_state.proofs.Counting.{grown}
 use Rattle.tenant_state.proofs.Leaving.{left_is, state_stays}
 use Rattle.tenant_state.specs.Receipts.{receipt_of, with_receipt}
 use Rattle.tenant_state.specs.State.{after, inventory_after, with_receipts}
 use Rattle.tenant_state.specs.Valid.{IsChange, IsState}
-=======
-use Rattle.std.proofs.Common.{◌≡◌, ◌∙◌, ◌+◌, length, None, string_bytes, ap, arith}
-use Rattle.tenant_state.proofs.Counting.{grown}
-use Rattle.tenant_state.specs.Receipts.{receipt_of}
->>>>>>> 46af1baf5df4c7c726d4b3cb60668c7b700c01fb
 use Rattle.tenant_state.proofs.state.TenantState.change.Goals as goal
 
 number_is : (c : goal.After-drop-self-inside) → string_bytes c.in_ok-number.number ≡ c.args.change.now.number
