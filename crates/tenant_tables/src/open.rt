@@ -150,7 +150,7 @@ pub fn set_up<S: Alter>(conn: &mut Connection<S>) -> Result<(), Fault>
 }
 
 /// Prepares what a refusal asks, so that it takes no memory then.
-fn get_ready<S: Alter>(conn: &mut Connection<S>) -> Result<(), Fault>
+pub fn get_ready<S: Alter>(conn: &mut Connection<S>) -> Result<(), Fault>
     ensures ok { HasCleanDisk (state S.Store conn.new) → OnOk result (IsUnchanged (state S.Store conn.old) (state S.Store conn.new)) }
     ensures err { OnErr result (result ≡ Err Fault.Failed) }
     ensures survives { Survives (state S.Store conn.old) (state S.Store conn.new) (λ _. ⊥) }

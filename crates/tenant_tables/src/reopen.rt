@@ -38,6 +38,7 @@ pub fn reopen<S: Alter + Drop>(
 ) -> Result<Connection<S>, (Fault, S)>
     ensures ready { IfOk result (λ c. HasCleanDisk (state S.Store c) → IsReady (state S.Store c)) }
     ensures same { IfOk result (λ c. HasCleanDisk (state S.Store c) → (state S.Store c).now.trees ≡ (state S.Store conn).committed.trees) }
+    ensures left { IfOk result (λ c. HasCleanDisk (state S.Store c) → (state S.Store conn).may_leave (state S.Store c).now.trees) }
     ensures clean { IfOk result (λ c. HasCleanDisk (state S.Store c) → HasCleanDisk (state S.Store conn)) }
     ensures ended { IfOk result (λ c. c.in_transaction ≡ false) }
     ensures faults { IfErr result (λ e. (e.0 ≡ Fault.NoMemory) ⊎ (e.0 ≡ Fault.Failed)) }

@@ -1,10 +1,12 @@
 //! The tables of a connection as a value that latches after a failure.
 
-ghost use Rattle.std.specs.Prelude.{◌≡◌, ◌≢◌, ◌↔◌, [], ◌∷◌, map, true, false, IfOk, OnOk, OnErr, Err, IsTrue};
+ghost use Rattle.std.specs.Prelude.{◌≡◌, ◌≢◌, ◌↔◌, ◌⊎◌, [], ◌∷◌, map, true, false, IfOk, IfErr, OnOk, OnErr, Err, IsTrue};
 ghost use Rattle.sqlite.specs.Held.{state};
 ghost use Rattle.sqlite.specs.State.{HasCleanDisk, Survives};
 ghost use Rattle.std.specs.List.{AllByRecursion};
-ghost use Rattle.tenant_tables.specs.Layout.{maps_table, devices_table, pools_table};
+ghost use Rattle.sqlite_trees.specs.View.{IsClean};
+ghost use Rattle.tenant_tables.specs.Layout.{no_schema, store_schema, maps_table, devices_table, pools_table};
+ghost use Rattle.tenant_tables.specs.Run.{HasVersion, IsBare};
 ghost use Rattle.tenant_tables.specs.Holds.{IsAbsent, of_tenant};
 ghost use Rattle.tenant_tables.specs.Found.{Names, Lists, receipts_with, AreReceipt, IsReceiptRow, version_values, pool_values, IsVersionRow, IsStateRow, IsPoolRow};
 ghost use Rattle.tenant_tables.specs.Change.{Accepts, Creates, Drops, IsNumber, with_version, with_states, with_pool, without_pool, state_row};
@@ -13,8 +15,10 @@ use crate::commit::{commit_no_pool, commit_pool, commit_states, commit_version};
 use crate::create::create;
 use crate::find::{Tenant, find};
 use crate::lists::{devices_of, pools_of, receipt_of, versions_of};
+use crate::open::{get_ready, set_up};
 use crate::refuse::Fault;
 use crate::remove::remove;
+use crate::reopen::reopen;
 use crate::rows::{PoolRow, ReceiptRow, VersionRow};
 use crate::write::{Pool, Receipt, State};
 use sqlite::{Alter, Connection};
@@ -45,7 +49,59 @@ impl<S: Alter> Model for Tables<S> {
     ghost invariant = { λ s. (s.conn.in_transaction ≡ false) × (s.is_latched ≡ false → HasCleanDisk (state S.Store s.conn) → IsReady (state S.Store s.conn)) };
 }
 
+impl<S: Alter + Drop> Tables<S> {
+    /// The tables of a connection. They are made where the database has none, and else tested: the
+    /// whole schema, its version, and that rows stand by their rowids. So what the other calls
+    /// rest on holds of each file that this opens, and no caller has to know where it came from.
+    ///
+    /// `Err((Fault::Damaged, store))`: the tables are another's, or of another version. Nothing is
+    /// changed. `Err((Fault::NoMemory, store))`, `Err((Fault::Full, store))`,
+    /// `Err((Fault::Failed, store))`: no row is changed, and the tables may have been made.
+    pub fn open(alloc: Global, conn: Connection<S>) -> Result<Tables<S>, (Fault, S)>
+        requires autocommit { conn.in_transaction ≡ false }
+        requires open { HasCleanDisk (state S.Store conn) → IsTrue (state S.Store conn).is_open }
+        requires settled { HasCleanDisk (state S.Store conn) → (state S.Store conn).now ≡ (state S.Store conn).committed }
+        ensures live { IfOk result (λ tables. tables.1 ≡ false) }
+        ensures made { IfOk result (λ tables. HasCleanDisk (state S.Store tables.0) → (state S.Store conn).now.schema ≡ no_schema → IsBare (state S.Store tables.0).now) }
+        ensures adopted { IfOk result (λ tables. HasCleanDisk (state S.Store tables.0) → (state S.Store conn).now.schema ≢ no_schema
+            → ((state S.Store conn).now.schema ≡ store_schema) × ((state S.Store tables.0).now.trees ≡ (state S.Store conn).now.trees) × HasVersion (state S.Store conn).now.trees) }
+        ensures alone { IfOk result (λ tables. HasCleanDisk (state S.Store tables.0) → (db : _) → (state S.Store tables.0).may_leave db → db ≡ (state S.Store tables.0).now.trees) }
+        ensures damaged { IfErr result (λ e. IsClean (S.Store.view e.1) → e.0 ≡ Fault.Damaged → ((state S.Store conn).now.schema ≢ no_schema) × ((state S.Store conn).now.schema ≡ store_schema → ¬ HasVersion (state S.Store conn).now.trees)) }
+        ensures crash { IfErr result (λ e. IsClean (S.Store.view e.1) → (trees : _) → S.Store.recovers e.1 trees
+            → (state S.Store conn).may_leave trees ⊎ (((state S.Store conn).now.schema ≡ no_schema) × ((db : _) × IsBare db × (trees ≡ db.trees)))) }
+    {
+        let mut conn = conn;
+        if let Err(fault) = set_up(&mut conn) {
+            return Err((fault, conn.into_store()));
+        }
+        let mut conn = match reopen(alloc, conn) {
+            Ok(conn) => conn,
+            Err((fault, store)) => return Err((fault, store)),
+        };
+        match get_ready(&mut conn) {
+            Ok(()) => Ok(Tables {
+                conn,
+                alloc,
+                is_latched: false,
+            }),
+            Err(fault) => Err((fault, conn.into_store())),
+        }
+    }
+}
+
 impl<S: Alter> Tables<S> {
+    /// Gives the connection back, as it stands.
+    pub fn close(self) -> Connection<S>
+        ensures { result ≡ self.0 }
+    {
+        let Tables {
+            conn,
+            alloc: _,
+            is_latched: _,
+        } = self;
+        conn
+    }
+
     /// Whether a call has failed for good.
     pub fn is_latched(&self) -> bool
         ensures { result ≡ self.now.1 }

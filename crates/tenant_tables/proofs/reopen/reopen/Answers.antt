@@ -38,3 +38,11 @@ returns-else-is_ours-clause-crash g c clean db left =
     let same : db ≡ (g.S.Store.view c.args.conn.store).committed =
     g.met.S.Store.settled c.in-Ok.conn.store db both.0.is_open (c.into_store.ensures.quiet.outcomes db left) ∙ ap (λ (d : Database). d.trees) (sym both.0.clean) ∙ c.in-Ok.ensures.trees late ∙ (c.into_store-store.ensures.undone.undone is_open).0 in
     subst (λ (d : Trees). g.S.Store.recovers c.args.conn.store d) (sym same) (g.met.S.Store.stays c.args.conn.store was_open)
+
+pub returns-then-is_ours-clause-left : goal.returns-then-is_ours-clause-left
+returns-then-is_ours-clause-left g c clean =
+    let store = c.into_store-store.result in
+    let early : IsClean (g.S.Store.view store) = omega (arith, clean, c.in-Ok.ensures.clean) in
+    let is_open = open_store g.S.Store g.met.S.Store.broken_if_shut store (c.are_rows.ensures.sound c.if-not-are_rows.false early) in
+    let was_open = (c.into_store-store.ensures.undone.kept early).was_open is_open in
+    subst (λ (d : Trees). g.S.Store.recovers c.args.conn.store d) (sym (c.in-Ok.ensures.trees clean ∙ (c.into_store-store.ensures.undone.undone is_open).0)) (g.met.S.Store.stays c.args.conn.store was_open)
