@@ -63,8 +63,8 @@ fn unanswered(
     Ok(count)
 }
 
-/// Nothing is kept, one of the tenants is, or all are.
-const BOUNDS: [u64; 3] = [0, 30_000, 1_000_000];
+/// Nothing is kept, one tenant with its map is, or all are.
+const BOUNDS: [u64; 3] = [0, 15_000, 1_000_000];
 
 #[test]
 fn a_call_that_fails_changes_no_other_reply(rt: HostRuntime) -> Result<(), Fail> {
