@@ -23,7 +23,7 @@ invariant_of-change c =
     let number : c.in_ok-copy-4.field-0 ≡ c.command.inside.number = c.in_ok-copy-4.ensures ∙ c.as_str-2.ensures in
     let kept = c.in_ok-new.ensures.ok in record {
       made = c.requires.made;
-      receipt = receipt_is _ _ (ap has_length number ∙ c.command.invariant.number) (ap is_utf8 number ∙ c.command.invariant.number_text)
+      receipt = receipt_is c.in_ok-copy-4.field-0 c.in_ok-new.field-0.value (ap has_length number ∙ c.command.invariant.number) (ap is_utf8 number ∙ c.command.invariant.number_text)
           (ap (λ (r : Receipt). is_utf8 r.path) kept ∙ (ap is_utf8 c.in_ok-copy.ensures ∙ c.command.invariant.path_text))
           (ap (λ (r : Receipt). is_utf8 r.body) kept ∙ (ap is_utf8 c.in_ok-copy-2.ensures ∙ c.command.invariant.body_text))
           (ap (λ (r : Receipt). is_utf8 r.reply) kept ∙ (ap is_utf8 c.in_ok-copy-3.ensures ∙ is_utf8-from_IsUtf8 c.as_str.result.now c.as_str.utf8));
