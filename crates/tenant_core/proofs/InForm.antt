@@ -8,7 +8,6 @@ use Rattle.std.specs.Prelude.{codes}
 use Rattle.serde_json.specs.Data.{Data}
 use Rattle.crush_choose.specs.declared.weights.TheConstants.{FULL}
 use Rattle.crush_map.specs.declared.limits.TheConstants.{NUMBER_LIMIT}
-use Rattle.crush_pool.specs.Pools.{is_pool}
 use Rattle.crush_pool.specs.declared.changes.DeviceChange.{DeviceChange}
 use Rattle.crush_pool.specs.declared.pool.PoolParts.{PoolParts}
 use Rattle.crush_report.specs.DeviceCsv.{IsChangeRecord, IsNumber, Says}
@@ -20,11 +19,9 @@ use Rattle.tenant_reports.proofs.CsvForms.{finds_changes as finds_csv_changes}
 use Rattle.tenant_reports.specs.DeviceCsv.{device_csv_request_of}
 use Rattle.tenant_resources.proofs.DeviceForms.{finds_changes}
 use Rattle.tenant_resources.proofs.DeviceRanges.{changes_in_range}
-use Rattle.tenant_resources.proofs.PoolForms.{finds_pool, finds_removal}
-use Rattle.tenant_resources.proofs.TestForms.{finds_import}
+use Rattle.tenant_resources.proofs.PoolForms.{finds_pool}
 use Rattle.tenant_resources.specs.Devices.{devices_request_of, is_in_range}
-use Rattle.tenant_resources.specs.Maps.{import_request_of}
-use Rattle.tenant_resources.specs.Pools.{pool_request_of, removal_request_of}
+use Rattle.tenant_resources.specs.Pools.{pool_request_of}
 
 -- ---- request numbers
 
@@ -35,20 +32,8 @@ number_in_form d number is =
     let least : nat_le 1 (length number) ≡ true = grind (arith, nat_tests, some) in
     let most : nat_le (length number) REQUEST_NUMBER_LIMIT ≡ true = grind (arith, nat_tests, few) in rw (least, most) refl
 
-pub import_number : (body : List ℕ) (asked : List ℕ × List ℕ) → import_request_of body ≡ Some asked → has_length asked.0 ≡ true
-import_number body asked h = let is = (json_finds finds_import body asked).0 h in number_in_form is.value asked.0 is.says.request
-
-pub changes_number : (body : List ℕ) (asked : List ℕ × List DeviceChange) → devices_request_of body ≡ Some asked → has_length asked.0 ≡ true
-changes_number body asked h = let is = (json_finds finds_changes body asked).0 h in number_in_form is.value asked.0 is.says.request
-
-pub csv_number : (body : List ℕ) (asked : List ℕ × List DeviceChange) → device_csv_request_of body ≡ Some asked → has_length asked.0 ≡ true
-csv_number body asked h = let is = (json_finds finds_csv_changes body asked).0 h in number_in_form is.value asked.0 is.says.request
-
 pub pool_number : (body : List ℕ) (asked : List ℕ × PoolParts) → pool_request_of body ≡ Some asked → has_length asked.0 ≡ true
 pool_number body asked h = let is = (json_finds finds_pool body asked).0 h in number_in_form is.value asked.0 is.says.request
-
-pub removal_number : (body : List ℕ) (asked : List ℕ × ℕ) → removal_request_of body ≡ Some asked → has_length asked.0 ≡ true
-removal_number body asked h = let is = (json_finds finds_removal body asked).0 h in number_in_form is.value asked.0 is.says.request
 
 -- ---- orders
 
@@ -75,6 +60,3 @@ records_in_range (r ∷ rs) (c ∷ cs) is = let one = record_in_range r c is.0 i
 pub csv_order : (body : List ℕ) (asked : List ℕ × List DeviceChange) → device_csv_request_of body ≡ Some asked → list_all is_in_range asked.1 ≡ true
 csv_order body asked h =
     let is = (json_finds finds_csv_changes body asked).0 h in let says = is.says.csv.says.says in records_in_range says.rows asked.1 says.each
-
-pub pool_order : (body : List ℕ) (asked : List ℕ × PoolParts) → pool_request_of body ≡ Some asked → is_pool asked.1 ≡ true
-pool_order body asked h = ((json_finds finds_pool body asked).0 h).says.ranges
