@@ -19,7 +19,7 @@ use Rattle.sqlite.proofs.Callers.{IsPlain, command_of, reads_as, one_permutation
 use Rattle.tenant_tables.specs.Layout.{store_schema}
 use Rattle.tenant_tables.specs.Holds.{tenants_of, AreTables}
 use Rattle.tenant_tables.specs.Found.{head_of, Names}
-use Rattle.tenant_tables.specs.Run.{Keeps, Rests, IsReady, Remains}
+use Rattle.tenant_tables.specs.Run.{Rests, IsReady, Remains}
 use Rattle.tenant_tables.proofs.Statements.{plain_query, equals}
 use Rattle.tenant_tables.proofs.Raising.{staged_is}
 use Rattle.sqlite.specs.Effect.{Database, IsDatabase}

@@ -16,5 +16,6 @@ pub mod Asking
 pub mod Columns
 pub mod Tested
 pub mod Opening
+pub mod Paging
 pub mod Rising
 pub mod Listing

@@ -1,6 +1,5 @@
 -- What the queries of a tenant's rows answer.
-use Rattle.std.proofs.Common.{◌≡◌, ◌≢◌, ℕ, ℤ, pos, negsuc, List, [], ◌∷◌, map, filter, Bool, true, cond, ◌&&◌, codes, false, Option, Some, None, Result, Ok, Err, IfOk, IfSome, length, arith, Equal, Ordering, Less, refl, sym, ap, subst, ◌∙◌, map-id}
-use Rattle.std.specs.List.{AllByRecursion}
+use Rattle.std.proofs.Common.{◌≡◌, ◌≢◌, ℕ, ℤ, pos, negsuc, List, [], ◌∷◌, map, filter, Bool, true, cond, ◌&&◌, codes, false, Option, Some, None, Result, Ok, Err, IfOk, IfSome, length, arith, Equal, Less, refl, sym, ap, subst, ◌∙◌, map-id}
 use Rattle.std.specs.List.Sorted.{IsPermutation}
 use Rattle.std.specs.Ordering.{ordering_then}
 use Rattle.std.proofs.lemmas.List.Sorted.{IsPermutation-map, IsPermutation-trans, IsPermutation-sym, length_permutation}
@@ -25,7 +24,7 @@ use Rattle.sqlite.specs.State.{State, Shown}
 use Rattle.sqlite.proofs.Callers.{IsPlain, command_of, reads_as, one_permutation}
 use Rattle.tenant_tables.specs.Layout.{store_schema, maps_table, devices_table, pools_table, receipts_table}
 use Rattle.tenant_tables.specs.Holds.{rows_with, values_of, of_tenant}
-use Rattle.tenant_tables.specs.Found.{IsRising, Lists, AreOrdered, receipts_with, receipt_values, AreReceipt, IsReceiptRow}
+use Rattle.tenant_tables.specs.Found.{IsRising, AreOrdered, receipts_with, receipt_values, AreReceipt, IsReceiptRow}
 use Rattle.tenant_tables.specs.declared.refuse.Fault.{Fault}
 use Rattle.tenant_tables.specs.declared.rows.ReceiptRow.{ReceiptRow}
 use Rattle.tenant_tables.proofs.Statements.{plain_query, equals}
@@ -46,13 +45,13 @@ ordered_query tree project = record {
   offset = lit (Int (pos 0));
 }
 
-abbrev by_key : Row → Output
+abbrev pub by_key : Row → Output
 by_key row = (column row 0 ∷ [], row)
 
-back : (rows : List Row) → map (λ (o : Output). o.1) (map by_key rows) ≡ rows
+pub back : (rows : List Row) → map (λ (o : Output). o.1) (map by_key rows) ≡ rows
 back rows = map-map (λ (o : Output). o.1) by_key rows ∙ map-id rows
 
-no_tie : (a b : Row) → value_cmp (column a 0) (column b 0) ≡ Less → ordering_then (value_cmp (column a 0) (column b 0)) Equal ≡ Less
+pub no_tie : (a b : Row) → value_cmp (column a 0) (column b 0) ≡ Less → ordering_then (value_cmp (column a 0) (column b 0)) Equal ≡ Less
 no_tie a b less = ap (λ o. ordering_then o Equal) less
 
 module _ (tree : ℕ) (project : List Term) where
@@ -137,7 +136,7 @@ unfolding understood everything
 receipt_is = (refl, refl, (refl, refl))
 
 -- the rows that pass two tests
-filter_two : (p q : Row → Bool) (rows : List Row) → filter (λ r. p r && q r) rows ≡ filter q (filter p rows)
+pub filter_two : (p q : Row → Bool) (rows : List Row) → filter (λ r. p r && q r) rows ≡ filter q (filter p rows)
 filter_two p q [] = refl
 filter_two p q (r ∷ rows) = go (p r) (filter_two p q rows)
   where

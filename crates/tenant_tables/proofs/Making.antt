@@ -1,5 +1,5 @@
 -- How the tables are made.
-use Rattle.std.proofs.Common.{◌≡◌, ℕ, pos, List, [], ◌∷◌, map, true, false, None, Ok, Err, Result, refl, sym, ap, subst, ◌∙◌}
+use Rattle.std.proofs.Common.{◌≡◌, ℕ, pos, List, [], ◌∷◌, map, true, false, None, Ok, refl, sym, ap, subst, ◌∙◌}
 use Rattle.sqlite_value.specs.declared.value.Value.TheVariants.{Null, Int}
 use Rattle.sqlite_value.specs.Order.{Row, column}
 use Rattle.sqlite_trees.specs.Tree.{put_row}
@@ -12,13 +12,12 @@ use Rattle.sqlite.specs.Command.TheVariants.{CreateTable}
 use Rattle.sqlite.specs.Compile.{table_defined_by}
 use Rattle.sqlite.specs.Change.{created, next_tree}
 use Rattle.sqlite.specs.Does.{Tally, MakesTable, sequence_text, lacks_sequence}
-use Rattle.sqlite.specs.Effect.{Database, IsDatabase}
-use Rattle.sqlite.specs.State.{State, IsUnchanged, Writes, Executes}
+use Rattle.sqlite.specs.Effect.{Database}
+use Rattle.sqlite.specs.State.{State, Writes, Executes}
 use Rattle.sqlite.proofs.Callers.{runs_as}
 use Rattle.tenant_tables.specs.Layout.{no_schema, info, tenants, sequence, maps, devices, pools, receipts, schema_with_info, schema_with_tenants, schema_with_maps, schema_with_devices, schema_with_pools, store_schema, info_table}
-use Rattle.tenant_tables.specs.declared.refuse.Fault.{Fault}
 use Rattle.tenant_tables.specs.Holds.{AreTables}
-use Rattle.tenant_tables.specs.Run.{IsBare, IsOurs, IsReady, Stays}
+use Rattle.tenant_tables.specs.Run.{IsBare}
 use Rattle.tenant_tables.proofs.Statements.{Makes, info_text, tenants_text, maps_text, devices_text, pools_text, receipts_text, version_text, info_is, tenants_are, sequence_is, maps_are, devices_are, pools_are, receipts_are, version_is}
 use Rattle.tenant_tables.proofs.Inserting.{went, same_value, unlike, cast_null, cast_int, inserts, adds, Added}
 
@@ -115,27 +114,3 @@ bare_tables db bare = record {
   tenants = rw bare.tenants (tt, tt);
   others = (rw bare.others.0 (tt, tt), (rw bare.others.1.0 (tt, tt), (rw bare.others.1.1.0 (tt, tt), (rw bare.others.1.1.1.0 (tt, tt), tt))));
 }
-
-no_tables : no_schema ≡ store_schema → ⊥
-no_tables e = let none : [] ≡ store_schema.tables = ap (λ (s : Schema). s.tables) e in absurd cc
-
--- tables that are there are adopted as they are
-pub adopted : (old mid new : State) → IsOurs old.now → IsDatabase old.now → old.now ≡ old.committed → Stays old mid → IsUnchanged mid new → IsReady new × (new.now ≡ old.now)
-adopted old mid new ours sound settled stays same =
-    let now : new.now ≡ old.now = same.0.now_is ∙ stays.now in
-    let committed : new.committed ≡ old.now = same.0.committed_is ∙ stays.committed ∙ sym settled in (
-      record {
-        is_open = same.0.is_open;
-        schema = ap (λ (db : Database). db.schema) now ∙ ours.schema;
-        tables = subst (λ (db : Database). AreTables db.trees) (sym now) ours.tables;
-        sound = subst IsDatabase (sym now) sound;
-        settled = now ∙ sym committed;
-      },
-      now,
-    )
-
-pub not_empty : (s : Schema) → s ≡ no_schema → s ≡ store_schema → ⊥
-not_empty s none ours = no_tables (sym none ∙ ours)
-
-pub no_failure : (x : Unit {0}) (fault : Fault) → ◌≡◌ {A = Result (Unit {0}) Fault} (Ok x) (Err fault) → ⊥
-no_failure x fault same = absurd (let e = same in cc)

@@ -1,5 +1,5 @@
 -- Lists that rise from each element to the next.
-use Rattle.std.proofs.Common.{◌≡◌, ◌⊎◌, inl, inr, ℕ, ℤ, suc, zero, ◌+◌, ◌<◌, List, [], ◌∷◌, length, get_or, Bool, true, false, T, IsTrue, Ordering, Less, Equal, Greater, is_lt, nat_cmp, true≢false, refl, sym, ap, subst, subst₂, ◌∙◌, arith}
+use Rattle.std.proofs.Common.{◌≡◌, ◌⊎◌, inl, inr, ℕ, ℤ, suc, zero, ◌<◌, List, [], ◌∷◌, length, get_or, Bool, true, false, T, IsTrue, Ordering, Less, Equal, Greater, is_lt, nat_cmp, true≢false, refl, sym, ap, subst, subst₂, ◌∙◌, arith}
 use Rattle.std.specs.Int.Signed.{lt_z, lt_z_yes, ◌<ℤ◌}
 use Rattle.std.specs.Cmp.Lexicographic.{slice_cmp}
 use Rattle.std.specs.Ordering.{MatchOrdering}

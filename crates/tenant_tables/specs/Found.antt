@@ -1,5 +1,7 @@
 -- What reads of the tables find.
-use Rattle.std.specs.Prelude.{◌≡◌, ℕ, ℤ, List, [], ◌∷◌, Option, Some, None, IsPermutation, IsUtf8, string_bytes}
+use Rattle.std.specs.Prelude.{◌≡◌, ℕ, ℤ, List, [], ◌∷◌, ◌++◌, ◌⊎◌, ◌≤◌, length, filter, false, Option, Some, None, IsPermutation, IsUtf8, string_bytes}
+use Rattle.std.specs.List.{AllByRecursion}
+use Rattle.std.specs.Ordering.{is_gt}
 use Rattle.std.specs.declared.cmp.Ordering.TheVariants.{Less}
 use Rattle.sqlite_value.specs.declared.value.Value.TheVariants.{Int, Text as Words}
 use Rattle.sqlite_value.specs.Order.{Row, column, value_cmp}
@@ -94,3 +96,30 @@ AreReceipt rows (Some receipt) = rows ≡ receipt_values receipt ∷ []
 pub record AreOrdered (all rows : List Row) : Type 0 where
   pub same : IsPermutation all rows
   pub in_order : (list : List Row) → Lists all list → rows ≡ list
+
+-- the rows whose first value is above a text, as SQL orders values
+abbrev pub rows_above : List ℕ → List Row → List Row
+rows_above after rows = filter (λ row. is_gt (value_cmp (column row 0) (Words after))) rows
+
+-- The page is the first so many of these rows in the order of the keys, or all of them.
+pub record Begins (most : ℕ) (all page : List Row) : Type 0 where
+  pub rest : List Row
+  pub same : IsPermutation all (page ++ rest)
+  pub rising : IsRising page
+  pub above : AllByRecursion (λ row. AllByRecursion (λ later. value_cmp (column row 0) (column later 0) ≡ Less) rest) page
+  pub whole : (rest ≡ []) ⊎ (length page ≡ most)
+
+-- The rows are the first so many of these in an order of the keys, which is the strict one where no
+-- key stands twice.
+pub record AreFirst (most : ℕ) (all rows : List Row) : Type 0 where
+  pub rest : List Row
+  pub short : length rows ≤ most
+  pub same : IsPermutation all (rows ++ rest)
+  pub sorted : IsAscending (λ a b. is_gt (value_cmp (column a 0) (column b 0)) ≡ false) (rows ++ rest)
+  pub in_order : (list : List Row) → Lists all list → rows ++ rest ≡ list
+  pub whole : (rest ≡ []) ⊎ (length rows ≡ most)
+
+-- The rows rise, and all of them are on the page, or all but the last of them, which are 16.
+pub record IsPageOf (rows page : List Row) : Type 0 where
+  pub rising : IsRising rows
+  pub split : (rows ≡ page) × (length page ≤ 16) ⊎ ((last : Row) × (rows ≡ page ++ last ∷ []) × (16 ≤ length page))

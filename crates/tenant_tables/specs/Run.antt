@@ -127,11 +127,6 @@ pub record IsBare (db : Database) : Type 0 where
   pub others : AllByRecursion (λ table. db.trees table.tree ≡ []) tables_of_tenants
   pub sound : IsDatabase db
 
--- tables that this service has written
-pub record IsOurs (db : Database) : Type 0 where
-  pub schema : db.schema ≡ store_schema
-  pub tables : AreTables db.trees
-
 -- The connection is open, and shows and has committed what it did.
 pub record Stays (old new : Shown) : Type 0 where
   pub is_open : IsTrue new.is_open

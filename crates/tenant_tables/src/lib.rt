@@ -7,6 +7,7 @@ pub mod create;
 pub mod find;
 pub mod lists;
 pub mod open;
+pub mod pages;
 pub mod refuse;
 pub mod remove;
 pub mod reopen;

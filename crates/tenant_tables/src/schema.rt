@@ -236,7 +236,17 @@ fn are_columns_of_pools(columns: &[Column]) -> bool
     ensures { IsTrue result ↔ columns.now ≡ pools_table.columns }
 {
     match columns {
-        [tenant, id, name, erasure, size, rule, pg_num, pgp_num, hashpspool] => {
+        [
+            tenant,
+            id,
+            name,
+            erasure,
+            size,
+            rule,
+            pg_num,
+            pgp_num,
+            hashpspool,
+        ] => {
             if !is_needed(tenant, "tenant", Kind::Integer) {
                 return false;
             }
@@ -314,8 +324,7 @@ fn are_columns_of_info(columns: &[Column]) -> bool
 {
     match columns {
         [one, version] => {
-            is_needed(one, "one", Kind::Integer)
-                && is_needed(version, "version", Kind::Integer)
+            is_needed(one, "one", Kind::Integer) && is_needed(version, "version", Kind::Integer)
         }
         _ => false,
     }

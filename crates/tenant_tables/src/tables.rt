@@ -5,10 +5,10 @@ ghost use Rattle.sqlite.specs.Held.{state};
 ghost use Rattle.sqlite.specs.State.{HasCleanDisk, Survives};
 ghost use Rattle.std.specs.List.{AllByRecursion};
 ghost use Rattle.sqlite_trees.specs.View.{IsClean};
-ghost use Rattle.tenant_tables.specs.Layout.{no_schema, store_schema, maps_table, devices_table, pools_table};
+ghost use Rattle.tenant_tables.specs.Layout.{no_schema, store_schema, maps_table, devices_table, pools_table, receipts_table};
 ghost use Rattle.tenant_tables.specs.Run.{HasVersion, IsBare};
 ghost use Rattle.tenant_tables.specs.Holds.{IsAbsent, of_tenant};
-ghost use Rattle.tenant_tables.specs.Found.{Names, Lists, receipts_with, AreReceipt, IsReceiptRow, version_values, pool_values, IsVersionRow, IsStateRow, IsPoolRow};
+ghost use Rattle.tenant_tables.specs.Found.{Names, Lists, Begins, rows_above, receipt_values, receipts_with, AreReceipt, IsReceiptRow, version_values, pool_values, IsVersionRow, IsStateRow, IsPoolRow};
 ghost use Rattle.tenant_tables.specs.Change.{Accepts, Creates, Drops, IsNumber, with_version, with_states, with_pool, without_pool, state_row};
 
 use crate::commit::{commit_no_pool, commit_pool, commit_states, commit_version};
@@ -16,6 +16,7 @@ use crate::create::create;
 use crate::find::{Tenant, find};
 use crate::lists::{devices_of, pools_of, receipt_of, versions_of};
 use crate::open::{get_ready, set_up};
+use crate::pages::{first_receipts, receipts_after};
 use crate::refuse::Fault;
 use crate::remove::remove;
 use crate::reopen::reopen;
@@ -276,8 +277,8 @@ impl<S: Alter> Tables<S> {
 
     /// The tenant with the name, or `None` where there is none.
     ///
-    /// No row is changed. `Err(Fault::Damaged)`: there are several, or the row is none of this service's.
-    /// `Err(Fault::Failed)`: the tables are latched.
+    /// No row is changed. `Err(Fault::Damaged)`: there are several, or the row is none of this
+    /// service's. `Err(Fault::Failed)`: the tables are latched.
     pub fn find(&mut self, name: &str) -> Result<Option<Tenant>, Fault>
         requires live { self.old.1 ≡ false }
         ensures found { HasCleanDisk (state S.Store self.new.0) → IfOk result (Names (state S.Store self.old.0).now.trees name.now) }
@@ -359,8 +360,8 @@ impl<S: Alter> Tables<S> {
 
     /// The receipt of the request of the tenant with the number, or `None` where there is none.
     ///
-    /// No row is changed. `Err(Fault::Damaged)`: there are several, or the row is none of this service's.
-    /// `Err(Fault::Failed)`: the tables are latched.
+    /// No row is changed. `Err(Fault::Damaged)`: there are several, or the row is none of this
+    /// service's. `Err(Fault::Failed)`: the tables are latched.
     pub fn receipt_of(&mut self, id: i64, request: &str) -> Result<Option<ReceiptRow>, Fault>
         requires live { self.old.1 ≡ false }
         ensures found { HasCleanDisk (state S.Store self.new.0) → IfOk result (AreReceipt (receipts_with (state S.Store self.old.0).now.trees id request.now)) }
@@ -371,6 +372,48 @@ impl<S: Alter> Tables<S> {
         ensures crash { Survives (state S.Store self.old.0) (state S.Store self.new.0) (λ _. ⊥) }
     {
         let found = receipt_of(&mut self.conn, id, request);
+        if let Err(fault) = &found {
+            self.is_latched = *fault == Fault::Failed;
+        }
+        found
+    }
+
+    /// The first receipts of the tenant with the number, in the order of their requests' bytes: a
+    /// page, or fewer where there are no more.
+    ///
+    /// No row is changed. `Err(Fault::Damaged)`: a request stands twice, or a row is none of this
+    /// service's. `Err(Fault::Failed)`: the tables are latched.
+    pub fn first_receipts(&mut self, id: i64) -> Result<Vec<ReceiptRow>, Fault>
+        requires live { self.old.1 ≡ false }
+        ensures found { HasCleanDisk (state S.Store self.new.0) → IfOk result (λ page. Begins 16 (of_tenant receipts_table id (state S.Store self.old.0).now.trees) (map receipt_values page.items)) }
+        ensures damaged { HasCleanDisk (state S.Store self.new.0) → result ≡ Err Fault.Damaged → (list : _) → AllByRecursion IsReceiptRow list → ¬ Lists (of_tenant receipts_table id (state S.Store self.old.0).now.trees) list }
+        ensures full { result ≢ Err Fault.Full }
+        ensures kept { HasCleanDisk (state S.Store self.new.0) → self.new.1 ≡ false → (state S.Store self.new.0).now ≡ (state S.Store self.old.0).now }
+        ensures latches { self.new.1 ≡ true ↔ result ≡ Err Fault.Failed }
+        ensures crash { Survives (state S.Store self.old.0) (state S.Store self.new.0) (λ _. ⊥) }
+    {
+        let found = first_receipts(self.alloc, &mut self.conn, id);
+        if let Err(fault) = &found {
+            self.is_latched = *fault == Fault::Failed;
+        }
+        found
+    }
+
+    /// The first of its receipts whose requests are above `after`: a page, or fewer where there are
+    /// no more. With the last request of a page it gives the next page.
+    ///
+    /// No row is changed. `Err(Fault::Damaged)`: a request stands twice, or a row is none of this
+    /// service's. `Err(Fault::Failed)`: the tables are latched.
+    pub fn receipts_after(&mut self, id: i64, after: &str) -> Result<Vec<ReceiptRow>, Fault>
+        requires live { self.old.1 ≡ false }
+        ensures found { HasCleanDisk (state S.Store self.new.0) → IfOk result (λ page. Begins 16 (rows_above after.now (of_tenant receipts_table id (state S.Store self.old.0).now.trees)) (map receipt_values page.items)) }
+        ensures damaged { HasCleanDisk (state S.Store self.new.0) → result ≡ Err Fault.Damaged → (list : _) → AllByRecursion IsReceiptRow list → ¬ Lists (rows_above after.now (of_tenant receipts_table id (state S.Store self.old.0).now.trees)) list }
+        ensures full { result ≢ Err Fault.Full }
+        ensures kept { HasCleanDisk (state S.Store self.new.0) → self.new.1 ≡ false → (state S.Store self.new.0).now ≡ (state S.Store self.old.0).now }
+        ensures latches { self.new.1 ≡ true ↔ result ≡ Err Fault.Failed }
+        ensures crash { Survives (state S.Store self.old.0) (state S.Store self.new.0) (λ _. ⊥) }
+    {
+        let found = receipts_after(self.alloc, &mut self.conn, id, after);
         if let Err(fault) = &found {
             self.is_latched = *fault == Fault::Failed;
         }

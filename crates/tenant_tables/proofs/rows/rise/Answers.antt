@@ -1,5 +1,4 @@
-use Rattle.std.proofs.Common.{rules, ◌≡◌, ◌-◌, ◌<◌, suc, length, get_or, IsTrue, true≢false, Less, refl, sym, ap, subst, subst₂, ◌∙◌, arith}
-use Rattle.std.proofs.lemmas.List.{get_or_default}
+use Rattle.std.proofs.Common.{◌≡◌, ◌-◌, ◌<◌, suc, length, get_or, IsTrue, true≢false, Less, refl, sym, ap, subst₂, ◌∙◌, arith}
 use Rattle.sqlite_value.specs.Order.{column, value_cmp}
 use Rattle.sqlite_value.proofs.OrderLemmas.{value_cmp_total}
 use Rattle.sqlite_keyed.proofs.ListLemmas.{ascending-map, ascending_from_map}

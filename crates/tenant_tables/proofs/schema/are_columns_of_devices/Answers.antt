@@ -1,4 +1,4 @@
-use Rattle.std.proofs.Common.{rules, ◌≡◌, length, get_or, true≢false, sym, ap, ◌∙◌, arith}
+use Rattle.std.proofs.Common.{◌≡◌, length, get_or, ap, ◌∙◌, arith}
 use Rattle.tenant_tables.proofs.Columns.{of_4}
 use Rattle.tenant_tables.proofs.schema.are_columns_of_devices.Goals as goal
 
@@ -12,5 +12,5 @@ returns-else-not-is_needed-3 c = (
       c.device-item.is (c.is_needed-in-len4.ensures.0 c.if-not-is_needed-2.false)
       c.reweight-item.is (c.is_needed-in-len4-2.ensures.0 c.if-not-is_needed-3.false)
       c.up-item.is (c.is_needed-in-len4-3.ensures.0 last),
-  λ is. c.is_needed-in-len4-3.ensures.1 (c.up-item.is ∙ ap (λ l. get_or l 3 c.up-item.result) is)
+  λ is. c.is_needed-in-len4-3.ensures.1 (c.up-item.is ∙ ap (λ l. get_or l 3 c.up-item.result) is),
 )

@@ -1,4 +1,4 @@
-use Rattle.std.proofs.Common.{rules, ◌≡◌, length, get_or, true≢false, sym, ap, ◌∙◌, arith}
+use Rattle.std.proofs.Common.{◌≡◌, length, get_or, ap, ◌∙◌, arith}
 use Rattle.tenant_tables.proofs.Columns.{of_9}
 use Rattle.tenant_tables.proofs.schema.are_columns_of_pools.Goals as goal
 
@@ -17,5 +17,5 @@ returns-else-not-is_needed-8 c = (
       c.pg_num-item.is (c.is_needed-in-len9-6.ensures.0 c.if-not-is_needed-7.false)
       c.pgp_num-item.is (c.is_needed-in-len9-7.ensures.0 c.if-not-is_needed-8.false)
       c.hashpspool-item.is (c.is_needed-in-len9-8.ensures.0 last),
-  λ is. c.is_needed-in-len9-8.ensures.1 (c.hashpspool-item.is ∙ ap (λ l. get_or l 8 c.hashpspool-item.result) is)
+  λ is. c.is_needed-in-len9-8.ensures.1 (c.hashpspool-item.is ∙ ap (λ l. get_or l 8 c.hashpspool-item.result) is),
 )

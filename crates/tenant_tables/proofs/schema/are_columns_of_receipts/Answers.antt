@@ -1,4 +1,4 @@
-use Rattle.std.proofs.Common.{rules, ◌≡◌, length, get_or, true≢false, sym, ap, ◌∙◌, arith}
+use Rattle.std.proofs.Common.{◌≡◌, length, get_or, ap, ◌∙◌, arith}
 use Rattle.tenant_tables.proofs.Columns.{of_6}
 use Rattle.tenant_tables.proofs.schema.are_columns_of_receipts.Goals as goal
 
@@ -14,5 +14,5 @@ returns-else-not-is_needed-5 c = (
       c.body-item.is (c.is_needed-in-len6-3.ensures.0 c.if-not-is_needed-4.false)
       c.status-item.is (c.is_needed-in-len6-4.ensures.0 c.if-not-is_needed-5.false)
       c.reply-item.is (c.is_needed-in-len6-5.ensures.0 last),
-  λ is. c.is_needed-in-len6-5.ensures.1 (c.reply-item.is ∙ ap (λ l. get_or l 5 c.reply-item.result) is)
+  λ is. c.is_needed-in-len6-5.ensures.1 (c.reply-item.is ∙ ap (λ l. get_or l 5 c.reply-item.result) is),
 )

@@ -1,4 +1,4 @@
-use Rattle.std.proofs.Common.{rules, ◌≡◌, length, get_or, true≢false, sym, ap, ◌∙◌, arith}
+use Rattle.std.proofs.Common.{◌≡◌, length, get_or, true≢false, sym, ap, ◌∙◌, arith}
 use Rattle.std.specs.Fmt.{digits}
 use Rattle.tenant_tables.proofs.Columns.{of_6}
 use Rattle.tenant_tables.proofs.schema.are_indexes.Goals as goal
@@ -7,14 +7,14 @@ pub returns-then-not-is_automatic : goal.returns-then-not-is_automatic
 unfolding digits
 returns-then-not-is_automatic c = (
   λ no. absurd (true≢false (sym no)),
-  λ is. absurd (true≢false (sym (c.is_automatic.ensures.1 (c.tenants-item.is ∙ ap (λ l. get_or l 0 c.tenants-item.result) is)) ∙ c.if-not-is_automatic.true))
+  λ is. absurd (true≢false (sym (c.is_automatic.ensures.1 (c.tenants-item.is ∙ ap (λ l. get_or l 0 c.tenants-item.result) is)) ∙ c.if-not-is_automatic.true)),
 )
 
 pub returns-then-not-is_automatic-5 : goal.returns-then-not-is_automatic-5
 unfolding digits
 returns-then-not-is_automatic-5 c = (
   λ no. absurd (true≢false (sym no)),
-  λ is. absurd (true≢false (sym (c.is_automatic-in-len6-4.ensures.1 (c.names-item.is ∙ ap (λ l. get_or l 4 c.names-item.result) is)) ∙ c.if-not-is_automatic-5.true))
+  λ is. absurd (true≢false (sym (c.is_automatic-in-len6-4.ensures.1 (c.names-item.is ∙ ap (λ l. get_or l 4 c.names-item.result) is)) ∙ c.if-not-is_automatic-5.true)),
 )
 
 pub returns-else-not-is_automatic-5 : goal.returns-else-not-is_automatic-5
@@ -30,5 +30,5 @@ returns-else-not-is_automatic-5 c = (
       c.pools-item.is (c.is_automatic-in-len6-3.ensures.0 c.if-not-is_automatic-4.false)
       c.names-item.is (c.is_automatic-in-len6-4.ensures.0 c.if-not-is_automatic-5.false)
       c.receipts-item.is (c.is_automatic-in-len6-5.ensures.0 last),
-  λ is. c.is_automatic-in-len6-5.ensures.1 (c.receipts-item.is ∙ ap (λ l. get_or l 5 c.receipts-item.result) is)
+  λ is. c.is_automatic-in-len6-5.ensures.1 (c.receipts-item.is ∙ ap (λ l. get_or l 5 c.receipts-item.result) is),
 )

@@ -7,5 +7,5 @@ returns-in-None c = (
   λ no. absurd (true≢false (sym no)),
   λ is.
       let none : slice_get c.args.nodes.now c.args.at ≡ None = sym c.get.ensures.value ∙ ap option_copied c.in-None.is in
-      absurd (let e = sym (past c.args.nodes.now c.args.at none) ∙ is in cc)
+      absurd (let e = sym (past c.args.nodes.now c.args.at none) ∙ is in cc),
 )

@@ -7,7 +7,7 @@ use Rattle.tenant_tables.proofs.schema.is_test.Goals as goal
 pub returns-in_default : goal.returns-in_default
 returns-in_default c = (
   λ no. absurd (true≢false (sym no)),
-  λ is. let it = is_test c.args.nodes.now c.args.root is in absurd (c.sides.ensures.other c.in_default.is it.first it.second it.equal)
+  λ is. let it = is_test c.args.nodes.now c.args.root is in absurd (c.sides.ensures.other c.in_default.is it.first it.second it.equal),
 )
 
 pub returns-then-is_first_column : goal.returns-then-is_first_column
@@ -23,7 +23,7 @@ returns-then-is_first_column c = (
       let it = is_test c.args.nodes.now c.args.root is in
       let both : Binary equality it.first it.second ≡ Binary equality c.in-Some.first c.in-Some.second = sym it.equal ∙ c.in-Some.ensures.equal in
       let same : it.second ≡ c.in-Some.second = cc in
-      c.is_number_one.ensures.1 (subst (λ n. node c.args.nodes.now n ≡ Literal (Int (pos 1))) same it.one)
+      c.is_number_one.ensures.1 (subst (λ n. node c.args.nodes.now n ≡ Literal (Int (pos 1))) same it.one),
 )
 
 pub returns-else-is_first_column : goal.returns-else-is_first_column
@@ -33,5 +33,5 @@ returns-else-is_first_column c = (
       let it = is_test c.args.nodes.now c.args.root is in
       let both : Binary equality it.first it.second ≡ Binary equality c.in-Some.first c.in-Some.second = sym it.equal ∙ c.in-Some.ensures.equal in
       let same : it.first ≡ c.in-Some.first = cc in
-      c.is_first_column.ensures.1 (subst (λ n. node c.args.nodes.now n ≡ Column 1 0) same it.column)
+      c.is_first_column.ensures.1 (subst (λ n. node c.args.nodes.now n ≡ Column 1 0) same it.column),
 )

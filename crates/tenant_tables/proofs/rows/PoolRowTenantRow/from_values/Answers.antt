@@ -1,6 +1,6 @@
 use mir.Val.{SFits}
 use mir.Syntax.{w64}
-use Rattle.std.proofs.Common.{rules, ◌≡◌, length, ◌∙◌, arith}
+use Rattle.std.proofs.Common.{rules, ◌≡◌, length, ◌∙◌}
 use Rattle.std.proofs.lemmas.Int.{to_z-of_z}
 use Rattle.sqlite_value.specs.declared.value.Value.TheVariants.{Int, Text as Words}
 use Rattle.std.specs.Prelude.{string_bytes}

@@ -1,6 +1,5 @@
 use Rattle.std.proofs.Common.{rules, ◌≡◌, inl, inr, sym, subst, ap, ◌∙◌, arith}
 use Rattle.sqlite_trees.specs.Tree.{Trees}
-use Rattle.sqlite_trees.specs.View.{IsClean}
 use Rattle.sqlite.specs.Effect.{Database}
 use Rattle.sqlite.specs.Held.{state}
 use Rattle.sqlite.specs.State.{HasCleanDisk}
@@ -13,7 +12,7 @@ invariant_of-result g c = (
   λ _ clean.
       let mid = state g.S.Store c.in-Ok.conn in
       let early : HasCleanDisk mid = omega (arith, clean, c.get_ready.ensures.survives.clean) in
-      (remains mid (state g.S.Store c.get_ready.new.conn) (c.in-Ok.ensures.ready early) (c.in-Ok-get_ready.ensures.ok clean)).ready
+      (remains mid (state g.S.Store c.get_ready.new.conn) (c.in-Ok.ensures.ready early) (c.in-Ok-get_ready.ensures.ok clean)).ready,
 )
 
 pub returns-in-Ok-get_ready-clause-alone : goal.returns-in-Ok-get_ready-clause-alone
