@@ -1,7 +1,7 @@
 //! The receipts of a tenant, a page at a time.
 //!
-//! A body and a reply may have a megabyte each, so a page is short. One row more is read than a
-//! page has: it shows that what follows lies above the page.
+//! A body and a reply may have a megabyte each, so a page is short. One row more than a page is
+//! read: it shows that what follows lies above the page.
 
 ghost use Rattle.std.specs.Prelude.{◌≡◌, ◌≢◌, ◌⊎◌, map, false, IfOk, IfErr, Err};
 ghost use Rattle.std.specs.List.{AllByRecursion};

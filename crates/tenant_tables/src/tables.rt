@@ -278,7 +278,8 @@ impl<S: Alter> Tables<S> {
     /// The tenant with the name, or `None` where there is none.
     ///
     /// No row is changed. `Err(Fault::Damaged)`: there are several, or the row is none of this
-    /// service's. `Err(Fault::Failed)`: the tables are latched.
+    /// service's.
+    /// `Err(Fault::Failed)`: the tables are latched.
     pub fn find(&mut self, name: &str) -> Result<Option<Tenant>, Fault>
         requires live { self.old.1 ≡ false }
         ensures found { HasCleanDisk (state S.Store self.new.0) → IfOk result (Names (state S.Store self.old.0).now.trees name.now) }
@@ -361,7 +362,8 @@ impl<S: Alter> Tables<S> {
     /// The receipt of the request of the tenant with the number, or `None` where there is none.
     ///
     /// No row is changed. `Err(Fault::Damaged)`: there are several, or the row is none of this
-    /// service's. `Err(Fault::Failed)`: the tables are latched.
+    /// service's.
+    /// `Err(Fault::Failed)`: the tables are latched.
     pub fn receipt_of(&mut self, id: i64, request: &str) -> Result<Option<ReceiptRow>, Fault>
         requires live { self.old.1 ≡ false }
         ensures found { HasCleanDisk (state S.Store self.new.0) → IfOk result (AreReceipt (receipts_with (state S.Store self.old.0).now.trees id request.now)) }
