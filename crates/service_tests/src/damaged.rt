@@ -45,7 +45,7 @@ impl TenantStore for PartlyDamaged {
     ghost use Rattle.std.specs.Prelude.{◌≡◌, false};
     ghost use Rattle.std.proofs.Common.{◌∙◌, sym};
     ghost use Rattle.service_tests.specs.Damaged.{begins_with, state_of};
-    ghost use Rattle.service_tests.proofs.Fresh.{states_are};
+    ghost use Rattle.service_tests.specs.Fresh.{states_are};
 
     ghost is_honest = { λ store. Unit {0} };
 
