@@ -1,0 +1,6 @@
+//! The store of tenants: states from rows of the tables.
+#![tactic(auto)]
+
+mod parts;
+
+pub use parts::{pools_from, receipt_from, states_from, versions_from};
