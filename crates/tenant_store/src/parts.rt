@@ -104,9 +104,9 @@ pub fn versions_from(
 // ---- states of devices
 
 /// The state of a device of a row. `None`, exactly where there is none.
-fn state_from(row: &State) -> Option<DeviceState>
-    ensures some { IfSome result (λ s. (is_device_state s ≡ true) × (state_row row.now ≡ spec.row_of_state s)) }
-    ensures none { result ≡ None → (s : StateOfDevice) → is_device_state s ≡ true → state_row row.now ≢ spec.row_of_state s }
+fn state_from(row: State) -> Option<DeviceState>
+    ensures some { IfSome result (λ s. (is_device_state s ≡ true) × (state_row row ≡ spec.row_of_state s)) }
+    ensures none { result ≡ None → (s : StateOfDevice) → is_device_state s ≡ true → state_row row ≢ spec.row_of_state s }
 {
     let device = natural(row.device)?;
     let reweight = natural(row.reweight)?;
@@ -122,10 +122,10 @@ fn state_from(row: &State) -> Option<DeviceState>
 }
 
 /// The states of devices of these rows, in the order of the devices' ids. `None`, exactly where
-/// they are the rows of none. `Err(AllocError)`: an allocation failed; nothing is changed.
-pub fn states_from(alloc: Global, rows: &[State]) -> Result<Option<Rc<Devices>>, AllocError>
-    ensures some { IfOk result (λ o. IfSome o (λ d. (list_all is_device_state d.value ≡ true) × (is_ascending is_lower_device d.value ≡ true) × (map state_row rows.now ≡ map spec.row_of_state d.value))) }
-    ensures none { IfOk result (λ o. o ≡ None → (states : List StateOfDevice) → list_all is_device_state states ≡ true → is_ascending is_lower_device states ≡ true → map state_row rows.now ≢ map spec.row_of_state states) }
+/// they are the rows of none. `Err(AllocError)`: an allocation failed.
+pub fn states_from(alloc: Global, rows: Vec<State>) -> Result<Option<Rc<Devices>>, AllocError>
+    ensures some { IfOk result (λ o. IfSome o (λ d. (list_all is_device_state d.value ≡ true) × (is_ascending is_lower_device d.value ≡ true) × (map state_row rows.items ≡ map spec.row_of_state d.value))) }
+    ensures none { IfOk result (λ o. o ≡ None → (states : List StateOfDevice) → list_all is_device_state states ≡ true → is_ascending is_lower_device states ≡ true → map state_row rows.items ≢ map spec.row_of_state states) }
 {
     let mut states = Vec::with_capacity(alloc, rows.len())?;
     for row in rows {
