@@ -2,7 +2,6 @@
 use Rattle.std.proofs.Common.{◌≡◌, ◌≢◌, ℕ, ℤ, pos, suc, ◌+◌, ◌<◌, List, [], ◌∷◌, length, map, Bool, true, false, ◌&&◌, nat_lt, IsTrue, Ordering, Less, Equal, Greater, is_lt, Option, Some, None, Result, Ok, Err, arith, refl, sym, ap, ap₂, ◌∙◌, subst, IsPermutation, IsSorted}
 use Rattle.std.specs.List.{All, AllByRecursion}
 use Rattle.std.specs.Ordering.{ordering_then, ordering_reverse}
-use Rattle.std.specs.Cmp.{IsTotalOrder}
 use Rattle.std.proofs.lemmas.Bool.Decides.{nat_tests}
 use Rattle.std.proofs.lemmas.List.Sorted.{IsPermutation-sym, IsPermutation-trans}
 use Rattle.sqlite_value.specs.declared.value.Value.{Value}
@@ -19,19 +18,15 @@ use Rattle.crush_pool.specs.declared.states.DeviceState.{DeviceState}
 use Rattle.crush_writing.specs.Canonical.{canonical}
 use Rattle.crush_text.specs.Reading.{map_of_stored_text}
 use Rattle.tenant_messages.specs.Reply.{success_status}
-use Rattle.tenant_state.specs.Ordered.{is_ascending, is_before_first}
+use Rattle.tenant_state.specs.Ordered.{is_ascending}
 use Rattle.tenant_state.specs.Receipts.{is_before}
-use Rattle.tenant_state.specs.State.{Inventory, TenantState, inventory_of, is_lower_device, is_lower_pool}
-use Rattle.tenant_state.specs.Valid.{IsInventory, IsState}
+use Rattle.tenant_state.specs.State.{TenantState, is_lower_device, is_lower_pool}
+use Rattle.tenant_state.specs.Valid.{IsState}
 use Rattle.tenant_state.specs.declared.receipts.Receipt.{Receipt}
 use Rattle.tenant_tables.specs.Holds.{Holds, IsTenant, of_tenant, tenants_of}
 use Rattle.tenant_tables.specs.Layout.{maps_table, devices_table, pools_table, receipts_table}
-use Rattle.tenant_tables.specs.declared.rows.VersionRow.{VersionRow}
-use Rattle.tenant_tables.specs.declared.rows.PoolRow.{PoolRow}
-use Rattle.tenant_tables.specs.declared.write.State.{State}
 use Rattle.tenant_tables.proofs.Rising.{below_int, below_text, neighbours}
 use Rattle.tenant_store.specs.Rows.{flag, row_of_version, rows_of_versions, row_of_state, row_of_pool, row_of_receipt, rows_of, StandsFor}
-use Rattle.tenant_store.specs.Lists.{AreRowsOf}
 use Rattle.tenant_store.proofs.Reading.{first, second, same_list, same_state, same_pool, same_receipt, same_versions}
 
 -- a map is read back from its canonical text, so each has its own
@@ -40,18 +35,6 @@ own_text back m n is other same = inside m n (sym (back m is) ∙ (ap map_of_sto
   where
     inside : (m n : Map) → ◌≡◌ {A = Result Map TextFault} (Ok m) (Ok n) → m ≡ n
     inside m n h = cc
-
--- ---- what a tenant has
-
-pub one_inventory : ((m : Map) → IsMap m → map_of_stored_text (canonical m) ≡ Ok m) → (i j : Inventory) (epoch : ℤ) (versions : List VersionRow) (states : List State) (pools : List PoolRow) → IsInventory i → IsInventory j
-    → AreRowsOf i epoch versions states pools → AreRowsOf j epoch versions states pools → i ≡ j
-one_inventory back i j epoch versions states pools is other these those =
-    let maps = same_versions (own_text back) 1 i.versions j.versions is.maps other.maps (sym these.versions_are ∙ those.versions_are) in
-    let devices = same_list row_of_state same_state i.devices j.devices (sym these.states_are ∙ those.states_are) in
-    let others = same_list row_of_pool same_pool i.pools j.pools (sym these.pools_are ∙ those.pools_are) in
-    let both : pos i.epoch ≡ pos j.epoch = sym these.epoch_is ∙ those.epoch_is in
-    let number : i.epoch ≡ j.epoch = cc in
-    λ k. record { versions = maps k; devices = devices k; pools = others k; epoch = number k }
 
 -- ---- rows that rise
 
