@@ -1,6 +1,6 @@
 -- The rows of a name are those of one state at most.
 use Rattle.std.proofs.Common.{◌≡◌, ◌≢◌, ℕ, ℤ, pos, suc, ◌+◌, ◌<◌, List, [], ◌∷◌, length, map, Bool, true, false, ◌&&◌, nat_lt, IsTrue, Ordering, Less, Equal, Greater, is_lt, Option, Some, None, Result, Ok, Err, arith, refl, sym, ap, ap₂, ◌∙◌, subst, IsPermutation, IsSorted}
-use Rattle.std.specs.List.{All, AllByRecursion}
+use Rattle.std.specs.List.{AllByRecursion}
 use Rattle.std.specs.Ordering.{ordering_then, ordering_reverse}
 use Rattle.std.proofs.lemmas.Bool.Decides.{nat_tests}
 use Rattle.std.proofs.lemmas.List.Sorted.{IsPermutation-sym, IsPermutation-trans}
@@ -21,12 +21,11 @@ use Rattle.tenant_messages.specs.Reply.{success_status}
 use Rattle.tenant_state.specs.Ordered.{is_ascending}
 use Rattle.tenant_state.specs.Receipts.{is_before}
 use Rattle.tenant_state.specs.State.{TenantState, is_lower_device, is_lower_pool}
-use Rattle.tenant_state.specs.Valid.{IsState}
 use Rattle.tenant_state.specs.declared.receipts.Receipt.{Receipt}
-use Rattle.tenant_tables.specs.Holds.{Holds, IsTenant, of_tenant, tenants_of}
+use Rattle.tenant_tables.specs.Holds.{IsTenant, of_tenant}
 use Rattle.tenant_tables.specs.Layout.{maps_table, devices_table, pools_table, receipts_table}
 use Rattle.tenant_tables.proofs.Rising.{below_int, below_text, neighbours}
-use Rattle.tenant_store.specs.Rows.{flag, row_of_version, rows_of_versions, row_of_state, row_of_pool, row_of_receipt, rows_of, StandsFor}
+use Rattle.tenant_store.specs.Rows.{flag, row_of_version, rows_of_versions, row_of_state, row_of_pool, row_of_receipt, StandsFor}
 use Rattle.tenant_store.proofs.Reading.{first, second, same_list, same_state, same_pool, same_receipt, same_versions}
 
 -- a map is read back from its canonical text, so each has its own

@@ -1,4 +1,4 @@
-use Rattle.std.proofs.Common.{◌≡◌, true, rules, arith, string_bytes}
+use Rattle.std.proofs.Common.{◌≡◌, true, rules, string_bytes}
 use Rattle.std.specs.Str.{is_utf8}
 use Rattle.std.proofs.lemmas.Str.{IsUtf8-string_bytes, is_utf8-from_IsUtf8}
 use Rattle.tenant_store.proofs.parts.receipt_from.Goals as goal
