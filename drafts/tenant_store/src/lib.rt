@@ -1,0 +1,9 @@
+//! The store of tenants: states from rows of the tables.
+#![tactic(auto)]
+
+mod inventory;
+pub mod laws;
+mod parts;
+
+pub use inventory::inventory_from;
+pub use parts::{pools_from, receipt_from, states_from, versions_from};

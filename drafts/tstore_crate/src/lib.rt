@@ -1,0 +1,11 @@
+//! The store of tenants: states from rows of the tables.
+#![tactic(auto)]
+
+mod inventory;
+pub mod laws;
+mod parts;
+mod state;
+
+pub use inventory::inventory_from;
+pub use parts::{pools_from, receipt_from, states_from, versions_from};
+pub use state::{from_rows, receipts_from};
