@@ -75,6 +75,8 @@ impl TenantStore for Failing {
 
     ghost one_state = { λ store t s u honest works is also. is ∙ sym also };
 
+    ghost are_states = { λ store t s honest works is. cc };
+
     ghost keeps_itself = { λ store. tt };
 
     ghost keeps_both = { λ old mid new first second. tt };
