@@ -16,7 +16,7 @@ use Rattle.tenant_state.specs.Ordered.{is_ascending, if_ascending}
 use Rattle.tenant_state.specs.declared.receipts.Receipt.{Receipt}
 use Rattle.tenant_tables.specs.Found.{version_values}
 use Rattle.tenant_tables.specs.declared.rows.VersionRow.{VersionRow}
-use Rattle.tenant_store.specs.Rows.{flag, row_of_version, rows_of_versions, row_of_state, row_of_pool, row_of_receipt}
+use Rattle.tenant_rows.specs.Rows.{flag, row_of_version, rows_of_versions, row_of_state, row_of_pool, row_of_receipt}
 
 -- ---- lists
 

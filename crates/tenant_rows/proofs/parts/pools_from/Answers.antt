@@ -4,9 +4,9 @@ use Rattle.crush_pool.specs.Pools.{is_pool}
 use Rattle.tenant_state.specs.Ordered.{is_ascending}
 use Rattle.tenant_state.specs.State.{is_lower_pool}
 use Rattle.tenant_tables.specs.Found.{pool_values}
-use Rattle.tenant_store.specs.Rows.{row_of_pool}
-use Rattle.tenant_store.proofs.Reading.{no_list, same_list, same_pool, whole, refused}
-use Rattle.tenant_store.proofs.parts.pools_from.Goals as goal
+use Rattle.tenant_rows.specs.Rows.{row_of_pool}
+use Rattle.tenant_rows.proofs.Reading.{no_list, same_list, same_pool, whole, refused}
+use Rattle.tenant_rows.proofs.parts.pools_from.Goals as goal
 
 -- a row is that of no pool
 pub returns-in-None-pool_from-clause-none : goal.returns-in-None-pool_from-clause-none

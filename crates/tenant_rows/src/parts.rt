@@ -13,7 +13,7 @@ ghost use Rattle.tenant_state.specs.State.{is_lower_device, is_lower_pool};
 ghost use Rattle.tenant_state.specs.Valid.{is_device_state, is_receipt};
 ghost use Rattle.tenant_tables.specs.Change.{state_row};
 ghost use Rattle.tenant_tables.specs.Found.{version_values, pool_values, receipt_values};
-ghost use Rattle.tenant_store.specs.Rows as spec;
+ghost use Rattle.tenant_rows.specs.Rows as spec;
 
 use crush_choose::FULL;
 use crush_map::Text;

@@ -25,8 +25,8 @@ use Rattle.tenant_state.specs.declared.receipts.Receipt.{Receipt}
 use Rattle.tenant_tables.specs.Holds.{IsTenant, of_tenant}
 use Rattle.tenant_tables.specs.Layout.{maps_table, devices_table, pools_table, receipts_table}
 use Rattle.tenant_tables.proofs.Rising.{below_int, below_text, neighbours}
-use Rattle.tenant_store.specs.Rows.{flag, row_of_version, rows_of_versions, row_of_state, row_of_pool, row_of_receipt, StandsFor}
-use Rattle.tenant_store.proofs.Reading.{first, second, same_list, same_state, same_pool, same_receipt, same_versions}
+use Rattle.tenant_rows.specs.Rows.{flag, row_of_version, rows_of_versions, row_of_state, row_of_pool, row_of_receipt, StandsFor}
+use Rattle.tenant_rows.proofs.Reading.{first, second, same_list, same_state, same_pool, same_receipt, same_versions}
 
 -- a map is read back from its canonical text, so each has its own
 pub own_text : ((m : Map) → IsMap m → map_of_stored_text (canonical m) ≡ Ok m) → (m n : Map) → IsMap m → IsMap n → canonical m ≡ canonical n → m ≡ n

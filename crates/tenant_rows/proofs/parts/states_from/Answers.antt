@@ -4,9 +4,9 @@ use Rattle.tenant_state.specs.Valid.{is_device_state}
 use Rattle.tenant_state.specs.Ordered.{is_ascending}
 use Rattle.tenant_state.specs.State.{is_lower_device}
 use Rattle.tenant_tables.specs.Change.{state_row}
-use Rattle.tenant_store.specs.Rows.{row_of_state}
-use Rattle.tenant_store.proofs.Reading.{no_list, same_list, same_state, whole, refused}
-use Rattle.tenant_store.proofs.parts.states_from.Goals as goal
+use Rattle.tenant_rows.specs.Rows.{row_of_state}
+use Rattle.tenant_rows.proofs.Reading.{no_list, same_list, same_state, whole, refused}
+use Rattle.tenant_rows.proofs.parts.states_from.Goals as goal
 
 -- a row is that of no state
 pub returns-in-None-state_from-clause-none : goal.returns-in-None-state_from-clause-none

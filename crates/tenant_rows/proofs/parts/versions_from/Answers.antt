@@ -5,9 +5,9 @@ use Rattle.std.proofs.lemmas.List.{map_push, length-map}
 use Rattle.std.proofs.lemmas.List.Elements.{All-push}
 use Rattle.crush_map.specs.Map.{IsMap}
 use Rattle.tenant_tables.specs.Found.{version_values}
-use Rattle.tenant_store.specs.Rows.{rows_of_versions}
-use Rattle.tenant_store.proofs.Reading.{no_versions, more, push_front, longer}
-use Rattle.tenant_store.proofs.parts.versions_from.Goals as goal
+use Rattle.tenant_rows.specs.Rows.{rows_of_versions}
+use Rattle.tenant_rows.proofs.Reading.{no_versions, more, push_front, longer}
+use Rattle.tenant_rows.proofs.parts.versions_from.Goals as goal
 
 -- one more version
 pub loop-row-preserved : goal.loop-row-preserved

@@ -1,7 +1,7 @@
 use Rattle.std.proofs.Common.{◌≡◌, true, rules, string_bytes}
 use Rattle.std.specs.Str.{is_utf8}
 use Rattle.std.proofs.lemmas.Str.{IsUtf8-string_bytes, is_utf8-from_IsUtf8}
-use Rattle.tenant_store.proofs.parts.receipt_from.Goals as goal
+use Rattle.tenant_rows.proofs.parts.receipt_from.Goals as goal
 
 pub returns-clause-some : goal.returns-clause-some
 returns-clause-some c =

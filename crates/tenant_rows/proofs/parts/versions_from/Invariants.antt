@@ -3,8 +3,8 @@ use Rattle.std.specs.List.{All}
 use Rattle.std.specs.Vec.Iter.{into_iter_items, into_iter_len}
 use Rattle.crush_map.specs.Map.{IsMap}
 use Rattle.tenant_tables.specs.Found.{version_values}
-use Rattle.tenant_store.specs.Rows.{rows_of_versions}
-use Rattle.tenant_store.proofs.parts.versions_from.Given as goal
+use Rattle.tenant_rows.specs.Rows.{rows_of_versions}
+use Rattle.tenant_rows.proofs.parts.versions_from.Given as goal
 
 -- the rows so far are those of the versions so far
 abbrev pub invariant-loop-row : goal.invariant-loop-row

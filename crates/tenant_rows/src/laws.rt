@@ -3,7 +3,7 @@
 ghost use Rattle.std.specs.Prelude.{◌≡◌, ℕ, List, Option};
 ghost use Rattle.sqlite_trees.specs.Tree.{Trees};
 ghost use Rattle.tenant_state.specs.State.{TenantState};
-ghost use Rattle.tenant_store.specs.Rows.{StandsFor};
+ghost use Rattle.tenant_rows.specs.Rows.{StandsFor};
 
 use crush_text::written_maps_are_read_back;
 

@@ -1,5 +1,5 @@
 use Rattle.std.proofs.Common.{rules}
-use Rattle.tenant_store.proofs.parts.version_from.Goals as goal
+use Rattle.tenant_rows.proofs.parts.version_from.Goals as goal
 
 pub returns-in-Some-clause-some : goal.returns-in-Some-clause-some
 returns-in-Some-clause-some c =
