@@ -1,29 +1,39 @@
 -- What a page of receipts says of the rows that it begins.
-use Rattle.std.proofs.Common.{◌≡◌, ◌⊎◌, inl, inr, ◌↔◌, ℕ, pos, ◌+◌, ◌<◌, ◌≤◌, List, [], ◌∷◌, ◌++◌, map, filter, length, Bool, true, false, ◌&&◌, IsTrue, Ordering, Less, Equal, Greater, is_gt, IsPermutation, arith, refl, sym, ap, subst, ◌∙◌, length-append}
+use Rattle.std.proofs.Common.{◌≡◌, ◌⊎◌, inl, inr, ◌↔◌, ℕ, pos, ◌+◌, ◌<◌, ◌≤◌, ℤ, List, [], ◌∷◌, ◌++◌, map, filter, length, get_or, string_bytes, Result, Err, Bool, true, false, nat_le, ◌&&◌, Option, Some, None, Ordering, Less, Equal, Greater, is_gt, IsPermutation, arith, refl, sym, ap, subst, ◌∙◌, length-append}
 use Rattle.std.specs.List.{AllByRecursion, list_all}
 use Rattle.std.specs.Ordering.{ordering_reverse}
-use Rattle.std.proofs.lemmas.List.{map-append, length-map, append-nil}
+use Rattle.std.proofs.lemmas.List.{map-append, map_push, length-map, append-nil}
 use Rattle.std.proofs.lemmas.List.Folds.{list_all-append}
-use Rattle.std.proofs.lemmas.List.Elements.{recursion_from_All, All-from_recursion, filter-append, filter_passes}
+use Rattle.std.proofs.lemmas.List.Elements.{recursion_from_All, All-from_recursion, All-get_or, filter-append, filter_passes}
 use Rattle.std.proofs.lemmas.List.Sorted.{All-permutation, IsPermutation-sym, IsPermutation-trans, IsPermutation-append_right, length_permutation}
-use Rattle.std.proofs.lemmas.Str.{IsUtf8-from_is_utf8}
+use Rattle.std.proofs.lemmas.Bool.Decides.{nat_tests}
+use Rattle.std.specs.declared.string.String.{String}
+use Rattle.std.proofs.lemmas.Str.{IsUtf8-from_is_utf8, IsUtf8-string_bytes, is_utf8-from_IsUtf8}
 use Rattle.sqlite_value.specs.declared.value.Value.{Value}
-use Rattle.sqlite_value.specs.declared.value.Value.TheVariants.{Text as Words}
+use Rattle.sqlite_value.specs.declared.value.Value.TheVariants.{Int, Text as Words}
 use Rattle.sqlite_value.specs.Order.{Row, column, value_cmp}
 use Rattle.sqlite_value.proofs.OrderLemmas.{value_cmp_total}
-use Rattle.sqlite_trees.specs.Tree.{IsAscending}
-use Rattle.sqlite_keyed.proofs.ListLemmas.{all_weaker, all-filter, all_from_test, test_from_all, filter_all, filter_none, filter-filter, filter-map, IsPermutation-filter, IsPermutation-same, ascending-filter, ascending-append, all_of}
+use Rattle.sqlite_trees.specs.Tree.{Trees}
+use Rattle.sqlite_keyed.proofs.ListLemmas.{all_weaker, all_unmap, all-filter, all_from_test, test_from_all, filter_all, filter_none, filter-filter, filter-map, IsPermutation-filter, IsPermutation-same, ascending-filter, ascending-append}
 use Rattle.tenant_messages.specs.Reply.{success_status}
 use Rattle.tenant_messages.specs.Numbers.{has_length}
+use Rattle.tenant_messages.specs.declared.limits.TheConstants.{REQUEST_NUMBER_LIMIT}
+use Rattle.tenant_messages.specs.declared.reply.SuccessStatus.{SuccessStatus}
 use Rattle.std.specs.Str.{is_utf8}
 use Rattle.tenant_state.specs.Ordered.{is_ascending}
 use Rattle.tenant_state.specs.Receipts.{Receipts, is_before}
 use Rattle.tenant_state.specs.Valid.{is_receipt}
 use Rattle.tenant_state.specs.declared.receipts.Receipt.{Receipt}
-use Rattle.tenant_tables.specs.Found.{IsRising, IsReceiptRow, Lists, Begins, rows_above}
+use Rattle.tenant_tables.specs.Layout.{receipts_table}
+use Rattle.tenant_tables.specs.Holds.{of_tenant}
+use Rattle.tenant_tables.specs.Found.{IsRising, IsReceiptRow, Lists, Begins, rows_above, receipt_values}
+use Rattle.tenant_tables.specs.declared.rows.ReceiptRow.{ReceiptRow}
+use Rattle.tenant_tables.specs.declared.refuse.Fault.{Fault}
 use Rattle.tenant_tables.proofs.Rising.{below_text, below_text_back}
+use Rattle.tenant_rows.specs.Changes.{HasReceipts}
 use Rattle.tenant_rows.specs.Rows.{row_of_receipt}
-use Rattle.tenant_rows.specs.Pages.{IsOfReceipt, AreReceipts, IsTail}
+use Rattle.tenant_rows.specs.Pages.{IsOfReceipt, AreReceipts, IsTail, Leaves}
+use Rattle.tenant_rows.specs.declared.judge.Rest.{Rest}
 use Rattle.tenant_rows.proofs.Reading.{first, second}
 
 abbrev Below : Row → Row → Type 0
@@ -231,6 +241,10 @@ not_fewer rows page count b short h = omega (arith, long rows page b.rest count 
 
 -- ---- lists of receipts
 
+has_its_length : (r : List ℕ × Receipt) → is_receipt r ≡ true → has_length r.0 ≡ true
+has_its_length r h =
+    first (has_length r.0) (is_utf8 r.0) (first (has_length r.0 && is_utf8 r.0) (is_utf8 r.1.path) (first (has_length r.0 && is_utf8 r.0 && is_utf8 r.1.path) (is_utf8 r.1.body) (first (has_length r.0 && is_utf8 r.0 && is_utf8 r.1.path && is_utf8 r.1.body) (is_utf8 r.1.reply) h)))
+
 is_row : (r : List ℕ × Receipt) → is_receipt r ≡ true → IsReceiptRow (row_of_receipt r)
 is_row r h =
     let replies : is_utf8 r.1.reply ≡ true = second _ _ h in
@@ -247,3 +261,73 @@ unlisted rows count none h =
     each_row : (rs : Receipts) → list_all is_receipt rs ≡ true → AllByRecursion IsReceiptRow (map row_of_receipt rs)
     each_row [] h = tt
     each_row (r ∷ rs) h = (is_row r (first (is_receipt r) (list_all is_receipt rs) h), each_row rs (second (is_receipt r) (list_all is_receipt rs) h))
+
+-- ---- rows that were read
+
+abbrev read_row : ReceiptRow → SuccessStatus → List ℕ × Receipt
+read_row row s = (string_bytes row.request, record { path = string_bytes row.path; body = string_bytes row.body; status = s; reply = string_bytes row.reply })
+
+pub is_of_receipt : (row : ReceiptRow) (s : SuccessStatus) → 0 < length (string_bytes row.request) → length (string_bytes row.request) ≤ REQUEST_NUMBER_LIMIT → row.status ≡ pos (success_status s) → IsOfReceipt (receipt_values row)
+is_of_receipt row s some few status = (read_row row s, ranges, λ i. Words (string_bytes row.request) ∷ Words (string_bytes row.path) ∷ Words (string_bytes row.body) ∷ Int (status i) ∷ Words (string_bytes row.reply) ∷ [])
+  where
+    text : {Z : Type 0} (s : String Z) → is_utf8 (string_bytes s) ≡ true
+    text s = is_utf8-from_IsUtf8 (string_bytes s) (IsUtf8-string_bytes s)
+    ranges : is_receipt (read_row row s) ≡ true
+    ranges =
+        let one : nat_le 1 (length (string_bytes row.request)) ≡ true = grind (arith, nat_tests) in
+        let most : nat_le (length (string_bytes row.request)) REQUEST_NUMBER_LIMIT ≡ true = grind (arith, nat_tests) in
+        both _ _ (both _ _ (both _ _ (both _ _ (both _ _ one most) (text row.request)) (text row.path)) (text row.body)) (text row.reply)
+
+pub request_of : (row : ReceiptRow) → IsOfReceipt (receipt_values row) → (0 < length (string_bytes row.request)) × (length (string_bytes row.request) ≤ REQUEST_NUMBER_LIMIT)
+request_of row (r, is, same) =
+    let number : string_bytes row.request ≡ r.0 = cc in
+    let long : has_length (string_bytes row.request) ≡ true = subst (λ t. has_length t ≡ true) (sym number) (has_its_length r is) in
+    let one : nat_le 1 (length (string_bytes row.request)) ≡ true = first _ (nat_le (length (string_bytes row.request)) REQUEST_NUMBER_LIMIT) long in
+    let most : nat_le (length (string_bytes row.request)) REQUEST_NUMBER_LIMIT ≡ true = second (nat_le 1 (length (string_bytes row.request))) _ long in
+    (grind (arith, nat_tests), grind (arith, nat_tests))
+
+pub status_of : (row : ReceiptRow) → IsOfReceipt (receipt_values row) → (s : SuccessStatus) × (row.status ≡ pos (success_status s))
+status_of row (r, is, same) = (r.1.status, cc)
+
+pub one_of_receipt : (rows : List ReceiptRow) (i : ℕ) (row : ReceiptRow) → i < length rows → row ≡ get_or rows i row → AllByRecursion IsOfReceipt (map receipt_values rows) → IsOfReceipt (receipt_values row)
+one_of_receipt rows i row low at all =
+    subst (λ r. IsOfReceipt (receipt_values r)) (sym at) (All-get_or (λ r. IsOfReceipt (receipt_values r)) rows i row low (All-from_recursion (λ r. IsOfReceipt (receipt_values r)) rows (all_unmap IsOfReceipt receipt_values rows all)))
+
+-- a full page leaves what is above its last request
+pub leaves_more : (all rows : List Row) (items front : List ReceiptRow) (row : ReceiptRow) (count left : ℕ) → items ≡ front ++ row ∷ [] → length items + left ≡ count → AllByRecursion IsOfReceipt (map receipt_values items) → IsTail all rows → Begins 16 rows (map receipt_values items)
+    → AreReceipts count rows ↔ AreReceipts left (rows_above (string_bytes row.request) all)
+leaves_more all rows items front row count left split number each tail page =
+    let parts : map receipt_values items ≡ map receipt_values front ++ receipt_values row ∷ [] = ap (map receipt_values) split ∙ map_push receipt_values front row in
+    let begins = subst (Begins 16 rows) parts page in
+    let many : length (map receipt_values front ++ receipt_values row ∷ []) + left ≡ count = omega (arith, number, ap length parts, length-map items receipt_values) in
+    (
+      forth all rows (map receipt_values front) (receipt_values row) (string_bytes row.request) count left tail begins refl many,
+      back all rows (map receipt_values front) (receipt_values row) (string_bytes row.request) count left tail begins refl many (subst (AllByRecursion IsOfReceipt) parts each),
+    )
+
+-- what decides over the rest decides over all
+pub chained : (all rows later : List Row) (count left : ℕ) (rest : Option Rest) → AreReceipts count rows ↔ AreReceipts left later → Leaves all later left rest → Leaves all rows count rest
+chained all rows later count left None same leaves = same.1 leaves
+chained all rows later count left (Some rest) same leaves = (λ h. leaves.0 (same.0 h), λ h. same.1 (leaves.1 h))
+
+-- ---- the receipts of a tenant
+
+pub receipts_are : (db : Trees) (id epoch : ℤ) (count : ℕ) (receipts : Receipts) → epoch ≡ pos count → HasReceipts db id epoch receipts → AreReceipts count (of_tenant receipts_table id db)
+receipts_are db id epoch count receipts number h =
+    record { receipts = receipts; number = same (length receipts) count (sym h.epoch_is ∙ number); ranges = h.ranges; order = h.order; same = h.rows }
+  where
+    same : (m n : ℕ) → pos m ≡ pos n → m ≡ n
+    same m n e = cc
+
+pub has_receipts : (db : Trees) (id epoch : ℤ) (count : ℕ) → epoch ≡ pos count → AreReceipts count (of_tenant receipts_table id db) → (receipts : Receipts) × HasReceipts db id epoch receipts
+has_receipts db id epoch count number h =
+    (h.receipts, record { epoch_is = number ∙ ap pos (sym h.number); ranges = h.ranges; order = h.order; rows = h.same })
+
+-- the fault that was handed on
+pub same_fault : {A : Type 0} (r : Result A Fault) (e f d : Fault) → r ≡ Err e → e ≡ f → r ≡ Err d → f ≡ d
+same_fault r e f d is same other = cc
+
+-- how many pages may come yet
+abbrev pub pages_left : Option Rest → ℕ
+pages_left None = 0
+pages_left (Some rest) = rest.left + 1

@@ -31,8 +31,3 @@ IsTail all rows = (rows ≡ all) ⊎ ((after : List ℕ) × (rows ≡ rows_above
 abbrev pub Leaves : List Row → List Row → ℕ → Option Rest → Type 0
 Leaves all rows count None = AreReceipts count rows
 Leaves all rows count (Some rest) = AreReceipts count rows ↔ AreReceipts rest.left (rows_above (string_bytes rest.after) all)
-
--- how many receipts are left
-abbrev pub left_of : Option Rest → ℕ
-left_of None = 0
-left_of (Some rest) = rest.left

@@ -191,7 +191,10 @@ pub fn is_receipt_row(row: &ReceiptRow) -> bool
     ensures { IsTrue result ↔ IsOfReceipt (receipt_values row.now) }
 {
     let length = row.request.as_str().len();
-    status(row.status).is_some() && length > 0 && length <= REQUEST_NUMBER_LIMIT
+    if length == 0 || length > REQUEST_NUMBER_LIMIT {
+        return false;
+    }
+    status(row.status).is_some()
 }
 
 /// The request number and the receipt of a row. `None`, exactly where there is none.
