@@ -1,5 +1,5 @@
 -- What a page of receipts says of the rows that it begins.
-use Rattle.std.proofs.Common.{◌≡◌, ◌⊎◌, inl, inr, ◌↔◌, ℕ, pos, ◌+◌, ◌<◌, ◌≤◌, ℤ, List, [], ◌∷◌, ◌++◌, map, filter, length, get_or, string_bytes, Result, Err, Bool, true, false, nat_le, ◌&&◌, Option, Some, None, Ordering, Less, Equal, Greater, is_gt, IsPermutation, arith, refl, sym, ap, subst, ◌∙◌, length-append}
+use Rattle.std.proofs.Common.{◌≡◌, inl, inr, ◌↔◌, ℕ, pos, ◌+◌, ◌<◌, ◌≤◌, ℤ, List, [], ◌∷◌, ◌++◌, map, filter, length, get_or, string_bytes, Result, Err, Bool, true, false, nat_le, ◌&&◌, Option, Some, None, Ordering, Less, Equal, Greater, is_gt, IsPermutation, arith, refl, sym, ap, subst, ◌∙◌, length-append}
 use Rattle.std.specs.List.{AllByRecursion, list_all}
 use Rattle.std.specs.Ordering.{ordering_reverse}
 use Rattle.std.proofs.lemmas.List.{map-append, map_push, length-map, append-nil}
@@ -9,12 +9,11 @@ use Rattle.std.proofs.lemmas.List.Sorted.{All-permutation, IsPermutation-sym, Is
 use Rattle.std.proofs.lemmas.Bool.Decides.{nat_tests}
 use Rattle.std.specs.declared.string.String.{String}
 use Rattle.std.proofs.lemmas.Str.{IsUtf8-from_is_utf8, IsUtf8-string_bytes, is_utf8-from_IsUtf8}
-use Rattle.sqlite_value.specs.declared.value.Value.{Value}
 use Rattle.sqlite_value.specs.declared.value.Value.TheVariants.{Int, Text as Words}
 use Rattle.sqlite_value.specs.Order.{Row, column, value_cmp}
 use Rattle.sqlite_value.proofs.OrderLemmas.{value_cmp_total}
 use Rattle.sqlite_trees.specs.Tree.{Trees}
-use Rattle.sqlite_keyed.proofs.ListLemmas.{all_weaker, all_unmap, all-filter, all_from_test, test_from_all, filter_all, filter_none, filter-filter, filter-map, IsPermutation-filter, IsPermutation-same, ascending-filter, ascending-append}
+use Rattle.sqlite_keyed.proofs.ListLemmas.{all_weaker, all_unmap, all-filter, all_from_test, test_from_all, filter_all, filter_none, filter-filter, filter-map, IsPermutation-filter, ascending-filter, ascending-append}
 use Rattle.tenant_messages.specs.Reply.{success_status}
 use Rattle.tenant_messages.specs.Numbers.{has_length}
 use Rattle.tenant_messages.specs.declared.limits.TheConstants.{REQUEST_NUMBER_LIMIT}
@@ -241,10 +240,6 @@ not_fewer rows page count b short h = omega (arith, long rows page b.rest count 
 
 -- ---- lists of receipts
 
-has_its_length : (r : List ℕ × Receipt) → is_receipt r ≡ true → has_length r.0 ≡ true
-has_its_length r h =
-    first (has_length r.0) (is_utf8 r.0) (first (has_length r.0 && is_utf8 r.0) (is_utf8 r.1.path) (first (has_length r.0 && is_utf8 r.0 && is_utf8 r.1.path) (is_utf8 r.1.body) (first (has_length r.0 && is_utf8 r.0 && is_utf8 r.1.path && is_utf8 r.1.body) (is_utf8 r.1.reply) h)))
-
 is_row : (r : List ℕ × Receipt) → is_receipt r ≡ true → IsReceiptRow (row_of_receipt r)
 is_row r h =
     let replies : is_utf8 r.1.reply ≡ true = second _ _ h in
@@ -272,19 +267,12 @@ is_of_receipt row s some few status = (read_row row s, ranges, λ i. Words (stri
   where
     text : {Z : Type 0} (s : String Z) → is_utf8 (string_bytes s) ≡ true
     text s = is_utf8-from_IsUtf8 (string_bytes s) (IsUtf8-string_bytes s)
+
     ranges : is_receipt (read_row row s) ≡ true
     ranges =
         let one : nat_le 1 (length (string_bytes row.request)) ≡ true = grind (arith, nat_tests) in
         let most : nat_le (length (string_bytes row.request)) REQUEST_NUMBER_LIMIT ≡ true = grind (arith, nat_tests) in
         both _ _ (both _ _ (both _ _ (both _ _ (both _ _ one most) (text row.request)) (text row.path)) (text row.body)) (text row.reply)
-
-pub request_of : (row : ReceiptRow) → IsOfReceipt (receipt_values row) → (0 < length (string_bytes row.request)) × (length (string_bytes row.request) ≤ REQUEST_NUMBER_LIMIT)
-request_of row (r, is, same) =
-    let number : string_bytes row.request ≡ r.0 = cc in
-    let long : has_length (string_bytes row.request) ≡ true = subst (λ t. has_length t ≡ true) (sym number) (has_its_length r is) in
-    let one : nat_le 1 (length (string_bytes row.request)) ≡ true = first _ (nat_le (length (string_bytes row.request)) REQUEST_NUMBER_LIMIT) long in
-    let most : nat_le (length (string_bytes row.request)) REQUEST_NUMBER_LIMIT ≡ true = second (nat_le 1 (length (string_bytes row.request))) _ long in
-    (grind (arith, nat_tests), grind (arith, nat_tests))
 
 pub status_of : (row : ReceiptRow) → IsOfReceipt (receipt_values row) → (s : SuccessStatus) × (row.status ≡ pos (success_status s))
 status_of row (r, is, same) = (r.1.status, cc)
@@ -299,8 +287,7 @@ pub leaves_more : (all rows : List Row) (items front : List ReceiptRow) (row : R
 leaves_more all rows items front row count left split number each tail page =
     let parts : map receipt_values items ≡ map receipt_values front ++ receipt_values row ∷ [] = ap (map receipt_values) split ∙ map_push receipt_values front row in
     let begins = subst (Begins 16 rows) parts page in
-    let many : length (map receipt_values front ++ receipt_values row ∷ []) + left ≡ count = omega (arith, number, ap length parts, length-map items receipt_values) in
-    (
+    let many : length (map receipt_values front ++ receipt_values row ∷ []) + left ≡ count = omega (arith, number, ap length parts, length-map items receipt_values) in (
       forth all rows (map receipt_values front) (receipt_values row) (string_bytes row.request) count left tail begins refl many,
       back all rows (map receipt_values front) (receipt_values row) (string_bytes row.request) count left tail begins refl many (subst (AllByRecursion IsOfReceipt) parts each),
     )
@@ -318,10 +305,6 @@ receipts_are db id epoch count receipts number h =
   where
     same : (m n : ℕ) → pos m ≡ pos n → m ≡ n
     same m n e = cc
-
-pub has_receipts : (db : Trees) (id epoch : ℤ) (count : ℕ) → epoch ≡ pos count → AreReceipts count (of_tenant receipts_table id db) → (receipts : Receipts) × HasReceipts db id epoch receipts
-has_receipts db id epoch count number h =
-    (h.receipts, record { epoch_is = number ∙ ap pos (sym h.number); ranges = h.ranges; order = h.order; rows = h.same })
 
 -- the fault that was handed on
 pub same_fault : {A : Type 0} (r : Result A Fault) (e f d : Fault) → r ≡ Err e → e ≡ f → r ≡ Err d → f ≡ d

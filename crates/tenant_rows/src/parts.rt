@@ -190,11 +190,10 @@ pub fn pools_from(alloc: Global, rows: Vec<PoolRow>) -> Result<Option<Pools>, Al
 pub fn is_receipt_row(row: &ReceiptRow) -> bool
     ensures { IsTrue result ↔ IsOfReceipt (receipt_values row.now) }
 {
-    let length = row.request.as_str().len();
-    if length == 0 || length > REQUEST_NUMBER_LIMIT {
-        return false;
+    match row.request.as_str().len() {
+        1..=REQUEST_NUMBER_LIMIT => status(row.status).is_some(),
+        _ => false,
     }
-    status(row.status).is_some()
 }
 
 /// The request number and the receipt of a row. `None`, exactly where there is none.

@@ -5,7 +5,7 @@ use Rattle.std.specs.Option.{IfSome, is_some}
 use Rattle.std.proofs.lemmas.Int.{to_z-of_z}
 use Rattle.tenant_messages.specs.Reply.{success_status}
 use Rattle.tenant_messages.specs.declared.reply.SuccessStatus.{SuccessStatus}
-use Rattle.tenant_rows.proofs.Pages.{is_of_receipt, request_of, status_of}
+use Rattle.tenant_rows.proofs.Pages.{is_of_receipt, status_of}
 use Rattle.tenant_rows.proofs.parts.is_receipt_row.Goals as goal
 
 status_in : (o : Option SuccessStatus) (n : ℤ) → IfSome o (λ s. n ≡ pos (success_status s)) → is_some o ≡ true → (s : SuccessStatus) × (n ≡ pos (success_status s))
@@ -16,12 +16,11 @@ is_there : (o : Option SuccessStatus) → (o ≡ None → ⊥) → is_some o ≡
 is_there None none = absurd (none refl)
 is_there (Some s) none = refl
 
-pub returns : goal.returns
-returns c =
+pub returns-in-1-to-64 : goal.returns-in-1-to-64
+returns-in-1-to-64 c =
     let fits : SFits w64 c.args.row.now.status = search rules in
     let number = to_z-of_z w64 c.args.row.now.status fits in
-    let long = ap length c.as_str-length.ensures.value in
-    (
+    let long = ap length c.as_str.ensures.value in (
       λ some.
           let s = status_in c.status.result _ c.status.ensures.some (sym c.is_some.ensures ∙ some) in
           is_of_receipt c.args.row.now s.0 (omega (arith, long)) (omega (arith, long)) (sym number ∙ s.1),
