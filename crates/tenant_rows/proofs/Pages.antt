@@ -47,6 +47,7 @@ both false b h k = h
 
 -- ---- receipts and their rows in order
 
+-- receipts in order have rows that rise, and the other way round
 rising : (rs : Receipts) → is_ascending is_before rs ≡ true → IsRising (map row_of_receipt rs)
 rising [] h = tt
 rising (r ∷ []) h = (tt, tt)
@@ -65,7 +66,7 @@ each_one [] h = tt
 each_one (r ∷ rs) h = ((r, first (is_receipt r) (list_all is_receipt rs) h, refl), each_one rs (second (is_receipt r) (list_all is_receipt rs) h))
 
 -- the receipts of rows that are each of one
-pub record AreOf (rows : List Row) : Type 0 where
+record AreOf (rows : List Row) : Type 0 where
   pub receipts : Receipts
   pub ranges : list_all is_receipt receipts ≡ true
   pub is : rows ≡ map row_of_receipt receipts
@@ -167,12 +168,13 @@ module _ (all rows front : List Row) (last : Row) (after : List ℕ) (tail : IsT
   above : IsPermutation (rows_above after all) page.rest
   above = subst (λ l. IsPermutation l page.rest) (sym above_all) above_rows
 
--- so many receipts, of which the page has the first
+-- a page and what is left of it are as many as the receipts
 long : (rows page rest : List Row) (count : ℕ) → IsPermutation rows (page ++ rest) → AreReceipts count rows → length page + length rest ≡ count
 long rows page rest count same h =
     sym (length-append page rest) ∙ (length_permutation rows (page ++ rest) same ∙ (sym (length_permutation rows (map row_of_receipt h.receipts) h.same) ∙ (length-map h.receipts row_of_receipt ∙ h.number)))
 
-pub forth : (all rows front : List Row) (last : Row) (after : List ℕ) (count left : ℕ) → IsTail all rows → Begins 16 rows (front ++ last ∷ []) → column last 0 ≡ Words after → length (front ++ last ∷ []) + left ≡ count → AreReceipts count rows → AreReceipts left (rows_above after all)
+-- what is left of so many receipts, above the last of a page
+forth : (all rows front : List Row) (last : Row) (after : List ℕ) (count left : ℕ) → IsTail all rows → Begins 16 rows (front ++ last ∷ []) → column last 0 ≡ Words after → length (front ++ last ∷ []) + left ≡ count → AreReceipts count rows → AreReceipts left (rows_above after all)
 forth all rows front last after count left tail page is split h =
     let kept : Receipts = filter (λ r. is_above after (row_of_receipt r)) h.receipts in
     let mapped : rows_above after (map row_of_receipt h.receipts) ≡ map row_of_receipt kept = filter-map (is_above after) row_of_receipt h.receipts in
@@ -191,7 +193,8 @@ forth all rows front last after count left tail page is split h =
     ranges_kept : (rs : Receipts) → list_all is_receipt rs ≡ true → list_all is_receipt (filter (λ r. is_above after (row_of_receipt r)) rs) ≡ true
     ranges_kept rs h = test_from_all is_receipt _ (all-filter (λ r. is_receipt r ≡ true) (λ r. is_above after (row_of_receipt r)) rs (all_from_test is_receipt rs h))
 
-pub back : (all rows front : List Row) (last : Row) (after : List ℕ) (count left : ℕ) → IsTail all rows → Begins 16 rows (front ++ last ∷ []) → column last 0 ≡ Words after → length (front ++ last ∷ []) + left ≡ count → AllByRecursion IsOfReceipt (front ++ last ∷ []) → AreReceipts left (rows_above after all) → AreReceipts count rows
+-- a page of receipts, and those above it
+back : (all rows front : List Row) (last : Row) (after : List ℕ) (count left : ℕ) → IsTail all rows → Begins 16 rows (front ++ last ∷ []) → column last 0 ≡ Words after → length (front ++ last ∷ []) + left ≡ count → AllByRecursion IsOfReceipt (front ++ last ∷ []) → AreReceipts left (rows_above after all) → AreReceipts count rows
 back all rows front last after count left tail page is split each h =
     let these = receipts_of (front ++ last ∷ []) each in
     let here : List Row = map row_of_receipt these.receipts in
@@ -228,6 +231,7 @@ whole rows page count b short number each =
 
 -- ---- what a page of receipts has to be
 
+-- each row is that of a receipt, and they are as many as there may be
 pub each_of_page : (rows page : List Row) (count : ℕ) → Begins 16 rows page → AreReceipts count rows → AllByRecursion IsOfReceipt page
 each_of_page rows page count b h =
     all_front IsOfReceipt page b.rest (all_moved IsOfReceipt (map row_of_receipt h.receipts) (page ++ b.rest) (IsPermutation-trans _ _ _ (IsPermutation-sym rows _ h.same) b.same) (each_one h.receipts h.ranges))
@@ -240,13 +244,17 @@ not_fewer rows page count b short h = omega (arith, long rows page b.rest count 
 
 -- ---- lists of receipts
 
+-- the row of a receipt can be read
 is_row : (r : List ℕ × Receipt) → is_receipt r ≡ true → IsReceiptRow (row_of_receipt r)
 is_row r h =
-    let replies : is_utf8 r.1.reply ≡ true = second _ _ h in
-    let h3 = first (has_length r.0 && is_utf8 r.0 && is_utf8 r.1.path && is_utf8 r.1.body) (is_utf8 r.1.reply) h in
-    let h2 = first (has_length r.0 && is_utf8 r.0 && is_utf8 r.1.path) (is_utf8 r.1.body) h3 in
-    let h1 = first (has_length r.0 && is_utf8 r.0) (is_utf8 r.1.path) h2 in
-    (r.0, IsUtf8-from_is_utf8 r.0 (second (has_length r.0) (is_utf8 r.0) h1), r.1.path, IsUtf8-from_is_utf8 r.1.path (second (has_length r.0 && is_utf8 r.0) (is_utf8 r.1.path) h2), r.1.body, IsUtf8-from_is_utf8 r.1.body (second (has_length r.0 && is_utf8 r.0 && is_utf8 r.1.path) (is_utf8 r.1.body) h3), pos (success_status r.1.status), r.1.reply, IsUtf8-from_is_utf8 r.1.reply replies, refl)
+    let to_body = first (has_length r.0 && is_utf8 r.0 && is_utf8 r.1.path && is_utf8 r.1.body) (is_utf8 r.1.reply) h in
+    let to_path = first (has_length r.0 && is_utf8 r.0 && is_utf8 r.1.path) (is_utf8 r.1.body) to_body in
+    let to_number = first (has_length r.0 && is_utf8 r.0) (is_utf8 r.1.path) to_path in
+    let number = IsUtf8-from_is_utf8 r.0 (second (has_length r.0) (is_utf8 r.0) to_number) in
+    let path = IsUtf8-from_is_utf8 r.1.path (second (has_length r.0 && is_utf8 r.0) (is_utf8 r.1.path) to_path) in
+    let body = IsUtf8-from_is_utf8 r.1.body (second (has_length r.0 && is_utf8 r.0 && is_utf8 r.1.path) (is_utf8 r.1.body) to_body) in
+    let reply = IsUtf8-from_is_utf8 r.1.reply (second (has_length r.0 && is_utf8 r.0 && is_utf8 r.1.path && is_utf8 r.1.body) (is_utf8 r.1.reply) h) in
+    (r.0, number, r.1.path, path, r.1.body, body, pos (success_status r.1.status), r.1.reply, reply, refl)
 
 -- rows that no list of receipts' rows lists are those of no receipts
 pub unlisted : (rows : List Row) (count : ℕ) → ((list : List Row) → AllByRecursion IsReceiptRow list → ¬ Lists rows list) → ¬ AreReceipts count rows
@@ -262,6 +270,7 @@ unlisted rows count none h =
 abbrev read_row : ReceiptRow → SuccessStatus → List ℕ × Receipt
 read_row row s = (string_bytes row.request, record { path = string_bytes row.path; body = string_bytes row.body; status = s; reply = string_bytes row.reply })
 
+-- its request number has its length, and its status is one
 pub is_of_receipt : (row : ReceiptRow) (s : SuccessStatus) → 0 < length (string_bytes row.request) → length (string_bytes row.request) ≤ REQUEST_NUMBER_LIMIT → row.status ≡ pos (success_status s) → IsOfReceipt (receipt_values row)
 is_of_receipt row s some few status = (read_row row s, ranges, λ i. Words (string_bytes row.request) ∷ Words (string_bytes row.path) ∷ Words (string_bytes row.body) ∷ Int (status i) ∷ Words (string_bytes row.reply) ∷ [])
   where
@@ -277,6 +286,7 @@ is_of_receipt row s some few status = (read_row row s, ranges, λ i. Words (stri
 pub status_of : (row : ReceiptRow) → IsOfReceipt (receipt_values row) → (s : SuccessStatus) × (row.status ≡ pos (success_status s))
 status_of row (r, is, same) = (r.1.status, cc)
 
+-- each row of a list of them is that of a receipt
 pub one_of_receipt : (rows : List ReceiptRow) (i : ℕ) (row : ReceiptRow) → i < length rows → row ≡ get_or rows i row → AllByRecursion IsOfReceipt (map receipt_values rows) → IsOfReceipt (receipt_values row)
 one_of_receipt rows i row low at all =
     subst (λ r. IsOfReceipt (receipt_values r)) (sym at) (All-get_or (λ r. IsOfReceipt (receipt_values r)) rows i row low (All-from_recursion (λ r. IsOfReceipt (receipt_values r)) rows (all_unmap IsOfReceipt receipt_values rows all)))
@@ -299,6 +309,7 @@ chained all rows later count left (Some rest) same leaves = (λ h. leaves.0 (sam
 
 -- ---- the receipts of a tenant
 
+-- they are as many as the epoch says
 pub receipts_are : (db : Trees) (id epoch : ℤ) (count : ℕ) (receipts : Receipts) → epoch ≡ pos count → HasReceipts db id epoch receipts → AreReceipts count (of_tenant receipts_table id db)
 receipts_are db id epoch count receipts number h =
     record { receipts = receipts; number = same (length receipts) count (sym h.epoch_is ∙ number); ranges = h.ranges; order = h.order; same = h.rows }

@@ -38,7 +38,8 @@ fn are_receipts(rows: &[ReceiptRow]) -> bool
 }
 
 /// Judges the first page of rows that have to be those of so many receipts. `None`: there is no
-/// other page, and they are. `Err(Fault::Damaged)`: they are not, whatever is behind the page.
+/// other page, and they are. `Err(Fault::Damaged)`: they are not, whatever is behind the page. The
+/// page is dropped before the next one is read.
 fn rest_behind(page: Vec<ReceiptRow>, left: u64) -> Result<Option<Rest>, Fault>
     ensures leaves { (all rows : List Row) → IsTail all rows → Begins 16 rows (map receipt_values page.items) → IfOk result (Leaves all rows left) }
     ensures damaged { result ≡ Err Fault.Damaged → (rows : List Row) → Begins 16 rows (map receipt_values page.items) → ¬ AreReceipts left rows }
@@ -67,8 +68,8 @@ fn rest_behind(page: Vec<ReceiptRow>, left: u64) -> Result<Option<Rest>, Fault>
 /// Tests the receipts of the tenant with the number, in pages: that each is one, and that the
 /// epoch is their number. No row is changed.
 ///
-/// `Err(Fault::Damaged)`, exactly where they are the receipts of no state. `Err(Fault::Failed)`:
-/// the tables are latched.
+/// `Err(Fault::Damaged)`, exactly where they are the receipts of no state. `Err(Fault::NoMemory)`:
+/// an allocation failed. `Err(Fault::Failed)`: the tables are latched.
 pub fn judge_receipts<S: Alter>(tables: &mut Tables<S>, id: i64, epoch: i64) -> Result<(), Fault>
     requires live { tables.old.1 ≡ false }
     ensures found { HasCleanDisk (state S.Store tables.new.0) → OnOk result ((receipts : Receipts) × HasReceipts (state S.Store tables.old.0).now.trees id epoch receipts) }
