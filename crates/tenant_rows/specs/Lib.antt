@@ -1,3 +1,4 @@
 pub mod Changes
 pub mod Lists
+pub mod Pages
 pub mod Rows
