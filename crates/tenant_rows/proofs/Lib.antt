@@ -1,2 +1,4 @@
 pub mod Reading
 pub mod OneState
+pub mod Turns
+pub mod Writes

@@ -1,3 +1,4 @@
 pub mod Changes
+pub mod Commits
 pub mod Lists
 pub mod Rows
