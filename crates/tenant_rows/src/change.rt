@@ -25,12 +25,12 @@ use tenant_tables::write::{Pool as PoolValues, Receipt as ReceiptValues, State};
 
 // ---- numbers
 
-/// The number of the next epoch. `None`, where it isn't one of 64 bits.
-fn epoch_after(epoch: i64) -> Option<i64>
-    ensures some { IfSome result (λ next. (n : ℕ) → epoch ≡ pos n → next ≡ pos (n + 1)) }
-    ensures none { result ≡ None → (n : ℕ) → n < 2 ^ 32 → epoch ≢ pos n }
+/// The number of a tenant's next epoch. `None`, where it isn't one of 64 bits.
+fn epoch_after(tenant: &Tenant) -> Option<i64>
+    ensures some { IfSome result (λ next. (n : ℕ) → tenant.now.epoch ≡ pos n → next ≡ pos (n + 1)) }
+    ensures none { result ≡ None → (n : ℕ) → n < 2 ^ 32 → tenant.now.epoch ≢ pos n }
 {
-    epoch.checked_add(1)
+    tenant.epoch.checked_add(1)
 }
 
 /// The number of the version after so many. `None`, where it isn't one of 64 bits.
@@ -186,7 +186,7 @@ pub fn write_change<S: Alter>(
     ensures crash { Survives (state S.Store tables.old.0) (state S.Store tables.new.0) (λ db. (name : List ℕ) (s : TenantState) → IsChangeable (state S.Store tables.old.0).now.trees name s tenant.now versions change.now
         → Turns name (Some (after change.now s)) (state S.Store tables.old.0).now.trees db) }
 {
-    let Some(epoch) = epoch_after(tenant.epoch) else {
+    let Some(epoch) = epoch_after(tenant) else {
         return Err(Fault::Damaged);
     };
     let Some(number) = version_after(versions) else {
