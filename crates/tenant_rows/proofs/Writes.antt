@@ -1,5 +1,5 @@
 -- What a change writes are the rows of the state after it.
-use Rattle.std.proofs.Common.{◌≡◌, ℕ, ℤ, pos, suc, ◌+◌, ◌<◌, ◌≤◌, ◌^◌, ◌==◌, ◌||◌, List, [], ◌∷◌, ◌++◌, length, map, filter, fold, Bool, true, false, not, ◌&&◌, nat_le, nat_lt, if◌then◌else◌, Some, None, Ordering, Less, Equal, Greater, nat_cmp, is_eq, bytes_eq, arith, refl, sym, ap, subst, ◌∙◌, ◌<ℤ◌}
+use Rattle.std.proofs.Common.{◌≡◌, ℕ, ℤ, pos, suc, ◌+◌, ◌<◌, ◌≤◌, ◌==◌, ◌||◌, List, [], ◌∷◌, ◌++◌, length, map, filter, fold, Bool, true, false, not, nat_le, nat_lt, if◌then◌else◌, Some, None, Ordering, Less, Equal, Greater, nat_cmp, is_eq, bytes_eq, arith, refl, sym, ap, subst, ◌∙◌, ◌<ℤ◌}
 use Rattle.std.specs.Cmp.{int_ranks}
 use Rattle.std.specs.Cmp.Lexicographic.{slice_cmp}
 use Rattle.std.specs.List.{list_any}
@@ -255,13 +255,6 @@ module _ (db : Trees) (name : List ℕ) (s : TenantState) (tenant : Tenant) (ver
   pub is_number : IsNumber db tenant.id
   is_number = (name, epoch s, subst (λ id. IsTenant db name id (epoch s)) id_is may.state.1.tenant)
 
-  -- neither is large
-  pub few_changes : epoch s < 2 ^ 32
-  few_changes = let room = may.can.room in omega (arith, room)
-
-  pub few_versions : versions < 2 ^ 32
-  few_versions = let few = may.state.0.few_versions in let count = may.count in omega (arith, few, count)
-
   -- what a commit makes of the rows stands for the state after the change
   pub turned : (new : Trees) (r : tables.Receipt) (next number : ℤ) → IsChange c → receipt_row r ≡ row_of_receipt (c.number, c.receipt) → next ≡ pos (epoch s + 1) → number ≡ pos (versions + 1)
       → Accepts tenant.id next r (rows_with_made number c.made) db new → Turns name (Some (after c s)) db new
@@ -272,7 +265,7 @@ module _ (db : Trees) (name : List ℕ) (s : TenantState) (tenant : Tenant) (ver
         own = (
           state_stays c s change may.can may.state.0,
           after_rows c s r (epoch s + 1) new name may.state.0.has may.can.made may.can.new row refl
-          (subst (λ n. Holds new name (record (write.with_receipt r (rows_with_made n c.made (rows_of s))) { epoch = epoch s + 1 })) at turn.own),
+              (subst (λ n. Holds new name (record (write.with_receipt r (rows_with_made n c.made (rows_of s))) { epoch = epoch s + 1 })) at turn.own),
         );
         others = λ other u apart. keeps other db new u (turn.others other apart);
       }

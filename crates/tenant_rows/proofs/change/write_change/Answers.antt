@@ -1,4 +1,4 @@
-use Rattle.std.proofs.Common.{◌≡◌, ℕ, pos, ◌+◌, List, Some, ap, ◌∙◌, subst, rules}
+use Rattle.std.proofs.Common.{ℕ, List, Some, ap, ◌∙◌, subst, rules}
 use Rattle.std.proofs.lemmas.Result.{on_ok_weaker}
 use mir.Val.{SFits}
 use mir.Syntax.{w64}
@@ -13,7 +13,7 @@ use Rattle.tenant_rows.specs.Changes.{IsChangeable, Turns}
 use Rattle.tenant_rows.specs.Commits.{rows_with_made}
 use Rattle.tenant_rows.specs.Rows.{row_of_receipt}
 use Rattle.tenant_rows.proofs.Accepted.{accepted, number_of, word, word_is}
-use Rattle.tenant_rows.proofs.Writes.{epoch_is, few_changes, few_versions, is_number, turned}
+use Rattle.tenant_rows.proofs.Writes.{epoch_is, is_number, turned}
 use Rattle.tenant_rows.proofs.change.write_change.Given as given
 use Rattle.tenant_rows.proofs.change.write_change.Goals as goal
 

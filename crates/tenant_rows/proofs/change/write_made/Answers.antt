@@ -1,4 +1,4 @@
-use Rattle.std.proofs.Common.{◌≡◌, map, pos, ◌∷◌, OnOk, sym, ap, ◌∙◌, rules}
+use Rattle.std.proofs.Common.{◌≡◌, map, ◌∷◌, OnOk, sym, ap, ◌∙◌, rules}
 use mir.Val.{SFits}
 use mir.Syntax.{w64}
 use Rattle.sqlite.specs.Held.{state}
@@ -6,7 +6,7 @@ use Rattle.sqlite.specs.State.{Survives}
 use Rattle.sqlite_trees.specs.Tree.{Trees}
 use Rattle.crush_writing.specs.Canonical.{canonical}
 use Rattle.tenant_state.specs.Made.{made_of}
-use Rattle.tenant_tables.specs.Change.{pool_row, with_pool, with_states, with_version, without_pool}
+use Rattle.tenant_tables.specs.Change.{with_pool, with_states, with_version, without_pool}
 use Rattle.tenant_tables.specs.Holds.{TenantRows}
 use Rattle.tenant_rows.specs.Commits.{numbers_of, rows_with_made}
 use Rattle.tenant_rows.specs.Rows.{row_of_pool}
