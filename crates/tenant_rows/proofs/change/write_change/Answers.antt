@@ -1,4 +1,4 @@
-use Rattle.std.proofs.Common.{ℕ, List, Some, ap, ◌∙◌, subst, rules}
+use Rattle.std.proofs.Common.{ℕ, List, Some, subst, rules}
 use Rattle.std.proofs.lemmas.Result.{on_ok_weaker}
 use mir.Val.{SFits}
 use mir.Syntax.{w64}
@@ -6,13 +6,12 @@ use Rattle.sqlite.proofs.StateLemmas.{survives_weaker}
 use Rattle.sqlite.specs.Held.{state}
 use Rattle.sqlite_trees.specs.Tree.{Trees}
 use Rattle.tenant_state.specs.Made.{made_of}
-use Rattle.tenant_state.specs.State.{Change, TenantState, after, epoch}
+use Rattle.tenant_state.specs.State.{TenantState, after, epoch}
 use Rattle.tenant_state.specs.Valid.{IsChange}
 use Rattle.tenant_tables.specs.Change.{Accepts}
 use Rattle.tenant_rows.specs.Changes.{IsChangeable, Turns}
 use Rattle.tenant_rows.specs.Commits.{rows_with_made}
-use Rattle.tenant_rows.specs.Rows.{row_of_receipt}
-use Rattle.tenant_rows.proofs.Accepted.{accepted, number_of, word, word_is}
+use Rattle.tenant_rows.proofs.Accepted.{accepted, made_is, number_of, receipt_is, word}
 use Rattle.tenant_rows.proofs.Writes.{epoch_is, is_number, turned}
 use Rattle.tenant_rows.proofs.change.write_change.Given as given
 use Rattle.tenant_rows.proofs.change.write_change.Goals as goal
@@ -34,9 +33,9 @@ turn g c name s db may written =
     let fits-id : SFits w64 c.args.tenant.now.id = search rules in
     let fits-epoch : SFits w64 c.in-Some.epoch = search rules in
     let fits-number : SFits w64 c.in-Some-version_after.number = search rules in
-    let made = ap (λ n. rows_with_made n (made_of c.change.inside.made)) (word_is c.in-Some-version_after.number fits-number) ∙ ap (λ (x : Change). rows_with_made c.in-Some-version_after.number x.made) c.change.view_is in
+    let made = made_is c.in-Some-version_after.number _ _ fits-number c.change.view_is in
     turned old name s c.args.tenant.now c.args.versions change may db c.receipt_values-receipt.result c.in-Some.epoch c.in-Some-version_after.number (subst IsChange c.change.view_is c.change.invariant)
-    (c.receipt_values-receipt.ensures ∙ (ap (λ r. row_of_receipt (c.change.inside.number, r)) c.as_ref.ensures ∙ ap (λ (x : Change). row_of_receipt (x.number, x.receipt)) c.change.view_is))
+    (receipt_is c.receipt_values-receipt.result _ _ _ c.receipt_values-receipt.ensures c.as_ref.ensures c.change.view_is)
     (c.in-Some.ensures.some (epoch s) (epoch_is old name s c.args.tenant.now c.args.versions change may))
     c.in-Some-version_after.ensures.some
     (accepted (λ (A : Trees → Type 0). A db) c.args.tenant.now.id c.in-Some.epoch c.receipt_values-receipt.result old _ _ fits-id fits-epoch made written)
