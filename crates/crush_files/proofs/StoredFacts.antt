@@ -1,4 +1,5 @@
--- Tables that were made or found say of tenants what the database did before; and a run over states says the same of states that are as these.
+-- Tables that were made or found say of tenants what the database said before; and what is said of
+-- a run over states is said of the same states.
 use Rattle.std.proofs.Common.{◌≡◌, ◌≢◌, ◌⊎◌, ◌↔◌, ℕ, List, [], ◌∷◌, Bool, true, false, Option, None, inl, inr, refl, sym, ap, subst}
 use Rattle.sqlite.specs.Effect.{Database}
 use Rattle.sqlite.specs.Schema.{Schema}

@@ -6,6 +6,7 @@ use Rattle.tenant_rows.specs.Rows.{StandsFor}
 use Rattle.tenant_state.specs.State.{TenantState}
 use Rattle.tenant_tables.specs.Layout.{no_schema, store_schema}
 
--- each tenant is absent where there are no tables yet; else it has the state that its rows stand for
+-- Each tenant is absent where there are no tables yet; else it has the state that its rows stand
+-- for.
 abbrev pub StatesIn : Database → States
 StatesIn db t s = ((db.schema ≡ no_schema) × (s ≡ None)) ⊎ ((db.schema ≡ store_schema) × StandsFor db.trees t s)
