@@ -109,20 +109,28 @@ pub found_states : (db : Database) (rows : Trees)
     → (db.schema ≢ no_schema → (db.schema ≡ store_schema) × (rows ≡ db.trees))
     → Same (λ t s. StandsFor rows t s) (StatesIn db)
 found_states db rows one made adopted t s = elim (has_tables db.schema) [
-  | inl none ↦ (λ has. inl (none, one t s None has (made none t)), λ said. elim said [
+  | inl none ↦ (
+    λ has. inl (none, one t s None has (made none t)),
+    λ said. elim said [
       | inl e ↦ subst (StandsFor rows t) (sym e.1) (made none t)
       | inr e ↦ absurd (no_tables (sym e.0 ∙ none))
-    ])
-  | inr some ↦ let own = adopted some in
-    (λ has. inr (own.0, subst (λ x. StandsFor x t s) own.1 has), λ said. elim said [
+    ],
+  )
+  | inr some ↦ let own = adopted some in (
+    λ has. inr (own.0, subst (λ x. StandsFor x t s) own.1 has),
+    λ said. elim said [
       | inl e ↦ absurd (some e.0)
       | inr e ↦ subst (λ x. StandsFor x t s) (sym own.1) e.1
-    ])
+    ],
+  )
 ]
 
 -- and so are those that it leaves
 pub left_states : (db : Database) → db.schema ≡ store_schema → Same (λ t s. StandsFor db.trees t s) (StatesIn db)
-left_states db own t s = (λ has. inr (own, has), λ said. elim said [
-  | inl e ↦ absurd (no_tables (sym own ∙ e.0))
-  | inr e ↦ e.1
-])
+left_states db own t s = (
+  λ has. inr (own, has),
+  λ said. elim said [
+    | inl e ↦ absurd (no_tables (sym own ∙ e.0))
+    | inr e ↦ e.1
+  ],
+)
