@@ -6,6 +6,7 @@ use std::rt::HostRuntime;
 
 /// Where the log of a database file is, and how long it was before the file was opened, if it was
 /// there.
+#[derive(Drop)]
 pub struct LogBefore {
     path: String,
     length: Option<u64>,
