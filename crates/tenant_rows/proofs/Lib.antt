@@ -1,2 +1,5 @@
 pub mod Reading
+pub mod Orders
 pub mod OneState
+pub mod Whole
+pub mod Counting
