@@ -3,3 +3,4 @@ pub mod Orders
 pub mod OneState
 pub mod Whole
 pub mod Counting
+pub mod Listed

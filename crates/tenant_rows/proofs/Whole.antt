@@ -1,19 +1,25 @@
 -- A name stands for a state where what the state has and its receipts are the tenant's, and then
 -- alone.
-use Rattle.std.proofs.Common.{◌≡◌, ◌≤◌, ℕ, ℤ, pos, List, [], ◌∷◌, length, map, Option, Some, None, sym, ap, ◌∙◌, subst, IsPermutation}
+use Rattle.std.proofs.Common.{◌≡◌, ◌≤◌, ℕ, ℤ, pos, List, [], ◌∷◌, length, map, true, Option, Some, None, sym, ap, ◌∙◌, subst, IsPermutation}
+use Rattle.std.specs.List.{list_all}
 use Rattle.sqlite_value.specs.declared.value.Value.TheVariants.{Int}
 use Rattle.sqlite_value.specs.Order.{column}
 use Rattle.sqlite_trees.specs.Tree.{Trees}
-use Rattle.tenant_state.specs.Receipts.{Receipts}
+use Rattle.tenant_state.specs.Ordered.{is_ascending}
+use Rattle.tenant_state.specs.Receipts.{Receipts, is_before}
 use Rattle.tenant_state.specs.State.{Inventory, TenantState, epoch, inventory_of, with_receipts}
-use Rattle.tenant_state.specs.Valid.{IsState}
+use Rattle.tenant_state.specs.Valid.{IsState, is_receipt}
 use Rattle.tenant_state.specs.declared.limits.TheConstants.{RECEIPT_LIMIT}
-use Rattle.tenant_tables.specs.Found.{Names}
+use Rattle.tenant_tables.specs.Found.{Names, receipt_values}
 use Rattle.tenant_tables.specs.Holds.{IsTenant, of_tenant}
 use Rattle.tenant_tables.specs.Layout.{maps_table, devices_table, pools_table, receipts_table}
 use Rattle.tenant_tables.specs.declared.find.Tenant.{Tenant}
+use Rattle.tenant_tables.specs.declared.rows.PoolRow.{PoolRow}
+use Rattle.tenant_tables.specs.declared.rows.ReceiptRow.{ReceiptRow}
+use Rattle.tenant_tables.specs.declared.rows.VersionRow.{VersionRow}
+use Rattle.tenant_tables.specs.declared.write.State.{State}
 use Rattle.tenant_rows.specs.Changes.{HasRows, HasReceipts}
-use Rattle.tenant_rows.specs.Lists.{IsOfState}
+use Rattle.tenant_rows.specs.Lists.{IsOfState, AreRowsOf, AreRowsOfState}
 use Rattle.tenant_rows.specs.Rows.{rows_of_versions, row_of_state, row_of_pool, row_of_receipt, StandsFor}
 use Rattle.tenant_rows.proofs.OneState.{one_row, int_is}
 
@@ -29,14 +35,11 @@ has_of_state s is = record {
   rules = is.rules;
 }
 
-nat_is : (m n : ℕ) → pos m ≡ pos n → m ≡ n
+pub nat_is : (m n : ℕ) → pos m ≡ pos n → m ≡ n
 nat_is m n h = cc
 
-count_of : (db : Trees) (id : ℤ) (i : Inventory) (receipts : Receipts) → HasReceipts db id (pos i.epoch) receipts → i.epoch ≡ length receipts
-count_of db id i receipts those = nat_is i.epoch (length receipts) those.epoch_is
-
-state_with : (db : Trees) (id : ℤ) (i : Inventory) (receipts : Receipts) → IsOfState i → HasReceipts db id (pos i.epoch) receipts → IsState (with_receipts i receipts)
-state_with db id i receipts is those = record {
+pub is_state_of : (i : Inventory) (receipts : Receipts) → IsOfState i → i.epoch ≡ length receipts → list_all is_receipt receipts ≡ true → is_ascending is_before receipts ≡ true → IsState (with_receipts i receipts)
+is_state_of i receipts is count ranges order = record {
   has = record {
     maps = is.has.maps;
     devices = is.has.devices;
@@ -48,9 +51,22 @@ state_with db id i receipts is those = record {
   few_pools = is.few_pools;
   names = is.names;
   rules = is.rules;
-  few_receipts = subst (λ n. n ≤ RECEIPT_LIMIT) (count_of db id i receipts those) is.few_receipts;
-  receipts = those.ranges;
-  receipt_order = those.order;
+  few_receipts = subst (λ n. n ≤ RECEIPT_LIMIT) count is.few_receipts;
+  receipts = ranges;
+  receipt_order = order;
+}
+
+-- the lists of rows of the whole state
+pub are_rows_of_state : (i : Inventory) (receipts : Receipts) (epoch : ℤ) (versions : List VersionRow) (states : List State) (pools : List PoolRow) (rows : List ReceiptRow) → i.epoch ≡ length receipts
+    → AreRowsOf i epoch versions states pools → map receipt_values rows ≡ map row_of_receipt receipts → AreRowsOfState (with_receipts i receipts) epoch versions states pools rows
+are_rows_of_state i receipts epoch versions states pools rows count are read = record {
+  has = record {
+    epoch_is = are.epoch_is ∙ ap pos count;
+    versions_are = are.versions_are;
+    states_are = are.states_are;
+    pools_are = are.pools_are;
+  };
+  receipts_are = read;
 }
 
 -- ---- from the parts to the state
@@ -59,10 +75,11 @@ state_with db id i receipts is those = record {
 pub stands : (db : Trees) (name : List ℕ) (id : ℤ) (i : Inventory) (receipts : Receipts) → IsTenant db name id i.epoch → IsOfState i → HasRows db id (pos i.epoch) i → HasReceipts db id (pos i.epoch) receipts
     → StandsFor db name (Some (with_receipts i receipts))
 stands db name id i receipts tenant is rows those =
-    (state_with db id i receipts is those,
+    let count = nat_is i.epoch (length receipts) those.epoch_is in
+    (is_state_of i receipts is count those.ranges those.order,
     record {
       id = id;
-      tenant = subst (IsTenant db name id) (count_of db id i receipts those) tenant;
+      tenant = subst (IsTenant db name id) count tenant;
       maps = rows.versions;
       devices = rows.devices;
       pools = rows.pools;
