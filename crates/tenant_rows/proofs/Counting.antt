@@ -1,35 +1,43 @@
--- Tests of pools, and how many rows a list has.
-use Rattle.std.proofs.Common.{◌≡◌, ◌==◌, ◌≤◌, ◌||◌, ℕ, suc, ◌+◌, List, [], ◌∷◌, length, map, Bool, true, false, ◌&&◌, not, Option, Some, None, is_some, option_and_then, bytes_eq, arith, refl, sym, ap, ◌∙◌}
+-- Tests of each part, and how many there are.
+use Rattle.std.proofs.Common.{◌≡◌, ◌==◌, ◌<◌, ◌||◌, ◌&&◌, ℕ, suc, List, [], ◌∷◌, length, map, Bool, false, Option, Some, None, is_some, option_and_then, arith, refl, sym, ap, ◌∙◌}
 use Rattle.std.specs.List.{list_all, list_any}
+use Rattle.std.proofs.lemmas.Bool.Decides.{nat_tests}
 use Rattle.std.proofs.lemmas.List.{length-map}
 use Rattle.sqlite_value.specs.Order.{Row}
 use Rattle.crush_map.specs.Map.{Map}
 use Rattle.crush_pool.specs.Placements.{rule_numbered}
 use Rattle.crush_pool.specs.declared.pool.PoolParts.{PoolParts}
-use Rattle.tenant_state.specs.Valid.{are_named_once}
-use Rattle.tenant_rows.specs.Rows.{rows_of_versions}
+use Rattle.tenant_state.specs.State.{Inventory, have_rules, newest, version}
 
 pub any_map : {X Y : Type 0} (test : X → Bool) (of : Y → X) (ys : List Y) → list_any test (map of ys) ≡ list_any (λ y. test (of y)) ys
 any_map test of [] = refl
 any_map test of (y ∷ ys) = ap (λ b. test (of y) || b) (any_map test of ys)
 
--- a pool with a name of its own decides nothing
-pub named_more : (p : PoolParts) (ps : List PoolParts) → list_any (λ q. bytes_eq q.name p.name) ps ≡ false → are_named_once (p ∷ ps) ≡ are_named_once ps
-named_more p ps other = ap (λ b. not b && are_named_once ps) other
+pub all_map : {X Y : Type 0} (test : X → Bool) (of : Y → X) (ys : List Y) → list_all test (map of ys) ≡ list_all (λ y. test (of y)) ys
+all_map test of [] = refl
+all_map test of (y ∷ ys) = ap (λ b. test (of y) && b) (all_map test of ys)
 
-pub named_twice : (p : PoolParts) (ps : List PoolParts) → list_any (λ q. bytes_eq q.name p.name) ps ≡ true → are_named_once (p ∷ ps) ≡ false
-named_twice p ps same = ap (λ b. not b && are_named_once ps) same
+-- ---- the rules of pools in the newest version
 
-pub on_some : (o : Option Map) (m : Map) (ps : List PoolParts) → o ≡ Some m → list_all (λ p. is_some (rule_numbered m p.rule)) ps ≡ list_all (λ p. is_some (option_and_then (λ m. rule_numbered m p.rule) o)) ps
-on_some o m ps is = rw is refl
+rules_in : List PoolParts → Option Map → Bool
+rules_in pools found = list_all (λ p. is_some (option_and_then (λ m. rule_numbered m p.rule) found)) pools
 
-pub on_none : (o : Option Map) (ps : List PoolParts) → o ≡ None → (length ps == 0) ≡ list_all (λ p. is_some (option_and_then (λ m. rule_numbered m p.rule) o)) ps
-on_none o [] is = refl
-on_none o (p ∷ ps) is = rw is refl
+pub rules_on_some : (i : Inventory) (m : Map) → Some m ≡ version (newest i) i → list_all (λ p. is_some (rule_numbered m p.rule)) i.pools ≡ have_rules i
+unfolding rules_in
+rules_on_some i m is = ap (rules_in i.pools) is
 
-pub count_versions : (start : ℕ) (maps : List Map) → length (rows_of_versions start maps) ≡ length maps
-count_versions start [] = refl
-count_versions start (m ∷ maps) = ap suc (count_versions (start + 1) maps)
+none_of : (pools : List PoolParts) → (length pools == 0) ≡ list_all (λ p. false) pools
+none_of [] = refl
+none_of (p ∷ pools) = differs (length (p ∷ pools)) (omega arith)
+  where
+    differs : (n : ℕ) → 0 < n → (n == 0) ≡ false
+    differs n more = grind (arith, nat_tests)
+
+pub rules_on_none : (i : Inventory) → None ≡ version (newest i) i → (length i.pools == 0) ≡ have_rules i
+unfolding rules_in
+rules_on_none i is = none_of i.pools ∙ ap (rules_in i.pools) is
+
+-- ---- how many rows there are
 
 pub count_rows : {R V : Type 0} (f : R → Row) (g : V → Row) (rows : List R) (vs : List V) → map f rows ≡ map g vs → length rows ≡ length vs
 count_rows f g rows vs same = sym (length-map rows f) ∙ (ap length same ∙ length-map vs g)

@@ -1,5 +1,5 @@
 -- The rows of a state's parts: each is one of its table, and their keys rise, in one order alone.
-use Rattle.std.proofs.Common.{◌≡◌, ℕ, pos, suc, ◌+◌, ◌<◌, add-one, List, [], ◌∷◌, map, Bool, true, false, ◌&&◌, nat_lt, nat_le, Ordering, Less, is_lt, arith, refl, sym, ap, ◌∙◌, IsPermutation, IsSorted, IsUtf8}
+use Rattle.std.proofs.Common.{◌≡◌, ℕ, pos, suc, ◌+◌, ◌<◌, add-one, List, [], ◌∷◌, map, get_or, Bool, true, false, ◌&&◌, nat_lt, nat_le, Ordering, Less, is_lt, arith, refl, sym, ap, ◌∙◌, IsPermutation, IsSorted, IsUtf8}
 use Rattle.std.specs.Cmp.{IsTotalOrder}
 use Rattle.std.specs.List.{All, AllByRecursion, list_all}
 use Rattle.std.specs.Ordering.{ordering_reverse}
@@ -78,7 +78,7 @@ not_below a b up = ap is_lt (key_total.antisymm b a ∙ ap ordering_reverse up)
 
 pub one_order : (all xs ys : List Row) → IsRising xs → IsRising ys → IsPermutation all xs → IsPermutation all ys → xs ≡ ys
 one_order all xs ys up other same those =
-    let sorted : IsSorted key_cmp xs = λ k d low within. rw add-one (not_below _ _ (neighbours Rises xs up k d d (omega (arith, within)))) in
+    let sorted : IsSorted key_cmp xs = λ k d low within. rw add-one (not_below (get_or xs k d) (get_or xs (suc k) d) (neighbours Rises xs up k d d (omega (arith, within)))) in
     sorted_unique key_cmp key_total ys xs other (IsPermutation-trans ys all xs (IsPermutation-sym all ys those) same) sorted
 
 -- ---- rows of the tables
