@@ -1,6 +1,7 @@
 -- Rows of the tables that are listed by their keys, and what a tenant has.
-use Rattle.std.proofs.Common.{◌≡◌, ℤ, List, map, sym, subst, IsPermutation, IsUtf8}
+use Rattle.std.proofs.Common.{◌≡◌, ℤ, List, map, Bool, true, false, Result, Ok, Err, refl, ap, subst, IsPermutation, IsUtf8}
 use Rattle.std.specs.List.{AllByRecursion}
+use Rattle.sqlite.specs.Effect.{Database}
 use Rattle.sqlite_trees.specs.Tree.{Trees}
 use Rattle.crush_map.specs.Map.{Map, IsMap}
 use Rattle.crush_writing.specs.Canonical.{canonical}
@@ -9,6 +10,8 @@ use Rattle.tenant_tables.specs.Change.{state_row}
 use Rattle.tenant_tables.specs.Found.{Lists, IsVersionRow, IsStateRow, IsPoolRow, version_values, pool_values}
 use Rattle.tenant_tables.specs.Holds.{of_tenant}
 use Rattle.tenant_tables.specs.Layout.{maps_table, devices_table, pools_table}
+use Rattle.tenant_tables.specs.declared.refuse.Fault.{Fault}
+use Rattle.tenant_tables.specs.declared.refuse.Fault.TheVariants.{Failed}
 use Rattle.tenant_tables.specs.declared.rows.PoolRow.{PoolRow}
 use Rattle.tenant_tables.specs.declared.rows.VersionRow.{VersionRow}
 use Rattle.tenant_tables.specs.declared.write.State.{State}
@@ -16,6 +19,22 @@ use Rattle.tenant_rows.specs.Changes.{HasRows}
 use Rattle.tenant_rows.specs.Lists.{IsOfState, AreRowsOf}
 use Rattle.tenant_rows.specs.Rows.{rows_of_versions, row_of_state, row_of_pool}
 use Rattle.tenant_rows.proofs.Orders.{one_order, versions_rise, states_rise, pools_rise, are_versions, are_states, are_pools}
+
+-- ---- calls that change no row
+
+-- what holds of a database and a number
+pub moved : (P : Trees → ℤ → Type 0) (a b : Database) (m n : ℤ) → a ≡ b → m ≡ n → P a.trees m → P b.trees n
+moved P a b m n same number it = subst (λ (d : Database). P d.trees n) same (subst (P a.trees) number it)
+
+-- a call that answered has not latched the tables
+pub is_live : {A : Type 0} (b : Bool) (x : A) → (b ≡ true → ◌≡◌ {A = Result A Fault} (Ok x) (Err Failed)) → b ≡ false
+is_live true x h = let no = h refl in cc
+is_live false x h = refl
+
+-- the fault is handed on
+pub told : {A B : Type 0} (r : Result A Fault) (x f g : Fault) → r ≡ Err x → x ≡ f → r ≡ Err g → ◌≡◌ {A = Result B Fault} (Err f) (Err g)
+told r x f g is same answer =
+    let both : f ≡ g = cc in ap Err both
 
 -- ---- what a tenant has is listed
 

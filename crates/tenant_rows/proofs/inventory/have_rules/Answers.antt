@@ -1,4 +1,4 @@
-use Rattle.std.proofs.Common.{◌≡◌, ◌==◌, ◌∙◌, Some, None, is_some, length, subst, sym, ap}
+use Rattle.std.proofs.Common.{◌≡◌, ◌==◌, ◌∙◌, Some, None, is_some, length, sym, ap}
 use Rattle.std.specs.List.{list_all}
 use Rattle.std.proofs.lemmas.List.{length-map}
 use Rattle.crush_pool.specs.Placements.{rule_numbered}
@@ -20,6 +20,6 @@ pub returns-in-None : goal.returns-in-None
 returns-in-None c =
     let i = c.args.inventory.now in
     let is : None ≡ version c.newest.result i = c.in-None.ensures in
-    let e = c.is_empty.ensures in
     let count : length c.as_slice-in-None.result.now ≡ length i.pools =
-    sym (length-map c.as_slice-in-None.result.now (λ p. p.value)) ∙ ap length (c.as_slice-in-None.ensures ∙ c.pools-in-None.ensures) in ?
+    sym (length-map c.as_slice-in-None.result.now (λ p. p.value)) ∙ ap length (c.as_slice-in-None.ensures ∙ c.pools-in-None.ensures) in
+    c.is_empty.ensures ∙ (ap (λ n. n == 0) count ∙ rules_on_none i (is ∙ ap (λ n. version n i) c.newest.ensures))
