@@ -1,5 +1,5 @@
 -- Tests of each part, and how many there are.
-use Rattle.std.proofs.Common.{◌≡◌, ◌==◌, ◌<◌, ◌||◌, ◌&&◌, ℕ, suc, List, [], ◌∷◌, length, map, Bool, false, Option, Some, None, is_some, option_and_then, arith, refl, sym, ap, ◌∙◌}
+use Rattle.std.proofs.Common.{◌≡◌, ◌==◌, ◌<◌, ◌||◌, ◌&&◌, ℕ, List, [], ◌∷◌, length, map, Bool, false, Option, Some, None, is_some, option_and_then, arith, refl, sym, ap, ◌∙◌}
 use Rattle.std.specs.List.{list_all, list_any}
 use Rattle.std.proofs.lemmas.Bool.Decides.{nat_tests}
 use Rattle.std.proofs.lemmas.List.{length-map}

@@ -1,18 +1,14 @@
 -- The rows of a state's parts: each is one of its table, and their keys rise, in one order alone.
-use Rattle.std.proofs.Common.{◌≡◌, ℕ, pos, suc, ◌+◌, ◌<◌, add-one, List, [], ◌∷◌, map, get_or, Bool, true, false, ◌&&◌, nat_lt, nat_le, Ordering, Less, is_lt, arith, refl, sym, ap, ◌∙◌, IsPermutation, IsSorted, IsUtf8}
+use Rattle.std.proofs.Common.{◌≡◌, ℕ, pos, suc, ◌+◌, ◌<◌, add-one, List, [], ◌∷◌, map, get_or, Bool, true, false, nat_lt, Ordering, Less, is_lt, arith, refl, ap, ◌∙◌, IsPermutation, IsSorted, IsUtf8}
 use Rattle.std.specs.Cmp.{IsTotalOrder}
 use Rattle.std.specs.List.{All, AllByRecursion, list_all}
 use Rattle.std.specs.Ordering.{ordering_reverse}
-use Rattle.std.specs.Str.{is_utf8}
 use Rattle.std.proofs.lemmas.Bool.Decides.{nat_tests}
 use Rattle.std.proofs.lemmas.Cmp.{on_total}
 use Rattle.std.proofs.lemmas.List.Elements.{All-head, All-tail}
 use Rattle.std.proofs.lemmas.List.Sorted.{IsPermutation-sym, IsPermutation-trans}
-use Rattle.std.proofs.lemmas.Str.{IsUtf8-from_is_utf8}
-use Rattle.sqlite_value.specs.declared.value.Value.TheVariants.{Int, Text as Words}
 use Rattle.sqlite_value.specs.Order.{Row, column, value_cmp}
 use Rattle.sqlite_value.proofs.OrderLemmas.{value_cmp_total}
-use Rattle.sqlite_trees.specs.Tree.{IsAscending}
 use Rattle.sqlite_keyed.proofs.ListLemmas.{all_weaker}
 use Rattle.sqlite_keyed.proofs.SortLemmas.{sorted_unique}
 use Rattle.crush_grammar.proofs.Names.{are_utf8}
@@ -22,13 +18,10 @@ use Rattle.crush_pool.specs.Pools.{is_pool}
 use Rattle.crush_pool.specs.declared.pool.PoolParts.{PoolParts}
 use Rattle.crush_pool.specs.declared.states.DeviceState.{DeviceState}
 use Rattle.crush_writing.specs.Canonical.{canonical}
-use Rattle.tenant_messages.specs.Reply.{success_status}
 use Rattle.tenant_state.specs.Ordered.{is_ascending}
 use Rattle.tenant_state.specs.Receipts.{Receipts, is_before}
 use Rattle.tenant_state.specs.State.{is_lower_device, is_lower_pool}
-use Rattle.tenant_state.specs.Valid.{is_receipt}
-use Rattle.tenant_state.specs.declared.receipts.Receipt.{Receipt}
-use Rattle.tenant_tables.specs.Found.{IsRising, IsVersionRow, IsStateRow, IsPoolRow, IsReceiptRow}
+use Rattle.tenant_tables.specs.Found.{IsRising, IsVersionRow, IsStateRow, IsPoolRow}
 use Rattle.tenant_tables.proofs.Rising.{below_int, below_text, neighbours}
 use Rattle.tenant_rows.specs.Rows.{flag, row_of_version, rows_of_versions, row_of_state, row_of_pool, row_of_receipt}
 use Rattle.tenant_rows.proofs.Reading.{first, second}
@@ -101,6 +94,7 @@ text_of_name name h = are_utf8 name (second _ (list_all is_name_byte name) h)
 pub are_pools : (pools : List PoolParts) → list_all is_pool pools ≡ true → AllByRecursion IsPoolRow (map row_of_pool pools)
 are_pools [] all = tt
 are_pools (p ∷ pools) all =
-    let is = first (is_pool p) (list_all is_pool pools) all in
-    ((pos p.id, p.name, text_of_name p.name (name_of p is), flag p.erasure, pos p.size, pos p.rule, pos p.pg_num, pos p.pgp_num, flag p.hashpspool, refl),
-    are_pools pools (second (is_pool p) (list_all is_pool pools) all))
+    let is = first (is_pool p) (list_all is_pool pools) all in (
+      (pos p.id, p.name, text_of_name p.name (name_of p is), flag p.erasure, pos p.size, pos p.rule, pos p.pg_num, pos p.pgp_num, flag p.hashpspool, refl),
+      are_pools pools (second (is_pool p) (list_all is_pool pools) all),
+    )

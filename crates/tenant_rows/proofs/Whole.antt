@@ -1,6 +1,6 @@
 -- A name stands for a state where what the state has and its receipts are the tenant's, and then
 -- alone.
-use Rattle.std.proofs.Common.{◌≡◌, ◌≤◌, ℕ, ℤ, pos, List, [], ◌∷◌, length, map, true, Option, Some, None, sym, ap, ◌∙◌, subst, IsPermutation}
+use Rattle.std.proofs.Common.{◌≡◌, ◌≤◌, ℕ, ℤ, pos, List, length, map, true, Some, None, sym, ap, ◌∙◌, subst, IsPermutation}
 use Rattle.std.specs.List.{list_all}
 use Rattle.sqlite_value.specs.declared.value.Value.TheVariants.{Int}
 use Rattle.sqlite_value.specs.Order.{column}
@@ -75,16 +75,17 @@ are_rows_of_state i receipts epoch versions states pools rows count are read = r
 pub stands : (db : Trees) (name : List ℕ) (id : ℤ) (i : Inventory) (receipts : Receipts) → IsTenant db name id i.epoch → IsOfState i → HasRows db id (pos i.epoch) i → HasReceipts db id (pos i.epoch) receipts
     → StandsFor db name (Some (with_receipts i receipts))
 stands db name id i receipts tenant is rows those =
-    let count = nat_is i.epoch (length receipts) those.epoch_is in
-    (is_state_of i receipts is count those.ranges those.order,
-    record {
-      id = id;
-      tenant = subst (IsTenant db name id) count tenant;
-      maps = rows.versions;
-      devices = rows.devices;
-      pools = rows.pools;
-      receipts = those.rows;
-    })
+    let count = nat_is i.epoch (length receipts) those.epoch_is in (
+      is_state_of i receipts is count those.ranges those.order,
+      record {
+        id = id;
+        tenant = subst (IsTenant db name id) count tenant;
+        maps = rows.versions;
+        devices = rows.devices;
+        pools = rows.pools;
+        receipts = those.rows;
+      },
+    )
 
 -- the tenant that was found, with its epoch
 pub is_tenant : (db : Trees) (name : List ℕ) (tenant : Tenant) (e : ℕ) → Names db name (Some tenant) → tenant.epoch ≡ pos e → IsTenant db name tenant.id e

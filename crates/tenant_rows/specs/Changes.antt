@@ -1,7 +1,6 @@
 -- What calls make of the states that rows stand for.
 use Rattle.std.specs.Prelude.{ℕ, ℤ, pos, ◌≡◌, ◌≢◌, ◌↔◌, List, Option, map, true, length, IsPermutation}
 use Rattle.std.specs.List.{list_all}
-use Rattle.sqlite_value.specs.Order.{Row}
 use Rattle.sqlite_trees.specs.Tree.{Trees}
 use Rattle.tenant_state.specs.Ordered.{is_ascending}
 use Rattle.tenant_state.specs.Receipts.{Receipts, is_before}

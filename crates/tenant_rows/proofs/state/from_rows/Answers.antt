@@ -1,6 +1,6 @@
 use mir.Val.{SFits}
 use mir.Syntax.{w64}
-use Rattle.std.proofs.Common.{◌≡◌, ◌∙◌, ℕ, List, rules, map, length, to_z, of_z, sym, ap, subst}
+use Rattle.std.proofs.Common.{◌≡◌, ◌∙◌, ℕ, List, rules, map, length, sym, ap, subst}
 use Rattle.std.proofs.lemmas.Int.{to_z-of_z}
 use Rattle.tenant_state.specs.Receipts.{Receipts}
 use Rattle.tenant_state.specs.State.{Inventory, inventory_of}
