@@ -4,12 +4,10 @@
 mod fault;
 mod file;
 mod log;
-mod on_store;
 mod on_tables;
 mod opening;
 
 pub use fault::FileFault;
 pub use file::script_on_file;
-pub use on_store::script_on_store;
 pub use on_tables::{READY_BYTES, script_on_tables};
 pub use opening::open_store;

@@ -13,8 +13,7 @@ ghost use Rattle.tenant_rows.specs.Rows.{StandsFor};
 ghost use Rattle.tenant_store.specs.Shown.{IsHonest};
 ghost use Rattle.tenant_tables.specs.Run.{IsReady};
 
-use crate::on_store::script_on_store;
-use crush_app::ScriptEnd;
+use crush_app::{ScriptEnd, script_on_store};
 use sqlite::{Alter, Connection};
 use std::alloc::{AllocError, Global};
 use std::io::{Read, Write};

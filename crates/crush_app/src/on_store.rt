@@ -8,7 +8,8 @@ ghost use Rattle.crush_app.specs.Play.{Plays, PlaysUntilLatched, PlaysUpTo, Writ
 ghost use Rattle.crush_app.specs.declared.limits.TheConstants.{SCRIPT_LIMIT};
 ghost use Rattle.crush_app.specs.Script.{messages, OfScript};
 
-use crush_app::{ScriptEnd, Service, script_run};
+use crate::play::{ScriptEnd, script_run};
+use crate::service::Service;
 use std::alloc::{AllocError, Global};
 use std::io::{Read, Write};
 use tenant_core::TenantStore;
