@@ -13,7 +13,7 @@ use Rattle.tenant_tables.specs.Change.{Drops, IsNumber}
 use Rattle.tenant_tables.specs.Found.{Names}
 use Rattle.tenant_tables.specs.Holds.{IsTenant}
 use Rattle.tenant_tables.specs.declared.find.Tenant.{Tenant}
-use Rattle.tenant_store.specs.Shown.{StandsAlone}
+use Rattle.tenant_store.specs.Shown.{OneState}
 use Rattle.tenant_store.specs.Judged.{AreJudged, Counts, Forgets, Updates}
 
 -- the tenant that was found can be changed, in rows that are the same
@@ -83,5 +83,5 @@ some_is : (s t : TenantState) → Some s ≡ Some t → s ≡ t
 some_is s t h = cc
 
 -- a state of a name can make what the name's only state can
-pub can_make : (db : Trees) (name : List ℕ) (s t : TenantState) (change : Change) → StandsAlone db name (Some s) → StandsFor db name (Some t) → CanMake change t → CanMake change s
-can_make db name s t change has also can = subst (CanMake change) (some_is t s (has.1 (Some t) also)) can
+pub can_make : OneState → (db : Trees) (name : List ℕ) (s t : TenantState) (change : Change) → StandsFor db name (Some s) → StandsFor db name (Some t) → CanMake change t → CanMake change s
+can_make one db name s t change has also can = subst (CanMake change) (some_is t s (one db name (Some t) (Some s) also has)) can

@@ -6,8 +6,8 @@ use Rattle.sqlite.specs.Held.{Held, state}
 use Rattle.sqlite.specs.Store.{Ghosts}
 use Rattle.sqlite_trees.specs.Tree.{Trees}
 use Rattle.tenant_core.specs.States.{Found, Same, Shows}
+use Rattle.tenant_rows.specs.Rows.{StandsFor}
 use Rattle.tenant_tables.specs.Run.{IsReady}
-use Rattle.tenant_store.specs.Shown.{StandsAlone}
 
 module _ {S : Type 0} (g : Ghosts S) where
   -- the disk of an open connection leaves what was committed
@@ -19,12 +19,12 @@ module _ {S : Type 0} (g : Ghosts S) where
   left_alone law store ready db left = law store.0.store db ready.is_open left ∙ ap (λ (d : Database). d.trees) (sym ready.settled)
 
 -- the same rows stand for the same states
-pub keeps_states : (old new : Database) → new ≡ old → Same (StandsAlone old.trees) (StandsAlone new.trees)
+pub keeps_states : (old new : Database) → new ≡ old → Same (StandsFor old.trees) (StandsFor new.trees)
 keeps_states old new same t s = (
-  λ has. subst (λ (d : Database). StandsAlone d.trees t s) (sym same) has,
-  λ has. subst (λ (d : Database). StandsAlone d.trees t s) same has,
+  λ has. subst (λ (d : Database). StandsFor d.trees t s) (sym same) has,
+  λ has. subst (λ (d : Database). StandsFor d.trees t s) same has,
 )
 
 -- what was committed shows what is there between calls
-pub settled : (now committed : Database) (left : Trees) (t : List ℕ) (found : Found) → now ≡ committed → left ≡ committed.trees → Shows (StandsAlone left) t found → Shows (StandsAlone now.trees) t found
-settled now committed left t found same is shows = subst (λ (db : Trees). Shows (StandsAlone db) t found) (is ∙ ap (λ (d : Database). d.trees) (sym same)) shows
+pub settled : (now committed : Database) (left : Trees) (t : List ℕ) (found : Found) → now ≡ committed → left ≡ committed.trees → Shows (StandsFor left) t found → Shows (StandsFor now.trees) t found
+settled now committed left t found same is shows = subst (λ (db : Trees). Shows (StandsFor db) t found) (is ∙ ap (λ (d : Database). d.trees) (sym same)) shows

@@ -14,6 +14,10 @@ use Rattle.tenant_tables.specs.Run.{IsReady}
 use Rattle.tenant_tables.specs.declared.refuse.Fault.{Fault}
 use Rattle.tenant_tables.specs.declared.refuse.Fault.TheVariants.{NoMemory, Full, Damaged, Failed}
 
+-- the rows of a name stand for one state at most
+abbrev pub OneState : Type 0
+OneState = (db : Trees) (name : List ℕ) (s t : Option TenantState) → StandsFor db name s → StandsFor db name t → s ≡ t
+
 -- the fault of a store
 abbrev pub fault_of : Fault → StoreFault
 fault_of NoMemory = store.NoMemory
@@ -21,23 +25,24 @@ fault_of Full = store.Full
 fault_of Damaged = store.Damaged
 fault_of Failed = store.Failed
 
--- the rows of the name stand for this, and for nothing else
-abbrev pub StandsAlone : Trees → List ℕ → Option TenantState → Type 0
-StandsAlone db t s = StandsFor db t s × ((u : Option TenantState) → StandsFor db t u → u ≡ s)
+-- What the disk returns is what was written, and rows say one thing.
+pub record IsHonest {S : Type 0} (g : Ghosts S) (store : Held S × Bool) : Type 0 where
+  -- the disk has returned what was written so far
+  pub clean : HasCleanDisk (state g store.0)
+  -- while no call has failed for good, the connection is open between transactions, with this
+  -- service's tables
+  pub ready : store.1 ≡ false → IsReady (state g store.0)
+  -- rows of a name stand for one state at most, as all rows do (law `names_stand_for_one_state`)
+  pub one_state : OneState
 
 module _ {S : Type 0} (g : Ghosts S) where
-  -- The disk has returned what was written so far. While no call has failed for good, the
-  -- connection is open between transactions, with this service's tables.
-  abbrev pub IsHonest : Held S × Bool → Type 0
-  IsHonest store = HasCleanDisk (state g store.0) × (store.1 ≡ false → IsReady (state g store.0))
-
   -- the rows of the name stand for this
   abbrev pub HasState : Held S × Bool → List ℕ → Option TenantState → Type 0
-  HasState store t s = StandsAlone (state g store.0).now.trees t s
+  HasState store t s = StandsFor (state g store.0).now.trees t s
 
-  -- rows that a crash now may leave show this of the name
+  -- rows that a stop now may leave show this of the name
   abbrev pub MayLeave : Held S × Bool → List ℕ → Found → Type 0
-  MayLeave store t found = (db : Trees) × (state g store.0).may_leave db × Shows (StandsAlone db) t found
+  MayLeave store t found = (db : Trees) × (state g store.0).may_leave db × Shows (StandsFor db) t found
 
   -- all rows are the same
   abbrev pub Keeps : Held S × Bool → Held S × Bool → Type 0

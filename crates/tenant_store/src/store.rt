@@ -75,6 +75,7 @@ impl<S: Alter + Drop> Store<S> {
         ensures crash { IfErr result (λ e. IsClean (S.Store.view e.1) → (trees : Trees) → S.Store.recovers e.1 trees
             → (state S.Store conn).may_leave trees ⊎ (((state S.Store conn).now.schema ≡ no_schema) × ((t : List ℕ) → StandsFor trees t None))) }
     {
+        names_stand_for_one_state();
         match Tables::open(alloc, conn) {
             Ok(tables) => Ok(Store {
                 alloc,
@@ -92,6 +93,7 @@ impl<S: Alter> Store<S> {
         ensures same { result ≡ self.0 }
         ensures honest { HasCleanDisk (state S.Store result) → IsHonest S.Store self }
     {
+        names_stand_for_one_state();
         let Store { tables, .. } = self;
         let _live = tables.is_latched();
         tables.close()
@@ -100,7 +102,7 @@ impl<S: Alter> Store<S> {
 
 impl<S: Alter> TenantStore for Store<S> {
     ghost use Rattle.std.specs.Prelude.{◌≡◌, ℕ, List, false};
-    ghost use Rattle.std.proofs.Common.{refl, sym, ◌∙◌};
+    ghost use Rattle.std.proofs.Common.{refl, ◌∙◌};
     ghost use Rattle.tenant_store.specs.Shown.{IsHonest, HasState, MayLeave, Keeps};
     ghost use Rattle.tenant_store.specs.Laws.{keeps_states, settled};
 
@@ -119,7 +121,6 @@ impl<S: Alter> TenantStore for Store<S> {
     }
 
     fn load(&mut self, name: &str) -> Result<Option<Rc<Inventory>>, StoreFault> {
-        names_stand_for_one_state();
         let _live = self.tables.is_latched();
         load(self.alloc, &mut self.tables, &mut self.judged, name)
     }
@@ -129,6 +130,7 @@ impl<S: Alter> TenantStore for Store<S> {
         name: &str,
         number: &str,
     ) -> Result<Option<Rc<Receipt>>, StoreFault> {
+        names_stand_for_one_state();
         let _live = self.tables.is_latched();
         find_receipt(self.alloc, &mut self.tables, name, number)
     }
@@ -156,9 +158,9 @@ impl<S: Alter> TenantStore for Store<S> {
         remove(&mut self.tables, name)
     }
 
-    ghost one_state = { λ store t s u honest works is also. sym (is.1 u also.0) };
+    ghost one_state = { λ store t s u honest works is also. honest.one_state (S.Store.view store.0.store).trees t s u is also };
 
-    ghost are_states = { λ store t s honest works has. has.0.0 };
+    ghost are_states = { λ store t s honest works has. has.0 };
 
     ghost keeps_itself = { λ store. refl };
 
@@ -166,5 +168,5 @@ impl<S: Alter> TenantStore for Store<S> {
 
     ghost keeps_states = { λ old new honest worked works same. keeps_states _ _ same };
 
-    ghost settled = { λ store t found honest works there. settled _ _ there.0 t found (honest.1 works).settled (S.Store.settled store.0.store there.0 (honest.1 works).is_open there.1) there.2 };
+    ghost settled = { λ store t found honest works there. settled _ _ there.0 t found (honest.ready works).settled (S.Store.settled store.0.store there.0 (honest.ready works).is_open there.1) there.2 };
 }

@@ -4,7 +4,7 @@ use Rattle.sqlite.specs.Held.{state}
 use Rattle.sqlite.specs.State.{HasCleanDisk}
 use Rattle.tenant_rows.specs.Changes.{Turns}
 use Rattle.tenant_store.proofs.Changing.{forgotten_judged}
-use Rattle.tenant_store.proofs.Stopping.{as_it_was_or, turns_alone}
+use Rattle.tenant_store.proofs.Stopping.{as_it_was_or}
 use Rattle.tenant_store.proofs.store.StoreTenantStore.remove.Goals as goal
 
 pub invariant_of-self : goal.invariant_of-self
@@ -17,7 +17,7 @@ invariant_of-self g c live clean =
 pub returns-clause-crash : goal.returns-clause-crash
 returns-clause-crash g c = rw (← c.self.view_is) (λ honest latched.
     let old = (state g.S.Store c.self.inside.tables.0).now.trees in
-    let early : HasCleanDisk (state g.S.Store c.self.inside.tables.0) = omega (arith, honest.0, c.remove.ensures.crash.clean) in
+    let early : HasCleanDisk (state g.S.Store c.self.inside.tables.0) = omega (arith, honest.clean, c.remove.ensures.crash.clean) in
     let works = rw (← c.self.view_is) at c.requires.open in
-    as_it_was_or g.S.Store g.met.S.Store.settled (Turns c.args.name.now None old) c.args.name.now None c.self.inside.tables c.remove.new.tables (c.is_latched-live.ensures.ready works early) c.remove.ensures.crash
-    (λ db made. turns_alone c.names_stand_for_one_state.ensures c.args.name.now None old db made) honest.0)
+    as_it_was_or g.S.Store g.met.S.Store.settled honest.one_state (Turns c.args.name.now None old) c.args.name.now None c.self.inside.tables c.remove.new.tables (c.is_latched-live.ensures.ready works early) c.remove.ensures.crash
+    (λ db made. made) honest.clean)
