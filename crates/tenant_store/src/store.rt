@@ -65,6 +65,7 @@ impl<S: Alter + Drop> Store<S> {
         requires open { HasCleanDisk (state S.Store conn) → IsTrue (state S.Store conn).is_open }
         requires settled { HasCleanDisk (state S.Store conn) → (state S.Store conn).now ≡ (state S.Store conn).committed }
         ensures live { IfOk result (λ store. store.1 ≡ false) }
+        ensures clean { IfOk result (λ store. HasCleanDisk (state S.Store store.0) → HasCleanDisk (state S.Store conn)) }
         ensures honest { IfOk result (λ store. HasCleanDisk (state S.Store store.0) → IsHonest S.Store store) }
         ensures made { IfOk result (λ store. HasCleanDisk (state S.Store store.0) → (state S.Store conn).now.schema ≡ no_schema → (t : List ℕ) → StandsFor (state S.Store store.0).now.trees t None) }
         ensures adopted { IfOk result (λ store. HasCleanDisk (state S.Store store.0) → (state S.Store conn).now.schema ≢ no_schema
