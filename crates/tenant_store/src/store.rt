@@ -20,6 +20,7 @@ use std::collections::BTreeMap;
 use std::marker::Model;
 use std::rc::Rc;
 use tenant_core::{StoreFault, TenantStore};
+use tenant_rows::laws::names_stand_for_one_state;
 use tenant_state::{Change, Inventory, Receipt};
 use tenant_tables::tables::Tables;
 
@@ -101,7 +102,7 @@ impl<S: Alter> TenantStore for Store<S> {
     ghost use Rattle.std.specs.Prelude.{◌≡◌, ℕ, List, false};
     ghost use Rattle.std.proofs.Common.{refl, sym, ◌∙◌};
     ghost use Rattle.tenant_store.specs.Shown.{IsHonest, HasState, MayLeave, Keeps};
-    ghost use Rattle.tenant_store.specs.Laws.{one_state, are_states, keeps_states, settled};
+    ghost use Rattle.tenant_store.specs.Laws.{keeps_states, settled};
 
     ghost is_honest = { λ store. IsHonest S.Store store };
 
@@ -118,6 +119,7 @@ impl<S: Alter> TenantStore for Store<S> {
     }
 
     fn load(&mut self, name: &str) -> Result<Option<Rc<Inventory>>, StoreFault> {
+        names_stand_for_one_state();
         let _live = self.tables.is_latched();
         load(self.alloc, &mut self.tables, &mut self.judged, name)
     }
@@ -132,37 +134,37 @@ impl<S: Alter> TenantStore for Store<S> {
     }
 
     fn create(&mut self, name: &str) -> Result<(), StoreFault> {
+        names_stand_for_one_state();
         let _live = self.tables.is_latched();
         forget(&mut self.judged, name);
-        self.tables.create(name).map_err(fault_of)
+        match self.tables.create(name) {
+            Ok(()) => Ok(()),
+            Err(fault) => Err(fault_of(fault)),
+        }
     }
 
     fn commit(&mut self, name: &str, change: &Change) -> Result<(), StoreFault> {
+        names_stand_for_one_state();
         let _live = self.tables.is_latched();
-        commit(
-            self.alloc,
-            &mut self.tables,
-            &mut self.judged,
-            name,
-            change,
-        )
+        commit(self.alloc, &mut self.tables, &mut self.judged, name, change)
     }
 
     fn remove(&mut self, name: &str) -> Result<(), StoreFault> {
+        names_stand_for_one_state();
         let _live = self.tables.is_latched();
         forget(&mut self.judged, name);
         remove(&mut self.tables, name)
     }
 
-    ghost one_state = { λ store t s u honest works is also. one_state (state S.Store store.0).now.trees t s u is also };
+    ghost one_state = { λ store t s u honest works is also. sym (is.1 u also.0) };
 
-    ghost are_states = { λ store t s honest works has. has.0 };
+    ghost are_states = { λ store t s honest works has. has.0.0 };
 
     ghost keeps_itself = { λ store. refl };
 
     ghost keeps_both = { λ old mid new first second. second ∙ first };
 
-    ghost keeps_states = { λ old new honest worked works same. keeps_states S.Store old new same };
+    ghost keeps_states = { λ old new honest worked works same. keeps_states _ _ same };
 
-    ghost settled = { λ store t found honest works there. settled S.Store S.Store.settled store t found honest works there };
+    ghost settled = { λ store t found honest works there. settled _ _ there.0 t found (honest.1 works).settled (S.Store.settled store.0.store there.0 (honest.1 works).is_open there.1) there.2 };
 }

@@ -1,0 +1,44 @@
+-- Tables as a store of states, of which contracts see the connection and whether a call has failed
+-- for good.
+use Rattle.std.specs.Prelude.{◌≡◌, ℕ, List, Bool, false, Option}
+use Rattle.sqlite.specs.Held.{Held, state}
+use Rattle.sqlite.specs.State.{HasCleanDisk}
+use Rattle.sqlite.specs.Store.{Ghosts}
+use Rattle.sqlite_trees.specs.Tree.{Trees}
+use Rattle.tenant_core.specs.States.{Found, Shows}
+use Rattle.tenant_core.specs.declared.store.StoreFault.{StoreFault}
+use Rattle.tenant_core.specs.declared.store.StoreFault.TheVariants as store
+use Rattle.tenant_rows.specs.Rows.{StandsFor}
+use Rattle.tenant_state.specs.State.{TenantState}
+use Rattle.tenant_tables.specs.Run.{IsReady}
+use Rattle.tenant_tables.specs.declared.refuse.Fault.{Fault}
+use Rattle.tenant_tables.specs.declared.refuse.Fault.TheVariants.{NoMemory, Full, Damaged, Failed}
+
+-- the fault of a store
+abbrev pub fault_of : Fault → StoreFault
+fault_of NoMemory = store.NoMemory
+fault_of Full = store.Full
+fault_of Damaged = store.Damaged
+fault_of Failed = store.Failed
+
+-- the rows of the name stand for this, and for nothing else
+abbrev pub StandsAlone : Trees → List ℕ → Option TenantState → Type 0
+StandsAlone db t s = StandsFor db t s × ((u : Option TenantState) → StandsFor db t u → u ≡ s)
+
+module _ {S : Type 0} (g : Ghosts S) where
+  -- The disk has returned what was written so far. While no call has failed for good, the
+  -- connection is open between transactions, with this service's tables.
+  abbrev pub IsHonest : Held S × Bool → Type 0
+  IsHonest store = HasCleanDisk (state g store.0) × (store.1 ≡ false → IsReady (state g store.0))
+
+  -- the rows of the name stand for this
+  abbrev pub HasState : Held S × Bool → List ℕ → Option TenantState → Type 0
+  HasState store t s = StandsAlone (state g store.0).now.trees t s
+
+  -- rows that a crash now may leave show this of the name
+  abbrev pub MayLeave : Held S × Bool → List ℕ → Found → Type 0
+  MayLeave store t found = (db : Trees) × (state g store.0).may_leave db × Shows (StandsAlone db) t found
+
+  -- all rows are the same
+  abbrev pub Keeps : Held S × Bool → Held S × Bool → Type 0
+  Keeps old new = (state g new.0).now ≡ (state g old.0).now
