@@ -1,6 +1,8 @@
 -- Tables that were made or found say of tenants what the database said before; and what is said of
 -- a run over states is said of the same states.
-use Rattle.std.proofs.Common.{◌≡◌, ◌≢◌, ◌⊎◌, ◌↔◌, ℕ, List, [], ◌∷◌, Bool, true, false, Option, None, inl, inr, refl, sym, ap, subst}
+use native.Mathlib.Omega.{arith}
+use Rattle.std.proofs.lemmas.Bool.{false≢true}
+use Rattle.std.proofs.Common.{◌≡◌, ◌≢◌, ◌⊎◌, ◌↔◌, ℕ, List, [], ◌∷◌, Bool, true, false, Option, None, inl, inr, refl, sym, ap, subst, ◌∙◌, length}
 use Rattle.sqlite.specs.Effect.{Database}
 use Rattle.sqlite.specs.Schema.{Schema}
 use Rattle.sqlite_trees.specs.Tree.{Trees}
@@ -58,7 +60,7 @@ latched_same a b c d ms from to before plays = record {
   served = plays.served;
   later = plays.later;
   all = plays.all;
-  plays = plays_same true a b c d plays.served from to before (λ never. absurd never) plays.plays;
+  plays = plays_same true a b c d plays.served from to before (λ never. absurd (false≢true (sym never))) plays.plays;
 }
 
 headline_same : (a b : States) (ms : _) (from to : Option (List ℕ)) → Same a b → WritesHeadline a ms from to → WritesHeadline b ms from to
@@ -93,14 +95,18 @@ script_headline known a b from to before said = of_script known (λ input writes
 -- ---- what tables say
 
 no_tables : store_schema ≢ no_schema
-no_tables e = search rules
+no_tables e = let same = ap (λ (schema : Schema). length schema.tables) e in absurd (omega (arith, same))
 
 -- a schema is none, or has something
+has_parts : (tables : _) (indexes : _) (views : _)
+    → (record { tables = tables; indexes = indexes; views = views } ≡ no_schema) ⊎ (record { tables = tables; indexes = indexes; views = views } ≢ no_schema)
+has_parts [] [] [] = inl refl
+has_parts (t ∷ ts) indexes views = inr (λ e. let same = ap (λ (schema : Schema). length schema.tables) e in absurd (omega (arith, same)))
+has_parts [] (i ∷ is) views = inr (λ e. let same = ap (λ (schema : Schema). length schema.indexes) e in absurd (omega (arith, same)))
+has_parts [] [] (v ∷ vs) = inr (λ e. let same = ap (λ (schema : Schema). length schema.views) e in absurd (omega (arith, same)))
+
 has_tables : (schema : Schema) → (schema ≡ no_schema) ⊎ (schema ≢ no_schema)
-has_tables (record { tables = []; indexes = []; views = [] }) = inl refl
-has_tables (record { tables = t ∷ ts; indexes = is; views = vs }) = inr (λ e. search rules)
-has_tables (record { tables = []; indexes = i ∷ is; views = vs }) = inr (λ e. search rules)
-has_tables (record { tables = []; indexes = []; views = v ∷ vs }) = inr (λ e. search rules)
+has_tables schema = has_parts schema.tables schema.indexes schema.views
 
 -- the store's rows are those of the database
 pub found_states : (db : Database) (rows : Trees)
