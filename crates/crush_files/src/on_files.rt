@@ -54,7 +54,7 @@ pub fn script_on_files<D: Disk + Drop, R: Read, W: Write>(
     // definition, run over just the calls that have such a reply, from the state that the tenant's
     // rows stood for.
     ensures headline { IfOk result (λ r. AreClean D.Disk r.1.log r.1.db → ServesLines (Ok r.0) → OfScript (R.remaining reader.old)
-        (λ input. WritesHeadline (StandsFor (file_state store.0).now.trees) (messages input) (W.contents writer.old) (W.contents writer.new))) }
+        (λ input. (now : Held (FileStore D D.Disk)) × IsCopied now r.1 × WritesHeadline (StandsFor (file_state store.0).now.trees) (messages input) (W.contents writer.old) (W.contents writer.new))) }
     ensures clean { IfOk result (λ r. AreClean D.Disk r.1.log r.1.db → HasCleanDisk (file_state store.0)) }
 
     // `Latched` has no closed file.

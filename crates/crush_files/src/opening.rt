@@ -14,6 +14,7 @@ use sqlite_disk::{Disk, Files, Start};
 use sqlite_std_file::FileFrom;
 use std::rt::HostRuntime;
 use tenant_core::StoreFault;
+use tenant_rows::laws::names_stand_for_one_state;
 use tenant_store::Store;
 
 /// Whether a file is refused for what it holds.
@@ -49,6 +50,7 @@ pub fn open_store<S: Start>(
     // The rows stand for the states that the files held.
     ensures found { IfOk result (λ store. HasCleanDisk (file_state store.0) → IsFound ⟦<FileFrom<S> as Disk>⟧ (image_at S.Start) (StandsFor (file_state store.0).now.trees)) }
 {
+    names_stand_for_one_state();
     let before = log_before(rt, path);
     let conn = match Connection::open_from(rt, path, false, start) {
         Ok(conn) => conn,
