@@ -1,5 +1,5 @@
 -- What changes make of the states that names stand for.
-use Rattle.std.proofs.Common.{◌≡◌, ◌⊎◌, inl, inr, ℕ, ℤ, pos, List, length, Option, Some, None, Result, Ok, Err, OnOk, OnErr, sym, subst, ◌∙◌, arith}
+use Rattle.std.proofs.Common.{◌≡◌, inl, inr, ℕ, List, length, Option, Some, None, Result, Ok, Err, OnOk, OnErr, sym, subst, ◌∙◌, arith}
 use Rattle.sqlite.proofs.StateLemmas.{survives_then, survives_weaker}
 use Rattle.sqlite.specs.Effect.{Database}
 use Rattle.sqlite.specs.State.{State as Shown, HasCleanDisk, Survives}

@@ -1,6 +1,5 @@
 -- What is judged of tenants, and what their rows stand for then.
-use Rattle.std.proofs.Common.{◌≡◌, ◌≢◌, ◌⊎◌, inl, inr, ℕ, suc, ◌+◌, List, [], ◌∷◌, length, Option, Some, None, refl, sym, ap, subst, ◌∙◌, IsPermutation}
-use Rattle.std.specs.Prelude.{option_map}
+use Rattle.std.proofs.Common.{◌≡◌, ◌≢◌, inl, inr, ℕ, suc, ◌+◌, List, [], ◌∷◌, length, Option, Some, None, refl, sym, ap, subst, ◌∙◌, IsPermutation}
 use Rattle.std.proofs.lemmas.List.Sorted.{length_permutation}
 use Rattle.crush_map.specs.Map.{Map}
 use Rattle.sqlite_trees.specs.Tree.{Trees}
@@ -16,7 +15,7 @@ use Rattle.tenant_tables.specs.Found.{Names}
 use Rattle.tenant_tables.specs.Holds.{of_tenant}
 use Rattle.tenant_tables.specs.Layout.{maps_table}
 use Rattle.tenant_tables.specs.declared.find.Tenant.{Tenant}
-use Rattle.tenant_store.specs.Judged.{AreJudged, Counts, Adds, Updates, Forgets}
+use Rattle.tenant_store.specs.Judged.{AreJudged, Counts, Adds}
 
 module _ (db : Trees) (name : List ℕ) (tenant : Tenant) (names : Names db name (Some tenant)) where
   -- a name that was judged has receipts

@@ -1,5 +1,5 @@
 -- The receipt of a request number among a tenant's rows.
-use Rattle.std.proofs.Common.{◌≡◌, ◌≢◌, ℕ, List, [], ◌∷◌, length, map, Bool, true, false, ◌&&◌, Ordering, Less, Equal, Greater, if◌then◌else◌, Option, Some, None, pos, refl, sym, ap, subst, ◌∙◌, arith, IsPermutation, IsUtf8}
+use Rattle.std.proofs.Common.{◌≡◌, ◌≢◌, ℕ, List, [], ◌∷◌, length, map, Bool, true, false, ◌&&◌, Less, Equal, if◌then◌else◌, Option, Some, None, pos, refl, sym, ap, subst, ◌∙◌, arith, IsPermutation}
 use Rattle.std.specs.List.{AllByRecursion, list_all}
 use Rattle.std.specs.Ordering.{ordering_reverse}
 use Rattle.std.specs.Str.{bytes_eq, is_utf8}
@@ -21,7 +21,7 @@ use Rattle.tenant_state.specs.Ordered.{is_ascending}
 use Rattle.tenant_state.specs.Receipts.{Receipts, is_before, receipt_of}
 use Rattle.tenant_state.specs.Valid.{is_receipt}
 use Rattle.tenant_state.specs.declared.receipts.Receipt.{Receipt}
-use Rattle.tenant_tables.proofs.RowFacts.{apart, equal_parts, equal_words, itself, words_of}
+use Rattle.tenant_tables.proofs.RowFacts.{apart, equal_parts, equal_words, itself}
 use Rattle.tenant_tables.specs.Found.{AreReceipt, IsReceiptRow, IsRising, receipt_values}
 use Rattle.tenant_tables.specs.Holds.{rows_with}
 use Rattle.tenant_tables.specs.declared.rows.ReceiptRow.{ReceiptRow}

@@ -1,4 +1,4 @@
-use Rattle.std.proofs.Common.{◌≡◌, ◌⊎◌, inr, ℕ, List, if◌then◌else◌, Result, Ok, Err, Some, OnOk, OnErr, string_bytes, subst, sym, ap, ◌∙◌}
+use Rattle.std.proofs.Common.{◌≡◌, inr, ℕ, List, if◌then◌else◌, Result, Ok, Err, Some, OnOk, OnErr, string_bytes, subst, sym, ap, ◌∙◌}
 use Rattle.std.specs.declared.alloc.Global.{Global}
 use Rattle.std.specs.BTreeMap.{get_by_text}
 use Rattle.std.specs.Cmp.Lexicographic.{slice_cmp}

@@ -1,4 +1,4 @@
-use Rattle.std.proofs.Common.{◌≡◌, Some, rules}
+use Rattle.std.proofs.Common.{Some, rules}
 use Rattle.std.specs.declared.alloc.Global.{Global}
 use Rattle.std.proofs.lemmas.Map.Text.{btree_map_updates_text}
 use Rattle.std.specs.BTreeMap.{get_by_text}

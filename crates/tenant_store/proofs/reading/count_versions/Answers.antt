@@ -1,4 +1,4 @@
-use Rattle.std.proofs.Common.{◌≡◌, ℤ, length, arith, rules, sym, ap, ◌∙◌}
+use Rattle.std.proofs.Common.{length, arith, rules, sym, ap, ◌∙◌}
 use Rattle.std.specs.BTreeMap.{get_by_text}
 use mir.Syntax.{w64}
 use mir.Val.{SFits}

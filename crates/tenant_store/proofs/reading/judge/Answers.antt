@@ -1,4 +1,4 @@
-use Rattle.std.proofs.Common.{◌≡◌, ◌∙◌, ℤ, sym, arith, rules}
+use Rattle.std.proofs.Common.{◌∙◌, sym, arith, rules}
 use Rattle.std.specs.BTreeMap.{get_by_text}
 use mir.Syntax.{w64}
 use mir.Val.{SFits}

@@ -1,4 +1,4 @@
-use Rattle.std.proofs.Common.{◌≡◌, ℤ, arith, rules, subst}
+use Rattle.std.proofs.Common.{arith, rules, subst}
 use mir.Syntax.{w64}
 use mir.Val.{SFits}
 use Rattle.sqlite.specs.Effect.{Database}

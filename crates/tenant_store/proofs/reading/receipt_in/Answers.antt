@@ -1,4 +1,4 @@
-use Rattle.std.proofs.Common.{◌≡◌, Some, None, subst, string_bytes}
+use Rattle.std.proofs.Common.{subst, string_bytes}
 use Rattle.sqlite_value.specs.declared.value.Value.TheVariants.{Text as Words}
 use Rattle.tenant_tables.specs.Found.{AreReceipt}
 use Rattle.tenant_tables.specs.Holds.{rows_with}

@@ -1,4 +1,4 @@
-use Rattle.std.proofs.Common.{◌≡◌, ◌≢◌, ℤ, List, [], ◌∷◌, arith, rules}
+use Rattle.std.proofs.Common.{◌≢◌, [], ◌∷◌, arith, rules}
 use mir.Syntax.{w64}
 use mir.Val.{SFits}
 use Rattle.sqlite.specs.Held.{state}

@@ -1,12 +1,10 @@
-use Rattle.std.proofs.Common.{◌≡◌, ℕ, List, length, Some, false, arith, sym, subst, ◌∙◌}
+use Rattle.std.proofs.Common.{Some, arith, sym, subst, ◌∙◌}
 use Rattle.std.specs.BTreeMap.{get_by_text}
 use Rattle.sqlite.specs.Effect.{Database}
 use Rattle.sqlite.specs.Held.{state}
 use Rattle.sqlite.specs.State.{HasCleanDisk}
-use Rattle.sqlite_trees.specs.Tree.{Trees}
-use Rattle.tenant_rows.specs.Changes.{IsChangeable, Turns}
-use Rattle.tenant_rows.specs.Rows.{StandsFor}
-use Rattle.tenant_state.specs.State.{CanMake, TenantState, after}
+use Rattle.tenant_rows.specs.Changes.{Turns}
+use Rattle.tenant_state.specs.State.{after}
 use Rattle.tenant_store.specs.Judged.{AreJudged}
 use Rattle.tenant_store.proofs.Changing.{commit_survives, is_changeable, still_judged}
 use Rattle.tenant_store.proofs.writing.commit_tenant.Goals as goal

@@ -1,11 +1,9 @@
-use Rattle.std.proofs.Common.{◌≡◌, ℤ, None, arith, rules, sym, subst, to_z, of_z}
+use Rattle.std.proofs.Common.{arith, rules, sym, subst}
 use mir.Syntax.{w64}
 use mir.Val.{SFits}
 use Rattle.std.proofs.lemmas.Int.{to_z-of_z}
 use Rattle.sqlite.specs.Held.{state}
 use Rattle.sqlite.specs.State.{HasCleanDisk, Survives}
-use Rattle.sqlite_trees.specs.Tree.{Trees}
-use Rattle.tenant_rows.specs.Changes.{Turns}
 use Rattle.tenant_tables.specs.Change.{Drops, IsNumber}
 use Rattle.tenant_store.proofs.Changing.{is_dropped, is_number, remove_survives}
 use Rattle.tenant_store.proofs.Refusing.{at_word}
