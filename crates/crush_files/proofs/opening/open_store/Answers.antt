@@ -17,7 +17,7 @@ returns-in-Ok-open-clause-found g c clean =
     let opened = c.in-Ok.ensures.opened early in
     let rows = (file_state store.0).now.trees in
     let same : Same (StandsFor rows) (StatesIn (file_state was).now) = found_states (file_state was).now rows (λ t s u is also. c.names_stand_for_one_state.ensures rows t s u is also)
-        (c.in-Ok-open.ensures.made clean) (λ some. let own = c.in-Ok-open.ensures.adopted clean some in (own.0, own.1)) in
+    (c.in-Ok-open.ensures.made clean) (λ some. let own = c.in-Ok-open.ensures.adopted clean some in (own.0, own.1)) in
     record {
       was = was;
       opened = opened;
