@@ -19,11 +19,24 @@ ghost use Rattle.crush_files.specs.Stored.{StatesIn};
 use crate::fault::{FileFault, fault_of};
 use crate::on_tables::script_on_tables;
 use crush_app::ScriptEnd;
-use sqlite::FileStore;
+use sqlite::{Connection, FileStore};
 use sqlite_disk::{Disk, Files};
 use std::alloc::{AllocError, Global};
 use std::io::{Read, Write};
 use tenant_store::Store;
+
+/// Copies the log into the database file, and closes both.
+fn close<D: Disk + Drop>(conn: Connection<FileStore<D>>) -> Result<Files<D>, FileFault>
+    ensures { IfOk result (λ files. AreClean D.Disk files.log files.db → IsCopied conn files) }
+{
+    match conn.close_files() {
+        Ok(files) => Ok(files),
+        Err((error, store)) => {
+            drop(store.close());
+            Err(fault_of(error))
+        }
+    }
+}
 
 /// Plays a script on the tenants of a store over a database file, and returns how that ended, with
 /// the closed file and its log.
@@ -78,11 +91,6 @@ pub fn script_on_files<D: Disk + Drop, R: Read, W: Write>(
     if end == ScriptEnd::Latched {
         return Err(FileFault::Store);
     }
-    match conn.close_files() {
-        Ok(files) => Ok((end, files)),
-        Err((error, store)) => {
-            drop(store.close());
-            Err(fault_of(error))
-        }
-    }
+    let files = close(conn)?;
+    Ok((end, files))
 }
