@@ -1,6 +1,6 @@
 -- From the buffer and what is read to a message, or to where none stands.
 use Rattle.std.proofs.Common.{◌≡◌, ℕ, ◌+◌, ◌-◌, ◌<◌, ◌≤◌, inl, inr, min, List, [], ◌∷◌, ◌++◌, length, take, drop, Option, refl, ap, sym, ◌∙◌, arith, append_assoc, subst, length-append, length-drop, length-take}
-use Rattle.std.proofs.Math.Seq.{drop-drop}
+use Rattle.std.proofs.Math.Seq.{drop-drop, take-append_seam}
 use Rattle.std.proofs.lemmas.Bool.{cases_lt}
 use Rattle.std.proofs.lemmas.List.{append-nil, drop_min, take_all}
 use Rattle.std.specs.Io.KnownBytes.{Consumes}
@@ -115,3 +115,17 @@ whole_body buffer r head first body room b c is e long front within read = recor
         let size : length (drop r.len buffer) ≡ length buffer - r.len = length-drop r.len buffer in
         ap (λ n. drop n first) long ∙ ap (drop r.size) e ∙ sym (drop_min r.size (drop r.len buffer)) ∙ ap (λ k. drop (min r.size k) (drop r.len buffer)) size
         ∙ drop-drop (min r.size (length buffer - r.len)) r.len buffer
+
+-- ---- slices
+
+-- the bytes behind the head
+pub behind : (len : ℕ) (xs ys : List ℕ) → xs ≡ ys → take (length xs - len) (drop len xs) ≡ drop len ys
+behind len xs ys e = take_all (length xs - len) (drop len xs) (omega (arith, length-drop len xs)) ∙ ap (drop len) e
+
+-- the room for a body
+pub room_long : (n : ℕ) (room : List ℕ) → n ≤ length room → length (take n room) ≡ n
+room_long n room h = omega (arith, length-take n room)
+
+-- a body in the front of its room
+pub room_front : (n : ℕ) (body room : List ℕ) → length body ≡ n → take n (body ++ room) ≡ body
+room_front n body room e = ap (λ k. take k (body ++ room)) (sym e) ∙ take-append_seam body room

@@ -4,3 +4,4 @@ pub mod Pieces
 pub mod Finding
 pub mod Connecting
 pub mod Readings
+pub mod Joining

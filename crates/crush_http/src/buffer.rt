@@ -1,6 +1,6 @@
 //! The bytes that were read and not yet used.
 
-ghost use Rattle.std.specs.Prelude.{◌≡◌, ℕ, ◌+◌, ◌<◌, ◌≤◌, List, [], length, take, drop, IfOk};
+ghost use Rattle.std.specs.Prelude.{◌≡◌, ℕ, ◌+◌, ◌<◌, ◌≤◌, List, [], length, take, drop, IfOk, OnErr};
 ghost use Rattle.std.specs.Io.KnownBytes.{IsAtEnd};
 ghost use Rattle.crush_http.specs.declared.limits.TheConstants.{HEAD_LIMIT};
 ghost use Rattle.crush_http.specs.Private.Reading.{ReadsOn};
@@ -48,6 +48,7 @@ impl Buffer {
         requires { length self.old < HEAD_LIMIT }
         ensures read { ReadsOn self.old (R.remaining reader.old) (R.remaining reader.new) (λ all. self.new ≡ all) }
         ensures count { IfOk result (λ n. length self.new ≡ length self.old + n) }
+        ensures err { OnErr result (self.new ≡ self.old) }
         ensures end { IfOk result (λ n. n ≡ 0 → IsAtEnd (R.remaining reader.new)) }
     {
         let count = reader.read(&mut self.room[self.filled..])?;
