@@ -1,5 +1,6 @@
 -- A connection goes on, message by message.
-use Rattle.std.proofs.Common.{◌≡◌, ℕ, ◌-◌, ◌==◌, ◌||◌, Bool, true, false, List, [], ◌∷◌, ◌++◌, length, map, take, drop, Option, Some, None, IfSome, refl, ap, sym, ◌∙◌, arith, append_assoc, subst, length-append, length-take, ◌≤◌}
+use Rattle.std.proofs.Common.{◌≡◌, ℕ, ◌-◌, ◌==◌, ◌||◌, Bool, true, false, List, [], ◌∷◌, ◌++◌, length, map, take, drop, Option, Some, None, IfSome, refl, ap, sym, ◌∙◌, arith, append_assoc, subst, length-append, length-take, ◌≤◌, ◌<◌}
+use Rattle.std.proofs.lemmas.Bool.Decides.{nat_tests}
 use Rattle.std.proofs.lemmas.List.{append-nil, map-append}
 use Rattle.std.specs.Io.KnownBytes.{Appends, Consumes, IsAtEnd}
 use Rattle.tenant_messages.specs.declared.call.Call.{Call}
@@ -232,16 +233,16 @@ module _ (Same : Type 0) (One : Call → Reply → Type 0) (same : Same) (most :
 -- ---- a message
 
 -- a message with this call, the last or not, and the rest behind it
-pub record Finds (most : ℕ) (call : Call) (last : Bool) (rest input : List ℕ) : Type 0 where
+pub record Finds (most : ℕ) (asked : Call) (ends : Bool) (rest input : List ℕ) : Type 0 where
   pub message : Message
   pub at : MessageAt most input message rest
-  pub call : message.call ≡ call
-  pub last : message.last ≡ last
+  pub call : message.call ≡ asked
+  pub last : message.last ≡ ends
 
 taken_size : (n : ℕ) (body : List ℕ) → n ≤ length body → length (take n body) ≡ n
 taken_size n body h = omega (arith, length-take n body)
 
-pub finds : (most : ℕ) (there buffer : List ℕ) (r : Request) (body rest : List ℕ) (last : Bool) (a b : Option (List ℕ)) → ReadsOn there a b (IsMessageOf buffer r body) → rest ≡ drop (used r (length buffer)) buffer
+finds : (most : ℕ) (there buffer : List ℕ) (r : Request) (body rest : List ℕ) (last : Bool) (a b : Option (List ℕ)) → ReadsOn there a b (IsMessageOf buffer r body) → rest ≡ drop (used r (length buffer)) buffer
     → last ≡ (r.closes || most == 1) → ReadsOn there a b (Finds most (call_in buffer r (take r.size body)) last rest)
 finds most there buffer r body rest last a b read e f =
     let h = read.holds in record {
@@ -260,6 +261,17 @@ finds most there buffer r body rest last a b read e f =
         last = ap (λ c. c || most == 1) (sym h.is.closes) ∙ sym f;
       };
     }
+
+-- the same in the words of the code
+pub finds_call : (most : ℕ) (there front buffer : List ℕ) (r : Request) (body rest : List ℕ) (last : Bool) (count : ℕ) (asked : Call) (a b : Option (List ℕ)) → ReadsOn there a b (IsMessageOf buffer r body)
+    → front ≡ buffer → count ≡ used r (length front) → rest ≡ drop count buffer → last ≡ (r.closes || most == 1) → asked ≡ call_in front r (take r.size body) → ReadsOn there a b (Finds most asked last rest)
+finds_call most there front buffer r body rest last count asked a b read same counted dropped is_last is_call =
+    subst (λ k. ReadsOn there a b (Finds most k last rest)) (sym (is_call ∙ ap (λ f. call_in f r (take r.size body)) same))
+    (finds most there buffer r body rest last a b read (dropped ∙ ap (λ n. drop n buffer) (counted ∙ ap (λ f. used r (length f)) same)) is_last)
+
+pub more_to_come : (closes last : Bool) (most : ℕ) → 0 < most → last ≡ (closes || most == 1) → last ≡ false → 1 < most
+more_to_come true last most some e f = let both : true ≡ false = sym e ∙ f in cc
+more_to_come false last most some e f = let no : (most == 1) ≡ false = sym e ∙ f in grind (arith, nat_tests, no)
 
 module _ (Same : Type 0) (One : Call → Reply → Type 0) (most : ℕ) (there rest : List ℕ) (call : Call) (reply : Reply) (a b : Option (List ℕ)) (one : One call reply) where
   replied : (m : Message) → m.call ≡ call → One m.call reply

@@ -27,7 +27,7 @@ pub record Replies (is_honest : Type 0) (was is : Bool) (old new : States) (call
 
 -- at most one call was served: for none this is so, for one the reply is such
 abbrev pub ServesAtMostOne : Type 0 → (Call → Reply → Type 0) → List Call → List Reply → Type 0
-ServesAtMostOne Same One [] [] = None
+ServesAtMostOne Same One [] [] = Same
 ServesAtMostOne Same One (call ∷ []) (reply ∷ []) = One call reply
 ServesAtMostOne Same One _ _ = ⊥
 
