@@ -1,5 +1,5 @@
 -- A connection goes on, message by message.
-use Rattle.std.proofs.Common.{◌≡◌, ℕ, ◌-◌, ◌==◌, ◌||◌, Bool, true, false, List, [], ◌∷◌, ◌++◌, length, map, take, drop, Option, Some, None, IfSome, refl, ap, sym, ◌∙◌, arith, append_assoc, subst, length-append, length-take, ◌≤◌, ◌<◌}
+use Rattle.std.proofs.Common.{◌≡◌, ℕ, ◌-◌, ◌==◌, ◌||◌, Bool, true, false, List, [], ◌∷◌, ◌++◌, length, take, drop, Option, Some, None, IfSome, refl, ap, sym, ◌∙◌, arith, append_assoc, subst, length-append, length-take, ◌≤◌, ◌<◌}
 use Rattle.std.proofs.lemmas.Bool.Decides.{nat_tests}
 use Rattle.std.proofs.lemmas.List.{append-nil, map-append}
 use Rattle.std.specs.Io.KnownBytes.{Appends, Consumes, IsAtEnd}
@@ -11,7 +11,7 @@ use Rattle.crush_app.proofs.Writing.{appends_both, appends_none}
 use Rattle.crush_http.specs.Head.{HeadAt}
 use Rattle.crush_http.specs.Headers.{bytes}
 use Rattle.crush_http.specs.Messages.{Message, MessageAt, message_of, calls_of, Stop, input_ended, refused, last_served, read_failed, write_failed, HasMessages, GoesOn, IsHalf, IsRejected}
-use Rattle.crush_http.specs.Serving.{CutsReply, CutsLast, Writes, LeavesUnread, ServesInput}
+use Rattle.crush_http.specs.Serving.{CutsReply, CutsLast, Writes, ServesInput}
 use Rattle.crush_http.specs.Wire.{output, reply_wire, rejection_wire}
 use Rattle.crush_http.specs.declared.connection.Ended.{Ended}
 use Rattle.crush_http.specs.declared.connection.Ended.TheVariants.{Closed, Bad, ReadFault, WriteFault}

@@ -1,14 +1,12 @@
 -- From the buffer and what is read to a message, or to where none stands.
-use Rattle.std.proofs.Common.{◌≡◌, ℕ, ◌+◌, ◌-◌, ◌<◌, ◌≤◌, inl, inr, min, List, [], ◌∷◌, ◌++◌, length, take, drop, Option, refl, ap, sym, ◌∙◌, arith, append_assoc, subst, length-append, length-drop, length-take}
+use Rattle.std.proofs.Common.{◌≡◌, ℕ, ◌-◌, ◌<◌, ◌≤◌, inl, inr, min, List, [], ◌∷◌, ◌++◌, length, take, drop, Option, refl, ap, sym, ◌∙◌, arith, append_assoc, subst, length-append, length-drop, length-take}
 use Rattle.std.proofs.Math.Seq.{drop-drop, take-append_seam}
 use Rattle.std.proofs.lemmas.Bool.{cases_lt}
-use Rattle.std.proofs.lemmas.List.{append-nil, drop_min, take_all}
-use Rattle.std.specs.Io.KnownBytes.{Consumes}
+use Rattle.std.proofs.lemmas.List.{drop_min, take_all}
 use Rattle.httparse.specs.Grammar.{RequestHead, ReadsRequest, print_request}
 use Rattle.httparse.specs.Spans.{RequestOverflows}
-use Rattle.crush_http.specs.Head.{HeadAt, HasNoHead, IsTooLong, IsHalfHead}
-use Rattle.crush_http.specs.Headers.{size_of, headers_of, bytes}
-use Rattle.crush_http.specs.Messages.{Message, MessageAt, message_of, IsHalf, IsHalfBody, IsRejected, HasBadSize}
+use Rattle.crush_http.specs.Head.{HeadAt, HasNoHead, IsTooLong}
+use Rattle.crush_http.specs.Messages.{Message, MessageAt, IsHalf, IsRejected}
 use Rattle.crush_http.specs.declared.rejection.Rejection.{Rejection}
 use Rattle.crush_http.specs.declared.request.Request.{Request}
 use Rattle.crush_http.specs.declared.limits.TheConstants.{HEAD_LIMIT, HEADER_LIMIT}

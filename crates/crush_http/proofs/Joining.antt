@@ -1,5 +1,5 @@
 -- A run of calls goes on by the calls of one turn.
-use Rattle.std.proofs.Common.{◌≡◌, ℕ, Bool, true, false, List, [], ◌∷◌, ◌++◌, ap, sym, ◌∙◌, subst}
+use Rattle.std.proofs.Common.{◌≡◌, Bool, List, [], ◌∷◌, ◌++◌, sym, subst}
 use Rattle.std.proofs.lemmas.List.{append-nil}
 use Rattle.tenant_core.specs.States.{States, MeetsDefinition}
 use Rattle.tenant_core.proofs.Running.{run_on, run_none}
@@ -26,8 +26,8 @@ module _ {T : Type 0} (latched : T → Bool) (states : T → States) (honest : T
       → ServesAtMostOne (new ≡ mid) (Replies (honest new) (latched mid) (latched new) (states mid) (states new)) ds qs → Runs new (cs ++ ds) (rs ++ qs)
   join_last mid new back cs [] rs [] before same = subst (λ store. Runs store (cs ++ []) (rs ++ [])) (sym same) (λ is. subst (λ ds. MeetsDefinition (latched mid) (states old) (states mid) ds (rs ++ [])) (sym (append-nil cs)) (subst (λ qs. MeetsDefinition (latched mid) (states old) (states mid) cs qs) (sym (append-nil rs)) (before is)))
   join_last mid new back cs (call ∷ []) rs (reply ∷ []) before one = join_one mid new back cs rs call reply before one
-  join_last mid new back cs [] rs (q ∷ qs) before no = absurd no
-  join_last mid new back cs (d ∷ []) rs [] before no = absurd no
-  join_last mid new back cs (d ∷ e ∷ ds) rs [] before no = absurd no
-  join_last mid new back cs (d ∷ []) rs (q ∷ p ∷ qs) before no = absurd no
-  join_last mid new back cs (d ∷ e ∷ ds) rs (q ∷ qs) before no = absurd no
+  join_last mid new back cs [] rs (q ∷ qs) before never = absurd never
+  join_last mid new back cs (d ∷ []) rs [] before never = absurd never
+  join_last mid new back cs (d ∷ e ∷ ds) rs [] before never = absurd never
+  join_last mid new back cs (d ∷ []) rs (q ∷ p ∷ qs) before never = absurd never
+  join_last mid new back cs (d ∷ e ∷ ds) rs (q ∷ qs) before never = absurd never

@@ -5,7 +5,7 @@ use Rattle.httparse.specs.Grammar.{RequestHead, print_request}
 use Rattle.httparse.proofs.GrammarLemmas.{request_unique}
 use Rattle.crush_http.specs.Head.{HeadAt, HasNoHead, IsHalfHead}
 use Rattle.crush_http.specs.Headers.{headers_of, size_of, bytes, rejected}
-use Rattle.crush_http.specs.Messages.{Message, MessageAt, message_of, Stop, input_ended, refused, last_served, read_failed, write_failed, StopsAt, HasMessages, GoesOn, IsOver, IsHalf, IsHalfBody, IsRejected, HasBadSize}
+use Rattle.crush_http.specs.Messages.{Message, MessageAt, message_of, Stop, input_ended, refused, last_served, read_failed, write_failed, StopsAt, HasMessages, GoesOn, IsOver, IsHalf, IsRejected}
 use Rattle.crush_http.specs.Laws.{IsOfInput, IsOfFault, IsUndecided, EndsUndecided}
 use Rattle.crush_http.specs.declared.rejection.Rejection.{Rejection}
 use Rattle.crush_http.specs.declared.limits.TheConstants.{HEAD_LIMIT, HEADER_LIMIT}

@@ -152,5 +152,10 @@ fn rejection_body(reason: Rejection) -> &'static [u8]
 pub(crate) fn write_rejection<W: Write>(writer: &mut W, reason: Rejection) -> bool
     ensures { WritesAll result (W.contents writer.old) (W.contents writer.new) (spec.rejection_wire reason) }
 {
-    write_with(writer, true, rejection_status(reason), rejection_body(reason))
+    write_with(
+        writer,
+        true,
+        rejection_status(reason),
+        rejection_body(reason),
+    )
 }

@@ -1,5 +1,5 @@
 -- What one turn of a connection does.
-use Rattle.std.specs.Prelude.{◌≡◌, ℕ, ◌-◌, ◌<◌, List, [], ◌∷◌, ◌++◌, length, Bool, true, false, Option, IfSome, ⊤}
+use Rattle.std.specs.Prelude.{◌≡◌, ℕ, List, [], ◌∷◌, ◌++◌, length, Bool, true, false, Option, IfSome, ⊤}
 use Rattle.std.specs.Io.KnownBytes.{Appends, Consumes}
 use Rattle.tenant_core.specs.States.{States, Serves}
 use Rattle.tenant_core.specs.StoreReply.{IsUnavailable}
@@ -9,7 +9,6 @@ use Rattle.crush_app.specs.Play.{AppendsPart}
 use Rattle.crush_http.specs.Messages.{Message, MessageAt, Stop, HasMessages, calls_of}
 use Rattle.crush_http.specs.Serving.{Writes, LeavesUnread}
 use Rattle.crush_http.specs.Wire.{reply_wire}
-use Rattle.crush_http.specs.Private.Reading.{ReadsOn}
 use Rattle.crush_http.specs.declared.connection.Ended.{Ended}
 use Rattle.crush_http.specs.declared.connection.Turn.{Turn}
 use Rattle.crush_http.specs.declared.connection.Turn.TheVariants as turn

@@ -1,4 +1,4 @@
-use Rattle.std.proofs.Common.{◌≡◌, arith, ap, refl, subst, sym, ◌∙◌}
+use Rattle.std.proofs.Common.{arith, ap, refl, ◌∙◌}
 use Rattle.crush_http.proofs.Connecting.{reached_none, reached_one, reached_end}
 use Rattle.crush_http.proofs.Joining.{Runs, join_none, join_one, join_last}
 use Rattle.crush_http.proofs.connection.serve_all.Goals as goal

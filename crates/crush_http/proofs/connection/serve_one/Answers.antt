@@ -1,4 +1,4 @@
-use Rattle.std.proofs.Common.{◌≡◌, ℕ, List, length, drop, refl, ap, sym, ◌∙◌, subst, arith}
+use Rattle.std.proofs.Common.{◌≡◌, refl, ap, ◌∙◌, subst}
 use Rattle.std.specs.Io.KnownBytes.{Appends}
 use Rattle.tenant_messages.specs.CallParts.{call_of}
 use Rattle.crush_http.specs.Wire.{reply_wire}
@@ -70,12 +70,11 @@ returns-clause-next g c =
     (Finds c.args.most (call_of c.call_of.result) c.is_last-last.result c.drop_front.new.self) =
     finds_call c.args.most c.args.buffer.now c.bytes-bytes.result.now c.read_message.new.buffer c.in-Message.request c.read_message.new.body c.drop_front.new.self c.is_last-last.result c.used-used.result
     (call_of c.call_of.result) (g.R.Read.remaining c.args.reader.now) (g.R.Read.remaining c.read_message.new.reader) c.in-Message.ensures.found c.bytes-bytes.ensures.value c.used-used.ensures c.drop_front.ensures
-    c.is_last-last.ensures c.call_of.ensures in
-    (
+    c.is_last-last.ensures c.call_of.ensures in (
       more_to_come c.in-Message.request.closes c.is_last-last.result c.args.most c.requires.some c.is_last-last.ensures c.if-last.false,
       next_after (c.request-reply.new.self ≡ c.args.service.now) (Replies (g.T.TenantStore.is_honest c.request-reply.new.self) (g.T.TenantStore.latched c.args.service.now) (g.T.TenantStore.latched c.request-reply.new.self)
-    (g.T.TenantStore.has_state c.args.service.now) (g.T.TenantStore.has_state c.request-reply.new.self)) c.args.most c.args.buffer.now c.drop_front.new.self (call_of c.call_of.result) c.request-reply.result
-    (g.R.Read.remaining c.args.reader.now) (g.R.Read.remaining c.read_message.new.reader) one (g.W.Write.contents c.args.writer.now) (g.W.Write.contents c.write_reply.new.writer)
-    (subst (λ l. ReadsOn c.args.buffer.now (g.R.Read.remaining c.args.reader.now) (g.R.Read.remaining c.read_message.new.reader) (Finds c.args.most (call_of c.call_of.result) l c.drop_front.new.self)) c.if-last.false read)
-    (subst (λ l. Appends (g.W.Write.contents c.args.writer.now) (g.W.Write.contents c.write_reply.new.writer) (reply_wire l c.request-reply.result)) c.if-last.false c.if-not-write_reply.ensures),
+          (g.T.TenantStore.has_state c.args.service.now) (g.T.TenantStore.has_state c.request-reply.new.self)) c.args.most c.args.buffer.now c.drop_front.new.self (call_of c.call_of.result) c.request-reply.result
+          (g.R.Read.remaining c.args.reader.now) (g.R.Read.remaining c.read_message.new.reader) one (g.W.Write.contents c.args.writer.now) (g.W.Write.contents c.write_reply.new.writer)
+          (subst (λ l. ReadsOn c.args.buffer.now (g.R.Read.remaining c.args.reader.now) (g.R.Read.remaining c.read_message.new.reader) (Finds c.args.most (call_of c.call_of.result) l c.drop_front.new.self)) c.if-last.false read)
+          (subst (λ l. Appends (g.W.Write.contents c.args.writer.now) (g.W.Write.contents c.write_reply.new.writer) (reply_wire l c.request-reply.result)) c.if-last.false c.if-not-write_reply.ensures),
     )

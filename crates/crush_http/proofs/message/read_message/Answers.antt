@@ -1,4 +1,4 @@
-use Rattle.std.proofs.Common.{ℕ, List, arith, subst, ◌∙◌, sym, refl, length-append}
+use Rattle.std.proofs.Common.{ℕ, List, arith, subst, refl, length-append}
 use Rattle.crush_http.specs.Messages.{IsHalf}
 use Rattle.crush_http.specs.Private.Reading.{IsRequest}
 use Rattle.crush_http.proofs.Streams.{reads_both}
@@ -23,10 +23,10 @@ returns-in-Ended-read_body-clause-found g c =
     let head = c.in-Ok.ensures.ok.0 in
     let is : IsRequest c.read_head.new.buffer c.in-Ok.request head = subst (λ (b : List ℕ). IsRequest b c.in-Ok.request head) c.bytes-bytes.ensures.value c.in-Ok.ensures.ok.1 in (
       reads_both c.args.buffer.now c.read_head.new.buffer (g.R.Read.remaining c.args.reader.now) (g.R.Read.remaining c.read_head.new.reader) (g.R.Read.remaining c.read_body.new.reader) IsHalf c.read_head.ensures.read
-      (half_body c.read_head.new.buffer c.in-Ok.request head _ _ (g.R.Read.remaining c.read_head.new.reader) (g.R.Read.remaining c.read_body.new.reader) is
-      (behind c.in-Ok.request.len c.bytes-bytes.result.now c.read_head.new.buffer c.bytes-bytes.ensures.value)
-      (room_long c.in-Ok.request.size c.args.body.now (omega (arith, c.requires.room, is.small)))
-      (c.in-Ended-read_body.ensures.few refl)),
+          (half_body c.read_head.new.buffer c.in-Ok.request head _ _ (g.R.Read.remaining c.read_head.new.reader) (g.R.Read.remaining c.read_body.new.reader) is
+          (behind c.in-Ok.request.len c.bytes-bytes.result.now c.read_head.new.buffer c.bytes-bytes.ensures.value)
+          (room_long c.in-Ok.request.size c.args.body.now (omega (arith, c.requires.room, is.small)))
+          (c.in-Ended-read_body.ensures.few refl)),
       c.in-Ended-read_body.ensures.ended refl,
     )
 

@@ -1,4 +1,4 @@
-use Rattle.std.proofs.Common.{◌++◌, List, take, arith, sym, ap, ◌∙◌, ℕ, length-append, length-take, length-drop}
+use Rattle.std.proofs.Common.{◌++◌, List, take, arith, ap, ◌∙◌, ℕ, length-append, length-take, length-drop}
 use Rattle.crush_http.proofs.Streams.{reads_in, filled_in}
 use Rattle.crush_http.proofs.buffer.Buffer.read_from.Goals as goal
 
