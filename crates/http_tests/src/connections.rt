@@ -4,7 +4,7 @@ use crush_app::Service;
 use crush_http::{Ended, serve};
 use std::alloc::{AllocError, Global};
 use std::io::{self, ErrorKind, Read, Write};
-use std::test::Fail;
+use std::process::Abort;
 
 /// More reads or writes than any test makes.
 pub(crate) const MANY: usize = 10_000;
@@ -79,13 +79,14 @@ pub(crate) fn connect(
 
 /// The input is answered so, and the connection ends so, at several lengths of a read.
 pub(crate) fn assert_replies(
-    rt: HostRuntime,
+    rt: &impl Abort,
+    alloc: Global,
     input: &[u8],
     ended: Ended,
     replies: &[u8],
-) -> Result<(), Fail> {
+) -> Result<(), AllocError> {
     for cut in [1, 50, 20_000] {
-        let (found, written) = connect(rt.alloc(), input, cut, MANY, MANY)?;
+        let (found, written) = connect(alloc, input, cut, MANY, MANY)?;
         assert_eq!(rt; found, ended, "{cut} bytes a read");
         assert_eq!(rt; written.as_slice(), replies, "{cut} bytes a read");
     }

@@ -12,37 +12,50 @@ const LENGTH: &[u8] =
 
 #[test]
 fn bytes_that_are_no_head_are_refused(rt: HostRuntime) -> Result<(), Fail> {
-    assert_replies(rt, b"GET  /x HTTP/1.1\r\n\r\n", Ended::Bad, BAD_REQUEST)
+    assert_replies(
+        &rt,
+        rt.alloc(),
+        b"GET  /x HTTP/1.1\r\n\r\n",
+        Ended::Bad,
+        BAD_REQUEST,
+    )?;
+    Ok(())
 }
 
 #[test]
 fn two_lengths_are_refused(rt: HostRuntime) -> Result<(), Fail> {
     assert_replies(
-        rt,
+        &rt,
+        rt.alloc(),
         b"GET /x HTTP/1.1\r\nContent-Length: 0\r\nContent-Length: 0\r\n\r\n",
         Ended::Bad,
         BAD_REQUEST,
-    )
+    )?;
+    Ok(())
 }
 
 #[test]
 fn a_length_of_eleven_digits_is_refused(rt: HostRuntime) -> Result<(), Fail> {
     assert_replies(
-        rt,
+        &rt,
+        rt.alloc(),
         b"GET /x HTTP/1.1\r\nContent-Length: 12345678901\r\n\r\n",
         Ended::Bad,
         BAD_REQUEST,
-    )
+    )?;
+    Ok(())
 }
 
 #[test]
 fn a_transfer_encoding_is_refused_before_a_length(rt: HostRuntime) -> Result<(), Fail> {
     assert_replies(
-        rt,
+        &rt,
+        rt.alloc(),
         b"GET /x HTTP/1.1\r\nTransfer-Encoding: chunked\r\nContent-Length: 2097152\r\n\r\n",
         Ended::Bad,
         LENGTH,
-    )
+    )?;
+    Ok(())
 }
 
 #[test]
