@@ -1,32 +1,23 @@
 -- The rows of a name are those of one state at most.
-use Rattle.std.proofs.Common.{◌≡◌, ◌≢◌, ℕ, ℤ, pos, suc, ◌+◌, ◌<◌, List, [], ◌∷◌, length, map, Bool, true, false, ◌&&◌, nat_lt, IsTrue, Ordering, Less, Equal, Greater, is_lt, Option, Some, None, Result, Ok, Err, arith, refl, sym, ap, ap₂, ◌∙◌, subst, IsPermutation, IsSorted}
-use Rattle.std.specs.List.{AllByRecursion}
-use Rattle.std.specs.Ordering.{ordering_then, ordering_reverse}
-use Rattle.std.proofs.lemmas.Bool.Decides.{nat_tests}
-use Rattle.std.proofs.lemmas.List.Sorted.{IsPermutation-sym, IsPermutation-trans}
-use Rattle.sqlite_value.specs.declared.value.Value.{Value}
-use Rattle.sqlite_value.specs.declared.value.Value.TheVariants.{Int, Text as Words}
-use Rattle.sqlite_value.specs.Order.{Row, column, value_cmp, row_cmp}
-use Rattle.sqlite_value.proofs.OrderLemmas.{row_cmp_total}
-use Rattle.sqlite_trees.specs.Tree.{Trees, IsAscending}
-use Rattle.sqlite_keyed.proofs.ListLemmas.{all_weaker}
-use Rattle.sqlite_keyed.proofs.SortLemmas.{sorted_unique}
+use Rattle.std.proofs.Common.{◌≡◌, ◌≢◌, ℕ, ℤ, pos, List, [], ◌∷◌, length, map, Option, Some, None, Result, Ok, arith, refl, sym, ap, ◌∙◌, subst, IsPermutation}
+use Rattle.sqlite_value.specs.declared.value.Value.TheVariants.{Int}
+use Rattle.sqlite_value.specs.Order.{Row, column}
+use Rattle.sqlite_trees.specs.Tree.{Trees}
 use Rattle.crush_grammar.specs.declared.code.TextFault.{TextFault}
 use Rattle.crush_map.specs.Map.{Map, IsMap}
-use Rattle.crush_pool.specs.declared.pool.PoolParts.{PoolParts}
-use Rattle.crush_pool.specs.declared.states.DeviceState.{DeviceState}
 use Rattle.crush_writing.specs.Canonical.{canonical}
 use Rattle.crush_text.specs.Reading.{map_of_stored_text}
-use Rattle.tenant_messages.specs.Reply.{success_status}
-use Rattle.tenant_state.specs.Ordered.{is_ascending}
-use Rattle.tenant_state.specs.Receipts.{is_before}
-use Rattle.tenant_state.specs.State.{TenantState, is_lower_device, is_lower_pool}
-use Rattle.tenant_state.specs.declared.receipts.Receipt.{Receipt}
+use Rattle.tenant_state.specs.State.{Inventory, TenantState}
+use Rattle.tenant_state.specs.Valid.{IsInventory}
 use Rattle.tenant_tables.specs.Holds.{IsTenant, of_tenant}
 use Rattle.tenant_tables.specs.Layout.{maps_table, devices_table, pools_table, receipts_table}
-use Rattle.tenant_tables.proofs.Rising.{below_int, below_text, neighbours}
-use Rattle.tenant_rows.specs.Rows.{flag, row_of_version, rows_of_versions, row_of_state, row_of_pool, row_of_receipt, StandsFor}
-use Rattle.tenant_rows.proofs.Reading.{first, second, same_list, same_state, same_pool, same_receipt, same_versions}
+use Rattle.tenant_tables.specs.declared.rows.VersionRow.{VersionRow}
+use Rattle.tenant_tables.specs.declared.rows.PoolRow.{PoolRow}
+use Rattle.tenant_tables.specs.declared.write.State.{State}
+use Rattle.tenant_rows.specs.Lists.{AreRowsOf}
+use Rattle.tenant_rows.specs.Rows.{rows_of_versions, row_of_state, row_of_pool, row_of_receipt, StandsFor}
+use Rattle.tenant_rows.proofs.Orders.{one_order, versions_rise, states_rise, pools_rise, receipts_rise}
+use Rattle.tenant_rows.proofs.Reading.{same_list, same_state, same_pool, same_receipt, same_versions}
 
 -- a map is read back from its canonical text, so each has its own
 pub own_text : ((m : Map) → IsMap m → map_of_stored_text (canonical m) ≡ Ok m) → (m n : Map) → IsMap m → IsMap n → canonical m ≡ canonical n → m ≡ n
@@ -35,61 +26,27 @@ own_text back m n is other same = inside m n (sym (back m is) ∙ (ap map_of_sto
     inside : (m n : Map) → ◌≡◌ {A = Result Map TextFault} (Ok m) (Ok n) → m ≡ n
     inside m n h = cc
 
--- ---- rows that rise
+-- ---- what a tenant has
 
-abbrev Rises : Row → Row → Type 0
-Rises a b = row_cmp a b ≡ Less
-
--- the first column decides
-by_key : (x y : Value) (xs ys : Row) → value_cmp x y ≡ Less → Rises (x ∷ xs) (y ∷ ys)
-by_key x y xs ys less = ap (λ o. ordering_then o (row_cmp xs ys)) less
-
-module _ {V : Type 0} (before : V → V → Bool) (g : V → Row) (step : (u v : V) → before u v ≡ true → Rises (g u) (g v)) where
-  rising : (vs : List V) → is_ascending before vs ≡ true → IsAscending Rises (map g vs)
-  rising [] h = tt
-  rising (v ∷ []) h = (tt, tt)
-  rising (v ∷ w ∷ vs) h =
-      let near = step v w (first (before v w) (is_ascending before (w ∷ vs)) h) in
-      let rest = rising (w ∷ vs) (second (before v w) (is_ascending before (w ∷ vs)) h) in
-      ((near, all_weaker (Rises (g w)) (Rises (g v)) (λ z. row_cmp_total.trans (g v) (g w) z near) (map g vs) rest.0), rest)
-
-states_rise : (vs : List DeviceState) → is_ascending is_lower_device vs ≡ true → IsAscending Rises (map row_of_state vs)
-states_rise = rising is_lower_device row_of_state (λ s t low. by_key _ _ (Int (pos s.reweight) ∷ Int (flag s.up) ∷ []) (Int (pos t.reweight) ∷ Int (flag t.up) ∷ []) (below_int (pos s.device) (pos t.device) low))
-
-pools_rise : (vs : List PoolParts) → is_ascending is_lower_pool vs ≡ true → IsAscending Rises (map row_of_pool vs)
-pools_rise = rising is_lower_pool row_of_pool (λ p q low. by_key _ _ (Words p.name ∷ Int (flag p.erasure) ∷ Int (pos p.size) ∷ Int (pos p.rule) ∷ Int (pos p.pg_num) ∷ Int (pos p.pgp_num) ∷ Int (flag p.hashpspool) ∷ []) (Words q.name ∷ Int (flag q.erasure) ∷ Int (pos q.size) ∷ Int (pos q.rule) ∷ Int (pos q.pg_num) ∷ Int (pos q.pgp_num) ∷ Int (flag q.hashpspool) ∷ []) (below_int (pos p.id) (pos q.id) low))
-
-receipts_rise : (vs : List (List ℕ × Receipt)) → is_ascending is_before vs ≡ true → IsAscending Rises (map row_of_receipt vs)
-receipts_rise = rising is_before row_of_receipt (λ r s low. by_key _ _ (Words r.1.path ∷ Words r.1.body ∷ Int (pos (success_status r.1.status)) ∷ Words r.1.reply ∷ []) (Words s.1.path ∷ Words s.1.body ∷ Int (pos (success_status s.1.status)) ∷ Words s.1.reply ∷ []) (below_text r.0 s.0 low))
-
-later_versions : (n start : ℕ) (m : Map) (maps : List Map) → n < start → AllByRecursion (Rises (row_of_version n m)) (rows_of_versions start maps)
-later_versions n start m [] low = tt
-later_versions n start m (k ∷ maps) low =
-    let less : nat_lt n start ≡ true = grind (arith, nat_tests) in
-    (by_key _ _ (Words (canonical m) ∷ []) (Words (canonical k) ∷ []) (below_int (pos n) (pos start) less), later_versions n (start + 1) m maps (omega (arith, low)))
-
-versions_rise : (start : ℕ) (maps : List Map) → IsAscending Rises (rows_of_versions start maps)
-versions_rise start [] = tt
-versions_rise start (m ∷ maps) = (later_versions start (start + 1) m maps (omega arith), versions_rise (start + 1) maps)
-
--- rows have one order in which they rise
-not_below : (a b : Row) → Rises a b → is_lt (row_cmp b a) ≡ false
-not_below a b up = ap is_lt (row_cmp_total.antisymm b a ∙ ap ordering_reverse up)
-
-one_order : (all xs ys : List Row) → IsAscending Rises xs → IsAscending Rises ys → IsPermutation all xs → IsPermutation all ys → xs ≡ ys
-one_order all xs ys up other same those =
-    let sorted : IsSorted row_cmp xs = λ k d low within. rw Rattle.std.proofs.Common.add-one (not_below _ _ (neighbours Rises xs up k d d (omega (arith, within)))) in
-    sorted_unique row_cmp row_cmp_total ys xs other (IsPermutation-trans ys all xs (IsPermutation-sym all ys those) same) sorted
+pub one_inventory : ((m : Map) → IsMap m → map_of_stored_text (canonical m) ≡ Ok m) → (i j : Inventory) (epoch : ℤ) (versions : List VersionRow) (states : List State) (pools : List PoolRow) → IsInventory i → IsInventory j
+    → AreRowsOf i epoch versions states pools → AreRowsOf j epoch versions states pools → i ≡ j
+one_inventory back i j epoch versions states pools is other these those =
+    let maps = same_versions (own_text back) 1 i.versions j.versions is.maps other.maps (sym these.versions_are ∙ those.versions_are) in
+    let devices = same_list row_of_state same_state i.devices j.devices (sym these.states_are ∙ those.states_are) in
+    let others = same_list row_of_pool same_pool i.pools j.pools (sym these.pools_are ∙ those.pools_are) in
+    let both : pos i.epoch ≡ pos j.epoch = sym these.epoch_is ∙ those.epoch_is in
+    let number : i.epoch ≡ j.epoch = cc in
+    λ k. record { versions = maps k; devices = devices k; pools = others k; epoch = number k }
 
 -- ---- states
 
-one_row : (a b : Row) → a ∷ [] ≡ b ∷ [] → a ≡ b
+pub one_row : (a b : Row) → a ∷ [] ≡ b ∷ [] → a ≡ b
 one_row a b h = cc
 
 some_row : (a : Row) → a ∷ [] ≢ []
 some_row a h = absurd (omega (arith, ap length h))
 
-int_is : (a b : ℤ) → Int a ≡ Int b → a ≡ b
+pub int_is : (a b : ℤ) → Int a ≡ Int b → a ≡ b
 int_is a b h = cc
 
 one_tenant : (db : Trees) (name : List ℕ) (a b : ℤ) (e f : ℕ) → IsTenant db name a e → IsTenant db name b f → a ≡ b

@@ -1,14 +1,15 @@
 -- What calls make of the states that rows stand for.
-use Rattle.std.specs.Prelude.{ℕ, ℤ, pos, ◌≡◌, ◌≢◌, ◌↔◌, List, Option, map, true, length, IsPermutation}
+use Rattle.std.specs.Prelude.{ℕ, ℤ, pos, ◌≡◌, ◌≢◌, ◌↔◌, List, Option, Some, map, true, length, IsPermutation}
 use Rattle.std.specs.List.{list_all}
-use Rattle.sqlite_value.specs.Order.{Row}
 use Rattle.sqlite_trees.specs.Tree.{Trees}
 use Rattle.tenant_state.specs.Ordered.{is_ascending}
 use Rattle.tenant_state.specs.Receipts.{Receipts, is_before}
-use Rattle.tenant_state.specs.State.{Inventory, TenantState}
+use Rattle.tenant_state.specs.State.{CanMake, Change, Inventory, TenantState}
 use Rattle.tenant_state.specs.Valid.{is_receipt}
 use Rattle.tenant_tables.specs.Layout.{maps_table, devices_table, pools_table, receipts_table}
+use Rattle.tenant_tables.specs.Found.{Names}
 use Rattle.tenant_tables.specs.Holds.{of_tenant}
+use Rattle.tenant_tables.specs.declared.find.Tenant.{Tenant}
 use Rattle.tenant_rows.specs.Rows.{rows_of_versions, row_of_state, row_of_pool, row_of_receipt, StandsFor}
 
 -- the name stands for this state, and each other name for what it stood for
@@ -29,3 +30,11 @@ pub record HasReceipts (db : Trees) (id epoch : ℤ) (receipts : Receipts) : Typ
   pub ranges : list_all is_receipt receipts ≡ true
   pub order : is_ascending is_before receipts ≡ true
   pub rows : IsPermutation (of_tenant receipts_table id db) (map row_of_receipt receipts)
+
+-- the name is that of a tenant with this number and epoch, and so many versions, whose state can
+-- make the change
+pub record IsChangeable (db : Trees) (name : List ℕ) (s : TenantState) (tenant : Tenant) (versions : ℕ) (change : Change) : Type 0 where
+  pub names : Names db name (Some tenant)
+  pub state : StandsFor db name (Some s)
+  pub count : versions ≡ length s.versions
+  pub can : CanMake change s

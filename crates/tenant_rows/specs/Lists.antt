@@ -1,5 +1,5 @@
 -- What a tenant has, without its receipts, and the lists of rows that it is read from.
-use Rattle.std.specs.Prelude.{ℕ, ℤ, pos, ◌≡◌, ◌≤◌, List, length, map, true}
+use Rattle.std.specs.Prelude.{ℤ, pos, ◌≡◌, ◌≤◌, List, length, map, true}
 use Rattle.tenant_state.specs.State.{Inventory, TenantState, have_rules, inventory_of}
 use Rattle.tenant_state.specs.Valid.{IsInventory, are_named_once}
 use Rattle.tenant_state.specs.declared.limits.TheConstants.{POOL_LIMIT, RECEIPT_LIMIT, VERSION_LIMIT}

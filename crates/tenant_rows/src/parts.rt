@@ -1,6 +1,6 @@
 //! The parts of a tenant's state from rows of its tables.
 
-ghost use Rattle.std.specs.Prelude.{◌≡◌, ◌≢◌, ◌<◌, ◌^◌, ℕ, pos, List, Bool, true, map, None, IfOk, IfSome, string_bytes};
+ghost use Rattle.std.specs.Prelude.{◌≡◌, ◌≢◌, ◌<◌, ◌^◌, ℕ, pos, List, Bool, true, map, ◌↔◌, None, IfOk, IfSome, IsTrue, string_bytes};
 ghost use Rattle.std.specs.List.{All, list_all};
 ghost use Rattle.crush_map.specs.Map.{Map, IsMap};
 ghost use Rattle.crush_pool.specs.Pools.{is_pool};
@@ -13,6 +13,7 @@ ghost use Rattle.tenant_state.specs.State.{is_lower_device, is_lower_pool};
 ghost use Rattle.tenant_state.specs.Valid.{is_device_state, is_receipt};
 ghost use Rattle.tenant_tables.specs.Change.{state_row};
 ghost use Rattle.tenant_tables.specs.Found.{version_values, pool_values, receipt_values};
+ghost use Rattle.tenant_rows.specs.Pages.{IsOfReceipt};
 ghost use Rattle.tenant_rows.specs.Rows as spec;
 
 use crush_choose::FULL;
@@ -184,6 +185,16 @@ pub fn pools_from(alloc: Global, rows: Vec<PoolRow>) -> Result<Option<Pools>, Al
 }
 
 // ---- receipts
+
+/// Whether the row is that of a receipt.
+pub fn is_receipt_row(row: &ReceiptRow) -> bool
+    ensures { IsTrue result ↔ IsOfReceipt (receipt_values row.now) }
+{
+    match row.request.as_str().len() {
+        1..=REQUEST_NUMBER_LIMIT => status(row.status).is_some(),
+        _ => false,
+    }
+}
 
 /// The request number and the receipt of a row. `None`, exactly where there is none.
 /// `Err(AllocError)`: an allocation failed.

@@ -1,0 +1,12 @@
+//! A store of tenants' states in the tables of a database.
+#![tactic(auto)]
+
+mod faults;
+mod judged;
+pub mod laws;
+mod reading;
+mod stand_in;
+mod store;
+mod writing;
+
+pub use store::Store;
