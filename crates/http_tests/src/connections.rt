@@ -9,11 +9,28 @@ use std::process::Abort;
 /// More reads or writes than any test makes.
 pub(crate) const MANY: usize = 10_000;
 
+/// The most bytes of the first read, and of each later one.
+#[derive(Clone, Copy)]
+pub(crate) struct Cuts {
+    pub first: usize,
+    pub later: usize,
+}
+
+impl Cuts {
+    /// So many bytes a read at most.
+    pub(crate) fn each(size: usize) -> Cuts {
+        Cuts {
+            first: size,
+            later: size,
+        }
+    }
+}
+
 /// Gives so many bytes a read at most, and fails after so many reads.
 #[derive(Drop)]
 struct Reader<'a> {
     rest: &'a [u8],
-    cut: usize,
+    cuts: Cuts,
     reads: usize,
 }
 
@@ -23,7 +40,8 @@ impl Read for Reader<'_> {
             return Err(ErrorKind::Other.into());
         }
         self.reads -= 1;
-        let count = self.cut.min(buf.len()).min(self.rest.len());
+        let count = self.cuts.first.min(buf.len()).min(self.rest.len());
+        self.cuts.first = self.cuts.later;
         buf[..count].copy_from_slice(&self.rest[..count]);
         self.rest = &self.rest[count..];
         Ok(count)
@@ -53,19 +71,19 @@ impl Write for Writer {
     }
 }
 
-/// How a connection ends whose reads give so many bytes at most, and whose reader and writer fail
-/// after so many calls, and what was written.
+/// How a connection ends whose input is cut so into reads, and whose reader and writer fail after so
+/// many calls, and what was written.
 pub(crate) fn connect(
     alloc: Global,
     input: &[u8],
-    cut: usize,
+    cuts: Cuts,
     reads: usize,
     writes: usize,
 ) -> Result<(Ended, Vec<u8>), AllocError> {
     let mut service = Service::in_memory(alloc)?;
     let mut reader = Reader {
         rest: input,
-        cut,
+        cuts,
         reads,
     };
     let mut writer = Writer {
@@ -86,7 +104,7 @@ pub(crate) fn assert_replies(
     replies: &[u8],
 ) -> Result<(), AllocError> {
     for cut in [1, 50, 20_000] {
-        let (found, written) = connect(alloc, input, cut, MANY, MANY)?;
+        let (found, written) = connect(alloc, input, Cuts::each(cut), MANY, MANY)?;
         assert_eq!(rt; found, ended, "{cut} bytes a read");
         assert_eq!(rt; written.as_slice(), replies, "{cut} bytes a read");
     }

@@ -1,6 +1,6 @@
 //! Connections whose reader or writer fails.
 
-use crate::connections::{MANY, connect};
+use crate::connections::{Cuts, MANY, connect};
 use crate::streams::{REPLIES, STREAM};
 use crush_http::Ended;
 use std::test::Fail;
@@ -18,7 +18,7 @@ fn a_read_fault_leaves_the_replies_to_whole_messages(rt: HostRuntime) -> Result<
         (60, REPLIES.len()),
         (111, REPLIES.len()),
     ] {
-        let (ended, written) = connect(rt.alloc(), STREAM, 1, reads, MANY)?;
+        let (ended, written) = connect(rt.alloc(), STREAM, Cuts::each(1), reads, MANY)?;
         assert_eq!(rt; ended, Ended::ReadFault, "after {reads} reads");
         assert_eq!(rt;
             written.as_slice(),
@@ -32,7 +32,7 @@ fn a_read_fault_leaves_the_replies_to_whole_messages(rt: HostRuntime) -> Result<
 #[test]
 fn a_write_fault_leaves_a_front_of_the_replies(rt: HostRuntime) -> Result<(), Fail> {
     for writes in [0, 1, 2, 20, 40, 60] {
-        let (ended, written) = connect(rt.alloc(), STREAM, 50, MANY, writes)?;
+        let (ended, written) = connect(rt.alloc(), STREAM, Cuts::each(50), MANY, writes)?;
         assert_eq!(rt; ended, Ended::WriteFault, "after {writes} writes");
         assert!(rt;
             REPLIES.starts_with(written.as_slice()),

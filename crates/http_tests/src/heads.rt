@@ -1,6 +1,6 @@
 //! Heads that are refused.
 
-use crate::connections::{MANY, assert_replies, connect};
+use crate::connections::{Cuts, MANY, assert_replies, connect};
 use crush_http::Ended;
 use std::test::Fail;
 
@@ -68,9 +68,9 @@ fn a_head_has_32_headers_at_most(rt: HostRuntime) -> Result<(), Fail> {
     let mut more = input.clone()?;
     input.extend_from_slice(b"\r\n")?;
     more.extend_from_slice(b"A: b\r\n\r\n")?;
-    let (ended, _) = connect(rt.alloc(), &input, 20_000, MANY, MANY)?;
+    let (ended, _) = connect(rt.alloc(), &input, Cuts::each(20_000), MANY, MANY)?;
     assert_eq!(rt; ended, Ended::Closed);
-    let (ended, written) = connect(rt.alloc(), &more, 20_000, MANY, MANY)?;
+    let (ended, written) = connect(rt.alloc(), &more, Cuts::each(20_000), MANY, MANY)?;
     assert_eq!(rt; ended, Ended::Bad);
     assert_eq!(rt; written.as_slice(), BAD_REQUEST);
     Ok(())
@@ -87,9 +87,9 @@ fn a_head_has_8192_bytes_at_most(rt: HostRuntime) -> Result<(), Fail> {
     input.extend_from_slice(b"\r\n\r\n")?;
     more.extend_from_slice(b"b\r\n\r\n")?;
     assert_eq!(rt; input.len(), 8_192);
-    let (ended, _) = connect(rt.alloc(), &input, 20_000, MANY, MANY)?;
+    let (ended, _) = connect(rt.alloc(), &input, Cuts::each(20_000), MANY, MANY)?;
     assert_eq!(rt; ended, Ended::Closed);
-    let (ended, written) = connect(rt.alloc(), &more, 20_000, MANY, MANY)?;
+    let (ended, written) = connect(rt.alloc(), &more, Cuts::each(20_000), MANY, MANY)?;
     assert_eq!(rt; ended, Ended::Bad);
     assert_eq!(rt; written.as_slice(), BAD_REQUEST);
     Ok(())

@@ -1,6 +1,6 @@
 //! Streams of messages and their replies.
 
-use crate::connections::assert_replies;
+use crate::connections::{Cuts, MANY, assert_replies, connect};
 use crush_http::Ended;
 use std::test::Fail;
 
@@ -51,5 +51,19 @@ fn a_connection_of_the_older_version_ends_after_the_reply(rt: HostRuntime) -> Re
         Ended::Closed,
         b"HTTP/1.1 404 Not Found\r\nContent-Length: 19\r\nContent-Type: application/json\r\nConnection: close\r\n\r\n{\"error\":\"no_path\"}",
     )?;
+    Ok(())
+}
+
+#[test]
+fn a_stream_is_answered_alike_wherever_it_is_cut(rt: HostRuntime) -> Result<(), Fail> {
+    for first in 1..STREAM.len() {
+        let cuts = Cuts {
+            first,
+            later: 20_000,
+        };
+        let (ended, written) = connect(rt.alloc(), STREAM, cuts, MANY, MANY)?;
+        assert_eq!(rt; ended, Ended::Closed, "cut after {first} bytes");
+        assert_eq!(rt; written.as_slice(), REPLIES, "cut after {first} bytes");
+    }
     Ok(())
 }
