@@ -17,8 +17,9 @@ pub record IsTooLong (input : List ℕ) : Type 0 where
   pub many : HEAD_LIMIT ≤ length input
   pub none : (head : RequestHead) (rest : List ℕ) → ReadsRequest input head rest → HEAD_LIMIT < length (print_request head)
 
--- no head within the limits stands at the front, whatever bytes follow: none at all, since the bytes
--- are no head's (a target that isn't UTF-8 is one case), one with too many headers, or a long one
+-- no head within the limits stands at the front, whatever bytes follow: none at all, since the
+-- bytes are no head's (a target that isn't UTF-8 is one case), one with too many headers, or a long
+-- one
 abbrev pub HasNoHead : List ℕ → Type 0
 HasNoHead input = RequestOverflows HEADER_LIMIT input ⊎ IsTooLong input
 

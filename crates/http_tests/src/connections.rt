@@ -71,8 +71,8 @@ impl Write for Writer {
     }
 }
 
-/// How a connection ends whose input is cut so into reads, and whose reader and writer fail after so
-/// many calls, and what was written.
+/// How a connection ends whose input is cut so into reads, and whose reader and writer fail after
+/// so many calls, and what was written.
 pub(crate) fn connect(
     alloc: Global,
     input: &[u8],
