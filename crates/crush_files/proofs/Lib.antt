@@ -1,1 +1,2 @@
+pub mod FileFacts
 pub mod StoredFacts

@@ -1,6 +1,8 @@
 -- Tables that were made or found say of tenants what the database said before; and what is said of
 -- a run over states is said of the same states.
-use Rattle.std.proofs.Common.{◌≡◌, ◌≢◌, ◌⊎◌, ◌↔◌, ℕ, List, [], ◌∷◌, Bool, true, false, Option, None, inl, inr, refl, sym, ap, subst}
+use native.Mathlib.Omega.{arith}
+use Rattle.std.proofs.lemmas.Bool.{false≢true}
+use Rattle.std.proofs.Common.{◌≡◌, ◌≢◌, ◌⊎◌, ◌↔◌, ℕ, List, [], ◌∷◌, Bool, true, false, Option, None, inl, inr, refl, sym, ap, subst, ◌∙◌, length}
 use Rattle.sqlite.specs.Effect.{Database}
 use Rattle.sqlite.specs.Schema.{Schema}
 use Rattle.sqlite_trees.specs.Tree.{Trees}
@@ -10,9 +12,7 @@ use Rattle.tenant_messages.specs.declared.reply.Reply.{Reply}
 use Rattle.tenant_rows.specs.Rows.{StandsFor}
 use Rattle.tenant_state.specs.State.{TenantState}
 use Rattle.tenant_tables.specs.Layout.{no_schema, store_schema}
-use Rattle.crush_app.specs.Play.{Plays, PlaysUpTo, PlaysUntilLatched, WritesHeadline}
-use Rattle.crush_app.specs.Script.{OfScript, messages}
-use Rattle.crush_app.proofs.Inputs.{of_script}
+use Rattle.crush_app.specs.Play.{Plays, PlaysUpTo, WritesHeadline}
 use Rattle.crush_files.specs.Stored.{StatesIn}
 
 -- ---- states that are the same
@@ -32,12 +32,13 @@ meets_same latched a b c d calls replies before after meets = record {
   causes = meets.causes;
 }
 
-plays_same : (latched : Bool) (a b c d : States) (ms : _) (from to : Option (List ℕ)) → Same a b → (latched ≡ false → Same c d) → Plays latched a c ms from to → Plays latched b d ms from to
+pub plays_same : (latched : Bool) (a b c d : States) (ms : _) (from to : Option (List ℕ)) → Same a b → (latched ≡ false → Same c d) → Plays latched a c ms from to → Plays latched b d ms from to
 plays_same latched a b c d ms from to before after plays =
     record { replies = plays.replies; meets = meets_same latched a b c d _ plays.replies before after plays.meets; written = plays.written }
 
-cut_same : (latched : Bool) (a b c d : States) (ms : _) (from to : Option (List ℕ)) → Same a b → (latched ≡ false → Same c d) → PlaysUpTo latched a c ms from to → PlaysUpTo latched b d ms from to
-cut_same latched a b c d ms from to before after plays = record {
+-- where the last line was cut, what the store then shows isn't said
+pub cut_weaker : (latched : Bool) (a b c d : States) (ms : _) (from to : Option (List ℕ)) → Same a b → PlaysUpTo latched a c ms from to → PlaysUpTo true b d ms from to
+cut_weaker latched a b c d ms from to before plays = record {
   before = plays.before;
   cut = plays.cut;
   later = plays.later;
@@ -45,7 +46,15 @@ cut_same latched a b c d ms from to before after plays = record {
   replies = plays.replies;
   last = plays.last;
   count = plays.count;
-  meets = meets_same latched a b c d _ _ before after plays.meets;
+  meets = record {
+    count = plays.meets.count;
+    headline = λ t s has. plays.meets.headline t s ((before t s).1 has);
+    leaves = λ never. absurd (false≢true (sym never));
+    nobody = plays.meets.nobody;
+    damaged = λ t damaged. plays.meets.damaged t (damaged_too a b before t damaged);
+    stays = λ never. absurd (false≢true (sym never));
+    causes = plays.meets.causes;
+  };
   line = plays.line;
   rest = plays.rest;
   some = plays.some;
@@ -53,15 +62,7 @@ cut_same latched a b c d ms from to before after plays = record {
   written = plays.written;
 }
 
-latched_same : (a b c d : States) (ms : _) (from to : Option (List ℕ)) → Same a b → PlaysUntilLatched a c ms from to → PlaysUntilLatched b d ms from to
-latched_same a b c d ms from to before plays = record {
-  served = plays.served;
-  later = plays.later;
-  all = plays.all;
-  plays = plays_same true a b c d plays.served from to before (λ never. absurd never) plays.plays;
-}
-
-headline_same : (a b : States) (ms : _) (from to : Option (List ℕ)) → Same a b → WritesHeadline a ms from to → WritesHeadline b ms from to
+pub headline_same : (a b : States) (ms : _) (from to : Option (List ℕ)) → Same a b → WritesHeadline a ms from to → WritesHeadline b ms from to
 headline_same a b ms from to before writes = record {
   served = writes.served;
   later = writes.later;
@@ -72,35 +73,21 @@ headline_same a b ms from to before writes = record {
   headline = λ t s has. writes.headline t s ((before t s).1 has);
 }
 
--- ---- the same of scripts
-
-pub script_done : (known : Option (List ℕ)) (a b c d : States) (from to : Option (List ℕ)) → Same a b → Same c d
-    → OfScript known (λ input. Plays false a c (messages input) from to) → OfScript known (λ input. Plays false b d (messages input) from to)
-script_done known a b c d from to before after said = of_script known (λ input plays. plays_same false a b c d (messages input) from to before (λ works. after) plays) said
-
-pub script_cut : (known : Option (List ℕ)) (latched : Bool) (a b c d : States) (from to : Option (List ℕ)) → Same a b → (latched ≡ false → Same c d)
-    → OfScript known (λ input. PlaysUpTo latched a c (messages input) from to) → OfScript known (λ input. (stuck : Bool) × PlaysUpTo stuck b d (messages input) from to)
-script_cut known latched a b c d from to before after said = of_script known (λ input plays. (latched, cut_same latched a b c d (messages input) from to before after plays)) said
-
-pub script_latched : (known : Option (List ℕ)) (a b c d : States) (from to : Option (List ℕ)) → Same a b
-    → OfScript known (λ input. PlaysUntilLatched a c (messages input) from to) → OfScript known (λ input. PlaysUntilLatched b d (messages input) from to)
-script_latched known a b c d from to before said = of_script known (λ input plays. latched_same a b c d (messages input) from to before plays) said
-
-pub script_headline : (known : Option (List ℕ)) (a b : States) (from to : Option (List ℕ)) → Same a b
-    → OfScript known (λ input. WritesHeadline a (messages input) from to) → OfScript known (λ input. WritesHeadline b (messages input) from to)
-script_headline known a b from to before said = of_script known (λ input writes. headline_same a b (messages input) from to before writes) said
-
 -- ---- what tables say
 
 no_tables : store_schema ≢ no_schema
-no_tables e = search rules
+no_tables e = let same = ap (λ (schema : Schema). length schema.tables) e in absurd (omega (arith, same))
 
 -- a schema is none, or has something
+has_parts : (tables : _) (indexes : _) (views : _)
+    → (record { tables = tables; indexes = indexes; views = views } ≡ no_schema) ⊎ (record { tables = tables; indexes = indexes; views = views } ≢ no_schema)
+has_parts [] [] [] = inl refl
+has_parts (t ∷ ts) indexes views = inr (λ e. let same = ap (λ (schema : Schema). length schema.tables) e in absurd (omega (arith, same)))
+has_parts [] (i ∷ is) views = inr (λ e. let same = ap (λ (schema : Schema). length schema.indexes) e in absurd (omega (arith, same)))
+has_parts [] [] (v ∷ vs) = inr (λ e. let same = ap (λ (schema : Schema). length schema.views) e in absurd (omega (arith, same)))
+
 has_tables : (schema : Schema) → (schema ≡ no_schema) ⊎ (schema ≢ no_schema)
-has_tables (record { tables = []; indexes = []; views = [] }) = inl refl
-has_tables (record { tables = t ∷ ts; indexes = is; views = vs }) = inr (λ e. search rules)
-has_tables (record { tables = []; indexes = i ∷ is; views = vs }) = inr (λ e. search rules)
-has_tables (record { tables = []; indexes = []; views = v ∷ vs }) = inr (λ e. search rules)
+has_tables schema = has_parts schema.tables schema.indexes schema.views
 
 -- the store's rows are those of the database
 pub found_states : (db : Database) (rows : Trees)

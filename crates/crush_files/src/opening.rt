@@ -1,12 +1,20 @@
 //! Opening a database file for the tenants in its tables.
 
+ghost use Rattle.std.specs.Prelude.{◌≡◌, false, IfOk};
+ghost use Rattle.sqlite.specs.Files.{file_state};
+ghost use Rattle.sqlite.specs.State.{HasCleanDisk};
+ghost use Rattle.sqlite_wal.specs.Files.{image_at};
+ghost use Rattle.tenant_rows.specs.Rows.{StandsFor};
+ghost use Rattle.crush_files.specs.Opened.{IsFound};
+
 use crate::fault::{FileFault, fault_of};
 use crate::log::{LogBefore, log_before};
 use sqlite::{Connection, Error, ErrorCode, FileStore};
-use sqlite_disk::{Files, Start};
+use sqlite_disk::{Disk, Files, Start};
 use sqlite_std_file::FileFrom;
 use std::rt::HostRuntime;
 use tenant_core::StoreFault;
+use tenant_rows::laws::names_stand_for_one_state;
 use tenant_store::Store;
 
 /// Whether a file is refused for what it holds.
@@ -27,6 +35,7 @@ fn let_go<S: Start>(rt: &HostRuntime, before: &Option<LogBefore>, files: Files<F
 }
 
 /// Opens the tables in the file at a path. A file that is missing or empty becomes a new database.
+/// `S` stands for what the file and its log hold; no clause ties them to the path.
 ///
 /// `Err(FileFault::Store)`: the file can't be opened, or isn't a database with the tables of this
 /// service; it is then as it was. `Err(FileFault::NoMemory)`: an allocation failed; no row is
@@ -35,7 +44,13 @@ pub fn open_store<S: Start>(
     rt: &HostRuntime,
     path: &str,
     start: S,
-) -> Result<Store<FileStore<FileFrom<S>>>, FileFault> {
+) -> Result<Store<FileStore<FileFrom<S>>>, FileFault>
+    ensures live { IfOk result (λ store. store.1 ≡ false) }
+
+    // The rows stand for the states that the files held.
+    ensures found { IfOk result (λ store. HasCleanDisk (file_state store.0) → IsFound ⟦<FileFrom<S> as Disk>⟧ (image_at S.Start) (StandsFor (file_state store.0).now.trees)) }
+{
+    names_stand_for_one_state();
     let before = log_before(rt, path);
     let conn = match Connection::open_from(rt, path, false, start) {
         Ok(conn) => conn,

@@ -43,7 +43,7 @@ one_inventory back i j epoch versions states pools is other these those =
 pub one_row : (a b : Row) → a ∷ [] ≡ b ∷ [] → a ≡ b
 one_row a b h = cc
 
-some_row : (a : Row) → a ∷ [] ≢ []
+pub some_row : (a : Row) → a ∷ [] ≢ []
 some_row a h = absurd (omega (arith, ap length h))
 
 pub int_is : (a b : ℤ) → Int a ≡ Int b → a ≡ b

@@ -1,6 +1,6 @@
 -- A name stands for a state where what the state has and its receipts are the tenant's, and then
 -- alone.
-use Rattle.std.proofs.Common.{◌≡◌, ◌≤◌, ℕ, ℤ, pos, List, length, map, true, Some, None, sym, ap, ◌∙◌, subst, IsPermutation}
+use Rattle.std.proofs.Common.{◌≡◌, ◌≤◌, ℕ, ℤ, pos, List, length, map, true, Option, Some, None, sym, ap, ◌∙◌, subst, IsPermutation}
 use Rattle.std.specs.List.{list_all}
 use Rattle.sqlite_value.specs.declared.value.Value.TheVariants.{Int}
 use Rattle.sqlite_value.specs.Order.{column}
@@ -21,7 +21,7 @@ use Rattle.tenant_tables.specs.declared.write.State.{State}
 use Rattle.tenant_rows.specs.Changes.{HasRows, HasReceipts}
 use Rattle.tenant_rows.specs.Lists.{IsOfState, AreRowsOf, AreRowsOfState}
 use Rattle.tenant_rows.specs.Rows.{rows_of_versions, row_of_state, row_of_pool, row_of_receipt, StandsFor}
-use Rattle.tenant_rows.proofs.OneState.{one_row, int_is}
+use Rattle.tenant_rows.proofs.OneState.{one_row, some_row, int_is}
 
 -- ---- states and what they have
 
@@ -138,9 +138,15 @@ pub is_found : (db : Trees) (name : List ℕ) (s : TenantState) → StandsFor db
 is_found db name s those =
     let it = those.1.tenant in (record { id = those.1.id; epoch = pos (epoch s) }, (it.row, it.one, it.number, it.epoch_is))
 
--- and one that stands for no tenant is not
-pub is_not_found : (db : Trees) (name : List ℕ) → StandsFor db name None → Names db name None
-is_not_found db name none = none
+-- ---- names that stand for nothing
 
-pub stands_for_none : (db : Trees) (name : List ℕ) → Names db name None → StandsFor db name None
-stands_for_none db name none = none
+-- a tenant that was found, whose rows are those of no state
+pub nothing_stands : (db : Trees) (name : List ℕ) (tenant : Tenant) → Names db name (Some tenant) → ((i : Inventory) → IsOfState i → ¬ HasRows db tenant.id tenant.epoch i) → (s : Option TenantState) → ¬ StandsFor db name s
+nothing_stands db name tenant named none None those = some_row named.0 (sym named.1 ∙ those)
+nothing_stands db name tenant named none (Some s) those = none (inventory_of s) (is_of_state db name s those) (has_rows db name tenant s named those)
+
+-- a name that no tenant has, and that is not absent either
+pub nobody_stands : (db : Trees) (name : List ℕ) → ((tenant : Option Tenant) → ¬ Names db name tenant) → (s : Option TenantState) → ¬ StandsFor db name s
+nobody_stands db name none None those = none None those
+nobody_stands db name none (Some s) those =
+    let it = is_found db name s those in none (Some it.0) it.1

@@ -5,7 +5,6 @@ mod faults;
 mod judged;
 pub mod laws;
 mod reading;
-mod stand_in;
 mod store;
 mod writing;
 

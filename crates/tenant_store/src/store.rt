@@ -20,6 +20,7 @@ use std::collections::BTreeMap;
 use std::marker::Model;
 use std::rc::Rc;
 use tenant_core::{StoreFault, TenantStore};
+use tenant_rows::laws::names_stand_for_one_state;
 use tenant_state::{Change, Inventory, Receipt};
 use tenant_tables::tables::Tables;
 
@@ -65,6 +66,7 @@ impl<S: Alter + Drop> Store<S> {
         requires open { HasCleanDisk (state S.Store conn) → IsTrue (state S.Store conn).is_open }
         requires settled { HasCleanDisk (state S.Store conn) → (state S.Store conn).now ≡ (state S.Store conn).committed }
         ensures live { IfOk result (λ store. store.1 ≡ false) }
+        ensures clean { IfOk result (λ store. HasCleanDisk (state S.Store store.0) → HasCleanDisk (state S.Store conn)) }
         ensures honest { IfOk result (λ store. HasCleanDisk (state S.Store store.0) → IsHonest S.Store store) }
         ensures made { IfOk result (λ store. HasCleanDisk (state S.Store store.0) → (state S.Store conn).now.schema ≡ no_schema → (t : List ℕ) → StandsFor (state S.Store store.0).now.trees t None) }
         ensures adopted { IfOk result (λ store. HasCleanDisk (state S.Store store.0) → (state S.Store conn).now.schema ≢ no_schema
@@ -73,6 +75,7 @@ impl<S: Alter + Drop> Store<S> {
         ensures crash { IfErr result (λ e. IsClean (S.Store.view e.1) → (trees : Trees) → S.Store.recovers e.1 trees
             → (state S.Store conn).may_leave trees ⊎ (((state S.Store conn).now.schema ≡ no_schema) × ((t : List ℕ) → StandsFor trees t None))) }
     {
+        names_stand_for_one_state();
         match Tables::open(alloc, conn) {
             Ok(tables) => Ok(Store {
                 alloc,
@@ -90,6 +93,7 @@ impl<S: Alter> Store<S> {
         ensures same { result ≡ self.0 }
         ensures honest { HasCleanDisk (state S.Store result) → IsHonest S.Store self }
     {
+        names_stand_for_one_state();
         let Store { tables, .. } = self;
         let _live = tables.is_latched();
         tables.close()
@@ -98,9 +102,9 @@ impl<S: Alter> Store<S> {
 
 impl<S: Alter> TenantStore for Store<S> {
     ghost use Rattle.std.specs.Prelude.{◌≡◌, ℕ, List, false};
-    ghost use Rattle.std.proofs.Common.{refl, sym, ◌∙◌};
+    ghost use Rattle.std.proofs.Common.{refl, ◌∙◌};
     ghost use Rattle.tenant_store.specs.Shown.{IsHonest, HasState, MayLeave, Keeps};
-    ghost use Rattle.tenant_store.specs.Laws.{one_state, are_states, keeps_states, settled};
+    ghost use Rattle.tenant_store.specs.Laws.{keeps_states, settled};
 
     ghost is_honest = { λ store. IsHonest S.Store store };
 
@@ -126,34 +130,35 @@ impl<S: Alter> TenantStore for Store<S> {
         name: &str,
         number: &str,
     ) -> Result<Option<Rc<Receipt>>, StoreFault> {
+        names_stand_for_one_state();
         let _live = self.tables.is_latched();
         find_receipt(self.alloc, &mut self.tables, name, number)
     }
 
     fn create(&mut self, name: &str) -> Result<(), StoreFault> {
+        names_stand_for_one_state();
         let _live = self.tables.is_latched();
         forget(&mut self.judged, name);
-        self.tables.create(name).map_err(fault_of)
+        match self.tables.create(name) {
+            Ok(()) => Ok(()),
+            Err(fault) => Err(fault_of(fault)),
+        }
     }
 
     fn commit(&mut self, name: &str, change: &Change) -> Result<(), StoreFault> {
+        names_stand_for_one_state();
         let _live = self.tables.is_latched();
-        commit(
-            self.alloc,
-            &mut self.tables,
-            &mut self.judged,
-            name,
-            change,
-        )
+        commit(self.alloc, &mut self.tables, &mut self.judged, name, change)
     }
 
     fn remove(&mut self, name: &str) -> Result<(), StoreFault> {
+        names_stand_for_one_state();
         let _live = self.tables.is_latched();
         forget(&mut self.judged, name);
         remove(&mut self.tables, name)
     }
 
-    ghost one_state = { λ store t s u honest works is also. one_state (state S.Store store.0).now.trees t s u is also };
+    ghost one_state = { λ store t s u honest works is also. honest.one_state (S.Store.view store.0.store).trees t s u is also };
 
     ghost are_states = { λ store t s honest works has. has.0 };
 
@@ -161,7 +166,7 @@ impl<S: Alter> TenantStore for Store<S> {
 
     ghost keeps_both = { λ old mid new first second. second ∙ first };
 
-    ghost keeps_states = { λ old new honest worked works same. keeps_states S.Store old new same };
+    ghost keeps_states = { λ old new honest worked works same. keeps_states _ _ same };
 
-    ghost settled = { λ store t found honest works there. settled S.Store S.Store.settled store t found honest works there };
+    ghost settled = { λ store t found honest works there. settled _ _ there.0 t found (honest.ready works).settled (S.Store.settled store.0.store there.0 (honest.ready works).is_open there.1) there.2 };
 }

@@ -64,6 +64,7 @@ impl<S: Alter + Drop> Tables<S> {
         requires open { HasCleanDisk (state S.Store conn) → IsTrue (state S.Store conn).is_open }
         requires settled { HasCleanDisk (state S.Store conn) → (state S.Store conn).now ≡ (state S.Store conn).committed }
         ensures live { IfOk result (λ tables. tables.1 ≡ false) }
+        ensures clean { IfOk result (λ tables. HasCleanDisk (state S.Store tables.0) → HasCleanDisk (state S.Store conn)) }
         ensures made { IfOk result (λ tables. HasCleanDisk (state S.Store tables.0) → (state S.Store conn).now.schema ≡ no_schema → IsBare (state S.Store tables.0).now) }
         ensures adopted { IfOk result (λ tables. HasCleanDisk (state S.Store tables.0) → (state S.Store conn).now.schema ≢ no_schema
             → ((state S.Store conn).now.schema ≡ store_schema) × ((state S.Store tables.0).now.trees ≡ (state S.Store conn).now.trees) × HasVersion (state S.Store conn).now.trees) }

@@ -1,6 +1,6 @@
 use mir.Val.{SFits}
 use mir.Syntax.{w64}
-use Rattle.std.proofs.Common.{◌≡◌, ◌∙◌, ℕ, List, rules, map, length, sym, ap, subst}
+use Rattle.std.proofs.Common.{◌≡◌, ◌∙◌, ℕ, List, rules, arith, map, length, sym, ap, subst}
 use Rattle.std.proofs.lemmas.Int.{to_z-of_z}
 use Rattle.tenant_state.specs.Receipts.{Receipts}
 use Rattle.tenant_state.specs.State.{Inventory, inventory_of}
@@ -29,14 +29,16 @@ pub of-requires-clause-epoch : goal.of-requires-clause-epoch
 of-requires-clause-epoch c =
     let them = rw c.in-Some-2.is at c.in_ok-receipts.ensures.some in
     let long : c.len-count.result ≡ length c.args.receipts.items = search rules in
-    count_is c.in-Some.inventory.value c.deref.result.now c.args.receipts.items c.in-Some-2.receipts c.epoch.result c.len-count.result c.deref.ensures c.epoch.ensures.same c.if-epoch-count.false long them.2
+    let even : c.epoch.result ≡ c.len-count.result = omega (arith, c.if-epoch-count.false) in
+    count_is c.in-Some.inventory.value c.deref.result.now c.args.receipts.items c.in-Some-2.receipts c.epoch.result c.len-count.result c.deref.ensures c.epoch.ensures.same even long them.2
 
 pub of-requires-clause-state : goal.of-requires-clause-state
 of-requires-clause-state c =
     let it = rw c.in-Some.is at c.in_ok-inventory.ensures.some in
     let them = rw c.in-Some-2.is at c.in_ok-receipts.ensures.some in
     let long : c.len-count.result ≡ length c.args.receipts.items = search rules in
-    let count = count_is c.in-Some.inventory.value c.deref.result.now c.args.receipts.items c.in-Some-2.receipts c.epoch.result c.len-count.result c.deref.ensures c.epoch.ensures.same c.if-epoch-count.false long them.2 in
+    let even : c.epoch.result ≡ c.len-count.result = omega (arith, c.if-epoch-count.false) in
+    let count = count_is c.in-Some.inventory.value c.deref.result.now c.args.receipts.items c.in-Some-2.receipts c.epoch.result c.len-count.result c.deref.ensures c.epoch.ensures.same even long them.2 in
     is_state_of c.in-Some.inventory.value c.in-Some-2.receipts it.0 count them.0 them.1
 
 pub returns-clause-some : goal.returns-clause-some
@@ -48,7 +50,8 @@ returns-clause-some c =
     let it = rw c.in-Some.is at c.in_ok-inventory.ensures.some in
     let them = rw c.in-Some-2.is at c.in_ok-receipts.ensures.some in
     let long : c.len-count.result ≡ length c.args.receipts.items = search rules in
-    let count = count_is c.in-Some.inventory.value c.deref.result.now c.args.receipts.items c.in-Some-2.receipts c.epoch.result c.len-count.result c.deref.ensures c.epoch.ensures.same c.if-epoch-count.false long them.2 in
+    let even : c.epoch.result ≡ c.len-count.result = omega (arith, c.if-epoch-count.false) in
+    let count = count_is c.in-Some.inventory.value c.deref.result.now c.args.receipts.items c.in-Some-2.receipts c.epoch.result c.len-count.result c.deref.ensures c.epoch.ensures.same even long them.2 in
     let rows = subst (λ e. AreRowsOf i e a.versions.items a.states.items a.pools.items) (to_z-of_z w64 c.args.epoch fits) it.1 in
     subst (λ s. IsState s × AreRowsOfState s a.epoch a.versions.items a.states.items a.pools.items a.receipts.items) (sym c.of.ensures)
     (is_state_of i receipts it.0 count them.0 them.1, are_rows_of_state i receipts a.epoch a.versions.items a.states.items a.pools.items a.receipts.items count rows them.2)
