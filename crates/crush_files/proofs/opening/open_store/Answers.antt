@@ -24,3 +24,6 @@ returns-in-Ok-open-clause-found g c clean =
       found = c.in-Ok.ensures.found early;
       same = subst (λ (db : Database). Same (StandsFor rows) (StatesIn db)) opened.0.clean same;
     }
+
+pub open-requires-clause-settled : goal.open-requires-clause-settled
+open-requires-clause-settled g c clean = (c.in-Ok.ensures.opened clean).0.clean
