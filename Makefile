@@ -23,6 +23,7 @@ help:
 	@echo 'make install   builds, and installs PREFIX/bin/crushcalc (PREFIX=/usr/local)'
 	@echo 'make ceph-check   compares 176,000 mappings by requests, 154,000 with reweights and 93 name hashes with those of Ceph'"'"'s own library,'
 	@echo '               74,592 placements of groups with those of its osdmaptool, impacts with what its crushtool moves, and map texts with its crushtool'
+	@echo 'make sqlite-check   compares database files with those of the tool sqlite3, both ways'
 	@echo 'make bench     builds and measures; beside Ceph'"'"'s own library where that is installed'
 	@echo 'make bench-deps   installs what the comparisons with Ceph need (Debian: librados2, ceph-base, gcc)'
 	@echo 'make serve     the server (not built yet)'
@@ -110,6 +111,10 @@ ceph-check: build build/crush_bench bench-deps
 	@python3 tests/ceph/check_impacts ./crushcalc
 	@python3 tests/ceph/check_texts ./crushcalc build/crush_bench
 
+sqlite-check: build
+	@command -v sqlite3 >/dev/null || { echo 'Installing sqlite3: apt-get install -y sqlite3'; apt-get update && apt-get install -y sqlite3; }
+	@python3 tests/with_sqlite3 ./crushcalc
+
 bench: build build/crush_bench
 	@sh bench/all
 
@@ -125,4 +130,4 @@ clean:
 	@echo 'Removing ./crushcalc, build/ and crates/*/out; the next build proves everything anew.'
 	@rm -rf crushcalc build crates/*/out
 
-.PHONY: build help tools try cases run test gate wrong form install serve ceph-check bench bench-deps clean
+.PHONY: build help tools try cases run test gate wrong form install serve ceph-check sqlite-check bench bench-deps clean

@@ -2,6 +2,7 @@ pub mod Checking
 pub mod FromNothing
 pub mod Inputs
 pub mod Kept
+pub mod KeptStates
 pub mod LineLemmas
 pub mod LongTexts
 pub mod Performed

@@ -4,6 +4,7 @@ ghost use Rattle.std.specs.Prelude.{◌≡◌, ℕ, List, Some, None, OnOk, OnEr
 ghost use Rattle.std.specs.Str.{bytes_eq};
 ghost use Rattle.std.specs.BTreeMap.{get_by_text};
 ghost use Rattle.tenant_state.specs.State.{CanMake, TenantState, after};
+ghost use Rattle.tenant_state.specs.Valid.{IsState};
 
 use crate::service::Service;
 use std::alloc::{AllocError, Global};
@@ -26,6 +27,8 @@ fn change_named(
     ensures ok { OnOk result ((u : List ℕ) → get_by_text states.new u
         ≡ (if bytes_eq name.now u then option_map (after change.now) (get_by_text states.old u) else get_by_text states.old u)) }
     ensures err { OnErr result ((u : List ℕ) → get_by_text states.new u ≡ get_by_text states.old u) }
+    ensures states { ((u : List ℕ) (s : TenantState) → get_by_text states.old u ≡ Some s → IsState s)
+        → (u : List ℕ) (s : TenantState) → get_by_text states.new u ≡ Some s → IsState s }
 {
     match states.get_mut(name) {
         Some(state) => state.change(alloc, change),
@@ -57,6 +60,7 @@ fn take_out(states: &mut States, name: &str)
 pub struct MemoryStore {
     alloc: Global,
     states: States,
+    ghost are_states: { (name : List ℕ) (s : TenantState) → get_by_text states name ≡ Some s → IsState s },
 }
 
 impl MemoryStore {
@@ -132,6 +136,8 @@ impl TenantStore for MemoryStore {
     }
 
     ghost one_state = { λ store t s u honest works is also. sym is ∙ also };
+
+    ghost are_states = { λ store t s honest works has. store.are_states t s has };
 
     ghost keeps_itself = { λ store u. refl };
 

@@ -182,6 +182,14 @@ impl<T: TenantStore> Service<T> {
     ghost use Rattle.tenant_core.specs.Step.{is_of};
     ghost use Rattle.tenant_core.specs.StoreReply.{IsUnavailable};
 
+    /// Gives the store back. Allocates nothing.
+    pub fn into_store(self) -> T
+        ensures { result ≡ self }
+    {
+        let Service { store, .. } = self;
+        store
+    }
+
     /// Whether a call of the store failed for good. The service then answers 503 to every call.
     pub fn is_latched(&self) -> bool
         ensures { result ≡ T.latched self.now }

@@ -4,10 +4,12 @@
 use clap::error::ErrorKind;
 use clap::{Arg, ArgAction, Command, Error};
 use crush_app::{CheckEnd, ScriptEnd, check_run, script_in_memory};
+use crush_files::{FileFault, script_on_file};
+use sqlite_disk::Unknown;
 use std::alloc::{AllocError, Global};
 use std::fs::File;
 use std::process::ExitCode;
-use std::rt::{Env, Files};
+use std::rt::{Files, HostRuntime};
 use std::{env, io};
 
 /// The program's version, and the line of `rt version` of the toolchain that proves and builds it
@@ -78,17 +80,24 @@ impl From<Error> for Stop {
 
 /// What the program is asked to do: a command, with its arguments.
 enum Invocation<'a> {
-    /// Serve the script on standard input.
-    Script,
+    /// Serve the script on standard input, over a database file if one is named.
+    Script { db: Option<&'a str> },
     /// Check the map text in a file.
     Check { path: &'a str },
 }
 
 /// Reads the program's arguments, and returns what they ask for.
 fn read_arguments(alloc: Global, arguments: &[String]) -> Result<Invocation<'_>, Stop> {
-    let script = Command::new(alloc, "script").about(
-        "Serves the lines of standard input, and writes a line for each reply",
-    );
+    let db = Arg::new(alloc, "db")
+        .long("db")
+        .value_name("FILE")
+        .action(ArgAction::Set)
+        .help(
+            "Keeps the tenants in this SQLite file, made where it is missing; else they are in memory",
+        );
+    let script = Command::new(alloc, "script")
+        .about("Serves the lines of standard input, and writes a line for each reply")
+        .arg(db)?;
     let file = Arg::new(alloc, "FILE")
         .required(true)
         .action(ArgAction::Set)
@@ -104,18 +113,43 @@ fn read_arguments(alloc: Global, arguments: &[String]) -> Result<Invocation<'_>,
         .subcommand(script)?
         .subcommand(check)?
         .try_get_matches_from(arguments)?;
-    match matches.subcommand_matches("check") {
+    if let Some(check) = matches.subcommand_matches("check") {
         // clap has refused a check without a FILE; an empty path would name no file
-        Some(check) => Ok(Invocation::Check {
+        return Ok(Invocation::Check {
             path: check.get_str("FILE").unwrap_or(""),
+        });
+    }
+    match matches.subcommand_matches("script") {
+        Some(script) => Ok(Invocation::Script {
+            db: script.get_str("db"),
         }),
-        None => Ok(Invocation::Script),
+        None => Ok(Invocation::Script { db: None }),
+    }
+}
+
+impl From<FileFault> for Stop {
+    fn from(fault: FileFault) -> Stop {
+        match fault {
+            FileFault::NoMemory => Stop::NoMemory,
+            FileFault::Store => Stop::StoreFault,
+        }
     }
 }
 
 /// Serves the lines of standard input, with no tenant at first.
-fn run_script<R: AllocGlobal + Input + Print>(rt: &R) -> Result<(), Stop> {
-    match script_in_memory(rt.alloc(), &mut rt.reader(), &mut io::writer(rt))? {
+fn script_from_nothing<R: AllocGlobal + Input + Print>(rt: &R) -> Result<ScriptEnd, Stop> {
+    Ok(script_in_memory(rt.alloc(), &mut rt.reader(), &mut io::writer(rt))?)
+}
+
+/// Serves the lines of standard input, with the tenants in a database file.
+fn script_over_file(rt: &HostRuntime, path: &str) -> Result<ScriptEnd, Stop> {
+    let (end, _files) = script_on_file(rt, path, Unknown, &mut rt.reader(), &mut io::writer(rt))?;
+    Ok(end)
+}
+
+/// Why the program stops after a script that ended so, if it does.
+fn stop_after(end: ScriptEnd) -> Result<(), Stop> {
+    match end {
         ScriptEnd::Done => Ok(()),
         ScriptEnd::TooLong => Err(Stop::TooLong),
         ScriptEnd::ReadFault => Err(Stop::ReadFault),
@@ -141,14 +175,18 @@ fn check_file<R: AllocGlobal + Files + Print>(rt: &R, path: &str) -> Result<Exit
 }
 
 /// Runs the command that the arguments name, and returns the exit status.
-fn run<R: AllocGlobal + Input + Print + Env + Files>(rt: &R) -> Result<ExitCode, Stop> {
+fn run(rt: &HostRuntime) -> Result<ExitCode, Stop> {
     let Ok(given) = env::args(rt) else {
         return Err(Stop::NoMemory);
     };
     let arguments = given.collect::<Vec<String>>(rt.alloc())?;
     match read_arguments(rt.alloc(), arguments.as_slice())? {
-        Invocation::Script => {
-            run_script(rt)?;
+        Invocation::Script { db: None } => {
+            stop_after(script_from_nothing(rt)?)?;
+            Ok(ExitCode::SUCCESS)
+        }
+        Invocation::Script { db: Some(path) } => {
+            stop_after(script_over_file(rt, path)?)?;
             Ok(ExitCode::SUCCESS)
         }
         Invocation::Check { path } => check_file(rt, path),

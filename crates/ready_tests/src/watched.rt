@@ -108,6 +108,8 @@ impl<T: TenantStore> TenantStore for Watched<T> {
 
     ghost one_state = { λ store t s u honest works is also. T.one_state store.below t s u honest (or_parts store.has_failed (T.latched store.below) works).1 is also };
 
+    ghost are_states = { λ store t s honest works has. T.are_states store.below t s honest (or_parts store.has_failed (T.latched store.below) works).1 has };
+
     ghost keeps_itself = { λ store. T.keeps_itself store.below };
 
     ghost keeps_both = { λ old mid new first second. T.keeps_both old.below mid.below new.below first second };

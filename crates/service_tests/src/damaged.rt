@@ -45,6 +45,7 @@ impl TenantStore for PartlyDamaged {
     ghost use Rattle.std.specs.Prelude.{◌≡◌, false};
     ghost use Rattle.std.proofs.Common.{◌∙◌, sym};
     ghost use Rattle.service_tests.specs.Damaged.{begins_with, state_of};
+    ghost use Rattle.service_tests.specs.Fresh.{states_are};
 
     ghost is_honest = { λ store. Unit {0} };
 
@@ -92,6 +93,8 @@ impl TenantStore for PartlyDamaged {
     }
 
     ghost one_state = { λ store t s u honest works is also. is.1 ∙ sym also.1 };
+
+    ghost are_states = { λ store t s honest works is. states_are t s is.1 };
 
     ghost keeps_itself = { λ store. tt };
 

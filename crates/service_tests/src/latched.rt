@@ -24,6 +24,7 @@ impl TenantStore for Failing {
     ghost use Rattle.std.specs.Prelude.{◌≡◌};
     ghost use Rattle.std.proofs.Common.{◌∙◌, sym};
     ghost use Rattle.service_tests.specs.Damaged.{state_of};
+    ghost use Rattle.service_tests.specs.Fresh.{states_are};
 
     ghost is_honest = { λ store. Unit {0} };
 
@@ -74,6 +75,8 @@ impl TenantStore for Failing {
     }
 
     ghost one_state = { λ store t s u honest works is also. is ∙ sym also };
+
+    ghost are_states = { λ store t s honest works is. states_are t s is };
 
     ghost keeps_itself = { λ store. tt };
 

@@ -1,8 +1,11 @@
 pub mod Accepting
 pub mod Following
+pub mod InForm
+pub mod Making
 pub mod Once
 pub mod PoolRules
 pub mod Reading
 pub mod Replying
 pub mod Running
+pub mod StatesLeft
 pub mod Targets

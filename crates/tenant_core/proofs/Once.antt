@@ -2,6 +2,7 @@
 use Rattle.std.proofs.Common.{◌≡◌, ◌<◌, ◌∙◌, ℕ, suc, List, Bool, true, false, nat_le, if◌then◌else◌, Option, Some, None, Result, Ok, Err, bytes_eq, refl, sym, ap, subst, arith}
 use Rattle.std.proofs.lemmas.Bool.Decides.{nat_tests}
 use Rattle.std.proofs.lemmas.Slice.Eq.{bytes_eq-Decides}
+use Rattle.tenant_core.proofs.Making.{can_take}
 use Rattle.tenant_core.specs.Commands.{decision, on_receipt, change_or_refusal, order_on, again, receipt_for, Command}
 use Rattle.tenant_core.specs.Effects.{Decided, Fits, decided}
 use Rattle.tenant_resources.specs.Orders.{Accepted}
@@ -9,7 +10,7 @@ use Rattle.tenant_state.proofs.Counting.{found, grown, kept, same_bytes}
 use Rattle.tenant_state.specs.Receipts.{receipt_of}
 use Rattle.tenant_messages.specs.Reply.{refused, repeated, reply}
 use Rattle.tenant_state.specs.declared.limits.TheConstants.{RECEIPT_LIMIT}
-use Rattle.tenant_state.specs.State.{TenantState, Change, after, epoch, inventory_of}
+use Rattle.tenant_state.specs.State.{CanMake, TenantState, Change, after, epoch, inventory_of}
 use Rattle.tenant_core.specs.Step.{decision_on}
 use Rattle.tenant_state.specs.declared.receipts.Receipt.{Receipt}
 use Rattle.tenant_messages.specs.declared.reply.Problem.{Problem}
@@ -93,19 +94,23 @@ action_grows tenant a s c h = only_commands_change (λ c. epoch (after c s) ≡ 
 
 -- ---- what a decision needs of the state
 
-fits_order : (k : Command) (s : TenantState) (a : Result Accepted Problem) → receipt_of k.number s.receipts ≡ None → epoch s < RECEIPT_LIMIT
+fits_order : (k : Command) (s : TenantState) (a : Result Accepted Problem) → order_on k.order (inventory_of s) ≡ a → receipt_of k.number s.receipts ≡ None → epoch s < RECEIPT_LIMIT
     → Fits (change_or_refusal k a).effect (Some s)
-fits_order k s (Err problem) none room = tt
-fits_order k s (Ok a) none room = record { new = none; room = room }
+fits_order k s (Err problem) is none room = tt
+fits_order k s (Ok a) is none room = record { new = none; room = room; made = can_take k.order (inventory_of s) a is }
 
 fits_new : (k : Command) (s : TenantState) (full : Bool) → nat_le RECEIPT_LIMIT (epoch s) ≡ full → receipt_of k.number s.receipts ≡ None
     → Fits (if full then decided effect.Keep (refused TenantLimit) else change_or_refusal k (order_on k.order (inventory_of s))).effect (Some s)
 fits_new k s true is none = tt
-fits_new k s false is none = fits_order k s (order_on k.order (inventory_of s)) none (grind (arith, nat_tests, is))
+fits_new k s false is none = fits_order k s (order_on k.order (inventory_of s)) refl none (grind (arith, nat_tests, is))
 
 fits_on : (k : Command) (s : TenantState) (o : Option Receipt) → receipt_of k.number s.receipts ≡ o → Fits (on_receipt k (inventory_of s) o).effect (Some s)
 fits_on k s (Some r) is = tt
 fits_on k s None is = fits_new k s (nat_le RECEIPT_LIMIT (epoch s)) refl is
+
+-- a change that is decided on is one that the state can make
+pub decided_fits : (k : Command) (s : TenantState) (c : Change) → (decision k s).effect ≡ effect.Change c → CanMake c s
+decided_fits k s c h = subst (λ e. Fits e (Some s)) h (fits_on k s (receipt_of k.number s.receipts) refl)
 
 pub decision_fits : (tenant : List ℕ) (a : Action) (s : Option TenantState) → Fits (decision_on tenant a s).effect s
 decision_fits tenant action.CreateTenant None = refl

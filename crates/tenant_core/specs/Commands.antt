@@ -1,12 +1,16 @@
 -- Changing requests: each has a request number, and acts once.
-use Rattle.std.specs.Prelude.{ℕ, List, nat_le, if◌then◌else◌, Option, Some, None, Result, Ok, Err}
+use Rattle.std.specs.Prelude.{ℕ, ◌≡◌, List, true, nat_le, if◌then◌else◌, Option, Some, None, Result, Ok, Err}
+use Rattle.std.specs.List.{list_all}
+use Rattle.std.specs.Str.{is_utf8}
 use Rattle.serde_json.specs.Written.{compact_text}
+use Rattle.crush_pool.specs.Pools.{is_pool}
 use Rattle.tenant_core.specs.Effects.{Decided, decided}
 use Rattle.tenant_resources.specs.Orders.{Accepted}
 use Rattle.tenant_resources.specs.Devices as devices
 use Rattle.tenant_resources.specs.Maps as maps
 use Rattle.tenant_resources.specs.Pools as pools
 use Rattle.tenant_state.specs.Receipts.{receipt_of, is_repeat}
+use Rattle.tenant_messages.specs.Numbers.{has_length}
 use Rattle.tenant_messages.specs.Reply.{Answer, refused, answered, repeated}
 use Rattle.tenant_state.specs.declared.limits.TheConstants.{RECEIPT_LIMIT}
 use Rattle.tenant_state.specs.State.{Inventory, TenantState, inventory_of}
@@ -23,6 +27,21 @@ pub record Command : Type 0 where
   pub path : List ℕ
   pub body : List ℕ
   pub order : Order
+
+-- what is asked for is in its ranges
+abbrev pub IsOrder : Order → Type 0
+IsOrder (ImportMap text) = Unit {0}
+IsOrder (ChangeDevices changes) = list_all devices.is_in_range changes ≡ true
+IsOrder (CreatePool pool) = is_pool pool ≡ true
+IsOrder (RemovePool id) = Unit {0}
+
+-- a changing request as it is read: its number has its length, and its texts are UTF-8
+pub record IsCommand (command : Command) : Type 0 where
+  pub number : has_length command.number ≡ true
+  pub number_text : is_utf8 command.number ≡ true
+  pub path_text : is_utf8 command.path ≡ true
+  pub body_text : is_utf8 command.body ≡ true
+  pub order : IsOrder command.order
 
 -- what an order does, or why nothing: the table of all orders
 abbrev pub order_on : Order → Inventory → Result Accepted Problem

@@ -2,15 +2,25 @@
 use Rattle.std.specs.Prelude.{ℕ, List, length, nat_lt, if◌then◌else◌, Option, Some, None, option_map, option_and_then, Result, Err, codes}
 use Rattle.std.specs.Option.{ok_or}
 use Rattle.crush_map.specs.Faults.{is_name}
+use Rattle.tenant_core.specs.Commands.{IsCommand}
 use Rattle.tenant_core.specs.Route.{read, route_of}
 use Rattle.tenant_core.specs.Router.{target_of}
 use Rattle.tenant_core.specs.Target.{Target, methods_in, parameter}
 use Rattle.tenant_core.specs.declared.limits.TheConstants.{BODY_LIMIT}
 use Rattle.tenant_core.specs.declared.request.Action.{Action}
+use Rattle.tenant_core.specs.declared.request.Action.TheVariants.{CreateTenant, ShowTenant, DropTenant, Command, Query}
 use Rattle.tenant_core.specs.declared.route.Route.{Route}
 use Rattle.tenant_messages.specs.declared.call.Call.{Call}
 use Rattle.tenant_messages.specs.declared.reply.Problem.{Problem}
 use Rattle.tenant_messages.specs.declared.reply.Problem.TheVariants.{BadRequest, NoPath, Method, TooLarge}
+
+-- an action as it is read from a call
+abbrev pub IsAction : Action → Type 0
+IsAction CreateTenant = Unit {0}
+IsAction ShowTenant = Unit {0}
+IsAction DropTenant = Unit {0}
+IsAction (Command command) = IsCommand command
+IsAction (Query query) = Unit {0}
 
 -- what is asked of a tenant
 pub record Request : Type 0 where

@@ -8,10 +8,13 @@ ghost use Rattle.tenant_core.specs.Effects.{effect_of};
 ghost use Rattle.tenant_resources.specs.Orders.{accepted_of};
 ghost use Rattle.tenant_messages.specs.Refusals.{Gives};
 ghost use Rattle.tenant_messages.specs.Reply.{reply};
+ghost use Rattle.tenant_state.specs.Made.{made_of};
 ghost use Rattle.tenant_state.specs.State.{TenantState};
+ghost use Rattle.tenant_state.specs.Valid.{IsInventory, IsMade};
 
 use crush_map::{Listed, Text};
 use crush_pool::{DeviceChange, Pool};
+use crush_text::texts_are_read_as_they_say;
 use std::alloc::{AllocError, Global};
 use std::marker::Model;
 use std::rc::Rc;
@@ -33,8 +36,8 @@ pub enum Order {
     RemovePool(u32),
 }
 
-/// A changing request. Its path and body are those of its call, which lends them; a repeat is known
-/// by them.
+/// A changing request, as it is read (`IsCommand`). Its path and body are those of its call, which
+/// lends them; a repeat is known by them.
 #[derive(Drop)]
 pub struct Command<'a> {
     /// The request number, of 1 byte to `REQUEST_NUMBER_LIMIT`.
@@ -45,19 +48,25 @@ pub struct Command<'a> {
 }
 
 impl<'a> Model for Command<'a> {
-    ghost use Rattle.tenant_core.specs.Commands.{Command};
+    ghost use Rattle.tenant_core.specs.Commands.{Command, IsCommand};
 
     ghost Value = { Command };
 
     ghost view = { λ a. record { number = a.number; path = a.path.now; body = a.body.now; order = a.order } };
+
+    ghost invariant = { λ a. IsCommand (record { number = a.number; path = a.path.now; body = a.body.now; order = a.order }) };
 }
 
 /// What an order makes, with the reply, or why nothing: the table of all orders.
 fn accept(alloc: Global, order: &Order, inventory: &Inventory) -> Result<Accepted, Refusal>
-    requires { inventory.now.epoch < 2 ^ 32 }
+    requires epoch { inventory.now.epoch < 2 ^ 32 }
+    requires order { spec.IsOrder order.now }
+    requires valid { IsInventory inventory.now }
     ensures given { Gives accepted_of result (spec.order_on order.now inventory.now) }
     ensures plain { IfOk result (λ a. has_float (view a.body) ≡ false) }
+    ensures made { IfOk result (λ a. IsMade (made_of a.made)) }
 {
+    texts_are_read_as_they_say();
     match order {
         Order::ImportMap(text) => maps::import(alloc, text.as_str(), inventory),
         Order::ChangeDevices(changes) => devices::change_devices(
@@ -77,7 +86,8 @@ fn with_receipt(
     command: &Command<'_>,
     accepted: Accepted,
 ) -> Result<(Option<Change>, Reply), AllocError>
-    requires { has_float (view accepted.body) ≡ false }
+    requires plain { has_float (view accepted.body) ≡ false }
+    requires made { IsMade (made_of accepted.made) }
     ensures effect { IfOk result (λ p. effect_of p.0 ≡ (spec.change_or_refusal command.now (Ok (accepted_of accepted))).effect) }
     ensures reply { IfOk result (λ p. p.1 ≡ reply (spec.change_or_refusal command.now (Ok (accepted_of accepted))).answer) }
 {

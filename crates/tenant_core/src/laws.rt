@@ -1,10 +1,10 @@
 //! Laws of the definitions: each contract holds of the definitions alone.
 
 ghost use Rattle.std.specs.Prelude.{◌≡◌, ◌≢◌, ◌<◌, ℕ, suc, true, is_ok, List, Option, Some, None};
+ghost use Rattle.std.specs.Str.{is_utf8};
 ghost use Rattle.crush_pool.specs.declared.pool.PoolParts.{PoolParts};
 ghost use Rattle.tenant_core.specs.Commands.{decision, Command};
 ghost use Rattle.tenant_resources.specs.Groups.{placed};
-ghost use Rattle.tenant_resources.specs.Pools.{have_rules};
 ghost use Rattle.tenant_state.specs.Receipts.{receipt_of};
 ghost use Rattle.tenant_messages.specs.Reply.{reply};
 ghost use Rattle.tenant_core.specs.Step.{step, tenant_of, decision_on};
@@ -13,7 +13,11 @@ ghost use Rattle.tenant_state.specs.declared.receipts.Receipt.{Receipt};
 ghost use Rattle.tenant_core.specs.declared.request.Action.{Action};
 ghost use Rattle.tenant_core.specs.declared.decision.Effect.{Effect};
 ghost use Rattle.tenant_core.specs.Effects.{Fits};
-ghost use Rattle.tenant_state.specs.State.{Inventory, TenantState, Change, epoch, fresh, after, inventory_of, pool};
+ghost use Rattle.tenant_core.specs.Request.{IsAction};
+ghost use Rattle.tenant_state.specs.State.{Inventory, TenantState, Change, epoch, fresh, after, have_rules, inventory_of, pool};
+ghost use Rattle.tenant_state.specs.Valid.{IsState};
+
+use crush_text::texts_are_read_as_they_say;
 
 /// No step has the status 500 or 503: these are for a store that fails, and for no memory.
 pub fn no_step_answers_500_or_503()
@@ -46,10 +50,21 @@ pub fn a_changing_request_acts_once()
 {}
 
 /// Only an absent tenant is created, and only one that exists is removed or changed, by a change
-/// whose request number is new and for whose receipt there is room.
+/// that its state can make: whose request number is new, for which there is room, and whose pool or
+/// version goes with what the tenant has.
 pub fn each_decision_fits_its_state()
     ensures { (tenant : List ℕ) (action : Action) (s : Option TenantState) → Fits (decision_on tenant action s).effect s }
 {}
+
+/// Where the decision on an action as it is read is a change of a state, it leaves a state: one
+/// within the limits, orders and ranges of a state. Premise: the reply in the receipt is UTF-8, as
+/// the text of each `Receipt` is.
+pub fn each_change_leaves_a_state()
+    ensures { (tenant : List ℕ) (action : Action) (s : TenantState) (c : Change) → IsAction action → IsState s → (decision_on tenant action (Some s)).effect ≡ Effect.Change c
+        → is_utf8 c.receipt.reply ≡ true → IsState (after c s) }
+{
+    texts_are_read_as_they_say();
+}
 
 /// The newest version has the rule of each pool: so it is of a new tenant, and so it stays,
 /// whatever changes. Hence each group of a pool is placed.

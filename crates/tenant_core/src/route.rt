@@ -1,7 +1,9 @@
 //! All routes: the paths with their methods, and what each asks for.
 
-ghost use Rattle.std.specs.Prelude.{◌≡◌};
+ghost use Rattle.std.specs.Prelude.{◌≡◌, true};
 ghost use Rattle.tenant_messages.specs.Reading.{Reads};
+ghost use Rattle.tenant_messages.specs.Numbers.{has_length};
+ghost use Rattle.tenant_core.specs.Commands.{IsOrder};
 ghost use Rattle.tenant_core.specs.Route as spec;
 ghost use Rattle.tenant_core.specs.Target.{path_number};
 
@@ -123,8 +125,12 @@ fn if_empty<'p>(body: &[u8], action: Action<'p>) -> Result<Action<'p>, Refusal>
 
 /// A changing request, with its path and its body, by which a repeat is known.
 fn command<'p>(target: &Target<'_, 'p>, body: &'p str, number: Text, order: Order) -> Action<'p>
+    requires number { has_length number ≡ true }
+    requires order { IsOrder order }
     ensures { result ≡ spec.command_of target.now body.now number order }
 {
+    // of a string slice the prover knows that it is UTF-8, and of a `Text` it doesn't
+    let _number = number.as_str();
     Action::Command(Command {
         number,
         path: target.path(),

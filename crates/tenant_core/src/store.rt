@@ -3,6 +3,7 @@
 ghost use Rattle.std.specs.Prelude.{◌≡◌, ◌≢◌, ◌⊎◌, ◌↔◌, ℕ, List, Bool, true, false, Option, Some, None, Err, IfOk, OnOk, OnErr, option_map};
 ghost use Rattle.tenant_state.specs.Receipts.{receipt_of};
 ghost use Rattle.tenant_state.specs.State.{CanMake, TenantState, fresh, after};
+ghost use Rattle.tenant_state.specs.Valid.{IsState};
 ghost use Rattle.tenant_core.specs.States.{Found, HasInventory, IsDamaged, LeavesAsItWas, LeavesAsItWasOr, Same, Shows};
 ghost use Rattle.tenant_core.specs.StoreReply as spec;
 ghost use Rattle.tenant_core.specs.StoreReply.{is_failed};
@@ -43,10 +44,10 @@ impl From<AllocError> for StoreFault {
 /// and no call but `is_latched` may follow. `may_leave`: what an opening may find of a name after a
 /// crash now. `keeps`: a call changed nothing, not even data that is no state.
 ///
-/// In an honest store that isn't latched each name has one state, or is absent, or has damaged
-/// data. Clauses on states have the premise that the store is honest after the call; it then was
-/// honest before. A call that fails changes nothing, and no call changes another name, unless it
-/// latches the store. It does so exactly where it answers `Failed`.
+/// In an honest store that isn't latched each name has one state (`IsState`), is absent, or has
+/// damaged data. Clauses on states have the premise that the store is honest after the call; it
+/// then was honest before. A call that fails changes nothing, and no call changes another name,
+/// unless it latches the store. It does so exactly where it answers `Failed`.
 pub trait TenantStore {
     /// What is read is what was written.
     ghost is_honest: { Self → Type 0 };
@@ -128,6 +129,9 @@ pub trait TenantStore {
 
     /// A law: an honest store that isn't latched gives a name one state at most.
     ghost one_state: { (store : Self) (t : List ℕ) (s u : Option TenantState) → is_honest store → latched store ≡ false → has_state store t s → has_state store t u → s ≡ u };
+
+    /// A law: each state of a name is within the limits of a state, with its orders and ranges.
+    ghost are_states: { (store : Self) (t : List ℕ) (s : TenantState) → is_honest store → latched store ≡ false → has_state store t (Some s) → IsState s };
 
     /// Laws: each store keeps its own data, and what keeps the data of one that keeps it keeps it.
     ghost keeps_itself: { (store : Self) → keeps store store };

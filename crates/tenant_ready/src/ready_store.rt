@@ -154,6 +154,8 @@ impl<T: TenantStore> TenantStore for ReadyStore<T> {
 
     ghost one_state = { λ store t s u honest works is also. T.one_state store t s u honest works is also };
 
+    ghost are_states = { λ store t s honest works has. T.are_states store t s honest works has };
+
     ghost keeps_itself = { λ store. T.keeps_itself store };
 
     ghost keeps_both = { λ old mid new first second. T.keeps_both old mid new first second };

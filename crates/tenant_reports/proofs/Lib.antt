@@ -1,3 +1,3 @@
-mod CsvForms
+pub mod CsvForms
 mod PlainReplies
 mod Texts

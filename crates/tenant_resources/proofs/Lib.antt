@@ -4,6 +4,7 @@ pub mod TestForms
 pub mod Importing
 pub mod Testing
 pub mod DeviceForms
+pub mod DeviceRanges
 pub mod NameForms
 pub mod PlainReplies
 pub mod GroupAnswers

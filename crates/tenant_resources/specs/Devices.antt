@@ -1,6 +1,7 @@
 -- States of devices, at `/t/{t}/devices`: POST changes reweights, and which devices are up.
-use Rattle.std.specs.Prelude.{◌≡◌, ◌≢◌, ℕ, suc, ◌+◌, ◌≤◌, ◌||◌, ◌==◌, List, [], ◌∷◌, ◌++◌, length, map, Bool, true, if◌then◌else◌, Option, Some, None, is_some, option_and_then, unwrap_or, Result, Ok, Err, codes}
+use Rattle.std.specs.Prelude.{◌≡◌, ◌≢◌, ℕ, suc, ◌+◌, ◌≤◌, ◌&&◌, ◌||◌, ◌==◌, nat_le, List, [], ◌∷◌, ◌++◌, length, map, Bool, true, if◌then◌else◌, Option, Some, None, is_some, option_and_then, unwrap_or, Result, Ok, Err, codes}
 use Rattle.std.specs.List.{AllPairs, list_any, list_all}
+use Rattle.std.specs.Option.{option_map_or}
 use Rattle.serde_json.specs.Data.{Data, object}
 use Rattle.serde_json.specs.Find.{as_bool}
 use Rattle.crush_choose.specs.Weights.{reweight_of}
@@ -72,6 +73,10 @@ abbrev pub devices_request_of : List ℕ → Option (List ℕ × List DeviceChan
 devices_request_of body = option_and_then changes_of (value_of body)
 
 -- ---- changing the states of devices
+
+-- a change is of an id that a device can have, and its reweight, if it has one, is at most 1.0
+abbrev pub is_in_range : DeviceChange → Bool
+is_in_range c = nat_le c.device NUMBER_LIMIT && option_map_or (λ w. nat_le w FULL) c.reweight true
 
 -- the state of a device after a change: what the change doesn't say is as it was
 abbrev pub changed : List DeviceState → DeviceChange → DeviceState

@@ -1,12 +1,10 @@
 -- Maps, at `/t/{t}/maps`: POST adds a version of the tenant's map, from a text. At
 -- `/t/{t}/maps/{v}` GET reads the version v.
-use Rattle.std.specs.Prelude.{ℕ, suc, List, [], ◌∷◌, length, nat_le, if◌then◌else◌, Option, Some, None, is_some, option_and_then, Result, Ok, Err, codes}
-use Rattle.std.specs.List.{list_all}
+use Rattle.std.specs.Prelude.{ℕ, suc, List, [], ◌∷◌, length, nat_le, if◌then◌else◌, Option, Some, None, option_and_then, Result, Ok, Err, codes}
 use Rattle.serde_json.specs.Data.{Data, string, object}
 use Rattle.serde_json.specs.Find.{as_str}
 use Rattle.crush_grammar.specs.declared.code.TextFault.{TextFault}
 use Rattle.crush_map.specs.Map.{Map}
-use Rattle.crush_pool.specs.Placements.{rule_numbered}
 use Rattle.crush_writing.specs.Canonical.{canonical}
 use Rattle.crush_text.specs.Reading.{map_of_text}
 use Rattle.tenant_resources.specs.Orders.{Accepted}
@@ -15,7 +13,7 @@ use Rattle.tenant_messages.specs.Json.{value_of, both, has_keys, under}
 use Rattle.tenant_messages.specs.Numbers.{IsRequestNumber, request_number_of}
 use Rattle.tenant_messages.specs.Reply.{Answer, refused, success, members_of, natural}
 use Rattle.tenant_state.specs.declared.limits.TheConstants.{VERSION_LIMIT}
-use Rattle.tenant_state.specs.State.{Inventory, NewVersion, newest, version}
+use Rattle.tenant_state.specs.State.{Inventory, NewVersion, has_rules_of, newest, version}
 use Rattle.tenant_messages.specs.declared.reply.Problem.{Problem}
 use Rattle.tenant_messages.specs.declared.reply.Problem.TheVariants.{NoVersion, RuleInUse, MapRefused, TenantLimit}
 use Rattle.tenant_messages.specs.declared.reply.SuccessStatus.TheVariants.{Created}
@@ -50,7 +48,7 @@ import_reply inventory = object (members_of ((codes "epoch", natural (suc invent
 abbrev pub on_text : Inventory → Result Map TextFault → Result Accepted Problem
 on_text inventory (Err fault) = Err (MapRefused fault)
 on_text inventory (Ok m) =
-    if list_all (λ p. is_some (rule_numbered m p.rule)) inventory.pools then Ok (record { made = NewVersion m; status = Created; body = import_reply inventory })
+    if has_rules_of inventory.pools m then Ok (record { made = NewVersion m; status = Created; body = import_reply inventory })
     else Err RuleInUse
 
 abbrev pub imported : List ℕ → Inventory → Result Accepted Problem

@@ -1,6 +1,6 @@
 -- Pools, at `/t/{t}/pools`: POST creates one. At `/t/{t}/pools/remove` POST removes one.
-use Rattle.std.specs.Prelude.{◌≡◌, ℕ, suc, ◌≤◌, ◌||◌, ◌==◌, List, [], ◌∷◌, length, Bool, true, false, nat_le, if◌then◌else◌, Option, Some, None, is_some, option_and_then, Result, Ok, Err, codes}
-use Rattle.std.specs.List.{list_all, list_any}
+use Rattle.std.specs.Prelude.{◌≡◌, ℕ, suc, ◌≤◌, List, [], ◌∷◌, length, Bool, true, false, nat_le, if◌then◌else◌, Option, Some, None, option_and_then, Result, Ok, Err, codes}
+use Rattle.std.specs.List.{list_any}
 use Rattle.std.specs.Str.{bytes_eq}
 use Rattle.serde_json.specs.Data.{Data, object}
 use Rattle.serde_json.specs.Find.{as_bool, as_str}
@@ -19,7 +19,7 @@ use Rattle.tenant_messages.specs.declared.reply.Problem.TheVariants.{NoVersion, 
 use Rattle.tenant_messages.specs.declared.reply.SuccessStatus.TheVariants.{Done, Created}
 use Rattle.tenant_resources.specs.Orders.{Accepted}
 use Rattle.tenant_state.specs.declared.limits.TheConstants.{POOL_LIMIT}
-use Rattle.tenant_state.specs.State.{Inventory, NewPool, RemovedPool, newest, version, pool}
+use Rattle.tenant_state.specs.State.{Inventory, NewPool, RemovedPool, is_like, newest, version, pool}
 
 -- ---- the form of a body, and the pool that it says
 
@@ -121,10 +121,6 @@ removal_request_of body = option_and_then removal_of (value_of body)
 
 -- ---- creating a pool
 
--- whether a pool has the id or the name of another
-abbrev pub is_like : PoolParts → PoolParts → Bool
-is_like p other = other.id == p.id || bytes_eq other.name p.name
-
 -- {"epoch": E, "pool": id}
 abbrev pub creation : ℕ → Inventory → Data
 creation id inventory = object (members_of ((codes "epoch", natural (suc inventory.epoch)) ∷ (codes "pool", natural id) ∷ []))
@@ -143,14 +139,6 @@ on_version p inventory (Some m) = on_rule p inventory (rule_numbered m p.rule)
 
 abbrev pub created : PoolParts → Inventory → Result Accepted Problem
 created p inventory = on_version p inventory (version (newest inventory) inventory)
-
--- the rule of a pool in the newest version
-abbrev pub rule_of : Inventory → PoolParts → Option Rule
-rule_of inventory p = option_and_then (λ m. rule_numbered m p.rule) (version (newest inventory) inventory)
-
--- whether the newest version has each pool's rule
-abbrev pub have_rules : Inventory → Bool
-have_rules inventory = list_all (λ p. is_some (rule_of inventory p)) inventory.pools
 
 -- ---- removing a pool
 

@@ -10,6 +10,7 @@ ghost use Rattle.tenant_messages.specs.Reading.{Reads};
 ghost use Rattle.tenant_messages.specs.Refusals.{Gives};
 ghost use Rattle.tenant_resources.specs.Pools as spec;
 ghost use Rattle.tenant_resources.specs.Orders.{accepted_of};
+ghost use Rattle.tenant_state.specs.State as state;
 
 use crate::accepted::Accepted;
 use crush_map::Text;
@@ -138,21 +139,21 @@ pub fn read_removal(alloc: Global, body: &str) -> Result<(Text, u32), Refusal>
 
 /// Whether a pool has the id or the name of another.
 fn is_like(parts: &PoolParts, other: &PoolParts) -> bool
-    ensures { result ≡ spec.is_like parts.now other.now }
+    ensures { result ≡ state.is_like parts.now other.now }
 {
     other.id == parts.id || other.name.as_str() == parts.name.as_str()
 }
 
 /// Whether one of some pools has the id or the name of another.
 fn is_any_like(parts: &PoolParts, pools: &[Rc<Pool>]) -> bool
-    ensures { result ≡ list_any (λ p. spec.is_like parts.now p.value) pools.now }
+    ensures { result ≡ list_any (λ p. state.is_like parts.now p.value) pools.now }
 {
     pools.iter().any(|pool| is_like(parts, pool.parts()))
 }
 
 /// Whether one of the pools of a tenant has the id or the name of another.
 fn is_taken(parts: &PoolParts, pools: &Pools) -> bool
-    ensures { result ≡ list_any (spec.is_like parts.now) pools.now }
+    ensures { result ≡ list_any (state.is_like parts.now) pools.now }
 {
     is_any_like(parts, pools.as_slice())
 }

@@ -1,3 +1,7 @@
 pub mod Counting
 pub mod Keeping
+pub mod Leaving
+pub mod Naming
 pub mod Ordering
+pub mod Receiving
+pub mod Staying

@@ -1,5 +1,6 @@
 pub mod Ordered
 pub mod Receipts
 pub mod State
+pub mod Valid
 pub mod Made
 pub mod Size

@@ -1,6 +1,9 @@
 -- The state of a tenant, and its changes.
-use Rattle.std.specs.Prelude.{ℕ, ◌≡◌, ◌<◌, ◌+◌, ◌-◌, ◌==◌, List, [], ◌∷◌, ◌++◌, length, slice_get, find, fold, Bool, nat_lt, if◌then◌else◌, Option, Some, None, option_map, ok_or, Result, Err}
+use Rattle.std.specs.Prelude.{ℕ, ◌≡◌, ◌<◌, ◌+◌, ◌-◌, ◌==◌, ◌||◌, List, [], ◌∷◌, ◌++◌, length, slice_get, find, fold, Bool, true, false, nat_lt, if◌then◌else◌, Option, Some, None, is_some, option_map, option_and_then, ok_or, Result, Err}
+use Rattle.std.specs.List.{list_all, list_any}
+use Rattle.std.specs.Str.{bytes_eq}
 use Rattle.crush_map.specs.Map.{Map}
+use Rattle.crush_map.specs.declared.draft.Rule.{Rule}
 use Rattle.crush_pool.specs.Placements.{rule_numbered}
 use Rattle.crush_pool.specs.Placers.{PoolOnMap}
 use Rattle.crush_pool.specs.declared.pool.PoolParts.{PoolParts}
@@ -9,7 +12,7 @@ use Rattle.tenant_messages.specs.declared.reply.Problem.{Problem}
 use Rattle.tenant_messages.specs.declared.reply.Problem.TheVariants.{NoVersion, NoRule}
 use Rattle.tenant_state.specs.Ordered.{with_element, without}
 use Rattle.tenant_state.specs.Receipts.{Receipts, receipt_of, with_receipt}
-use Rattle.tenant_state.specs.declared.limits.TheConstants.{RECEIPT_LIMIT}
+use Rattle.tenant_state.specs.declared.limits.TheConstants.{POOL_LIMIT, RECEIPT_LIMIT, VERSION_LIMIT}
 use Rattle.tenant_state.specs.declared.receipts.Receipt.{Receipt}
 
 -- the versions 1, 2, .. of the tenant's map; the states of devices that were stored, and the pools,
@@ -69,6 +72,22 @@ is_lower_pool p q = nat_lt p.id q.id
 abbrev pub pool : ℕ → Inventory → Option PoolParts
 pool id inventory = find (λ p. p.id == id) inventory.pools
 
+-- whether a pool has the id or the name of another
+abbrev pub is_like : PoolParts → PoolParts → Bool
+is_like p other = other.id == p.id || bytes_eq other.name p.name
+
+-- whether a map has the rule of each of some pools
+abbrev pub has_rules_of : List PoolParts → Map → Bool
+has_rules_of pools m = list_all (λ p. is_some (rule_numbered m p.rule)) pools
+
+-- the rule of a pool in the newest version
+abbrev pub rule_of : Inventory → PoolParts → Option Rule
+rule_of inventory p = option_and_then (λ m. rule_numbered m p.rule) (version (newest inventory) inventory)
+
+-- whether the newest version has each pool's rule
+abbrev pub have_rules : Inventory → Bool
+have_rules inventory = list_all (λ p. is_some (rule_of inventory p)) inventory.pools
+
 -- ---- a pool on a version, with the states of devices as they are now
 
 -- on a version, which has to have the pool's rule
@@ -119,8 +138,30 @@ after change state =
 abbrev pub inventory_after : Change → Inventory → Inventory
 inventory_after change inventory = record (with_made change.made inventory) { epoch = inventory.epoch + 1 }
 
--- what a change needs of the state that it changes: its request number is new, and there is room
--- for its receipt
+-- ---- what a change needs of the state that it changes
+
+-- for one more version: there is room, and its map has the rule of each pool
+pub record CanTakeVersion (m : Map) (inventory : Inventory) : Type 0 where
+  pub room : length inventory.versions < VERSION_LIMIT
+  pub rules : has_rules_of inventory.pools m ≡ true
+
+-- for one more pool: there is room, no pool has its id or its name, and the newest version has its
+-- rule
+pub record CanTakePool (p : PoolParts) (inventory : Inventory) : Type 0 where
+  pub room : length inventory.pools < POOL_LIMIT
+  pub new : list_any (is_like p) inventory.pools ≡ false
+  pub rule : is_some (rule_of inventory p) ≡ true
+
+-- what a tenant has can take what is made; a pool that is removed is there
+abbrev pub CanTake : Made → Inventory → Type 0
+CanTake (NewVersion m) inventory = CanTakeVersion m inventory
+CanTake (NewStates changed) inventory = Unit {0}
+CanTake (NewPool p) inventory = CanTakePool p inventory
+CanTake (RemovedPool id) inventory = is_some (pool id inventory) ≡ true
+
+-- its request number is new, there is room for its receipt, and what the tenant has can take what
+-- is made
 pub record CanMake (change : Change) (state : TenantState) : Type 0 where
   pub new : receipt_of change.number state.receipts ≡ None
   pub room : length state.receipts < RECEIPT_LIMIT
+  pub made : CanTake change.made (inventory_of state)

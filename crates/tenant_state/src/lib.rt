@@ -3,6 +3,7 @@
 #![tactic(auto)]
 
 mod devices;
+pub mod laws;
 pub mod limits;
 mod pools;
 mod receipts;

@@ -26,7 +26,8 @@ pub enum Made {
     NoPool(u32),
 }
 
-/// An accepted change. Its receipt goes under the request number.
+/// An accepted change, whose parts are in their ranges (`IsChange`). Its receipt goes under the
+/// request number.
 #[derive(Drop)]
 pub struct Change {
     pub number: Text,
@@ -37,16 +38,20 @@ pub struct Change {
 impl Model for Change {
     ghost use Rattle.tenant_state.specs.State.{Change};
     ghost use Rattle.tenant_state.specs.Made.{made_of};
+    ghost use Rattle.tenant_state.specs.Valid.{IsChange};
 
     ghost Value = { Change };
 
     ghost view = { λ a. record { number = a.number; receipt = a.receipt.value; made = made_of a.made } };
+
+    ghost invariant = { λ a. IsChange (record { number = a.number; receipt = a.receipt.value; made = made_of a.made }) };
 }
 
 // ---- what a tenant has
 
 /// What a tenant has: the versions of its map, the states of devices, the pools, and its epoch. It
 /// is all that its queries are answered from; of the receipts it has the number alone, the epoch.
+/// Its parts are in their ranges and orders (`IsInventory`).
 #[derive(Drop)]
 pub struct Inventory {
     versions: Vec<Rc<Version>>,
@@ -58,15 +63,19 @@ pub struct Inventory {
 impl Model for Inventory {
     ghost use Rattle.std.specs.Prelude.{map};
     ghost use Rattle.tenant_state.specs.State.{Inventory};
+    ghost use Rattle.tenant_state.specs.Valid.{IsInventory};
 
     ghost Value = { Inventory };
 
     ghost view = { λ a. record { versions = map (λ v. v.value) a.versions.items; devices = a.devices.value; pools = a.pools; epoch = a.epoch } };
+
+    ghost invariant = { λ a. IsInventory (record { versions = map (λ v. v.value) a.versions.items; devices = a.devices.value; pools = a.pools; epoch = a.epoch }) };
 }
 
 impl Inventory {
     ghost use Rattle.std.specs.Prelude.{◌≡◌, ◌<◌, [], IfOk, map, option_map};
     ghost use Rattle.tenant_state.specs.State as spec;
+    ghost use Rattle.tenant_state.specs.Valid.{IsInventory};
     ghost use Rattle.tenant_state.specs.declared.limits.TheConstants.{RECEIPT_LIMIT};
 
     /// The inventory with these parts: the versions 1, 2, .., the states of devices, the pools and
@@ -77,6 +86,7 @@ impl Inventory {
         pools: Pools,
         epoch: u64,
     ) -> Inventory
+        requires { IsInventory (record { versions = map (λ v. v.value) versions.items; devices = devices.value; pools = pools; epoch = epoch }) }
         ensures { result ≡ record { versions = map (λ v. v.value) versions.items; devices = devices.value; pools = pools; epoch = epoch } }
     {
         Inventory {
@@ -102,7 +112,8 @@ impl Inventory {
 
     /// The number of accepted changes, each of which left one receipt.
     pub fn epoch(&self) -> u64
-        ensures { result ≡ self.now.epoch }
+        ensures same { result ≡ self.now.epoch }
+        ensures valid { IsInventory self.now }
     {
         self.epoch
     }
@@ -224,7 +235,8 @@ impl Inventory {
 
 // ---- states
 
-/// The state of a tenant that exists: what it has, and the receipts of its accepted changes.
+/// The state of a tenant that exists: what it has, and the receipts of its accepted changes, all
+/// within their limits (`IsState`).
 #[derive(Drop)]
 pub struct TenantState {
     inventory: Rc<Inventory>,
@@ -234,22 +246,28 @@ pub struct TenantState {
 impl Model for TenantState {
     ghost use Rattle.std.specs.Prelude.{◌≡◌, length};
     ghost use Rattle.tenant_state.specs.State.{TenantState, with_receipts};
+    ghost use Rattle.tenant_state.specs.Valid.{IsState};
 
     ghost Value = { TenantState };
 
     ghost view = { λ a. with_receipts a.inventory.value a.receipts };
 
-    ghost invariant = { λ a. a.inventory.value.epoch ≡ length a.receipts };
+    ghost invariant = { λ a. record {
+      epoch : a.inventory.value.epoch ≡ length a.receipts;
+      state : IsState (with_receipts a.inventory.value a.receipts);
+    } };
 }
 
 impl TenantState {
     ghost use Rattle.std.specs.Prelude.{◌≡◌, IfOk, OnOk, OnErr, length, option_map};
     ghost use Rattle.tenant_state.specs.Receipts.{receipt_of};
     ghost use Rattle.tenant_state.specs.State as spec;
+    ghost use Rattle.tenant_state.specs.Valid.{IsState};
 
     /// The state of a tenant that has this, with these receipts. Allocates nothing.
     pub fn of(inventory: Rc<Inventory>, receipts: Receipts) -> TenantState
-        requires { inventory.value.epoch ≡ length receipts }
+        requires epoch { inventory.value.epoch ≡ length receipts }
+        requires state { IsState (spec.with_receipts inventory.value receipts) }
         ensures { result ≡ spec.with_receipts inventory.value receipts }
     {
         TenantState {
@@ -269,7 +287,8 @@ impl TenantState {
 
     /// What the tenant has, shared.
     pub fn inventory(&self) -> &Rc<Inventory>
-        ensures { result.now.value ≡ spec.inventory_of self.now }
+        ensures same { result.now.value ≡ spec.inventory_of self.now }
+        ensures valid { IsState self.now }
     {
         &self.inventory
     }
@@ -286,10 +305,11 @@ impl TenantState {
         requires { spec.CanMake change.now self.old }
         ensures ok { OnOk result (self.new ≡ spec.after change.now self.old) }
         ensures err { OnErr result (self.new ≡ self.old) }
+        ensures valid { IsState self.new }
     {
+        let inventory = Rc::new(alloc, self.inventory.after(alloc, change)?)?;
         let number = String::from_str(alloc, change.number.as_str())?;
         let receipt = change.receipt.clone()?;
-        let inventory = Rc::new(alloc, self.inventory.after(alloc, change)?)?;
         self.receipts.insert(number, receipt)?;
         self.inventory = inventory;
         Ok(())

@@ -1,6 +1,6 @@
 //! The tables are made where there are none, and else tested for their version.
 
-ghost use Rattle.std.specs.Prelude.{pos, [], ◌∷◌, map, ◌≤◌, IsPermutation, ◌≡◌, ◌≢◌, ◌⊎◌, ◌↔◌, false, IfOk, OnOk, OnErr, Err, IsTrue};
+ghost use Rattle.std.specs.Prelude.{pos, [], ◌∷◌, map, ◌≤◌, IsPermutation, ◌≡◌, ◌≢◌, ◌⊎◌, ◌↔◌, false, IfOk, IfErr, OnOk, OnErr, Err, IsTrue};
 ghost use Rattle.sqlite.specs.Held.{state};
 ghost use Rattle.sqlite_value.specs.declared.value.Value.TheVariants.{Int};
 ghost use Rattle.sqlite.specs.State.{HasCleanDisk, IsLive, IsUnchanged, Survives};
@@ -9,7 +9,7 @@ ghost use Rattle.sqlite_value.specs.Order.{column};
 ghost use Rattle.tenant_tables.specs.Layout.{no_schema, store_schema};
 ghost use Rattle.tenant_tables.specs.Run.{Commits, HasVersion, IsBare, IsReady, Rests, Stays};
 
-use crate::refuse::{Fault, refusal};
+use crate::refuse::{Fault, fault_of, refusal};
 use crate::schema::is_ours;
 use crate::write::{Write, run_all};
 use sqlite::{Alter, Connection, Error, ErrorCode, Row};
@@ -140,24 +140,26 @@ pub fn set_up<S: Alter>(conn: &mut Connection<S>) -> Result<(), Fault>
     ensures ended { conn.new.in_transaction ≡ false }
 {
     if is_empty(conn) {
-        make(conn)?;
+        make(conn)
     } else if is_ours(conn.schema()) {
-        adopt(conn)?;
+        adopt(conn)
     } else {
-        return Err(Fault::Damaged);
+        Err(Fault::Damaged)
     }
-    get_ready(conn)
 }
 
 /// Prepares what a refusal asks, so that it takes no memory then.
 pub fn get_ready<S: Alter>(conn: &mut Connection<S>) -> Result<(), Fault>
     ensures ok { HasCleanDisk (state S.Store conn.new) → OnOk result (IsUnchanged (state S.Store conn.old) (state S.Store conn.new)) }
-    ensures err { OnErr result (result ≡ Err Fault.Failed) }
+    ensures err { IfErr result (λ fault. (fault ≡ Fault.NoMemory) ⊎ (fault ≡ Fault.Failed)) }
     ensures survives { Survives (state S.Store conn.old) (state S.Store conn.new) (λ _. ⊥) }
     ensures ended { conn.old.in_transaction ≡ false → conn.new.in_transaction ≡ false }
 {
     match conn.prepare("SELECT 1") {
         Ok(_) => Ok(()),
-        Err(_) => Err(Fault::Failed),
+        Err(error) => match fault_of(error) {
+            Fault::NoMemory => Err(Fault::NoMemory),
+            _ => Err(Fault::Failed),
+        },
     }
 }

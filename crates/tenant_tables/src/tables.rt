@@ -6,7 +6,7 @@ ghost use Rattle.sqlite.specs.State.{HasCleanDisk, Survives};
 ghost use Rattle.std.specs.List.{AllByRecursion};
 ghost use Rattle.sqlite_trees.specs.View.{IsClean};
 ghost use Rattle.tenant_tables.specs.Layout.{no_schema, store_schema, maps_table, devices_table, pools_table, receipts_table};
-ghost use Rattle.tenant_tables.specs.Run.{HasVersion, IsBare};
+ghost use Rattle.tenant_tables.specs.Run.{HasVersion, IsBare, IsReady};
 ghost use Rattle.tenant_tables.specs.Holds.{IsAbsent, of_tenant};
 ghost use Rattle.tenant_tables.specs.Found.{Names, Lists, Begins, rows_above, receipt_values, receipts_with, AreReceipt, IsReceiptRow, version_values, pool_values, IsVersionRow, IsStateRow, IsPoolRow};
 ghost use Rattle.tenant_tables.specs.Change.{Accepts, Creates, Drops, IsNumber, with_version, with_states, with_pool, without_pool, state_row};
@@ -28,6 +28,7 @@ use std::marker::Model;
 
 /// The tables of a connection. Contracts see the connection, and whether a failure has latched the
 /// tables. Then no further call is made on them.
+#[derive(Drop)]
 pub struct Tables<S: Alter> {
     conn: Connection<S>,
     alloc: Global,
@@ -63,6 +64,7 @@ impl<S: Alter + Drop> Tables<S> {
         requires open { HasCleanDisk (state S.Store conn) → IsTrue (state S.Store conn).is_open }
         requires settled { HasCleanDisk (state S.Store conn) → (state S.Store conn).now ≡ (state S.Store conn).committed }
         ensures live { IfOk result (λ tables. tables.1 ≡ false) }
+        ensures clean { IfOk result (λ tables. HasCleanDisk (state S.Store tables.0) → HasCleanDisk (state S.Store conn)) }
         ensures made { IfOk result (λ tables. HasCleanDisk (state S.Store tables.0) → (state S.Store conn).now.schema ≡ no_schema → IsBare (state S.Store tables.0).now) }
         ensures adopted { IfOk result (λ tables. HasCleanDisk (state S.Store tables.0) → (state S.Store conn).now.schema ≢ no_schema
             → ((state S.Store conn).now.schema ≡ store_schema) × ((state S.Store tables.0).now.trees ≡ (state S.Store conn).now.trees) × HasVersion (state S.Store conn).now.trees) }
@@ -103,9 +105,11 @@ impl<S: Alter> Tables<S> {
         conn
     }
 
-    /// Whether a call has failed for good.
+    /// Whether a call has failed for good. Contracts learn of it that the connection is ready where
+    /// none has.
     pub fn is_latched(&self) -> bool
-        ensures { result ≡ self.now.1 }
+        ensures value { result ≡ self.now.1 }
+        ensures ready { self.now.1 ≡ false → HasCleanDisk (state S.Store self.now.0) → IsReady (state S.Store self.now.0) }
     {
         self.is_latched
     }

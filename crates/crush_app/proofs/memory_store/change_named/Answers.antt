@@ -6,6 +6,7 @@ use Rattle.std.proofs.lemmas.Map.Text.{btree_map_updates_text}
 use Rattle.std.proofs.lemmas.Slice.Eq.{bytes_eq-Decides}
 use Rattle.tenant_state.specs.State.{after}
 use Rattle.crush_app.proofs.Kept.{changed_at, kept_at, OnOk-map, OnErr-map}
+use Rattle.crush_app.proofs.KeptStates.{state_at}
 use Rattle.crush_app.proofs.memory_store.change_named.Goals as goal
 
 -- the value under the name, of the states with another value in its place
@@ -32,3 +33,11 @@ returns-in-Some-clause-err c =
     OnErr-map c.change.result
     (λ same u. updated c u ∙ kept_at (bytes_eq c.args.name.now u) c.in-Some.state.now c.change.new.self (get_by_text c.args.states.now u) (there c u) same)
     c.change.ensures.err
+
+pub returns-in-Some-clause-states : goal.returns-in-Some-clause-states
+returns-in-Some-clause-states c = λ all u s h.
+    state_at (bytes_eq c.args.name.now u) c.change.new.self s (get_by_text c.args.states.now u) c.change.ensures.valid (all u s) (sym (updated c u) ∙ h)
+
+pub returns-in-None-clause-states : goal.returns-in-None-clause-states
+returns-in-None-clause-states c = λ all u s h.
+    let same : get_by_text c.get_mut.follows.lender-at-none u ≡ get_by_text c.args.states.now u = search rules in all u s (sym same ∙ h)

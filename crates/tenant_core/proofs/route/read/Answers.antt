@@ -1,3 +1,4 @@
+use Rattle.tenant_core.proofs.InForm.{changes_order, csv_order, pool_number}
 use Rattle.tenant_core.proofs.Reading.{pool_read}
 use Rattle.tenant_core.proofs.route.read.Goals as goal
 
@@ -5,3 +6,16 @@ pub returns-in_ok-number-in-CreatePool : goal.returns-in_ok-number-in-CreatePool
 returns-in_ok-number-in-CreatePool c =
     rw c.in-CreatePool.is (pool_read c.args.target.now c.args.body.now c.in_ok-body-in-CreatePool.body.now c.in_ok-number-in-CreatePool.number c.in_ok-number-in-CreatePool.pool
     c.command-in-CreatePool.result c.in_ok-body-in-CreatePool.ensures c.in_ok-number-in-CreatePool.ensures c.command-in-CreatePool.ensures)
+
+-- what is read is in its form
+pub command-requires-in-ChangeDevices-clause-order :
+    goal.command-requires-in-ChangeDevices-clause-order
+command-requires-in-ChangeDevices-clause-order c = changes_order c.in_ok-body-in-ChangeDevices.body.now _ c.in_ok-number-in-ChangeDevices.ensures
+
+pub command-requires-in-ChangeDevicesByCsv-clause-order :
+    goal.command-requires-in-ChangeDevicesByCsv-clause-order
+command-requires-in-ChangeDevicesByCsv-clause-order c = csv_order c.in_ok-body-in-ChangeDevicesByCsv.body.now _ c.in_ok-number-in-ChangeDevicesByCsv.ensures
+
+pub command-requires-in-CreatePool-clause-number :
+    goal.command-requires-in-CreatePool-clause-number
+command-requires-in-CreatePool-clause-number c = pool_number c.in_ok-body-in-CreatePool.body.now _ c.in_ok-number-in-CreatePool.ensures

@@ -15,6 +15,12 @@ invariant_of-result g c = (
       (remains mid (state g.S.Store c.get_ready.new.conn) (c.in-Ok.ensures.ready early) (c.in-Ok-get_ready.ensures.ok clean)).ready,
 )
 
+pub returns-in-Ok-get_ready-clause-clean : goal.returns-in-Ok-get_ready-clause-clean
+returns-in-Ok-get_ready-clause-clean g c clean =
+    let mid = state g.S.Store c.in-Ok.conn in
+    let early : HasCleanDisk mid = omega (arith, clean, c.get_ready.ensures.survives.clean) in
+    omega (arith, c.in-Ok.ensures.clean early, c.set_up.ensures.crash.clean)
+
 pub returns-in-Ok-get_ready-clause-alone : goal.returns-in-Ok-get_ready-clause-alone
 returns-in-Ok-get_ready-clause-alone g c clean db left =
     let mid = state g.S.Store c.in-Ok.conn in

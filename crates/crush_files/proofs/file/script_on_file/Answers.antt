@@ -1,0 +1,16 @@
+-- What the opening found, the script and the closing, put together.
+use Rattle.std.proofs.Common.{◌≡◌}
+use Rattle.crush_files.proofs.FileFacts.{both_ok, played_done, played_cut, played_headline}
+use Rattle.crush_files.proofs.file.script_on_file.Goals as goal
+
+pub returns-clause-done : goal.returns-clause-done
+returns-clause-done g c =
+    both_ok c.script_on_files.result (λ r said clean premise is. played_done _ r.1 _ _ _ _ _ (c.in_ok-store.ensures.found (clean premise)) (said premise is)) c.script_on_files.ensures.done c.script_on_files.ensures.clean
+
+pub returns-clause-cut : goal.returns-clause-cut
+returns-clause-cut g c =
+    both_ok c.script_on_files.result (λ r said clean premise is. played_cut _ r.1 _ _ _ _ _ (c.in_ok-store.ensures.found (clean premise)) (said premise is)) c.script_on_files.ensures.cut c.script_on_files.ensures.clean
+
+pub returns-clause-headline : goal.returns-clause-headline
+returns-clause-headline g c =
+    both_ok c.script_on_files.result (λ r said clean premise serves. played_headline _ r.1 _ _ _ _ _ (c.in_ok-store.ensures.found (clean premise)) (said premise serves)) c.script_on_files.ensures.headline c.script_on_files.ensures.clean

@@ -1,0 +1,46 @@
+//! The log beside a database file that is refused.
+
+use std::fs::{self, OpenOptions};
+use std::io::{self, ErrorKind};
+use std::rt::HostRuntime;
+
+/// Where the log of a database file is, and how long it was before the file was opened, if it was
+/// there.
+#[derive(Drop)]
+pub struct LogBefore {
+    path: String,
+    length: Option<u64>,
+}
+
+/// The log of the file at this path, if the file is there.
+fn log_at(rt: &HostRuntime, path: &str) -> io::Result<LogBefore> {
+    // the log lies beside the file where links lead
+    let real = fs::canonicalize(rt, path)?;
+    let path = format!(in rt.alloc(); "{}-wal", real.as_str())?;
+    let length = match fs::symlink_metadata(rt, path.as_str()) {
+        Ok(found) => Some(found.len()),
+        Err(error) if error.kind() == ErrorKind::NotFound => None,
+        Err(error) => return Err(error),
+    };
+    Ok(LogBefore { path, length })
+}
+
+/// The same, or none where it can't be told.
+pub fn log_before(rt: &HostRuntime, path: &str) -> Option<LogBefore> {
+    log_at(rt, path).ok()
+}
+
+impl LogBefore {
+    /// Cuts from the log what an opening added to it that refused the file, and removes it if there
+    /// was none. To be called while the file is locked, so that no other process has the log.
+    pub fn restore(&self, rt: &HostRuntime) -> io::Result<()> {
+        let Some(length) = self.length else {
+            return fs::remove_file(rt, self.path.as_str());
+        };
+        let log = OpenOptions::new().write(true).open(rt, self.path.as_str())?;
+        if log.metadata()?.len() > length {
+            log.set_len(length)?;
+        }
+        Ok(())
+    }
+}

@@ -1,0 +1,7 @@
+pub mod Numbers
+pub mod Streams
+pub mod Pieces
+pub mod Finding
+pub mod Connecting
+pub mod Readings
+pub mod Joining

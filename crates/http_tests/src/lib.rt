@@ -1,0 +1,12 @@
+//! Tests of `crush_http`: the messages of worked streams and their replies, however the streams are
+//! cut, and reads and writes that fail. They stand apart, so that the crate is proved once.
+#![tactic(auto)]
+
+#[cfg(test)]
+mod connections;
+#[cfg(test)]
+mod faults;
+#[cfg(test)]
+mod heads;
+#[cfg(test)]
+mod streams;

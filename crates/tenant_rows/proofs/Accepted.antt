@@ -1,0 +1,35 @@
+-- What commits accept, of integers that go through machine words.
+use Rattle.std.proofs.Common.{◌≡◌, ◌∙◌, ℤ, to_z, of_z, ap, sym, subst}
+use Rattle.std.proofs.lemmas.Int.{to_z-of_z}
+use mir.Val.{SFits}
+use mir.Syntax.{w64}
+use Rattle.sqlite_trees.specs.Tree.{Trees}
+use Rattle.tenant_state.specs.State.{Change}
+use Rattle.tenant_state.specs.declared.receipts.Receipt as state
+use Rattle.tenant_tables.specs.Change.{Accepts, IsNumber, receipt_row}
+use Rattle.tenant_tables.specs.Holds.{TenantRows}
+use Rattle.tenant_tables.specs.declared.write.Receipt.{Receipt}
+use Rattle.tenant_rows.specs.Commits.{rows_with_made}
+use Rattle.tenant_rows.specs.Rows.{row_of_receipt}
+
+abbrev pub word : ℤ → ℤ
+word n = to_z w64 (of_z w64 n)
+
+pub word_is : (n : ℤ) → SFits w64 n → word n ≡ n
+word_is = to_z-of_z w64
+
+pub number_of : (db : Trees) (id : ℤ) → SFits w64 id → IsNumber db id → IsNumber db (word id)
+number_of db id fits is = subst (IsNumber db) (sym (word_is id fits)) is
+
+-- what follows of an accepted write, with the words of the numbers, follows with the numbers
+pub accepted : (F : (Trees → Type 0) → Type 0) (id epoch : ℤ) (receipt : Receipt) (old : Trees) (made write : TenantRows → TenantRows) → SFits w64 id → SFits w64 epoch → made ≡ write
+    → F (Accepts (word id) (word epoch) receipt made old) → F (Accepts id epoch receipt write old)
+accepted F id epoch receipt old made write fits-id fits-epoch is holds =
+    subst (λ w. F (Accepts id epoch receipt w old)) is
+    (subst (λ n. F (Accepts id n receipt made old)) (word_is epoch fits-epoch) (subst (λ n. F (Accepts n (word epoch) receipt made old)) (word_is id fits-id) holds))
+
+pub made_is : (number : ℤ) (a b : Change) → SFits w64 number → a ≡ b → rows_with_made (word number) a.made ≡ rows_with_made number b.made
+made_is number a b fits same = ap (λ n. rows_with_made n a.made) (word_is number fits) ∙ ap (λ (x : Change). rows_with_made number x.made) same
+
+pub receipt_is : (values : Receipt) (receipt : state.Receipt) (a b : Change) → receipt_row values ≡ row_of_receipt (a.number, receipt) → receipt ≡ a.receipt → a ≡ b → receipt_row values ≡ row_of_receipt (b.number, b.receipt)
+receipt_is values receipt a b row one same = row ∙ ap (λ (r : state.Receipt). row_of_receipt (a.number, r)) one ∙ ap (λ (x : Change). row_of_receipt (x.number, x.receipt)) same

@@ -1,0 +1,10 @@
+pub mod Accepted
+pub mod Counting
+pub mod Listed
+pub mod OneState
+pub mod Orders
+pub mod Pages
+pub mod Reading
+pub mod Turns
+pub mod Whole
+pub mod Writes

@@ -1,0 +1,80 @@
+-- Rows of the tables that are listed by their keys, and what a tenant has.
+use Rattle.std.proofs.Common.{◌≡◌, ℤ, List, map, Bool, true, false, Result, Ok, Err, refl, ap, subst, IsPermutation, IsUtf8}
+use Rattle.std.specs.List.{AllByRecursion}
+use Rattle.sqlite.specs.Effect.{Database}
+use Rattle.sqlite_trees.specs.Tree.{Trees}
+use Rattle.crush_map.specs.Map.{Map, IsMap}
+use Rattle.crush_writing.specs.Canonical.{canonical}
+use Rattle.tenant_state.specs.State.{Inventory}
+use Rattle.tenant_tables.specs.Change.{state_row}
+use Rattle.tenant_tables.specs.Found.{Lists, IsVersionRow, IsStateRow, IsPoolRow, version_values, pool_values}
+use Rattle.tenant_tables.specs.Holds.{of_tenant}
+use Rattle.tenant_tables.specs.Layout.{maps_table, devices_table, pools_table}
+use Rattle.tenant_tables.specs.declared.refuse.Fault.{Fault}
+use Rattle.tenant_tables.specs.declared.refuse.Fault.TheVariants.{Failed}
+use Rattle.tenant_tables.specs.declared.rows.PoolRow.{PoolRow}
+use Rattle.tenant_tables.specs.declared.rows.VersionRow.{VersionRow}
+use Rattle.tenant_tables.specs.declared.write.State.{State}
+use Rattle.tenant_rows.specs.Changes.{HasRows}
+use Rattle.tenant_rows.specs.Lists.{IsOfState, AreRowsOf}
+use Rattle.tenant_rows.specs.Rows.{rows_of_versions, row_of_state, row_of_pool}
+use Rattle.tenant_rows.proofs.Orders.{one_order, versions_rise, states_rise, pools_rise, are_versions, are_states, are_pools}
+
+-- ---- calls that change no row
+
+-- what holds of a database and a number
+pub moved : (P : Trees → ℤ → Type 0) (a b : Database) (m n : ℤ) → a ≡ b → m ≡ n → P a.trees m → P b.trees n
+moved P a b m n same number it = subst (λ (d : Database). P d.trees n) same (subst (P a.trees) number it)
+
+-- a call that answered has not latched the tables
+pub is_live : {A : Type 0} (b : Bool) (x : A) → (b ≡ true → ◌≡◌ {A = Result A Fault} (Ok x) (Err Failed)) → b ≡ false
+is_live true x h = let no = h refl in cc
+is_live false x h = refl
+
+-- the fault is handed on
+pub told : {A B : Type 0} (r : Result A Fault) (x f g : Fault) → r ≡ Err x → x ≡ f → r ≡ Err g → ◌≡◌ {A = Result B Fault} (Err f) (Err g)
+told r x f g is same answer =
+    let both : f ≡ g = cc in ap Err both
+
+-- ---- what a tenant has is listed
+
+module _ (db : Trees) (id epoch : ℤ) (i : Inventory) (is : IsOfState i) (has : HasRows db id epoch i) where
+  versions_listed : Lists (of_tenant maps_table id db) (rows_of_versions 1 i.versions)
+  versions_listed = record { same = has.versions; rising = versions_rise 1 i.versions }
+
+  states_listed : Lists (of_tenant devices_table id db) (map row_of_state i.devices)
+  states_listed = record { same = has.devices; rising = states_rise i.devices is.has.device_order }
+
+  pools_listed : Lists (of_tenant pools_table id db) (map row_of_pool i.pools)
+  pools_listed = record { same = has.pools; rising = pools_rise i.pools is.has.pool_order }
+
+  -- so no query of its tables is refused
+  pub not_versions : ((m : Map) → IsMap m → IsUtf8 (canonical m)) → ((list : _) → AllByRecursion IsVersionRow list → ¬ Lists (of_tenant maps_table id db) list) → ⊥
+  not_versions utf8 none = none (rows_of_versions 1 i.versions) (are_versions utf8 1 i.versions is.has.maps) versions_listed
+
+  pub not_states : ((list : _) → AllByRecursion IsStateRow list → ¬ Lists (of_tenant devices_table id db) list) → ⊥
+  not_states none = none (map row_of_state i.devices) (are_states i.devices) states_listed
+
+  pub not_pools : ((list : _) → AllByRecursion IsPoolRow list → ¬ Lists (of_tenant pools_table id db) list) → ⊥
+  not_pools none = none (map row_of_pool i.pools) (are_pools i.pools is.has.pools) pools_listed
+
+  -- and what the queries list are its rows
+  pub are_its_rows : (versions : List VersionRow) (states : List State) (pools : List PoolRow) → Lists (of_tenant maps_table id db) (map version_values versions)
+      → Lists (of_tenant devices_table id db) (map state_row states) → Lists (of_tenant pools_table id db) (map pool_values pools) → AreRowsOf i epoch versions states pools
+  are_its_rows versions states pools v d p = record {
+    epoch_is = has.epoch_is;
+    versions_are = one_order _ _ _ v.rising versions_listed.rising v.same versions_listed.same;
+    states_are = one_order _ _ _ d.rising states_listed.rising d.same states_listed.same;
+    pools_are = one_order _ _ _ p.rising pools_listed.rising p.same pools_listed.same;
+  }
+
+-- ---- what has the listed rows is the tenant's
+
+pub has_rows_listed : (db : Trees) (id epoch : ℤ) (i : Inventory) (versions : List VersionRow) (states : List State) (pools : List PoolRow) → Lists (of_tenant maps_table id db) (map version_values versions)
+    → Lists (of_tenant devices_table id db) (map state_row states) → Lists (of_tenant pools_table id db) (map pool_values pools) → AreRowsOf i epoch versions states pools → HasRows db id epoch i
+has_rows_listed db id epoch i versions states pools v d p are = record {
+  epoch_is = are.epoch_is;
+  versions = subst (IsPermutation (of_tenant maps_table id db)) are.versions_are v.same;
+  devices = subst (IsPermutation (of_tenant devices_table id db)) are.states_are d.same;
+  pools = subst (IsPermutation (of_tenant pools_table id db)) are.pools_are p.same;
+}

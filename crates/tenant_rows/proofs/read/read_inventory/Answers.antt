@@ -1,0 +1,60 @@
+use mir.Val.{SFits}
+use mir.Syntax.{w64}
+use Rattle.std.proofs.Common.{◌∙◌, map, rules, arith, refl, sym, subst}
+use Rattle.std.proofs.lemmas.Int.{to_z-of_z}
+use Rattle.std.proofs.lemmas.Result.{err_from_is_err_and}
+use Rattle.sqlite.specs.Held.{state}
+use Rattle.sqlite.specs.State.{HasCleanDisk}
+use Rattle.tenant_tables.specs.Change.{state_row}
+use Rattle.tenant_tables.specs.Found.{Lists, version_values, pool_values}
+use Rattle.tenant_tables.specs.Holds.{of_tenant}
+use Rattle.tenant_tables.specs.Layout.{maps_table, devices_table, pools_table}
+use Rattle.tenant_rows.specs.Changes.{HasRows}
+use Rattle.tenant_rows.specs.Lists.{AreRowsOf}
+use Rattle.tenant_rows.proofs.Listed.{moved, is_live, told, not_versions, not_states, not_pools, are_its_rows}
+use Rattle.tenant_rows.proofs.read.read_inventory.Goals as goal
+
+pub returns-in_err-versions-clause-damaged : goal.returns-in_err-versions-clause-damaged
+returns-in_err-versions-clause-damaged g c = λ clean damaged i is has.
+    let fits : SFits w64 c.args.id = search rules in
+    let p = err_from_is_err_and c.from_residual.result c.from_residual.ensures.1 in
+    let its = moved (λ db n. HasRows db n c.args.epoch i) (state g.S.Store c.args.tables.now.0).now _ c.args.id _ refl (sym (to_z-of_z w64 c.args.id fits)) has in
+    not_versions _ _ c.args.epoch i is its c.canonical_texts_are_ascii.ensures.utf8 (c.in_err-versions.ensures.damaged clean (told c.from_residual.result _ _ _ p.1 p.2 damaged))
+
+pub returns-in_err-devices-clause-damaged : goal.returns-in_err-devices-clause-damaged
+returns-in_err-devices-clause-damaged g c = λ clean damaged i is has.
+    let fits : SFits w64 c.args.id = search rules in
+    let early : HasCleanDisk (state g.S.Store c.versions_of.new.self.0) = omega (arith, clean, c.in_err-devices.ensures.crash.clean) in
+    let kept = c.in_ok-versions.ensures.kept early (is_live c.versions_of.new.self.1 c.in_ok-versions.versions c.in_ok-versions.ensures.latches.0) in
+    let p = err_from_is_err_and c.from_residual-in_err-devices.result c.from_residual-in_err-devices.ensures.1 in
+    let its = moved (λ db n. HasRows db n c.args.epoch i) _ _ c.args.id _ (sym kept) (sym (to_z-of_z w64 c.args.id fits)) has in
+    not_states _ _ c.args.epoch i is its (c.in_err-devices.ensures.damaged clean (told c.from_residual-in_err-devices.result _ _ _ p.1 p.2 damaged))
+
+pub returns-in_err-pools-clause-damaged : goal.returns-in_err-pools-clause-damaged
+returns-in_err-pools-clause-damaged g c = λ clean damaged i is has.
+    let fits : SFits w64 c.args.id = search rules in
+    let later : HasCleanDisk (state g.S.Store c.devices_of.new.self.0) = omega (arith, clean, c.in_err-pools.ensures.crash.clean) in
+    let early : HasCleanDisk (state g.S.Store c.versions_of.new.self.0) = omega (arith, later, c.in_ok-devices.ensures.crash.clean) in
+    let kept = c.in_ok-versions.ensures.kept early (is_live c.versions_of.new.self.1 c.in_ok-versions.versions c.in_ok-versions.ensures.latches.0) in
+    let still = c.in_ok-devices.ensures.kept later (is_live c.devices_of.new.self.1 c.in_ok-devices.devices c.in_ok-devices.ensures.latches.0) in
+    let p = err_from_is_err_and c.from_residual-in_err-pools.result c.from_residual-in_err-pools.ensures.1 in
+    let its = moved (λ db n. HasRows db n c.args.epoch i) _ _ c.args.id _ (sym (still ∙ kept)) (sym (to_z-of_z w64 c.args.id fits)) has in
+    not_pools _ _ c.args.epoch i is its (c.in_err-pools.ensures.damaged clean (told c.from_residual-in_err-pools.result _ _ _ p.1 p.2 damaged))
+
+pub returns-in-Ok-None-clause-damaged : goal.returns-in-Ok-None-clause-damaged
+returns-in-Ok-None-clause-damaged g c = λ clean damaged i is has.
+    let versions = c.in_ok-versions.versions.items in
+    let devices = c.in_ok-devices.devices.items in
+    let pools = c.in_ok-pools.pools.items in
+    let fits : SFits w64 c.args.id = search rules in
+    let fits-epoch : SFits w64 c.args.epoch = search rules in
+    let number = to_z-of_z w64 c.args.id fits in
+    let later : HasCleanDisk (state g.S.Store c.devices_of.new.self.0) = omega (arith, clean, c.in_ok-pools.ensures.crash.clean) in
+    let early : HasCleanDisk (state g.S.Store c.versions_of.new.self.0) = omega (arith, later, c.in_ok-devices.ensures.crash.clean) in
+    let kept = c.in_ok-versions.ensures.kept early (is_live c.versions_of.new.self.1 c.in_ok-versions.versions c.in_ok-versions.ensures.latches.0) in
+    let still = c.in_ok-devices.ensures.kept later (is_live c.devices_of.new.self.1 c.in_ok-devices.devices c.in_ok-devices.ensures.latches.0) in
+    let v = moved (λ db n. Lists (of_tenant maps_table n db) (map version_values versions)) (state g.S.Store c.args.tables.now.0).now _ _ _ refl number (c.in_ok-versions.ensures.found early) in
+    let d = moved (λ db n. Lists (of_tenant devices_table n db) (map state_row devices)) _ _ _ _ kept number (c.in_ok-devices.ensures.found later) in
+    let p = moved (λ db n. Lists (of_tenant pools_table n db) (map pool_values pools)) _ _ _ _ (still ∙ kept) number (c.in_ok-pools.ensures.found clean) in
+    let rows = are_its_rows _ c.args.id c.args.epoch i is has versions devices pools v d p in
+    c.in-Ok-None.ensures.none c.in-Ok-None.field-0-is i is (subst (λ e. AreRowsOf i e versions devices pools) (sym (to_z-of_z w64 c.args.epoch fits-epoch)) rows)

@@ -1,0 +1,5 @@
+pub mod Changes
+pub mod Commits
+pub mod Lists
+pub mod Pages
+pub mod Rows

@@ -1,0 +1,34 @@
+-- What a tenant has, without its receipts, and the lists of rows that it is read from.
+use Rattle.std.specs.Prelude.{ℤ, pos, ◌≡◌, ◌≤◌, List, length, map, true}
+use Rattle.tenant_state.specs.State.{Inventory, TenantState, have_rules, inventory_of}
+use Rattle.tenant_state.specs.Valid.{IsInventory, are_named_once}
+use Rattle.tenant_state.specs.declared.limits.TheConstants.{POOL_LIMIT, RECEIPT_LIMIT, VERSION_LIMIT}
+use Rattle.tenant_tables.specs.Change.{state_row}
+use Rattle.tenant_tables.specs.Found.{version_values, pool_values, receipt_values}
+use Rattle.tenant_tables.specs.declared.rows.VersionRow.{VersionRow}
+use Rattle.tenant_tables.specs.declared.rows.PoolRow.{PoolRow}
+use Rattle.tenant_tables.specs.declared.rows.ReceiptRow.{ReceiptRow}
+use Rattle.tenant_tables.specs.declared.write.State.{State}
+use Rattle.tenant_rows.specs.Rows.{rows_of_versions, row_of_state, row_of_pool, row_of_receipt}
+
+-- it is what some state has: in its ranges and orders, within the limits, with a name for each pool
+-- and with each pool's rule in the newest version
+pub record IsOfState (i : Inventory) : Type 0 where
+  pub has : IsInventory i
+  pub few_versions : length i.versions ≤ VERSION_LIMIT
+  pub few_pools : length i.pools ≤ POOL_LIMIT
+  pub few_receipts : i.epoch ≤ RECEIPT_LIMIT
+  pub names : are_named_once i.pools ≡ true
+  pub rules : have_rules i ≡ true
+
+-- the epoch and the rows are those of what a tenant has, in its order
+pub record AreRowsOf (i : Inventory) (epoch : ℤ) (versions : List VersionRow) (states : List State) (pools : List PoolRow) : Type 0 where
+  pub epoch_is : epoch ≡ pos i.epoch
+  pub versions_are : map version_values versions ≡ rows_of_versions 1 i.versions
+  pub states_are : map state_row states ≡ map row_of_state i.devices
+  pub pools_are : map pool_values pools ≡ map row_of_pool i.pools
+
+-- the epoch and the rows are those of a state, in its order
+pub record AreRowsOfState (s : TenantState) (epoch : ℤ) (versions : List VersionRow) (states : List State) (pools : List PoolRow) (receipts : List ReceiptRow) : Type 0 where
+  pub has : AreRowsOf (inventory_of s) epoch versions states pools
+  pub receipts_are : map receipt_values receipts ≡ map row_of_receipt s.receipts

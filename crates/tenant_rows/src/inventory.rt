@@ -1,0 +1,112 @@
+//! What a tenant has, from its rows.
+
+ghost use Rattle.std.specs.Prelude.{◌≡◌, ◌↔◌, map, None, is_some, IfOk, IfSome, IsTrue};
+ghost use Rattle.std.specs.List.{list_all, list_any};
+ghost use Rattle.std.specs.Str.{bytes_eq};
+ghost use Rattle.crush_pool.specs.Placements.{rule_numbered};
+ghost use Rattle.tenant_state.specs.State.{Inventory as Has, have_rules};
+ghost use Rattle.tenant_state.specs.Valid.{are_named_once};
+ghost use Rattle.tenant_rows.specs.Lists.{IsOfState, AreRowsOf};
+
+use crate::parts::{pools_from, states_from, versions_from};
+use crush_map::CrushMap;
+use crush_pool::{Pool, rule_with_id};
+use crush_text::written_maps_are_read_back;
+use std::alloc::{AllocError, Global};
+use std::rc::Rc;
+use tenant_state::Inventory;
+use tenant_state::limits::{POOL_LIMIT, RECEIPT_LIMIT, VERSION_LIMIT};
+use tenant_tables::rows::{PoolRow, VersionRow};
+use tenant_tables::write::State;
+
+/// Whether one of some pools has a name.
+fn is_one_named(name: &str, pools: &[Rc<Pool>]) -> bool
+    ensures { result ≡ list_any (λ p. bytes_eq p.value.name name.now) pools.now }
+{
+    pools.iter().any(|pool| pool.parts().name.as_str() == name)
+}
+
+/// The same of the pools' parts.
+fn is_named(name: &str, pools: &[Rc<Pool>]) -> bool
+    ensures { result ≡ list_any (λ p. bytes_eq p.name name.now) (map (λ p. p.value) pools.now) }
+{
+    is_one_named(name, pools)
+}
+
+/// Whether no two pools have one name.
+fn are_named_once(pools: &[Rc<Pool>]) -> bool
+    ensures { result ≡ are_named_once (map (λ p. p.value) pools.now) }
+{
+    let mut rest = pools;
+    while let [pool, others @ ..] = rest {
+        if is_named(pool.parts().name.as_str(), others) {
+            return false;
+        }
+        rest = others;
+    }
+    true
+}
+
+/// Whether a map has the rule of each of some pools.
+fn has_each_rule(map: &CrushMap, pools: &[Rc<Pool>]) -> bool
+    ensures { result ≡ list_all (λ p. is_some (rule_numbered map.now p.value.rule)) pools.now }
+{
+    pools
+        .iter()
+        .all(|pool| rule_with_id(map, pool.parts().rule).is_some())
+}
+
+/// Whether the newest version has the rule of each pool.
+fn have_rules(inventory: &Inventory) -> bool
+    ensures { result ≡ have_rules inventory.now }
+{
+    match inventory.version(inventory.newest()) {
+        Some(version) => has_each_rule(version.map(), inventory.pools().as_slice()),
+        None => inventory.pools().as_slice().is_empty(),
+    }
+}
+
+/// Whether it is what some state has: within the limits, with a name for each pool, and with each
+/// pool's rule in the newest version.
+fn is_of_state(inventory: &Inventory) -> bool
+    ensures { IsTrue result ↔ IsOfState inventory.now }
+{
+    inventory.epoch() <= RECEIPT_LIMIT as u64
+        && inventory.versions().len() <= VERSION_LIMIT
+        && inventory.pools().len() <= POOL_LIMIT
+        && are_named_once(inventory.pools().as_slice())
+        && have_rules(inventory)
+}
+
+/// What the tenant with this epoch and these rows, in the order of their keys, has. `None`, exactly
+/// where they are the rows of no state. `Err(AllocError)`: an allocation failed.
+pub fn inventory_from(
+    alloc: Global,
+    epoch: i64,
+    versions: Vec<VersionRow>,
+    states: Vec<State>,
+    pools: Vec<PoolRow>,
+) -> Result<Option<Rc<Inventory>>, AllocError>
+    ensures some { IfOk result (λ o. IfSome o (λ i. IsOfState i.value × AreRowsOf i.value epoch versions.items states.items pools.items)) }
+    ensures none { IfOk result (λ o. o ≡ None → (i : Has) → IsOfState i → ¬ AreRowsOf i epoch versions.items states.items pools.items) }
+{
+    written_maps_are_read_back();
+    let Ok(epoch) = u64::try_from(epoch) else {
+        return Ok(None);
+    };
+    let Some(versions) = versions_from(alloc, versions)? else {
+        return Ok(None);
+    };
+    let Some(devices) = states_from(alloc, states)? else {
+        return Ok(None);
+    };
+    let Some(pools) = pools_from(alloc, pools)? else {
+        return Ok(None);
+    };
+    let inventory = Inventory::of(versions, devices, pools, epoch);
+    if is_of_state(&inventory) {
+        Ok(Some(Rc::new(alloc, inventory)?))
+    } else {
+        Ok(None)
+    }
+}

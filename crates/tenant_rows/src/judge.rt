@@ -1,0 +1,92 @@
+//! Whether a tenant's receipts are those of a state, a page at a time.
+
+ghost use Rattle.std.specs.Prelude.{◌≡◌, ◌≢◌, ◌↔◌, ◌<◌, ◌+◌, List, map, length, true, false, Ok, Err, None, IfOk, IfErr, IfSome, OnOk, IsTrue};
+ghost use Rattle.std.specs.List.{AllByRecursion};
+ghost use Rattle.sqlite.specs.Held.{state};
+ghost use Rattle.sqlite.specs.State.{HasCleanDisk, Survives};
+ghost use Rattle.sqlite_value.specs.Order.{Row};
+ghost use Rattle.tenant_state.specs.Receipts.{Receipts};
+ghost use Rattle.tenant_tables.specs.Found.{Begins, receipt_values};
+ghost use Rattle.tenant_rows.specs.Changes.{HasReceipts};
+ghost use Rattle.tenant_rows.specs.Pages.{AreReceipts, IsOfReceipt, IsTail, Leaves};
+
+use crate::parts::is_receipt_row;
+use sqlite::Alter;
+use tenant_tables::pages::PAGE;
+use tenant_tables::refuse::Fault;
+use tenant_tables::rows::ReceiptRow;
+use tenant_tables::tables::Tables;
+
+/// What is still to be judged: the receipts whose request numbers are above one, and how many they
+/// have to be.
+#[derive(Drop)]
+struct Rest {
+    after: String,
+    left: u64,
+}
+
+/// Whether each row is that of a receipt.
+fn are_receipts(rows: &[ReceiptRow]) -> bool
+    ensures { IsTrue result ↔ AllByRecursion IsOfReceipt (map receipt_values rows.now) }
+{
+    for row in rows {
+        if !is_receipt_row(row) {
+            return false;
+        }
+    }
+    true
+}
+
+/// Judges the first page of rows that have to be those of so many receipts. `None`: there is no
+/// other page, and they are. `Err(Fault::Damaged)`: they are not, whatever is behind the page. The
+/// page is dropped before the next one is read.
+fn rest_behind(page: Vec<ReceiptRow>, left: u64) -> Result<Option<Rest>, Fault>
+    ensures leaves { (all rows : List Row) → IsTail all rows → Begins 16 rows (map receipt_values page.items) → IfOk result (Leaves all rows left) }
+    ensures damaged { result ≡ Err Fault.Damaged → (rows : List Row) → Begins 16 rows (map receipt_values page.items) → ¬ AreReceipts left rows }
+    ensures fewer { IfOk result (λ o. IfSome o (λ rest. rest.left < left)) }
+    ensures faults { IfErr result (λ fault. fault ≡ Fault.Damaged) }
+{
+    let mut page = page;
+    let length = page.len();
+    if !are_receipts(&page) {
+        return Err(Fault::Damaged);
+    }
+    let Some(left) = left.checked_sub(length as u64) else {
+        return Err(Fault::Damaged);
+    };
+    let last = if length < PAGE { None } else { page.pop() };
+    match last {
+        Some(row) => Ok(Some(Rest {
+            after: row.request,
+            left,
+        })),
+        None if left == 0 => Ok(None),
+        None => Err(Fault::Damaged),
+    }
+}
+
+/// Tests the receipts of the tenant with the number, in pages: that each is one, and that the
+/// epoch is their number. No row is changed.
+///
+/// `Err(Fault::Damaged)`, exactly where they are the receipts of no state. `Err(Fault::NoMemory)`:
+/// an allocation failed. `Err(Fault::Failed)`: the tables are latched.
+pub fn judge_receipts<S: Alter>(tables: &mut Tables<S>, id: i64, epoch: i64) -> Result<(), Fault>
+    requires live { tables.old.1 ≡ false }
+    ensures found { HasCleanDisk (state S.Store tables.new.0) → OnOk result ((receipts : Receipts) × HasReceipts (state S.Store tables.old.0).now.trees id epoch receipts) }
+    ensures damaged { HasCleanDisk (state S.Store tables.new.0) → result ≡ Err Fault.Damaged → (receipts : Receipts) → ¬ HasReceipts (state S.Store tables.old.0).now.trees id epoch receipts }
+    ensures full { result ≢ Err Fault.Full }
+    ensures kept { HasCleanDisk (state S.Store tables.new.0) → tables.new.1 ≡ false → (state S.Store tables.new.0).now ≡ (state S.Store tables.old.0).now }
+    ensures latches { tables.new.1 ≡ true ↔ result ≡ Err Fault.Failed }
+    ensures crash { Survives (state S.Store tables.old.0) (state S.Store tables.new.0) (λ _. ⊥) }
+{
+    let Ok(number) = u64::try_from(epoch) else {
+        return Err(Fault::Damaged);
+    };
+    let page = tables.first_receipts(id)?;
+    let mut rest = rest_behind(page, number)?;
+    while let Some(more) = rest {
+        let page = tables.receipts_after(id, more.after.as_str())?;
+        rest = rest_behind(page, more.left)?;
+    }
+    Ok(())
+}

@@ -1,0 +1,46 @@
+//! What a tenant has, from the tables.
+
+ghost use Rattle.std.specs.Prelude.{◌≡◌, ◌≢◌, ◌↔◌, true, false, IfOk, Err};
+ghost use Rattle.sqlite.specs.Held.{state};
+ghost use Rattle.sqlite.specs.State.{HasCleanDisk, Survives};
+ghost use Rattle.tenant_state.specs.State.{Inventory as Has};
+ghost use Rattle.tenant_rows.specs.Changes.{HasRows};
+ghost use Rattle.tenant_rows.specs.Lists.{IsOfState};
+
+use crate::inventory::inventory_from;
+use crush_text::canonical_texts_are_ascii;
+use sqlite::Alter;
+use std::alloc::{AllocError, Global};
+use std::rc::Rc;
+use tenant_state::Inventory;
+use tenant_tables::refuse::Fault;
+use tenant_tables::tables::Tables;
+
+/// What the tenant with the number and the epoch has, from its rows. No row is changed.
+///
+/// `Err(Fault::Damaged)`, exactly where they are rows of no state. `Err(Fault::NoMemory)`: an
+/// allocation failed. `Err(Fault::Failed)`: the tables are latched.
+pub fn read_inventory<S: Alter>(
+    alloc: Global,
+    tables: &mut Tables<S>,
+    id: i64,
+    epoch: i64,
+) -> Result<Rc<Inventory>, Fault>
+    requires live { tables.old.1 ≡ false }
+    ensures found { HasCleanDisk (state S.Store tables.new.0) → IfOk result (λ i. IsOfState i.value × HasRows (state S.Store tables.old.0).now.trees id epoch i.value) }
+    ensures damaged { HasCleanDisk (state S.Store tables.new.0) → result ≡ Err Fault.Damaged → (i : Has) → IsOfState i → ¬ HasRows (state S.Store tables.old.0).now.trees id epoch i }
+    ensures full { result ≢ Err Fault.Full }
+    ensures kept { HasCleanDisk (state S.Store tables.new.0) → tables.new.1 ≡ false → (state S.Store tables.new.0).now ≡ (state S.Store tables.old.0).now }
+    ensures latches { tables.new.1 ≡ true ↔ result ≡ Err Fault.Failed }
+    ensures crash { Survives (state S.Store tables.old.0) (state S.Store tables.new.0) (λ _. ⊥) }
+{
+    canonical_texts_are_ascii();
+    let versions = tables.versions_of(id)?;
+    let devices = tables.devices_of(id)?;
+    let pools = tables.pools_of(id)?;
+    match inventory_from(alloc, epoch, versions, devices, pools) {
+        Ok(Some(inventory)) => Ok(inventory),
+        Ok(None) => Err(Fault::Damaged),
+        Err(AllocError) => Err(Fault::NoMemory),
+    }
+}

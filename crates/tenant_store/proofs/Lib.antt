@@ -1,0 +1,6 @@
+pub mod Changing
+pub mod Counts
+pub mod Judging
+pub mod Receipts
+pub mod Refusing
+pub mod Stopping

@@ -1,0 +1,34 @@
+-- A fault that a store answers is that of its tables; and numbers in machine words.
+use Rattle.std.proofs.Common.{◌≡◌, ◌↔◌, ℤ, Bool, true, false, Result, Ok, Err, refl, ap, subst, to_z, of_z}
+use Rattle.std.proofs.lemmas.Int.{to_z-of_z}
+use mir.Syntax.{w64}
+use mir.Val.{SFits}
+use Rattle.tenant_core.specs.declared.store.StoreFault.{StoreFault}
+use Rattle.tenant_core.specs.declared.store.StoreFault.TheVariants as store
+use Rattle.tenant_tables.specs.declared.refuse.Fault.{Fault}
+use Rattle.tenant_tables.specs.declared.refuse.Fault.TheVariants.{NoMemory, Full, Damaged, Failed}
+use Rattle.tenant_store.specs.Shown.{fault_of}
+
+is_damaged : (f : Fault) → fault_of f ≡ store.Damaged → f ≡ Damaged
+is_damaged NoMemory h = cc
+is_damaged Full h = cc
+is_damaged Damaged h = λ _. Damaged
+is_damaged Failed h = cc
+
+fault_is : (A : Type 0) (x y : StoreFault) → ◌≡◌ {A = Result A StoreFault} (Err x) (Err y) → x ≡ y
+fault_is A x y h = cc
+
+pub damaged_below : {A B : Type 0} (f : Fault) (x : StoreFault) → x ≡ fault_of f → ◌≡◌ {A = Result A StoreFault} (Err x) (Err store.Damaged) → ◌≡◌ {A = Result B Fault} (Err f) (Err Damaged)
+damaged_below {A} {B} f x is h = let same : fault_of f ≡ store.Damaged = let y = fault_is A x store.Damaged h in cc in ap Err (is_damaged f same)
+
+-- tables that answered have not failed for good
+pub live_at_ok : {A : Type 0} (b : Bool) (x : A) → (b ≡ true ↔ ◌≡◌ {A = Result A Fault} (Ok x) (Err Failed)) → b ≡ false
+live_at_ok true x h = let never = h.0 refl in absurd cc
+live_at_ok false x h = refl
+
+-- a number that went through a machine word is the number
+pub at_word : (P : ℤ → Type 0) (n : ℤ) → SFits w64 n → P (to_z w64 (of_z w64 n)) → P n
+at_word P n fits h = subst P (to_z-of_z w64 n fits) h
+
+pub at_words : (P : ℤ → ℤ → Type 0) (m n : ℤ) → SFits w64 m → SFits w64 n → P (to_z w64 (of_z w64 m)) (to_z w64 (of_z w64 n)) → P m n
+at_words P m n fits also h = at_word (λ k. P k n) m fits (at_word (P (to_z w64 (of_z w64 m))) n also h)

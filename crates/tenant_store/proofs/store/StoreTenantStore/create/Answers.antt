@@ -1,0 +1,36 @@
+use Rattle.std.proofs.Common.{Some, arith}
+use Rattle.sqlite.specs.Held.{state}
+use Rattle.sqlite.specs.State.{HasCleanDisk}
+use Rattle.tenant_rows.proofs.Turns.{created}
+use Rattle.tenant_state.specs.State.{fresh}
+use Rattle.tenant_tables.specs.Change.{Creates}
+use Rattle.tenant_store.specs.Laws.{keeps_states}
+use Rattle.tenant_store.proofs.Stopping.{as_it_was_or}
+use Rattle.tenant_store.proofs.store.StoreTenantStore.create.Goals as goal
+use Rattle.tenant_store.proofs.store.StoreTenantStore.create.Goals.{in-Ok, in-Err}
+
+pub returns-clause-made : goal.returns-clause-made
+returns-clause-made g c honest =
+    let old = (state g.S.Store c.self.inside.tables.0).now.trees in
+    let new = (state g.S.Store c.create.new.self.0).now.trees in
+    elim c.match-create.branch [
+      | in-Ok w ↦ rw w.result-is ((created c.args.name.now old new (w.in-Ok.ensures.done honest.clean)).own)
+      | in-Err w ↦ rw w.result-is tt
+    ]
+
+pub returns-clause-others : goal.returns-clause-others
+returns-clause-others g c = rw (← c.self.view_is) (λ honest live t s apart.
+    let old = (state g.S.Store c.self.inside.tables.0).now in
+    let new = (state g.S.Store c.create.new.self.0).now in
+    elim c.match-create.branch [
+      | in-Ok w ↦ (created c.args.name.now old.trees new.trees (w.in-Ok.ensures.done honest.clean)).others t s apart
+      | in-Err w ↦ keeps_states old new (w.in-Err.ensures.kept honest.clean live) t s
+    ])
+
+pub returns-clause-crash : goal.returns-clause-crash
+returns-clause-crash g c = rw (← c.self.view_is) (λ honest latched.
+    let old = (state g.S.Store c.self.inside.tables.0).now.trees in
+    let early : HasCleanDisk (state g.S.Store c.self.inside.tables.0) = omega (arith, honest.clean, c.create.ensures.crash.clean) in
+    let works = rw (← c.self.view_is) at c.requires.open in
+    as_it_was_or g.S.Store g.met.S.Store.settled honest.one_state (Creates c.args.name.now old) c.args.name.now (Some fresh) c.self.inside.tables c.create.new.self (c.is_latched-live.ensures.ready works early) c.create.ensures.crash
+    (λ db made. created c.args.name.now old db made) honest.clean)

@@ -1,0 +1,25 @@
+-- The names whose receipts were judged, each with the number of its versions.
+use Rattle.std.specs.Prelude.{◌≡◌, ◌≢◌, ◌⊎◌, ℕ, List, length, Option, Some}
+use Rattle.sqlite_trees.specs.Tree.{Trees}
+use Rattle.tenant_state.specs.State.{TenantState}
+use Rattle.tenant_rows.specs.Rows.{StandsFor}
+
+-- how many versions are remembered of a name
+abbrev pub Counts : Type 0
+Counts = List ℕ → Option ℕ
+
+-- each name that is remembered stands for a state with so many versions
+abbrev pub AreJudged : Trees → Counts → Type 0
+AreJudged db counts = (t : List ℕ) (n : ℕ) → counts t ≡ Some n → (s : TenantState) × StandsFor db t (Some s) × (length s.versions ≡ n)
+
+-- the name has this number or what it had, and no other name has anything new
+abbrev pub Adds : List ℕ → ℕ → Counts → Counts → Type 0
+Adds name n old new = (t : List ℕ) (m : ℕ) → new t ≡ Some m → ((t ≡ name) × (m ≡ n)) ⊎ (old t ≡ Some m)
+
+-- the name has this number or none, and no other name has anything new
+abbrev pub Updates : List ℕ → ℕ → Counts → Counts → Type 0
+Updates name n old new = (t : List ℕ) (m : ℕ) → new t ≡ Some m → ((t ≡ name) × (m ≡ n)) ⊎ ((t ≢ name) × (old t ≡ Some m))
+
+-- the name has no number, and no other name has anything new
+abbrev pub Forgets : List ℕ → Counts → Counts → Type 0
+Forgets name old new = (t : List ℕ) (m : ℕ) → new t ≡ Some m → (t ≢ name) × (old t ≡ Some m)

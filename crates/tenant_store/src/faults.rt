@@ -1,0 +1,19 @@
+//! What a fault of the tables is to a store.
+
+ghost use Rattle.std.specs.Prelude.{◌≡◌};
+ghost use Rattle.tenant_store.specs.Shown as spec;
+
+use tenant_core::StoreFault;
+use tenant_tables::refuse::Fault;
+
+/// The fault of a store.
+pub fn fault_of(fault: Fault) -> StoreFault
+    ensures { result ≡ spec.fault_of fault }
+{
+    match fault {
+        Fault::NoMemory => StoreFault::NoMemory,
+        Fault::Full => StoreFault::Full,
+        Fault::Damaged => StoreFault::Damaged,
+        Fault::Failed => StoreFault::Failed,
+    }
+}

@@ -1,0 +1,36 @@
+//! The names whose receipts were judged since the opening.
+
+ghost use Rattle.std.specs.Prelude.{◌≡◌, ℕ, List, Some, None, IfSome};
+ghost use Rattle.std.specs.BTreeMap.{get_by_text};
+ghost use Rattle.tenant_store.specs.Judged.{Adds, Forgets, Updates};
+
+use std::alloc::Global;
+use std::collections::BTreeMap;
+
+/// By each such name, how many versions its tenant has.
+pub type Judged = BTreeMap<String, u64>;
+
+/// Remembers how many versions a name has. Where there is no memory for it, nothing is changed.
+pub fn remember(alloc: Global, judged: &mut Judged, name: &str, versions: u64)
+    ensures { Adds name.now versions (get_by_text judged.old) (get_by_text judged.new) }
+{
+    if let Ok(key) = String::from_str(alloc, name) {
+        let _earlier = judged.insert(key, versions);
+    }
+}
+
+/// Sets how many versions a name has, if it is there. Allocates nothing.
+pub fn update(judged: &mut Judged, name: &str, versions: u64)
+    ensures { Updates name.now versions (get_by_text judged.old) (get_by_text judged.new) }
+{
+    if let Some(count) = judged.get_mut(name) {
+        *count = versions;
+    }
+}
+
+/// Forgets a name. Allocates nothing.
+pub fn forget(judged: &mut Judged, name: &str)
+    ensures { Forgets name.now (get_by_text judged.old) (get_by_text judged.new) }
+{
+    let _versions = judged.remove(name);
+}

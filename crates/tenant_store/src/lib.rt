@@ -1,0 +1,11 @@
+//! A store of tenants' states in the tables of a database.
+#![tactic(auto)]
+
+mod faults;
+mod judged;
+pub mod laws;
+mod reading;
+mod store;
+mod writing;
+
+pub use store::Store;

@@ -1,0 +1,202 @@
+//! What a store reads of its tables.
+
+ghost use Rattle.std.specs.Prelude.{◌≡◌, ◌≢◌, ℕ, List, length, map, true, false, Some, Err, IfOk, OnOk, IsPermutation, option_map};
+ghost use Rattle.std.specs.List.{list_all};
+ghost use Rattle.std.specs.BTreeMap.{get_by_text};
+ghost use Rattle.sqlite.specs.Held.{state};
+ghost use Rattle.sqlite.specs.State.{HasCleanDisk, Survives};
+ghost use Rattle.sqlite_value.specs.Order.{Row};
+ghost use Rattle.sqlite_value.specs.declared.value.Value.TheVariants.{Text as Words};
+ghost use Rattle.tenant_core.specs.States.{HasInventory, IsDamaged};
+ghost use Rattle.tenant_core.specs.StoreReply.{is_failed};
+ghost use Rattle.tenant_state.specs.Ordered.{is_ascending};
+ghost use Rattle.tenant_state.specs.Receipts.{Receipts, is_before, receipt_of};
+ghost use Rattle.tenant_state.specs.State.{Inventory as Has, TenantState, inventory_of};
+ghost use Rattle.tenant_state.specs.Valid.{is_receipt};
+ghost use Rattle.tenant_tables.specs.Found.{AreReceipt, Names};
+ghost use Rattle.tenant_tables.specs.Holds.{rows_with};
+ghost use Rattle.tenant_rows.specs.Changes.{HasReceipts, HasRows};
+ghost use Rattle.tenant_rows.specs.Lists.{IsOfState};
+ghost use Rattle.tenant_rows.specs.Rows.{StandsFor, row_of_receipt};
+ghost use Rattle.tenant_store.specs.Judged.{AreJudged};
+
+use crate::faults::fault_of;
+use crate::judged::{Judged, remember};
+use sqlite::Alter;
+use std::alloc::Global;
+use std::rc::Rc;
+use tenant_core::StoreFault;
+use tenant_rows::{judge_receipts, read_inventory, receipt_from};
+use tenant_state::{Inventory, Receipt};
+use tenant_tables::find::Tenant;
+use tenant_tables::rows::ReceiptRow;
+use tenant_tables::tables::Tables;
+
+/// Judges a tenant's receipts, unless its name was judged, and remembers that it was. The tenant
+/// has so many versions.
+fn judge<S: Alter>(
+    alloc: Global,
+    tables: &mut Tables<S>,
+    judged: &mut Judged,
+    name: &str,
+    tenant: &Tenant,
+    versions: u64,
+) -> Result<(), StoreFault>
+    requires live { tables.old.1 ≡ false }
+    requires names { HasCleanDisk (state S.Store tables.old.0) → Names (state S.Store tables.old.0).now.trees name.now (Some tenant.now) }
+    requires rows { HasCleanDisk (state S.Store tables.old.0) → (i : Has) × IsOfState i × HasRows (state S.Store tables.old.0).now.trees tenant.now.id tenant.now.epoch i × (length i.versions ≡ versions) }
+    requires judged { HasCleanDisk (state S.Store tables.old.0) → AreJudged (state S.Store tables.old.0).now.trees (get_by_text judged.old) }
+    ensures has { HasCleanDisk (state S.Store tables.new.0) → OnOk result ((receipts : Receipts) × HasReceipts (state S.Store tables.old.0).now.trees tenant.now.id tenant.now.epoch receipts) }
+    ensures damaged { HasCleanDisk (state S.Store tables.new.0) → result ≡ Err StoreFault.Damaged → (receipts : Receipts) → ¬ HasReceipts (state S.Store tables.old.0).now.trees tenant.now.id tenant.now.epoch receipts }
+    ensures judged { HasCleanDisk (state S.Store tables.new.0) → AreJudged (state S.Store tables.old.0).now.trees (get_by_text judged.new) }
+    ensures kept { HasCleanDisk (state S.Store tables.new.0) → tables.new.1 ≡ false → (state S.Store tables.new.0).now ≡ (state S.Store tables.old.0).now }
+    ensures latches { tables.new.1 ≡ is_failed result }
+    ensures crash { Survives (state S.Store tables.old.0) (state S.Store tables.new.0) (λ _. ⊥) }
+{
+    if judged.contains_key(name) {
+        return Ok(());
+    }
+    match judge_receipts(tables, tenant.id, tenant.epoch) {
+        Ok(()) => {
+            remember(alloc, judged, name, versions);
+            Ok(())
+        }
+        Err(fault) => Err(fault_of(fault)),
+    }
+}
+
+/// What a tenant has.
+fn load_tenant<S: Alter>(
+    alloc: Global,
+    tables: &mut Tables<S>,
+    judged: &mut Judged,
+    name: &str,
+    tenant: &Tenant,
+) -> Result<Rc<Inventory>, StoreFault>
+    requires live { tables.old.1 ≡ false }
+    requires names { HasCleanDisk (state S.Store tables.old.0) → Names (state S.Store tables.old.0).now.trees name.now (Some tenant.now) }
+    requires judged { HasCleanDisk (state S.Store tables.old.0) → AreJudged (state S.Store tables.old.0).now.trees (get_by_text judged.old) }
+    ensures found { HasCleanDisk (state S.Store tables.new.0) → IfOk result (λ i. (s : TenantState) × StandsFor (state S.Store tables.old.0).now.trees name.now (Some s) × (i.value ≡ inventory_of s)) }
+    ensures damaged { HasCleanDisk (state S.Store tables.new.0) → result ≡ Err StoreFault.Damaged → (s : TenantState) → ¬ StandsFor (state S.Store tables.old.0).now.trees name.now (Some s) }
+    ensures judged { HasCleanDisk (state S.Store tables.new.0) → AreJudged (state S.Store tables.old.0).now.trees (get_by_text judged.new) }
+    ensures kept { HasCleanDisk (state S.Store tables.new.0) → tables.new.1 ≡ false → (state S.Store tables.new.0).now ≡ (state S.Store tables.old.0).now }
+    ensures latches { tables.new.1 ≡ is_failed result }
+    ensures crash { Survives (state S.Store tables.old.0) (state S.Store tables.new.0) (λ _. ⊥) }
+{
+    match read_inventory(alloc, tables, tenant.id, tenant.epoch) {
+        Ok(inventory) => {
+            judge(alloc, tables, judged, name, tenant, inventory.newest())?;
+            Ok(inventory)
+        }
+        Err(fault) => Err(fault_of(fault)),
+    }
+}
+
+/// What the tenant with the name has, or `None` where there is none.
+pub fn load<S: Alter>(
+    alloc: Global,
+    tables: &mut Tables<S>,
+    judged: &mut Judged,
+    name: &str,
+) -> Result<Option<Rc<Inventory>>, StoreFault>
+    requires live { tables.old.1 ≡ false }
+    requires judged { HasCleanDisk (state S.Store tables.old.0) → AreJudged (state S.Store tables.old.0).now.trees (get_by_text judged.old) }
+    ensures found { HasCleanDisk (state S.Store tables.new.0) → IfOk result (λ found. HasInventory (StandsFor (state S.Store tables.old.0).now.trees) name.now (option_map (λ r. r.value) found)) }
+    ensures damaged { HasCleanDisk (state S.Store tables.new.0) → result ≡ Err StoreFault.Damaged → IsDamaged (StandsFor (state S.Store tables.old.0).now.trees) name.now }
+    ensures judged { HasCleanDisk (state S.Store tables.new.0) → AreJudged (state S.Store tables.old.0).now.trees (get_by_text judged.new) }
+    ensures kept { HasCleanDisk (state S.Store tables.new.0) → tables.new.1 ≡ false → (state S.Store tables.new.0).now ≡ (state S.Store tables.old.0).now }
+    ensures latches { tables.new.1 ≡ is_failed result }
+    ensures crash { Survives (state S.Store tables.old.0) (state S.Store tables.new.0) (λ _. ⊥) }
+{
+    match tables.find(name) {
+        Ok(Some(tenant)) => Ok(Some(load_tenant(alloc, tables, judged, name, &tenant)?)),
+        Ok(None) => Ok(None),
+        Err(fault) => Err(fault_of(fault)),
+    }
+}
+
+/// The receipt of a row, or `None` where there is no row.
+fn receipt_in(alloc: Global, row: Option<ReceiptRow>) -> Result<Option<Rc<Receipt>>, StoreFault>
+    ensures found { (number : List ℕ) (receipts : Receipts) (rows : List Row) → IsPermutation rows (map row_of_receipt receipts) → list_all is_receipt receipts ≡ true → is_ascending is_before receipts ≡ true
+        → AreReceipt (rows_with 0 (Words number) rows) row → IfOk result (λ found. option_map (λ r. r.value) found ≡ receipt_of number receipts) }
+    ensures damaged { result ≡ Err StoreFault.Damaged → (number : List ℕ) (receipts : Receipts) (rows : List Row) → IsPermutation rows (map row_of_receipt receipts) → list_all is_receipt receipts ≡ true → is_ascending is_before receipts ≡ true
+        → ¬ AreReceipt (rows_with 0 (Words number) rows) row }
+    ensures works { result ≢ Err StoreFault.Failed }
+{
+    match row {
+        Some(row) => match receipt_from(alloc, row)? {
+            Some((_number, receipt)) => Ok(Some(receipt)),
+            None => Err(StoreFault::Damaged),
+        },
+        None => Ok(None),
+    }
+}
+
+/// The receipt of the request number of a tenant, or `None` where there is none.
+fn receipt_of_tenant<S: Alter>(
+    alloc: Global,
+    tables: &mut Tables<S>,
+    tenant: &Tenant,
+    number: &str,
+) -> Result<Option<Rc<Receipt>>, StoreFault>
+    requires live { tables.old.1 ≡ false }
+    requires there { HasCleanDisk (state S.Store tables.old.0) → (receipts : Receipts) × HasReceipts (state S.Store tables.old.0).now.trees tenant.now.id tenant.now.epoch receipts }
+    ensures found { HasCleanDisk (state S.Store tables.new.0) → (receipts : Receipts) → HasReceipts (state S.Store tables.old.0).now.trees tenant.now.id tenant.now.epoch receipts → IfOk result (λ found. option_map (λ r. r.value) found ≡ receipt_of number.now receipts) }
+    ensures damaged { HasCleanDisk (state S.Store tables.new.0) → result ≢ Err StoreFault.Damaged }
+    ensures kept { HasCleanDisk (state S.Store tables.new.0) → tables.new.1 ≡ false → (state S.Store tables.new.0).now ≡ (state S.Store tables.old.0).now }
+    ensures latches { tables.new.1 ≡ is_failed result }
+    ensures crash { Survives (state S.Store tables.old.0) (state S.Store tables.new.0) (λ _. ⊥) }
+{
+    match tables.receipt_of(tenant.id, number) {
+        Ok(row) => receipt_in(alloc, row),
+        Err(fault) => Err(fault_of(fault)),
+    }
+}
+
+/// The receipt of the request number of the tenant with the name, or `None` where there is none.
+pub fn find_receipt<S: Alter>(
+    alloc: Global,
+    tables: &mut Tables<S>,
+    name: &str,
+    number: &str,
+) -> Result<Option<Rc<Receipt>>, StoreFault>
+    requires live { tables.old.1 ≡ false }
+    requires there { HasCleanDisk (state S.Store tables.old.0) → (s : TenantState) × StandsFor (state S.Store tables.old.0).now.trees name.now (Some s) }
+    ensures found { HasCleanDisk (state S.Store tables.new.0) → (s : TenantState) → StandsFor (state S.Store tables.old.0).now.trees name.now (Some s) → IfOk result (λ found. option_map (λ r. r.value) found ≡ receipt_of number.now s.receipts) }
+    ensures damaged { HasCleanDisk (state S.Store tables.new.0) → result ≢ Err StoreFault.Damaged }
+    ensures kept { HasCleanDisk (state S.Store tables.new.0) → tables.new.1 ≡ false → (state S.Store tables.new.0).now ≡ (state S.Store tables.old.0).now }
+    ensures latches { tables.new.1 ≡ is_failed result }
+    ensures crash { Survives (state S.Store tables.old.0) (state S.Store tables.new.0) (λ _. ⊥) }
+{
+    match tables.find(name) {
+        Ok(Some(tenant)) => receipt_of_tenant(alloc, tables, &tenant, number),
+        Ok(None) => Ok(None),
+        Err(fault) => Err(fault_of(fault)),
+    }
+}
+
+/// How many versions a tenant has: as it was remembered, or else by its rows.
+pub fn count_versions<S: Alter>(
+    alloc: Global,
+    tables: &mut Tables<S>,
+    judged: &Judged,
+    name: &str,
+    tenant: &Tenant,
+) -> Result<u64, StoreFault>
+    requires live { tables.old.1 ≡ false }
+    requires there { HasCleanDisk (state S.Store tables.old.0) → (s : TenantState) × StandsFor (state S.Store tables.old.0).now.trees name.now (Some s) × Names (state S.Store tables.old.0).now.trees name.now (Some tenant.now) }
+    requires judged { HasCleanDisk (state S.Store tables.old.0) → AreJudged (state S.Store tables.old.0).now.trees (get_by_text judged.now) }
+    ensures found { HasCleanDisk (state S.Store tables.new.0) → (s : TenantState) → StandsFor (state S.Store tables.old.0).now.trees name.now (Some s) → IfOk result (λ n. n ≡ length s.versions) }
+    ensures damaged { HasCleanDisk (state S.Store tables.new.0) → result ≢ Err StoreFault.Damaged }
+    ensures kept { HasCleanDisk (state S.Store tables.new.0) → tables.new.1 ≡ false → (state S.Store tables.new.0).now ≡ (state S.Store tables.old.0).now }
+    ensures latches { tables.new.1 ≡ is_failed result }
+    ensures crash { Survives (state S.Store tables.old.0) (state S.Store tables.new.0) (λ _. ⊥) }
+{
+    if let Some(versions) = judged.get(name) {
+        return Ok(*versions);
+    }
+    match read_inventory(alloc, tables, tenant.id, tenant.epoch) {
+        Ok(inventory) => Ok(inventory.newest()),
+        Err(fault) => Err(fault_of(fault)),
+    }
+}

@@ -1,0 +1,227 @@
+"""The definition's reply to a request, and what its tenant has afterwards, for requests on the few maps that are named here: those of one device, with
+the rule 0 or 1. Written from the rules of requests; hashes are those of crush.py."""
+import collections
+import json
+
+import crush
+import map_cases
+import pool_cases
+import report_cases
+from replies import BAD, EXISTS, NO_TENANT, dropped, item, made
+
+# a tenant: the device and the rule of the map of each version, the line and the reply of each accepted change by its request number, the
+# reweight and whether it is up of each device with a state, and the rule of each pool by its id; no two of these pools have a name in common
+Tenant = collections.namedtuple("Tenant", "versions receipts states pools")
+GROUPS = pool_cases.POOL["pg_num"]  # of each pool
+# the texts that are imported, by the device and the rule of their maps
+TEXTS = {pool_cases.with_rule(rule, map_cases.tiny(device)): (device, rule) for device in range(10) for rule in range(2)}
+
+
+def import_into(tenant, asked, epoch):
+    if asked["text"] == "":
+        return map_cases.refused("M4", 1), None
+    device, rule = TEXTS[asked["text"]]
+    if any(it != rule for it in tenant.pools.values()):
+        return pool_cases.IN_USE, None
+    versions = (*tenant.versions, (device, rule))
+    return map_cases.imported(epoch, len(versions)), tenant._replace(versions=versions)
+
+
+def change_devices(tenant, asked, epoch):
+    if not tenant.versions:
+        return map_cases.NO_VERSION, None
+    if any(it["id"] != tenant.versions[-1][0] for it in asked["devices"]):
+        return pool_cases.NO_DEVICE, None
+    states = dict(tenant.states)
+    for it in asked["devices"]:
+        reweight, up = states.get(it["id"], (65536, True))
+        states[it["id"]] = (it.get("reweight", reweight), it.get("up", up))
+    return pool_cases.accepted(len(asked["devices"]), epoch), tenant._replace(states=states)
+
+
+def entries_of(csv):
+    """The entries that a CSV says; None where it isn't of the form. Those of the scripts have LF line ends and no quotes."""
+    head, *rows = [it.split(",") for it in csv.splitlines()] or [[]]
+    if head != ["id", "reweight", "up"] or not rows or any(len(it) != 3 for it in rows):
+        return None
+    return [{"id": int(id), "reweight": int(reweight), "up": up == "1"} for id, reweight, up in rows]
+
+
+def change_by_csv(tenant, asked, epoch):
+    return change_devices(tenant, {"devices": entries_of(asked["csv"])}, epoch)
+
+
+def create_pool(tenant, asked, epoch):
+    if not tenant.versions:
+        return map_cases.NO_VERSION, None
+    if asked["rule"] != tenant.versions[-1][1]:
+        return map_cases.NO_RULE, None
+    if asked["id"] in tenant.pools:
+        return EXISTS, None
+    return pool_cases.created(epoch, asked["id"]), tenant._replace(pools={**tenant.pools, asked["id"]: asked["rule"]})
+
+
+def remove_pool(tenant, asked, epoch):
+    if asked["id"] not in tenant.pools:
+        return pool_cases.NO_POOL, None
+    return pool_cases.removed(epoch, asked["id"]), tenant._replace(pools={it: rule for it, rule in tenant.pools.items() if it != asked["id"]})
+
+
+CHANGES = {("maps",): import_into, ("devices",): change_devices, ("devices", "csv"): change_by_csv, ("pools",): create_pool, ("pools", "remove"): remove_pool}
+
+
+def change(tenant, line, asked, act):
+    """The definition's reply to a changing request, and the tenant after it."""
+    if asked["request"] in tenant.receipts:
+        first, reply = tenant.receipts[asked["request"]]
+        return (reply if first == line else map_cases.REUSED), tenant
+    reply, changed = act(tenant, asked, len(tenant.receipts) + 1)
+    return reply, changed._replace(receipts={**tenant.receipts, asked["request"]: (line, reply)}) if changed else tenant
+
+
+def items_of(tenant, device):
+    """What the rule of a version's map answers: its device, where that has any weight left."""
+    return [device] if tenant.states.get(device, (65536, True))[0] else []
+
+
+def up_of(tenant, device):
+    """The devices of that answer that are up."""
+    return [it for it in items_of(tenant, device) if tenant.states.get(it, (65536, True))[1]]
+
+
+def test_on(tenant, asked):
+    """The definition's reply to a rule test: the map of a version has one device."""
+    number = asked.get("version", len(tenant.versions))
+    if not 1 <= number <= len(tenant.versions):
+        return map_cases.NO_VERSION
+    items = items_of(tenant, tenant.versions[number - 1][0])
+    return map_cases.tested(items, items, len(tenant.receipts), number)
+
+
+def group_in(tenant, pool, group, **more):
+    """The definition's reply on a group of a pool."""
+    if pool not in tenant.pools:
+        return pool_cases.NO_POOL
+    if group >= GROUPS:
+        return pool_cases.NO_GROUP
+    device = tenant.versions[-1][0]
+    return pool_cases.lies(len(tenant.receipts), group, crush.hash2(group, pool), up_of(tenant, device), items_of(tenant, device), len(tenant.versions), **more)
+
+
+def usage_in(tenant, pool):
+    """The definition's counts: each group is on the device of the newest version, or on none."""
+    if pool not in tenant.pools:
+        return pool_cases.NO_POOL
+    device = tenant.versions[-1][0]
+    count = GROUPS * len(up_of(tenant, device))
+    return report_cases.used(len(tenant.receipts), (device, count, count, count, 1000 if count else 0), version=len(tenant.versions), pool=pool)
+
+
+def moves_in(tenant, pool, first, second):
+    """The definition's moves: each group is on the one device of a version, or on none."""
+    if pool not in tenant.pools:
+        return pool_cases.NO_POOL
+    if not (1 <= first <= len(tenant.versions) and 1 <= second <= len(tenant.versions)):
+        return map_cases.NO_VERSION
+    (old, one), (new, other) = tenant.versions[first - 1], tenant.versions[second - 1]
+    if not one == other == tenant.pools[pool]:
+        return map_cases.NO_RULE
+    old, new = up_of(tenant, old), up_of(tenant, new)
+    rows = [] if old == new else [(group, len(new), old, new) for group in range(GROUPS)]
+    return report_cases.moved(len(tenant.receipts), first, second, *rows, pool=pool)
+
+
+def impact_in(tenant, pool, device):
+    """The definition's groups: the device of the newest version is in each trace where it has any weight left."""
+    if pool not in tenant.pools:
+        return pool_cases.NO_POOL
+    if device != tenant.versions[-1][0]:
+        return pool_cases.NO_DEVICE
+    groups = list(range(GROUPS)) if items_of(tenant, device) else []
+    return report_cases.touched(len(tenant.receipts), device, groups, len(tenant.versions), pool)
+
+
+REPORTS = {"groups": group_in, "usage": usage_in, "moves": moves_in, "impact": impact_in}
+
+
+def ask(tenant, rest, asked):
+    """The definition's reply to a POST that changes nothing."""
+    if rest == ("test",):
+        return test_on(tenant, asked)
+    if rest == ("pick",):
+        bucket = asked["bucket"]
+        return item(crush.PICKS[bucket["kind"]](bucket["id"], [(it["item"], it["weight"]) for it in bucket["items"]], asked["x"], asked["r"]))
+    hash = crush.name_hash(asked["name"].encode())
+    return group_in(tenant, int(rest[1]), crush.stable_mod(hash, GROUPS), hash=hash)
+
+
+def step(tenant, line):
+    """The definition's reply to a line, and its tenant after it. tenant: its tenant before it; None where it is absent."""
+    method, path, sent = (line.split(b" ", 2) + [b""])[:3]
+    name, *rest = path.decode().split("/")[2:]
+    rest = tuple(rest)
+    if method == b"PUT":
+        return (EXISTS, tenant) if tenant else (made(name.encode()), Tenant((), {}, {}, {}))
+    if rest == ("devices", "csv") and entries_of(json.loads(sent)["csv"]) is None:
+        return BAD, tenant
+    if tenant is None:
+        return NO_TENANT, None
+    if method == b"DELETE":
+        return dropped(name.encode()), None
+    if method == b"GET" and rest:
+        return REPORTS[rest[2]](tenant, int(rest[1]), *map(int, rest[3:])), tenant
+    if method == b"GET":
+        return pool_cases.summary(len(tenant.receipts), len(tenant.versions), len(tenant.states), len(tenant.pools), name), tenant
+    asked = json.loads(sent)
+    return change(tenant, line, asked, CHANGES[rest]) if rest in CHANGES else (ask(tenant, rest, asked), tenant)
+
+
+def canonical_of(device, rule):
+    return map_cases.canonical_tiny(device).replace("\tid 0\n", f"\tid {rule}\n")
+
+
+def pools_of(tenant):
+    """What each of its pools was made of, by its id."""
+    pools = {}
+    for line, _ in tenant.receipts.values():
+        _, path, sent = line.split(b" ", 2)
+        asked = json.loads(sent)
+        if path.endswith(b"/pools"):
+            pools[asked["id"]] = asked
+        elif path.endswith(b"/pools/remove"):
+            del pools[asked["id"]]
+    return pools
+
+
+def receipt_of(request, line, reply):
+    _, path, sent = line.decode().split(" ", 2)
+    status, said = reply.decode().split(" ", 1)
+    return request, path, sent, int(status), said
+
+
+def rows_of(tenant):
+    """The epoch and the rows of a tenant, behind its number and in the order of their keys."""
+    pools = pools_of(tenant).values()
+    return {
+        "epoch": len(tenant.receipts),
+        "maps": [(place, canonical_of(*it)) for place, it in enumerate(tenant.versions, 1)],
+        "devices": sorted((device, reweight, int(up)) for device, (reweight, up) in tenant.states.items()),
+        "pools": sorted((it["id"], it["name"], int(it["kind"] == "erasure"), it["size"], it["rule"], it["pg_num"], it["pgp_num"], int(it["hashpspool"])) for it in pools),
+        "receipts": sorted((receipt_of(request, *it) for request, it in tenant.receipts.items()), key=lambda row: row[0].encode()),
+    }
+
+
+def played(lines, live=None):
+    """The replies to lines, and the tenants after them by their names; live: those before them."""
+    replies, live = [], dict(live or {})
+    for line in lines:
+        name = line.split(b"/")[2].split(b" ")[0]
+        reply, tenant = step(live.get(name), line)
+        replies.append(reply)
+        live[name] = tenant
+    return replies, {name: tenant for name, tenant in live.items() if tenant is not None}
+
+
+def tables_of(live):
+    """What the tables hold of these tenants, by their names."""
+    return {name.decode(): rows_of(tenant) for name, tenant in live.items()}

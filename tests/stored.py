@@ -1,0 +1,83 @@
+"""Database files: the program run over one, and what one holds, as Python's sqlite3 reads it."""
+import contextlib
+import pathlib
+import shutil
+import sqlite3
+import subprocess
+
+SECONDS = 120
+STORE_FAULT = b"crushcalc: store fault\n"
+BESIDE = ("", "-wal", "-journal", "-shm")
+# the columns of each table of a tenant's rows, with those of its key first
+TABLES = {
+    "maps": ("version", "text"),
+    "devices": ("device", "reweight", "up"),
+    "pools": ("id", "name", "erasure", "size", "rule", "pg_num", "pgp_num", "hashpspool"),
+    "receipts": ("request", "path", "body", "status", "reply"),
+}
+
+
+class Unsound(Exception):
+    """Why a file is no sound database."""
+
+
+def run_over(program, db, data):
+    """Runs a script over a database file."""
+    return subprocess.run([program, "script", "--db", str(db)], input=data, stdout=subprocess.PIPE, stderr=subprocess.PIPE, timeout=SECONDS)
+
+
+def files_at(db):
+    """The database file and what lies beside it, as bytes."""
+    return {it: path.read_bytes() for it in BESIDE if (path := pathlib.Path(f"{db}{it}")).is_file()}
+
+
+def copy_to(db, folder):
+    """A copy of a database file and its log, which sqlite3 may change as it reads them."""
+    to = pathlib.Path(folder, "copy.db")
+    for it in BESIDE:
+        pathlib.Path(f"{to}{it}").unlink(missing_ok=True)
+        if pathlib.Path(f"{db}{it}").is_file():
+            shutil.copyfile(f"{db}{it}", f"{to}{it}")
+    return to
+
+
+def opened(db):
+    """A connection to be closed by a with, in which each statement is a transaction."""
+    return contextlib.closing(sqlite3.connect(db, isolation_level=None))
+
+
+def change(db, *statements):
+    """Makes these statements of a test, with no test of foreign keys."""
+    with opened(db) as connection:
+        for it in statements:
+            connection.execute(*it) if isinstance(it, tuple) else connection.execute(it)
+
+
+def held(db):
+    """The epoch and the rows of each tenant by its name, each table in the order of its key; of an empty file nothing."""
+    with opened(db) as connection:
+        try:
+            whole = connection.execute("PRAGMA integrity_check").fetchall(), connection.execute("PRAGMA foreign_key_check").fetchall()
+            if whole != ([("ok",)], []):
+                raise Unsound(f"the checks of the file say {whole}")
+            if not connection.execute("SELECT 1 FROM sqlite_schema").fetchall():
+                return {}
+            found = {}
+            for number, name, epoch in connection.execute("SELECT id, name, epoch FROM tenants").fetchall():
+                found[name] = {"epoch": epoch}
+                for table, columns in TABLES.items():
+                    rows = connection.execute(f"SELECT {', '.join(columns)} FROM {table} WHERE tenant = ? ORDER BY {columns[0]}", (number,))
+                    found[name][table] = rows.fetchall()
+            return found
+        except sqlite3.DatabaseError as error:
+            raise Unsound(f"sqlite3 says: {error}") from error
+
+
+def differ(want, got):
+    """Where the tables hold something else, or None."""
+    for name in sorted(want.keys() | got.keys()):
+        for part in ("epoch", *TABLES):
+            a, b = (it.get(name, {}).get(part) for it in (want, got))
+            if a != b:
+                return f"the {part} of tenant {name} are {str(b)[:200]}, not {str(a)[:200]}"
+    return None
