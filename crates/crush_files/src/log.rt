@@ -25,7 +25,7 @@ fn log_at(rt: &HostRuntime, path: &str) -> io::Result<LogBefore> {
     Ok(LogBefore { path, length })
 }
 
-/// The same, or none where it can't be told.
+/// The same, or none where it can't be looked up.
 pub fn log_before(rt: &HostRuntime, path: &str) -> Option<LogBefore> {
     log_at(rt, path).ok()
 }

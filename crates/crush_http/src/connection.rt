@@ -146,7 +146,7 @@ pub fn serve<T: TenantStore, R: Read, W: Write>(
     // A store that is latched isn't asked.
     ensures rests { T.latched service.old ≡ true → service.new ≡ service.old }
 
-    // Want of memory: nothing was read, served or written.
+    // An allocation failed: nothing was read, served or written.
     ensures none { OnErr result (service.new ≡ service.old) }
     ensures unread { OnErr result (KeepsBytes (R.remaining reader.old) (R.remaining reader.new)) }
     ensures silent { OnErr result (KeepsBytes (W.contents writer.old) (W.contents writer.new)) }

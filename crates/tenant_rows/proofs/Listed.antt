@@ -32,8 +32,8 @@ is_live true x h = let no = h refl in cc
 is_live false x h = refl
 
 -- the fault is handed on
-pub told : {A B : Type 0} (r : Result A Fault) (x f g : Fault) → r ≡ Err x → x ≡ f → r ≡ Err g → ◌≡◌ {A = Result B Fault} (Err f) (Err g)
-told r x f g is same answer =
+pub same_fault : {A B : Type 0} (r : Result A Fault) (x f g : Fault) → r ≡ Err x → x ≡ f → r ≡ Err g → ◌≡◌ {A = Result B Fault} (Err f) (Err g)
+same_fault r x f g is same answer =
     let both : f ≡ g = cc in ap Err both
 
 -- ---- what a tenant has is listed

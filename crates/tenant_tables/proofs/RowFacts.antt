@@ -23,9 +23,9 @@ use Rattle.sqlite_rules.proofs.ListLemmas.{all_has}
 
 -- ---- equality of SQL
 
-told : (b : Bool) → is_true (from_truth (Some b)) ≡ b
-told true = refl
-told false = refl
+truth_is : (b : Bool) → is_true (from_truth (Some b)) ≡ b
+truth_is true = refl
+truth_is false = refl
 
 pub tied : (o : Ordering) → is_eq o ≡ true → o ≡ Equal
 tied Less h = absurd (true≢false (sym h))
@@ -34,11 +34,11 @@ tied Greater h = absurd (true≢false (sym h))
 
 pub equal_words : (a b : List ℕ) → equal Binary (Words a) (Words b) ≡ bytes_eq a b
 unfolding binary
-equal_words a b = told (is_eq (value_cmp (Words a) (Words b))) ∙ ap is_eq (value_cmp-Text a b) ∙ is_eq-slice_cmp a b
+equal_words a b = truth_is (is_eq (value_cmp (Words a) (Words b))) ∙ ap is_eq (value_cmp-Text a b) ∙ is_eq-slice_cmp a b
 
 pub equal_ints : (m n : ℤ) → equal Binary (Int m) (Int n) ≡ is_eq (value_cmp (Int m) (Int n))
 unfolding binary
-equal_ints m n = told (is_eq (value_cmp (Int m) (Int n)))
+equal_ints m n = truth_is (is_eq (value_cmp (Int m) (Int n)))
 
 pub equal_itself : (n : ℤ) → equal Binary (Int n) (Int n) ≡ true
 equal_itself n = equal_ints n n ∙ ap is_eq (tied_itself value_cmp_total (Int n))
@@ -46,7 +46,7 @@ equal_itself n = equal_ints n n ∙ ap is_eq (tied_itself value_cmp_total (Int n
 parts_of : (null other test : Bool) → is_true (cond (null || other) Null (from_truth (Some test))) ≡ true → (null ≡ false) × (test ≡ true)
 parts_of true other test h = absurd (true≢false (sym h))
 parts_of false true test h = absurd (true≢false (sym h))
-parts_of false false test h = (refl, sym (told test) ∙ h)
+parts_of false false test h = (refl, sym (truth_is test) ∙ h)
 
 pub equal_parts : (a b : Value) → equal Binary a b ≡ true → (is_null a ≡ false) × (value_cmp a b ≡ Equal)
 unfolding binary

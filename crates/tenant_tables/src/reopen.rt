@@ -43,7 +43,7 @@ pub fn reopen<S: Alter + Drop>(
     ensures ended { IfOk result (λ c. c.in_transaction ≡ false) }
     ensures faults { IfErr result (λ e. (e.0 ≡ Fault.NoMemory) ⊎ (e.0 ≡ Fault.Failed)) }
     ensures crash { IfErr result (λ e. IsClean (S.Store.view e.1) → (db : _) → S.Store.recovers e.1 db → (state S.Store conn).may_leave db) }
-    ensures told { IfErr result (λ e. IsClean (S.Store.view e.1) → HasCleanDisk (state S.Store conn)) }
+    ensures was_clean { IfErr result (λ e. IsClean (S.Store.view e.1) → HasCleanDisk (state S.Store conn)) }
 {
     let store = conn.into_store();
     if !are_rows(&store) {

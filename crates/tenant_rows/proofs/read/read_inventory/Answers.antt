@@ -11,7 +11,7 @@ use Rattle.tenant_tables.specs.Holds.{of_tenant}
 use Rattle.tenant_tables.specs.Layout.{maps_table, devices_table, pools_table}
 use Rattle.tenant_rows.specs.Changes.{HasRows}
 use Rattle.tenant_rows.specs.Lists.{AreRowsOf}
-use Rattle.tenant_rows.proofs.Listed.{moved, is_live, told, not_versions, not_states, not_pools, are_its_rows}
+use Rattle.tenant_rows.proofs.Listed.{moved, is_live, same_fault, not_versions, not_states, not_pools, are_its_rows}
 use Rattle.tenant_rows.proofs.read.read_inventory.Goals as goal
 
 pub returns-in_err-versions-clause-damaged : goal.returns-in_err-versions-clause-damaged
@@ -19,7 +19,7 @@ returns-in_err-versions-clause-damaged g c = λ clean damaged i is has.
     let fits : SFits w64 c.args.id = search rules in
     let p = err_from_is_err_and c.from_residual.result c.from_residual.ensures.1 in
     let its = moved (λ db n. HasRows db n c.args.epoch i) (state g.S.Store c.args.tables.now.0).now _ c.args.id _ refl (sym (to_z-of_z w64 c.args.id fits)) has in
-    not_versions _ _ c.args.epoch i is its c.canonical_texts_are_ascii.ensures.utf8 (c.in_err-versions.ensures.damaged clean (told c.from_residual.result _ _ _ p.1 p.2 damaged))
+    not_versions _ _ c.args.epoch i is its c.canonical_texts_are_ascii.ensures.utf8 (c.in_err-versions.ensures.damaged clean (same_fault c.from_residual.result _ _ _ p.1 p.2 damaged))
 
 pub returns-in_err-devices-clause-damaged : goal.returns-in_err-devices-clause-damaged
 returns-in_err-devices-clause-damaged g c = λ clean damaged i is has.
@@ -28,7 +28,7 @@ returns-in_err-devices-clause-damaged g c = λ clean damaged i is has.
     let kept = c.in_ok-versions.ensures.kept early (is_live c.versions_of.new.self.1 c.in_ok-versions.versions c.in_ok-versions.ensures.latches.0) in
     let p = err_from_is_err_and c.from_residual-in_err-devices.result c.from_residual-in_err-devices.ensures.1 in
     let its = moved (λ db n. HasRows db n c.args.epoch i) _ _ c.args.id _ (sym kept) (sym (to_z-of_z w64 c.args.id fits)) has in
-    not_states _ _ c.args.epoch i is its (c.in_err-devices.ensures.damaged clean (told c.from_residual-in_err-devices.result _ _ _ p.1 p.2 damaged))
+    not_states _ _ c.args.epoch i is its (c.in_err-devices.ensures.damaged clean (same_fault c.from_residual-in_err-devices.result _ _ _ p.1 p.2 damaged))
 
 pub returns-in_err-pools-clause-damaged : goal.returns-in_err-pools-clause-damaged
 returns-in_err-pools-clause-damaged g c = λ clean damaged i is has.
@@ -39,7 +39,7 @@ returns-in_err-pools-clause-damaged g c = λ clean damaged i is has.
     let still = c.in_ok-devices.ensures.kept later (is_live c.devices_of.new.self.1 c.in_ok-devices.devices c.in_ok-devices.ensures.latches.0) in
     let p = err_from_is_err_and c.from_residual-in_err-pools.result c.from_residual-in_err-pools.ensures.1 in
     let its = moved (λ db n. HasRows db n c.args.epoch i) _ _ c.args.id _ (sym (still ∙ kept)) (sym (to_z-of_z w64 c.args.id fits)) has in
-    not_pools _ _ c.args.epoch i is its (c.in_err-pools.ensures.damaged clean (told c.from_residual-in_err-pools.result _ _ _ p.1 p.2 damaged))
+    not_pools _ _ c.args.epoch i is its (c.in_err-pools.ensures.damaged clean (same_fault c.from_residual-in_err-pools.result _ _ _ p.1 p.2 damaged))
 
 pub returns-in-Ok-None-clause-damaged : goal.returns-in-Ok-None-clause-damaged
 returns-in-Ok-None-clause-damaged g c = λ clean damaged i is has.

@@ -43,4 +43,4 @@ returns-in-Err-get_ready-clause-crash g c clean trees left =
     ]
 
 pub returns-in-Err-reopen-clause-crash : goal.returns-in-Err-reopen-clause-crash
-returns-in-Err-reopen-clause-crash g c clean trees left = c.set_up.ensures.crash.crash (c.in-Err-reopen.ensures.told clean) trees (c.in-Err-reopen.ensures.crash clean trees left)
+returns-in-Err-reopen-clause-crash g c clean trees left = c.set_up.ensures.crash.crash (c.in-Err-reopen.ensures.was_clean clean) trees (c.in-Err-reopen.ensures.crash clean trees left)
