@@ -11,7 +11,7 @@ use Rattle.tenant_messages.specs.declared.call.Call.{Call}
 use Rattle.tenant_messages.specs.declared.reply.Reply.{Reply}
 use Rattle.tenant_rows.specs.Rows.{StandsFor}
 use Rattle.tenant_state.specs.State.{TenantState}
-use Rattle.tenant_tables.specs.Layout.{no_schema, store_schema}
+use Rattle.table_schema.specs.Layout.{no_schema, store_schema}
 use Rattle.crush_app.specs.Play.{Plays, PlaysUpTo, WritesHeadline}
 use Rattle.crush_files.specs.Stored.{StatesIn}
 

@@ -13,7 +13,7 @@ use sqlite::Alter;
 use std::alloc::{AllocError, Global};
 use std::rc::Rc;
 use tenant_state::Inventory;
-use tenant_tables::refuse::Fault;
+use table_schema::refuse::Fault;
 use tenant_tables::tables::Tables;
 
 /// What the tenant with the number and the epoch has, from its rows. No row is changed.

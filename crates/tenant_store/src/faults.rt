@@ -4,7 +4,7 @@ ghost use Rattle.std.specs.Prelude.{◌≡◌};
 ghost use Rattle.tenant_store.specs.Shown as spec;
 
 use tenant_core::StoreFault;
-use tenant_tables::refuse::Fault;
+use table_schema::refuse::Fault;
 
 /// The fault of a store.
 pub fn fault_of(fault: Fault) -> StoreFault

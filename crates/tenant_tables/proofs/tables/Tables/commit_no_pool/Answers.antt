@@ -4,7 +4,7 @@ use mir.Val.{SFits}
 use mir.Syntax.{w64}
 use Rattle.sqlite.specs.Held.{state}
 use Rattle.sqlite.specs.State.{HasCleanDisk}
-use Rattle.tenant_tables.specs.Change.{IsNumber, Accepts, without_pool}
+use Rattle.table_writes.specs.Change.{IsNumber, Accepts, without_pool}
 use Rattle.tenant_tables.proofs.tables.Tables.commit_no_pool.Goals as goal
 
 pub commit_no_pool-requires-clause-there : goal.commit_no_pool-requires-clause-there

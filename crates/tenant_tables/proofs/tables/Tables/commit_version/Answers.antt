@@ -4,7 +4,7 @@ use mir.Val.{SFits}
 use mir.Syntax.{w64}
 use Rattle.sqlite.specs.Held.{state}
 use Rattle.sqlite.specs.State.{HasCleanDisk}
-use Rattle.tenant_tables.specs.Change.{IsNumber, Accepts, with_version}
+use Rattle.table_writes.specs.Change.{IsNumber, Accepts, with_version}
 use Rattle.tenant_tables.proofs.tables.Tables.commit_version.Goals as goal
 
 pub commit_version-requires-clause-there : goal.commit_version-requires-clause-there

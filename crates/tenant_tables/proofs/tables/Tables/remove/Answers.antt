@@ -4,7 +4,7 @@ use mir.Val.{SFits}
 use mir.Syntax.{w64}
 use Rattle.sqlite.specs.Held.{state}
 use Rattle.sqlite.specs.State.{HasCleanDisk}
-use Rattle.tenant_tables.specs.Change.{IsNumber, Drops}
+use Rattle.table_writes.specs.Change.{IsNumber, Drops}
 use Rattle.tenant_tables.proofs.tables.Tables.remove.Goals as goal
 
 pub remove-requires-clause-there : goal.remove-requires-clause-there
