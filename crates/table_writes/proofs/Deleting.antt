@@ -30,6 +30,7 @@ use Rattle.sqlite.specs.Effect.{Database, IsDatabase}
 use Rattle.sqlite.specs.State.{State, mode_of, Executes}
 use Rattle.sqlite.proofs.Callers.{statement_of, runs_as, one_step}
 use Rattle.table_schema.specs.Layout.{store_schema, devices_table, pools_table}
+use Rattle.table_schema.proofs.Queries.{staged_are}
 use Rattle.table_writes.proofs.Statements.{keyed_query, clear_state_text, clear_state_is, remove_pool_text, remove_pool_is}
 use Rattle.table_writes.proofs.Inserting.{went, same_value, written_tables}
 use Rattle.table_writes.proofs.Taking.{taken_out, has_permuted, has_mapped, was_mapped, own_rowid}

@@ -20,6 +20,7 @@ use Rattle.sqlite.specs.State.{State, mode_of, Executes}
 use Rattle.sqlite.proofs.Callers.{statement_of, runs_as, one_step, one_permutation}
 use Rattle.table_schema.specs.Layout.{store_schema, tenants_table, tables_of_tenants}
 use Rattle.table_schema.specs.Holds.{rows_with}
+use Rattle.table_schema.proofs.Queries.{staged_is}
 use Rattle.table_writes.proofs.Statements.{raise_text, raise_query, raise_is}
 use Rattle.table_writes.proofs.Inserting.{went, same_value, unlike, cast_null, cast_int}
 

@@ -9,6 +9,7 @@ use Rattle.sqlite.specs.Command.TheVariants.{Insert, Update, Delete}
 use Rattle.sqlite.specs.Listing.{understood}
 use Rattle.sqlite.proofs.Callers.{IsPlain, command_of}
 use Rattle.table_schema.specs.Layout.{tenants, maps, devices, pools, receipts, store_schema}
+use Rattle.table_schema.proofs.Queries.{plain_query, equals}
 
 -- the text inserts one row of these terms into the table at the place
 pub record InsertsOne (text : List ℕ) (place : ℕ) (terms : List Term) : Type 0 where
