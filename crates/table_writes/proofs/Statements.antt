@@ -8,7 +8,7 @@ use Rattle.sqlite_tied.specs.Compute.{everything}
 use Rattle.sqlite.specs.Command.TheVariants.{Insert, Update, Delete}
 use Rattle.sqlite.specs.Listing.{understood}
 use Rattle.sqlite.proofs.Callers.{IsPlain, command_of}
-use Rattle.table_schema.specs.Layout.{tenants, maps, devices, pools, receipts, store_schema}
+use Rattle.table_schema.specs.Layout.{store_schema}
 use Rattle.table_schema.proofs.Queries.{plain_query, equals}
 
 -- the text inserts one row of these terms into the table at the place
