@@ -17,12 +17,12 @@ use crush_map::Text;
 use crush_pool::{DeviceState, Pool};
 use sqlite::Alter;
 use std::alloc::{AllocError, Global};
-use tenant_messages::SuccessStatus;
-use tenant_state::{Change, Made, Receipt};
 use table_reads::find::Tenant;
 use table_schema::refuse::Fault;
-use tenant_tables::tables::Tables;
 use table_schema::values::{Pool as PoolValues, Receipt as ReceiptValues, State};
+use tenant_messages::SuccessStatus;
+use tenant_state::{Change, Made, Receipt};
+use tenant_tables::tables::Tables;
 
 // ---- numbers
 

@@ -13,8 +13,8 @@ ghost use Rattle.tenant_rows.specs.Pages.{AreReceipts, IsOfReceipt, IsTail, Leav
 use crate::parts::is_receipt_row;
 use sqlite::Alter;
 use table_reads::pages::PAGE;
-use table_schema::refuse::Fault;
 use table_reads::rows::ReceiptRow;
+use table_schema::refuse::Fault;
 use tenant_tables::tables::Tables;
 
 /// What is still to be judged: the receipts whose request numbers are above one, and how many they

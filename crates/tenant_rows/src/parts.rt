@@ -22,11 +22,11 @@ use crush_map::limits::NUMBER_LIMIT;
 use crush_pool::{DeviceState, Pool, PoolParts};
 use std::alloc::{AllocError, Global};
 use std::rc::Rc;
+use table_reads::rows::{PoolRow, ReceiptRow, VersionRow};
+use table_schema::values::State;
 use tenant_messages::SuccessStatus;
 use tenant_messages::limits::REQUEST_NUMBER_LIMIT;
 use tenant_state::{Devices, Pools, Receipt, Version};
-use table_reads::rows::{PoolRow, ReceiptRow, VersionRow};
-use table_schema::values::State;
 
 // ---- numbers
 

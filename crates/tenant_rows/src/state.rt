@@ -13,9 +13,9 @@ ghost use Rattle.tenant_rows.specs.Rows.{row_of_receipt};
 use crate::inventory::inventory_from;
 use crate::parts::receipt_from;
 use std::alloc::{AllocError, Global};
-use tenant_state::{Receipts, TenantState};
 use table_reads::rows::{PoolRow, ReceiptRow, VersionRow};
 use table_schema::values::State;
+use tenant_state::{Receipts, TenantState};
 
 /// The receipts of these rows, in the order of their request numbers. `None`, exactly where they
 /// are the rows of none. `Err(AllocError)`: an allocation failed.

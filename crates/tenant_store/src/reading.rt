@@ -25,11 +25,11 @@ use crate::judged::{Judged, remember};
 use sqlite::Alter;
 use std::alloc::Global;
 use std::rc::Rc;
+use table_reads::find::Tenant;
+use table_reads::rows::ReceiptRow;
 use tenant_core::StoreFault;
 use tenant_rows::{judge_receipts, read_inventory, receipt_from};
 use tenant_state::{Inventory, Receipt};
-use table_reads::find::Tenant;
-use table_reads::rows::ReceiptRow;
 use tenant_tables::tables::Tables;
 
 /// Judges a tenant's receipts, unless its name was judged, and remembers that it was. The tenant

@@ -16,10 +16,10 @@ use crate::judged::{Judged, update};
 use crate::reading::count_versions;
 use sqlite::Alter;
 use std::alloc::Global;
+use table_reads::find::Tenant;
 use tenant_core::StoreFault;
 use tenant_rows::write_change;
 use tenant_state::{Change, Made};
-use table_reads::find::Tenant;
 use tenant_tables::tables::Tables;
 
 /// How many versions there are after a change, where there were so many.
