@@ -1,6 +1,6 @@
 //! Scripts that are played over an opened database file, which is then closed.
 
-ghost use Rattle.std.specs.Prelude.{◌≡◌, ◌≢◌, ◌≤◌, ◌<◌, ◌+◌, true, false, length, Ok, IfOk, IfSome};
+ghost use Rattle.std.specs.Prelude.{◌≡◌, ◌≢◌, ◌≤◌, ◌<◌, ◌+◌, true, false, length, Ok, IfOk, IfErr, IfSome};
 ghost use Rattle.std.specs.Io.KnownBytes.{Keeps as KeepsBytes};
 ghost use Rattle.crush_app.specs.Input.{DropsFirst};
 ghost use Rattle.crush_app.specs.End.{ServesLines, ServesNone, ReadsInput};
@@ -35,6 +35,20 @@ fn close<D: Disk + Drop>(conn: Connection<FileStore<D>>) -> Result<Files<D>, Fil
             drop(store.close());
             Err(fault_of(error))
         }
+    }
+}
+
+/// The end of a script, where its file may be closed.
+///
+/// `Err(FileFault::Store)`: the store failed for good.
+fn closable(end: ScriptEnd) -> Result<ScriptEnd, FileFault>
+    ensures same { IfOk result (λ same. same ≡ end) }
+    ensures works { IfOk result (λ same. same ≢ ScriptEnd.Latched) }
+    ensures fault { IfErr result (λ fault. fault ≡ FileFault.Store) }
+{
+    match end {
+        ScriptEnd::Latched => Err(FileFault::Store),
+        _ => Ok(end),
     }
 }
 
@@ -88,9 +102,7 @@ pub fn script_on_files<D: Disk + Drop, R: Read, W: Write>(
         Ok(played) => played,
         Err(AllocError) => return Err(FileFault::NoMemory),
     };
-    if end == ScriptEnd::Latched {
-        return Err(FileFault::Store);
-    }
+    let end = closable(end)?;
     let files = close(conn)?;
     Ok((end, files))
 }
