@@ -1,5 +1,5 @@
 -- What a closed file holds after a script, and what an opening found before it.
-use Rattle.std.proofs.Common.{ℕ, List, Bool, true, false, Option, Result, Ok, Err, IfOk, subst}
+use Rattle.std.proofs.Common.{◌≡◌, ◌↔◌, ℕ, List, Bool, true, false, Option, Result, Ok, Err, IfOk, subst}
 use Rattle.sqlite_disk.specs.declared.Disk as disk
 use Rattle.sqlite_disk.specs.declared.Files.{Files}
 use Rattle.sqlite_wal.specs.Recovery.{Image}

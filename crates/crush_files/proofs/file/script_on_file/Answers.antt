@@ -1,4 +1,5 @@
 -- What the opening found, the script and the closing, put together.
+use Rattle.std.proofs.Common.{◌≡◌}
 use Rattle.crush_files.proofs.FileFacts.{both_ok, played_done, played_cut, played_headline}
 use Rattle.crush_files.proofs.file.script_on_file.Goals as goal
 

@@ -1,5 +1,5 @@
 -- What the tables say after the script is what the closed file holds.
-use Rattle.std.proofs.Common.{Ok, sym, subst, ◌∙◌}
+use Rattle.std.proofs.Common.{◌≡◌, Ok, sym, subst, ◌∙◌}
 use Rattle.crush_app.specs.End.{ServesLines, ServesNone, ReadsInput}
 use Rattle.sqlite.specs.Closing.{IsCopied}
 use Rattle.sqlite.specs.Files.{file_state}

@@ -1,6 +1,9 @@
 -- What is said of the ready store over a store is said of the rows.
-use Rattle.std.proofs.Common.{Bool, false, sym, ap, subst, ◌∙◌}
-use Rattle.tenant_store.specs.Shown.{IsHonest}
+use Rattle.std.proofs.Common.{◌≡◌, List, ℕ, Bool, false, sym, ap, subst, ◌∙◌}
+use Rattle.sqlite.specs.Held.{Held, state}
+use Rattle.sqlite.specs.State.{HasCleanDisk}
+use Rattle.tenant_core.specs.States.{States}
+use Rattle.tenant_store.specs.Shown.{IsHonest, HasState}
 use Rattle.crush_app.specs.Play.{Plays, PlaysUpTo, PlaysUntilLatched, WritesHeadline}
 use Rattle.crush_app.specs.Script.{OfScript, messages}
 use Rattle.crush_app.proofs.Inputs.{of_script}
