@@ -1,4 +1,4 @@
-//! The tables of tenants in SQLite: their schema, and what each call on them answers for.
+//! The tables of tenants in SQLite: their schema, the values of their rows, and why a call fails.
 #![tactic(auto)]
 
 mod columns;

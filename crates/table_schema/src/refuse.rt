@@ -13,7 +13,7 @@ pub enum Fault {
     NoMemory,
     /// The disk is full, or the numbers of rows are used up.
     Full,
-    /// The rows are none that this crate writes.
+    /// The rows are none that this service writes.
     Damaged,
     /// The connection must not be used any more.
     Failed,

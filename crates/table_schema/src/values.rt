@@ -1,6 +1,6 @@
 //! The values of a tenant's rows, as they are written.
 
-/// A row of `devices`.
+/// A row of `devices`, without the tenant's number.
 #[derive(Clone, Copy)]
 pub struct State {
     pub device: i64,
@@ -8,7 +8,7 @@ pub struct State {
     pub up: i64,
 }
 
-/// A row of `pools`.
+/// A row of `pools`, without the tenant's number.
 #[derive(Clone, Copy)]
 pub struct Pool<'a> {
     pub id: i64,
@@ -21,7 +21,7 @@ pub struct Pool<'a> {
     pub hashpspool: i64,
 }
 
-/// A row of `receipts`.
+/// A row of `receipts`, without the tenant's number.
 #[derive(Clone, Copy)]
 pub struct Receipt<'a> {
     pub request: &'a str,
