@@ -42,6 +42,20 @@ reads_both there buffer a b c P first second = record {
   holds = subst P (ap (λ l. l ++ second.more) first.holds ∙ append_assoc there first.more second.more) second.holds;
 }
 
+-- from a reader that had nothing left
+read_nothing : (a b : Option (List ℕ)) (more : List ℕ) → a ≡ Some [] → Consumes a b more → more ≡ []
+read_nothing None b more e taken = cc
+read_nothing (Some xs) None more e taken = absurd taken
+read_nothing (Some xs) (Some ys) [] e taken = refl
+read_nothing (Some xs) (Some ys) (m ∷ more) e taken = cc
+
+pub reads_nothing : (there buffer : List ℕ) (a b : Option (List ℕ)) → ReadsOn there a b (λ all. buffer ≡ all) → a ≡ Some [] → buffer ≡ there
+reads_nothing there buffer a b read e = read.holds ∙ ap (λ l. there ++ l) (read_nothing a b read.more e read.taken) ∙ append-nil there
+
+-- what is so of bytes that were there is so with any reader
+pub reads_no_more : (there : List ℕ) (a b c : Option (List ℕ)) (P : List ℕ → Type 0) → a ≡ Some [] → ReadsOn there a b P → ReadsOn there c c P
+reads_no_more there a b c P e read = reads_none there c P (subst P (ap (λ l. there ++ l) (read_nothing a b read.more e read.taken) ∙ append-nil there) read.holds)
+
 -- ---- the buffer
 
 -- the front of a buffer that was filled further
