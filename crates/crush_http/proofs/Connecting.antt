@@ -61,16 +61,16 @@ due-append (read_failed unread) ms ns rs qs count = output-append ms ns rs qs co
 due-append write_failed ms ns rs qs count = output-append ms ns rs qs count
 
 -- what was held is written at the end, or a part of it
-pub finished : (e end : Ended) (stop : Stop) (a b c d : Option (List ℕ)) (held now xs bytes : List ℕ) → AppendsUpTo held a b xs → EndsHeld e held now b c stop bytes
-    → ((end ≡ e) × Appends c d now) ⊎ ((end ≡ WriteFault) × AppendsPart c d now) → Writes end stop (xs ++ bytes) a d
-finished e end stop a b c d held now xs bytes first ends (inl whole) =
-    inl (subst (EndsAs stop) (sym whole.0) ends.0, up_to_written a c d now (xs ++ bytes) (up_to_on a b c held now xs bytes first ends.1) whole.1)
-finished e end stop a b c d held now xs bytes first ends (inr part) =
-    inr (part.0, part_written a c d now (xs ++ bytes) (up_to_on a b c held now xs bytes first ends.1) part.1)
+pub finished : (e end : Ended) (stop : Stop) (a b c d : Option (List ℕ)) (held now xs more : List ℕ) → AppendsUpTo held a b xs → EndsHeld e held now b c stop more
+    → ((end ≡ e) × Appends c d now) ⊎ ((end ≡ WriteFault) × AppendsPart c d now) → Writes end stop (xs ++ more) a d
+finished e end stop a b c d held now xs more first ends (inl whole) =
+    inl (subst (EndsAs stop) (sym whole.0) ends.0, up_to_written a c d now (xs ++ more) (up_to_on a b c held now xs more first ends.1) whole.1)
+finished e end stop a b c d held now xs more first ends (inr part) =
+    inr (part.0, part_written a c d now (xs ++ more) (up_to_on a b c held now xs more first ends.1) part.1)
 
 -- a write failed before
-pub cut : (end : Ended) (stop : Stop) (a b c : Option (List ℕ)) (held xs bytes : List ℕ) → AppendsUpTo held a b xs → EndsCut held b c stop bytes → end ≡ WriteFault → Writes end stop (xs ++ bytes) a c
-cut end stop a b c held xs bytes first ends e = inr (e, part_on a b c held xs bytes first ends)
+pub cut : (end : Ended) (stop : Stop) (a b c : Option (List ℕ)) (held xs more : List ℕ) → AppendsUpTo held a b xs → EndsCut held b c stop more → end ≡ WriteFault → Writes end stop (xs ++ more) a c
+cut end stop a b c held xs more first ends e = inr (e, part_on a b c held xs more first ends)
 
 -- ---- the messages so far
 
@@ -129,7 +129,7 @@ reached_one Meets Then One most buffer rest held now a b c from mid to first rea
 -- the end
 pub reached_end : (Meets Then Last : List Call → List Reply → Type 0) (most : ℕ) (buffer held : List ℕ) (a b c from mid to : Option (List ℕ)) (e : Ended) (Holds : Stop → List ℕ → Type 0)
     → Reached Meets most buffer held a b from mid → EndsOn Last most buffer b c Holds → ((cs ds : List Call) (rs qs : List Reply) → Meets cs rs → Last ds qs → Then (cs ++ ds) (rs ++ qs))
-    → ((stop : Stop) (xs bytes : List ℕ) → AppendsUpTo held from mid xs → Holds stop bytes → Writes e stop (xs ++ bytes) from to) → OfInput a (λ input. ServesInput Then input c from to e)
+    → ((stop : Stop) (xs more : List ℕ) → AppendsUpTo held from mid xs → Holds stop more → Writes e stop (xs ++ more) from to) → OfInput a (λ input. ServesInput Then input c from to e)
 reached_end Meets Then Last most buffer held a b c from mid to e Holds first end join writes = record {
   input = (first.read ++ end.read) ++ end.unread;
   same = known_input a c (first.read ++ end.read) end.unread (consumes_both a b c first.read end.read first.taken end.taken) end.left;
@@ -145,7 +145,7 @@ reached_end Meets Then Last most buffer held a b c from mid to e Holds first end
         subst (λ cs. Then cs (first.replies ++ end.replies)) (sym (calls_of-append first.messages end.messages))
         (join (calls_of first.messages) (calls_of end.messages) first.replies end.replies first.meets end.meets);
     written =
-        subst (λ bytes. Writes e end.stop bytes from to) (sym (due-append end.stop first.messages end.messages first.replies end.replies first.count))
+        subst (λ all. Writes e end.stop all from to) (sym (due-append end.stop first.messages end.messages first.replies end.replies first.count))
         (writes end.stop (output first.messages first.replies) (due end.stop end.messages end.replies) first.written end.holds);
     unread = end.leaves;
   };

@@ -1,5 +1,5 @@
 -- What is taken from a reader, from call to call.
-use Rattle.std.proofs.Common.{◌≡◌, ℕ, ◌+◌, ◌-◌, ◌≤◌, ◌<◌, List, [], ◌++◌, length, take, drop, Option, Some, None, refl, ap, sym, ◌∙◌, arith, append_assoc, length-take, length-append, length-drop, subst}
+use Rattle.std.proofs.Common.{◌≡◌, ℕ, ◌+◌, ◌-◌, ◌≤◌, ◌<◌, List, [], ◌∷◌, ◌++◌, length, take, drop, Option, Some, None, refl, ap, sym, ◌∙◌, arith, append_assoc, length-take, length-append, length-drop, subst}
 use Rattle.std.proofs.lemmas.List.{append-nil, take-append-le, take-append-drop, drop-take, drop-append-le, drop_all}
 use Rattle.std.proofs.Math.Seq.{take-append-add, take-append_seam}
 use Rattle.std.specs.Io.KnownBytes.{Keeps, Consumes}
@@ -51,10 +51,6 @@ read_nothing (Some xs) (Some ys) (m ∷ more) e taken = cc
 
 pub reads_nothing : (there buffer : List ℕ) (a b : Option (List ℕ)) → ReadsOn there a b (λ all. buffer ≡ all) → a ≡ Some [] → buffer ≡ there
 reads_nothing there buffer a b read e = read.holds ∙ ap (λ l. there ++ l) (read_nothing a b read.more e read.taken) ∙ append-nil there
-
--- what is so of bytes that were there is so with any reader
-pub reads_no_more : (there : List ℕ) (a b c : Option (List ℕ)) (P : List ℕ → Type 0) → a ≡ Some [] → ReadsOn there a b P → ReadsOn there c c P
-reads_no_more there a b c P e read = reads_none there c P (subst P (ap (λ l. there ++ l) (read_nothing a b read.more e read.taken) ∙ append-nil there) read.holds)
 
 -- ---- the buffer
 

@@ -1,6 +1,6 @@
 //! A connection.
 
-ghost use Rattle.std.specs.Prelude.{◌≡◌, ◌==◌, ◌||◌, ◌⊎◌, ◌-◌, ◌<◌, [], true, length, Option, Some, IfSome, OnNone, IfOk, OnErr};
+ghost use Rattle.std.specs.Prelude.{◌≡◌, ◌==◌, ◌||◌, ◌⊎◌, ◌-◌, ◌<◌, [], true, length, Option, None, IfSome, IfOk, OnErr};
 ghost use Rattle.std.specs.Io.KnownBytes.{Keeps as KeepsBytes, Appends};
 ghost use Rattle.tenant_core.specs.States.{MeetsDefinition};
 ghost use Rattle.crush_app.specs.Input.{OfInput};
@@ -58,8 +58,8 @@ fn next_message<R: Read, W: Write>(
 ) -> Option<Incoming>
     ensures found { IfSome result (λ incoming. Finds incoming buffers.old.read buffers.new.read buffers.new.body.items (R.remaining reader.old) (R.remaining reader.new)) }
     ensures written { IfSome result (λ incoming. AppendsUpTo buffers.new.held (W.contents writer.old) (W.contents writer.new) buffers.old.held) }
-    ensures unread { OnNone result (reader.new ≡ reader.old) }
-    ensures cut { OnNone result (AppendsPart (W.contents writer.old) (W.contents writer.new) buffers.old.held) }
+    ensures unread { result ≡ None → reader.new ≡ reader.old }
+    ensures cut { result ≡ None → AppendsPart (W.contents writer.old) (W.contents writer.new) buffers.old.held }
 {
     match read_message(&mut io::empty(), &mut buffers.read, &mut buffers.body) {
         Incoming::Message(request) => return Some(Incoming::Message(request)),

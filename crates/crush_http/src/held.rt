@@ -73,9 +73,9 @@ impl Held {
         whole
     }
 
-    /// Puts bytes behind what is held, and returns whether they are held or written. Bytes for which
-    /// no room is left follow a write of what is held; if they are more than `HELD_LIMIT` they are
-    /// written at once, and copied nowhere.
+    /// Puts bytes behind what is held, and returns whether they are held or written. If no room is
+    /// left for them what is held is written first; more than `HELD_LIMIT` bytes are then written
+    /// at once, without a copy.
     pub(crate) fn put<W: Write>(&mut self, writer: &mut W, bytes: &[u8]) -> bool
         ensures whole { IsTrue result → AppendsUpTo self.new (W.contents writer.old) (W.contents writer.new) (self.old ++ bytes.now) }
         ensures part { IsFalse result → AppendsPart (W.contents writer.old) (W.contents writer.new) (self.old ++ bytes.now) }

@@ -12,8 +12,8 @@ use http::StatusCode;
 use std::io::Write;
 use tenant_messages::Reply;
 
-/// Puts the pieces, one after the other, behind what is held, and returns whether all bytes are held
-/// or written. Allocates nothing.
+/// Puts the pieces, one after the other, behind what is held, and returns whether all bytes are
+/// held or written. Allocates nothing.
 fn put_pieces<W: Write>(held: &mut Held, writer: &mut W, pieces: &[&[u8]]) -> bool
     ensures { Puts result held.old held.new (W.contents writer.old) (W.contents writer.new) (flat_map (λ piece. piece.now) pieces.now) }
 {
@@ -68,13 +68,7 @@ fn pieces_of<'a>(
 
 /// Puts a reply with a status and a body behind what is held, and returns whether all of it is held
 /// or written. Allocates nothing.
-fn put_with<W: Write>(
-    held: &mut Held,
-    writer: &mut W,
-    last: bool,
-    status: u16,
-    body: &[u8],
-) -> bool
+fn put_with<W: Write>(held: &mut Held, writer: &mut W, last: bool, status: u16, body: &[u8]) -> bool
     ensures { Puts result held.old held.new (W.contents writer.old) (W.contents writer.new) (spec.wire last status body.now) }
 {
     let mut status_buffer = itoa::Buffer::new();

@@ -148,7 +148,10 @@ fn no_write_follows_one_that_failed(rt: HostRuntime) -> Result<(), Fail> {
     let found = connect(rt.alloc(), &mut buffers, &parts, 150)?;
     assert_eq!(rt; found.ended, Ended::WriteFault);
     assert_eq!(rt; found.taken.as_slice(), &REPLIES[..150]);
-    assert_eq!(rt; found.lengths.as_slice(), &[REPLIES.len(), REPLIES.len() - 150][..]);
+    assert_eq!(rt;
+        found.lengths.as_slice(),
+        &[REPLIES.len(), REPLIES.len() - 150][..]
+    );
     assert_eq!(rt; found.seen.as_slice(), &[0][..]);
     Ok(())
 }
@@ -168,14 +171,20 @@ fn a_connection_finds_nothing_of_the_last_one(rt: HostRuntime) -> Result<(), Fai
 /// Imports a map whose text has more bytes than are held, and asks for it.
 fn long_map(alloc: Global) -> Result<Vec<u8>, AllocError> {
     let mut body = String::new(alloc);
-    body.push_str("{\"request\":\"r\",\"text\":\"tunable choose_local_tries 0\\ntunable choose_local_fallback_tries 0\\ntype 0 osd\\n")?;
+    body.push_str(
+        "{\"request\":\"r\",\"text\":\"tunable choose_local_tries 0\\ntunable choose_local_fallback_tries 0\\ntype 0 osd\\n",
+    )?;
     for number in 0..1_024 {
-        let device = format!(in alloc; "device {number} a.name.of.some.sixty.letters.for.a.long.reply.of.a.server.{number}\\n")?;
+        let device = format!(in alloc;
+            "device {number} a.name.of.some.sixty.letters.for.a.long.reply.of.a.server.{number}\\n"
+        )?;
         body.push_str(&device)?;
     }
     body.push_str("\"}")?;
     let length = body.len();
-    let head = format!(in alloc; "PUT /t/a HTTP/1.1\r\n\r\nPOST /t/a/maps HTTP/1.1\r\nContent-Length: {length}\r\n\r\n")?;
+    let head = format!(in alloc;
+        "PUT /t/a HTTP/1.1\r\n\r\nPOST /t/a/maps HTTP/1.1\r\nContent-Length: {length}\r\n\r\n"
+    )?;
     let mut input = Vec::new(alloc);
     input.extend_from_slice(head.as_bytes())?;
     input.extend_from_slice(body.as_bytes())?;

@@ -39,9 +39,9 @@ returns-in-Ended-clause-served g c =
     (EndsHeld c.in-Ended.ended c.loop-most.buffers.held c.serve_one.new.buffers.held (g.W.Write.contents c.loop-most.writer) (g.W.Write.contents c.serve_one.new.writer))
     c.loop-most.invariant.reached c.in-Ended.ensures.ended
     (join_last g.T.TenantStore.latched g.T.TenantStore.has_state g.T.TenantStore.is_honest c.args.service.now c.loop-most.service c.serve_one.new.service c.serve_one.ensures.honest)
-    (λ stop xs bytes first ends.
-        finished c.in-Ended.ended c.finish.result stop (g.W.Write.contents c.args.writer.now) (g.W.Write.contents c.loop-most.writer) (g.W.Write.contents c.serve_one.new.writer)
-        (g.W.Write.contents c.finish.new.writer) c.loop-most.buffers.held c.serve_one.new.buffers.held xs bytes first ends c.finish.ensures)
+    (λ stop xs more first ends.
+    finished c.in-Ended.ended c.finish.result stop (g.W.Write.contents c.args.writer.now) (g.W.Write.contents c.loop-most.writer) (g.W.Write.contents c.serve_one.new.writer)
+    (g.W.Write.contents c.finish.new.writer) c.loop-most.buffers.held c.serve_one.new.buffers.held xs more first ends c.finish.ensures)
 
 pub returns-in-Cut-clause-served : goal.returns-in-Cut-clause-served
 returns-in-Cut-clause-served g c =
@@ -52,5 +52,5 @@ returns-in-Cut-clause-served g c =
     (EndsCut c.loop-most.buffers.held (g.W.Write.contents c.loop-most.writer) (g.W.Write.contents c.serve_one.new.writer))
     c.loop-most.invariant.reached c.in-Cut.ensures.cut
     (join_last g.T.TenantStore.latched g.T.TenantStore.has_state g.T.TenantStore.is_honest c.args.service.now c.loop-most.service c.serve_one.new.service c.serve_one.ensures.honest)
-    (λ stop xs bytes first ends.
-        cut _ stop (g.W.Write.contents c.args.writer.now) (g.W.Write.contents c.loop-most.writer) (g.W.Write.contents c.serve_one.new.writer) c.loop-most.buffers.held xs bytes first ends refl)
+    (λ stop xs more first ends.
+    cut _ stop (g.W.Write.contents c.args.writer.now) (g.W.Write.contents c.loop-most.writer) (g.W.Write.contents c.serve_one.new.writer) c.loop-most.buffers.held xs more first ends refl)
