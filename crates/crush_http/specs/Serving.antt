@@ -27,10 +27,10 @@ EndsAs last_served Closed = ⊤
 EndsAs (read_failed unread) ReadFault = ⊤
 EndsAs _ _ = ⊥
 
--- all that is due was written, and the connection ended as its stop says; or a write failed, and
--- a front of it was written, but not all. A write may fail at each stop: replies that waited, and
--- the one to what is no message, are written after it. Where a write failed before another message
--- was looked for the stop is `write_failed`
+-- all that is due was written, and the connection ended as its stop says; or a write failed, and a
+-- front of it was written, but not all. This comes with any stop, a failed read too, since replies
+-- that wait are written after it. Where the write failed before that, so that no further message
+-- was served, the stop is `write_failed`
 abbrev pub Writes : Ended → Stop → List ℕ → Option (List ℕ) → Option (List ℕ) → Type 0
 Writes ended stop bytes from to = (EndsAs stop ended × Appends from to bytes) ⊎ ((ended ≡ WriteFault) × AppendsPart from to bytes)
 
