@@ -31,9 +31,11 @@ pub returns-in-Rejected-clause-ended : goal.returns-in-Rejected-clause-ended
 returns-in-Rejected-clause-ended g c =
     rejected_before _ _ refl c.args.most c.args.buffers.now.read (g.R.Read.remaining c.args.reader.now) (g.R.Read.remaining c.next_message.new.reader)
     (EndsHeld Bad c.args.buffers.now.held c.put_rejection.new.held (g.W.Write.contents c.args.writer.now) (g.W.Write.contents c.put_rejection.new.writer)) c.in-Rejected.reason
-    (subst (λ i. FindsIncoming i c.args.buffers.now.read c.next_message.new.buffers.read c.next_message.new.buffers.body.items (g.R.Read.remaining c.args.reader.now) (g.R.Read.remaining c.next_message.new.reader)) c.in-Rejected.is c.in-Some.ensures.found)
-    (tt, up_to_on (g.W.Write.contents c.args.writer.now) (g.W.Write.contents c.next_message.new.writer) (g.W.Write.contents c.put_rejection.new.writer) c.next_message.new.buffers.held c.put_rejection.new.held c.args.buffers.now.held (rejection_wire c.in-Rejected.reason)
-    c.in-Some.ensures.written c.if-not-put_rejection.ensures)
+    (subst (λ i. FindsIncoming i c.args.buffers.now.read c.next_message.new.buffers.read c.next_message.new.buffers.body.items (g.R.Read.remaining c.args.reader.now) (g.R.Read.remaining c.next_message.new.reader)) c.in-Rejected.is c.in-Some.ensures.found) (
+      tt,
+      up_to_on (g.W.Write.contents c.args.writer.now) (g.W.Write.contents c.next_message.new.writer) (g.W.Write.contents c.put_rejection.new.writer) c.next_message.new.buffers.held c.put_rejection.new.held c.args.buffers.now.held (rejection_wire c.in-Rejected.reason)
+          c.in-Some.ensures.written c.if-not-put_rejection.ensures,
+    )
 
 pub returns-in-Ended-clause-ended : goal.returns-in-Ended-clause-ended
 returns-in-Ended-clause-ended g c =
@@ -89,9 +91,11 @@ returns-then-last-clause-ended g c =
     (g.T.TenantStore.has_state c.args.service.now) (g.T.TenantStore.has_state c.request-reply.new.self)) c.args.most c.args.buffers.now.read c.drop_front.new.self (call_of c.call_of.result) c.request-reply.result
     (g.R.Read.remaining c.args.reader.now) (g.R.Read.remaining c.next_message.new.reader) one
     (EndsHeld Closed c.args.buffers.now.held c.put_reply.new.held (g.W.Write.contents c.args.writer.now) (g.W.Write.contents c.put_reply.new.writer))
-    (subst (λ l. ReadsOn c.args.buffers.now.read (g.R.Read.remaining c.args.reader.now) (g.R.Read.remaining c.next_message.new.reader) (Finds c.args.most (call_of c.call_of.result) l c.drop_front.new.self)) c.if-last.true read)
-    (tt, (subst (λ l. AppendsUpTo c.put_reply.new.held (g.W.Write.contents c.args.writer.now) (g.W.Write.contents c.put_reply.new.writer) (c.args.buffers.now.held ++ reply_wire l c.request-reply.result)) c.if-last.true
-    (up_to_on (g.W.Write.contents c.args.writer.now) (g.W.Write.contents c.next_message.new.writer) (g.W.Write.contents c.put_reply.new.writer) c.next_message.new.buffers.held c.put_reply.new.held c.args.buffers.now.held (reply_wire c.is_last-last.result c.request-reply.result) c.in-Some.ensures.written c.if-not-put_reply.ensures)))
+    (subst (λ l. ReadsOn c.args.buffers.now.read (g.R.Read.remaining c.args.reader.now) (g.R.Read.remaining c.next_message.new.reader) (Finds c.args.most (call_of c.call_of.result) l c.drop_front.new.self)) c.if-last.true read) (
+      tt,
+      (subst (λ l. AppendsUpTo c.put_reply.new.held (g.W.Write.contents c.args.writer.now) (g.W.Write.contents c.put_reply.new.writer) (c.args.buffers.now.held ++ reply_wire l c.request-reply.result)) c.if-last.true
+          (up_to_on (g.W.Write.contents c.args.writer.now) (g.W.Write.contents c.next_message.new.writer) (g.W.Write.contents c.put_reply.new.writer) c.next_message.new.buffers.held c.put_reply.new.held c.args.buffers.now.held (reply_wire c.is_last-last.result c.request-reply.result) c.in-Some.ensures.written c.if-not-put_reply.ensures)),
+    )
 
 pub returns-clause-next : goal.returns-clause-next
 returns-clause-next g c =
@@ -107,13 +111,12 @@ returns-clause-next g c =
     (call_of c.call_of.result) (g.R.Read.remaining c.args.reader.now) (g.R.Read.remaining c.next_message.new.reader)
     (subst (λ i. FindsIncoming i c.args.buffers.now.read c.next_message.new.buffers.read c.next_message.new.buffers.body.items (g.R.Read.remaining c.args.reader.now) (g.R.Read.remaining c.next_message.new.reader)) c.in-Message.is c.in-Some.ensures.found)
     c.bytes-bytes.ensures.value c.used-used.ensures c.drop_front.ensures c.is_last-last.ensures
-    (c.call_of.ensures ∙ ap (λ body. call_in c.bytes-bytes.result.now c.in-Message.request (take c.in-Message.request.size body)) c.deref.ensures.value) in
-    (
+    (c.call_of.ensures ∙ ap (λ body. call_in c.bytes-bytes.result.now c.in-Message.request (take c.in-Message.request.size body)) c.deref.ensures.value) in (
       more_to_come c.in-Message.request.closes c.is_last-last.result c.args.most c.requires.some c.is_last-last.ensures c.if-last.false,
       next_after (c.request-reply.new.self ≡ c.args.service.now) (Replies (g.T.TenantStore.is_honest c.request-reply.new.self) (g.T.TenantStore.latched c.args.service.now) (g.T.TenantStore.latched c.request-reply.new.self)
-    (g.T.TenantStore.has_state c.args.service.now) (g.T.TenantStore.has_state c.request-reply.new.self)) c.args.most c.args.buffers.now.read c.drop_front.new.self (call_of c.call_of.result) c.request-reply.result
-    (g.R.Read.remaining c.args.reader.now) (g.R.Read.remaining c.next_message.new.reader) one c.args.buffers.now.held c.put_reply.new.held (g.W.Write.contents c.args.writer.now) (g.W.Write.contents c.put_reply.new.writer)
-    (subst (λ l. ReadsOn c.args.buffers.now.read (g.R.Read.remaining c.args.reader.now) (g.R.Read.remaining c.next_message.new.reader) (Finds c.args.most (call_of c.call_of.result) l c.drop_front.new.self)) c.if-last.false read)
-    (subst (λ l. AppendsUpTo c.put_reply.new.held (g.W.Write.contents c.args.writer.now) (g.W.Write.contents c.put_reply.new.writer) (c.args.buffers.now.held ++ reply_wire l c.request-reply.result)) c.if-last.false
-    (up_to_on (g.W.Write.contents c.args.writer.now) (g.W.Write.contents c.next_message.new.writer) (g.W.Write.contents c.put_reply.new.writer) c.next_message.new.buffers.held c.put_reply.new.held c.args.buffers.now.held (reply_wire c.is_last-last.result c.request-reply.result) c.in-Some.ensures.written c.if-not-put_reply.ensures)),
+          (g.T.TenantStore.has_state c.args.service.now) (g.T.TenantStore.has_state c.request-reply.new.self)) c.args.most c.args.buffers.now.read c.drop_front.new.self (call_of c.call_of.result) c.request-reply.result
+          (g.R.Read.remaining c.args.reader.now) (g.R.Read.remaining c.next_message.new.reader) one c.args.buffers.now.held c.put_reply.new.held (g.W.Write.contents c.args.writer.now) (g.W.Write.contents c.put_reply.new.writer)
+          (subst (λ l. ReadsOn c.args.buffers.now.read (g.R.Read.remaining c.args.reader.now) (g.R.Read.remaining c.next_message.new.reader) (Finds c.args.most (call_of c.call_of.result) l c.drop_front.new.self)) c.if-last.false read)
+          (subst (λ l. AppendsUpTo c.put_reply.new.held (g.W.Write.contents c.args.writer.now) (g.W.Write.contents c.put_reply.new.writer) (c.args.buffers.now.held ++ reply_wire l c.request-reply.result)) c.if-last.false
+          (up_to_on (g.W.Write.contents c.args.writer.now) (g.W.Write.contents c.next_message.new.writer) (g.W.Write.contents c.put_reply.new.writer) c.next_message.new.buffers.held c.put_reply.new.held c.args.buffers.now.held (reply_wire c.is_last-last.result c.request-reply.result) c.in-Some.ensures.written c.if-not-put_reply.ensures)),
     )

@@ -1,4 +1,4 @@
-use Rattle.std.proofs.Common.{subst, ◌++◌, ◌∙◌}
+use Rattle.std.proofs.Common.{subst, ◌∙◌}
 use Rattle.crush_http.specs.Private.Served.{Puts}
 use Rattle.crush_http.proofs.Pieces.{reply_pieces}
 use Rattle.crush_http.proofs.wire.put_with.Goals as goal
