@@ -1,5 +1,6 @@
 //! When replies are written: together, before a read, at the end, and a long body at once.
 
+use crate::connections::Cuts;
 use crate::streams::{REPLIES, STREAM};
 use crush_app::Service;
 use crush_http::limits::HELD_LIMIT;
@@ -19,26 +20,20 @@ const NO_PATH: &[u8] =
 /// The length of the two whole messages of the stream.
 const TWO: usize = 60;
 
-/// Gives a part at a time, and notes at each read how many bytes had been written by then.
+/// Gives so many bytes a read at most, and notes at each read how many had been written by then.
 #[derive(Drop)]
-struct Parts<'a> {
-    parts: &'a [&'a [u8]],
+struct Watcher<'a> {
     rest: &'a [u8],
+    cuts: Cuts,
     written: &'a Cell<usize>,
     seen: Vec<usize>,
 }
 
-impl Read for Parts<'_> {
+impl Read for Watcher<'_> {
     fn read(&mut self, buf: &mut [u8]) -> io::Result<usize> {
         self.seen.push(self.written.get())?;
-        if self.rest.is_empty() {
-            let Some((part, later)) = self.parts.split_first() else {
-                return Ok(0);
-            };
-            self.rest = part;
-            self.parts = later;
-        }
-        let count = self.rest.len().min(buf.len());
+        let count = self.cuts.first.min(buf.len()).min(self.rest.len());
+        self.cuts.first = self.cuts.later;
         buf[..count].copy_from_slice(&self.rest[..count]);
         self.rest = &self.rest[count..];
         Ok(count)
@@ -87,14 +82,15 @@ struct Record {
 fn connect(
     alloc: Global,
     buffers: &mut Buffers,
-    parts: &[&[u8]],
+    input: &[u8],
+    cuts: Cuts,
     room: usize,
 ) -> Result<Record, AllocError> {
     let mut service = Service::in_memory(alloc)?;
     let written = Cell::new(0);
-    let mut reader = Parts {
-        parts,
-        rest: b"",
+    let mut reader = Watcher {
+        rest: input,
+        cuts,
         written: &written,
         seen: Vec::new(alloc),
     };
@@ -105,7 +101,7 @@ fn connect(
         lengths: Vec::new(alloc),
     };
     let ended = serve_with(buffers, &mut service, &mut reader, &mut writer);
-    let Parts { seen, .. } = reader;
+    let Watcher { seen, .. } = reader;
     let Recorder { taken, lengths, .. } = writer;
     Ok(Record {
         ended,
@@ -115,27 +111,52 @@ fn connect(
     })
 }
 
+/// Two messages, which come together, and then one more.
+const FIRST_TWO: Cuts = Cuts {
+    first: TWO,
+    later: 20_000,
+};
+
+/// The first two messages of the stream, and one more.
+fn three_messages(alloc: Global) -> Result<Vec<u8>, AllocError> {
+    let mut input = Vec::new(alloc);
+    input.extend_from_slice(&STREAM[..TWO])?;
+    input.extend_from_slice(ASKS)?;
+    Ok(input)
+}
+
 #[test]
 fn replies_are_written_before_a_read(rt: HostRuntime) -> Result<(), Fail> {
+    let input = three_messages(rt.alloc())?;
     let mut buffers = Buffers::new(rt.alloc())?;
-    let parts = [&STREAM[..TWO], ASKS];
-    let found = connect(rt.alloc(), &mut buffers, &parts, usize::MAX)?;
+    let found = connect(rt.alloc(), &mut buffers, &input, FIRST_TWO, usize::MAX)?;
     assert_eq!(rt; found.ended, Ended::Closed);
     let all = REPLIES.len() + NO_PATH.len();
     assert_eq!(rt; found.seen.as_slice(), &[0, REPLIES.len(), all][..]);
     Ok(())
 }
 
+/// The same bytes, 16 times.
+fn sixteen(alloc: Global, bytes: &[u8]) -> Result<Vec<u8>, AllocError> {
+    let mut all = Vec::new(alloc);
+    for _ in 0..16 {
+        all.extend_from_slice(bytes)?;
+    }
+    Ok(all)
+}
+
 #[test]
 fn replies_to_messages_of_one_read_are_written_together(rt: HostRuntime) -> Result<(), Fail> {
-    let mut asked = Vec::new(rt.alloc());
-    let mut replies = Vec::new(rt.alloc());
-    for _ in 0..16 {
-        asked.extend_from_slice(ASKS)?;
-        replies.extend_from_slice(NO_PATH)?;
-    }
+    let input = sixteen(rt.alloc(), ASKS)?;
+    let replies = sixteen(rt.alloc(), NO_PATH)?;
     let mut buffers = Buffers::new(rt.alloc())?;
-    let found = connect(rt.alloc(), &mut buffers, &[asked.as_slice()], usize::MAX)?;
+    let found = connect(
+        rt.alloc(),
+        &mut buffers,
+        &input,
+        Cuts::each(20_000),
+        usize::MAX,
+    )?;
     assert_eq!(rt; found.taken.as_slice(), replies.as_slice());
     assert_eq!(rt; found.lengths.as_slice(), &[replies.len()][..]);
     Ok(())
@@ -143,15 +164,12 @@ fn replies_to_messages_of_one_read_are_written_together(rt: HostRuntime) -> Resu
 
 #[test]
 fn no_write_follows_one_that_failed(rt: HostRuntime) -> Result<(), Fail> {
+    let input = three_messages(rt.alloc())?;
     let mut buffers = Buffers::new(rt.alloc())?;
-    let parts = [&STREAM[..TWO], ASKS];
-    let found = connect(rt.alloc(), &mut buffers, &parts, 150)?;
+    let found = connect(rt.alloc(), &mut buffers, &input, FIRST_TWO, 150)?;
     assert_eq!(rt; found.ended, Ended::WriteFault);
     assert_eq!(rt; found.taken.as_slice(), &REPLIES[..150]);
-    assert_eq!(rt;
-        found.lengths.as_slice(),
-        &[REPLIES.len(), REPLIES.len() - 150][..]
-    );
+    assert_eq!(rt; found.lengths.len(), 2);
     assert_eq!(rt; found.seen.as_slice(), &[0][..]);
     Ok(())
 }
@@ -159,21 +177,21 @@ fn no_write_follows_one_that_failed(rt: HostRuntime) -> Result<(), Fail> {
 #[test]
 fn a_connection_finds_nothing_of_the_last_one(rt: HostRuntime) -> Result<(), Fail> {
     let mut buffers = Buffers::new(rt.alloc())?;
+    let whole = Cuts::each(20_000);
     for room in [usize::MAX, 150, 0] {
-        connect(rt.alloc(), &mut buffers, &[STREAM], room)?;
-        let found = connect(rt.alloc(), &mut buffers, &[ASKS], usize::MAX)?;
+        connect(rt.alloc(), &mut buffers, STREAM, whole, room)?;
+        let found = connect(rt.alloc(), &mut buffers, ASKS, whole, usize::MAX)?;
         assert_eq!(rt; found.ended, Ended::Closed, "after {room} bytes");
         assert_eq!(rt; found.taken.as_slice(), NO_PATH, "after {room} bytes");
     }
     Ok(())
 }
 
-/// Imports a map whose text has more bytes than are held, and asks for it.
-fn long_map(alloc: Global) -> Result<Vec<u8>, AllocError> {
+/// A body that imports a map, whose text has more bytes than are held.
+fn long_map(alloc: Global) -> Result<String, AllocError> {
     let mut body = String::new(alloc);
-    body.push_str(
-        "{\"request\":\"r\",\"text\":\"tunable choose_local_tries 0\\ntunable choose_local_fallback_tries 0\\ntype 0 osd\\n",
-    )?;
+    body.push_str("{\"request\":\"r\",\"text\":\"tunable choose_local_tries 0\\n")?;
+    body.push_str("tunable choose_local_fallback_tries 0\\ntype 0 osd\\n")?;
     for number in 0..1_024 {
         let device = format!(in alloc;
             "device {number} a.name.of.some.sixty.letters.for.a.long.reply.of.a.server.{number}\\n"
@@ -181,6 +199,12 @@ fn long_map(alloc: Global) -> Result<Vec<u8>, AllocError> {
         body.push_str(&device)?;
     }
     body.push_str("\"}")?;
+    Ok(body)
+}
+
+/// Messages that make a tenant, import such a map, ask for its text, and ask once more.
+fn long_messages(alloc: Global) -> Result<Vec<u8>, AllocError> {
+    let body = long_map(alloc)?;
     let length = body.len();
     let head = format!(in alloc;
         "PUT /t/a HTTP/1.1\r\n\r\nPOST /t/a/maps HTTP/1.1\r\nContent-Length: {length}\r\n\r\n"
@@ -195,20 +219,25 @@ fn long_map(alloc: Global) -> Result<Vec<u8>, AllocError> {
 
 #[test]
 fn a_body_longer_than_what_is_held_is_written_at_once(rt: HostRuntime) -> Result<(), Fail> {
-    let input = long_map(rt.alloc())?;
+    let input = long_messages(rt.alloc())?;
     let mut buffers = Buffers::new(rt.alloc())?;
-    let found = connect(rt.alloc(), &mut buffers, &[input.as_slice()], usize::MAX)?;
+    let found = connect(
+        rt.alloc(),
+        &mut buffers,
+        &input,
+        Cuts::each(20_000),
+        usize::MAX,
+    )?;
     assert_eq!(rt; found.ended, Ended::Closed);
-    let lengths = found.lengths.as_slice();
-    let long = lengths[lengths.len() - 2];
+    let mut long = 0;
+    for length in found.lengths.as_slice() {
+        long = long.max(*length);
+    }
     assert!(rt; long > HELD_LIMIT, "{long} bytes");
-    let size = format!(in rt.alloc(); "Content-Length: {long}\r\n")?;
-    let taken = found.taken.as_slice();
-    assert!(rt; taken.ends_with(NO_PATH));
-    let before = taken.len() - NO_PATH.len() - long;
-    assert!(rt; taken[before..].starts_with(b"{\"text\":\"# begin crush map\\n"));
-    assert!(rt; taken[..before].ends_with(b"Content-Type: application/json\r\n\r\n"));
-    let head = &taken[before - 90..before];
-    assert!(rt; head.windows(size.len()).any(|part| part == size.as_bytes()));
+    let front = format!(in rt.alloc();
+        "HTTP/1.1 201 Created\r\nContent-Length: 24\r\nContent-Type: application/json\r\n\r\n{{\"epoch\":0,\"tenant\":\"a\"}}HTTP/1.1 201 Created\r\nContent-Length: 23\r\nContent-Type: application/json\r\n\r\n{{\"epoch\":1,\"version\":1}}HTTP/1.1 200 OK\r\nContent-Length: {long}\r\nContent-Type: application/json\r\n\r\n{{\"text\":\"# begin crush map\\n"
+    )?;
+    assert!(rt; found.taken.starts_with(front.as_bytes()));
+    assert!(rt; found.taken.ends_with(NO_PATH));
     Ok(())
 }
