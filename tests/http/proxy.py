@@ -45,11 +45,10 @@ def write_users(folder):
     """A certificate that signs itself, and for each tenant its file of users, each user's password being the user's name."""
     run("openssl", "req", "-x509", "-newkey", "rsa:2048", "-nodes", "-days", "1", "-subj", "/CN=localhost", "-addext", "subjectAltName=DNS:localhost",
         "-keyout", f"{folder}/key.pem", "-out", f"{folder}/certificate.pem")
-    (folder / "tenants").mkdir(exist_ok=True)
     for user, tenants in USERS.items():
         line = b"%s:%s" % (user.encode(), run("openssl", "passwd", "-apr1", user))
         for it in tenants:
-            (folder / "tenants" / it).write_bytes(line)
+            (folder / f"{it}.users").write_bytes(line)
 
 
 def write_configuration(folder, port, servers):
@@ -57,7 +56,7 @@ def write_configuration(folder, port, servers):
     lines = "".join(f"    server 127.0.0.1:{it} max_fails=0;\n" for it in servers)
     text = replaced(
         (TOP / "examples" / "nginx.conf").read_text(), ("    server 127.0.0.1:8081 max_fails=0;\n    server 127.0.0.1:8082 max_fails=0;\n", lines), ("listen 443 ssl;", f"listen 127.0.0.1:{port} ssl;"),
-        ("/etc/nginx/crushcalc/certificate.pem", f"{folder}/certificate.pem"), ("/etc/nginx/crushcalc/key.pem", f"{folder}/key.pem"), ("/etc/nginx/crushcalc/tenants", f"{folder}/tenants"),
+        ("/etc/nginx/crushcalc/certificate.pem", f"{folder}/certificate.pem"), ("/etc/nginx/crushcalc/key.pem", f"{folder}/key.pem"), ("/etc/nginx/crushcalc/$tenant.users", f"{folder}/$tenant.users"),
     )
     (folder / "crushcalc.conf").write_text(text)
     (folder / "main.conf").write_text(MAIN.format(folder=folder))

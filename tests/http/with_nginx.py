@@ -14,7 +14,7 @@ from proxy import nginx, processes, run
 from replies import NO_TENANT, made, there
 from served import Server, asked
 
-CLIENTS, TENANTS, REQUESTS = 64, 64, 3_000
+CLIENTS, TENANTS, SECONDS = 64, 64, 5
 
 
 class Client:
@@ -45,7 +45,7 @@ def users(port, folder):
     for user, password, path, status in (
         (None, None, "/t/shop", 401), ("anna", "wrong", "/t/shop", 401), ("ben", "anna", "/t/shop", 401), ("ben", None, "/t/shop", 401), ("ben", None, "/t/lab", 404), ("anna", None, "/t/shop", 404),
         ("ben", None, "/t/nobody", 403), ("ben", None, "/", 403), ("ben", None, "/t/", 403), ("ben", None, "/t/lab/../shop", 404), ("ben", None, "/t/../t/shop", 403), ("ben", None, "//t/shop", 403),
-        ("ben", None, "/t/%73hop", 403), ("ben", None, "/t/lab?/../shop", 403), ("ben", None, "/t/lab%2f..%2fshop", 403), ("ben", None, "/t/lab/%2e%2e/shop", 404), ("ben", None, "/t/../tenants/shop", 403),
+        ("ben", None, "/t/%73hop", 403), ("ben", None, "/t/lab?/../shop", 403), ("ben", None, "/t/lab%2f..%2fshop", 403), ("ben", None, "/t/lab/%2e%2e/shop", 404), ("ben", None, "/t/../shop", 403), ("ben", None, "/t/../shop.users", 403),
     ):
         found = Client(port, folder, user, password).ask(b"GET " + path.encode())
         if not found.startswith(b"%d " % status):
@@ -76,10 +76,10 @@ def one_process_each(servers, folder):
 
 
 def load(port, folder):
-    """ab with 64 connections kept open; it looks at the length and status of each reply."""
-    ran = run("ab", "-q", "-k", "-c", str(CLIENTS), "-n", str(REQUESTS), "-A", "anna:anna", f"https://localhost:{port}/t/t1").decode()
+    """ab with 64 connections kept open for some seconds; it looks at the length and status of each reply."""
+    ran = run("ab", "-q", "-k", "-c", str(CLIENTS), "-t", str(SECONDS), "-A", "anna:anna", f"https://localhost:{port}/t/t1").decode()
     said = dict(re.findall(r"^([\w -]+): +(\S+)", ran, re.M))
-    if (said.get("Complete requests"), said.get("Failed requests"), said.get("Non-2xx responses")) != (str(REQUESTS), "0", None):
+    if int(said["Complete requests"]) < CLIENTS // 4 or said["Failed requests"] != "0" or "Non-2xx responses" in said:
         return ran
     print(f"nginx with TLS, a password each and {CLIENTS} clients: {float(said['Requests per second']):,.0f} requests a second")
     return None

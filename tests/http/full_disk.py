@@ -1,0 +1,64 @@
+"""A full disk: what is answered, and that the server goes on when there is room again. A file system of two MiB in memory is mounted for it,
+which takes root; elsewhere there is no check."""
+import os
+import pathlib
+import subprocess
+
+import map_cases
+from proxy import run
+from served import Server, asked
+
+FULL = b'503 {"error":"store_failed"}'
+SIZE = "2m"
+
+
+def import_of(place):
+    return map_cases.import_of(map_cases.tiny(), f"m{place}")
+
+
+def fill(server):
+    """Imports until one is refused: how many were accepted, and the last reply."""
+    for place in range(1, 1000):
+        reply, = asked(server, [import_of(place)])
+        if reply != map_cases.imported(place, place):
+            return place - 1, reply
+    return 999, reply
+
+
+def at_full_disk(program, folder):
+    """Nothing but changes is refused while the disk is full, and they are accepted once there is room."""
+    db, ballast = pathlib.Path(folder, "t.db"), pathlib.Path(folder, "ballast")
+    ballast.write_bytes(bytes(1 << 20))
+    with Server(program, db) as server:
+        asked(server, [b"PUT /t/a"])
+        count, reply = fill(server)
+        if reply != FULL or not 0 < count < 200:
+            return f"import {count + 1} is answered {reply!r}"
+        summary = map_cases.summary(count, count)
+        found = asked(server, [b"GET /t/a", import_of(count + 1), import_of(1), map_cases.test_of(), b"PUT /t/b", b"GET /t/a"])
+        if found != [summary, FULL, map_cases.imported(1, 1), map_cases.tested([0], [0], count, count), FULL, summary]:
+            return f"while it is full: {found}"
+        ballast.unlink()
+        if (found := asked(server, [import_of(count + 1)])) != [map_cases.imported(count + 1, count + 1)]:
+            return f"with room again: {found}"
+        if (ended := server.stop()) != (-15, b"", b""):
+            return f"it ends with {ended}"
+    with Server(program, db) as server:
+        found = asked(server, [b"GET /t/a"])
+    return None if found == [map_cases.summary(count + 1, count + 1)] else f"after a start: {found}"
+
+
+def checks(program, folder):
+    at = pathlib.Path(folder, "full")
+    at.mkdir()
+    if os.geteuid() != 0:
+        return
+    try:
+        run("mount", "-t", "tmpfs", "-o", f"size={SIZE}", "crushcalc", str(at))
+    except (OSError, subprocess.SubprocessError) as error:
+        print(f"no disk is filled: {error}")
+        return
+    try:
+        yield "a full disk", at_full_disk(program, at)
+    finally:
+        run("umount", str(at))
