@@ -6,7 +6,8 @@ import subprocess
 
 import map_cases
 from proxy import run
-from served import Server, asked
+from served import Server, asked, free_port, run_to_end
+from stored import STORE_FAULT, files_at
 
 FULL = b'503 {"error":"store_failed"}'
 SIZE = "2m"
@@ -16,36 +17,42 @@ def import_of(place):
     return map_cases.import_of(map_cases.tiny(), f"m{place}")
 
 
-def fill(server):
-    """Imports until one is refused: how many were accepted, and the last reply."""
-    for place in range(1, 1000):
+def fill(server, first):
+    """Imports until one is refused: the number of the last that was accepted, and the last reply."""
+    for place in range(first, first + 1000):
         reply, = asked(server, [import_of(place)])
         if reply != map_cases.imported(place, place):
-            return place - 1, reply
-    return 999, reply
+            break
+    return place - 1, reply
 
 
 def at_full_disk(program, folder):
-    """Nothing but changes is refused while the disk is full, and they are accepted once there is room."""
-    db, ballast = pathlib.Path(folder, "t.db"), pathlib.Path(folder, "ballast")
-    ballast.write_bytes(bytes(1 << 20))
+    """Nothing but changes is refused while the disk is full, and they are accepted once there is room. A start needs room."""
+    db, ballast = pathlib.Path(folder, "t.db"), [pathlib.Path(folder, f"ballast-{it}") for it in range(2)]
+    for it in ballast:
+        it.write_bytes(bytes(1 << 19))
     with Server(program, db) as server:
         asked(server, [b"PUT /t/a"])
-        count, reply = fill(server)
+        count, reply = fill(server, 1)
         if reply != FULL or not 0 < count < 200:
             return f"import {count + 1} is answered {reply!r}"
         summary = map_cases.summary(count, count)
         found = asked(server, [b"GET /t/a", import_of(count + 1), import_of(1), map_cases.test_of(), b"PUT /t/b", b"GET /t/a"])
         if found != [summary, FULL, map_cases.imported(1, 1), map_cases.tested([0], [0], count, count), FULL, summary]:
             return f"while it is full: {found}"
-        ballast.unlink()
-        if (found := asked(server, [import_of(count + 1)])) != [map_cases.imported(count + 1, count + 1)]:
-            return f"with room again: {found}"
-        if (ended := server.stop()) != (-15, b"", b""):
-            return f"it ends with {ended}"
+        ballast[0].unlink()
+        more, reply = fill(server, count + 1)
+        if reply != FULL or more == count:
+            return f"with room again import {more + 1} is answered {reply!r}"
+        server.stop()
+    before = files_at(db)
+    found = run_to_end(program, "serve", "--db", str(db), "--port", str(free_port()))
+    if found != (1, b"", STORE_FAULT) or files_at(db) != before:
+        return f"a start on the full disk: {found}; the files are {'as they were' if files_at(db) == before else 'others'}"
+    ballast[1].unlink()
     with Server(program, db) as server:
-        found = asked(server, [b"GET /t/a"])
-    return None if found == [map_cases.summary(count + 1, count + 1)] else f"after a start: {found}"
+        found = asked(server, [b"GET /t/a", import_of(more + 1)])
+    return None if found == [map_cases.summary(more, more), map_cases.imported(more + 1, more + 1)] else f"after a start: {found}"
 
 
 def checks(program, folder):

@@ -31,7 +31,7 @@ def fault(command, wanted, folder, port):
     if "kill $(" in command:
         # the shell's kill doesn't wait
         time.sleep(0.5)
-    return None if (status, said) == (0, wanted) else f"{command!r} ends with {status} and prints {said[:300]!r}"
+    return None if said == wanted else f"{command!r} ends with {status} and prints {said[:300]!r}"
 
 
 def end_server(folder):

@@ -11,7 +11,7 @@ import ssl
 import map_cases
 from expected import expected, unlike
 from proxy import nginx, processes, run
-from replies import NO_TENANT, made, there
+from replies import NO_TENANT, made
 from served import Server, asked
 
 CLIENTS, TENANTS, SECONDS = 64, 64, 5
