@@ -24,6 +24,7 @@ help:
 	@echo 'make ceph-check   compares 176,000 mappings by requests, 154,000 with reweights and 93 name hashes with those of Ceph'"'"'s own library,'
 	@echo '               74,592 placements of groups with those of its osdmaptool, impacts with what its crushtool moves, and map texts with its crushtool'
 	@echo 'make sqlite-check   compares database files with those of the tool sqlite3, both ways'
+	@echo 'make http-check   compares replies of the server with those of scripts, by curl, nginx and other clients'
 	@echo 'make bench     builds and measures; beside Ceph'"'"'s own library where that is installed'
 	@echo 'make bench-deps   installs what the comparisons with Ceph need (Debian: librados2, ceph-base, gcc)'
 	@echo 'make serve     the server (not built yet)'
@@ -115,6 +116,12 @@ sqlite-check: build
 	@command -v sqlite3 >/dev/null || { echo 'Installing sqlite3: apt-get install -y sqlite3'; apt-get update && apt-get install -y sqlite3; }
 	@python3 tests/with_sqlite3 ./crushcalc
 
+http-check: build
+	@{ command -v curl && command -v nginx && command -v openssl && command -v ab; } >/dev/null || { \
+	  echo 'Installing curl, nginx, openssl and ab: apt-get install -y curl nginx openssl apache2-utils'; \
+	  apt-get update && apt-get install -y curl nginx openssl apache2-utils; }
+	@python3 tests/http/check ./crushcalc
+
 bench: build build/crush_bench
 	@sh bench/all
 
@@ -130,4 +137,4 @@ clean:
 	@echo 'Removing ./crushcalc, build/ and crates/*/out; the next build proves everything anew.'
 	@rm -rf crushcalc build crates/*/out
 
-.PHONY: build help tools try cases run test gate wrong form install serve ceph-check sqlite-check bench bench-deps clean
+.PHONY: build help tools try cases run test gate wrong form install serve ceph-check sqlite-check http-check bench bench-deps clean
