@@ -117,9 +117,9 @@ sqlite-check: build
 	@python3 tests/with_sqlite3 ./crushcalc
 
 http-check: build
-	@{ command -v curl && command -v nginx && command -v openssl && command -v ab; } >/dev/null || { \
-	  echo 'Installing curl, nginx, openssl and ab: apt-get install -y curl nginx openssl apache2-utils'; \
-	  apt-get update && apt-get install -y curl nginx openssl apache2-utils; }
+	@{ command -v curl && command -v nginx && command -v openssl && command -v ab && command -v mkfs.btrfs; } >/dev/null || { \
+	  echo 'Installing curl, nginx, openssl, ab and mkfs.btrfs: apt-get install -y curl nginx openssl apache2-utils btrfs-progs'; \
+	  apt-get update && apt-get install -y curl nginx openssl apache2-utils btrfs-progs; }
 	@python3 tests/http/check ./crushcalc
 
 bench: build build/crush_bench

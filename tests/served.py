@@ -66,9 +66,9 @@ class Server:
         return self.run.returncode, out, err
 
 
-def run_to_end(program, *words, seconds=SECONDS, **more):
+def run_to_end(program, *words, data=b""):
     """A run that has to end by itself: its status, standard output and standard error."""
-    ran = subprocess.run([program, *words], stdin=subprocess.DEVNULL, stdout=subprocess.PIPE, stderr=subprocess.PIPE, timeout=seconds, **more)
+    ran = subprocess.run([program, *words], input=data, stdout=subprocess.PIPE, stderr=subprocess.PIPE, timeout=SECONDS)
     return ran.returncode, ran.stdout, ran.stderr
 
 
