@@ -11,7 +11,7 @@ from served import Server, asked, message, replies_on, reset
 
 # what a client may take: for one read or write, and for a message with its reply; and what a busy machine adds
 WAIT, WHOLE, SLACK = 5, 30, 4
-CLIENTS = 50
+CLIENTS, MANY = 50, 9_000
 CLUSTER = map_cases.import_of((TOP / "examples" / "cluster.txt").read_text())
 
 
@@ -51,7 +51,7 @@ def a_byte_a_second(server):
     slow.start()
     time.sleep(0.5)
     try:
-        return goes_on(server, WHOLE + WAIT + SLACK)
+        return goes_on(server, WHOLE + 2 * WAIT + SLACK)
     finally:
         ends.set()
         slow.join()
@@ -64,14 +64,14 @@ def never_reads(server):
     connection = server.connect(room=4096)
     connection.setblocking(False)
     try:
-        connection.send(message(b"GET /t/a/maps/1") * 9_000)
-        return goes_on(server, WHOLE + WAIT + SLACK)
+        connection.send(message(b"GET /t/a/maps/1") * MANY)
+        return goes_on(server, WHOLE + 2 * WAIT + SLACK)
     finally:
         connection.close()
 
 
 def reads_a_little(server):
-    """The client reads, but too slowly: it is let go 30 seconds after its message, or when the replies are whole."""
+    """The client reads eight kilobytes a second of many megabytes: no write waits for long, but all of them do for more than 30 seconds."""
     asked(server, [b"PUT /t/a", CLUSTER])
     connection, ends = server.connect(room=4096), threading.Event()
     connection.setblocking(False)
@@ -79,15 +79,15 @@ def reads_a_little(server):
     def sip():
         try:
             while not ends.wait(0.5):
-                connection.recv(100)
+                connection.recv(4000)
         except OSError:
             pass  # let go
 
     slow = threading.Thread(target=sip)
     try:
-        connection.send(message(b"GET /t/a/maps/1") * 9_000)
+        connection.send(message(b"GET /t/a/maps/1") * MANY)
         slow.start()
-        return goes_on(server, WHOLE + WAIT + SLACK)
+        return goes_on(server, WHOLE + 2 * WAIT + SLACK)
     finally:
         ends.set()
         slow.join()
@@ -99,7 +99,7 @@ def many_resets(server):
     whole = message(b"PUT /t/a")
     for place in range(CLIENTS):
         connection = server.connect()
-        connection.sendall((b"", whole[: place % len(whole)], whole, message(b"GET /t/a") * 500)[place % 4])
+        connection.sendall((b"", whole[: place % len(whole)], whole, message(b"GET /t/a") * 100)[place % 4])
         reset(connection)
     return goes_on(server)
 

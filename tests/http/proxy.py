@@ -53,11 +53,11 @@ def write_users(folder):
 
 def write_configuration(folder, port, servers):
     """examples/nginx.conf with the test's ports, and its files in place of those below /etc/nginx."""
-    lines = "".join(f"    server 127.0.0.1:{it} max_fails=0;\n" for it in servers)
-    text = replaced(
-        (TOP / "examples" / "nginx.conf").read_text(), ("    server 127.0.0.1:8081 max_fails=0;\n    server 127.0.0.1:8082 max_fails=0;\n", lines), ("listen 443 ssl;", f"listen 127.0.0.1:{port} ssl;"),
-        ("/etc/nginx/crushcalc/certificate.pem", f"{folder}/certificate.pem"), ("/etc/nginx/crushcalc/key.pem", f"{folder}/key.pem"), ("/etc/nginx/crushcalc/$tenant.users", f"{folder}/$tenant.users"),
-    )
+    def lines(ports):
+        return "".join(f"    server 127.0.0.1:{it} max_fails=0;\n" for it in ports)
+
+    files = (("/etc/nginx/crushcalc/" + it, f"{folder}/{it}") for it in ("certificate.pem", "key.pem", "$tenant.users"))
+    text = replaced((TOP / "examples" / "nginx.conf").read_text(), (lines((8081, 8082)), lines(servers)), ("listen 443 ssl;", f"listen 127.0.0.1:{port} ssl;"), *files)
     (folder / "crushcalc.conf").write_text(text)
     (folder / "main.conf").write_text(MAIN.format(folder=folder))
 

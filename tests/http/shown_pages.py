@@ -12,6 +12,10 @@ from served import SECONDS, free_port
 
 PAGE, README, PORT, ROOT = "docs/SERVING.md", "README.md", "8080", "    # "
 PLACES = ("/etc/nginx/crushcalc", "/etc/nginx/conf.d", "/etc/systemd/system", "/usr/local/bin")
+INSTALLED = (
+    *(f"/etc/nginx/crushcalc/{it}" for it in ("key.pem", "certificate.pem", "shop.users")), "/etc/nginx/conf.d/crushcalc.conf", "/etc/systemd/system/crushcalc@.service",
+    "/usr/local/bin/crushcalc",
+)
 
 
 def said_by(command, wanted, folder, environment=None):
@@ -66,8 +70,7 @@ def by_root(text, folder):
             status, said = said_by(command, b"", folder, environment)
             if status:
                 return f"{command!r} ends with {status} and prints {said[-300:]!r}"
-    wanted = ("etc/nginx/conf.d/crushcalc.conf", "etc/nginx/crushcalc/key.pem", "etc/nginx/crushcalc/certificate.pem", "etc/nginx/crushcalc/shop.users", "etc/systemd/system/crushcalc@.service", "usr/local/bin/crushcalc")
-    return next((f"there is no {it}" for it in wanted if not (folder / it).is_file()), None)
+    return next((f"there is no {it}" for it in INSTALLED if not pathlib.Path(f"{folder}{it}").is_file()), None)
 
 
 def checks(program, top):

@@ -15,6 +15,13 @@ from replies import NO_TENANT, made
 from served import Server, asked
 
 CLIENTS, TENANTS, SECONDS = 64, 64, 5
+# a user, a password where it isn't the user's, a path, and the status of the reply
+ASKED = (
+    (None, None, "/t/shop", 401), ("anna", "wrong", "/t/shop", 401), ("ben", "anna", "/t/shop", 401), ("ben", None, "/t/shop", 401),
+    ("ben", None, "/t/lab", 404), ("anna", None, "/t/shop", 404), ("ben", None, "/t/nobody", 403), ("ben", None, "/", 403), ("ben", None, "/t/", 403),
+    ("ben", None, "/t/lab/../shop", 404), ("ben", None, "/t/lab/%2e%2e/shop", 404), ("ben", None, "/t/lab%2f..%2fshop", 403), ("ben", None, "/t/lab?/../shop", 403),
+    ("ben", None, "/t/../t/shop", 403), ("ben", None, "/t/../shop", 403), ("ben", None, "/t/../shop.users", 403), ("ben", None, "//t/shop", 403), ("ben", None, "/t/%73hop", 403),
+)
 
 
 class Client:
@@ -42,11 +49,7 @@ def whole_session(port, folder, program):
 
 def users(port, folder):
     """No user, a wrong password, another's tenant, and other forms of its path."""
-    for user, password, path, status in (
-        (None, None, "/t/shop", 401), ("anna", "wrong", "/t/shop", 401), ("ben", "anna", "/t/shop", 401), ("ben", None, "/t/shop", 401), ("ben", None, "/t/lab", 404), ("anna", None, "/t/shop", 404),
-        ("ben", None, "/t/nobody", 403), ("ben", None, "/", 403), ("ben", None, "/t/", 403), ("ben", None, "/t/lab/../shop", 404), ("ben", None, "/t/../t/shop", 403), ("ben", None, "//t/shop", 403),
-        ("ben", None, "/t/%73hop", 403), ("ben", None, "/t/lab?/../shop", 403), ("ben", None, "/t/lab%2f..%2fshop", 403), ("ben", None, "/t/lab/%2e%2e/shop", 404), ("ben", None, "/t/../shop", 403), ("ben", None, "/t/../shop.users", 403),
-    ):
+    for user, password, path, status in ASKED:
         found = Client(port, folder, user, password).ask(b"GET " + path.encode())
         if not found.startswith(b"%d " % status):
             return f"{user} asks for {path}: {found[:100]!r}, not {status}"
