@@ -99,7 +99,7 @@ def silent_client(program, db):
     with Server(program, db) as server, server.connect() as silent:
         start = time.monotonic()
         why, spent = goes_on(server), time.monotonic() - start
-        return why or unlike(silent.recv(1), b"") or (None if WAIT - 1 < spent < WAIT + 3 else f"the next waited {spent:.1f} seconds")
+        return why or unlike(silent.recv(1), b"") or (None if WAIT - 1 < spent < WAIT + 5 else f"the next waited {spent:.1f} seconds")
 
 
 def resets(program, db):

@@ -10,7 +10,7 @@ from replies import BAD, made, there
 from served import Server, asked, message, replies_on, reset
 
 # what a client may take: for one read or write, and for a message with its reply; and what a busy machine adds
-WAIT, WHOLE, SLACK = 5, 30, 4
+WAIT, WHOLE, SLACK = 5, 30, 10
 CLIENTS, MANY = 50, 9_000
 CLUSTER = map_cases.import_of((TOP / "examples" / "cluster.txt").read_text())
 
@@ -51,7 +51,7 @@ def a_byte_a_second(server):
     slow.start()
     time.sleep(0.5)
     try:
-        return goes_on(server, WHOLE + 2 * WAIT + SLACK)
+        return goes_on(server, WHOLE + WAIT + SLACK)
     finally:
         ends.set()
         slow.join()
@@ -65,7 +65,7 @@ def never_reads(server):
     connection.setblocking(False)
     try:
         connection.send(message(b"GET /t/a/maps/1") * MANY)
-        return goes_on(server, WHOLE + 2 * WAIT + SLACK)
+        return goes_on(server, WHOLE + WAIT + SLACK)
     finally:
         connection.close()
 
@@ -87,7 +87,7 @@ def reads_a_little(server):
     try:
         connection.send(message(b"GET /t/a/maps/1") * MANY)
         slow.start()
-        return goes_on(server, WHOLE + 2 * WAIT + SLACK)
+        return goes_on(server, WHOLE + WAIT + SLACK)
     finally:
         ends.set()
         slow.join()

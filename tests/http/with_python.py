@@ -50,7 +50,7 @@ def six_connections(server, pairs):
         it.join(60)
     ends.set()
     why = next((why for it in range(6) if (why := unlike(pairs, found[it]))), None)
-    return why or (None if max(spent.values()) < 30 else f"the last connection was served after {max(spent.values()):.1f} seconds")
+    return why or (None if max(spent.values()) < 35 else f"the last connection was served after {max(spent.values()):.1f} seconds")
 
 
 def checks(program, folder):
