@@ -7,8 +7,8 @@ import subprocess
 
 import map_cases
 from proxy import run
-from served import Server, Unserved, asked
-from stored import STORE_FAULT, files_at
+from served import Server, asked, run_to_end
+from stored import STORE_FAULT
 
 FULL = b'503 {"error":"store_failed"}'
 SIZE = "2m"
@@ -38,20 +38,20 @@ def take_the_rest(path):
                 raise
 
 
-def a_start(program, db, summary):
-    """Why a start on the full disk neither serves nor leaves the files as they were, or None."""
-    before = files_at(db)
-    try:
-        with Server(program, db) as server:
-            found = asked(server, [b"GET /t/a"])
-        return None if found == [summary] else f"a start on the full disk serves {found}"
-    except Unserved as error:
-        return None if STORE_FAULT.decode().strip() in str(error) and files_at(db) == before else f"a start on the full disk: {error}"
+def starts(program, db, summary):
+    """Why a start on the full disk doesn't serve, or a clean end there isn't refused after its reply, or None."""
+    with Server(program, db) as server:
+        found = asked(server, [b"GET /t/a"])
+    if found != [summary]:
+        return f"a start on the full disk serves {found}"
+    # a clean end copies the log into the file
+    found = run_to_end(program, "script", "--db", str(db), data=b"GET /t/a\n")
+    return None if found == (1, summary + b"\n", STORE_FAULT) else f"a clean end on the full disk: {found}"
 
 
 def at_full_disk(program, folder):
-    """Nothing but changes is refused while the disk is full, and they are accepted once there is room. A start may need
-    room: it is refused, or it serves."""
+    """Nothing but changes is refused while the disk is full, and they are accepted once there is room. A start with the
+    log of before needs none; a clean end does, and without it the files still have everything."""
     db, ballast = pathlib.Path(folder, "t.db"), [pathlib.Path(folder, f"ballast-{it}") for it in range(2)]
     for it in ballast:
         it.write_bytes(bytes(1 << 19))
@@ -70,7 +70,7 @@ def at_full_disk(program, folder):
             return f"with room again import {more + 1} is answered {reply!r}"
         server.stop()
     take_the_rest(folder / "rest")
-    if why := a_start(program, db, map_cases.summary(more, more)):
+    if why := starts(program, db, map_cases.summary(more, more)):
         return why
     for it in (ballast[1], folder / "rest"):
         it.unlink()
