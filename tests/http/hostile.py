@@ -5,14 +5,15 @@ import threading
 import time
 
 import map_cases
-from expected import TOP
+import pool_cases
 from replies import BAD, made, there
 from served import Server, asked, message, replies_on, reset
 
 # what a client may take: for one read or write, and for a message with its reply; and what a busy machine adds
 WAIT, WHOLE, SLACK = 5, 30, 10
 CLIENTS, MANY = 50, 9_000
-CLUSTER = map_cases.import_of((TOP / "examples" / "cluster.txt").read_text())
+# the text of this map is a reply of some 60 kB
+IMPORT = map_cases.import_of(pool_cases.with_devices(1000))
 
 
 def goes_on(server, within=SLACK):
@@ -59,8 +60,8 @@ def a_byte_a_second(server):
 
 
 def never_reads(server):
-    """Replies of some megabytes that nobody reads: a write fails after five seconds, and so does the connection."""
-    asked(server, [b"PUT /t/a", CLUSTER])
+    """Replies of many megabytes that nobody reads: a write that moves nothing for five seconds ends the connection."""
+    asked(server, [b"PUT /t/a", IMPORT])
     connection = server.connect(room=4096)
     connection.setblocking(False)
     try:
@@ -72,7 +73,7 @@ def never_reads(server):
 
 def reads_a_little(server):
     """The client reads eight kilobytes a second of many megabytes: no write waits for long, but all of them do for more than 30 seconds."""
-    asked(server, [b"PUT /t/a", CLUSTER])
+    asked(server, [b"PUT /t/a", IMPORT])
     connection, ends = server.connect(room=4096), threading.Event()
     connection.setblocking(False)
 
