@@ -7,8 +7,8 @@ use Rattle.lru.proofs.Pairs.{slice_get-cut}
 use Rattle.crush_pool.specs.declared.placing.Placement.{Placement}
 use Rattle.crush_cache.specs.Contents.{Content, content_eq}
 use Rattle.crush_cache.specs.Laws.{content_decides}
-use Rattle.crush_cache.specs.Caches.{AreNumbered, IsNumberOf, IsPlacementOf, Numbered, WasNumberOf}
-use Rattle.crush_cache.specs.Entries.{AreRight, IsPlacementIn}
+use Rattle.crush_cache.specs.Caches.{IsNumberOf, Numbered, WasNumberOf}
+use Rattle.crush_cache.specs.Private.Entries.{AreNumbered, AreRight, IsPlacementIn, IsPlacementOf}
 use Rattle.crush_cache.specs.declared.entries.Key.{Key}
 
 -- an element keeps its place where the list gets longer
@@ -80,5 +80,6 @@ placement_is of k entries key v c right at n =
     let it = right (key, v) at in
     subst (λ d. IsPlacementOf d key.group (of v)) (some_one it.0 c (sym it.1.1 ∙ n.1)) it.2
 
-pub right_new : (k : Numbered) (key other : Key) (p q : Placement) (c : Content) → other ≡ key → q ≡ p → IsNumberOf k key.number c → IsPlacementOf c key.group p → IsPlacementIn k other.number other.group q
-right_new k key other p q c same shared n placed = subst (λ j. IsPlacementIn k j.number j.group q) (sym same) (c, n, subst (λ r. IsPlacementOf c key.group r) (sym shared) placed)
+pub right_new : (k : Numbered) (key other : Key) (p q : Placement) → other ≡ key → q ≡ p → IsPlacementIn k key.number key.group p → IsPlacementIn k other.number other.group q
+right_new k key other p q same shared placed =
+    subst (λ j. IsPlacementIn k j.number j.group q) (sym same) (subst (λ r. IsPlacementIn k key.number key.group r) (sym shared) placed)

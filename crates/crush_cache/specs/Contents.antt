@@ -4,6 +4,8 @@ use Rattle.std.specs.Cmp.Lexicographic.{pointwise}
 use Rattle.std.specs.Hash as fed
 use Rattle.std.specs.Str.{bytes_eq}
 use mathlib.Core.Bool.{beq}
+use Rattle.crush_writing.specs.Canonical.{canonical}
+use Rattle.crush_pool.specs.Placers.{PoolOnMap}
 use Rattle.crush_pool.specs.declared.pool.PoolParts.{PoolParts}
 use Rattle.crush_pool.specs.declared.states.DeviceState.{DeviceState}
 use Rattle.crush_cache.specs.Hashes.{joined_hash, states_hash, text_hash}
@@ -13,6 +15,10 @@ pub record Content : Type 0 where
   pub text : List ℕ
   pub states : List DeviceState
   pub pool : PoolParts
+
+-- the content of a pool on a map, with states of devices
+abbrev pub content_of : PoolOnMap → Content
+content_of p = record { text = canonical p.map; states = p.states; pool = p.pool }
 
 -- ---- when they are equal: where all that they have is
 

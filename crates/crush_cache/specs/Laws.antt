@@ -1,5 +1,5 @@
 -- What `Eq` and `Hash` of a content owe: contents are equal exactly where all that they have is.
-use Rattle.std.specs.Prelude.{◌≡◌, ◌≢◌, Bool, true, false, refl}
+use Rattle.std.specs.Prelude.{◌≡◌, ◌≢◌, true, false, refl}
 use Rattle.std.proofs.Common.{ap}
 use Rattle.std.proofs.lemmas.Bool.Decides.{Decides-and, Decides-like}
 use Rattle.std.specs.Bool.{Decides}

@@ -2,4 +2,4 @@ pub mod Hashes
 pub mod Contents
 pub mod Laws
 pub mod Caches
-pub mod Entries
+pub mod Private

@@ -1,9 +1,10 @@
 //! The cache.
 
-ghost use Rattle.std.specs.Prelude.{◌≡◌, ◌+◌, ◌<◌, [], ℕ, Some, IfOk, IfErr, IfSome, is_ok, length, nat_lt, position};
+ghost use Rattle.std.specs.Prelude.{◌≡◌, ◌+◌, ◌<◌, [], ℕ, Some, IfOk, IfErr, IfSome, is_ok, length, nat_le, nat_lt, position};
 ghost use Rattle.crush_pool.specs.Placements.{placement};
-ghost use Rattle.crush_cache.specs.Caches.{IsContentOf, IsNumberOf, IsPlacementOf, KeepsNumbers, WasNumberOf};
-ghost use Rattle.crush_cache.specs.Contents.{content_eq};
+ghost use Rattle.crush_cache.specs.Caches.{IsNumberOf, KeepsNumbers, WasNumberOf};
+ghost use Rattle.crush_cache.specs.Contents.{Content, content_eq, content_of};
+ghost use Rattle.crush_cache.specs.Private.Entries.{IsPlacementIn, IsPlacementOf};
 ghost use Rattle.crush_cache.specs.declared.limits.TheConstants.{CONTENT_LIMIT};
 
 use crate::content::Content;
@@ -32,8 +33,8 @@ pub struct PlacementCache {
 }
 
 impl Model for PlacementCache {
-    ghost use Rattle.crush_cache.specs.Caches.{Numbered, AreNumbered};
-    ghost use Rattle.crush_cache.specs.Entries.{AreRight};
+    ghost use Rattle.crush_cache.specs.Caches.{Numbered};
+    ghost use Rattle.crush_cache.specs.Private.Entries.{AreNumbered, AreRight};
 
     ghost Value = { Numbered };
 
@@ -51,7 +52,7 @@ fn place_of(contents: &[Content], content: &Content) -> Option<usize>
 }
 
 /// The placement of a group, which is made anew.
-fn placed(
+fn place_anew(
     alloc: Global,
     placer: &Placer<'_>,
     group: u32,
@@ -121,7 +122,7 @@ impl PlacementCache {
     pub fn number_of(&mut self, content: &Content) -> Option<u64>
         ensures number { IfSome result (λ n. IsNumberOf self.new n content.now) }
         ensures kept { KeepsNumbers self.old self.new }
-        ensures there { (i : ℕ) → position (λ c. content_eq c content.now) self.old.contents ≡ Some i → (result ≡ Some (self.old.first + i)) × (self.new ≡ self.old) }
+        ensures found { (i : ℕ) → position (λ c. content_eq c content.now) self.old.contents ≡ Some i → (result ≡ Some (self.old.first + i)) × (self.new ≡ self.old) }
     {
         match place_of(self.contents.as_slice(), content) {
             Some(place) => Some(self.first + place as u64),
@@ -132,62 +133,63 @@ impl PlacementCache {
         }
     }
 
-    /// The placement of a group of a content that is there, if it is kept.
-    fn kept(&mut self, number: u64, content: &Content, group: u32) -> Option<Rc<Placement>>
-        requires { IsNumberOf self.old number content.now }
-        ensures placed { IfSome result (λ p. IsPlacementOf content.now group p.value) }
+    /// Whether the content with a number that was given is still there.
+    pub fn has(&self, number: u64) -> bool
+        ensures { result ≡ nat_le self.now.first number }
+    {
+        self.first <= number
+    }
+
+    /// The placement that is kept of a group of the content with a number, if there is one.
+    fn kept(&mut self, number: u64, group: u32) -> Option<Rc<Placement>>
+        ensures placed { IfSome result (λ p. (c : Content) → IsNumberOf self.old number c → IsPlacementOf c group p.value) }
         ensures same { self.new ≡ self.old }
     {
         recall(&mut self.entries, Key { number, group })
     }
 
-    /// Keeps the placement of a group of a content that is there, where there is memory for it.
-    fn remember(&mut self, number: u64, content: &Content, group: u32, placement: Rc<Placement>)
-        requires number { IsNumberOf self.old number content.now }
-        requires placed { IsPlacementOf content.now group placement.value }
+    /// Keeps the placement of a group of the content with a number, where there is memory for it.
+    fn remember(&mut self, number: u64, group: u32, placement: Rc<Placement>)
+        requires { IsPlacementIn self.old number group placement.value }
         ensures { self.new ≡ self.old }
     {
         keep(&mut self.entries, Key { number, group }, placement);
     }
 
-    /// The placement of a group of a content that is there, which is made anew, and kept where
-    /// there is memory for it.
-    fn place_anew(
+    /// The placement of a group, which is made anew, and kept where there is memory for it. The
+    /// number is that of the content.
+    fn place_and_keep(
         &mut self,
         number: u64,
         placer: &Placer<'_>,
-        content: &Content,
         group: u32,
     ) -> Result<Result<Rc<Placement>, PoolFault>, AllocError>
-        requires number { IsNumberOf self.old number content.now }
-        requires content { IsContentOf content.now placer.now }
+        requires { IsNumberOf self.old number (content_of placer.now) }
         ensures there { IfOk result (λ answer. is_ok answer ≡ nat_lt group placer.now.pool.pg_num) }
         ensures placed { IfOk result (λ answer. IfOk answer (λ p. placement placer.now.map placer.now.states placer.now.pool group ≡ Some p.value)) }
         ensures fault { IfOk result (λ answer. IfErr answer (λ fault. fault ≡ PoolFault.P2)) }
         ensures same { self.new ≡ self.old }
     {
-        // a placement of this map is one of each map with its text, since that is this map alone
+        // a placement by this map is one by each map with its text, since that is this map alone
         canonical_texts_are_read();
         let _tunables = placer.map().tunables();
-        let answer = placed(self.alloc, placer, group)?;
+        let answer = place_anew(self.alloc, placer, group)?;
         if let Ok(placement) = &answer {
             if let Ok(again) = placement.clone() {
-                self.remember(number, content, group, again);
+                self.remember(number, group, again);
             }
         }
         Ok(answer)
     }
 
-    /// The placement of a group of a content that is there.
+    /// The placement of a group, which is kept, or made anew. The number is that of the content.
     fn place_numbered(
         &mut self,
         number: u64,
         placer: &Placer<'_>,
-        content: &Content,
         group: u32,
     ) -> Result<Result<Rc<Placement>, PoolFault>, AllocError>
-        requires number { IsNumberOf self.old number content.now }
-        requires content { IsContentOf content.now placer.now }
+        requires { IsNumberOf self.old number (content_of placer.now) }
         ensures there { IfOk result (λ answer. is_ok answer ≡ nat_lt group placer.now.pool.pg_num) }
         ensures placed { IfOk result (λ answer. IfOk answer (λ p. placement placer.now.map placer.now.states placer.now.pool group ≡ Some p.value)) }
         ensures fault { IfOk result (λ answer. IfErr answer (λ fault. fault ≡ PoolFault.P2)) }
@@ -198,15 +200,15 @@ impl PlacementCache {
         if group >= placer.pool().parts().pg_num {
             return Ok(Err(PoolFault::P2));
         }
-        match self.kept(number, content, group) {
+        match self.kept(number, group) {
             Some(placement) => Ok(Ok(placement)),
-            None => self.place_anew(number, placer, content, group),
+            None => self.place_and_keep(number, placer, group),
         }
     }
 
     /// The placement of a group of a pool on a map, or `P2` where the pool has no such group: what
     /// `crush_pool::place` answers, whatever the cache held, and whether or not there is memory or
-    /// a number left to keep it. The content is that of the map, the states and the pool.
+    /// a number left to keep it. The content is that of the placer.
     ///
     /// `Err(AllocError)`: an allocation for the placement itself failed.
     pub fn place(
@@ -215,37 +217,37 @@ impl PlacementCache {
         content: &Content,
         group: u32,
     ) -> Result<Result<Rc<Placement>, PoolFault>, AllocError>
-        requires { IsContentOf content.now placer.now }
+        requires { content.now ≡ content_of placer.now }
         ensures there { IfOk result (λ answer. is_ok answer ≡ nat_lt group placer.now.pool.pg_num) }
         ensures placed { IfOk result (λ answer. IfOk answer (λ p. placement placer.now.map placer.now.states placer.now.pool group ≡ Some p.value)) }
         ensures fault { IfOk result (λ answer. IfErr answer (λ fault. fault ≡ PoolFault.P2)) }
         ensures kept { KeepsNumbers self.old self.new }
     {
         match self.number_of(content) {
-            Some(number) => self.place_numbered(number, placer, content, group),
-            None => placed(self.alloc, placer, group),
+            Some(number) => self.place_numbered(number, placer, group),
+            None => place_anew(self.alloc, placer, group),
         }
     }
 
-    /// The same, for a content that was given a number by this cache. Where the content is still
-    /// there, it isn't looked at, and a placement that is kept is answered without an allocation.
+    /// The same, by the number that this cache gave to the content of the placer, which isn't
+    /// looked at: where the placement is kept, nothing is allocated. Where the content isn't there
+    /// any more, the placement is made anew, and not kept.
     pub fn place_known(
         &mut self,
         number: u64,
         placer: &Placer<'_>,
-        content: &Content,
         group: u32,
     ) -> Result<Result<Rc<Placement>, PoolFault>, AllocError>
-        requires number { WasNumberOf self.old number content.now }
-        requires content { IsContentOf content.now placer.now }
+        requires { WasNumberOf self.old number (content_of placer.now) }
         ensures there { IfOk result (λ answer. is_ok answer ≡ nat_lt group placer.now.pool.pg_num) }
         ensures placed { IfOk result (λ answer. IfOk answer (λ p. placement placer.now.map placer.now.states placer.now.pool group ≡ Some p.value)) }
         ensures fault { IfOk result (λ answer. IfErr answer (λ fault. fault ≡ PoolFault.P2)) }
-        ensures kept { KeepsNumbers self.old self.new }
+        ensures same { self.new ≡ self.old }
     {
-        if number < self.first {
-            return self.place(placer, content, group);
+        if self.has(number) {
+            self.place_numbered(number, placer, group)
+        } else {
+            place_anew(self.alloc, placer, group)
         }
-        self.place_numbered(number, placer, content, group)
     }
 }

@@ -12,7 +12,7 @@ returns-in-Some-clause-number c =
 pub returns-in-None-clause-kept : goal.returns-in-None-clause-kept
 returns-in-None-clause-kept c = λ n p h. c.add.ensures.kept n p (c.make_room.ensures.kept n p h)
 
-pub returns-in-None-clause-there : goal.returns-in-None-clause-there
-returns-in-None-clause-there c = λ i h.
+pub returns-in-None-clause-found : goal.returns-in-None-clause-found
+returns-in-None-clause-found c = λ i h.
     let contents : c.as_slice.result.now ≡ c.args.self.now.contents = c.as_slice.ensures.value ∙ ap (λ k. k.contents) c.self.view_is in
     never i (sym c.in-None.is ∙ (c.place_of.ensures ∙ (ap (position (λ d. content_eq d c.args.content.now)) contents ∙ h)))
