@@ -37,6 +37,11 @@ number_of-found k first place p e h =
     let at : place ≡ first + place - k.first = omega (arith, e) in
     (omega (arith, e), subst (λ i. slice_get k.contents i ≡ Some p) at (found_content k.contents p place h))
 
+pub was_number : (k : Numbered) (n : ℕ) (c : Content) → IsNumberOf k n c → WasNumberOf k n c
+was_number k n c h =
+    let within : n - k.first < length k.contents = slice_get_within k.contents (n - k.first) c h.1 in
+    (omega (arith, within, h.0), λ _. h.1)
+
 -- ---- one more content
 
 abbrev numbered : ℕ → List Content → Numbered

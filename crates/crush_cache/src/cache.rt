@@ -121,6 +121,7 @@ impl PlacementCache {
     /// an allocation failed.
     pub fn number_of(&mut self, content: &Content) -> Option<u64>
         ensures number { IfSome result (λ n. IsNumberOf self.new n content.now) }
+        ensures given { IfSome result (λ n. WasNumberOf self.new n content.now) }
         ensures kept { KeepsNumbers self.old self.new }
         ensures found { (i : ℕ) → position (λ c. content_eq c content.now) self.old.contents ≡ Some i → (result ≡ Some (self.old.first + i)) × (self.new ≡ self.old) }
     {
