@@ -3,6 +3,7 @@
 ghost use Rattle.std.specs.Prelude.{◌≡◌, IfOk};
 ghost use Rattle.crush_writing.specs.Canonical.{canonical};
 ghost use Rattle.crush_cache.specs.Caches.{KeepsNumbers, WasNumberOf};
+ghost use Rattle.crush_cache.specs.Contents.{content_of};
 
 use crush_bucket::Tables;
 use crush_cache::{Content, PlacementCache, SharedStates, SharedText};
@@ -151,6 +152,31 @@ fn number_of(rt: &impl Abort, cache: &mut PlacementCache, content: &Content) -> 
     }
 }
 
+/// Asks a cache for the placement of a group of a placer, whose content this is.
+fn answer_of(
+    rt: &impl Abort,
+    alloc: Global,
+    cache: &mut PlacementCache,
+    placer: &Placer<'_>,
+    content: &Content,
+    group: u32,
+    how: How,
+) -> Result<Answer, Fail>
+    requires { content.now ≡ content_of placer.now }
+{
+    match how {
+        How::ByContent => {
+            let answer = cache.place(placer, content, group)?;
+            Ok((answer, number_of(rt, cache, content)))
+        }
+        How::ByNumber(others) => {
+            let number = number_of(rt, cache, content);
+            give_numbers(rt, alloc, cache, others)?;
+            Ok((cache.place_known(number, placer, group)?, number))
+        }
+    }
+}
+
 /// Asks a cache for the placement of a group. All that is needed is made anew each time.
 pub(crate) fn ask(
     rt: &impl Abort,
@@ -166,20 +192,11 @@ pub(crate) fn ask(
     let weights = Weights::of(alloc, &reweights_of(alloc, states.as_slice())?)?;
     let flags = DeviceStates::build(alloc, states.as_slice())?;
     let pool = Rc::new(alloc, pool_of(rt, alloc, asked)?)?;
-    let content = Content::new(text_of(rt, alloc, &map)?, states.share()?, pool.clone()?);
-    let Some(placer) = Placer::new(&map, &tables, states.as_slice(), &weights, &flags, &pool) else {
-        return rt.abort();
-    };
-    match how {
-        How::ByContent => {
-            let answer = cache.place(&placer, &content, group)?;
-            Ok((answer, number_of(rt, cache, &content)))
-        }
-        How::ByNumber(others) => {
-            let number = number_of(rt, cache, &content);
-            give_numbers(rt, alloc, cache, others)?;
-            Ok((cache.place_known(number, &placer, group)?, number))
-        }
+    let text = text_of(rt, alloc, &map)?;
+    let content = Content::new(text, states.share()?, pool.clone()?);
+    match Placer::new(&map, &tables, states.as_slice(), &weights, &flags, &pool) {
+        Some(placer) => answer_of(rt, alloc, cache, &placer, &content, group, how),
+        None => rt.abort(),
     }
 }
 

@@ -37,9 +37,9 @@ fn a_cache_for_one_placement_keeps_the_last(rt: HostRuntime) -> Result<(), Fail>
     let last = ask(&rt, alloc, &mut cache, &FIRST, 3, How::ByNumber(0))?;
     assert!(rt; !is_one(&rt, &first, &again));
     assert!(rt; is_one(&rt, &again, &last));
-    for answer in [first, again, last] {
-        assert_placed(&rt, &answer, 4, 0, true);
-    }
+    assert_placed(&rt, &first, 4, 0, true);
+    assert_placed(&rt, &again, 4, 0, true);
+    assert_placed(&rt, &last, 4, 0, true);
     assert_placed(&rt, &other, 5, 0, true);
     Ok(())
 }

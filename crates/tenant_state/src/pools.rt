@@ -76,6 +76,16 @@ impl Pools {
         }
     }
 
+    /// The same, to be shared.
+    pub fn get_shared(&self, id: u64) -> Option<&Rc<Pool>>
+        ensures { option_map (λ p. p.now.value) result ≡ find (λ p. p.id == id) self.now }
+    {
+        match place_with(&self.pools, id) {
+            Some(place) => Some(&self.pools[place]),
+            None => None,
+        }
+    }
+
     /// A copy that shares the pools. `Err(AllocError)`: an allocation failed; nothing is changed.
     pub fn copy(&self) -> Result<Self, AllocError>
         ensures { IfOk result (λ again. again ≡ self.now) }
