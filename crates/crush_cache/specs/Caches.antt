@@ -2,7 +2,7 @@
 use Rattle.std.specs.Prelude.{◌≡◌, ℕ, ◌+◌, ◌-◌, ◌<◌, ◌≤◌, List, length, slice_get, Some}
 use Rattle.crush_cache.specs.Contents.{Content}
 
--- the contents that are there: the first has the number `first`, the next the next number, and so on
+-- the contents that are there: the first has the number `first`, the next the next number
 pub record Numbered : Type 0 where
   pub first : ℕ
   pub contents : List Content
