@@ -227,7 +227,10 @@ pub(crate) fn assert_placed(rt: &impl Abort, answer: &Answer, seed: u32, device:
     let Ok(placement) = &answer.0 else {
         return rt.abort();
     };
-    let slot: Slot = Some(ItemId(device as i32));
+    let Ok(id) = i32::try_from(device) else {
+        return rt.abort();
+    };
+    let slot: Slot = Some(ItemId(id));
     assert_eq!(rt; placement.seed, seed);
     assert_eq!(rt; placement.raw.as_slice(), [slot].as_slice());
     if is_up {
