@@ -5,6 +5,7 @@ PREFIX = /usr/local
 CRATES =
 SCRIPT = examples/first.script
 CASES =
+PORT = 8080
 SOURCES = $(shell find crates -name out -prune -o \( -name '*.rt' -o -name '*.antt' \) -print)
 
 build: crushcalc
@@ -24,9 +25,10 @@ help:
 	@echo 'make ceph-check   compares 176,000 mappings by requests, 154,000 with reweights and 93 name hashes with those of Ceph'"'"'s own library,'
 	@echo '               74,592 placements of groups with those of its osdmaptool, impacts with what its crushtool moves, and map texts with its crushtool'
 	@echo 'make sqlite-check   compares database files with those of the tool sqlite3, both ways'
+	@echo 'make http-check   compares replies of the server with those of scripts, by curl, nginx and other clients'
 	@echo 'make bench     builds and measures; beside Ceph'"'"'s own library where that is installed'
 	@echo 'make bench-deps   installs what the comparisons with Ceph need (Debian: librados2, ceph-base, gcc)'
-	@echo 'make serve     the server (not built yet)'
+	@echo 'make serve     builds, and serves HTTP on 127.0.0.1:8080, or PORT=N, with the tenants in build/tenants.db'
 	@echo 'make clean     removes what was built, the finished proofs too'
 
 # rt is itself a python3 program; make test needs a C compiler for tests/refuse.c, and the comparisons with Ceph need gcc
@@ -101,8 +103,9 @@ install: build
 	@install -d '$(DESTDIR)$(PREFIX)/bin'
 	@install -m 755 crushcalc '$(DESTDIR)$(PREFIX)/bin/crushcalc'
 
-serve:
-	@echo "The server isn't built yet: crushcalc has the commands 'script' and 'check' only." >&2; exit 1
+serve: build
+	@mkdir -p build
+	@./crushcalc serve --db build/tenants.db --port $(PORT)
 
 ceph-check: build build/crush_bench bench-deps
 	@python3 tests/ceph/check_names
@@ -114,6 +117,12 @@ ceph-check: build build/crush_bench bench-deps
 sqlite-check: build
 	@command -v sqlite3 >/dev/null || { echo 'Installing sqlite3: apt-get install -y sqlite3'; apt-get update && apt-get install -y sqlite3; }
 	@python3 tests/with_sqlite3 ./crushcalc
+
+http-check: build
+	@{ command -v curl && command -v nginx && command -v openssl && command -v ab && command -v mkfs.btrfs; } >/dev/null || { \
+	  echo 'Installing curl, nginx, openssl, ab and mkfs.btrfs: apt-get install -y curl nginx openssl apache2-utils btrfs-progs'; \
+	  apt-get update && apt-get install -y curl nginx openssl apache2-utils btrfs-progs; }
+	@python3 tests/http/check ./crushcalc
 
 bench: build build/crush_bench
 	@sh bench/all
@@ -130,4 +139,4 @@ clean:
 	@echo 'Removing ./crushcalc, build/ and crates/*/out; the next build proves everything anew.'
 	@rm -rf crushcalc build crates/*/out
 
-.PHONY: build help tools try cases run test gate wrong form install serve ceph-check sqlite-check bench bench-deps clean
+.PHONY: build help tools try cases run test gate wrong form install serve ceph-check sqlite-check http-check bench bench-deps clean

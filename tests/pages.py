@@ -33,7 +33,7 @@ LINK = re.compile(r"\[[^\]]*\]\(([^)\s]*)\)")
 CONST = re.compile(r"^pub const (\w+): \w+ = (-?[\d_]+);$")
 LIMITED = re.compile(r"^\|[^|]*\| (-?[\d,]+) \| `(\w+)` \| `(\w+)` \|$")
 LIMITS = "docs/REQUESTS.md"
-HELP = "crates/crushcalc/src/main.rt"
+HELP = "crates/crushcalc/src/arguments.rt"
 # the code of a fault: the crate and the const of its limit, and the number that its line of the help has
 HELPED = {
     "X7": ("crush_text", "TEXT_LIMIT", lambda limit: f"{limit:,}"),

@@ -19,3 +19,4 @@ pub use memory_store::MemoryStore;
 pub use on_store::script_on_store;
 pub use play::{ScriptEnd, script_run};
 pub use service::Service;
+pub use wire::{shown_body, write_whole};

@@ -10,8 +10,8 @@ use std::io::Write;
 use tenant_messages::Reply;
 
 /// Writes the bytes and returns whether all were written: it ends at the first error, or where a
-/// write accepts no byte. Allocates nothing.
-pub(crate) fn write_whole<W: Write>(writer: &mut W, bytes: &[u8]) -> bool
+/// write accepts no byte. Without bytes the writer isn't called. Allocates nothing.
+pub fn write_whole<W: Write>(writer: &mut W, bytes: &[u8]) -> bool
     ensures whole { IsTrue result → Appends (W.contents writer.old) (W.contents writer.new) bytes.now }
     ensures part { IsFalse result → AppendsPart (W.contents writer.old) (W.contents writer.new) bytes.now }
 {
@@ -36,9 +36,9 @@ fn write_both<W: Write>(writer: &mut W, first: &[u8], second: &[u8]) -> bool
     write_whole(writer, second)
 }
 
-/// Returns the body as it is written. A reply for a failed allocation has an empty body, and its
-/// text stands here.
-fn shown_body(body: &str) -> &[u8]
+/// Returns the body of a reply as it is written. A reply for a failed allocation has an empty body,
+/// and its text stands here. Allocates nothing.
+pub fn shown_body(body: &str) -> &[u8]
     ensures { result.now ≡ spec.shown_body body.now }
 {
     if body.is_empty() {

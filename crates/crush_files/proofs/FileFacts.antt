@@ -10,7 +10,7 @@ use Rattle.sqlite.specs.Files.{file_state}
 use Rattle.sqlite.specs.Held.{Held}
 use Rattle.tenant_core.specs.States.{States, Same}
 use Rattle.tenant_rows.specs.Rows.{StandsFor}
-use Rattle.tenant_tables.specs.Run.{IsReady}
+use Rattle.table_schema.specs.Ready.{IsReady}
 use Rattle.crush_app.specs.Play.{Plays, PlaysUpTo, WritesHeadline}
 use Rattle.crush_app.specs.Script.{OfScript, messages}
 use Rattle.crush_app.proofs.Inputs.{of_script}

@@ -11,7 +11,7 @@ use Rattle.tenant_messages.specs.declared.call.Call.{Call}
 use Rattle.tenant_messages.specs.declared.reply.Reply.{Reply}
 use Rattle.tenant_rows.specs.Rows.{StandsFor}
 use Rattle.tenant_state.specs.State.{TenantState}
-use Rattle.tenant_tables.specs.Layout.{no_schema, store_schema}
+use Rattle.table_schema.specs.Layout.{no_schema, store_schema}
 use Rattle.crush_app.specs.Play.{Plays, PlaysUpTo, WritesHeadline}
 use Rattle.crush_files.specs.Stored.{StatesIn}
 
@@ -20,7 +20,7 @@ use Rattle.crush_files.specs.Stored.{StatesIn}
 damaged_too : (a b : States) → Same a b → (t : List ℕ) → IsDamaged b t → IsDamaged a t
 damaged_too a b same t damaged s has = damaged s ((same t s).0 has)
 
-meets_same : (latched : Bool) (a b c d : States) (calls : List Call) (replies : List Reply) → Same a b → (latched ≡ false → Same c d)
+pub meets_same : (latched : Bool) (a b c d : States) (calls : List Call) (replies : List Reply) → Same a b → (latched ≡ false → Same c d)
     → MeetsDefinition latched a c calls replies → MeetsDefinition latched b d calls replies
 meets_same latched a b c d calls replies before after meets = record {
   count = meets.count;

@@ -4,7 +4,7 @@ use Rattle.sqlite.specs.Effect.{Database}
 use Rattle.tenant_core.specs.States.{States}
 use Rattle.tenant_rows.specs.Rows.{StandsFor}
 use Rattle.tenant_state.specs.State.{TenantState}
-use Rattle.tenant_tables.specs.Layout.{no_schema, store_schema}
+use Rattle.table_schema.specs.Layout.{no_schema, store_schema}
 
 -- Each tenant is absent where there are no tables yet; else it has the state that its rows stand
 -- for.

@@ -1,6 +1,7 @@
-//! Scripts that are played over a database file.
+//! Database files: opening, closing, and scripts that are played over them.
 #![tactic(auto)]
 
+mod closing;
 mod fault;
 mod file;
 mod log;
@@ -8,6 +9,7 @@ mod on_files;
 mod on_tables;
 mod opening;
 
+pub use closing::close_files;
 pub use fault::FileFault;
 pub use file::script_on_file;
 pub use on_files::script_on_files;

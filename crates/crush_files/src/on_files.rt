@@ -1,6 +1,6 @@
 //! Scripts that are played over an opened database file, which is then closed.
 
-ghost use Rattle.std.specs.Prelude.{◌≡◌, ◌≢◌, ◌≤◌, ◌<◌, ◌+◌, true, false, length, Ok, IfOk, IfSome};
+ghost use Rattle.std.specs.Prelude.{◌≡◌, ◌≢◌, ◌≤◌, ◌<◌, ◌+◌, true, false, length, Ok, IfOk, IfErr, IfSome};
 ghost use Rattle.std.specs.Io.KnownBytes.{Keeps as KeepsBytes};
 ghost use Rattle.crush_app.specs.Input.{DropsFirst};
 ghost use Rattle.crush_app.specs.End.{ServesLines, ServesNone, ReadsInput};
@@ -16,25 +16,27 @@ ghost use Rattle.sqlite_wal.specs.Reads.{AreClean};
 ghost use Rattle.tenant_rows.specs.Rows.{StandsFor};
 ghost use Rattle.crush_files.specs.Stored.{StatesIn};
 
-use crate::fault::{FileFault, fault_of};
+use crate::closing::close_files;
+use crate::fault::FileFault;
 use crate::on_tables::script_on_tables;
 use crush_app::ScriptEnd;
-use sqlite::{Connection, FileStore};
+use sqlite::FileStore;
 use sqlite_disk::{Disk, Files};
 use std::alloc::{AllocError, Global};
 use std::io::{Read, Write};
 use tenant_store::Store;
 
-/// Copies the log into the database file, and closes both.
-fn close<D: Disk + Drop>(conn: Connection<FileStore<D>>) -> Result<Files<D>, FileFault>
-    ensures { IfOk result (λ files. AreClean D.Disk files.log files.db → IsCopied conn files) }
+/// The end of a script, where its file may be closed.
+///
+/// `Err(FileFault::Store)`: the store failed for good.
+fn closable(end: ScriptEnd) -> Result<ScriptEnd, FileFault>
+    ensures same { IfOk result (λ same. same ≡ end) }
+    ensures works { IfOk result (λ same. same ≢ ScriptEnd.Latched) }
+    ensures fault { IfErr result (λ fault. fault ≡ FileFault.Store) }
 {
-    match conn.close_files() {
-        Ok(files) => Ok(files),
-        Err((error, store)) => {
-            drop(store.close());
-            Err(fault_of(error))
-        }
+    match end {
+        ScriptEnd::Latched => Err(FileFault::Store),
+        _ => Ok(end),
     }
 }
 
@@ -88,9 +90,7 @@ pub fn script_on_files<D: Disk + Drop, R: Read, W: Write>(
         Ok(played) => played,
         Err(AllocError) => return Err(FileFault::NoMemory),
     };
-    if end == ScriptEnd::Latched {
-        return Err(FileFault::Store);
-    }
-    let files = close(conn)?;
+    let end = closable(end)?;
+    let files = close_files(conn)?;
     Ok((end, files))
 }

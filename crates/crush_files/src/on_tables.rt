@@ -11,7 +11,7 @@ ghost use Rattle.crush_app.specs.declared.limits.TheConstants.{SCRIPT_LIMIT};
 ghost use Rattle.crush_app.specs.Script.{messages, OfScript};
 ghost use Rattle.tenant_rows.specs.Rows.{StandsFor};
 ghost use Rattle.tenant_store.specs.Shown.{IsHonest};
-ghost use Rattle.tenant_tables.specs.Run.{IsReady};
+ghost use Rattle.table_schema.specs.Ready.{IsReady};
 
 use crush_app::{ScriptEnd, script_on_store};
 use sqlite::{Alter, Connection};

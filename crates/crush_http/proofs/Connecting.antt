@@ -1,26 +1,27 @@
 -- A connection goes on, message by message.
-use Rattle.std.proofs.Common.{◌≡◌, ℕ, ◌-◌, ◌==◌, ◌||◌, Bool, true, false, List, [], ◌∷◌, ◌++◌, length, take, drop, Option, Some, None, IfSome, refl, ap, sym, ◌∙◌, arith, append_assoc, subst, length-append, length-take, ◌≤◌, ◌<◌}
+use Rattle.std.proofs.Common.{◌≡◌, ℕ, ◌-◌, ◌==◌, ◌||◌, ◌⊎◌, inl, inr, Bool, true, false, List, [], ◌∷◌, ◌++◌, length, take, drop, Option, Some, None, IfSome, refl, ap, sym, ◌∙◌, arith, append_assoc, subst, length-append, length-take, ◌≤◌, ◌<◌}
 use Rattle.std.proofs.lemmas.Bool.Decides.{nat_tests}
 use Rattle.std.proofs.lemmas.List.{append-nil, map-append}
 use Rattle.std.specs.Io.KnownBytes.{Appends, Consumes, IsAtEnd}
 use Rattle.tenant_messages.specs.declared.call.Call.{Call}
 use Rattle.tenant_messages.specs.declared.reply.Reply.{Reply}
 use Rattle.crush_app.specs.Input.{OfInput}
-use Rattle.crush_app.specs.Play.{AppendsPart}
-use Rattle.crush_app.proofs.Writing.{appends_both, appends_none}
+use Rattle.crush_app.specs.Play.{AppendsPart, AppendsUpTo}
+use Rattle.crush_app.proofs.Writing.{appends_none}
 use Rattle.crush_http.specs.Head.{HeadAt}
 use Rattle.crush_http.specs.Headers.{bytes}
 use Rattle.crush_http.specs.Messages.{Message, MessageAt, message_of, calls_of, Stop, input_ended, refused, last_served, read_failed, write_failed, HasMessages, GoesOn, IsHalf, IsRejected}
-use Rattle.crush_http.specs.Serving.{CutsReply, CutsLast, Writes, ServesInput}
+use Rattle.crush_http.specs.Serving.{due, EndsAs, Writes, LeavesUnread, ServesInput}
 use Rattle.crush_http.specs.Wire.{output, reply_wire, rejection_wire}
 use Rattle.crush_http.specs.declared.connection.Ended.{Ended}
-use Rattle.crush_http.specs.declared.connection.Ended.TheVariants.{Closed, Bad, ReadFault, WriteFault}
+use Rattle.crush_http.specs.declared.connection.Ended.TheVariants.{WriteFault}
 use Rattle.crush_http.specs.declared.limits.TheConstants.{MESSAGE_LIMIT}
 use Rattle.crush_http.specs.declared.rejection.Rejection.{Rejection}
 use Rattle.crush_http.specs.declared.request.Request.{Request}
 use Rattle.crush_http.specs.Private.Reading.{ReadsOn, IsMessageOf, used, call_in}
-use Rattle.crush_http.specs.Private.Served.{ServesOne, ServesAtMostOne, EndsOn}
+use Rattle.crush_http.specs.Private.Served.{ServesOne, ServesAtMostOne, EndsOn, EndsHeld, EndsCut}
 use Rattle.crush_http.proofs.Finding.{MessageAt-append, rejected-append}
+use Rattle.crush_http.proofs.Holding.{up_to_on, part_on, up_to_written, part_written}
 use Rattle.crush_http.proofs.Streams.{consumes_none, consumes_both}
 
 -- ---- lists of messages, one behind the other
@@ -50,60 +51,32 @@ known_input None b read unread taken left = tt
 known_input (Some xs) None read unread taken left = absurd taken
 known_input (Some xs) (Some ys) read unread taken left = ap (λ zs. read ++ zs) (sym left) ∙ sym taken
 
--- ---- what was written goes on
+-- ---- what is due goes on
 
-cuts_after : (a b c : Option (List ℕ)) (xs ys all reply : List ℕ) → xs ++ ys ≡ all → Appends a b xs → CutsReply b c ys reply → CutsReply a c all reply
-cuts_after a b c xs ys all reply e first cut = record {
-  front = cut.front;
-  rest = cut.rest;
-  some = cut.some;
-  all = cut.all;
-  written = subst (Appends a c) (sym (append_assoc xs ys cut.front) ∙ ap (λ zs. zs ++ cut.front) e) (appends_both a b c xs (ys ++ cut.front) first cut.written);
-}
+due-append : (stop : Stop) (ms ns : List Message) (rs qs : List Reply) → length rs ≡ length ms → due stop (ms ++ ns) (rs ++ qs) ≡ output ms rs ++ due stop ns qs
+due-append input_ended ms ns rs qs count = output-append ms ns rs qs count
+due-append (refused reason) ms ns rs qs count = ap (λ l. l ++ rejection_wire reason) (output-append ms ns rs qs count) ∙ append_assoc (output ms rs) (output ns qs) (rejection_wire reason)
+due-append last_served ms ns rs qs count = output-append ms ns rs qs count
+due-append (read_failed unread) ms ns rs qs count = output-append ms ns rs qs count
+due-append write_failed ms ns rs qs count = output-append ms ns rs qs count
 
-cuts_last_after : (a b c : Option (List ℕ)) (ms ns : List Message) (rs qs : List Reply) → length rs ≡ length ms → Appends a b (output ms rs) → CutsLast b c ns qs → CutsLast a c (ms ++ ns) (rs ++ qs)
-cuts_last_after a b c ms ns rs qs count first cut = record {
-  before = ms ++ cut.before;
-  cut = cut.cut;
-  earlier = rs ++ cut.earlier;
-  reply = cut.reply;
-  count = omega (arith, length-append rs cut.earlier, length-append ms cut.before, count, cut.count);
-  all_messages = append_assoc ms cut.before (cut.cut ∷ []) ∙ ap (λ l. ms ++ l) cut.all_messages;
-  all_replies = append_assoc rs cut.earlier (cut.reply ∷ []) ∙ ap (λ l. rs ++ l) cut.all_replies;
-  written = cuts_after a b c (output ms rs) (output cut.before cut.earlier) _ _ (sym (output-append ms cut.before rs cut.earlier count)) first cut.written;
-}
+-- what was held is written at the end, or a part of it
+pub finished : (e end : Ended) (stop : Stop) (a b c d : Option (List ℕ)) (held now xs more : List ℕ) → AppendsUpTo held a b xs → EndsHeld e held now b c stop more
+    → ((end ≡ e) × Appends c d now) ⊎ ((end ≡ WriteFault) × AppendsPart c d now) → Writes end stop (xs ++ more) a d
+finished e end stop a b c d held now xs more first ends (inl whole) =
+    inl (subst (EndsAs stop) (sym whole.0) ends.0, up_to_written a c d now (xs ++ more) (up_to_on a b c held now xs more first ends.1) whole.1)
+finished e end stop a b c d held now xs more first ends (inr part) =
+    inr (part.0, part_written a c d now (xs ++ more) (up_to_on a b c held now xs more first ends.1) part.1)
 
-writes_after : (e : Ended) (stop : Stop) (a b c : Option (List ℕ)) (ms ns : List Message) (rs qs : List Reply) → length rs ≡ length ms → Appends a b (output ms rs) → Writes e stop ns qs b c
-    → Writes e stop (ms ++ ns) (rs ++ qs) a c
-writes_after Closed input_ended a b c ms ns rs qs count first rest = subst (Appends a c) (sym (output-append ms ns rs qs count)) (appends_both a b c (output ms rs) (output ns qs) first rest)
-writes_after Closed last_served a b c ms ns rs qs count first rest = subst (Appends a c) (sym (output-append ms ns rs qs count)) (appends_both a b c (output ms rs) (output ns qs) first rest)
-writes_after Closed (refused reason) a b c ms ns rs qs count first rest = absurd rest
-writes_after Closed (read_failed unread) a b c ms ns rs qs count first rest = absurd rest
-writes_after Closed write_failed a b c ms ns rs qs count first rest = absurd rest
-writes_after Bad input_ended a b c ms ns rs qs count first rest = absurd rest
-writes_after Bad last_served a b c ms ns rs qs count first rest = absurd rest
-writes_after Bad (refused reason) a b c ms ns rs qs count first rest =
-    subst (Appends a c) (sym (append_assoc (output ms rs) (output ns qs) (rejection_wire reason)) ∙ ap (λ l. l ++ rejection_wire reason) (sym (output-append ms ns rs qs count)))
-    (appends_both a b c (output ms rs) (output ns qs ++ rejection_wire reason) first rest)
-writes_after Bad (read_failed unread) a b c ms ns rs qs count first rest = absurd rest
-writes_after Bad write_failed a b c ms ns rs qs count first rest = absurd rest
-writes_after ReadFault input_ended a b c ms ns rs qs count first rest = absurd rest
-writes_after ReadFault last_served a b c ms ns rs qs count first rest = absurd rest
-writes_after ReadFault (refused reason) a b c ms ns rs qs count first rest = absurd rest
-writes_after ReadFault (read_failed unread) a b c ms ns rs qs count first rest =
-    subst (Appends a c) (sym (output-append ms ns rs qs count)) (appends_both a b c (output ms rs) (output ns qs) first rest)
-writes_after ReadFault write_failed a b c ms ns rs qs count first rest = absurd rest
-writes_after WriteFault input_ended a b c ms ns rs qs count first rest = absurd rest
-writes_after WriteFault last_served a b c ms ns rs qs count first rest = absurd rest
-writes_after WriteFault (refused reason) a b c ms ns rs qs count first rest = cuts_after a b c (output ms rs) (output ns qs) _ _ (sym (output-append ms ns rs qs count)) first rest
-writes_after WriteFault (read_failed unread) a b c ms ns rs qs count first rest = absurd rest
-writes_after WriteFault write_failed a b c ms ns rs qs count first rest = cuts_last_after a b c ms ns rs qs count first rest
+-- a write failed before
+pub cut : (end : Ended) (stop : Stop) (a b c : Option (List ℕ)) (held xs more : List ℕ) → AppendsUpTo held a b xs → EndsCut held b c stop more → end ≡ WriteFault → Writes end stop (xs ++ more) a c
+cut end stop a b c held xs more first ends e = inr (e, part_on a b c held xs more first ends)
 
 -- ---- the messages so far
 
 -- so far these messages were served, so that this is met by their calls and the replies, which were
--- written; whatever the rest has follows them
-pub record Reached (Meets : List Call → List Reply → Type 0) (most : ℕ) (buffer : List ℕ) (old new from to : Option (List ℕ)) : Type 0 where
+-- written but for those that are held; whatever the rest has follows them
+pub record Reached (Meets : List Call → List Reply → Type 0) (most : ℕ) (buffer held : List ℕ) (old new from to : Option (List ℕ)) : Type 0 where
   pub read : List ℕ
   pub taken : Consumes old new read
   pub messages : List Message
@@ -111,10 +84,10 @@ pub record Reached (Meets : List Call → List Reply → Type 0) (most : ℕ) (b
   pub replies : List Reply
   pub count : length replies ≡ length messages
   pub meets : Meets (calls_of messages) replies
-  pub written : Appends from to (output messages replies)
+  pub written : AppendsUpTo held from to (output messages replies)
 
-pub reached_none : (Meets : List Call → List Reply → Type 0) (buffer : List ℕ) (a from : Option (List ℕ)) → buffer ≡ [] → Meets [] [] → Reached Meets MESSAGE_LIMIT buffer a a from from
-reached_none Meets buffer a from empty meets = record {
+pub reached_none : (Meets : List Call → List Reply → Type 0) (buffer held : List ℕ) (a from : Option (List ℕ)) → buffer ≡ [] → held ≡ [] → Meets [] [] → Reached Meets MESSAGE_LIMIT buffer held a a from from
+reached_none Meets buffer held a from empty silent meets = record {
   read = [];
   taken = consumes_none a;
   messages = [];
@@ -122,14 +95,14 @@ reached_none Meets buffer a from empty meets = record {
   replies = [];
   count = refl;
   meets = meets;
-  written = appends_none from;
+  written = record { front = []; all = silent; written = appends_none from };
 }
 
 -- one message more
-pub reached_one : (Meets Then : List Call → List Reply → Type 0) (One : Call → Reply → Type 0) (most : ℕ) (buffer rest : List ℕ) (a b c from mid to : Option (List ℕ)) → Reached Meets most buffer a b from mid
-    → ReadsOn buffer b c (ServesOne One most rest mid to) → ((cs : List Call) (rs : List Reply) (call : Call) (reply : Reply) → Meets cs rs → One call reply → Then (cs ++ call ∷ []) (rs ++ reply ∷ []))
-    → Reached Then (most - 1) rest a c from to
-reached_one Meets Then One most buffer rest a b c from mid to first read join =
+pub reached_one : (Meets Then : List Call → List Reply → Type 0) (One : Call → Reply → Type 0) (most : ℕ) (buffer rest held now : List ℕ) (a b c from mid to : Option (List ℕ))
+    → Reached Meets most buffer held a b from mid → ReadsOn buffer b c (ServesOne One most rest held now mid to) → ((cs : List Call) (rs : List Reply) (call : Call) (reply : Reply) → Meets cs rs → One call reply → Then (cs ++ call ∷ []) (rs ++ reply ∷ []))
+    → Reached Then (most - 1) rest now a c from to
+reached_one Meets Then One most buffer rest held now a b c from mid to first read join =
     let one = read.holds in
     let m = one.message in record {
       read = first.read ++ read.more;
@@ -147,17 +120,17 @@ reached_one Meets Then One most buffer rest a b c from mid to first read join =
       count = omega (arith, length-append first.replies (one.reply ∷ []), length-append first.messages (m ∷ []), first.count);
       meets = subst (λ cs. Then cs (first.replies ++ one.reply ∷ [])) (sym (calls_of-append first.messages (m ∷ []))) (join (calls_of first.messages) first.replies m.call one.reply first.meets one.replied);
       written =
-          subst (Appends from to)
+          subst (AppendsUpTo now from to)
           (ap (λ l. output first.messages first.replies ++ l) (sym (append-nil (reply_wire false one.reply)) ∙ ap (λ l. reply_wire l one.reply ++ []) (sym one.goes_on))
           ∙ sym (output-append first.messages (m ∷ []) first.replies (one.reply ∷ []) first.count))
-          (appends_both from mid to (output first.messages first.replies) (reply_wire false one.reply) first.written one.written);
+          (up_to_on from mid to held now (output first.messages first.replies) (reply_wire false one.reply) first.written one.put);
     }
 
 -- the end
-pub reached_end : (Meets Then Last : List Call → List Reply → Type 0) (most : ℕ) (buffer : List ℕ) (a b c from mid to : Option (List ℕ)) (e : Ended) → Reached Meets most buffer a b from mid
-    → EndsOn Last most buffer b c mid to e → ((cs ds : List Call) (rs qs : List Reply) → Meets cs rs → Last ds qs → Then (cs ++ ds) (rs ++ qs))
-    → OfInput a (λ input. ServesInput Then input c from to e)
-reached_end Meets Then Last most buffer a b c from mid to e first end join = record {
+pub reached_end : (Meets Then Last : List Call → List Reply → Type 0) (most : ℕ) (buffer held : List ℕ) (a b c from mid to : Option (List ℕ)) (e : Ended) (Holds : Stop → List ℕ → Type 0)
+    → Reached Meets most buffer held a b from mid → EndsOn Last most buffer b c Holds → ((cs ds : List Call) (rs qs : List Reply) → Meets cs rs → Last ds qs → Then (cs ++ ds) (rs ++ qs))
+    → ((stop : Stop) (xs more : List ℕ) → AppendsUpTo held from mid xs → Holds stop more → Writes e stop (xs ++ more) from to) → OfInput a (λ input. ServesInput Then input c from to e)
+reached_end Meets Then Last most buffer held a b c from mid to e Holds first end join writes = record {
   input = (first.read ++ end.read) ++ end.unread;
   same = known_input a c (first.read ++ end.read) end.unread (consumes_both a b c first.read end.read first.taken end.taken) end.left;
   holds = record {
@@ -171,16 +144,18 @@ reached_end Meets Then Last most buffer a b c from mid to e first end join = rec
     meets =
         subst (λ cs. Then cs (first.replies ++ end.replies)) (sym (calls_of-append first.messages end.messages))
         (join (calls_of first.messages) (calls_of end.messages) first.replies end.replies first.meets end.meets);
-    written = writes_after e end.stop from mid to first.messages end.messages first.replies end.replies first.count first.written end.written;
+    written =
+        subst (λ all. Writes e end.stop all from to) (sym (due-append end.stop first.messages end.messages first.replies end.replies first.count))
+        (writes end.stop (output first.messages first.replies) (due end.stop end.messages end.replies) first.written end.holds);
     unread = end.leaves;
   };
 }
 
--- ---- ends before another message
+-- ---- stops before another message
 
-module _ (Same : Type 0) (One : Call → Reply → Type 0) (same : Same) (most : ℕ) (there : List ℕ) (a b : Option (List ℕ)) where
-  pub ended_before : (from : Option (List ℕ)) → ReadsOn there a b IsHalf → IsAtEnd b → EndsOn (ServesAtMostOne Same One) most there a b from from Closed
-  ended_before from read end = record {
+module _ (Same : Type 0) (One : Call → Reply → Type 0) (same : Same) (most : ℕ) (there : List ℕ) (a b : Option (List ℕ)) (Holds : Stop → List ℕ → Type 0) where
+  pub ended_before : ReadsOn there a b IsHalf → IsAtEnd b → Holds input_ended [] → EndsOn (ServesAtMostOne Same One) most there a b Holds
+  ended_before read end holds = record {
     read = read.more;
     taken = read.taken;
     unread = [];
@@ -191,12 +166,12 @@ module _ (Same : Type 0) (One : Call → Reply → Type 0) (same : Same) (most :
     replies = [];
     count = refl;
     meets = same;
-    written = appends_none from;
+    holds = holds;
     leaves = tt;
   }
 
-  pub failed_before : (from : Option (List ℕ)) → ReadsOn there a b IsHalf → EndsOn (ServesAtMostOne Same One) most there a b from from ReadFault
-  failed_before from read =
+  pub failed_before : ReadsOn there a b IsHalf → ((unread : List ℕ) → Holds (read_failed unread) []) → EndsOn (ServesAtMostOne Same One) most there a b Holds
+  failed_before read holds =
       let left = known_left b in record {
         read = read.more;
         taken = read.taken;
@@ -208,13 +183,12 @@ module _ (Same : Type 0) (One : Call → Reply → Type 0) (same : Same) (most :
         replies = [];
         count = refl;
         meets = same;
-        written = appends_none from;
+        holds = holds left.0;
         leaves = left.1;
       }
 
-  pub rejected_before : (from to : Option (List ℕ)) (reason : Rejection) (e : Ended) → ReadsOn there a b (λ all. IsRejected all reason) → Writes e (refused reason) [] [] from to
-      → EndsOn (ServesAtMostOne Same One) most there a b from to e
-  rejected_before from to reason e read written =
+  pub rejected_before : (reason : Rejection) → ReadsOn there a b (λ all. IsRejected all reason) → Holds (refused reason) (rejection_wire reason) → EndsOn (ServesAtMostOne Same One) most there a b Holds
+  rejected_before reason read holds =
       let left = known_left b in record {
         read = read.more;
         taken = read.taken;
@@ -226,7 +200,25 @@ module _ (Same : Type 0) (One : Call → Reply → Type 0) (same : Same) (most :
         replies = [];
         count = refl;
         meets = same;
-        written = written;
+        holds = holds;
+        leaves = tt;
+      }
+
+  -- a write failed, and nothing was read
+  pub cut_before : Consumes a b [] → Holds write_failed [] → EndsOn (ServesAtMostOne Same One) most there a b Holds
+  cut_before taken holds =
+      let left = known_left b in record {
+        read = [];
+        taken = taken;
+        unread = left.0;
+        left = left.1;
+        messages = [];
+        stop = write_failed;
+        has = tt;
+        replies = [];
+        count = refl;
+        meets = same;
+        holds = holds;
         leaves = tt;
       }
 
@@ -277,8 +269,9 @@ module _ (Same : Type 0) (One : Call → Reply → Type 0) (most : ℕ) (there r
   replied : (m : Message) → m.call ≡ call → One m.call reply
   replied m e = subst (λ c. One c reply) (sym e) one
 
-  pub next_after : (from to : Option (List ℕ)) → ReadsOn there a b (Finds most call false rest) → Appends from to (reply_wire false reply) → ReadsOn there a b (ServesOne One most rest from to)
-  next_after from to read written = record {
+  pub next_after : (held now : List ℕ) (from to : Option (List ℕ)) → ReadsOn there a b (Finds most call false rest) → AppendsUpTo now from to (held ++ reply_wire false reply)
+      → ReadsOn there a b (ServesOne One most rest held now from to)
+  next_after held now from to read put = record {
     more = read.more;
     taken = read.taken;
     holds = record {
@@ -287,42 +280,14 @@ module _ (Same : Type 0) (One : Call → Reply → Type 0) (most : ℕ) (there r
       goes_on = read.holds.last;
       reply = reply;
       replied = replied read.holds.message read.holds.call;
-      written = written;
+      put = put;
     };
   }
 
-  has_one : (read : ReadsOn there a b (Finds most call true rest)) (unread : List ℕ) → HasMessages most (there ++ (read.more ++ unread)) (read.holds.message ∷ []) last_served
-  has_one read unread = (
-    rest ++ unread,
-    subst (λ xs. MessageAt most xs read.holds.message (rest ++ unread)) (append_assoc there read.more unread) (MessageAt-append most (there ++ read.more) unread read.holds.message rest read.holds.at),
-    subst (λ l. GoesOn l [] last_served (HasMessages (most - 1) (rest ++ unread) [] last_served)) (sym read.holds.last) tt,
-  )
-
-  pub last_after : (from to : Option (List ℕ)) → ReadsOn there a b (Finds most call true rest) → Appends from to (reply_wire true reply)
-      → EndsOn (ServesAtMostOne Same One) most there a b from to Closed
-  last_after from to read written =
-      let left = known_left b in record {
-        read = read.more;
-        taken = read.taken;
-        unread = left.0;
-        left = left.1;
-        messages = read.holds.message ∷ [];
-        stop = last_served;
-        has = has_one read left.0;
-        replies = reply ∷ [];
-        count = refl;
-        meets = replied read.holds.message read.holds.call;
-        written = subst (Appends from to) (sym (append-nil (reply_wire true reply)) ∙ ap (λ l. reply_wire l reply ++ []) (sym read.holds.last)) written;
-        leaves = tt;
-      }
-
-  either_way : (l : Bool) (input : List ℕ) → GoesOn l [] write_failed (HasMessages (most - 1) input [] write_failed)
-  either_way true input = tt
-  either_way false input = tt
-
-  pub cut_after : (last : Bool) (from to : Option (List ℕ)) → ReadsOn there a b (Finds most call last rest) → AppendsPart from to (reply_wire last reply)
-      → EndsOn (ServesAtMostOne Same One) most there a b from to WriteFault
-  cut_after last from to read part =
+  -- the message was served, and the connection then stops so
+  stops_after : (last : Bool) (stop : Stop) (Holds : Stop → List ℕ → Type 0) → ReadsOn there a b (Finds most call last rest) → ((input : List ℕ) → GoesOn last [] stop (HasMessages (most - 1) input [] stop))
+      → ((m : Message) → due stop (m ∷ []) (reply ∷ []) ≡ reply_wire m.last reply ++ []) → LeavesUnread stop b → Holds stop (reply_wire last reply) → EndsOn (ServesAtMostOne Same One) most there a b Holds
+  stops_after last stop Holds read goes_on owed leaves holds =
       let left = known_left b in
       let m = read.holds.message in record {
         read = read.more;
@@ -330,30 +295,25 @@ module _ (Same : Type 0) (One : Call → Reply → Type 0) (most : ℕ) (there r
         unread = left.0;
         left = left.1;
         messages = m ∷ [];
-        stop = write_failed;
+        stop = stop;
         has = (
           rest ++ left.0,
           subst (λ xs. MessageAt most xs m (rest ++ left.0)) (append_assoc there read.more left.0) (MessageAt-append most (there ++ read.more) left.0 m rest read.holds.at),
-          either_way m.last (rest ++ left.0),
+          subst (λ l. GoesOn l [] stop (HasMessages (most - 1) (rest ++ left.0) [] stop)) (sym read.holds.last) (goes_on (rest ++ left.0)),
         );
         replies = reply ∷ [];
         count = refl;
         meets = replied m read.holds.call;
-        written = record {
-          before = [];
-          cut = m;
-          earlier = [];
-          reply = reply;
-          count = refl;
-          all_messages = refl;
-          all_replies = refl;
-          written = record {
-            front = part.front.front;
-            rest = part.rest;
-            some = part.some;
-            all = part.front.all ∙ ap (λ l. reply_wire l reply) (sym read.holds.last);
-            written = part.front.written;
-          };
-        };
-        leaves = tt;
+        holds = subst (Holds stop) (sym (owed m ∙ append-nil (reply_wire m.last reply) ∙ ap (λ l. reply_wire l reply) read.holds.last)) holds;
+        leaves = leaves;
       }
+
+  pub last_after : (Holds : Stop → List ℕ → Type 0) → ReadsOn there a b (Finds most call true rest) → Holds last_served (reply_wire true reply) → EndsOn (ServesAtMostOne Same One) most there a b Holds
+  last_after Holds read holds = stops_after true last_served Holds read (λ input. tt) (λ m. refl) tt holds
+
+  either_way : (last : Bool) (input : List ℕ) → GoesOn last [] write_failed (HasMessages (most - 1) input [] write_failed)
+  either_way true input = tt
+  either_way false input = tt
+
+  pub cut_after : (last : Bool) (Holds : Stop → List ℕ → Type 0) → ReadsOn there a b (Finds most call last rest) → Holds write_failed (reply_wire last reply) → EndsOn (ServesAtMostOne Same One) most there a b Holds
+  cut_after last Holds read holds = stops_after last write_failed Holds read (either_way last) (λ m. refl) tt holds

@@ -1,6 +1,7 @@
 pub mod Numbers
 pub mod Streams
 pub mod Pieces
+pub mod Holding
 pub mod Finding
 pub mod Connecting
 pub mod Readings

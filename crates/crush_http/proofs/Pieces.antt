@@ -1,31 +1,12 @@
 -- A reply that is written in pieces.
-use Rattle.std.proofs.Common.{◌≡◌, ℕ, ◌<◌, suc, List, [], ◌∷◌, ◌++◌, length, take, drop, map, get_or, Option, Some, None, Bool, true, false, ◌&&◌, ◌≤◌, nat_le, nat_lt, if◌then◌else◌, arith, refl, ap, sym, ◌∙◌, subst, codes, decimal}
+use Rattle.std.proofs.Common.{◌≡◌, ℕ, ◌<◌, List, [], ◌∷◌, length, map, Option, Some, None, Bool, true, false, ◌&&◌, ◌≤◌, nat_le, nat_lt, if◌then◌else◌, arith, refl, ap, sym, ◌∙◌, codes, decimal}
 use Rattle.std.specs.List.{flat_map}
 use Rattle.std.specs.Prelude.{option_map, unwrap_or}
 use Rattle.std.proofs.lemmas.Bool.Decides.{nat_tests}
 use Rattle.http.specs.StatusCode.{reason_phrase}
 use Rattle.std.specs.Borrow.{Bor}
-use Rattle.std.proofs.Math.Seq.{drop-cons}
-use Rattle.std.proofs.lemmas.Grind.{flat_map-append}
 use Rattle.std.proofs.lemmas.List.Folds.{flat_map-map}
-use Rattle.std.proofs.lemmas.List.{take-append-drop}
-use Rattle.std.specs.Io.KnownBytes.{Appends}
-use Rattle.crush_app.specs.Play.{AppendsPart}
-use Rattle.crush_app.proofs.Writing.{part_first, part_after}
 use Rattle.crush_http.specs.Wire.{wire, pieces, phrase, close_line}
-
-pieces_at : {X : Type 0} (f : X → List ℕ) (xs : List X) (i : ℕ) (d : X) → i < length xs
-    → flat_map f (take i xs) ++ (f (get_or xs i d) ++ flat_map f (drop (suc i) xs)) ≡ flat_map f xs
-pieces_at f xs i d h =
-    ap (λ ys. flat_map f (take i xs) ++ flat_map f ys) (sym (drop-cons xs i d h)) ∙ sym (flat_map-append f (take i xs) (drop i xs)) ∙ ap (flat_map f) (take-append-drop i xs)
-
--- the piece at i in part, after those before it
-pub part_piece : {X : Type 0} (f : X → List ℕ) (xs : List X) (i : ℕ) (d : X) (a b c : Option (List ℕ)) → i < length xs
-    → Appends a b (flat_map f (take i xs)) → AppendsPart b c (f (get_or xs i d)) → AppendsPart a c (flat_map f xs)
-part_piece f xs i d a b c h before part =
-    subst (AppendsPart a c) (pieces_at f xs i d h)
-    (part_after a b c (flat_map f (take i xs)) (f (get_or xs i d) ++ flat_map f (drop (suc i) xs)) before
-    (part_first b c (f (get_or xs i d)) (flat_map f (drop (suc i) xs)) part))
 
 -- references to pieces
 pieces_read : (xs : List (Bor (List ℕ))) (ps : List (List ℕ)) → map (λ x. x.now) xs ≡ ps → flat_map (λ x. x.now) xs ≡ flat_map (λ p. p) ps

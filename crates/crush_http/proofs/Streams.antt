@@ -1,5 +1,5 @@
 -- What is taken from a reader, from call to call.
-use Rattle.std.proofs.Common.{◌≡◌, ℕ, ◌+◌, ◌-◌, ◌≤◌, ◌<◌, List, [], ◌++◌, length, take, drop, Option, Some, None, refl, ap, sym, ◌∙◌, arith, append_assoc, length-take, length-append, length-drop, subst}
+use Rattle.std.proofs.Common.{◌≡◌, ℕ, ◌+◌, ◌-◌, ◌≤◌, ◌<◌, List, [], ◌∷◌, ◌++◌, length, take, drop, Option, Some, None, refl, ap, sym, ◌∙◌, arith, append_assoc, length-take, length-append, length-drop, subst}
 use Rattle.std.proofs.lemmas.List.{append-nil, take-append-le, take-append-drop, drop-take, drop-append-le, drop_all}
 use Rattle.std.proofs.Math.Seq.{take-append-add, take-append_seam}
 use Rattle.std.specs.Io.KnownBytes.{Keeps, Consumes}
@@ -41,6 +41,16 @@ reads_both there buffer a b c P first second = record {
   taken = consumes_both a b c first.more second.more first.taken second.taken;
   holds = subst P (ap (λ l. l ++ second.more) first.holds ∙ append_assoc there first.more second.more) second.holds;
 }
+
+-- from a reader that had nothing left
+read_nothing : (a b : Option (List ℕ)) (more : List ℕ) → a ≡ Some [] → Consumes a b more → more ≡ []
+read_nothing None b more e taken = cc
+read_nothing (Some xs) None more e taken = absurd taken
+read_nothing (Some xs) (Some ys) [] e taken = refl
+read_nothing (Some xs) (Some ys) (m ∷ more) e taken = cc
+
+pub reads_nothing : (there buffer : List ℕ) (a b : Option (List ℕ)) → ReadsOn there a b (λ all. buffer ≡ all) → a ≡ Some [] → buffer ≡ there
+reads_nothing there buffer a b read e = read.holds ∙ ap (λ l. there ++ l) (read_nothing a b read.more e read.taken) ∙ append-nil there
 
 -- ---- the buffer
 

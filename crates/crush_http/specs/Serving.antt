@@ -1,43 +1,38 @@
 -- What is read, served and written on a connection.
-use Rattle.std.specs.Prelude.{ℕ, ◌≡◌, ◌<◌, List, [], ◌∷◌, ◌++◌, length, Option, IfSome, ⊤}
+use Rattle.std.specs.Prelude.{ℕ, ◌≡◌, ◌⊎◌, List, ◌++◌, length, Option, IfSome, ⊤}
 use Rattle.std.specs.Io.KnownBytes.{Appends}
 use Rattle.tenant_messages.specs.declared.call.Call.{Call}
 use Rattle.tenant_messages.specs.declared.reply.Reply.{Reply}
+use Rattle.crush_app.specs.Play.{AppendsPart}
 use Rattle.crush_http.specs.Messages.{Message, Stop, input_ended, refused, last_served, read_failed, write_failed, HasMessages, calls_of}
-use Rattle.crush_http.specs.Wire.{output, reply_wire, rejection_wire}
+use Rattle.crush_http.specs.Wire.{output, rejection_wire}
 use Rattle.crush_http.specs.declared.connection.Ended.{Ended}
 use Rattle.crush_http.specs.declared.connection.Ended.TheVariants.{Closed, Bad, ReadFault, WriteFault}
 use Rattle.crush_http.specs.declared.limits.TheConstants.{MESSAGE_LIMIT}
 
--- these bytes were written, and then those of the reply, but for a rest that isn't empty
-pub record CutsReply (from to : Option (List ℕ)) (before reply : List ℕ) : Type 0 where
-  pub front : List ℕ
-  pub rest : List ℕ
-  pub some : 0 < length rest
-  pub all : front ++ rest ≡ reply
-  pub written : Appends from to (before ++ front)
+-- the bytes that are due where these messages were served and the connection then stops so: the
+-- replies to all of them, and the one to what is no message
+abbrev pub due : Stop → List Message → List Reply → List ℕ
+due input_ended messages replies = output messages replies
+due (refused reason) messages replies = output messages replies ++ rejection_wire reason
+due last_served messages replies = output messages replies
+due (read_failed unread) messages replies = output messages replies
+due write_failed messages replies = output messages replies
 
--- the replies to all messages but the last were written whole, and that to the last in part
-pub record CutsLast (from to : Option (List ℕ)) (messages : List Message) (replies : List Reply) : Type 0 where
-  pub before : List Message
-  pub cut : Message
-  pub earlier : List Reply
-  pub reply : Reply
-  pub count : length earlier ≡ length before
-  pub all_messages : before ++ cut ∷ [] ≡ messages
-  pub all_replies : earlier ++ reply ∷ [] ≡ replies
-  pub written : CutsReply from to (output before earlier) (reply_wire cut.last reply)
+-- how a connection that stops so ends, where all that is due was written
+abbrev pub EndsAs : Stop → Ended → Type 0
+EndsAs input_ended Closed = ⊤
+EndsAs (refused reason) Bad = ⊤
+EndsAs last_served Closed = ⊤
+EndsAs (read_failed unread) ReadFault = ⊤
+EndsAs _ _ = ⊥
 
--- a connection that stops so after these messages and their replies ended so, and this is what was
--- written: all replies, and the one to what is no message; with `WriteFault` the last one in part
-abbrev pub Writes : Ended → Stop → List Message → List Reply → Option (List ℕ) → Option (List ℕ) → Type 0
-Writes Closed input_ended messages replies from to = Appends from to (output messages replies)
-Writes Closed last_served messages replies from to = Appends from to (output messages replies)
-Writes Bad (refused reason) messages replies from to = Appends from to (output messages replies ++ rejection_wire reason)
-Writes ReadFault (read_failed unread) messages replies from to = Appends from to (output messages replies)
-Writes WriteFault (refused reason) messages replies from to = CutsReply from to (output messages replies) (rejection_wire reason)
-Writes WriteFault write_failed messages replies from to = CutsLast from to messages replies
-Writes _ _ messages replies from to = ⊥
+-- all that is due was written, and the connection ended as its stop says; or a write failed, and a
+-- front of it was written, but not all. This comes with any stop, a failed read too, since replies
+-- that wait are written after it. Where the write failed before that, so that no further message
+-- was served, the stop is `write_failed`
+abbrev pub Writes : Ended → Stop → List ℕ → Option (List ℕ) → Option (List ℕ) → Type 0
+Writes ended stop bytes from to = (EndsAs stop ended × Appends from to bytes) ⊎ ((ended ≡ WriteFault) × AppendsPart from to bytes)
 
 -- after a failed read the reader has these bytes left, where they are known
 abbrev pub LeavesUnread : Stop → Option (List ℕ) → Type 0
@@ -53,5 +48,5 @@ pub record ServesInput (Meets : List Call → List Reply → Type 0) (input : Li
   pub replies : List Reply
   pub count : length replies ≡ length messages
   pub meets : Meets (calls_of messages) replies
-  pub written : Writes ended stop messages replies from to
+  pub written : Writes ended stop (due stop messages replies) from to
   pub unread : LeavesUnread stop left

@@ -34,6 +34,13 @@ impl Buffer {
         Ok(Buffer { room, filled: 0 })
     }
 
+    /// Drops all bytes.
+    pub(crate) fn clear(&mut self)
+        ensures { self.new ≡ [] }
+    {
+        self.filled = 0;
+    }
+
     /// The bytes.
     pub(crate) fn bytes(&self) -> &[u8]
         ensures value { result.now ≡ self.now }

@@ -1,44 +1,45 @@
 //! A connection.
 
-ghost use Rattle.std.specs.Prelude.{◌≡◌, ◌==◌, ◌||◌, ◌-◌, ◌<◌, [], true, length, Option, IfOk, OnErr};
-ghost use Rattle.std.specs.Io.KnownBytes.{Keeps as KeepsBytes};
+ghost use Rattle.std.specs.Prelude.{◌≡◌, ◌==◌, ◌||◌, ◌⊎◌, ◌-◌, ◌<◌, [], true, length, Option, None, IfSome, IfOk, OnErr};
+ghost use Rattle.std.specs.Io.KnownBytes.{Keeps as KeepsBytes, Appends};
 ghost use Rattle.tenant_core.specs.States.{MeetsDefinition};
-ghost use Rattle.tenant_core.specs.declared.limits.TheConstants.{BODY_LIMIT};
 ghost use Rattle.crush_app.specs.Input.{OfInput};
-ghost use Rattle.crush_http.specs.Messages.{refused};
-ghost use Rattle.crush_http.specs.Serving.{ServesInput, Writes};
-ghost use Rattle.crush_http.specs.Private.Reading.{ReadsOn};
-ghost use Rattle.crush_http.specs.Private.Served.{EndsOn, OnEnded, OnNext, Replies, ServesAtMostOne, ServesOne};
+ghost use Rattle.crush_app.specs.Play.{AppendsPart, AppendsUpTo};
+ghost use Rattle.crush_http.specs.Serving.{ServesInput};
+ghost use Rattle.crush_http.specs.Private.Reading.{Finds, ReadsOn};
+ghost use Rattle.crush_http.specs.Private.Served.{EndsCut, EndsHeld, EndsOn, OnCut, OnEnded, OnNext, Replies, ServesAtMostOne, ServesOne};
 
-use crate::buffer::Buffer;
+use crate::buffers::Buffers;
+use crate::held::Held;
 use crate::limits::MESSAGE_LIMIT;
 use crate::message::{Incoming, read_message};
-use crate::rejection::Rejection;
 use crate::request::call_of;
-use crate::wire::{write_rejection, write_reply};
+use crate::wire::{put_rejection, put_reply};
 use crush_app::Service;
 use std::alloc::{AllocError, Global};
-use std::io::{Read, Write};
+use std::io::{self, Read, Write};
 use tenant_core::TenantStore;
-use tenant_core::limits::BODY_LIMIT;
 
 /// How a connection ended.
 #[derive(Clone, Copy, Debug, PartialEq, Eq)]
 pub enum Ended {
-    /// The input ended, or the last message was served and its reply written.
+    /// The input ended, or the last message was served, and all replies were written.
     Closed,
-    /// What came was no message, and the reply that says so was written.
+    /// What came was no message; all replies were written, and then the one that says so.
     Bad,
-    /// A read failed.
+    /// A read failed. All replies were written.
     ReadFault,
-    /// A reply couldn't be written whole.
+    /// A write failed, so that not all replies were written.
     WriteFault,
 }
 
 /// Whether a connection goes on.
 enum Turn {
     Next,
+    /// It ends so once what is held is written.
     Ended(Ended),
+    /// A write failed, and no more is written.
+    Cut,
 }
 
 /// Whether the connection ends after this message.
@@ -48,50 +49,71 @@ fn is_last(closes: bool, most: u32) -> bool
     closes || most == 1
 }
 
-/// Answers what is no message, and returns how the connection ended.
-fn reject<W: Write>(writer: &mut W, reason: Rejection) -> Ended
-    ensures { Writes result (refused reason) [] [] (W.contents writer.old) (W.contents writer.new) }
+/// Finds the next message. One that isn't whole in the buffer is read, and before that what is held
+/// is written, since the client may wait for it. Returns none if that can't be written.
+fn next_message<R: Read, W: Write>(
+    buffers: &mut Buffers,
+    reader: &mut R,
+    writer: &mut W,
+) -> Option<Incoming>
+    ensures found { IfSome result (λ incoming. Finds incoming buffers.old.read buffers.new.read buffers.new.body.items (R.remaining reader.old) (R.remaining reader.new)) }
+    ensures written { IfSome result (λ incoming. AppendsUpTo buffers.new.held (W.contents writer.old) (W.contents writer.new) buffers.old.held) }
+    ensures unread { result ≡ None → reader.new ≡ reader.old }
+    ensures cut { result ≡ None → AppendsPart (W.contents writer.old) (W.contents writer.new) buffers.old.held }
 {
-    if write_rejection(writer, reason) {
-        Ended::Bad
-    } else {
-        Ended::WriteFault
+    match read_message(&mut io::empty(), &mut buffers.read, &mut buffers.body) {
+        Incoming::Message(request) => return Some(Incoming::Message(request)),
+        Incoming::Rejected(reason) => return Some(Incoming::Rejected(reason)),
+        Incoming::Ended | Incoming::Fault => {}
     }
+    if !buffers.held.flush(writer) {
+        return None;
+    }
+    Some(read_message(reader, &mut buffers.read, &mut buffers.body))
 }
 
-/// Serves one message and writes its reply, where so many messages may come at most.
+/// Serves one message and holds its reply, where so many messages may come at most.
 fn serve_one<T: TenantStore, R: Read, W: Write>(
+    buffers: &mut Buffers,
     service: &mut Service<T>,
     reader: &mut R,
     writer: &mut W,
-    buffer: &mut Buffer,
-    body: &mut [u8],
     most: u32,
 ) -> Turn
-    requires room { length body.old ≡ BODY_LIMIT }
     requires some { 0 < most }
-    ensures next { OnNext result ((1 < most) × ReadsOn buffer.old (R.remaining reader.old) (R.remaining reader.new)
-        (ServesOne (Replies (T.is_honest service.new) (T.latched service.old) (T.latched service.new) (T.has_state service.old) (T.has_state service.new)) most buffer.new (W.contents writer.old) (W.contents writer.new))) }
-    ensures ended { OnEnded result (EndsOn
+    ensures next { OnNext result ((1 < most) × ReadsOn buffers.old.read (R.remaining reader.old) (R.remaining reader.new)
+        (ServesOne (Replies (T.is_honest service.new) (T.latched service.old) (T.latched service.new) (T.has_state service.old) (T.has_state service.new)) most buffers.new.read
+        buffers.old.held buffers.new.held (W.contents writer.old) (W.contents writer.new))) }
+    ensures ended { OnEnded result (λ ended. EndsOn
         (ServesAtMostOne (service.new ≡ service.old) (Replies (T.is_honest service.new) (T.latched service.old) (T.latched service.new) (T.has_state service.old) (T.has_state service.new)))
-        most buffer.old (R.remaining reader.old) (R.remaining reader.new) (W.contents writer.old) (W.contents writer.new)) }
+        most buffers.old.read (R.remaining reader.old) (R.remaining reader.new) (EndsHeld ended buffers.old.held buffers.new.held (W.contents writer.old) (W.contents writer.new))) }
+    ensures cut { OnCut result (EndsOn
+        (ServesAtMostOne (service.new ≡ service.old) (Replies (T.is_honest service.new) (T.latched service.old) (T.latched service.new) (T.has_state service.old) (T.has_state service.new)))
+        most buffers.old.read (R.remaining reader.old) (R.remaining reader.new) (EndsCut buffers.old.held (W.contents writer.old) (W.contents writer.new))) }
     ensures rests { T.latched service.old ≡ true → service.new ≡ service.old }
     ensures honest { T.is_honest service.new → T.is_honest service.old }
-    ensures same_room { length body.new ≡ length body.old }
 {
-    let request = match read_message(reader, buffer, body) {
+    let Some(incoming) = next_message(buffers, reader, writer) else {
+        return Turn::Cut;
+    };
+    let request = match incoming {
         Incoming::Message(request) => request,
-        Incoming::Rejected(reason) => return Turn::Ended(reject(writer, reason)),
+        Incoming::Rejected(reason) => {
+            if !put_rejection(&mut buffers.held, writer, reason) {
+                return Turn::Cut;
+            }
+            return Turn::Ended(Ended::Bad);
+        }
         Incoming::Ended => return Turn::Ended(Ended::Closed),
         Incoming::Fault => return Turn::Ended(Ended::ReadFault),
     };
-    let bytes = buffer.bytes();
+    let bytes = buffers.read.bytes();
     let used = request.used(bytes.len());
     let last = is_last(request.closes, most);
-    let reply = service.request(call_of(bytes, &request, &body[..request.size]));
-    buffer.drop_front(used);
-    if !write_reply(writer, last, &reply) {
-        return Turn::Ended(Ended::WriteFault);
+    let reply = service.request(call_of(bytes, &request, &buffers.body[..request.size]));
+    buffers.read.drop_front(used);
+    if !put_reply(&mut buffers.held, writer, last, &reply) {
+        return Turn::Cut;
     }
     if last {
         Turn::Ended(Ended::Closed)
@@ -100,16 +122,26 @@ fn serve_one<T: TenantStore, R: Read, W: Write>(
     }
 }
 
+/// Writes what is held, and returns how the connection ended, which would end so.
+fn finish<W: Write>(held: &mut Held, writer: &mut W, ended: Ended) -> Ended
+    ensures { ((result ≡ ended) × Appends (W.contents writer.old) (W.contents writer.new) held.old) ⊎ ((result ≡ Ended.WriteFault) × AppendsPart (W.contents writer.old) (W.contents writer.new) held.old) }
+{
+    if held.flush(writer) {
+        ended
+    } else {
+        Ended::WriteFault
+    }
+}
+
 /// Serves the messages that come, and returns how the connection ended.
 fn serve_all<T: TenantStore, R: Read, W: Write>(
+    buffers: &mut Buffers,
     service: &mut Service<T>,
     reader: &mut R,
     writer: &mut W,
-    buffer: &mut Buffer,
-    body: &mut [u8],
 ) -> Ended
-    requires empty { buffer.old ≡ [] }
-    requires room { length body.old ≡ BODY_LIMIT }
+    requires unused { buffers.old.read ≡ [] }
+    requires silent { buffers.old.held ≡ [] }
     ensures served { OfInput (R.remaining reader.old)
         (λ input. ServesInput (λ calls replies. T.is_honest service.new → MeetsDefinition (T.latched service.new) (T.has_state service.old) (T.has_state service.new) calls replies) input (R.remaining reader.new) (W.contents writer.old) (W.contents writer.new) result) }
     ensures rests { T.latched service.old ≡ true → service.new ≡ service.old }
@@ -117,16 +149,35 @@ fn serve_all<T: TenantStore, R: Read, W: Write>(
 {
     let mut most = MESSAGE_LIMIT;
     loop {
-        match serve_one(service, reader, writer, buffer, body, most) {
+        match serve_one(buffers, service, reader, writer, most) {
             Turn::Next => most -= 1,
-            Turn::Ended(ended) => return ended,
+            Turn::Ended(ended) => return finish(&mut buffers.held, writer, ended),
+            Turn::Cut => return Ended::WriteFault,
         }
     }
+}
+
+/// Serves a connection as `serve` does, in memory that is there already, whatever the last
+/// connection left in it. Allocates nothing but what the calls do.
+pub fn serve_with<T: TenantStore, R: Read, W: Write>(
+    buffers: &mut Buffers,
+    service: &mut Service<T>,
+    reader: &mut R,
+    writer: &mut W,
+) -> Ended
+    ensures served { OfInput (R.remaining reader.old)
+        (λ input. ServesInput (λ calls replies. T.is_honest service.new → MeetsDefinition (T.latched service.new) (T.has_state service.old) (T.has_state service.new) calls replies) input (R.remaining reader.new) (W.contents writer.old) (W.contents writer.new) result) }
+    ensures rests { T.latched service.old ≡ true → service.new ≡ service.old }
+    ensures honest { T.is_honest service.new → T.is_honest service.old }
+{
+    buffers.clear();
+    serve_all(buffers, service, reader, writer)
 }
 
 /// Reads the messages of a connection, serves their calls in order, writes their replies, and
 /// returns how that ended. A service that is latched, or latches, goes on: it answers 503.
 ///
+/// Replies wait to be written together: up to the next read, to the end, or to `HELD_LIMIT` bytes.
 /// The clauses speak of an input, which is what the reader had where contracts know its bytes. Its
 /// messages don't depend on how it was cut into reads (`one_reading`).
 /// `Err(AllocError)`: an allocation failed; all are made at the start, so nothing was read, served
@@ -139,7 +190,7 @@ pub fn serve<T: TenantStore, R: Read, W: Write>(
 ) -> Result<Ended, AllocError>
     // The messages of the input were served up to a stop: the headline holds of their calls and the
     // replies. What was written is the wire form of these replies, in order, and of the one to what
-    // is no message, and nothing else; with `WriteFault` the last of them is written in part.
+    // is no message, and nothing else; with `WriteFault` a front of it, but not all.
     ensures served { IfOk result (λ ended. OfInput (R.remaining reader.old)
         (λ input. ServesInput (λ calls replies. T.is_honest service.new → MeetsDefinition (T.latched service.new) (T.has_state service.old) (T.has_state service.new) calls replies) input (R.remaining reader.new) (W.contents writer.old) (W.contents writer.new) ended)) }
 
@@ -152,7 +203,6 @@ pub fn serve<T: TenantStore, R: Read, W: Write>(
     ensures silent { OnErr result (KeepsBytes (W.contents writer.old) (W.contents writer.new)) }
     ensures honest { T.is_honest service.new → T.is_honest service.old }
 {
-    let mut buffer = Buffer::new(alloc)?;
-    let mut body = vec![in alloc; 0; BODY_LIMIT]?;
-    Ok(serve_all(service, reader, writer, &mut buffer, &mut body))
+    let mut buffers = Buffers::new(alloc)?;
+    Ok(serve_with(&mut buffers, service, reader, writer))
 }

@@ -4,9 +4,11 @@
 
 mod body;
 mod buffer;
+mod buffers;
 mod connection;
 mod head;
 mod headers;
+mod held;
 pub mod laws;
 pub mod limits;
 mod message;
@@ -14,5 +16,6 @@ mod rejection;
 mod request;
 mod wire;
 
-pub use connection::{Ended, serve};
+pub use buffers::Buffers;
+pub use connection::{Ended, serve, serve_with};
 pub use rejection::Rejection;

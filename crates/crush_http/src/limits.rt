@@ -8,3 +8,6 @@ pub const HEADER_LIMIT: usize = 32;
 
 /// The most messages of a connection.
 pub const MESSAGE_LIMIT: u32 = 10_000;
+
+/// The most bytes of replies that wait to be written.
+pub const HELD_LIMIT: usize = 65_536;

@@ -1,6 +1,6 @@
 //! Reading a message.
 
-ghost use Rattle.std.specs.Prelude.{◌≡◌, length};
+ghost use Rattle.std.specs.Prelude.{◌≡◌, Some, [], length};
 ghost use Rattle.tenant_core.specs.declared.limits.TheConstants.{BODY_LIMIT};
 ghost use Rattle.crush_http.specs.Private.Reading.{Finds};
 
@@ -33,6 +33,7 @@ pub(crate) fn read_message<R: Read>(
 ) -> Incoming
     requires room { length body.old ≡ BODY_LIMIT }
     ensures found { Finds result buffer.old buffer.new body.new (R.remaining reader.old) (R.remaining reader.new) }
+    ensures kept { R.remaining reader.old ≡ Some [] → buffer.new ≡ buffer.old }
     ensures same_room { length body.new ≡ length body.old }
 {
     let mut headers = [EMPTY_HEADER_SPAN; HEADER_LIMIT];

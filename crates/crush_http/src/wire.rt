@@ -1,43 +1,24 @@
 //! Replies, written as bytes.
 
-ghost use Rattle.std.specs.Prelude.{◌≡◌, ◌∷◌, [], map, IsTrue, codes};
-ghost use Rattle.std.specs.Bool.{IsFalse};
+ghost use Rattle.std.specs.Prelude.{◌≡◌, ◌∷◌, [], map, codes};
 ghost use Rattle.std.specs.List.{flat_map};
-ghost use Rattle.std.specs.Io.KnownBytes.{Appends};
-ghost use Rattle.crush_app.specs.Play.{AppendsPart};
-ghost use Rattle.crush_app.specs.Script as script;
 ghost use Rattle.crush_http.specs.Wire as spec;
-ghost use Rattle.crush_http.specs.Private.Served.{WritesAll};
+ghost use Rattle.crush_http.specs.Private.Served.{Puts};
 
+use crate::held::Held;
 use crate::rejection::Rejection;
+use crush_app::shown_body;
 use http::StatusCode;
 use std::io::Write;
 use tenant_messages::Reply;
 
-/// Writes the bytes and returns whether all were written: it ends at the first error, or where a
-/// write accepts no byte. Allocates nothing.
-fn write_whole<W: Write>(writer: &mut W, bytes: &[u8]) -> bool
-    ensures whole { IsTrue result → Appends (W.contents writer.old) (W.contents writer.new) bytes.now }
-    ensures part { IsFalse result → AppendsPart (W.contents writer.old) (W.contents writer.new) bytes.now }
-{
-    let mut rest = bytes;
-    while !rest.is_empty() {
-        match writer.write(rest) {
-            Ok(0) | Err(_) => return false,
-            Ok(count) => rest = &rest[count..],
-        }
-    }
-    true
-}
-
-/// Writes the pieces, one after the other, and returns whether all bytes were written. Allocates
-/// nothing.
-fn write_pieces<W: Write>(writer: &mut W, pieces: &[&[u8]]) -> bool
-    ensures whole { IsTrue result → Appends (W.contents writer.old) (W.contents writer.new) (flat_map (λ piece. piece.now) pieces.now) }
-    ensures part { IsFalse result → AppendsPart (W.contents writer.old) (W.contents writer.new) (flat_map (λ piece. piece.now) pieces.now) }
+/// Puts the pieces, one after the other, behind what is held, and returns whether all bytes are
+/// held or written. Allocates nothing.
+fn put_pieces<W: Write>(held: &mut Held, writer: &mut W, pieces: &[&[u8]]) -> bool
+    ensures { Puts result held.old held.new (W.contents writer.old) (W.contents writer.new) (flat_map (λ piece. piece.now) pieces.now) }
 {
     for piece in pieces {
-        if !write_whole(writer, piece) {
+        if !held.put(writer, piece) {
             return false;
         }
     }
@@ -85,11 +66,10 @@ fn pieces_of<'a>(
     ]
 }
 
-/// Writes a reply with a status and a body, and returns whether all of it was written. Allocates
-/// nothing.
-fn write_with<W: Write>(writer: &mut W, last: bool, status: u16, body: &[u8]) -> bool
-    ensures whole { IsTrue result → Appends (W.contents writer.old) (W.contents writer.new) (spec.wire last status body.now) }
-    ensures part { IsFalse result → AppendsPart (W.contents writer.old) (W.contents writer.new) (spec.wire last status body.now) }
+/// Puts a reply with a status and a body behind what is held, and returns whether all of it is held
+/// or written. Allocates nothing.
+fn put_with<W: Write>(held: &mut Held, writer: &mut W, last: bool, status: u16, body: &[u8]) -> bool
+    ensures { Puts result held.old held.new (W.contents writer.old) (W.contents writer.new) (spec.wire last status body.now) }
 {
     let mut status_buffer = itoa::Buffer::new();
     let mut size_buffer = itoa::Buffer::new();
@@ -102,27 +82,26 @@ fn write_with<W: Write>(writer: &mut W, last: bool, status: u16, body: &[u8]) ->
         close_line(last),
         body,
     );
-    write_pieces(writer, &pieces)
+    put_pieces(held, writer, &pieces)
 }
 
-/// Returns the body as it is written. A reply for a failed allocation has an empty body, and its
-/// text stands here.
-fn shown_body(body: &str) -> &[u8]
-    ensures { result.now ≡ script.shown_body body.now }
+/// Puts a reply, after which the connection ends or goes on, behind what is held, and returns
+/// whether all of it is held or written. Allocates nothing.
+pub(crate) fn put_reply<W: Write>(
+    held: &mut Held,
+    writer: &mut W,
+    last: bool,
+    reply: &Reply,
+) -> bool
+    ensures { Puts result held.old held.new (W.contents writer.old) (W.contents writer.new) (spec.reply_wire last reply.now) }
 {
-    if body.is_empty() {
-        b"{\"error\":\"no_memory\"}"
-    } else {
-        body.as_bytes()
-    }
-}
-
-/// Writes a reply, after which the connection ends or goes on, and returns whether all of it was
-/// written. Allocates nothing.
-pub(crate) fn write_reply<W: Write>(writer: &mut W, last: bool, reply: &Reply) -> bool
-    ensures { WritesAll result (W.contents writer.old) (W.contents writer.new) (spec.reply_wire last reply.now) }
-{
-    write_with(writer, last, reply.status, shown_body(reply.body.as_str()))
+    put_with(
+        held,
+        writer,
+        last,
+        reply.status,
+        shown_body(reply.body.as_str()),
+    )
 }
 
 /// Returns the status of the reply to what is no message.
@@ -147,12 +126,13 @@ fn rejection_body(reason: Rejection) -> &'static [u8]
     }
 }
 
-/// Writes the reply to what is no message, and returns whether all of it was written. Allocates
-/// nothing.
-pub(crate) fn write_rejection<W: Write>(writer: &mut W, reason: Rejection) -> bool
-    ensures { WritesAll result (W.contents writer.old) (W.contents writer.new) (spec.rejection_wire reason) }
+/// Puts the reply to what is no message behind what is held, and returns whether all of it is held
+/// or written. Allocates nothing.
+pub(crate) fn put_rejection<W: Write>(held: &mut Held, writer: &mut W, reason: Rejection) -> bool
+    ensures { Puts result held.old held.new (W.contents writer.old) (W.contents writer.new) (spec.rejection_wire reason) }
 {
-    write_with(
+    put_with(
+        held,
         writer,
         true,
         rejection_status(reason),

@@ -9,4 +9,6 @@ mod faults;
 #[cfg(test)]
 mod heads;
 #[cfg(test)]
+mod held;
+#[cfg(test)]
 mod streams;

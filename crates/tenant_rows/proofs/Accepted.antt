@@ -6,9 +6,10 @@ use mir.Syntax.{w64}
 use Rattle.sqlite_trees.specs.Tree.{Trees}
 use Rattle.tenant_state.specs.State.{Change}
 use Rattle.tenant_state.specs.declared.receipts.Receipt as state
-use Rattle.tenant_tables.specs.Change.{Accepts, IsNumber, receipt_row}
-use Rattle.tenant_tables.specs.Holds.{TenantRows}
-use Rattle.tenant_tables.specs.declared.write.Receipt.{Receipt}
+use Rattle.table_writes.specs.Change.{Accepts, IsNumber}
+use Rattle.table_schema.specs.Values.{receipt_row}
+use Rattle.table_schema.specs.Holds.{TenantRows}
+use Rattle.table_schema.specs.declared.values.Receipt.{Receipt}
 use Rattle.tenant_rows.specs.Commits.{rows_with_made}
 use Rattle.tenant_rows.specs.Rows.{row_of_receipt}
 

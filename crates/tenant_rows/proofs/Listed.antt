@@ -6,15 +6,15 @@ use Rattle.sqlite_trees.specs.Tree.{Trees}
 use Rattle.crush_map.specs.Map.{Map, IsMap}
 use Rattle.crush_writing.specs.Canonical.{canonical}
 use Rattle.tenant_state.specs.State.{Inventory}
-use Rattle.tenant_tables.specs.Change.{state_row}
-use Rattle.tenant_tables.specs.Found.{Lists, IsVersionRow, IsStateRow, IsPoolRow, version_values, pool_values}
-use Rattle.tenant_tables.specs.Holds.{of_tenant}
-use Rattle.tenant_tables.specs.Layout.{maps_table, devices_table, pools_table}
-use Rattle.tenant_tables.specs.declared.refuse.Fault.{Fault}
-use Rattle.tenant_tables.specs.declared.refuse.Fault.TheVariants.{Failed}
-use Rattle.tenant_tables.specs.declared.rows.PoolRow.{PoolRow}
-use Rattle.tenant_tables.specs.declared.rows.VersionRow.{VersionRow}
-use Rattle.tenant_tables.specs.declared.write.State.{State}
+use Rattle.table_schema.specs.Values.{state_row}
+use Rattle.table_reads.specs.Found.{Lists, IsVersionRow, IsStateRow, IsPoolRow, version_values, pool_values}
+use Rattle.table_schema.specs.Holds.{of_tenant}
+use Rattle.table_schema.specs.Layout.{maps_table, devices_table, pools_table}
+use Rattle.table_schema.specs.declared.refuse.Fault.{Fault}
+use Rattle.table_schema.specs.declared.refuse.Fault.TheVariants.{Failed}
+use Rattle.table_reads.specs.declared.rows.PoolRow.{PoolRow}
+use Rattle.table_reads.specs.declared.rows.VersionRow.{VersionRow}
+use Rattle.table_schema.specs.declared.values.State.{State}
 use Rattle.tenant_rows.specs.Changes.{HasRows}
 use Rattle.tenant_rows.specs.Lists.{IsOfState, AreRowsOf}
 use Rattle.tenant_rows.specs.Rows.{rows_of_versions, row_of_state, row_of_pool}

@@ -9,11 +9,11 @@ use Rattle.crush_writing.specs.Canonical.{canonical}
 use Rattle.crush_text.specs.Reading.{map_of_stored_text}
 use Rattle.tenant_state.specs.State.{Inventory, TenantState}
 use Rattle.tenant_state.specs.Valid.{IsInventory}
-use Rattle.tenant_tables.specs.Holds.{IsTenant, of_tenant}
-use Rattle.tenant_tables.specs.Layout.{maps_table, devices_table, pools_table, receipts_table}
-use Rattle.tenant_tables.specs.declared.rows.VersionRow.{VersionRow}
-use Rattle.tenant_tables.specs.declared.rows.PoolRow.{PoolRow}
-use Rattle.tenant_tables.specs.declared.write.State.{State}
+use Rattle.table_schema.specs.Holds.{IsTenant, of_tenant}
+use Rattle.table_schema.specs.Layout.{maps_table, devices_table, pools_table, receipts_table}
+use Rattle.table_reads.specs.declared.rows.VersionRow.{VersionRow}
+use Rattle.table_reads.specs.declared.rows.PoolRow.{PoolRow}
+use Rattle.table_schema.specs.declared.values.State.{State}
 use Rattle.tenant_rows.specs.Lists.{AreRowsOf}
 use Rattle.tenant_rows.specs.Rows.{rows_of_versions, row_of_state, row_of_pool, row_of_receipt, StandsFor}
 use Rattle.tenant_rows.proofs.Orders.{one_order, versions_rise, states_rise, pools_rise, receipts_rise}

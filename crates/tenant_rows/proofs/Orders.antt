@@ -21,8 +21,8 @@ use Rattle.crush_writing.specs.Canonical.{canonical}
 use Rattle.tenant_state.specs.Ordered.{is_ascending}
 use Rattle.tenant_state.specs.Receipts.{Receipts, is_before}
 use Rattle.tenant_state.specs.State.{is_lower_device, is_lower_pool}
-use Rattle.tenant_tables.specs.Found.{IsRising, IsVersionRow, IsStateRow, IsPoolRow}
-use Rattle.tenant_tables.proofs.Rising.{below_int, below_text, neighbours}
+use Rattle.table_reads.specs.Found.{IsRising, IsVersionRow, IsStateRow, IsPoolRow}
+use Rattle.table_reads.proofs.Rising.{below_int, below_text, neighbours}
 use Rattle.tenant_rows.specs.Rows.{flag, row_of_version, rows_of_versions, row_of_state, row_of_pool, row_of_receipt}
 use Rattle.tenant_rows.proofs.Reading.{first, second}
 

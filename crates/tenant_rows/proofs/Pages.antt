@@ -23,12 +23,12 @@ use Rattle.tenant_state.specs.Ordered.{is_ascending}
 use Rattle.tenant_state.specs.Receipts.{Receipts, is_before}
 use Rattle.tenant_state.specs.Valid.{is_receipt}
 use Rattle.tenant_state.specs.declared.receipts.Receipt.{Receipt}
-use Rattle.tenant_tables.specs.Layout.{receipts_table}
-use Rattle.tenant_tables.specs.Holds.{of_tenant}
-use Rattle.tenant_tables.specs.Found.{IsRising, IsReceiptRow, Lists, Begins, rows_above, receipt_values}
-use Rattle.tenant_tables.specs.declared.rows.ReceiptRow.{ReceiptRow}
-use Rattle.tenant_tables.specs.declared.refuse.Fault.{Fault}
-use Rattle.tenant_tables.proofs.Rising.{below_text, below_text_back}
+use Rattle.table_schema.specs.Layout.{receipts_table}
+use Rattle.table_schema.specs.Holds.{of_tenant}
+use Rattle.table_reads.specs.Found.{IsRising, IsReceiptRow, Lists, Begins, rows_above, receipt_values}
+use Rattle.table_reads.specs.declared.rows.ReceiptRow.{ReceiptRow}
+use Rattle.table_schema.specs.declared.refuse.Fault.{Fault}
+use Rattle.table_reads.proofs.Rising.{below_text, below_text_back}
 use Rattle.tenant_rows.specs.Changes.{HasReceipts}
 use Rattle.tenant_rows.specs.Rows.{row_of_receipt}
 use Rattle.tenant_rows.specs.Pages.{IsOfReceipt, AreReceipts, IsTail, Leaves}

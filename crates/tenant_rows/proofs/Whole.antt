@@ -10,14 +10,14 @@ use Rattle.tenant_state.specs.Receipts.{Receipts, is_before}
 use Rattle.tenant_state.specs.State.{Inventory, TenantState, epoch, inventory_of, with_receipts}
 use Rattle.tenant_state.specs.Valid.{IsState, is_receipt}
 use Rattle.tenant_state.specs.declared.limits.TheConstants.{RECEIPT_LIMIT}
-use Rattle.tenant_tables.specs.Found.{Names, receipt_values}
-use Rattle.tenant_tables.specs.Holds.{IsTenant, of_tenant}
-use Rattle.tenant_tables.specs.Layout.{maps_table, devices_table, pools_table, receipts_table}
-use Rattle.tenant_tables.specs.declared.find.Tenant.{Tenant}
-use Rattle.tenant_tables.specs.declared.rows.PoolRow.{PoolRow}
-use Rattle.tenant_tables.specs.declared.rows.ReceiptRow.{ReceiptRow}
-use Rattle.tenant_tables.specs.declared.rows.VersionRow.{VersionRow}
-use Rattle.tenant_tables.specs.declared.write.State.{State}
+use Rattle.table_reads.specs.Found.{Names, receipt_values}
+use Rattle.table_schema.specs.Holds.{IsTenant, of_tenant}
+use Rattle.table_schema.specs.Layout.{maps_table, devices_table, pools_table, receipts_table}
+use Rattle.table_reads.specs.declared.find.Tenant.{Tenant}
+use Rattle.table_reads.specs.declared.rows.PoolRow.{PoolRow}
+use Rattle.table_reads.specs.declared.rows.ReceiptRow.{ReceiptRow}
+use Rattle.table_reads.specs.declared.rows.VersionRow.{VersionRow}
+use Rattle.table_schema.specs.declared.values.State.{State}
 use Rattle.tenant_rows.specs.Changes.{HasRows, HasReceipts}
 use Rattle.tenant_rows.specs.Lists.{IsOfState, AreRowsOf, AreRowsOfState}
 use Rattle.tenant_rows.specs.Rows.{rows_of_versions, row_of_state, row_of_pool, row_of_receipt, StandsFor}

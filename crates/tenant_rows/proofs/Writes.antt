@@ -27,12 +27,13 @@ use Rattle.tenant_state.specs.Receipts.{Receipts, receipt_of, with_receipt}
 use Rattle.tenant_state.specs.State.{CanTake, Change, Inventory, Made, NewPool, NewStates, NewVersion, RemovedPool, TenantState, after, epoch, inventory_of, is_like, is_lower_device, with_made, with_state, with_states}
 use Rattle.tenant_state.specs.Valid.{IsChange, IsInventory}
 use Rattle.tenant_state.specs.declared.receipts.Receipt.{Receipt}
-use Rattle.tenant_tables.proofs.RowFacts.{equal_itself, equal_parts}
-use Rattle.tenant_tables.specs.Change as write
-use Rattle.tenant_tables.specs.Change.{Accepts, IsNumber, receipt_row, without_key}
-use Rattle.tenant_tables.specs.Holds.{Holds, IsTenant, TenantRows}
-use Rattle.tenant_tables.specs.declared.find.Tenant.{Tenant}
-use Rattle.tenant_tables.specs.declared.write.Receipt as tables
+use Rattle.table_writes.proofs.RowFacts.{equal_itself, equal_parts}
+use Rattle.table_writes.specs.Change as write
+use Rattle.table_writes.specs.Change.{Accepts, IsNumber, without_key}
+use Rattle.table_schema.specs.Values.{receipt_row}
+use Rattle.table_schema.specs.Holds.{Holds, IsTenant, TenantRows}
+use Rattle.table_reads.specs.declared.find.Tenant.{Tenant}
+use Rattle.table_schema.specs.declared.values.Receipt as tables
 use Rattle.tenant_rows.proofs.Reading.{first, second, more_versions}
 use Rattle.tenant_rows.proofs.Turns.{keeps}
 use Rattle.tenant_rows.specs.Changes.{IsChangeable, Turns}

@@ -3,9 +3,9 @@ use Rattle.std.specs.Prelude.{ℤ, pos, ◌∷◌, map}
 use Rattle.crush_pool.specs.declared.states.DeviceState.{DeviceState}
 use Rattle.crush_writing.specs.Canonical.{canonical}
 use Rattle.tenant_state.specs.State.{Made, NewPool, NewStates, NewVersion, RemovedPool}
-use Rattle.tenant_tables.specs.Holds.{TenantRows}
-use Rattle.tenant_tables.specs.Change.{with_states, with_version, without_pool}
-use Rattle.tenant_tables.specs.declared.write.State.{State}
+use Rattle.table_schema.specs.Holds.{TenantRows}
+use Rattle.table_writes.specs.Change.{with_states, with_version, without_pool}
+use Rattle.table_schema.specs.declared.values.State.{State}
 use Rattle.tenant_rows.specs.Rows.{flag, row_of_pool}
 
 -- the numbers of a device's state

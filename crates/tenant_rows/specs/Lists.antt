@@ -3,12 +3,12 @@ use Rattle.std.specs.Prelude.{ℤ, pos, ◌≡◌, ◌≤◌, List, length, map,
 use Rattle.tenant_state.specs.State.{Inventory, TenantState, have_rules, inventory_of}
 use Rattle.tenant_state.specs.Valid.{IsInventory, are_named_once}
 use Rattle.tenant_state.specs.declared.limits.TheConstants.{POOL_LIMIT, RECEIPT_LIMIT, VERSION_LIMIT}
-use Rattle.tenant_tables.specs.Change.{state_row}
-use Rattle.tenant_tables.specs.Found.{version_values, pool_values, receipt_values}
-use Rattle.tenant_tables.specs.declared.rows.VersionRow.{VersionRow}
-use Rattle.tenant_tables.specs.declared.rows.PoolRow.{PoolRow}
-use Rattle.tenant_tables.specs.declared.rows.ReceiptRow.{ReceiptRow}
-use Rattle.tenant_tables.specs.declared.write.State.{State}
+use Rattle.table_schema.specs.Values.{state_row}
+use Rattle.table_reads.specs.Found.{version_values, pool_values, receipt_values}
+use Rattle.table_reads.specs.declared.rows.VersionRow.{VersionRow}
+use Rattle.table_reads.specs.declared.rows.PoolRow.{PoolRow}
+use Rattle.table_reads.specs.declared.rows.ReceiptRow.{ReceiptRow}
+use Rattle.table_schema.specs.declared.values.State.{State}
 use Rattle.tenant_rows.specs.Rows.{rows_of_versions, row_of_state, row_of_pool, row_of_receipt}
 
 -- it is what some state has: in its ranges and orders, within the limits, with a name for each pool

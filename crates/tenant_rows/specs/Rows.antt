@@ -11,8 +11,8 @@ use Rattle.tenant_messages.specs.Reply.{success_status}
 use Rattle.tenant_state.specs.State.{TenantState, epoch}
 use Rattle.tenant_state.specs.Valid.{IsState}
 use Rattle.tenant_state.specs.declared.receipts.Receipt.{Receipt}
-use Rattle.tenant_tables.specs.Holds.{TenantRows, Holds, IsAbsent}
-use Rattle.tenant_tables.specs.Change.{version_row}
+use Rattle.table_schema.specs.Holds.{TenantRows, Holds, IsAbsent}
+use Rattle.table_schema.specs.Values.{version_row}
 
 -- ---- the rows of each part, as values behind the tenant's number
 

@@ -6,8 +6,9 @@ ghost use Rattle.sqlite.specs.State.{HasCleanDisk, Survives};
 ghost use Rattle.tenant_messages.specs.Reply.{success_status};
 ghost use Rattle.tenant_state.specs.Made.{made_of};
 ghost use Rattle.tenant_state.specs.State.{TenantState, after};
-ghost use Rattle.tenant_tables.specs.Change as rows;
-ghost use Rattle.tenant_tables.specs.Change.{Accepts, IsNumber};
+ghost use Rattle.table_writes.specs.Change as writes;
+ghost use Rattle.table_schema.specs.Values as rows;
+ghost use Rattle.table_writes.specs.Change.{Accepts, IsNumber};
 ghost use Rattle.tenant_rows.specs.Rows as spec;
 ghost use Rattle.tenant_rows.specs.Changes.{IsChangeable, Turns};
 ghost use Rattle.tenant_rows.specs.Commits.{numbers_of, rows_with_made};
@@ -16,12 +17,12 @@ use crush_map::Text;
 use crush_pool::{DeviceState, Pool};
 use sqlite::Alter;
 use std::alloc::{AllocError, Global};
+use table_reads::find::Tenant;
+use table_schema::refuse::Fault;
+use table_schema::values::{Pool as PoolValues, Receipt as ReceiptValues, State};
 use tenant_messages::SuccessStatus;
 use tenant_state::{Change, Made, Receipt};
-use tenant_tables::find::Tenant;
-use tenant_tables::refuse::Fault;
 use tenant_tables::tables::Tables;
-use tenant_tables::write::{Pool as PoolValues, Receipt as ReceiptValues, State};
 
 // ---- numbers
 
@@ -122,11 +123,11 @@ fn write_states<'a, S: Alter>(
 ) -> Result<(), Fault>
     requires live { tables.old.1 ≡ false }
     requires there { HasCleanDisk (state S.Store tables.old.0) → IsNumber (state S.Store tables.old.0).now.trees id }
-    ensures done { HasCleanDisk (state S.Store tables.new.0) → OnOk result (Accepts id epoch receipt.now (rows.with_states (map numbers_of states.now)) (state S.Store tables.old.0).now.trees (state S.Store tables.new.0).now.trees) }
+    ensures done { HasCleanDisk (state S.Store tables.new.0) → OnOk result (Accepts id epoch receipt.now (writes.with_states (map numbers_of states.now)) (state S.Store tables.old.0).now.trees (state S.Store tables.new.0).now.trees) }
     ensures kept { HasCleanDisk (state S.Store tables.new.0) → tables.new.1 ≡ false → OnErr result ((state S.Store tables.new.0).now ≡ (state S.Store tables.old.0).now) }
     ensures latches { tables.new.1 ≡ true ↔ result ≡ Err Fault.Failed }
     ensures rows { result ≢ Err Fault.Damaged }
-    ensures crash { Survives (state S.Store tables.old.0) (state S.Store tables.new.0) (Accepts id epoch receipt.now (rows.with_states (map numbers_of states.now)) (state S.Store tables.old.0).now.trees) }
+    ensures crash { Survives (state S.Store tables.old.0) (state S.Store tables.new.0) (Accepts id epoch receipt.now (writes.with_states (map numbers_of states.now)) (state S.Store tables.old.0).now.trees) }
 {
     match all_state_values(alloc, states) {
         Ok(values) => tables.commit_states(id, epoch, &values, receipt),

@@ -14,10 +14,10 @@ use crush_pool::{Pool, rule_with_id};
 use crush_text::written_maps_are_read_back;
 use std::alloc::{AllocError, Global};
 use std::rc::Rc;
+use table_reads::rows::{PoolRow, VersionRow};
+use table_schema::values::State;
 use tenant_state::Inventory;
 use tenant_state::limits::{POOL_LIMIT, RECEIPT_LIMIT, VERSION_LIMIT};
-use tenant_tables::rows::{PoolRow, VersionRow};
-use tenant_tables::write::State;
 
 /// Whether one of some pools has a name.
 fn is_one_named(name: &str, pools: &[Rc<Pool>]) -> bool

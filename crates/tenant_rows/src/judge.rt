@@ -6,15 +6,15 @@ ghost use Rattle.sqlite.specs.Held.{state};
 ghost use Rattle.sqlite.specs.State.{HasCleanDisk, Survives};
 ghost use Rattle.sqlite_value.specs.Order.{Row};
 ghost use Rattle.tenant_state.specs.Receipts.{Receipts};
-ghost use Rattle.tenant_tables.specs.Found.{Begins, receipt_values};
+ghost use Rattle.table_reads.specs.Found.{Begins, receipt_values};
 ghost use Rattle.tenant_rows.specs.Changes.{HasReceipts};
 ghost use Rattle.tenant_rows.specs.Pages.{AreReceipts, IsOfReceipt, IsTail, Leaves};
 
 use crate::parts::is_receipt_row;
 use sqlite::Alter;
-use tenant_tables::pages::PAGE;
-use tenant_tables::refuse::Fault;
-use tenant_tables::rows::ReceiptRow;
+use table_reads::pages::PAGE;
+use table_reads::rows::ReceiptRow;
+use table_schema::refuse::Fault;
 use tenant_tables::tables::Tables;
 
 /// What is still to be judged: the receipts whose request numbers are above one, and how many they

@@ -11,8 +11,8 @@ ghost use Rattle.tenant_messages.specs.declared.reply.SuccessStatus.{SuccessStat
 ghost use Rattle.tenant_state.specs.Ordered.{is_ascending};
 ghost use Rattle.tenant_state.specs.State.{is_lower_device, is_lower_pool};
 ghost use Rattle.tenant_state.specs.Valid.{is_device_state, is_receipt};
-ghost use Rattle.tenant_tables.specs.Change.{state_row};
-ghost use Rattle.tenant_tables.specs.Found.{version_values, pool_values, receipt_values};
+ghost use Rattle.table_schema.specs.Values.{state_row};
+ghost use Rattle.table_reads.specs.Found.{version_values, pool_values, receipt_values};
 ghost use Rattle.tenant_rows.specs.Pages.{IsOfReceipt};
 ghost use Rattle.tenant_rows.specs.Rows as spec;
 
@@ -22,11 +22,11 @@ use crush_map::limits::NUMBER_LIMIT;
 use crush_pool::{DeviceState, Pool, PoolParts};
 use std::alloc::{AllocError, Global};
 use std::rc::Rc;
+use table_reads::rows::{PoolRow, ReceiptRow, VersionRow};
+use table_schema::values::State;
 use tenant_messages::SuccessStatus;
 use tenant_messages::limits::REQUEST_NUMBER_LIMIT;
 use tenant_state::{Devices, Pools, Receipt, Version};
-use tenant_tables::rows::{PoolRow, ReceiptRow, VersionRow};
-use tenant_tables::write::State;
 
 // ---- numbers
 

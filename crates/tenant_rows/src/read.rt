@@ -12,8 +12,8 @@ use crush_text::canonical_texts_are_ascii;
 use sqlite::Alter;
 use std::alloc::{AllocError, Global};
 use std::rc::Rc;
+use table_schema::refuse::Fault;
 use tenant_state::Inventory;
-use tenant_tables::refuse::Fault;
 use tenant_tables::tables::Tables;
 
 /// What the tenant with the number and the epoch has, from its rows. No row is changed.

@@ -6,16 +6,16 @@ ghost use Rattle.tenant_state.specs.Ordered.{is_ascending};
 ghost use Rattle.tenant_state.specs.Receipts.{Receipts as ListOfReceipts, is_before};
 ghost use Rattle.tenant_state.specs.State.{TenantState as StateOfTenant};
 ghost use Rattle.tenant_state.specs.Valid.{IsState, is_receipt};
-ghost use Rattle.tenant_tables.specs.Found.{receipt_values};
+ghost use Rattle.table_reads.specs.Found.{receipt_values};
 ghost use Rattle.tenant_rows.specs.Lists.{AreRowsOfState};
 ghost use Rattle.tenant_rows.specs.Rows.{row_of_receipt};
 
 use crate::inventory::inventory_from;
 use crate::parts::receipt_from;
 use std::alloc::{AllocError, Global};
+use table_reads::rows::{PoolRow, ReceiptRow, VersionRow};
+use table_schema::values::State;
 use tenant_state::{Receipts, TenantState};
-use tenant_tables::rows::{PoolRow, ReceiptRow, VersionRow};
-use tenant_tables::write::State;
 
 /// The receipts of these rows, in the order of their request numbers. `None`, exactly where they
 /// are the rows of none. `Err(AllocError)`: an allocation failed.

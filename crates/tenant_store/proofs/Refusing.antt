@@ -5,8 +5,8 @@ use mir.Syntax.{w64}
 use mir.Val.{SFits}
 use Rattle.tenant_core.specs.declared.store.StoreFault.{StoreFault}
 use Rattle.tenant_core.specs.declared.store.StoreFault.TheVariants as store
-use Rattle.tenant_tables.specs.declared.refuse.Fault.{Fault}
-use Rattle.tenant_tables.specs.declared.refuse.Fault.TheVariants.{NoMemory, Full, Damaged, Failed}
+use Rattle.table_schema.specs.declared.refuse.Fault.{Fault}
+use Rattle.table_schema.specs.declared.refuse.Fault.TheVariants.{NoMemory, Full, Damaged, Failed}
 use Rattle.tenant_store.specs.Shown.{fault_of}
 
 is_damaged : (f : Fault) → fault_of f ≡ store.Damaged → f ≡ Damaged

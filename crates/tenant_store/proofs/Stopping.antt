@@ -10,7 +10,7 @@ use Rattle.tenant_core.specs.States.{Found, Damaged, HasState as Has, LeavesAsIt
 use Rattle.tenant_rows.specs.Changes.{Turns}
 use Rattle.tenant_rows.specs.Rows.{StandsFor}
 use Rattle.tenant_state.specs.State.{TenantState}
-use Rattle.tenant_tables.specs.Run.{IsReady}
+use Rattle.table_schema.specs.Ready.{IsReady}
 use Rattle.tenant_store.specs.Laws.{LeavesCommitted, left_alone}
 use Rattle.tenant_store.specs.Shown.{HasState, MayLeave, OneState}
 

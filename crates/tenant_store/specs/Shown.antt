@@ -10,9 +10,9 @@ use Rattle.tenant_core.specs.declared.store.StoreFault.{StoreFault}
 use Rattle.tenant_core.specs.declared.store.StoreFault.TheVariants as store
 use Rattle.tenant_rows.specs.Rows.{StandsFor}
 use Rattle.tenant_state.specs.State.{TenantState}
-use Rattle.tenant_tables.specs.Run.{IsReady}
-use Rattle.tenant_tables.specs.declared.refuse.Fault.{Fault}
-use Rattle.tenant_tables.specs.declared.refuse.Fault.TheVariants.{NoMemory, Full, Damaged, Failed}
+use Rattle.table_schema.specs.Ready.{IsReady}
+use Rattle.table_schema.specs.declared.refuse.Fault.{Fault}
+use Rattle.table_schema.specs.declared.refuse.Fault.TheVariants.{NoMemory, Full, Damaged, Failed}
 
 -- the rows of a name stand for one state at most
 abbrev pub OneState : Type 0

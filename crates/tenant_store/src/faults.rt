@@ -3,8 +3,8 @@
 ghost use Rattle.std.specs.Prelude.{◌≡◌};
 ghost use Rattle.tenant_store.specs.Shown as spec;
 
+use table_schema::refuse::Fault;
 use tenant_core::StoreFault;
-use tenant_tables::refuse::Fault;
 
 /// The fault of a store.
 pub fn fault_of(fault: Fault) -> StoreFault

@@ -7,7 +7,7 @@ ghost use Rattle.sqlite_trees.specs.Tree.{Trees};
 ghost use Rattle.tenant_core.specs.States.{Found, Shows};
 ghost use Rattle.tenant_rows.specs.Rows.{StandsFor};
 ghost use Rattle.tenant_state.specs.State.{TenantState};
-ghost use Rattle.tenant_tables.specs.Run.{IsReady};
+ghost use Rattle.table_schema.specs.Ready.{IsReady};
 
 use crate::store::Store;
 use sqlite::Alter;

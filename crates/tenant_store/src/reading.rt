@@ -13,8 +13,8 @@ ghost use Rattle.tenant_state.specs.Ordered.{is_ascending};
 ghost use Rattle.tenant_state.specs.Receipts.{Receipts, is_before, receipt_of};
 ghost use Rattle.tenant_state.specs.State.{Inventory as Has, TenantState, inventory_of};
 ghost use Rattle.tenant_state.specs.Valid.{is_receipt};
-ghost use Rattle.tenant_tables.specs.Found.{AreReceipt, Names};
-ghost use Rattle.tenant_tables.specs.Holds.{rows_with};
+ghost use Rattle.table_reads.specs.Found.{AreReceipt, Names};
+ghost use Rattle.table_schema.specs.Holds.{rows_with};
 ghost use Rattle.tenant_rows.specs.Changes.{HasReceipts, HasRows};
 ghost use Rattle.tenant_rows.specs.Lists.{IsOfState};
 ghost use Rattle.tenant_rows.specs.Rows.{StandsFor, row_of_receipt};
@@ -25,11 +25,11 @@ use crate::judged::{Judged, remember};
 use sqlite::Alter;
 use std::alloc::Global;
 use std::rc::Rc;
+use table_reads::find::Tenant;
+use table_reads::rows::ReceiptRow;
 use tenant_core::StoreFault;
 use tenant_rows::{judge_receipts, read_inventory, receipt_from};
 use tenant_state::{Inventory, Receipt};
-use tenant_tables::find::Tenant;
-use tenant_tables::rows::ReceiptRow;
 use tenant_tables::tables::Tables;
 
 /// Judges a tenant's receipts, unless its name was judged, and remembers that it was. The tenant

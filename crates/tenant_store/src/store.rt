@@ -5,8 +5,8 @@ ghost use Rattle.sqlite.specs.Held.{state};
 ghost use Rattle.sqlite.specs.State.{HasCleanDisk};
 ghost use Rattle.sqlite_trees.specs.Tree.{Trees};
 ghost use Rattle.sqlite_trees.specs.View.{IsClean};
-ghost use Rattle.tenant_tables.specs.Layout.{no_schema, store_schema};
-ghost use Rattle.tenant_tables.specs.Run.{HasVersion};
+ghost use Rattle.table_schema.specs.Layout.{no_schema, store_schema};
+ghost use Rattle.tenant_tables.specs.Opened.{HasVersion};
 ghost use Rattle.tenant_rows.specs.Rows.{StandsFor};
 ghost use Rattle.tenant_store.specs.Shown.{IsHonest};
 

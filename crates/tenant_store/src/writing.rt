@@ -6,7 +6,7 @@ ghost use Rattle.sqlite.specs.Held.{state};
 ghost use Rattle.sqlite.specs.State.{HasCleanDisk, Survives};
 ghost use Rattle.tenant_core.specs.StoreReply.{is_failed};
 ghost use Rattle.tenant_state.specs.State.{CanMake, TenantState, after};
-ghost use Rattle.tenant_tables.specs.Found.{Names};
+ghost use Rattle.table_reads.specs.Found.{Names};
 ghost use Rattle.tenant_rows.specs.Changes.{Turns};
 ghost use Rattle.tenant_rows.specs.Rows.{StandsFor};
 ghost use Rattle.tenant_store.specs.Judged.{AreJudged};
@@ -16,10 +16,10 @@ use crate::judged::{Judged, update};
 use crate::reading::count_versions;
 use sqlite::Alter;
 use std::alloc::Global;
+use table_reads::find::Tenant;
 use tenant_core::StoreFault;
 use tenant_rows::write_change;
 use tenant_state::{Change, Made};
-use tenant_tables::find::Tenant;
 use tenant_tables::tables::Tables;
 
 /// How many versions there are after a change, where there were so many.

@@ -15,11 +15,11 @@ use Rattle.sqlite.specs.Does.{Tally, MakesTable, sequence_text, lacks_sequence}
 use Rattle.sqlite.specs.Effect.{Database}
 use Rattle.sqlite.specs.State.{State, Writes, Executes}
 use Rattle.sqlite.proofs.Callers.{runs_as}
-use Rattle.tenant_tables.specs.Layout.{no_schema, info, tenants, sequence, maps, devices, pools, receipts, schema_with_info, schema_with_tenants, schema_with_maps, schema_with_devices, schema_with_pools, store_schema, info_table}
-use Rattle.tenant_tables.specs.Holds.{AreTables}
-use Rattle.tenant_tables.specs.Run.{IsBare}
+use Rattle.table_schema.specs.Layout.{no_schema, info, tenants, sequence, maps, devices, pools, receipts, schema_with_info, schema_with_tenants, schema_with_maps, schema_with_devices, schema_with_pools, store_schema, info_table}
+use Rattle.table_schema.specs.Holds.{AreTables}
+use Rattle.tenant_tables.specs.Opened.{IsBare}
 use Rattle.tenant_tables.proofs.Statements.{Makes, info_text, tenants_text, maps_text, devices_text, pools_text, receipts_text, version_text, info_is, tenants_are, sequence_is, maps_are, devices_are, pools_are, receipts_are, version_is}
-use Rattle.tenant_tables.proofs.Inserting.{went, same_value, unlike, cast_null, cast_int, inserts, adds, Added}
+use Rattle.table_writes.proofs.Inserting.{went, same_value, unlike, cast_null, cast_int, inserts, adds, Added}
 
 lacks : (lacks_sequence schema_with_info ≡ false) × (lacks_sequence (created schema_with_info tenants) ≡ true)
 unfolding everything same_name

@@ -1,5 +1,1 @@
-pub mod Layout
-pub mod Holds
-pub mod Run
-pub mod Change
-pub mod Found
+pub mod Opened

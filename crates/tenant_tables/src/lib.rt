@@ -1,17 +1,6 @@
-//! The tables of tenants in SQLite: rows in and rows out.
+//! The tables of tenants in SQLite as a value: opened, read and written.
 #![tactic(auto)]
 
-pub mod ask;
-pub mod commit;
-pub mod create;
-pub mod find;
-pub mod lists;
-pub mod open;
-pub mod pages;
-pub mod refuse;
-pub mod remove;
-pub mod reopen;
-pub mod rows;
-pub mod schema;
+mod open;
+mod reopen;
 pub mod tables;
-pub mod write;

@@ -6,14 +6,15 @@ ghost use Rattle.sqlite_value.specs.declared.value.Value.TheVariants.{Int};
 ghost use Rattle.sqlite.specs.State.{HasCleanDisk, IsLive, IsUnchanged, Survives};
 ghost use Rattle.sqlite_trees.specs.View.{doubt};
 ghost use Rattle.sqlite_value.specs.Order.{column};
-ghost use Rattle.tenant_tables.specs.Layout.{no_schema, store_schema};
-ghost use Rattle.tenant_tables.specs.Run.{Commits, HasVersion, IsBare, IsReady, Rests, Stays};
+ghost use Rattle.table_schema.specs.Layout.{no_schema, store_schema};
+ghost use Rattle.table_schema.specs.Ready.{Commits, IsReady, Rests};
+ghost use Rattle.tenant_tables.specs.Opened.{HasVersion, IsBare, Stays};
 
-use crate::refuse::{Fault, fault_of, refusal};
-use crate::schema::is_ours;
-use crate::write::{Write, run_all};
 use sqlite::{Alter, Connection, Error, ErrorCode, Row};
 use std::alloc::AllocError;
+use table_schema::refuse::{Fault, fault_of, refusal};
+use table_schema::schema::is_ours;
+use table_writes::write::{Write, run_all};
 
 /// Whether the database has no table, index or view.
 fn is_empty<S: Alter>(conn: &Connection<S>) -> bool

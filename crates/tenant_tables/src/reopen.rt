@@ -7,14 +7,14 @@ ghost use Rattle.std.specs.Prelude.{◌≡◌, ◌⊎◌, false, IfOk, IfErr, Is
 ghost use Rattle.sqlite.specs.Held.{state};
 ghost use Rattle.sqlite.specs.State.{HasCleanDisk};
 ghost use Rattle.sqlite_trees.specs.View.{IsClean};
-ghost use Rattle.tenant_tables.specs.Holds.{AreTables};
-ghost use Rattle.tenant_tables.specs.Run.{IsReady};
+ghost use Rattle.table_schema.specs.Holds.{AreTables};
+ghost use Rattle.table_schema.specs.Ready.{IsReady};
 
-use crate::refuse::{Fault, fault_of};
-use crate::schema::is_ours;
 use sqlite::{Alter, Connection};
 use sqlite_trees::store::Shape;
 use std::alloc::Global;
+use table_schema::refuse::{Fault, fault_of};
+use table_schema::schema::is_ours;
 
 /// Whether the trees of the tables hold rows by rowids.
 fn are_rows<S: Alter>(store: &S) -> bool

@@ -5,26 +5,28 @@ ghost use Rattle.sqlite.specs.Held.{state};
 ghost use Rattle.sqlite.specs.State.{HasCleanDisk, Survives};
 ghost use Rattle.std.specs.List.{AllByRecursion};
 ghost use Rattle.sqlite_trees.specs.View.{IsClean};
-ghost use Rattle.tenant_tables.specs.Layout.{no_schema, store_schema, maps_table, devices_table, pools_table, receipts_table};
-ghost use Rattle.tenant_tables.specs.Run.{HasVersion, IsBare, IsReady};
-ghost use Rattle.tenant_tables.specs.Holds.{IsAbsent, of_tenant};
-ghost use Rattle.tenant_tables.specs.Found.{Names, Lists, Begins, rows_above, receipt_values, receipts_with, AreReceipt, IsReceiptRow, version_values, pool_values, IsVersionRow, IsStateRow, IsPoolRow};
-ghost use Rattle.tenant_tables.specs.Change.{Accepts, Creates, Drops, IsNumber, with_version, with_states, with_pool, without_pool, state_row};
+ghost use Rattle.table_schema.specs.Layout.{no_schema, store_schema, maps_table, devices_table, pools_table, receipts_table};
+ghost use Rattle.tenant_tables.specs.Opened.{HasVersion, IsBare};
+ghost use Rattle.table_schema.specs.Ready.{IsReady};
+ghost use Rattle.table_schema.specs.Holds.{IsAbsent, of_tenant};
+ghost use Rattle.table_reads.specs.Found.{Names, Lists, Begins, rows_above, receipt_values, receipts_with, AreReceipt, IsReceiptRow, version_values, pool_values, IsVersionRow, IsStateRow, IsPoolRow};
+ghost use Rattle.table_writes.specs.Change.{Accepts, Creates, Drops, IsNumber, with_version, with_states, with_pool, without_pool};
+ghost use Rattle.table_schema.specs.Values.{state_row};
 
-use crate::commit::{commit_no_pool, commit_pool, commit_states, commit_version};
-use crate::create::create;
-use crate::find::{Tenant, find};
-use crate::lists::{devices_of, pools_of, receipt_of, versions_of};
 use crate::open::{get_ready, set_up};
-use crate::pages::{first_receipts, receipts_after};
-use crate::refuse::Fault;
-use crate::remove::remove;
 use crate::reopen::reopen;
-use crate::rows::{PoolRow, ReceiptRow, VersionRow};
-use crate::write::{Pool, Receipt, State};
 use sqlite::{Alter, Connection};
 use std::alloc::Global;
 use std::marker::Model;
+use table_reads::find::{Tenant, find};
+use table_reads::lists::{devices_of, pools_of, receipt_of, versions_of};
+use table_reads::pages::{first_receipts, receipts_after};
+use table_reads::rows::{PoolRow, ReceiptRow, VersionRow};
+use table_schema::refuse::Fault;
+use table_schema::values::{Pool, Receipt, State};
+use table_writes::commit::{commit_no_pool, commit_pool, commit_states, commit_version};
+use table_writes::create::create;
+use table_writes::remove::remove;
 
 /// The tables of a connection. Contracts see the connection, and whether a failure has latched the
 /// tables. Then no further call is made on them.
@@ -40,7 +42,7 @@ impl<S: Alter> Model for Tables<S> {
     ghost use Rattle.std.specs.Coded.{coded×, coded_bool};
     ghost use Rattle.sqlite.specs.Held.{Held, held_code, state};
     ghost use Rattle.sqlite.specs.State.{HasCleanDisk};
-    ghost use Rattle.tenant_tables.specs.Run.{IsReady};
+    ghost use Rattle.table_schema.specs.Ready.{IsReady};
 
     ghost Value = { Held S × Bool };
 
@@ -49,6 +51,14 @@ impl<S: Alter> Model for Tables<S> {
     ghost view = { λ s. (s.conn, s.is_latched) };
 
     ghost invariant = { λ s. (s.conn.in_transaction ≡ false) × (s.is_latched ≡ false → HasCleanDisk (state S.Store s.conn) → IsReady (state S.Store s.conn)) };
+}
+
+/// Whether an answer latches the tables: only a failure does. Where memory or the disk was full, a
+/// later call may succeed.
+fn latches<T>(answer: &Result<T, Fault>) -> bool
+    ensures { IsTrue result ↔ answer.now ≡ Err Fault.Failed }
+{
+    matches!(answer, Err(Fault::Failed))
 }
 
 impl<S: Alter + Drop> Tables<S> {
@@ -117,8 +127,7 @@ impl<S: Alter> Tables<S> {
     /// Makes a tenant with epoch 0 and no other row, under a number that no tenant had before.
     ///
     /// `Err(Fault::NoMemory)`, `Err(Fault::Full)`: nothing is changed. `Err(Fault::Failed)`: the
-    /// tables
-    /// are latched.
+    /// tables are latched.
     pub fn create(&mut self, name: &str) -> Result<(), Fault>
         requires live { self.old.1 ≡ false }
         requires absent { HasCleanDisk (state S.Store self.old.0) → IsAbsent (state S.Store self.old.0).now.trees name.now }
@@ -128,20 +137,15 @@ impl<S: Alter> Tables<S> {
         ensures rows { result ≢ Err Fault.Damaged }
         ensures crash { Survives (state S.Store self.old.0) (state S.Store self.new.0) (Creates name.now (state S.Store self.old.0).now.trees) }
     {
-        match create(&mut self.conn, name) {
-            Ok(()) => Ok(()),
-            Err(fault) => {
-                self.is_latched = fault == Fault::Failed;
-                Err(fault)
-            }
-        }
+        let written = create(&mut self.conn, name);
+        self.is_latched = latches(&written);
+        written
     }
 
     /// Removes the tenant with the number, and with it each of its rows.
     ///
     /// `Err(Fault::NoMemory)`, `Err(Fault::Full)`: nothing is changed. `Err(Fault::Failed)`: the
-    /// tables
-    /// are latched.
+    /// tables are latched.
     pub fn remove(&mut self, id: i64) -> Result<(), Fault>
         requires live { self.old.1 ≡ false }
         requires there { HasCleanDisk (state S.Store self.old.0) → IsNumber (state S.Store self.old.0).now.trees id }
@@ -151,20 +155,15 @@ impl<S: Alter> Tables<S> {
         ensures rows { result ≢ Err Fault.Damaged }
         ensures crash { Survives (state S.Store self.old.0) (state S.Store self.new.0) (Drops id (state S.Store self.old.0).now.trees) }
     {
-        match remove(&mut self.conn, id) {
-            Ok(()) => Ok(()),
-            Err(fault) => {
-                self.is_latched = fault == Fault::Failed;
-                Err(fault)
-            }
-        }
+        let written = remove(&mut self.conn, id);
+        self.is_latched = latches(&written);
+        written
     }
 
     /// Adds a version of the map. `id` is the tenant's number, and `epoch` the new one.
     ///
     /// `Err(Fault::NoMemory)`, `Err(Fault::Full)`: nothing is changed. `Err(Fault::Failed)`: the
-    /// tables
-    /// are latched.
+    /// tables are latched.
     pub fn commit_version<'a>(
         &mut self,
         id: i64,
@@ -181,22 +180,16 @@ impl<S: Alter> Tables<S> {
         ensures rows { result ≢ Err Fault.Damaged }
         ensures crash { Survives (state S.Store self.old.0) (state S.Store self.new.0) (Accepts id epoch receipt.now (with_version version text.now) (state S.Store self.old.0).now.trees) }
     {
-        match commit_version(&mut self.conn, id, epoch, version, text, receipt) {
-            Ok(()) => Ok(()),
-            Err(fault) => {
-                self.is_latched = fault == Fault::Failed;
-                Err(fault)
-            }
-        }
+        let written = commit_version(&mut self.conn, id, epoch, version, text, receipt);
+        self.is_latched = latches(&written);
+        written
     }
 
     /// Sets the states of devices, each in place of an earlier one. `id` is the tenant's number,
-    /// and
-    /// `epoch` the new one.
+    /// and `epoch` the new one.
     ///
     /// `Err(Fault::NoMemory)`, `Err(Fault::Full)`: nothing is changed. `Err(Fault::Failed)`: the
-    /// tables
-    /// are latched.
+    /// tables are latched.
     pub fn commit_states<'a>(
         &mut self,
         id: i64,
@@ -212,20 +205,15 @@ impl<S: Alter> Tables<S> {
         ensures rows { result ≢ Err Fault.Damaged }
         ensures crash { Survives (state S.Store self.old.0) (state S.Store self.new.0) (Accepts id epoch receipt.now (with_states states.now) (state S.Store self.old.0).now.trees) }
     {
-        match commit_states(self.alloc, &mut self.conn, id, epoch, states, receipt) {
-            Ok(()) => Ok(()),
-            Err(fault) => {
-                self.is_latched = fault == Fault::Failed;
-                Err(fault)
-            }
-        }
+        let written = commit_states(self.alloc, &mut self.conn, id, epoch, states, receipt);
+        self.is_latched = latches(&written);
+        written
     }
 
     /// Adds a pool. `id` is the tenant's number, and `epoch` the new one.
     ///
     /// `Err(Fault::NoMemory)`, `Err(Fault::Full)`: nothing is changed. `Err(Fault::Failed)`: the
-    /// tables
-    /// are latched.
+    /// tables are latched.
     pub fn commit_pool<'a>(
         &mut self,
         id: i64,
@@ -241,20 +229,15 @@ impl<S: Alter> Tables<S> {
         ensures rows { result ≢ Err Fault.Damaged }
         ensures crash { Survives (state S.Store self.old.0) (state S.Store self.new.0) (Accepts id epoch receipt.now (with_pool pool.now) (state S.Store self.old.0).now.trees) }
     {
-        match commit_pool(&mut self.conn, id, epoch, pool, receipt) {
-            Ok(()) => Ok(()),
-            Err(fault) => {
-                self.is_latched = fault == Fault::Failed;
-                Err(fault)
-            }
-        }
+        let written = commit_pool(&mut self.conn, id, epoch, pool, receipt);
+        self.is_latched = latches(&written);
+        written
     }
 
     /// Removes the pool with the id. `id` is the tenant's number, and `epoch` the new one.
     ///
     /// `Err(Fault::NoMemory)`, `Err(Fault::Full)`: nothing is changed. `Err(Fault::Failed)`: the
-    /// tables
-    /// are latched.
+    /// tables are latched.
     pub fn commit_no_pool<'a>(
         &mut self,
         id: i64,
@@ -270,20 +253,15 @@ impl<S: Alter> Tables<S> {
         ensures rows { result ≢ Err Fault.Damaged }
         ensures crash { Survives (state S.Store self.old.0) (state S.Store self.new.0) (Accepts id epoch receipt.now (without_pool pool) (state S.Store self.old.0).now.trees) }
     {
-        match commit_no_pool(&mut self.conn, id, epoch, pool, receipt) {
-            Ok(()) => Ok(()),
-            Err(fault) => {
-                self.is_latched = fault == Fault::Failed;
-                Err(fault)
-            }
-        }
+        let written = commit_no_pool(&mut self.conn, id, epoch, pool, receipt);
+        self.is_latched = latches(&written);
+        written
     }
 
     /// The tenant with the name, or `None` where there is none.
     ///
     /// No row is changed. `Err(Fault::Damaged)`: there are several, or the row is none of this
-    /// service's.
-    /// `Err(Fault::Failed)`: the tables are latched.
+    /// service's. `Err(Fault::Failed)`: the tables are latched.
     pub fn find(&mut self, name: &str) -> Result<Option<Tenant>, Fault>
         requires live { self.old.1 ≡ false }
         ensures found { HasCleanDisk (state S.Store self.new.0) → IfOk result (Names (state S.Store self.old.0).now.trees name.now) }
@@ -294,17 +272,14 @@ impl<S: Alter> Tables<S> {
         ensures crash { Survives (state S.Store self.old.0) (state S.Store self.new.0) (λ _. ⊥) }
     {
         let found = find(&mut self.conn, name);
-        if let Err(fault) = &found {
-            self.is_latched = *fault == Fault::Failed;
-        }
+        self.is_latched = latches(&found);
         found
     }
 
     /// The versions of the map of the tenant with the number, which rise strictly.
     ///
     /// No row is changed. `Err(Fault::Damaged)`: a version stands twice, or a row is none of this
-    /// service's.
-    /// `Err(Fault::Failed)`: the tables are latched.
+    /// service's. `Err(Fault::Failed)`: the tables are latched.
     pub fn versions_of(&mut self, id: i64) -> Result<Vec<VersionRow>, Fault>
         requires live { self.old.1 ≡ false }
         ensures found { HasCleanDisk (state S.Store self.new.0) → IfOk result (λ versions. Lists (of_tenant maps_table id (state S.Store self.old.0).now.trees) (map version_values versions.items)) }
@@ -315,17 +290,14 @@ impl<S: Alter> Tables<S> {
         ensures crash { Survives (state S.Store self.old.0) (state S.Store self.new.0) (λ _. ⊥) }
     {
         let found = versions_of(self.alloc, &mut self.conn, id);
-        if let Err(fault) = &found {
-            self.is_latched = *fault == Fault::Failed;
-        }
+        self.is_latched = latches(&found);
         found
     }
 
     /// The states of devices of the tenant with the number, by the devices, which rise strictly.
     ///
     /// No row is changed. `Err(Fault::Damaged)`: a device stands twice, or a row is none of this
-    /// service's.
-    /// `Err(Fault::Failed)`: the tables are latched.
+    /// service's. `Err(Fault::Failed)`: the tables are latched.
     pub fn devices_of(&mut self, id: i64) -> Result<Vec<State>, Fault>
         requires live { self.old.1 ≡ false }
         ensures found { HasCleanDisk (state S.Store self.new.0) → IfOk result (λ states. Lists (of_tenant devices_table id (state S.Store self.old.0).now.trees) (map state_row states.items)) }
@@ -336,17 +308,14 @@ impl<S: Alter> Tables<S> {
         ensures crash { Survives (state S.Store self.old.0) (state S.Store self.new.0) (λ _. ⊥) }
     {
         let found = devices_of(self.alloc, &mut self.conn, id);
-        if let Err(fault) = &found {
-            self.is_latched = *fault == Fault::Failed;
-        }
+        self.is_latched = latches(&found);
         found
     }
 
     /// The pools of the tenant with the number, by their ids, which rise strictly.
     ///
     /// No row is changed. `Err(Fault::Damaged)`: an id stands twice, or a row is none of this
-    /// service's.
-    /// `Err(Fault::Failed)`: the tables are latched.
+    /// service's. `Err(Fault::Failed)`: the tables are latched.
     pub fn pools_of(&mut self, id: i64) -> Result<Vec<PoolRow>, Fault>
         requires live { self.old.1 ≡ false }
         ensures found { HasCleanDisk (state S.Store self.new.0) → IfOk result (λ pools. Lists (of_tenant pools_table id (state S.Store self.old.0).now.trees) (map pool_values pools.items)) }
@@ -357,17 +326,14 @@ impl<S: Alter> Tables<S> {
         ensures crash { Survives (state S.Store self.old.0) (state S.Store self.new.0) (λ _. ⊥) }
     {
         let found = pools_of(self.alloc, &mut self.conn, id);
-        if let Err(fault) = &found {
-            self.is_latched = *fault == Fault::Failed;
-        }
+        self.is_latched = latches(&found);
         found
     }
 
     /// The receipt of the request of the tenant with the number, or `None` where there is none.
     ///
     /// No row is changed. `Err(Fault::Damaged)`: there are several, or the row is none of this
-    /// service's.
-    /// `Err(Fault::Failed)`: the tables are latched.
+    /// service's. `Err(Fault::Failed)`: the tables are latched.
     pub fn receipt_of(&mut self, id: i64, request: &str) -> Result<Option<ReceiptRow>, Fault>
         requires live { self.old.1 ≡ false }
         ensures found { HasCleanDisk (state S.Store self.new.0) → IfOk result (AreReceipt (receipts_with (state S.Store self.old.0).now.trees id request.now)) }
@@ -378,9 +344,7 @@ impl<S: Alter> Tables<S> {
         ensures crash { Survives (state S.Store self.old.0) (state S.Store self.new.0) (λ _. ⊥) }
     {
         let found = receipt_of(&mut self.conn, id, request);
-        if let Err(fault) = &found {
-            self.is_latched = *fault == Fault::Failed;
-        }
+        self.is_latched = latches(&found);
         found
     }
 
@@ -399,9 +363,7 @@ impl<S: Alter> Tables<S> {
         ensures crash { Survives (state S.Store self.old.0) (state S.Store self.new.0) (λ _. ⊥) }
     {
         let found = first_receipts(self.alloc, &mut self.conn, id);
-        if let Err(fault) = &found {
-            self.is_latched = *fault == Fault::Failed;
-        }
+        self.is_latched = latches(&found);
         found
     }
 
@@ -420,9 +382,7 @@ impl<S: Alter> Tables<S> {
         ensures crash { Survives (state S.Store self.old.0) (state S.Store self.new.0) (λ _. ⊥) }
     {
         let found = receipts_after(self.alloc, &mut self.conn, id, after);
-        if let Err(fault) = &found {
-            self.is_latched = *fault == Fault::Failed;
-        }
+        self.is_latched = latches(&found);
         found
     }
 }

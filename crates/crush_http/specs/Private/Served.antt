@@ -1,22 +1,23 @@
 -- What one turn of a connection does.
 use Rattle.std.specs.Prelude.{◌≡◌, ℕ, List, [], ◌∷◌, ◌++◌, length, Bool, true, false, Option, IfSome, ⊤}
-use Rattle.std.specs.Io.KnownBytes.{Appends, Consumes}
+use Rattle.std.specs.Io.KnownBytes.{Consumes}
 use Rattle.tenant_core.specs.States.{States, Serves}
 use Rattle.tenant_core.specs.StoreReply.{IsUnavailable}
 use Rattle.tenant_messages.specs.declared.call.Call.{Call}
 use Rattle.tenant_messages.specs.declared.reply.Reply.{Reply}
-use Rattle.crush_app.specs.Play.{AppendsPart}
+use Rattle.crush_app.specs.Play.{AppendsPart, AppendsUpTo}
 use Rattle.crush_http.specs.Messages.{Message, MessageAt, Stop, HasMessages, calls_of}
-use Rattle.crush_http.specs.Serving.{Writes, LeavesUnread}
+use Rattle.crush_http.specs.Serving.{due, EndsAs, LeavesUnread}
 use Rattle.crush_http.specs.Wire.{reply_wire}
 use Rattle.crush_http.specs.declared.connection.Ended.{Ended}
 use Rattle.crush_http.specs.declared.connection.Turn.{Turn}
 use Rattle.crush_http.specs.declared.connection.Turn.TheVariants as turn
 
--- all of the bytes were written, or only a part of them
-abbrev pub WritesAll : Bool → Option (List ℕ) → Option (List ℕ) → List ℕ → Type 0
-WritesAll true from to bytes = Appends from to bytes
-WritesAll false from to bytes = AppendsPart from to bytes
+-- bytes came behind those that were held: all were written but those that are held now, or a write
+-- failed, and only a part was written
+abbrev pub Puts : Bool → List ℕ → List ℕ → Option (List ℕ) → Option (List ℕ) → List ℕ → Type 0
+Puts true held now from to bytes = AppendsUpTo now from to (held ++ bytes)
+Puts false held now from to bytes = AppendsPart from to (held ++ bytes)
 
 -- a service over a store that was and is latched, or not, replied so to the call
 pub record Replies (is_honest : Type 0) (was is : Bool) (old new : States) (call : Call) (reply : Reply) : Type 0 where
@@ -30,17 +31,18 @@ ServesAtMostOne Same One [] [] = Same
 ServesAtMostOne Same One (call ∷ []) (reply ∷ []) = One call reply
 ServesAtMostOne Same One _ _ = ⊥
 
--- a message that isn't the last was served and its reply written whole
-pub record ServesOne (One : Call → Reply → Type 0) (most : ℕ) (rest : List ℕ) (from to : Option (List ℕ)) (input : List ℕ) : Type 0 where
+-- a message that isn't the last was served, and its reply came behind what was held
+pub record ServesOne (One : Call → Reply → Type 0) (most : ℕ) (rest held now : List ℕ) (from to : Option (List ℕ)) (input : List ℕ) : Type 0 where
   pub message : Message
   pub at : MessageAt most input message rest
   pub goes_on : message.last ≡ false
   pub reply : Reply
   pub replied : One message.call reply
-  pub written : Appends from to (reply_wire false reply)
+  pub put : AppendsUpTo now from to (held ++ reply_wire false reply)
 
--- the connection ended: of what was there, what was read, and what is unread
-pub record EndsOn (Meets : List Call → List Reply → Type 0) (most : ℕ) (there : List ℕ) (old new from to : Option (List ℕ)) (ended : Ended) : Type 0 where
+-- the connection stops: of what was there, what was read, and what is unread. This holds of the
+-- stop and of what is due
+pub record EndsOn (Meets : List Call → List Reply → Type 0) (most : ℕ) (there : List ℕ) (old new : Option (List ℕ)) (Holds : Stop → List ℕ → Type 0) : Type 0 where
   pub read : List ℕ
   pub taken : Consumes old new read
   pub unread : List ℕ
@@ -51,15 +53,31 @@ pub record EndsOn (Meets : List Call → List Reply → Type 0) (most : ℕ) (th
   pub replies : List Reply
   pub count : length replies ≡ length messages
   pub meets : Meets (calls_of messages) replies
-  pub written : Writes ended stop messages replies from to
+  pub holds : Holds stop (due stop messages replies)
   pub leaves : LeavesUnread stop new
+
+-- the connection ends so once what is held now is written; what is due came behind what was held
+abbrev pub EndsHeld : Ended → List ℕ → List ℕ → Option (List ℕ) → Option (List ℕ) → Stop → List ℕ → Type 0
+EndsHeld ended held now from to stop bytes = EndsAs stop ended × AppendsUpTo now from to (held ++ bytes)
+
+-- a write failed: what was held, and what is due behind it, was written in part
+abbrev pub EndsCut : List ℕ → Option (List ℕ) → Option (List ℕ) → Stop → List ℕ → Type 0
+EndsCut held from to stop bytes = AppendsPart from to (held ++ bytes)
 
 -- P, where there is a next message
 abbrev pub OnNext : Turn → Type 0 → Type 0
 OnNext turn.Next P = P
 OnNext (turn.Ended e) P = ⊤
+OnNext turn.Cut P = ⊤
 
--- P of how it ended
+-- P of how it ends
 abbrev pub OnEnded : Turn → (Ended → Type 0) → Type 0
 OnEnded turn.Next P = ⊤
 OnEnded (turn.Ended e) P = P e
+OnEnded turn.Cut P = ⊤
+
+-- P, where a write failed
+abbrev pub OnCut : Turn → Type 0 → Type 0
+OnCut turn.Next P = ⊤
+OnCut (turn.Ended e) P = ⊤
+OnCut turn.Cut P = P

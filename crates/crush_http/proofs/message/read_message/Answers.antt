@@ -1,7 +1,7 @@
 use Rattle.std.proofs.Common.{ℕ, List, arith, subst, refl, length-append}
 use Rattle.crush_http.specs.Messages.{IsHalf}
 use Rattle.crush_http.specs.Private.Reading.{IsRequest}
-use Rattle.crush_http.proofs.Streams.{reads_both}
+use Rattle.crush_http.proofs.Streams.{reads_both, reads_nothing}
 use Rattle.crush_http.proofs.Finding.{half_body, whole_body, behind, room_long, room_front}
 use Rattle.crush_http.proofs.message.read_message.Goals as goal
 
@@ -39,3 +39,18 @@ returns-in-Fault-read_body-clause-found g c =
     (behind c.in-Ok.request.len c.bytes-bytes.result.now c.read_head.new.buffer c.bytes-bytes.ensures.value)
     (room_long c.in-Ok.request.size c.args.body.now (omega (arith, c.requires.room, is.small)))
     (c.in-Fault-read_body.ensures.fault refl))
+
+pub returns-in-Never-clause-kept : goal.returns-in-Never-clause-kept
+returns-in-Never-clause-kept g c = reads_nothing c.args.buffer.now c.read_head.new.buffer (g.R.Read.remaining c.args.reader.now) (g.R.Read.remaining c.read_head.new.reader) c.read_head.ensures.read
+
+pub returns-in-Fault-clause-kept : goal.returns-in-Fault-clause-kept
+returns-in-Fault-clause-kept g c = reads_nothing c.args.buffer.now c.read_head.new.buffer (g.R.Read.remaining c.args.reader.now) (g.R.Read.remaining c.read_head.new.reader) c.read_head.ensures.read
+
+pub returns-in-Whole-clause-kept : goal.returns-in-Whole-clause-kept
+returns-in-Whole-clause-kept g c = reads_nothing c.args.buffer.now c.read_head.new.buffer (g.R.Read.remaining c.args.reader.now) (g.R.Read.remaining c.read_head.new.reader) c.read_head.ensures.read
+
+pub returns-in-Ended-read_body-clause-kept : goal.returns-in-Ended-read_body-clause-kept
+returns-in-Ended-read_body-clause-kept g c = reads_nothing c.args.buffer.now c.read_head.new.buffer (g.R.Read.remaining c.args.reader.now) (g.R.Read.remaining c.read_head.new.reader) c.read_head.ensures.read
+
+pub returns-in-Fault-read_body-clause-kept : goal.returns-in-Fault-read_body-clause-kept
+returns-in-Fault-read_body-clause-kept g c = reads_nothing c.args.buffer.now c.read_head.new.buffer (g.R.Read.remaining c.args.reader.now) (g.R.Read.remaining c.read_head.new.reader) c.read_head.ensures.read

@@ -6,8 +6,8 @@ use Rattle.sqlite.specs.State.{Survives}
 use Rattle.sqlite_trees.specs.Tree.{Trees}
 use Rattle.crush_writing.specs.Canonical.{canonical}
 use Rattle.tenant_state.specs.Made.{made_of}
-use Rattle.tenant_tables.specs.Change.{with_pool, with_states, with_version, without_pool}
-use Rattle.tenant_tables.specs.Holds.{TenantRows}
+use Rattle.table_writes.specs.Change.{with_pool, with_states, with_version, without_pool}
+use Rattle.table_schema.specs.Holds.{TenantRows}
 use Rattle.tenant_rows.specs.Commits.{numbers_of, rows_with_made}
 use Rattle.tenant_rows.specs.Rows.{row_of_pool}
 use Rattle.tenant_rows.proofs.Accepted.{accepted, number_of, word, word_is}

@@ -7,9 +7,9 @@ use Rattle.sqlite_value.specs.Order.{Row}
 use Rattle.sqlite.specs.Effect.{Database}
 use Rattle.sqlite.specs.Held.{state}
 use Rattle.sqlite.specs.State.{HasCleanDisk}
-use Rattle.tenant_tables.specs.Found.{Begins, rows_above, receipt_values}
-use Rattle.tenant_tables.specs.Holds.{of_tenant}
-use Rattle.tenant_tables.specs.Layout.{receipts_table}
+use Rattle.table_reads.specs.Found.{Begins, rows_above, receipt_values}
+use Rattle.table_schema.specs.Holds.{of_tenant}
+use Rattle.table_schema.specs.Layout.{receipts_table}
 use Rattle.tenant_rows.specs.Changes.{HasReceipts}
 use Rattle.tenant_rows.specs.Pages.{AreReceipts, Leaves}
 use Rattle.tenant_rows.proofs.Pages.{unlisted, chained, receipts_are, same_fault}

@@ -1,8 +1,8 @@
 use Rattle.std.proofs.Common.{◌≡◌, pos, false}
 use Rattle.sqlite.specs.Held.{state}
 use Rattle.sqlite.specs.State.{HasCleanDisk, Survives}
-use Rattle.tenant_tables.specs.Layout.{receipts_table}
-use Rattle.tenant_tables.specs.Holds.{of_tenant}
+use Rattle.table_schema.specs.Layout.{receipts_table}
+use Rattle.table_schema.specs.Holds.{of_tenant}
 use Rattle.tenant_rows.specs.Pages.{Leaves}
 use Rattle.tenant_rows.proofs.Pages.{pages_left}
 use Rattle.tenant_rows.proofs.judge.judge_receipts.Given as goal

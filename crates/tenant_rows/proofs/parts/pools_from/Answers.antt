@@ -3,7 +3,7 @@ use Rattle.std.specs.Vec.Iter.{into_iter_items, into_iter_len}
 use Rattle.crush_pool.specs.Pools.{is_pool}
 use Rattle.tenant_state.specs.Ordered.{is_ascending}
 use Rattle.tenant_state.specs.State.{is_lower_pool}
-use Rattle.tenant_tables.specs.Found.{pool_values}
+use Rattle.table_reads.specs.Found.{pool_values}
 use Rattle.tenant_rows.specs.Rows.{row_of_pool}
 use Rattle.tenant_rows.proofs.Reading.{no_list, same_list, same_pool, whole, refused}
 use Rattle.tenant_rows.proofs.parts.pools_from.Goals as goal

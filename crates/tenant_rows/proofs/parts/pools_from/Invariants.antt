@@ -2,7 +2,7 @@ use Rattle.std.proofs.Common.{◌≡◌, ◌++◌, length, map, true}
 use Rattle.std.specs.List.{list_all}
 use Rattle.std.specs.Vec.Iter.{into_iter_items, into_iter_len}
 use Rattle.crush_pool.specs.Pools.{is_pool}
-use Rattle.tenant_tables.specs.Found.{pool_values}
+use Rattle.table_reads.specs.Found.{pool_values}
 use Rattle.tenant_rows.specs.Rows.{row_of_pool}
 use Rattle.tenant_rows.proofs.parts.pools_from.Given as goal
 

@@ -3,7 +3,7 @@ use Rattle.std.specs.Vec.Iter.{into_iter_items, into_iter_len}
 use Rattle.tenant_state.specs.Valid.{is_device_state}
 use Rattle.tenant_state.specs.Ordered.{is_ascending}
 use Rattle.tenant_state.specs.State.{is_lower_device}
-use Rattle.tenant_tables.specs.Change.{state_row}
+use Rattle.table_schema.specs.Values.{state_row}
 use Rattle.tenant_rows.specs.Rows.{row_of_state}
 use Rattle.tenant_rows.proofs.Reading.{no_list, same_list, same_state, whole, refused}
 use Rattle.tenant_rows.proofs.parts.states_from.Goals as goal

@@ -2,7 +2,7 @@ use Rattle.std.proofs.Common.{◌≡◌, ◌++◌, length, map, true}
 use Rattle.std.specs.List.{list_all}
 use Rattle.std.specs.Vec.Iter.{into_iter_items, into_iter_len}
 use Rattle.tenant_state.specs.Valid.{is_device_state}
-use Rattle.tenant_tables.specs.Change.{state_row}
+use Rattle.table_schema.specs.Values.{state_row}
 use Rattle.tenant_rows.specs.Rows.{row_of_state}
 use Rattle.tenant_rows.proofs.parts.states_from.Given as goal
 

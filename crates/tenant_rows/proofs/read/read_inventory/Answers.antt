@@ -5,10 +5,10 @@ use Rattle.std.proofs.lemmas.Int.{to_z-of_z}
 use Rattle.std.proofs.lemmas.Result.{err_from_is_err_and}
 use Rattle.sqlite.specs.Held.{state}
 use Rattle.sqlite.specs.State.{HasCleanDisk}
-use Rattle.tenant_tables.specs.Change.{state_row}
-use Rattle.tenant_tables.specs.Found.{Lists, version_values, pool_values}
-use Rattle.tenant_tables.specs.Holds.{of_tenant}
-use Rattle.tenant_tables.specs.Layout.{maps_table, devices_table, pools_table}
+use Rattle.table_schema.specs.Values.{state_row}
+use Rattle.table_reads.specs.Found.{Lists, version_values, pool_values}
+use Rattle.table_schema.specs.Holds.{of_tenant}
+use Rattle.table_schema.specs.Layout.{maps_table, devices_table, pools_table}
 use Rattle.tenant_rows.specs.Changes.{HasRows}
 use Rattle.tenant_rows.specs.Lists.{AreRowsOf}
 use Rattle.tenant_rows.proofs.Listed.{moved, is_live, same_fault, not_versions, not_states, not_pools, are_its_rows}

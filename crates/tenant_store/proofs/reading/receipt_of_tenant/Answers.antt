@@ -4,9 +4,9 @@ use mir.Val.{SFits}
 use Rattle.sqlite.specs.Held.{state}
 use Rattle.sqlite.specs.State.{HasCleanDisk}
 use Rattle.sqlite_value.specs.Order.{Row}
-use Rattle.tenant_tables.specs.Found.{AreReceipt, IsReceiptRow, receipts_with}
-use Rattle.tenant_tables.specs.Holds.{of_tenant}
-use Rattle.tenant_tables.specs.Layout.{receipts_table}
+use Rattle.table_reads.specs.Found.{AreReceipt, IsReceiptRow, receipts_with}
+use Rattle.table_schema.specs.Holds.{of_tenant}
+use Rattle.table_schema.specs.Layout.{receipts_table}
 use Rattle.tenant_store.proofs.Refusing.{at_word, damaged_below}
 use Rattle.tenant_store.proofs.Receipts.{not_damaged}
 use Rattle.tenant_store.proofs.reading.receipt_of_tenant.Goals as goal

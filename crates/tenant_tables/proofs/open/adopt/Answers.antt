@@ -1,6 +1,6 @@
 use Rattle.std.proofs.Common.{sym, ◌∙◌}
 use Rattle.sqlite.specs.Held.{state}
-use Rattle.tenant_tables.proofs.QueryFacts.{says_version, has_version}
+use Rattle.tenant_tables.proofs.Versions.{says_version, has_version}
 use Rattle.tenant_tables.proofs.open.adopt.Goals as goal
 
 pub returns-in-Ok-true-clause-version : goal.returns-in-Ok-true-clause-version

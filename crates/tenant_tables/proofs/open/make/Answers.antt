@@ -3,8 +3,8 @@ use Rattle.sqlite_trees.specs.Tree.{Trees}
 use Rattle.sqlite.specs.Effect.{Database}
 use Rattle.sqlite.specs.Held.{state}
 use Rattle.sqlite.proofs.StateLemmas.{survives_weaker, survives_then}
-use Rattle.tenant_tables.specs.Run.{IsBare}
-use Rattle.tenant_tables.proofs.Committing.{makes_bare}
+use Rattle.tenant_tables.specs.Opened.{IsBare}
+use Rattle.tenant_tables.proofs.Bare.{makes_bare}
 use Rattle.tenant_tables.proofs.open.make.Goals as goal
 
 pub returns-in-Ok-clause-done : goal.returns-in-Ok-clause-done

@@ -1,9 +1,10 @@
 use Rattle.sqlite.specs.Held.{state}
 use Rattle.sqlite.specs.State.{IsUnchanged}
 use Rattle.std.proofs.lemmas.Result.{IfOk-weaker, IfErr-weaker}
-use Rattle.tenant_tables.specs.Layout.{store_schema}
-use Rattle.tenant_tables.specs.Run.{Rests}
-use Rattle.tenant_tables.proofs.QueryFacts.{versions_text, versions_are, finds_versions, shown_unchanged, still_plain, commits_nothing, fails_rests}
+use Rattle.table_schema.specs.Layout.{store_schema}
+use Rattle.table_schema.specs.Ready.{Rests}
+use Rattle.tenant_tables.proofs.Versions.{versions_text, versions_are, finds_versions}
+use Rattle.table_reads.proofs.QueryFacts.{shown_unchanged, still_plain, commits_nothing, fails_rests}
 use Rattle.tenant_tables.proofs.open.versions.Goals as goal
 
 pub returns-clause-found : goal.returns-clause-found

@@ -2,7 +2,7 @@ use Rattle.std.proofs.Common.{◌≡◌, sym, subst, ap, ◌∙◌, arith}
 use Rattle.sqlite_trees.specs.Tree.{Trees}
 use Rattle.sqlite_trees.specs.View.{IsClean}
 use Rattle.sqlite.specs.Effect.{Database}
-use Rattle.tenant_tables.specs.Holds.{AreTables}
+use Rattle.table_schema.specs.Holds.{AreTables}
 use Rattle.tenant_tables.proofs.Opening.{open_store}
 use Rattle.tenant_tables.proofs.reopen.reopen.Goals as goal
 

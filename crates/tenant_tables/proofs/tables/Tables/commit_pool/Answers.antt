@@ -1,25 +1,26 @@
-use Rattle.std.proofs.Common.{rules, sym, subst, to_z, of_z}
+use Rattle.std.proofs.Common.{rules, OnOk, sym, subst, to_z, of_z}
 use Rattle.std.proofs.lemmas.Int.{to_z-of_z}
 use mir.Val.{SFits}
 use mir.Syntax.{w64}
 use Rattle.sqlite.specs.Held.{state}
 use Rattle.sqlite.specs.State.{HasCleanDisk}
-use Rattle.tenant_tables.specs.Change.{IsNumber, Accepts, with_pool}
+use Rattle.table_writes.specs.Change.{IsNumber, Accepts, with_pool}
 use Rattle.tenant_tables.proofs.tables.Tables.commit_pool.Goals as goal
 
-pub commit_pool-requires-clause-there : goal.commit_pool-requires-clause-there
-commit_pool-requires-clause-there g c clean =
+pub commit_pool-written-requires-clause-there : goal.commit_pool-written-requires-clause-there
+commit_pool-written-requires-clause-there g c clean =
     let fits-id : SFits w64 c.args.id = search rules in
     subst (IsNumber (state g.S.Store c.self.inside.conn).now.trees) (sym (to_z-of_z w64 c.args.id fits-id))
     (subst (λ p. HasCleanDisk (state g.S.Store p.0) → IsNumber (state g.S.Store p.0).now.trees c.args.id) (sym c.self.view_is) c.requires.there clean)
 
-pub returns-in-Ok-clause-done : goal.returns-in-Ok-clause-done
-returns-in-Ok-clause-done g c clean =
+pub returns-clause-done : goal.returns-clause-done
+returns-clause-done g c clean =
     let conn = c.self.inside.conn in
-    let new = state g.S.Store c.commit_pool.new.conn in
+    let new = state g.S.Store c.commit_pool-written.new.conn in
+    let answer = c.commit_pool-written.result in
     let fits-id : SFits w64 c.args.id = search rules in
     let fits-epoch : SFits w64 c.args.epoch = search rules in
-    subst (λ p. Accepts c.args.id c.args.epoch c.args.receipt.now (with_pool c.args.pool.now) (state g.S.Store p.0).now.trees new.now.trees) c.self.view_is
-    (subst (λ n. Accepts c.args.id n c.args.receipt.now (with_pool c.args.pool.now) (state g.S.Store conn).now.trees new.now.trees) (to_z-of_z w64 c.args.epoch fits-epoch)
-    (subst (λ n. Accepts n (to_z w64 (of_z w64 c.args.epoch)) c.args.receipt.now (with_pool c.args.pool.now) (state g.S.Store conn).now.trees new.now.trees) (to_z-of_z w64 c.args.id fits-id)
-    (c.in-Ok.ensures.done clean)))
+    subst (λ p. OnOk answer (Accepts c.args.id c.args.epoch c.args.receipt.now (with_pool c.args.pool.now) (state g.S.Store p.0).now.trees new.now.trees)) c.self.view_is
+    (subst (λ n. OnOk answer (Accepts c.args.id n c.args.receipt.now (with_pool c.args.pool.now) (state g.S.Store conn).now.trees new.now.trees)) (to_z-of_z w64 c.args.epoch fits-epoch)
+    (subst (λ n. OnOk answer (Accepts n (to_z w64 (of_z w64 c.args.epoch)) c.args.receipt.now (with_pool c.args.pool.now) (state g.S.Store conn).now.trees new.now.trees)) (to_z-of_z w64 c.args.id fits-id)
+    (c.commit_pool-written.ensures.done clean)))

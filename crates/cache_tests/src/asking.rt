@@ -1,0 +1,250 @@
+//! Pools on maps, and asking a cache for the placements of their groups.
+
+ghost use Rattle.std.specs.Prelude.{◌≡◌, IfOk};
+ghost use Rattle.crush_writing.specs.Canonical.{canonical};
+ghost use Rattle.crush_cache.specs.Caches.{KeepsNumbers, WasNumberOf};
+ghost use Rattle.crush_cache.specs.Contents.{content_of};
+
+use crush_bucket::Tables;
+use crush_cache::{Content, PlacementCache, SharedStates, SharedText};
+use crush_choose::{Slot, Weights};
+use crush_map::{CrushMap, ItemId, Text};
+use crush_pool::{
+    DeviceState, DeviceStates, Placement, Placer, Pool, PoolFault, PoolParts, reweights_of,
+};
+use crush_text::write_map;
+use std::alloc::{AllocError, Global};
+use std::num::NonZeroUsize;
+use std::process::Abort;
+use std::rc::Rc;
+use std::test::Fail;
+use text_tests::texts::map_of;
+
+/// What a group is asked of: a map of one device, with its state if it has one, and a pool of 12
+/// groups.
+#[derive(Clone, Copy)]
+pub(crate) struct Asked {
+    /// The id of the map's device.
+    pub(crate) device: u32,
+    /// The state of the device.
+    pub(crate) state: Option<(u32, bool)>,
+    /// The id of the pool.
+    pub(crate) pool: u32,
+    /// The name of the pool.
+    pub(crate) name: &'static str,
+    /// Whether the pool is erasure coded.
+    pub(crate) erasure: bool,
+}
+
+/// The device 0, without a state, and the pool 1. Its group g has the seed g + 1.
+pub(crate) const FIRST: Asked = Asked {
+    device: 0,
+    state: None,
+    pool: 1,
+    name: "rbd",
+    erasure: false,
+};
+
+/// A map of one device, which its rule 0 takes.
+fn map_with(alloc: Global, device: u32) -> Result<CrushMap, Fail> {
+    let text = format!(in alloc;
+        "tunable choose_local_tries 0
+tunable choose_local_fallback_tries 0
+tunable choose_total_tries 50
+tunable chooseleaf_descend_once 1
+tunable chooseleaf_vary_r 1
+tunable chooseleaf_stable 1
+device {device} osd.{device}
+type 0 osd
+type 1 host
+type 10 root
+root default {{
+ id -1
+ alg uniform
+ hash 0
+ item osd.{device} weight 1.0
+}}
+rule all {{
+ id 0
+ type replicated
+ step take default
+ step choose firstn 0 type osd
+ step emit
+}}
+"
+    )?;
+    map_of(alloc, text.as_str())
+}
+
+/// The states of devices.
+fn states_of(alloc: Global, asked: &Asked) -> Result<Vec<DeviceState>, AllocError> {
+    let mut states = Vec::new(alloc);
+    if let Some((reweight, up)) = asked.state {
+        states.push(DeviceState {
+            device: asked.device,
+            reweight,
+            up,
+        })?;
+    }
+    Ok(states)
+}
+
+/// The pool.
+fn pool_of(rt: &impl Abort, alloc: Global, asked: &Asked) -> Result<Pool, Fail> {
+    let parts = PoolParts {
+        id: asked.pool,
+        name: Text::copy(alloc, asked.name)?,
+        erasure: asked.erasure,
+        size: 1,
+        rule: 0,
+        pg_num: 12,
+        pgp_num: 12,
+        hashpspool: false,
+    };
+    match Pool::new(parts) {
+        Ok(pool) => Ok(pool),
+        Err(_) => rt.abort(),
+    }
+}
+
+/// The canonical text of a map.
+fn text_of(rt: &impl Abort, alloc: Global, map: &CrushMap) -> Result<SharedText, AllocError>
+    ensures { IfOk result (λ text. text ≡ canonical map.now) }
+{
+    match String::from_utf8(write_map(alloc, map)?) {
+        Ok(text) => SharedText::new(text),
+        Err(_) => rt.abort(),
+    }
+}
+
+/// A cache for so many placements.
+pub(crate) fn cache_for(
+    rt: &impl Abort,
+    alloc: Global,
+    capacity: usize,
+) -> Result<PlacementCache, AllocError> {
+    match NonZeroUsize::new(capacity) {
+        Some(capacity) => PlacementCache::new(alloc, capacity),
+        None => rt.abort(),
+    }
+}
+
+/// How a cache is asked.
+#[derive(Clone, Copy, PartialEq, Eq)]
+pub(crate) enum How {
+    /// By the content.
+    ByContent,
+    /// By the number of the content, after so many other contents were given numbers.
+    ByNumber(u32),
+}
+
+/// The placement of a group, and the number of its content.
+pub(crate) type Answer = (Result<Rc<Placement>, PoolFault>, u64);
+
+/// The number that a cache gives to a content.
+fn number_of(rt: &impl Abort, cache: &mut PlacementCache, content: &Content) -> u64
+    ensures number { WasNumberOf cache.new result content.now }
+    ensures kept { KeepsNumbers cache.old cache.new }
+{
+    match cache.number_of(content) {
+        Some(number) => number,
+        None => rt.abort(),
+    }
+}
+
+/// Asks a cache for the placement of a group of a placer, whose content this is.
+fn answer_of(
+    rt: &impl Abort,
+    alloc: Global,
+    cache: &mut PlacementCache,
+    placer: &Placer<'_>,
+    content: &Content,
+    group: u32,
+    how: How,
+) -> Result<Answer, Fail>
+    requires { content.now ≡ content_of placer.now }
+{
+    match how {
+        How::ByContent => {
+            let answer = cache.place(placer, content, group)?;
+            Ok((answer, number_of(rt, cache, content)))
+        }
+        How::ByNumber(others) => {
+            let number = number_of(rt, cache, content);
+            give_numbers(rt, alloc, cache, others)?;
+            Ok((cache.place_known(number, placer, group)?, number))
+        }
+    }
+}
+
+/// Asks a cache for the placement of a group. All that is needed is made anew each time.
+pub(crate) fn ask(
+    rt: &impl Abort,
+    alloc: Global,
+    cache: &mut PlacementCache,
+    asked: &Asked,
+    group: u32,
+    how: How,
+) -> Result<Answer, Fail> {
+    let map = map_with(alloc, asked.device)?;
+    let tables = Tables::build(alloc, &map)?;
+    let states = SharedStates::new(states_of(alloc, asked)?)?;
+    let weights = Weights::of(alloc, &reweights_of(alloc, states.as_slice())?)?;
+    let flags = DeviceStates::build(alloc, states.as_slice())?;
+    let pool = Rc::new(alloc, pool_of(rt, alloc, asked)?)?;
+    let text = text_of(rt, alloc, &map)?;
+    let content = Content::new(text, states.share()?, pool.clone()?);
+    match Placer::new(&map, &tables, states.as_slice(), &weights, &flags, &pool) {
+        Some(placer) => answer_of(rt, alloc, cache, &placer, &content, group, how),
+        None => rt.abort(),
+    }
+}
+
+/// Gives numbers to so many contents, which have a text that is no map's.
+pub(crate) fn give_numbers(
+    rt: &impl Abort,
+    alloc: Global,
+    cache: &mut PlacementCache,
+    count: u32,
+) -> Result<(), Fail>
+    ensures { KeepsNumbers cache.old cache.new }
+{
+    for pool in 0..count {
+        let asked = Asked {
+            pool: pool + 1,
+            ..FIRST
+        };
+        let text = SharedText::new(String::from_str(alloc, "other")?)?;
+        let states = SharedStates::new(Vec::new(alloc))?;
+        let pool = Rc::new(alloc, pool_of(rt, alloc, &asked)?)?;
+        number_of(rt, cache, &Content::new(text, states, pool));
+    }
+    Ok(())
+}
+
+/// Asserts that a placement is that of the group with a seed: on this device, which is up or not.
+pub(crate) fn assert_placed(rt: &impl Abort, answer: &Answer, seed: u32, device: u32, is_up: bool) {
+    let Ok(placement) = &answer.0 else {
+        return rt.abort();
+    };
+    let Ok(id) = i32::try_from(device) else {
+        return rt.abort();
+    };
+    let slot: Slot = Some(ItemId(id));
+    assert_eq!(rt; placement.seed, seed);
+    assert_eq!(rt; placement.raw.as_slice(), [slot].as_slice());
+    if is_up {
+        assert_eq!(rt; placement.up.as_slice(), [slot].as_slice());
+        assert_eq!(rt; placement.primary, slot);
+    } else {
+        assert!(rt; placement.primary.is_none());
+    }
+}
+
+/// Whether two answers are one placement in memory, so that the second was kept.
+pub(crate) fn is_one(rt: &impl Abort, first: &Answer, second: &Answer) -> bool {
+    match (&first.0, &second.0) {
+        (Ok(first), Ok(second)) => Rc::ptr_eq(first, second),
+        _ => rt.abort(),
+    }
+}

@@ -1,0 +1,254 @@
+//! The cache.
+
+ghost use Rattle.std.specs.Prelude.{◌≡◌, ◌+◌, ◌<◌, [], ℕ, Some, IfOk, IfErr, IfSome, is_ok, length, nat_le, nat_lt, position};
+ghost use Rattle.crush_pool.specs.Placements.{placement};
+ghost use Rattle.crush_cache.specs.Caches.{IsNumberOf, KeepsNumbers, WasNumberOf};
+ghost use Rattle.crush_cache.specs.Contents.{Content, content_eq, content_of};
+ghost use Rattle.crush_cache.specs.Private.Entries.{IsPlacementIn, IsPlacementOf};
+ghost use Rattle.crush_cache.specs.declared.limits.TheConstants.{CONTENT_LIMIT};
+
+use crate::content::Content;
+use crate::entries::{Entries, Key, keep, recall};
+use crate::limits::CONTENT_LIMIT;
+use crush_bucket::Scratch;
+use crush_pool::{Placement, Placer, PoolFault};
+use crush_rules::Out;
+use crush_text::canonical_texts_are_read;
+use lru::LruCache;
+use std::alloc::{AllocError, Global};
+use std::marker::Model;
+use std::num::NonZeroUsize;
+use std::rc::Rc;
+
+/// Placements of groups, for at most `CONTENT_LIMIT` contents. Each content has a number, which is
+/// never given again. Contracts see the contents and their numbers, and never which placements are
+/// kept.
+#[derive(Drop)]
+pub struct PlacementCache {
+    alloc: Global,
+    /// The number of the first content; the next has the next number.
+    first: u64,
+    contents: Vec<Content>,
+    entries: Entries,
+}
+
+impl Model for PlacementCache {
+    ghost use Rattle.crush_cache.specs.Caches.{Numbered};
+    ghost use Rattle.crush_cache.specs.Private.Entries.{AreNumbered, AreRight};
+
+    ghost Value = { Numbered };
+
+    ghost view = { λ a. record { first = a.first; contents = a.contents.items } };
+
+    ghost invariant = { λ a. AreNumbered (record { first = a.first; contents = a.contents.items })
+        × AreRight (λ p. p.value) (record { first = a.first; contents = a.contents.items }) a.entries.entries };
+}
+
+/// The place of the first content that is equal to another.
+fn place_of(contents: &[Content], content: &Content) -> Option<usize>
+    ensures { result ≡ position (λ c. content_eq c content.now) contents.now }
+{
+    contents.iter().position(|other| *other == *content)
+}
+
+/// The placement of a group, which is made anew.
+fn place_anew(
+    alloc: Global,
+    placer: &Placer<'_>,
+    group: u32,
+) -> Result<Result<Rc<Placement>, PoolFault>, AllocError>
+    ensures there { IfOk result (λ answer. is_ok answer ≡ nat_lt group placer.now.pool.pg_num) }
+    ensures placed { IfOk result (λ answer. IfOk answer (λ p. placement placer.now.map placer.now.states placer.now.pool group ≡ Some p.value)) }
+    ensures fault { IfOk result (λ answer. IfErr answer (λ fault. fault ≡ PoolFault.P2)) }
+{
+    if group >= placer.pool().parts().pg_num {
+        return Ok(Err(PoolFault::P2));
+    }
+    let mut scratch = Scratch::build(alloc, placer.tables())?;
+    let mut out = Out::build(alloc)?;
+    let placement = placer.place_with(alloc, &mut scratch, &mut out, group)?;
+    Ok(Ok(Rc::new(alloc, placement)?))
+}
+
+impl PlacementCache {
+    /// An empty cache, with room for so many placements.
+    /// `Err(AllocError)`: an allocation failed; nothing is changed.
+    pub fn new(alloc: Global, capacity: NonZeroUsize) -> Result<Self, AllocError>
+        ensures { IfOk result (λ cache. cache ≡ record { first = 0; contents = [] }) }
+    {
+        Ok(PlacementCache {
+            alloc,
+            first: 0,
+            contents: Vec::new(alloc),
+            entries: LruCache::new(alloc, capacity)?,
+        })
+    }
+
+    /// Empties the cache where it is full of contents. Their numbers stay given.
+    fn make_room(&mut self)
+        ensures room { length self.new.contents < CONTENT_LIMIT }
+        ensures kept { KeepsNumbers self.old self.new }
+    {
+        if self.contents.len() >= CONTENT_LIMIT {
+            self.first += self.contents.len() as u64;
+            self.contents.clear();
+            self.entries.clear();
+        }
+    }
+
+    /// Gives a content the next number. `None` where no number is left, or memory is wanting.
+    fn add(&mut self, content: &Content) -> Option<u64>
+        requires { length self.old.contents < CONTENT_LIMIT }
+        ensures number { IfSome result (λ n. IsNumberOf self.new n content.now) }
+        ensures kept { KeepsNumbers self.old self.new }
+    {
+        let number = self.first + self.contents.len() as u64;
+        if number == u64::MAX {
+            return None;
+        }
+        let Ok(again) = content.share() else {
+            return None;
+        };
+        match self.contents.push(again) {
+            Ok(()) => {}
+            Err(_) => return None,
+        }
+        Some(number)
+    }
+
+    /// The number of a content, which is a new one where the content isn't there. It is compared
+    /// with those that have its hash, whole. `None` where it can't be kept: no number is left, or
+    /// an allocation failed.
+    pub fn number_of(&mut self, content: &Content) -> Option<u64>
+        ensures number { IfSome result (λ n. IsNumberOf self.new n content.now) }
+        ensures given { IfSome result (λ n. WasNumberOf self.new n content.now) }
+        ensures kept { KeepsNumbers self.old self.new }
+        ensures found { (i : ℕ) → position (λ c. content_eq c content.now) self.old.contents ≡ Some i → (result ≡ Some (self.old.first + i)) × (self.new ≡ self.old) }
+    {
+        match place_of(self.contents.as_slice(), content) {
+            Some(place) => Some(self.first + place as u64),
+            None => {
+                self.make_room();
+                self.add(content)
+            }
+        }
+    }
+
+    /// Whether the content with a number that was given is still there.
+    pub fn has(&self, number: u64) -> bool
+        ensures { result ≡ nat_le self.now.first number }
+    {
+        self.first <= number
+    }
+
+    /// The placement that is kept of a group of the content with a number, if there is one.
+    fn kept(&mut self, number: u64, group: u32) -> Option<Rc<Placement>>
+        ensures placed { IfSome result (λ p. (c : Content) → IsNumberOf self.old number c → IsPlacementOf c group p.value) }
+        ensures same { self.new ≡ self.old }
+    {
+        recall(&mut self.entries, Key { number, group })
+    }
+
+    /// Keeps the placement of a group of the content with a number, where there is memory for it.
+    fn remember(&mut self, number: u64, group: u32, placement: Rc<Placement>)
+        requires { IsPlacementIn self.old number group placement.value }
+        ensures { self.new ≡ self.old }
+    {
+        keep(&mut self.entries, Key { number, group }, placement);
+    }
+
+    /// The placement of a group, which is made anew, and kept where there is memory for it. The
+    /// number is that of the content.
+    fn place_and_keep(
+        &mut self,
+        number: u64,
+        placer: &Placer<'_>,
+        group: u32,
+    ) -> Result<Result<Rc<Placement>, PoolFault>, AllocError>
+        requires { IsNumberOf self.old number (content_of placer.now) }
+        ensures there { IfOk result (λ answer. is_ok answer ≡ nat_lt group placer.now.pool.pg_num) }
+        ensures placed { IfOk result (λ answer. IfOk answer (λ p. placement placer.now.map placer.now.states placer.now.pool group ≡ Some p.value)) }
+        ensures fault { IfOk result (λ answer. IfErr answer (λ fault. fault ≡ PoolFault.P2)) }
+        ensures same { self.new ≡ self.old }
+    {
+        // a placement by this map is one by each map with its text, since that is this map alone
+        canonical_texts_are_read();
+        let _tunables = placer.map().tunables();
+        let answer = place_anew(self.alloc, placer, group)?;
+        if let Ok(placement) = &answer {
+            if let Ok(again) = placement.clone() {
+                self.remember(number, group, again);
+            }
+        }
+        Ok(answer)
+    }
+
+    /// The placement of a group, which is kept, or made anew. The number is that of the content.
+    fn place_numbered(
+        &mut self,
+        number: u64,
+        placer: &Placer<'_>,
+        group: u32,
+    ) -> Result<Result<Rc<Placement>, PoolFault>, AllocError>
+        requires { IsNumberOf self.old number (content_of placer.now) }
+        ensures there { IfOk result (λ answer. is_ok answer ≡ nat_lt group placer.now.pool.pg_num) }
+        ensures placed { IfOk result (λ answer. IfOk answer (λ p. placement placer.now.map placer.now.states placer.now.pool group ≡ Some p.value)) }
+        ensures fault { IfOk result (λ answer. IfErr answer (λ fault. fault ≡ PoolFault.P2)) }
+        ensures same { self.new ≡ self.old }
+    {
+        // any reader of a map also gives the prover that it is valid, which the clauses need
+        let _tunables = placer.map().tunables();
+        if group >= placer.pool().parts().pg_num {
+            return Ok(Err(PoolFault::P2));
+        }
+        match self.kept(number, group) {
+            Some(placement) => Ok(Ok(placement)),
+            None => self.place_and_keep(number, placer, group),
+        }
+    }
+
+    /// The placement of a group of a pool on a map, or `P2` where the pool has no such group: what
+    /// `crush_pool::place` answers, whatever the cache held, and whether or not there is memory or
+    /// a number left to keep it. The content is that of the placer.
+    ///
+    /// `Err(AllocError)`: an allocation for the placement itself failed.
+    pub fn place(
+        &mut self,
+        placer: &Placer<'_>,
+        content: &Content,
+        group: u32,
+    ) -> Result<Result<Rc<Placement>, PoolFault>, AllocError>
+        requires { content.now ≡ content_of placer.now }
+        ensures there { IfOk result (λ answer. is_ok answer ≡ nat_lt group placer.now.pool.pg_num) }
+        ensures placed { IfOk result (λ answer. IfOk answer (λ p. placement placer.now.map placer.now.states placer.now.pool group ≡ Some p.value)) }
+        ensures fault { IfOk result (λ answer. IfErr answer (λ fault. fault ≡ PoolFault.P2)) }
+        ensures kept { KeepsNumbers self.old self.new }
+    {
+        match self.number_of(content) {
+            Some(number) => self.place_numbered(number, placer, group),
+            None => place_anew(self.alloc, placer, group),
+        }
+    }
+
+    /// The same, by the number that this cache gave to the content of the placer, which isn't
+    /// looked at: where the placement is kept, nothing is allocated. Where the content isn't there
+    /// any more, the placement is made anew, and not kept.
+    pub fn place_known(
+        &mut self,
+        number: u64,
+        placer: &Placer<'_>,
+        group: u32,
+    ) -> Result<Result<Rc<Placement>, PoolFault>, AllocError>
+        requires { WasNumberOf self.old number (content_of placer.now) }
+        ensures there { IfOk result (λ answer. is_ok answer ≡ nat_lt group placer.now.pool.pg_num) }
+        ensures placed { IfOk result (λ answer. IfOk answer (λ p. placement placer.now.map placer.now.states placer.now.pool group ≡ Some p.value)) }
+        ensures fault { IfOk result (λ answer. IfErr answer (λ fault. fault ≡ PoolFault.P2)) }
+        ensures same { self.new ≡ self.old }
+    {
+        if self.has(number) {
+            self.place_numbered(number, placer, group)
+        } else {
+            place_anew(self.alloc, placer, group)
+        }
+    }
+}

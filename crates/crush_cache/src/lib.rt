@@ -1,0 +1,19 @@
+//! One cache of placements for all tenants: by the whole content that a placement depends on, and
+//! the group.
+//!
+//! Its tests are in the crate `cache_tests`.
+#![tactic(auto)]
+
+mod cache;
+mod content;
+mod entries;
+pub mod limits;
+mod pools;
+mod states;
+mod text;
+
+pub use cache::PlacementCache;
+pub use content::Content;
+pub use entries::{Entries, Key};
+pub use states::SharedStates;
+pub use text::SharedText;

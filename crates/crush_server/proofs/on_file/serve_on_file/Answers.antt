@@ -1,0 +1,12 @@
+-- What the opening found, the connections and the closing, put together.
+use Rattle.std.proofs.Common.{◌≡◌}
+use Rattle.crush_files.proofs.FileFacts.{both_ok}
+use Rattle.crush_server.proofs.FileFacts.{played_served}
+use Rattle.crush_server.proofs.on_file.serve_on_file.Goals as goal
+
+pub returns : goal.returns
+returns g c = record {
+  served =
+      both_ok c.serve_on_store.result (λ files said clean premise. played_served _ files _ _ (c.in_ok-store.ensures.found (clean premise)) (said premise))
+      c.serve_on_store.ensures.served c.serve_on_store.ensures.clean;
+}

@@ -1,0 +1,48 @@
+//! Connections, one after the other.
+
+ghost use Rattle.std.specs.Prelude.{◌≡◌, false, true, IfOk};
+ghost use Rattle.crush_server.specs.Served.{ServesCalls};
+
+use crate::connection::serve_stream;
+use crate::fault::ServerFault;
+use crush_app::Service;
+use crush_http::Buffers;
+use std::alloc::Global;
+use std::net::TcpListener;
+use std::time::Clock;
+use tenant_core::TenantStore;
+
+/// How many bytes that a client still sends are taken at once.
+const TAKEN_SIZE: usize = 65_536;
+
+/// Serves so many connections, one after the other. A connection counts however it ends, and so
+/// does one that can't be accepted.
+///
+/// `Err(ServerFault::Store)`: the store failed for good; the connection in which it did was served
+/// to its end. `Err(ServerFault::NoMemory)`: an allocation failed; all are made at the start, so no
+/// connection was served.
+pub fn serve_connections<T: TenantStore, C: Clock>(
+    alloc: Global,
+    clock: &C,
+    service: &mut Service<T>,
+    listener: &TcpListener,
+    connections: u32,
+) -> Result<(), ServerFault>
+    requires works { T.latched service.old ≡ false }
+    ensures served { T.is_honest service.new → ServesCalls (T.latched service.new) (T.has_state service.old) (T.has_state service.new) }
+    ensures works { IfOk result (λ _. T.latched service.new ≡ false) }
+    ensures honest { T.is_honest service.new → T.is_honest service.old }
+{
+    let mut buffers = Buffers::new(alloc)?;
+    let mut taken = vec![in alloc; 0; TAKEN_SIZE]?;
+    for _connection in 0..connections {
+        let Ok((stream, _peer)) = listener.accept() else {
+            continue;
+        };
+        serve_stream(&mut buffers, &mut taken, clock, service, &stream);
+        if service.is_latched() {
+            return Err(ServerFault::Store);
+        }
+    }
+    Ok(())
+}

@@ -1,0 +1,243 @@
+//! When replies are written: together, before a read, at the end, and a long body at once.
+
+use crate::connections::Cuts;
+use crate::streams::{REPLIES, STREAM};
+use crush_app::Service;
+use crush_http::limits::HELD_LIMIT;
+use crush_http::{Buffers, Ended, serve_with};
+use std::alloc::{AllocError, Global};
+use std::cell::Cell;
+use std::io::{self, ErrorKind, Read, Write};
+use std::test::Fail;
+
+/// A message for a path that there isn't.
+const ASKS: &[u8] = b"GET /x HTTP/1.1\r\n\r\n";
+
+/// Its reply.
+const NO_PATH: &[u8] =
+    b"HTTP/1.1 404 Not Found\r\nContent-Length: 19\r\nContent-Type: application/json\r\n\r\n{\"error\":\"no_path\"}";
+
+/// The length of the two whole messages of the stream.
+const TWO: usize = 60;
+
+/// Gives so many bytes a read at most, and notes at each read how many had been written by then.
+#[derive(Drop)]
+struct Watcher<'a> {
+    rest: &'a [u8],
+    cuts: Cuts,
+    written: &'a Cell<usize>,
+    seen: Vec<usize>,
+}
+
+impl Read for Watcher<'_> {
+    fn read(&mut self, buf: &mut [u8]) -> io::Result<usize> {
+        self.seen.push(self.written.get())?;
+        let count = self.cuts.first.min(buf.len()).min(self.rest.len());
+        self.cuts.first = self.cuts.later;
+        buf[..count].copy_from_slice(&self.rest[..count]);
+        self.rest = &self.rest[count..];
+        Ok(count)
+    }
+}
+
+/// Takes so many bytes in all, then fails, and notes the length of each write.
+#[derive(Drop)]
+struct Recorder<'a> {
+    room: usize,
+    written: &'a Cell<usize>,
+    taken: Vec<u8>,
+    lengths: Vec<usize>,
+}
+
+impl Write for Recorder<'_> {
+    fn write(&mut self, buf: &[u8]) -> io::Result<usize> {
+        self.lengths.push(buf.len())?;
+        if self.room == 0 {
+            return Err(ErrorKind::Other.into());
+        }
+        let count = buf.len().min(self.room);
+        self.room -= count;
+        self.taken.extend_from_slice(&buf[..count])?;
+        self.written.set(self.taken.len());
+        Ok(count)
+    }
+
+    fn flush(&mut self) -> io::Result<()> {
+        Ok(())
+    }
+}
+
+/// What came of a connection.
+#[derive(Drop)]
+struct Record {
+    ended: Ended,
+    taken: Vec<u8>,
+    /// How many bytes each write was given.
+    lengths: Vec<usize>,
+    /// How many bytes had been written at each read.
+    seen: Vec<usize>,
+}
+
+/// What comes of a connection to a new service, whose writer takes so many bytes.
+fn connect(
+    alloc: Global,
+    buffers: &mut Buffers,
+    input: &[u8],
+    cuts: Cuts,
+    room: usize,
+) -> Result<Record, AllocError> {
+    let mut service = Service::in_memory(alloc)?;
+    let written = Cell::new(0);
+    let mut reader = Watcher {
+        rest: input,
+        cuts,
+        written: &written,
+        seen: Vec::new(alloc),
+    };
+    let mut writer = Recorder {
+        room,
+        written: &written,
+        taken: Vec::new(alloc),
+        lengths: Vec::new(alloc),
+    };
+    let ended = serve_with(buffers, &mut service, &mut reader, &mut writer);
+    let Watcher { seen, .. } = reader;
+    let Recorder { taken, lengths, .. } = writer;
+    Ok(Record {
+        ended,
+        taken,
+        lengths,
+        seen,
+    })
+}
+
+/// Two messages, which come together, and then one more.
+const FIRST_TWO: Cuts = Cuts {
+    first: TWO,
+    later: 20_000,
+};
+
+/// The first two messages of the stream, and one more.
+fn three_messages(alloc: Global) -> Result<Vec<u8>, AllocError> {
+    let mut input = Vec::new(alloc);
+    input.extend_from_slice(&STREAM[..TWO])?;
+    input.extend_from_slice(ASKS)?;
+    Ok(input)
+}
+
+#[test]
+fn replies_are_written_before_a_read(rt: HostRuntime) -> Result<(), Fail> {
+    let input = three_messages(rt.alloc())?;
+    let mut buffers = Buffers::new(rt.alloc())?;
+    let found = connect(rt.alloc(), &mut buffers, &input, FIRST_TWO, usize::MAX)?;
+    assert_eq!(rt; found.ended, Ended::Closed);
+    let all = REPLIES.len() + NO_PATH.len();
+    assert_eq!(rt; found.seen.as_slice(), &[0, REPLIES.len(), all][..]);
+    Ok(())
+}
+
+/// The same bytes, 16 times.
+fn sixteen(alloc: Global, bytes: &[u8]) -> Result<Vec<u8>, AllocError> {
+    let mut all = Vec::new(alloc);
+    for _ in 0..16 {
+        all.extend_from_slice(bytes)?;
+    }
+    Ok(all)
+}
+
+#[test]
+fn replies_to_messages_of_one_read_are_written_together(rt: HostRuntime) -> Result<(), Fail> {
+    let input = sixteen(rt.alloc(), ASKS)?;
+    let replies = sixteen(rt.alloc(), NO_PATH)?;
+    let mut buffers = Buffers::new(rt.alloc())?;
+    let found = connect(
+        rt.alloc(),
+        &mut buffers,
+        &input,
+        Cuts::each(20_000),
+        usize::MAX,
+    )?;
+    assert_eq!(rt; found.taken.as_slice(), replies.as_slice());
+    assert_eq!(rt; found.lengths.as_slice(), &[replies.len()][..]);
+    Ok(())
+}
+
+#[test]
+fn no_write_follows_one_that_failed(rt: HostRuntime) -> Result<(), Fail> {
+    let input = three_messages(rt.alloc())?;
+    let mut buffers = Buffers::new(rt.alloc())?;
+    let found = connect(rt.alloc(), &mut buffers, &input, FIRST_TWO, 150)?;
+    assert_eq!(rt; found.ended, Ended::WriteFault);
+    assert_eq!(rt; found.taken.as_slice(), &REPLIES[..150]);
+    assert_eq!(rt; found.lengths.len(), 2);
+    assert_eq!(rt; found.seen.as_slice(), &[0][..]);
+    Ok(())
+}
+
+#[test]
+fn a_connection_finds_nothing_of_the_last_one(rt: HostRuntime) -> Result<(), Fail> {
+    let mut buffers = Buffers::new(rt.alloc())?;
+    let whole = Cuts::each(20_000);
+    for room in [usize::MAX, 150, 0] {
+        connect(rt.alloc(), &mut buffers, STREAM, whole, room)?;
+        let found = connect(rt.alloc(), &mut buffers, ASKS, whole, usize::MAX)?;
+        assert_eq!(rt; found.ended, Ended::Closed, "after {room} bytes");
+        assert_eq!(rt; found.taken.as_slice(), NO_PATH, "after {room} bytes");
+    }
+    Ok(())
+}
+
+/// A body that imports a map, whose text has more bytes than are held.
+fn long_map(alloc: Global) -> Result<String, AllocError> {
+    let mut body = String::new(alloc);
+    body.push_str("{\"request\":\"r\",\"text\":\"tunable choose_local_tries 0\\n")?;
+    body.push_str("tunable choose_local_fallback_tries 0\\ntype 0 osd\\n")?;
+    for number in 0..1_024 {
+        let device = format!(in alloc;
+            "device {number} a.name.of.some.sixty.letters.for.a.long.reply.of.a.server.{number}\\n"
+        )?;
+        body.push_str(&device)?;
+    }
+    body.push_str("\"}")?;
+    Ok(body)
+}
+
+/// Messages that make a tenant, import such a map, ask for its text, and ask once more.
+fn long_messages(alloc: Global) -> Result<Vec<u8>, AllocError> {
+    let body = long_map(alloc)?;
+    let length = body.len();
+    let head = format!(in alloc;
+        "PUT /t/a HTTP/1.1\r\n\r\nPOST /t/a/maps HTTP/1.1\r\nContent-Length: {length}\r\n\r\n"
+    )?;
+    let mut input = Vec::new(alloc);
+    input.extend_from_slice(head.as_bytes())?;
+    input.extend_from_slice(body.as_bytes())?;
+    input.extend_from_slice(b"GET /t/a/maps/1 HTTP/1.1\r\n\r\n")?;
+    input.extend_from_slice(ASKS)?;
+    Ok(input)
+}
+
+#[test]
+fn a_body_longer_than_what_is_held_is_written_at_once(rt: HostRuntime) -> Result<(), Fail> {
+    let input = long_messages(rt.alloc())?;
+    let mut buffers = Buffers::new(rt.alloc())?;
+    let found = connect(
+        rt.alloc(),
+        &mut buffers,
+        &input,
+        Cuts::each(20_000),
+        usize::MAX,
+    )?;
+    assert_eq!(rt; found.ended, Ended::Closed);
+    let mut long = 0;
+    for length in found.lengths.as_slice() {
+        long = long.max(*length);
+    }
+    assert!(rt; long > HELD_LIMIT, "{long} bytes");
+    let front = format!(in rt.alloc();
+        "HTTP/1.1 201 Created\r\nContent-Length: 24\r\nContent-Type: application/json\r\n\r\n{{\"epoch\":0,\"tenant\":\"a\"}}HTTP/1.1 201 Created\r\nContent-Length: 23\r\nContent-Type: application/json\r\n\r\n{{\"epoch\":1,\"version\":1}}HTTP/1.1 200 OK\r\nContent-Length: {long}\r\nContent-Type: application/json\r\n\r\n{{\"text\":\"# begin crush map\\n"
+    )?;
+    assert!(rt; found.taken.starts_with(front.as_bytes()));
+    assert!(rt; found.taken.ends_with(NO_PATH));
+    Ok(())
+}

@@ -1,0 +1,40 @@
+//! Queries, which leave the rows as they are.
+
+ghost use Rattle.std.specs.Prelude.{◌≡◌, ◌≢◌, ◌⊎◌, false, IfOk, IfErr, Err};
+ghost use Rattle.sqlite.specs.Given.{IsPlain};
+ghost use Rattle.sqlite.specs.Held.{state};
+ghost use Rattle.sqlite.specs.Listing.{understood};
+ghost use Rattle.sqlite.specs.State.{HasCleanDisk, Shown, Survives};
+ghost use Rattle.sqlite.specs.Values.{bound};
+ghost use Rattle.table_schema.specs.Layout.{store_schema};
+ghost use Rattle.table_schema.specs.Ready.{IsReady, Remains};
+
+use sqlite::types::ValueRef;
+use sqlite::{Alter, Connection, Row};
+use table_schema::refuse::{Fault, refusal};
+
+/// The rows that a query answers.
+///
+/// `Err(Fault::NoMemory)`: nothing is changed.
+pub fn ask<S: Alter>(
+    conn: &mut Connection<S>,
+    sql: &str,
+    params: &[ValueRef<'_>],
+) -> Result<Vec<Row>, Fault>
+    requires autocommit { conn.old.in_transaction ≡ false }
+    requires ready { HasCleanDisk (state S.Store conn.old) → IsReady (state S.Store conn.old) }
+    requires plain { IsPlain (understood store_schema sql.now) }
+    ensures shown { HasCleanDisk (state S.Store conn.new) → IfOk result (λ rows. Shown sql.now (bound params.now) (state S.Store conn.old) (state S.Store conn.new) rows.items) }
+    ensures remains { HasCleanDisk (state S.Store conn.new) → result ≢ Err Fault.Failed → Remains (state S.Store conn.old) (state S.Store conn.new) }
+    ensures faults { IfErr result (λ fault. (fault ≡ Fault.NoMemory) ⊎ (fault ≡ Fault.Failed)) }
+    ensures survives { Survives (state S.Store conn.old) (state S.Store conn.new) (λ _. ⊥) }
+    ensures ended { conn.new.in_transaction ≡ false }
+{
+    match conn.query_all(sql, params) {
+        Ok(rows) => Ok(rows),
+        Err(error) => match refusal(conn, error) {
+            Fault::NoMemory => Err(Fault::NoMemory),
+            _ => Err(Fault::Failed),
+        },
+    }
+}

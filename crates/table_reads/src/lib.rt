@@ -1,0 +1,9 @@
+//! The rows of tenants, read from their tables in SQLite.
+#![tactic(auto)]
+
+mod ask;
+pub mod find;
+pub mod lists;
+pub mod pages;
+mod read;
+pub mod rows;

@@ -1,0 +1,82 @@
+//! What a query answered as values: one row or none, or a list that rises.
+
+ghost use Rattle.std.specs.Prelude.{◌≡◌, ◌≢◌, ◌⊎◌, ◌↔◌, ◌<◌, [], ◌∷◌, map, false, IsTrue, IfOk, IfErr, IfSome, None, Err};
+ghost use Rattle.std.specs.List.{AllByRecursion};
+ghost use Rattle.sqlite_value.specs.Order.{Row as Values};
+ghost use Rattle.table_reads.specs.Found.{IsRising};
+
+use crate::rows::TenantRow;
+use sqlite::Row;
+use std::alloc::{AllocError, Global};
+use table_schema::refuse::Fault;
+
+/// The one row, or `None` where there is no row.
+///
+/// `Err(Fault::Damaged)`: there are several, or it is no such row.
+pub fn one_of<T: TenantRow + Drop>(rows: &[Row]) -> Result<Option<T>, Fault>
+    ensures some { IfOk result (λ o. IfSome o (λ x. rows.now ≡ T.values x ∷ [])) }
+    ensures none { IfOk result (λ o. o ≡ None → rows.now ≡ []) }
+    ensures damaged { result ≡ Err Fault.Damaged → (rows.now ≢ []) × ((row : Values) → T.is_one row → rows.now ≢ row ∷ []) }
+    ensures faults { IfErr result (λ fault. (fault ≡ Fault.NoMemory) ⊎ (fault ≡ Fault.Damaged)) }
+{
+    let [row] = rows else {
+        return if rows.is_empty() {
+            Ok(None)
+        } else {
+            Err(Fault::Damaged)
+        };
+    };
+    match T::from_values(row) {
+        Ok(Some(value)) => Ok(Some(value)),
+        Ok(None) => Err(Fault::Damaged),
+        Err(AllocError) => Err(Fault::NoMemory),
+    }
+}
+
+/// The values of the rows, in their order, or `None` where one of them is no such row.
+fn all_in<T: TenantRow + Drop>(alloc: Global, rows: &[Row]) -> Result<Option<Vec<T>>, AllocError>
+    ensures some { IfOk result (λ o. IfSome o (λ list. rows.now ≡ map T.values list.items)) }
+    ensures none { IfOk result (λ o. o ≡ None → ¬ AllByRecursion T.is_one rows.now) }
+{
+    let mut list = Vec::new(alloc);
+    for row in rows {
+        match T::from_values(row)? {
+            Some(value) => list.push(value)?,
+            None => return Ok(None),
+        }
+    }
+    Ok(Some(list))
+}
+
+/// Whether the keys rise strictly.
+fn rise<T: TenantRow>(list: &[T]) -> bool
+    ensures { IsTrue result ↔ IsRising (map T.values list.now) }
+{
+    for place in 1..list.len() {
+        if !list[place - 1].is_below(&list[place]) {
+            return false;
+        }
+    }
+    true
+}
+
+/// The rows as values, which rise strictly by their keys.
+///
+/// `Err(Fault::Damaged)`: they do not rise, or one is no such row.
+pub fn list_of<T: TenantRow + Drop>(alloc: Global, rows: &[Row]) -> Result<Vec<T>, Fault>
+    ensures list { IfOk result (λ list. (rows.now ≡ map T.values list.items) × IsRising rows.now) }
+    ensures damaged { result ≡ Err Fault.Damaged → AllByRecursion T.is_one rows.now → ¬ IsRising rows.now }
+    ensures faults { IfErr result (λ fault. (fault ≡ Fault.NoMemory) ⊎ (fault ≡ Fault.Damaged)) }
+{
+    match all_in(alloc, rows) {
+        Ok(Some(list)) => {
+            if rise(&list) {
+                Ok(list)
+            } else {
+                Err(Fault::Damaged)
+            }
+        }
+        Ok(None) => Err(Fault::Damaged),
+        Err(AllocError) => Err(Fault::NoMemory),
+    }
+}

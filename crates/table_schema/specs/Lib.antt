@@ -1,0 +1,4 @@
+pub mod Layout
+pub mod Holds
+pub mod Values
+pub mod Ready

@@ -1,0 +1,29 @@
+-- The values of a tenant's rows, behind the tenant's number.
+use Rattle.std.specs.Prelude.{ℕ, ℤ, List, [], ◌∷◌}
+use Rattle.sqlite_value.specs.declared.value.Value.TheVariants.{Int, Text as Words}
+use Rattle.sqlite_value.specs.Order.{Row}
+use Rattle.table_schema.specs.declared.values.Pool.{Pool}
+use Rattle.table_schema.specs.declared.values.Receipt.{Receipt}
+use Rattle.table_schema.specs.declared.values.State.{State}
+
+abbrev pub version_row : ℤ → List ℕ → Row
+version_row version text = Int version ∷ Words text ∷ []
+
+abbrev pub state_row : State → Row
+state_row state = Int state.device ∷ Int state.reweight ∷ Int state.up ∷ []
+
+abbrev pub pool_row : Pool → Row
+pool_row pool =
+    Int pool.id
+    ∷ Words pool.name.now
+    ∷ Int pool.erasure
+    ∷ Int pool.size
+    ∷ Int pool.rule
+    ∷ Int pool.pg_num
+    ∷ Int pool.pgp_num
+    ∷ Int pool.hashpspool
+    ∷ []
+
+abbrev pub receipt_row : Receipt → Row
+receipt_row receipt =
+    Words receipt.request.now ∷ Words receipt.path.now ∷ Words receipt.body.now ∷ Int receipt.status ∷ Words receipt.reply.now ∷ []

@@ -1,0 +1,9 @@
+//! The tables of tenants in SQLite: their schema, the values of their rows, and why a call fails.
+#![tactic(auto)]
+
+mod columns;
+mod one_test;
+mod parts;
+pub mod refuse;
+pub mod schema;
+pub mod values;

@@ -1,0 +1,12 @@
+pub mod Statements
+pub mod RowFacts
+pub mod Inserting
+pub mod Taking
+pub mod Creating
+pub mod Raising
+pub mod Deleting
+pub mod Removing
+pub mod Turning
+pub mod Committing
+pub mod Accepting
+pub mod RunFacts

@@ -1,0 +1,63 @@
+-- What the commits make of the rows of a tenant.
+use Rattle.std.specs.Prelude.{◌≡◌, ℕ, ℤ, pos, List, [], ◌∷◌, filter, fold, not}
+use Rattle.std.specs.List.{AllByRecursion}
+use Rattle.sqlite_value.specs.declared.value.Value.TheVariants.{Int}
+use Rattle.sqlite_value.specs.declared.keys.Collation.TheVariants.{Binary}
+use Rattle.sqlite_value.specs.Order.{Row, column}
+use Rattle.sqlite_trees.specs.Tree.{Trees}
+use Rattle.sqlite_schema.specs.Rules.{equal}
+use Rattle.table_schema.specs.Layout.{tables_of_tenants}
+use Rattle.table_schema.specs.Holds.{rows_with, IsTenant, IsAbsent, TenantRows, Holds, Turns}
+use Rattle.table_schema.specs.Values.{version_row, state_row, pool_row, receipt_row}
+use Rattle.table_schema.specs.declared.values.Pool.{Pool}
+use Rattle.table_schema.specs.declared.values.Receipt.{Receipt}
+use Rattle.table_schema.specs.declared.values.State.{State}
+
+-- the rows of a new tenant
+abbrev pub fresh_rows : TenantRows
+fresh_rows = record { epoch = 0; maps = []; devices = []; pools = []; receipts = [] }
+
+-- the rows that begin with another number
+abbrev pub without_key : ℤ → List Row → List Row
+without_key key rows = filter (λ row. not (equal Binary (column row 0) (Int key))) rows
+
+-- the state stands in place of an earlier one of its device
+abbrev pub with_state : List Row → State → List Row
+with_state rows state = state_row state ∷ without_key state.device rows
+
+-- what each commit does to the rows
+abbrev pub with_version : ℤ → List ℕ → TenantRows → TenantRows
+with_version version text rows = record rows { maps = version_row version text ∷ rows.maps }
+
+abbrev pub with_states : List State → TenantRows → TenantRows
+with_states states rows = record rows { devices = fold with_state rows.devices states }
+
+abbrev pub with_pool : Pool → TenantRows → TenantRows
+with_pool pool rows = record rows { pools = pool_row pool ∷ rows.pools }
+
+abbrev pub without_pool : ℤ → TenantRows → TenantRows
+without_pool pool rows = record rows { pools = without_key pool rows.pools }
+
+abbrev pub with_receipt : Receipt → TenantRows → TenantRows
+with_receipt receipt rows = record rows { receipts = receipt_row receipt ∷ rows.receipts }
+
+-- The number is that of a tenant.
+abbrev pub IsNumber : Trees → ℤ → Type 0
+IsNumber db id = (name : List ℕ) × (epoch : ℕ) × IsTenant db name id epoch
+
+-- The tenant with the number has this change of its rows, its receipt and this epoch, and each
+-- other name keeps its rows.
+abbrev pub Accepts : ℤ → ℤ → Receipt → (TenantRows → TenantRows) → Trees → Trees → Type 0
+Accepts id epoch receipt change old new =
+    (name : List ℕ) (rows : TenantRows) (e : ℕ) → (held : Holds old name rows) → held.id ≡ id → epoch ≡ pos e
+    → Turns name (λ db. Holds db name (record (with_receipt receipt (change rows)) { epoch = e })) old new
+
+-- The name has a new tenant, and each other name keeps its rows.
+abbrev pub Creates : List ℕ → Trees → Trees → Type 0
+Creates name = Turns name (λ db. Holds db name fresh_rows)
+
+-- The tenant with the number is gone with all its rows, and each other name keeps its own.
+abbrev pub Drops : ℤ → Trees → Trees → Type 0
+Drops id old new =
+    (name : List ℕ) (epoch : ℕ) → IsTenant old name id epoch
+    → Turns name (λ db. IsAbsent db name × AllByRecursion (λ table. rows_with 1 (Int id) (db table.tree) ≡ []) tables_of_tenants) old new

@@ -1,8 +1,0 @@
-use Rattle.std.proofs.Common.{◌≡◌, None, slice_get, option_copied, sym, ap, ◌∙◌}
-use Rattle.tenant_tables.proofs.Tested.{past}
-use Rattle.tenant_tables.proofs.schema.sides.Goals as goal
-
-pub returns-in_default-5-clause-other : goal.returns-in_default-5-clause-other
-returns-in_default-5-clause-other c _ a b is =
-    let none : slice_get c.args.nodes.now c.args.at ≡ None = sym c.get.ensures.value ∙ ap option_copied c.in_default.is in
-    absurd (let e = sym (past c.args.nodes.now c.args.at none) ∙ is in cc)

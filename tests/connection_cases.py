@@ -1,0 +1,133 @@
+"""Connections to the program as a server, each with what it has to send back by the rules of requests."""
+import pathlib
+import socket
+import threading
+import time
+
+from replies import BAD, EXISTS, TOO_LARGE, made, short, there
+from served import Server, asked, message, replies_on, reset
+
+HERE = pathlib.Path(__file__).resolve().parent
+
+LENGTH = b'501 {"error":"length"}'
+WAIT = 5
+MESSAGES = 10_000
+
+
+def unlike(got, want):
+    """Where something isn't what it has to be, or None."""
+    return None if got == want else f"it is {short(got)}, not {short(want)}"
+
+
+def first(*whys):
+    return next((it for it in whys if it), None)
+
+
+def goes_on(server):
+    """Why the next client isn't served as ever, or None."""
+    return unlike(asked(server, [b"PUT /t/next", b"GET /t/next", b"DELETE /t/next"])[:2], [made(b"next"), there(b"next")])
+
+
+def two_messages(program, db):
+    """Two messages of one connection, and the replies before the client says that nothing more comes."""
+    with Server(program, db) as server, server.connect() as connection:
+        connection.sendall(message(b"PUT /t/a") + message(b"GET /t/a"))
+        connection.settimeout(WAIT - 1)
+        want = [b"HTTP/1.1 201 Created\r\nContent-Length: 24\r\nContent-Type: application/json\r\n\r\n" b'{"epoch":0,"tenant":"a"}',
+                b"HTTP/1.1 200 OK\r\nContent-Length: 59\r\nContent-Type: application/json\r\n\r\n" b'{"devices":0,"epoch":0,"pools":0,"tenant":"a","versions":0}']
+        got = b""
+        while len(got) < len(b"".join(want)):
+            got += connection.recv(4096)
+        connection.shutdown(socket.SHUT_WR)
+        return unlike(got, b"".join(want)) or unlike(replies_on(connection), ([], False))
+
+
+def byte_by_byte(program, db):
+    """Each byte in a segment of its own."""
+    with Server(program, db) as server, server.connect() as connection:
+        for byte in message(b"PUT /t/a") + message(b'POST /t/a/pick {"bucket":{"id":-1,"items":[{"item":4,"weight":65536}],"kind":"list"},"r":0,"x":0}'):
+            connection.send(bytes([byte]))
+        connection.shutdown(socket.SHUT_WR)
+        return unlike(replies_on(connection), ([made(b"a"), b'200 {"item":4}'], False))
+
+
+def examples(program, db):
+    """The stored scripts over one connection each, all to one server that is begun anew for each."""
+    for path in sorted((HERE.parent / "examples").glob("*.script")):
+        with Server(program, db.with_name(f"{path.stem}.db")) as server:
+            if why := unlike(asked(server, path.read_bytes().splitlines()), path.with_suffix(".out").read_bytes().splitlines()):
+                return f"{path.name}: {why}"
+    return None
+
+
+def refusals(program, db):
+    """What is no message ends its connection, after the reply, and nothing behind it is read."""
+    head, more = b"POST /t/a/test HTTP/1.1\r\n", message(b"DELETE /t/a")
+    bad = {
+        b"nonsense\r\n\r\n": BAD, head + b"Transfer-Encoding: chunked\r\n\r\n": LENGTH, head + b"Content-Length: 1048577\r\n\r\n": TOO_LARGE,
+        head + b"Content-Length: 1\r\nContent-Length: 1\r\n\r\n": BAD, b"GET /" + b"x" * 8192: BAD, head + b"A: b\r\n" * 33 + b"\r\n": BAD,
+    }
+    with Server(program, db) as server:
+        for data, want in bad.items():
+            with server.connect() as connection:
+                connection.sendall(message(b"PUT /t/a") + data + more)
+                connection.shutdown(socket.SHUT_WR)
+                found, ended = replies_on(connection)
+            if found[1:] != [want] or found[0] not in (made(b"a"), EXISTS) or not ended:
+                return f"{data[:60]!r}: the replies are {found}"
+        return unlike(asked(server, [b"GET /t/a"]), [there(b"a")])
+
+
+def last_messages(program, db):
+    """Connection: close, HTTP/1.0 and the last message that a connection may have end it; what follows is not served."""
+    more = message(b"DELETE /t/a")
+    with Server(program, db) as server:
+        asked(server, [b"PUT /t/a"])
+        for last in (message(b"GET /t/a", b"connection: CLOSE"), message(b"GET /t/a", version=b"1.0"), message(b"GET /t/a") * MESSAGES):
+            with server.connect() as connection:
+                sender = threading.Thread(target=lambda: connection.sendall(last + more))
+                sender.start()
+                found, ended = replies_on(connection)
+                sender.join()
+            if set(found) != {there(b"a")} or len(found) != (MESSAGES if len(last) > 1000 else 1) or not ended:
+                return f"{last[:60]!r}: there are {len(found)} replies, of which the last is {found[-1:]}"
+        return unlike(asked(server, [b"GET /t/a"]), [there(b"a")])
+
+
+def silent_client(program, db):
+    """A client that says nothing is let go after five seconds, and then the next is served."""
+    with Server(program, db) as server, server.connect() as silent:
+        start = time.monotonic()
+        why, spent = goes_on(server), time.monotonic() - start
+        return why or unlike(silent.recv(1), b"") or (None if WAIT - 1 < spent < WAIT + 5 else f"the next waited {spent:.1f} seconds")
+
+
+def resets(program, db):
+    """A client that resets its connection, before a message, in one, and with replies on their way, does no harm."""
+    whole = message(b"GET /t/a")
+    with Server(program, db) as server:
+        for data in (b"", whole[:10], message(b'POST /t/a/pick {"x":1}')[:-3], whole, whole * 2000):
+            connection = server.connect()
+            connection.sendall(data)
+            reset(connection)
+            if why := goes_on(server):
+                return f"after {len(data)} bytes: {why}"
+        return None
+
+
+def half_closes(program, db):
+    """A client that shuts its writing side gets the replies to what was whole, and nothing else."""
+    data = message(b"PUT /t/a") + message(b"GET /t/a")
+    with Server(program, db) as server:
+        for cut in (0, 10, len(message(b"PUT /t/a")), len(data) - 1):
+            with server.connect() as connection:
+                connection.sendall(data[:cut])
+                connection.shutdown(socket.SHUT_WR)
+                found, ended = replies_on(connection)
+            if ended or len(found) != (cut >= len(message(b"PUT /t/a"))) or not set(found) <= {made(b"a"), EXISTS}:
+                return f"cut at {cut}: {found}"
+        return goes_on(server)
+
+
+def cases():
+    return (two_messages, byte_by_byte, examples, refusals, last_messages, silent_client, resets, half_closes)

@@ -1,0 +1,95 @@
+"""A full disk: what is answered, and that the server goes on when there is room again. A file system of two MiB in memory is mounted for it,
+which takes root; elsewhere there is no check."""
+import errno
+import os
+import pathlib
+import subprocess
+
+import map_cases
+from proxy import run
+from served import Server, asked, run_to_end
+from stored import STORE_FAULT
+
+FULL = b'503 {"error":"store_failed"}'
+SIZE = "2m"
+
+
+def import_of(place):
+    return map_cases.import_of(map_cases.tiny(), f"m{place}")
+
+
+def fill(server, first):
+    """Imports until one is refused: the number of the last that was accepted, and the last reply."""
+    for place in range(first, first + 1000):
+        reply, = asked(server, [import_of(place)])
+        if reply != map_cases.imported(place, place):
+            break
+    return place - 1, reply
+
+
+def take_the_rest(path):
+    """Writes until nothing more goes onto the disk."""
+    with open(path, "wb", buffering=0) as rest:
+        try:
+            while rest.write(bytes(512)):
+                pass
+        except OSError as error:
+            if error.errno != errno.ENOSPC:
+                raise
+
+
+def starts(program, db, summary):
+    """Why a start on the full disk doesn't serve, or a clean end there isn't refused after its reply, or None."""
+    with Server(program, db) as server:
+        found = asked(server, [b"GET /t/a"])
+    if found != [summary]:
+        return f"a start on the full disk serves {found}"
+    # a clean end copies the log into the file
+    found = run_to_end(program, "script", "--db", str(db), data=b"GET /t/a\n")
+    return None if found == (1, summary + b"\n", STORE_FAULT) else f"a clean end on the full disk: {found}"
+
+
+def at_full_disk(program, folder):
+    """Nothing but changes is refused while the disk is full, and they are accepted once there is room. A start with the
+    log of before needs none; a clean end does, and without it the files still have everything."""
+    db, ballast = pathlib.Path(folder, "t.db"), [pathlib.Path(folder, f"ballast-{it}") for it in range(2)]
+    for it in ballast:
+        it.write_bytes(bytes(1 << 19))
+    with Server(program, db) as server:
+        asked(server, [b"PUT /t/a"])
+        count, reply = fill(server, 1)
+        if reply != FULL or not 0 < count < 200:
+            return f"import {count + 1} is answered {reply!r}"
+        summary = map_cases.summary(count, count)
+        found = asked(server, [b"GET /t/a", import_of(count + 1), import_of(1), map_cases.test_of(), b"GET /t/a"])
+        if found != [summary, FULL, map_cases.imported(1, 1), map_cases.tested([0], [0], count, count), summary]:
+            return f"while it is full: {found}"
+        ballast[0].unlink()
+        more, reply = fill(server, count + 1)
+        if reply != FULL or more == count:
+            return f"with room again import {more + 1} is answered {reply!r}"
+        server.stop()
+    take_the_rest(folder / "rest")
+    if why := starts(program, db, map_cases.summary(more, more)):
+        return why
+    for it in (ballast[1], folder / "rest"):
+        it.unlink()
+    with Server(program, db) as server:
+        found = asked(server, [b"GET /t/a", import_of(more + 1)])
+    return None if found == [map_cases.summary(more, more), map_cases.imported(more + 1, more + 1)] else f"after a start: {found}"
+
+
+def checks(program, folder):
+    at = pathlib.Path(folder, "full")
+    at.mkdir()
+    if os.geteuid() != 0:
+        return
+    try:
+        run("mount", "-t", "tmpfs", "-o", f"size={SIZE}", "crushcalc", str(at))
+    except (OSError, subprocess.SubprocessError) as error:
+        print(f"no disk is filled: {error}")
+        return
+    try:
+        yield "a full disk", at_full_disk(program, at)
+    finally:
+        run("umount", str(at))

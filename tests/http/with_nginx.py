@@ -1,0 +1,134 @@
+"""nginx as a proxy: each reply through it is that of the script, users reach their tenants alone, and a tenant has one process."""
+import base64
+import concurrent.futures
+import http.client
+import pathlib
+import re
+import shutil
+import ssl
+
+
+import map_cases
+from expected import expected, unlike
+from proxy import nginx, processes, run
+from replies import NO_TENANT, made
+from served import Server, asked
+
+CLIENTS, TENANTS, SECONDS = 64, 64, 5
+# a user, a password where it isn't the user's, a path, and the status of the reply
+ASKED = (
+    (None, None, "/t/shop", 401), ("anna", "wrong", "/t/shop", 401), ("ben", "anna", "/t/shop", 401), ("ben", None, "/t/shop", 401),
+    ("ben", None, "/t/lab", 404), ("anna", None, "/t/shop", 404), ("ben", None, "/t/nobody", 403), ("ben", None, "/", 403), ("ben", None, "/t/", 403),
+    ("ben", None, "/t/lab/../shop", 404), ("ben", None, "/t/lab/%2e%2e/shop", 404), ("ben", None, "/t/lab%2f..%2fshop", 403), ("ben", None, "/t/lab?/../shop", 403),
+    ("ben", None, "/t/../t/shop", 403), ("ben", None, "/t/../shop", 403), ("ben", None, "/t/../shop.users", 403), ("ben", None, "//t/shop", 403), ("ben", None, "/t/%73hop", 403),
+)
+
+
+class Client:
+    """A user's connection to nginx by TLS."""
+
+    def __init__(self, port, folder, user, password=None):
+        context = ssl.create_default_context(cafile=f"{folder}/certificate.pem")
+        self.connection = http.client.HTTPSConnection("localhost", port, timeout=60, context=context)
+        self.headers = {"Authorization": "Basic " + base64.b64encode(f"{user}:{password or user}".encode()).decode()} if user else {}
+
+    def ask(self, line):
+        """The reply to a script's line, as a script's line."""
+        method, path, *body = line.split(b" ", 2)
+        self.connection.request(method.decode(), path.decode(), body[0] if body else None, self.headers | {"Cookie": "c" * 3000, "User-Agent": "Mozilla/5.0"})
+        reply = self.connection.getresponse()
+        return b"%d " % reply.status + reply.read()
+
+
+def whole_session(port, folder, program):
+    """Each line of the session whose path names a tenant; a path that names none nginx refuses."""
+    pairs = [it for it in expected(program, "shop") if it[0].split()[1].startswith(b"/t/shop") and b"?" not in it[0]]
+    client = Client(port, folder, "anna")
+    return unlike(pairs, [client.ask(line) for line, _ in pairs])
+
+
+def users(port, folder):
+    """No user, a wrong password, another's tenant, and other forms of its path."""
+    for user, password, path, status in ASKED:
+        found = Client(port, folder, user, password).ask(b"GET " + path.encode())
+        if not found.startswith(b"%d " % status):
+            return f"{user} asks for {path}: {found[:100]!r}, not {status}"
+    return None
+
+
+def clients_at_once(port, folder):
+    """Each of 64 clients makes a tenant and imports a map into it; then each asks for another's."""
+    def own(place):
+        client = Client(port, folder, "anna")
+        return [client.ask(it.replace(b"/t/a", b"/t/t%d" % place)) for it in (b"PUT /t/a", map_cases.import_of(map_cases.tiny(place)), b"GET /t/a", map_cases.test_of(x=place))]
+
+    with concurrent.futures.ThreadPoolExecutor(CLIENTS) as pool:
+        found = list(pool.map(own, range(TENANTS)))
+    for place, it in enumerate(found):
+        want = [made(b"t%d" % place), map_cases.imported(1, 1), map_cases.summary(1, 1, b"t%d" % place), map_cases.tested([place], [place])]
+        if it != want:
+            return f"client {place + 1}: {it}"
+    return None
+
+
+def one_process_each(servers, folder):
+    """Each tenant is in the file of one process, and each process has some."""
+    held = [{it for it in range(TENANTS) if asked(server, [b"GET /t/t%d" % it]) != [NO_TENANT]} for server in servers]
+    whole = sorted(it for tenants in held for it in tenants)
+    return None if whole == list(range(TENANTS)) and all(held) else f"the tenants are {held}"
+
+
+def load(port, folder):
+    """ab with 64 connections kept open for some seconds; it looks at the length and status of each reply."""
+    ran = run("ab", "-q", "-k", "-c", str(CLIENTS), "-t", str(SECONDS), "-A", "anna:anna", f"https://localhost:{port}/t/t1").decode()
+    said = dict(re.findall(r"^([\w -]+): +(\S+)", ran, re.M))
+    if int(said["Complete requests"]) < CLIENTS // 4 or said["Failed requests"] != "0" or "Non-2xx responses" in said:
+        return ran
+    print(f"nginx with TLS, a password each and {CLIENTS} clients: {float(said['Requests per second']):,.0f} requests a second")
+    return None
+
+
+def too_long(port, folder):
+    found = Client(port, folder, "anna").ask(b"POST /t/shop/maps " + b"x" * 1_048_577)
+    return None if found.startswith(b"413 ") else f"it is {found[:100]!r}"
+
+
+def a_process_is_down(port, folder, servers, program):
+    """The tenants of a process that is down are answered 502 and by no other process; when it is back it has them."""
+    held = [it for it in range(TENANTS) if asked(servers[0], [b"GET /t/t%d" % it]) != [NO_TENANT]]
+    servers[0].stop()
+    client, other = Client(port, folder, "anna"), next(it for it in range(TENANTS) if it not in held)
+    found = [client.ask(b"PUT /t/t%d" % held[0]), client.ask(b"GET /t/t%d" % other)]
+    if not found[0].startswith(b"502 ") or found[1] != map_cases.summary(1, 1, b"t%d" % other):
+        return f"while it is down: {found}"
+    with Server(program, pathlib.Path(folder, "0.db"), port=servers[0].port):
+        found = client.ask(b"GET /t/t%d" % held[0])
+    return None if found == map_cases.summary(1, 1, b"t%d" % held[0]) else f"when it is back: {found!r}"
+
+
+def twice_as_many(program, folder):
+    """From two processes to four: each file is copied to the process that comes two lines later, and each tenant is there."""
+    for it in (0, 1):
+        for end in ("", "-wal"):
+            if pathlib.Path(folder, f"{it}.db{end}").exists():
+                shutil.copyfile(f"{folder}/{it}.db{end}", f"{folder}/{it + 2}.db{end}")
+    with processes(program, folder, 4) as servers, nginx(folder, [it.port for it in servers]) as port:
+        client = Client(port, folder, "anna")
+        found = [client.ask(b"GET /t/t%d" % it) for it in range(TENANTS)]
+        return None if found == [map_cases.summary(1, 1, b"t%d" % it) for it in range(TENANTS)] else f"the replies are {found[:4]} .."
+
+
+def checks(program, top):
+    folder = pathlib.Path(top, "nginx")
+    folder.mkdir(mode=0o755)
+    with processes(program, folder, 2) as servers, nginx(folder, [it.port for it in servers]) as port:
+        yield "users and paths", users(port, folder)
+        yield "each route", whole_session(port, folder, program)
+        yield "64 clients at once", clients_at_once(port, folder)
+        yield "a tenant has one process", one_process_each(servers, folder)
+        yield "64 clients, again and again", load(port, folder)
+        yield "a body over the limit", too_long(port, folder)
+        yield "a process that is down", a_process_is_down(port, folder, servers, program)
+        for it in servers[1:]:
+            it.stop()
+    yield "two processes become four", twice_as_many(program, folder)
