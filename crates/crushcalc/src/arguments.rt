@@ -39,7 +39,9 @@ rule that is wrong, perhaps further down, or the line of the last word where onl
 /// What the program is asked to do: a command, with its arguments.
 pub(crate) enum Invocation<'a> {
     /// Serve the script on standard input, over a database file if one is named.
-    Script { db: Option<&'a str> },
+    Script {
+        db: Option<&'a str>,
+    },
     /// Serve so many connections to a port, over a database file.
     Serve {
         db: &'a str,
@@ -47,7 +49,9 @@ pub(crate) enum Invocation<'a> {
         connections: u32,
     },
     /// Check the map text in a file.
-    Check { path: &'a str },
+    Check {
+        path: &'a str,
+    },
 }
 
 /// The command `script`.
@@ -59,9 +63,11 @@ fn script_command<'a>(alloc: Global) -> Result<Command<'a>, Error> {
         .help(
             "Keeps the tenants in this SQLite file, made where it is missing; else they are in memory",
         );
-    Ok(Command::new(alloc, "script")
-        .about("Serves the lines of standard input, and writes a line for each reply")
-        .arg(db)?)
+    Ok(
+        Command::new(alloc, "script")
+            .about("Serves the lines of standard input, and writes a line for each reply")
+            .arg(db)?,
+    )
 }
 
 /// The command `serve`.
@@ -86,11 +92,13 @@ fn serve_command<'a>(alloc: Global) -> Result<Command<'a>, Error> {
         .value_parser(value_parser!(u32).range(1..=1_000_000))
         .default_value("1000000")
         .help("Ends after so many connections");
-    Ok(Command::new(alloc, "serve")
-        .about("Serves HTTP on a port of this machine, one connection after the other")
-        .arg(db)?
-        .arg(port)?
-        .arg(connections)?)
+    Ok(
+        Command::new(alloc, "serve")
+            .about("Serves HTTP on a port of this machine, one connection after the other")
+            .arg(db)?
+            .arg(port)?
+            .arg(connections)?,
+    )
 }
 
 /// The command `check`.
@@ -99,17 +107,16 @@ fn check_command<'a>(alloc: Global) -> Result<Command<'a>, Error> {
         .required(true)
         .action(ArgAction::Set)
         .help("The text of a map, as 'crushtool -d' writes it");
-    Ok(Command::new(alloc, "check")
-        .about("Says whether a text is that of a CRUSH map, or where and why it isn't")
-        .after_help(CODES)
-        .arg(file)?)
+    Ok(
+        Command::new(alloc, "check")
+            .about("Says whether a text is that of a CRUSH map, or where and why it isn't")
+            .after_help(CODES)
+            .arg(file)?,
+    )
 }
 
 /// Reads the program's arguments, and returns what they ask for.
-pub(crate) fn read_arguments(
-    alloc: Global,
-    arguments: &[String],
-) -> Result<Invocation<'_>, Error> {
+pub(crate) fn read_arguments(alloc: Global, arguments: &[String]) -> Result<Invocation<'_>, Error> {
     let matches = Command::new(alloc, "crushcalc")
         .about("A proved calculator of CRUSH placements")
         .version(VERSION)

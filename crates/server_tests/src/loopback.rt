@@ -9,8 +9,7 @@ use std::rt::HostRuntime;
 use std::test::Fail;
 
 /// Two messages, as in a script: a tenant is created and shown.
-const STREAM: &[u8] =
-    b"PUT /t/a HTTP/1.1\r\nHost: l\r\n\r\nGET /t/a HTTP/1.1\r\nHost: l\r\n\r\n";
+const STREAM: &[u8] = b"PUT /t/a HTTP/1.1\r\nHost: l\r\n\r\nGET /t/a HTTP/1.1\r\nHost: l\r\n\r\n";
 
 /// Their replies.
 const REPLIES: &[u8] =
