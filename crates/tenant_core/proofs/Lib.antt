@@ -1,4 +1,5 @@
 pub mod Accepting
+pub mod AskedGroups
 pub mod Following
 pub mod InForm
 pub mod Making

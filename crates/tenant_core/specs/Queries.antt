@@ -1,4 +1,8 @@
 -- Queries: what is asked of a tenant's state, which stays as it is.
+use Rattle.std.specs.Prelude.{◌≡◌, ◌<◌, ℕ, Ok, Some}
+use Rattle.crush_pool.specs.Pools.{group_of}
+use Rattle.crush_pool.specs.declared.placing.Placement.{Placement}
+use Rattle.crush_pool.specs.declared.pool.PoolParts.{PoolParts}
 use Rattle.tenant_messages.specs.Reply.{Answer}
 use Rattle.tenant_reports.specs.Impact as impact
 use Rattle.tenant_reports.specs.Moves as moves
@@ -9,7 +13,7 @@ use Rattle.tenant_resources.specs.Picks as picks
 use Rattle.tenant_resources.specs.RuleTests as rule_tests
 use Rattle.tenant_core.specs.declared.queries.Query.{Query}
 use Rattle.tenant_core.specs.declared.queries.Query.TheVariants as query
-use Rattle.tenant_state.specs.State.{Inventory}
+use Rattle.tenant_state.specs.State.{Inventory, pool}
 
 -- the answer to a query: the table of all queries
 abbrev pub answer : Query → Inventory → Answer
@@ -21,3 +25,21 @@ answer (query.Moves p v w) inventory = moves.moves_answer p v w inventory
 answer (query.Impact p d) inventory = impact.impact_answer p d inventory
 answer (query.Pick pick) inventory = picks.answer pick
 answer (query.Test test) inventory = rule_tests.answer test inventory
+
+-- ---- groups that are asked for
+
+-- a query asks for this group of this pool; most ask for none
+abbrev pub AsksFor : Query → Inventory → PoolParts → ℕ → Type 0
+AsksFor (query.Group id g) inventory p group = (pool id inventory ≡ Some p) × (g ≡ group)
+AsksFor (query.Object id name) inventory p group = (pool id inventory ≡ Some p) × (group ≡ group_of p name)
+AsksFor (query.Version v) inventory p group = ⊥
+AsksFor (query.Usage q) inventory p group = ⊥
+AsksFor (query.Moves q v w) inventory p group = ⊥
+AsksFor (query.Impact q d) inventory p group = ⊥
+AsksFor (query.Pick pick) inventory p group = ⊥
+AsksFor (query.Test test) inventory p group = ⊥
+
+-- the group that a query asks for, and its placement
+abbrev pub IsPlacedFor : Query → Inventory → ℕ → Placement → Type 0
+IsPlacedFor asked inventory group placement =
+    (p : PoolParts) × AsksFor asked inventory p group × (groups.placed inventory p group ≡ Ok placement)

@@ -5,7 +5,9 @@ ghost use Rattle.tenant_core.specs.Queries as spec;
 ghost use Rattle.tenant_messages.specs.Refusals.{Answers};
 ghost use Rattle.tenant_messages.specs.Reply.{reply};
 
+use crush_pool::{Placement, Pool};
 use std::alloc::{AllocError, Global};
+use std::rc::Rc;
 use tenant_messages::{Refusal, Reply, or_refused};
 use tenant_reports::{impact, moves, usage};
 use tenant_resources::{ObjectName, PickRequest, RuleTest, groups, maps, picks, rule_tests};
@@ -33,6 +35,34 @@ pub enum Query {
     Test(RuleTest),
 }
 
+impl Query {
+    ghost use Rattle.std.specs.Prelude.{◌<◌, IfSome};
+    ghost use Rattle.tenant_core.specs.Queries.{AsksFor};
+
+    /// The pool and the group that it asks for; `None` where it asks for none, or where what its
+    /// tenant has lacks the pool or the group.
+    pub fn group_in<'a>(&self, inventory: &'a Inventory) -> Option<(&'a Rc<Pool>, u32)>
+        ensures asked { IfSome result (λ r. AsksFor self.now inventory.now r.0.now.value r.1) }
+        ensures there { IfSome result (λ r. r.1 < r.0.now.value.pg_num) }
+    {
+        match self {
+            Query::Group(id, group) => {
+                let pool = inventory.pools().get_shared(*id)?;
+                if *group < u64::from(pool.parts().pg_num) {
+                    Some((pool, *group as u32))
+                } else {
+                    None
+                }
+            }
+            Query::Object(id, name) => {
+                let pool = inventory.pools().get_shared(*id)?;
+                Some((pool, pool.group_of(name.as_str().as_bytes())))
+            }
+            _ => None,
+        }
+    }
+}
+
 /// The reply to a query, from what its tenant has, or the problem: the table of all queries.
 fn reply_or_refusal(alloc: Global, inventory: &Inventory, query: &Query) -> Result<Reply, Refusal>
     ensures { Answers result (spec.answer query.now inventory.now) }
@@ -55,4 +85,23 @@ pub fn answer(alloc: Global, inventory: &Inventory, query: &Query) -> Result<Rep
     ensures { IfOk result (λ r. r ≡ reply (spec.answer query.now inventory.now)) }
 {
     or_refused(alloc, reply_or_refusal(alloc, inventory, query))
+}
+
+/// The reply to a query that asks for a group, by the placement of the group.
+/// `Err(AllocError)`: an allocation failed; nothing is changed.
+pub fn answer_placed(
+    alloc: Global,
+    inventory: &Inventory,
+    query: &Query,
+    group: u32,
+    placement: &Placement,
+) -> Result<Reply, AllocError>
+    requires { spec.IsPlacedFor query.now inventory.now group placement.now }
+    ensures { IfOk result (λ r. r ≡ reply (spec.answer query.now inventory.now)) }
+{
+    match query {
+        Query::Group(_, _) => groups::placed_group(alloc, inventory, group, placement),
+        Query::Object(_, name) => groups::placed_object(alloc, name, inventory, group, placement),
+        _ => answer(alloc, inventory, query),
+    }
 }

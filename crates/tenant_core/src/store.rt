@@ -1,6 +1,7 @@
 //! The store of tenants' states: what one has to do, and the replies where it fails.
 
-ghost use Rattle.std.specs.Prelude.{◌≡◌, ◌≢◌, ◌⊎◌, ◌↔◌, ℕ, List, Bool, true, false, Option, Some, None, Err, IfOk, OnOk, OnErr, option_map};
+ghost use Rattle.std.specs.Prelude.{◌≡◌, ◌≢◌, ◌⊎◌, ◌↔◌, ℕ, List, Bool, true, false, Option, Some, None, Err, IfOk, IfSome, OnOk, OnErr, option_map};
+ghost use Rattle.tenant_core.specs.Queries.{IsPlacedFor};
 ghost use Rattle.tenant_state.specs.Receipts.{receipt_of};
 ghost use Rattle.tenant_state.specs.State.{CanMake, TenantState, fresh, after};
 ghost use Rattle.tenant_state.specs.Valid.{IsState};
@@ -8,6 +9,8 @@ ghost use Rattle.tenant_core.specs.States.{Found, HasInventory, IsDamaged, Leave
 ghost use Rattle.tenant_core.specs.StoreReply as spec;
 ghost use Rattle.tenant_core.specs.StoreReply.{is_failed};
 
+use crate::queries::Query;
+use crush_pool::Placement;
 use std::alloc::{AllocError, Global};
 use std::rc::Rc;
 use tenant_messages::{Reply, error, no_memory, written};
@@ -35,6 +38,14 @@ impl From<AllocError> for StoreFault {
     fn from(_error: AllocError) -> StoreFault {
         StoreFault::NoMemory
     }
+}
+
+/// What a tenant has, with the group that a query asks for and its placement.
+#[derive(Drop)]
+pub struct Placed {
+    pub inventory: Rc<Inventory>,
+    pub group: u32,
+    pub placement: Rc<Placement>,
 }
 
 /// A store of tenants' states by name. It keeps the allocator that its constructor was given.
@@ -89,6 +100,16 @@ pub trait TenantStore {
         ensures latch { latched self.new ≡ is_failed result }
         ensures crash { is_honest self.new → latched self.new ≡ true → LeavesAsItWas (has_state self.old) (may_leave self.new) }
         ensures honest { is_honest self.new → is_honest self.old };
+
+    /// What a tenant has, with the group that a query asks for and its placement, where the store
+    /// has these at hand; `None` says nothing. Nothing is changed that contracts see.
+    fn placed(&mut self, name: &str, query: &Query) -> Option<Placed>
+        ensures fits { IfSome result (λ r. IsPlacedFor query.now r.inventory.value r.group r.placement.value) }
+        ensures found { is_honest self.new → latched self.new ≡ false → IfSome result (λ r. HasInventory (has_state self.new) name.now (Some r.inventory.value)) }
+        ensures same { self.new ≡ self.old }
+    {
+        None
+    }
 
     /// Creates a tenant, which is absent.
     fn create(&mut self, name: &str) -> Result<(), StoreFault>

@@ -4,7 +4,7 @@ use Rattle.std.proofs.Common.{◌≡◌, ◌+◌, ◌≢◌, ◌↔◌, ◌∙�
 use Rattle.tenant_state.proofs.Counting.{grown}
 use Rattle.tenant_state.specs.Receipts.{with_receipt}
 use Rattle.tenant_state.specs.State.{CanMake, Change, TenantState, after, inventory_after, inventory_of}
-use Rattle.tenant_ready.specs.Kept.{Kept, Updates, kept_at}
+use Rattle.tenant_ready.specs.Kept.{Kept, Ready, Updates, kept_at}
 use Rattle.tenant_ready.specs.Ready.{AreTrue}
 use Rattle.tenant_state.specs.State.{Inventory}
 use Rattle.tenant_core.specs.States.{States}
@@ -16,20 +16,20 @@ next_inventory change s can =
     ap (λ n. record (inventory_of (after change s)) { epoch = n }) one_more
 
 -- after a change is made, and what the tenant then has is kept
-pub committed : (old new : States) (before found after' : Kept) (name : List ℕ) (change : Change) (i next : Inventory) → AreTrue old before
-    → ((u : List ℕ) (j : Inventory) → kept_at found u ≡ Some j → kept_at before u ≡ Some j)
-    → kept_at before name ≡ Some i → next ≡ inventory_after change i → Updates name (Some next) found after'
+pub committed : (old new : States) (before found after' : Kept) (name : List ℕ) (change : Change) (r next : Ready) → AreTrue old before
+    → ((u : List ℕ) (j : Ready) → kept_at found u ≡ Some j → kept_at before u ≡ Some j)
+    → kept_at before name ≡ Some r → next.inventory ≡ inventory_after change r.inventory → Updates name (Some next) found after'
     → (s : TenantState) → old name (Some s) → CanMake change s → ((x y : Option TenantState) → old name x → old name y → x ≡ y)
     → new name (Some (after change s)) → ((t : List ℕ) (x : Option TenantState) → t ≢ name → (old t x ↔ new t x)) → AreTrue new after'
-committed old new before found after' name change i next true_before within has is updates s there can one made others u j stands = elim (updates u j stands) [
+committed old new before found after' name change r next true_before within has is updates s there can one made others u j stands = elim (updates u j stands) [
   | inl mine ↦
-      let was = true_before name i has in
+      let was = true_before name r has in
       let state : was.0 ≡ Some s = one was.0 (Some s) was.1 there in
-      let both : Some i ≡ Some (inventory_of s) = was.2 ∙ ap (option_map inventory_of) state in
-      let of_state : i ≡ inventory_of s = cc in (
+      let both : Some r.inventory ≡ Some (inventory_of s) = was.2 ∙ ap (option_map inventory_of) state in
+      let of_state : r.inventory ≡ inventory_of s = cc in (
         Some (after change s),
         subst (λ t. new t (Some (after change s))) (sym mine.0) made,
-        sym mine.1 ∙ ap Some (is ∙ ap (inventory_after change) of_state ∙ next_inventory change s can),
+        sym (ap (option_map (λ (x : Ready). x.inventory)) mine.1) ∙ ap Some (is ∙ ap (inventory_after change) of_state ∙ next_inventory change s can),
       )
   | inr other ↦ let was = true_before u j (within u j other.1) in (was.0, (others u was.0 other.0).0 was.1, was.2)
 ]

@@ -5,21 +5,26 @@ use Rattle.std.specs.Map.{lookup, values_of}
 use Rattle.tenant_state.specs.Size.{size}
 use Rattle.tenant_state.specs.State.{Inventory}
 
--- inventories by name, that of the tenant used last first, and the most bytes that they may take
+-- what a tenant has, and pairs of the id of a pool and a number, that of the pool's content
+pub record Ready : Type 0 where
+  pub inventory : Inventory
+  pub numbers : List (ℕ × ℕ)
+
+-- what tenants have by name, that of the tenant used last first, and the most bytes that it may take
 pub record Kept : Type 0 where
-  pub entries : List (List ℕ × Inventory)
+  pub entries : List (List ℕ × Ready)
   pub bound : ℕ
 
 -- what is kept of a name
-abbrev pub kept_at : Kept → List ℕ → Option Inventory
+abbrev pub kept_at : Kept → List ℕ → Option Ready
 kept_at kept name = lookup (bytes_eq name) kept.entries
 
 -- how many bytes they take
 abbrev pub bytes_kept : Kept → ℕ
-bytes_kept kept = sum_by size (values_of kept.entries)
+bytes_kept kept = sum_by (λ r. size r.inventory) (values_of kept.entries)
 
--- the name has this inventory or none, and no other name has another than before
-abbrev pub Updates : List ℕ → Option Inventory → Kept → Kept → Type 0
+-- this is kept of the name or nothing, and of no other name another than before
+abbrev pub Updates : List ℕ → Option Ready → Kept → Kept → Type 0
 Updates name now old new =
-    (u : List ℕ) (i : Inventory) → kept_at new u ≡ Some i
-    → ((u ≡ name) × (now ≡ Some i)) ⊎ ((u ≢ name) × (kept_at old u ≡ Some i))
+    (u : List ℕ) (r : Ready) → kept_at new u ≡ Some r
+    → ((u ≡ name) × (now ≡ Some r)) ⊎ ((u ≢ name) × (kept_at old u ≡ Some r))

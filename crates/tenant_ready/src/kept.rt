@@ -1,20 +1,20 @@
-//! Inventories of the tenants that were used last, by name, as many as a number of bytes holds.
+//! What the tenants have that were used last, by name, as much as a number of bytes holds.
 
 ghost use Rattle.std.specs.Prelude.{◌≡◌, ◌≤◌, ◌<◌, ◌-◌, ◌^◌, ℕ, length, min, take};
 ghost use Rattle.tenant_ready.specs.Bytes.{bytes_in, bytes_of};
 
+use crate::ready::Ready;
 use lru::LruCache;
 use std::alloc::{AllocError, Global};
 use std::marker::Model;
 use std::rc::Rc;
-use tenant_state::Inventory;
 
 /// The greatest bound. No memory is larger.
 const GREATEST_BOUND: u64 = u64::MAX / 2;
 
-type ByName = LruCache<String, Rc<Inventory>>;
+type ByName = LruCache<String, Rc<Ready>>;
 
-/// Inventories by name, whose sizes together are at most a bound. What was used least recently goes
+/// What tenants have by name, whose sizes together are at most a bound. What was used least recently goes
 /// first. Contracts say what a name may still have, and never that it has it.
 #[derive(Drop)]
 pub struct Kept {
@@ -45,7 +45,7 @@ impl Kept {
     ghost use Rattle.tenant_ready.specs.Kept.{kept_at, bytes_kept, Updates};
     ghost use Rattle.tenant_ready.specs.declared.kept.TheConstants.{GREATEST_BOUND};
 
-    /// No inventory is kept yet. Those that will be take at most `bound` bytes together; a bound
+    /// Nothing is kept yet. What will be takes at most `bound` bytes together; a bound
     /// above 2^63 - 1 counts as that. `Err(AllocError)`: an allocation failed; nothing is changed.
     pub fn new(alloc: Global, bound: u64) -> Result<Self, AllocError>
         ensures { IfOk result (λ kept. kept ≡ record { entries = []; bound = min bound GREATEST_BOUND }) }
@@ -57,7 +57,7 @@ impl Kept {
         })
     }
 
-    /// How many bytes the inventories take together.
+    /// How many bytes all that is kept takes together.
     pub fn bytes(&self) -> u64
         ensures value { result ≡ bytes_kept self.now }
         ensures within { result ≤ self.now.bound }
@@ -65,17 +65,17 @@ impl Kept {
         self.bytes
     }
 
-    /// The inventory of a name, which is then the one used last.
-    pub fn get(&mut self, name: &str) -> Result<Option<Rc<Inventory>>, AllocError>
+    /// What is kept of a name, which is then the one used last.
+    pub fn get(&mut self, name: &str) -> Result<Option<Rc<Ready>>, AllocError>
         ensures found { IfOk result (λ found. option_map (λ r. r.value) found ≡ kept_at self.old name.now) }
-        ensures same { (u : List ℕ) (i : _) → kept_at self.new u ≡ Some i → kept_at self.old u ≡ Some i }
+        ensures same { (u : List ℕ) (r : _) → kept_at self.new u ≡ Some r → kept_at self.old u ≡ Some r }
     {
         let _count = self.by_name.len();
         self.by_name.promote(name);
-        let Some(inventory) = self.by_name.peek(name) else {
+        let Some(ready) = self.by_name.peek(name) else {
             return Ok(None);
         };
-        Ok(Some(inventory.clone()?))
+        Ok(Some(ready.clone()?))
     }
 
     /// Forgets a name.
@@ -86,38 +86,38 @@ impl Kept {
         self.bytes -= size_of(&self.by_name.pop_entry(name));
     }
 
-    /// Keeps the inventory of a name, in place of the one that it had, and forgets others where it
+    /// Keeps what a name has, in place of what was kept of it, and forgets others where it
     /// has no room beside them. One that is larger than the bound isn't kept, nor is one for which
     /// there is no memory; a name that is there needs none.
-    pub fn put(&mut self, name: String, inventory: Rc<Inventory>)
-        ensures { Updates (string_bytes name) (Some inventory.value) self.old self.new }
+    pub fn put(&mut self, name: String, ready: Rc<Ready>)
+        ensures { Updates (string_bytes name) (Some ready.value) self.old self.new }
     {
-        let size = inventory.size();
+        let size = ready.size();
         if size > self.bound {
             self.forget(name.as_str());
             return;
         }
         let bytes = self.bytes + size;
         let _count = self.by_name.len();
-        match self.by_name.push(name, inventory) {
+        match self.by_name.push(name, ready) {
             Ok(displaced) => {
                 let bytes = bytes - size_of(&displaced);
                 self.bytes = evict(&mut self.by_name, bytes, self.bound);
             }
             Err(refused) => {
-                let (name, _inventory) = refused.value;
+                let (name, _ready) = refused.value;
                 self.forget(name.as_str());
             }
         }
     }
 }
 
-/// How many bytes an inventory takes that may be there.
-fn size_of(entry: &Option<(String, Rc<Inventory>)>) -> u64
+/// How many bytes is taken by an entry that may be there.
+fn size_of(entry: &Option<(String, Rc<Ready>)>) -> u64
     ensures { result ≡ min (bytes_of entry.now) (2 ^ 64 - 1) }
 {
     match entry {
-        Some((_name, inventory)) => inventory.size(),
+        Some((_name, ready)) => ready.size(),
         None => 0,
     }
 }

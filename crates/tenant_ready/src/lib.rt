@@ -3,7 +3,11 @@
 #![tactic(auto)]
 
 mod kept;
+pub mod limits;
+mod placing;
+mod ready;
 mod ready_store;
 
 pub use kept::Kept;
+pub use ready::Ready;
 pub use ready_store::ReadyStore;

@@ -1,6 +1,6 @@
 //! A store that keeps ready what tenants have in another store.
 
-ghost use Rattle.std.specs.Prelude.{◌≡◌, ◌≢◌, ◌⊎◌, ◌↔◌, ◌<◌, ℕ, List, Bool, true, false, Option, Some, None, Err, IfOk, OnOk, OnErr, option_map};
+ghost use Rattle.std.specs.Prelude.{◌≡◌, ◌≢◌, ◌⊎◌, ◌↔◌, ◌<◌, [], ℕ, List, Bool, true, false, Option, Some, None, Err, IfOk, OnOk, OnErr, option_map};
 ghost use Rattle.tenant_state.specs.State.{CanMake, TenantState, fresh, after, inventory_after};
 ghost use Rattle.tenant_state.specs.Receipts.{receipt_of};
 ghost use Rattle.tenant_core.specs.States.{Found, HasInventory, IsDamaged, LeavesAsItWas, LeavesAsItWasOr, Same, Shows};
@@ -8,25 +8,30 @@ ghost use Rattle.tenant_core.specs.StoreReply.{is_failed};
 ghost use Rattle.tenant_state.specs.declared.limits.TheConstants.{RECEIPT_LIMIT};
 
 use crate::kept::Kept;
+use crate::placing::{give_number, keep_number, number_beside, place};
+use crate::ready::Ready;
+use crush_cache::PlacementCache;
 use std::alloc::{AllocError, Global};
 use std::marker::Model;
+use std::num::NonZeroUsize;
 use std::rc::Rc;
-use tenant_core::{StoreFault, TenantStore};
+use tenant_core::{Placed, Query, StoreFault, TenantStore};
 use tenant_state::limits::RECEIPT_LIMIT;
 use tenant_state::{Change, Inventory, Receipt};
 
-/// A store over another one, which keeps in memory what the tenants that were used last have.
-/// Contracts see the store below alone.
+/// A store over another one, which keeps in memory what the tenants that were used last have, and
+/// placements of their groups. Contracts see the store below alone.
 #[derive(Drop)]
 pub struct ReadyStore<T: TenantStore> {
     alloc: Global,
     below: T,
     kept: Kept,
+    cache: PlacementCache,
 }
 
 impl<T: TenantStore> Model for ReadyStore<T> {
     ghost use Rattle.std.specs.Prelude.{◌≡◌, false};
-    ghost use Rattle.tenant_ready.specs.Ready.{AreTrue};
+    ghost use Rattle.tenant_ready.specs.Ready.{AreKnown, AreTrue};
 
     ghost Value = { T };
 
@@ -34,20 +39,30 @@ impl<T: TenantStore> Model for ReadyStore<T> {
 
     ghost view = { λ a. a.below };
 
-    ghost invariant = { λ a. T.is_honest a.below → T.latched a.below ≡ false → AreTrue (T.has_state a.below) a.kept };
+    ghost invariant = { λ a. record {
+      states : T.is_honest a.below → T.latched a.below ≡ false → AreTrue (T.has_state a.below) a.kept;
+      numbers : AreKnown a.cache a.kept;
+    } };
 }
 
 impl<T: TenantStore + Drop> ReadyStore<T> {
     ghost use Rattle.std.specs.Prelude.{◌≡◌, IfOk};
 
-    /// A store over this one, which keeps what takes at most `bound` bytes. Nothing is kept yet.
-    /// `Err(AllocError)`: an allocation failed; the store below is dropped.
-    pub fn over(alloc: Global, below: T, bound: u64) -> Result<Self, AllocError>
+    /// A store over this one, which keeps what takes at most `bound` bytes, and so many placements
+    /// beside. Nothing is kept yet. `Err(AllocError)`: an allocation failed; the store below is
+    /// dropped.
+    pub fn over(
+        alloc: Global,
+        below: T,
+        bound: u64,
+        placements: NonZeroUsize,
+    ) -> Result<Self, AllocError>
         ensures { IfOk result (λ store. store ≡ below) }
     {
         Ok(ReadyStore {
             alloc,
             kept: Kept::new(alloc, bound)?,
+            cache: PlacementCache::new(alloc, placements)?,
             below,
         })
     }
@@ -70,23 +85,27 @@ impl<T: TenantStore> ReadyStore<T> {
         requires { T.is_honest self.old → T.latched self.old ≡ false → HasInventory (T.has_state self.old) name.now (Some inventory.now.value) }
         ensures { self.new ≡ self.old }
     {
-        let Ok(key) = String::from_str(self.alloc, name) else {
-            return;
-        };
         let shared: Result<Rc<Inventory>, AllocError> = inventory.clone();
         let Ok(shared) = shared else {
             return;
         };
-        self.kept.put(key, shared);
+        let Ok(key) = String::from_str(self.alloc, name) else {
+            return;
+        };
+        let Ok(ready) = Rc::new(self.alloc, Ready::new(self.alloc, shared)) else {
+            return;
+        };
+        self.kept.put(key, ready);
     }
 }
 
-/// What a tenant has after a change.
-fn next(alloc: Global, inventory: &Inventory, change: &Change) -> Result<Rc<Inventory>, AllocError>
+/// What a tenant has after a change, with no number: its contents are others.
+fn next(alloc: Global, inventory: &Inventory, change: &Change) -> Result<Rc<Ready>, AllocError>
     requires { inventory.now.epoch < RECEIPT_LIMIT }
-    ensures { IfOk result (λ r. r.value ≡ inventory_after change.now inventory.now) }
+    ensures { IfOk result (λ r. r.value ≡ record { inventory = inventory_after change.now inventory.now; numbers = [] }) }
 {
-    Ok(Rc::new(alloc, inventory.after(alloc, change)?)?)
+    let inventory = Rc::new(alloc, inventory.after(alloc, change)?)?;
+    Ok(Rc::new(alloc, Ready::new(alloc, inventory))?)
 }
 
 impl<T: TenantStore> TenantStore for ReadyStore<T> {
@@ -107,8 +126,8 @@ impl<T: TenantStore> TenantStore for ReadyStore<T> {
     }
 
     fn load(&mut self, name: &str) -> Result<Option<Rc<Inventory>>, StoreFault> {
-        if let Some(inventory) = self.kept.get(name)? {
-            return Ok(Some(inventory));
+        if let Some(ready) = self.kept.get(name)? {
+            return Ok(Some(ready.inventory().clone()?));
         }
         let found = self.below.load(name)?;
         if let Some(inventory) = &found {
@@ -125,6 +144,22 @@ impl<T: TenantStore> TenantStore for ReadyStore<T> {
         self.below.find_receipt(name, number)
     }
 
+    fn placed(&mut self, name: &str, query: &Query) -> Option<Placed> {
+        let Ok(Some(ready)) = self.kept.get(name) else {
+            return None;
+        };
+        let (pool, group) = query.group_in(ready.inventory())?;
+        let number = match number_beside(&self.cache, &ready, pool) {
+            Some(number) => number,
+            None => {
+                let number = give_number(&mut self.cache, ready.inventory(), pool)?;
+                keep_number(self.alloc, &mut self.kept, name, &ready, pool, number);
+                number
+            }
+        };
+        place(&mut self.cache, number, ready.inventory(), pool, group)
+    }
+
     fn create(&mut self, name: &str) -> Result<(), StoreFault> {
         self.kept.forget(name);
         self.below.create(name)
@@ -132,9 +167,9 @@ impl<T: TenantStore> TenantStore for ReadyStore<T> {
 
     fn commit(&mut self, name: &str, change: &Change) -> Result<(), StoreFault> {
         match self.kept.get(name)? {
-            Some(inventory) if inventory.epoch() < RECEIPT_LIMIT as u64 => {
+            Some(ready) if ready.inventory().epoch() < RECEIPT_LIMIT as u64 => {
                 // all that needs memory is made before the change
-                let next = next(self.alloc, &inventory, change)?;
+                let next = next(self.alloc, ready.inventory(), change)?;
                 let key = String::from_str(self.alloc, name)?;
                 self.below.commit(name, change)?;
                 self.kept.put(key, next);

@@ -1,6 +1,6 @@
 -- Picks, at `/t/{t}/pick`: POST asks which item a bucket picks. The bucket is described in the
 -- body.
-use Rattle.std.specs.Prelude.{ℕ, ◌≡◌, ◌≢◌, ◌≤◌, ◌^◌, ◌&&◌, ◌||◌, ℤ, pos, negsuc, int_le, List, [], ◌∷◌, length, Bool, true, not, nat_lt, nat_le, if◌then◌else◌, Option, Some, None, option_and_then, codes}
+use Rattle.std.specs.Prelude.{ℕ, ◌≡◌, ◌≢◌, ◌≤◌, ◌&&◌, ◌||◌, ℤ, pos, negsuc, int_le, List, [], ◌∷◌, length, Bool, true, not, nat_lt, nat_le, if◌then◌else◌, Option, Some, None, option_and_then, codes}
 use Rattle.std.specs.List.{All, AllPairs, list_any}
 use Rattle.serde_json.specs.Data.{Data, number, object}
 use Rattle.serde_json.specs.Find.{as_str, of_integer}

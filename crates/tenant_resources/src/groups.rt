@@ -5,6 +5,7 @@ ghost use Rattle.std.specs.Prelude.{◌≡◌, ◌<◌, ◌^◌, IfOk, length, m
 ghost use Rattle.serde_json.specs.View.{view};
 ghost use Rattle.tenant_messages.specs.Reading.{Reads};
 ghost use Rattle.tenant_messages.specs.Refusals.{Answers, Gives};
+ghost use Rattle.tenant_messages.specs.Reply as replies;
 ghost use Rattle.tenant_resources.specs.Groups as spec;
 ghost use Rattle.tenant_messages.specs.Slots.{slot_json, list_json};
 
@@ -158,6 +159,35 @@ fn object_reply(
     })
 }
 
+/// The reply for a group that was placed. `Err(AllocError)`: an allocation failed; nothing is
+/// changed.
+pub fn placed_group(
+    alloc: Global,
+    inventory: &Inventory,
+    group: u32,
+    placement: &Placement,
+) -> Result<Reply, AllocError>
+    ensures { IfOk result (λ r. r ≡ replies.reply (replies.success (spec.group_reply inventory.now group placement.now))) }
+{
+    let body = group_reply(alloc, inventory, group, placement)?;
+    success(alloc, &body)
+}
+
+/// The reply for an object whose group was placed. `Err(AllocError)`: an allocation failed; nothing
+/// is changed.
+pub fn placed_object(
+    alloc: Global,
+    name: &ObjectName,
+    inventory: &Inventory,
+    group: u32,
+    placement: &Placement,
+) -> Result<Reply, AllocError>
+    ensures { IfOk result (λ r. r ≡ replies.reply (replies.success (spec.object_reply name.now inventory.now group placement.now))) }
+{
+    let body = object_reply(alloc, name.as_str(), inventory, group, placement)?;
+    success(alloc, &body)
+}
+
 /// The reply with the placement of a group of the pool with an id. The problem is, in this order,
 /// `NoPool`, `NoGroup` where the pool has no such group, `NoVersion`, or `NoRule`.
 pub fn group_answer(
@@ -174,8 +204,7 @@ pub fn group_answer(
     }
     let group = group as u32;
     let placement = placed(alloc, inventory, pool, group)?;
-    let body = group_reply(alloc, inventory, group, &placement)?;
-    Ok(success(alloc, &body)?)
+    Ok(placed_group(alloc, inventory, group, &placement)?)
 }
 
 /// The reply with the placement of the object with a name, in the pool with an id. The problem is,
@@ -189,9 +218,7 @@ pub fn object_answer(
     ensures { Answers result (spec.object_answer id name.now inventory.now) }
 {
     let pool = inventory.pools().get(id).ok_or(Problem::NoPool)?;
-    let name = name.as_str();
-    let group = pool.group_of(name.as_bytes());
+    let group = pool.group_of(name.as_str().as_bytes());
     let placement = placed(alloc, inventory, pool, group)?;
-    let body = object_reply(alloc, name, inventory, group, &placement)?;
-    Ok(success(alloc, &body)?)
+    Ok(placed_object(alloc, name, inventory, group, &placement)?)
 }

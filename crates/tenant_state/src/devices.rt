@@ -6,6 +6,7 @@ ghost use Rattle.crush_pool.specs.States.{reweights};
 ghost use Rattle.tenant_state.specs.Ordered.{is_ascending, is_before_first};
 ghost use Rattle.tenant_state.specs.State.{is_lower_device, with_state};
 
+use crush_cache::SharedStates;
 use crush_choose::Weights;
 use crush_pool::{DeviceState, DeviceStates, reweights_of};
 use std::alloc::{AllocError, Global};
@@ -15,7 +16,7 @@ use std::marker::Model;
 /// they are kept, that of the devices' ids.
 #[derive(Drop)]
 pub struct Devices {
-    states: Vec<DeviceState>,
+    states: SharedStates,
     weights: Weights,
     flags: DeviceStates,
 }
@@ -28,11 +29,11 @@ impl Model for Devices {
 
     ghost Value = { List DeviceState };
 
-    ghost view = { λ a. a.states.items };
+    ghost view = { λ a. a.states };
 
     ghost invariant = { λ a. record {
-      weights : a.weights ≡ weights_of (reweights a.states.items);
-      flags : a.flags ≡ flags_of a.states.items;
+      weights : a.weights ≡ weights_of (reweights a.states);
+      flags : a.flags ≡ flags_of a.states;
     } };
 }
 
@@ -72,7 +73,7 @@ impl Devices {
         let weights = Weights::of(alloc, &given)?;
         let flags = DeviceStates::build(alloc, &states)?;
         Ok(Devices {
-            states,
+            states: SharedStates::new(states)?,
             weights,
             flags,
         })
@@ -83,6 +84,13 @@ impl Devices {
         ensures { result.now ≡ self.now }
     {
         self.states.as_slice()
+    }
+
+    /// The same, to be shared.
+    pub fn shared_states(&self) -> &SharedStates
+        ensures { result.now ≡ self.now }
+    {
+        &self.states
     }
 
     /// The reweight of each device, in 16.16 fixed point.
@@ -104,7 +112,7 @@ impl Devices {
     pub fn with(&self, alloc: Global, changed: &[DeviceState]) -> Result<Self, AllocError>
         ensures { IfOk result (λ devices. devices ≡ with_states changed.now self.now) }
     {
-        let mut states = self.states.clone()?;
+        let mut states = Vec::from_slice(alloc, self.states())?;
         for state in changed {
             insert(&mut states, *state)?;
         }

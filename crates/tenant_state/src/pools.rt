@@ -66,12 +66,22 @@ impl Pools {
         self.pools.as_slice()
     }
 
+    /// The pool with an id, to be shared, or `None`.
+    pub fn get_shared(&self, id: u64) -> Option<&Rc<Pool>>
+        ensures { option_map (λ p. p.now.value) result ≡ find (λ p. p.id == id) self.now }
+    {
+        match place_with(&self.pools, id) {
+            Some(place) => Some(&self.pools[place]),
+            None => None,
+        }
+    }
+
     /// The pool with an id, or `None`.
     pub fn get(&self, id: u64) -> Option<&Pool>
         ensures { option_map (λ p. p.now) result ≡ find (λ p. p.id == id) self.now }
     {
-        match place_with(&self.pools, id) {
-            Some(place) => Some(self.pools[place].as_ref()),
+        match self.get_shared(id) {
+            Some(pool) => Some(pool.as_ref()),
             None => None,
         }
     }

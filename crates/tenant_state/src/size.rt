@@ -9,11 +9,11 @@ ghost use Rattle.std.specs.Prelude.{◌≡◌, ◌+◌, ◌-◌, ◌*◌, ◌^�
 ghost use Rattle.std.specs.List.{sum_by};
 ghost use Rattle.crush_writing.specs.Canonical.{canonical};
 ghost use Rattle.tenant_state.specs.Size as spec;
-ghost use Rattle.tenant_state.specs.Size.{bucket_reach, device_reach, states_size, version_size};
+ghost use Rattle.tenant_state.specs.Size.{bucket_reach, device_reach, items_in, map_size, states_size, steps_in, version_size};
 
 use crate::state::Inventory;
 use crate::version::Version;
-use crush_map::{Bucket, CrushMap};
+use crush_map::{Bucket, CrushMap, Rule};
 use crush_pool::DeviceState;
 use std::rc::Rc;
 
@@ -25,11 +25,22 @@ pub const INVENTORY_BYTES: u64 = 1_024;
 /// empty, and its place among the versions.
 pub const VERSION_BYTES: u64 = 1_024;
 
-/// What a version takes for each byte of its text. The text itself may take 2. Most else is taken
-/// for a type of 9 bytes, as `type 1 a`: 64 for it and 33 for its name. A device of 11 bytes takes
-/// 4 more in the tables. A bucket of at least 37 bytes takes about 400, and an item of at least 23
-/// about 50.
-pub const TEXT_BYTES: u64 = 16;
+/// What a version takes for each byte of its text: the text itself may take 2, and a name of a part
+/// 1 more.
+pub const TEXT_BYTES: u64 = 3;
+
+/// What a type, a device or a rule takes: up to 40 in its list, twice for room, 32 for its name's
+/// allocation or that of its steps, and 8 in the tables.
+pub const PART_BYTES: u64 = 160;
+
+/// What a bucket takes, with its row in the tables, and the allocations of both.
+pub const BUCKET_BYTES: u64 = 512;
+
+/// What an item of a bucket takes: 8 in its list, and up to 20 in the tables, twice for room.
+pub const ITEM_BYTES: u64 = 64;
+
+/// What a step of a rule takes: 16, twice for room.
+pub const STEP_BYTES: u64 = 64;
 
 /// What the index of a map's buckets takes for each place.
 pub const BUCKET_ID_BYTES: u64 = 16;
@@ -69,14 +80,46 @@ fn bucket_reach(buckets: &[Bucket]) -> u32
     reach
 }
 
+/// How many items buckets have together.
+fn items_in(buckets: &[Bucket]) -> u64
+    ensures { result ≡ min (items_in buckets.now) (2 ^ 64 - 1) }
+{
+    let mut items = 0;
+    for bucket in buckets {
+        items = plus(items, bucket.items.len() as u64);
+    }
+    items
+}
+
+/// How many steps rules have together.
+fn steps_in(rules: &[Rule]) -> u64
+    ensures { result ≡ min (steps_in rules.now) (2 ^ 64 - 1) }
+{
+    let mut steps = 0;
+    for rule in rules {
+        steps = plus(steps, rule.steps.len() as u64);
+    }
+    steps
+}
+
+/// How many bytes the parts of a map take, with its tables.
+fn size_of_map(map: &CrushMap) -> u64
+    ensures { result ≡ min (map_size map.now) (2 ^ 64 - 1) }
+{
+    let named = (map.types().len() + map.devices().len() + map.rules().len()) as u64;
+    let parts = plus(times(PART_BYTES, named), times(STEP_BYTES, steps_in(map.rules())));
+    let buckets = times(BUCKET_BYTES, map.buckets().len() as u64);
+    let items = times(ITEM_BYTES, items_in(map.buckets()));
+    let index = BUCKET_ID_BYTES * u64::from(bucket_reach(map.buckets()));
+    plus(plus(parts, plus(buckets, items)), index)
+}
+
 /// How many bytes a version takes that has this map, whose text has so many bytes.
 pub(crate) fn size_of_version(map: &CrushMap, text: u64) -> u64
     requires { text ≡ length (canonical map.now) }
     ensures { result ≡ min (version_size map.now) (2 ^ 64 - 1) }
 {
-    let texts = times(TEXT_BYTES, text);
-    let index = BUCKET_ID_BYTES * u64::from(bucket_reach(map.buckets()));
-    plus(plus(VERSION_BYTES, texts), index)
+    plus(plus(VERSION_BYTES, times(TEXT_BYTES, text)), size_of_map(map))
 }
 
 /// How many bytes versions take.

@@ -4,6 +4,7 @@ use crate::devices::Devices;
 use crate::pools::Pools;
 use crate::receipts::{Receipt, Receipts};
 use crate::version::Version;
+use crush_cache::Content;
 use crush_map::{Listed, Text};
 use crush_pool::{DeviceState, Placer, Pool};
 use std::alloc::{AllocError, Global};
@@ -74,6 +75,7 @@ impl Model for Inventory {
 
 impl Inventory {
     ghost use Rattle.std.specs.Prelude.{◌≡◌, ◌<◌, [], IfOk, map, option_map};
+    ghost use Rattle.crush_cache.specs.Contents.{content_of};
     ghost use Rattle.tenant_state.specs.State as spec;
     ghost use Rattle.tenant_state.specs.Valid.{IsInventory};
     ghost use Rattle.tenant_state.specs.declared.limits.TheConstants.{RECEIPT_LIMIT};
@@ -189,6 +191,16 @@ impl Inventory {
             Some(version) => self.on_version(version, pool),
             None => Err(Problem::NoVersion),
         }
+    }
+
+    /// What the placements of a pool on a version depend on, with the states of devices as they are
+    /// now. It is shared, and not copied. `Err(AllocError)`: nothing is changed.
+    pub fn content(&self, version: &Version, pool: &Rc<Pool>) -> Result<Content, AllocError>
+        ensures { IfOk result (λ c. c ≡ content_of (record { map = version.now; states = self.now.devices; pool = pool.now.value })) }
+    {
+        let text = version.shared_text().share()?;
+        let states = self.devices().shared_states().share()?;
+        Ok(Content::new(text, states, pool.clone()?))
     }
 
     /// A copy that shares what it has. `Err(AllocError)`: an allocation failed; nothing is changed.

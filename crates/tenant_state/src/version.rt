@@ -5,7 +5,8 @@ ghost use Rattle.crush_writing.specs.Canonical.{canonical};
 
 use crate::size::size_of_version;
 use crush_bucket::Tables;
-use crush_map::{CrushMap, Text};
+use crush_cache::SharedText;
+use crush_map::CrushMap;
 use crush_text::{canonical_texts_are_ascii, read_stored, write_map, written_maps_are_read_back};
 use std::alloc::{AllocError, Global};
 use std::marker::Model;
@@ -15,7 +16,7 @@ use std::marker::Model;
 #[derive(Drop)]
 pub struct Version {
     map: CrushMap,
-    text: Text,
+    text: SharedText,
     tables: Tables,
     size: u64,
 }
@@ -95,6 +96,13 @@ impl Version {
         self.text.as_str()
     }
 
+    /// The same, to be shared.
+    pub fn shared_text(&self) -> &SharedText
+        ensures { result.now ≡ canonical self.now }
+    {
+        &self.text
+    }
+
     /// How many bytes of memory it takes at most, by an estimate.
     pub fn size(&self) -> u64
         ensures { result ≡ min (version_size self.now) (2 ^ 64 - 1) }
@@ -112,14 +120,14 @@ impl Version {
 
 /// The canonical text of a map, which is ASCII. `Err(AllocError)`: an allocation failed; nothing is
 /// changed.
-fn canonical_text(alloc: Global, map: &CrushMap) -> Result<Text, AllocError>
+fn canonical_text(alloc: Global, map: &CrushMap) -> Result<SharedText, AllocError>
     ensures { IfOk result (λ text. text ≡ canonical map.now) }
 {
     // any reader of a map also gives the prover that it is valid, which the law needs
     let _tunables = map.tunables();
     canonical_texts_are_ascii();
     match String::from_utf8(write_map(alloc, map)?) {
-        Ok(text) => Ok(Text::new(text)),
+        Ok(text) => SharedText::new(text),
         Err(_) => unreachable!(),
     }
 }

@@ -1,23 +1,18 @@
-use Rattle.std.proofs.Common.{◌≡◌, ◌∙◌, ◌==◌, Some, ap, sym}
+use Rattle.std.proofs.Common.{◌≡◌, ◌∙◌, ◌==◌, Some, ap, refl}
 use Rattle.std.specs.Prelude.{find}
 use Rattle.std.proofs.lemmas.Result.{err_from_is_err_and}
-use Rattle.serde_json.specs.Written.{has_float}
 use Rattle.crush_pool.specs.Pools.{group_of}
 use Rattle.tenant_messages.specs.Reply.{reply}
 use Rattle.tenant_resources.proofs.GroupAnswers.{pool_there, object_refused, object_placed}
-use Rattle.tenant_resources.proofs.PlainReplies.{object_plain}
 use Rattle.tenant_state.specs.State.{pool}
 use Rattle.tenant_resources.proofs.groups.object_answer.Goals as goal
-
-pub success-requires : goal.success-requires
-success-requires c = ap has_float c.in_ok-body.ensures ∙ object_plain c.as_str-name.result.now c.args.inventory.now c.group_of-group.result c.in_ok-placement.placement
 
 pub returns-in_err-placement : goal.returns-in_err-placement
 returns-in_err-placement c =
     let found : Some c.in_ok-pool.pool.now ≡ find (λ p. p.id == c.args.id) c.pools.result.now = rw c.in_ok-pool.ensures.ok_part at c.get.ensures in
     let there : pool c.args.id c.args.inventory.now ≡ Some c.in_ok-pool.pool.now = pool_there c.args.id c.args.inventory.now c.pools.result.now c.in_ok-pool.pool.now c.pools.ensures found in
     let own : c.group_of-group.result ≡ group_of c.in_ok-pool.pool.now c.args.name.now =
-    c.group_of-group.ensures.value ∙ ap (group_of c.in_ok-pool.pool.now) (c.as_bytes.ensures.value ∙ c.as_str-name.ensures.same) in
+    c.group_of-group.ensures.value ∙ ap (group_of c.in_ok-pool.pool.now) (c.as_bytes.ensures.value ∙ c.as_str.ensures.same) in
     let p = err_from_is_err_and c.from_residual-in_err-placement.result c.from_residual-in_err-placement.ensures.1 in
     rw (p.1, p.2)
     (object_refused c.args.id c.args.name.now c.args.inventory.now c.in_ok-pool.pool.now c.group_of-group.result _ there own c.in_err-placement.ensures)
@@ -27,7 +22,7 @@ returns c =
     let found : Some c.in_ok-pool.pool.now ≡ find (λ p. p.id == c.args.id) c.pools.result.now = rw c.in_ok-pool.ensures.ok_part at c.get.ensures in
     let there : pool c.args.id c.args.inventory.now ≡ Some c.in_ok-pool.pool.now = pool_there c.args.id c.args.inventory.now c.pools.result.now c.in_ok-pool.pool.now c.pools.ensures found in
     let own : c.group_of-group.result ≡ group_of c.in_ok-pool.pool.now c.args.name.now =
-    c.group_of-group.ensures.value ∙ ap (group_of c.in_ok-pool.pool.now) (c.as_bytes.ensures.value ∙ c.as_str-name.ensures.same) in
-    c.in_ok-success.ensures
-    ∙ ap reply (object_placed c.args.id c.args.name.now c.args.inventory.now c.in_ok-pool.pool.now c.as_str-name.result.now c.group_of-group.result c.in_ok-placement.placement _ there
-    c.as_str-name.ensures.same own c.in_ok-placement.ensures c.in_ok-body.ensures)
+    c.group_of-group.ensures.value ∙ ap (group_of c.in_ok-pool.pool.now) (c.as_bytes.ensures.value ∙ c.as_str.ensures.same) in
+    c.in_ok-placed_object.ensures
+    ∙ ap reply (object_placed c.args.id c.args.name.now c.args.inventory.now c.in_ok-pool.pool.now c.args.name.now c.group_of-group.result c.in_ok-placement.placement _ there
+    refl own c.in_ok-placement.ensures refl)

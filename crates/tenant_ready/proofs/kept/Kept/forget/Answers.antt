@@ -7,12 +7,12 @@ use Rattle.tenant_ready.proofs.SizeFacts.{popped_read}
 use Rattle.tenant_ready.proofs.kept.Kept.forget.Goals as goal
 
 pub overflow_sub-self : goal.overflow_sub-self
-overflow_sub-self c = (popped_read (λ r. size r.value) _ c.self.inside.by_name c.pop_entry.new.self c.pop_entry.result c.self.inside.bytes c.size_of.result c.pop_entry.ensures.value c.pop_entry.ensures.entries
+overflow_sub-self c = (popped_read (λ r. size r.value.inventory) _ c.self.inside.by_name c.pop_entry.new.self c.pop_entry.result c.self.inside.bytes c.size_of.result c.pop_entry.ensures.value c.pop_entry.ensures.entries
     c.self.invariant.bytes (omega (arith, c.self.invariant.fits, c.self.invariant.least)) c.size_of.ensures).0
 
 pub invariant_of-self : goal.invariant_of-self
 invariant_of-self c =
-    let left = popped_read (λ r. size r.value) _ c.self.inside.by_name c.pop_entry.new.self c.pop_entry.result c.self.inside.bytes c.size_of.result c.pop_entry.ensures.value c.pop_entry.ensures.entries
+    let left = popped_read (λ r. size r.value.inventory) _ c.self.inside.by_name c.pop_entry.new.self c.pop_entry.result c.self.inside.bytes c.size_of.result c.pop_entry.ensures.value c.pop_entry.ensures.entries
     c.self.invariant.bytes (omega (arith, c.self.invariant.fits, c.self.invariant.least)) c.size_of.ensures in
     record { bytes = left.1; fits = omega (arith, c.self.invariant.fits); least = c.self.invariant.least }
 

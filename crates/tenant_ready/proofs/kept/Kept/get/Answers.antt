@@ -7,7 +7,7 @@ use Rattle.tenant_ready.proofs.kept.Kept.get.Goals as goal
 
 pub invariant_of-self : goal.invariant_of-self
 invariant_of-self c = (record {
-  bytes = c.self.invariant.bytes ∙ sym (promoted_sum (λ r. size r.value) c.self.inside.by_name c.promote.new.self _ c.promote.ensures.entries);
+  bytes = c.self.invariant.bytes ∙ sym (promoted_sum (λ r. size r.value.inventory) c.self.inside.by_name c.promote.new.self _ c.promote.ensures.entries);
   fits = c.self.invariant.fits;
   least = c.self.invariant.least;
 })
@@ -20,7 +20,7 @@ returns-in_default-clause-same c u i found = subst (λ k. kept_at k u ≡ Some i
 
 pub invariant_of-self-in_err-clone : goal.invariant_of-self-in_err-clone
 invariant_of-self-in_err-clone c = (record {
-  bytes = c.self.invariant.bytes ∙ sym (promoted_sum (λ r. size r.value) c.self.inside.by_name c.promote.new.self _ c.promote.ensures.entries);
+  bytes = c.self.invariant.bytes ∙ sym (promoted_sum (λ r. size r.value.inventory) c.self.inside.by_name c.promote.new.self _ c.promote.ensures.entries);
   fits = c.self.invariant.fits;
   least = c.self.invariant.least;
 })
@@ -30,7 +30,7 @@ returns-in_err-clone-clause-same c u i found = subst (λ k. kept_at k u ≡ Some
 
 pub invariant_of-self-2 : goal.invariant_of-self-2
 invariant_of-self-2 c = (record {
-  bytes = c.self.invariant.bytes ∙ sym (promoted_sum (λ r. size r.value) c.self.inside.by_name c.promote.new.self _ c.promote.ensures.entries);
+  bytes = c.self.invariant.bytes ∙ sym (promoted_sum (λ r. size r.value.inventory) c.self.inside.by_name c.promote.new.self _ c.promote.ensures.entries);
   fits = c.self.invariant.fits;
   least = c.self.invariant.least;
 })

@@ -1,0 +1,98 @@
+//! Placements of groups, from a cache, for what a tenant has.
+
+ghost use Rattle.std.specs.Prelude.{◌≡◌, ◌<◌, ◌⊎◌, ℕ, List, Contains, Some, IfSome};
+ghost use Rattle.crush_cache.specs.Caches.{KeepsNumbers};
+ghost use Rattle.tenant_core.specs.Queries.{AsksFor, IsPlacedFor};
+ghost use Rattle.tenant_ready.specs.Kept.{kept_at};
+ghost use Rattle.tenant_ready.specs.Ready.{HasNumber, IsWithNumber};
+
+use crate::kept::Kept;
+use crate::ready::Ready;
+use crush_cache::PlacementCache;
+use crush_pool::Pool;
+use std::alloc::Global;
+use std::rc::Rc;
+use tenant_core::{Placed, Query};
+use tenant_state::Inventory;
+
+/// The number that is kept beside what a tenant has for the content of a pool, while that content
+/// is still in the cache.
+pub(crate) fn number_beside(cache: &PlacementCache, ready: &Ready, pool: &Pool) -> Option<u64>
+    ensures { IfSome result (λ n. Contains ready.now.numbers (pool.now.id, n)) }
+{
+    let number = ready.number_of(pool.parts().id)?;
+    if cache.has(number) {
+        Some(number)
+    } else {
+        None
+    }
+}
+
+/// A number for the content of a pool of what a tenant has, on the newest version.
+pub(crate) fn give_number(
+    cache: &mut PlacementCache,
+    inventory: &Inventory,
+    pool: &Rc<Pool>,
+) -> Option<u64>
+    ensures number { IfSome result (λ n. HasNumber cache.new inventory.now pool.now.value n) }
+    ensures kept { KeepsNumbers cache.old cache.new }
+{
+    let version = inventory.version(inventory.newest())?;
+    let Ok(content) = inventory.content(version, pool) else {
+        return None;
+    };
+    cache.number_of(&content)
+}
+
+/// Keeps a number for the content of a pool beside what a tenant has, where there is memory for it.
+pub(crate) fn keep_number(
+    alloc: Global,
+    kept: &mut Kept,
+    name: &str,
+    ready: &Ready,
+    pool: &Pool,
+    number: u64,
+)
+    ensures { (u : List ℕ) (r : _) → kept_at kept.new u ≡ Some r → (kept_at kept.old u ≡ Some r) ⊎ IsWithNumber ready.now pool.now.id number r }
+{
+    let Ok(next) = ready.with_number(alloc, pool.parts().id, number) else {
+        return;
+    };
+    let Ok(key) = String::from_str(alloc, name) else {
+        return;
+    };
+    let Ok(next) = Rc::new(alloc, next) else {
+        return;
+    };
+    kept.put(key, next);
+}
+
+/// The placement of the group of a pool that a query asks for, with what the tenant has.
+pub(crate) fn place(
+    cache: &mut PlacementCache,
+    number: u64,
+    inventory: &Rc<Inventory>,
+    pool: &Pool,
+    group: u32,
+) -> Option<Placed>
+    requires number { HasNumber cache.old inventory.now.value pool.now number }
+    requires there { group < pool.now.pg_num }
+    ensures inventory { IfSome result (λ r. r.inventory.value ≡ inventory.now.value) }
+    ensures placed { IfSome result (λ r. (query : _) → AsksFor query inventory.now.value pool.now group → IsPlacedFor query r.inventory.value r.group r.placement.value) }
+    ensures same { cache.new ≡ cache.old }
+{
+    let Ok(placer) = inventory.on_newest(pool) else {
+        return None;
+    };
+    let Ok(Ok(placement)) = cache.place_known(number, &placer, group) else {
+        return None;
+    };
+    let Ok(inventory) = inventory.clone() else {
+        return None;
+    };
+    Some(Placed {
+        inventory,
+        group,
+        placement,
+    })
+}

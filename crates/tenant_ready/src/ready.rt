@@ -1,0 +1,87 @@
+//! What a tenant has, with the numbers of the contents that its placements depend on.
+
+ghost use Rattle.std.specs.Prelude.{◌≡◌};
+
+use crate::limits::NUMBER_LIMIT;
+use std::alloc::{AllocError, Global};
+use std::marker::Model;
+use std::rc::Rc;
+use tenant_state::Inventory;
+
+/// What a tenant has, kept ready, with the numbers that a cache of placements gave to the contents
+/// of its pools on the newest version. Contracts see both.
+#[derive(Drop)]
+pub struct Ready {
+    inventory: Rc<Inventory>,
+    /// The id of a pool and a number, that given last first.
+    numbers: Vec<(u32, u64)>,
+}
+
+impl Model for Ready {
+    ghost use Rattle.tenant_ready.specs.Kept.{Ready};
+
+    ghost Value = { Ready };
+
+    ghost view = { λ a. record { inventory = a.inventory.value; numbers = a.numbers.items } };
+}
+
+impl Ready {
+    ghost use Rattle.std.specs.Prelude.{◌≡◌, ◌-◌, ◌^◌, [], Contains, IfOk, IfSome, min};
+    ghost use Rattle.tenant_ready.specs.Ready.{IsWithNumber};
+    ghost use Rattle.tenant_state.specs.Size.{size};
+
+    /// What a tenant has, with no number. Allocates nothing.
+    pub fn new(alloc: Global, inventory: Rc<Inventory>) -> Self
+        ensures { result ≡ record { inventory = inventory.value; numbers = [] } }
+    {
+        Ready {
+            inventory,
+            numbers: Vec::new(alloc),
+        }
+    }
+
+    /// What the tenant has, shared.
+    pub fn inventory(&self) -> &Rc<Inventory>
+        ensures { result.now.value ≡ self.now.inventory }
+    {
+        &self.inventory
+    }
+
+    /// The number of the content of the pool with an id, if it has one.
+    pub fn number_of(&self, pool: u32) -> Option<u64>
+        ensures { IfSome result (λ n. Contains self.now.numbers (pool, n)) }
+    {
+        for (id, number) in &self.numbers {
+            if *id == pool {
+                return Some(*number);
+            }
+        }
+        None
+    }
+
+    /// The same, with a number for the content of a pool; the number that was given first is
+    /// forgotten where there are too many. `Err(AllocError)`: an allocation failed; nothing is
+    /// changed.
+    pub fn with_number(&self, alloc: Global, pool: u32, number: u64) -> Result<Ready, AllocError>
+        ensures { IfOk result (λ r. IsWithNumber self.now pool number r) }
+    {
+        let mut numbers = Vec::with_capacity(alloc, NUMBER_LIMIT)?;
+        numbers.push((pool, number))?;
+        for (id, other) in &self.numbers {
+            if numbers.len() < NUMBER_LIMIT && *id != pool {
+                numbers.push((*id, *other))?;
+            }
+        }
+        Ok(Ready {
+            inventory: self.inventory.clone()?,
+            numbers,
+        })
+    }
+
+    /// How many bytes of memory it takes at most, by an estimate.
+    pub fn size(&self) -> u64
+        ensures { result ≡ min (size self.now.inventory) (2 ^ 64 - 1) }
+    {
+        self.inventory.size()
+    }
+}
