@@ -86,7 +86,7 @@ fn items_in(buckets: &[Bucket]) -> u64
 {
     let mut items = 0;
     for bucket in buckets {
-        items = plus(items, bucket.items.len() as u64);
+        items = plus(items, bucket.items.as_slice().len() as u64);
     }
     items
 }
@@ -97,7 +97,7 @@ fn steps_in(rules: &[Rule]) -> u64
 {
     let mut steps = 0;
     for rule in rules {
-        steps = plus(steps, rule.steps.len() as u64);
+        steps = plus(steps, rule.steps.as_slice().len() as u64);
     }
     steps
 }
