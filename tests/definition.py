@@ -9,8 +9,9 @@ import pool_cases
 import report_cases
 from replies import BAD, EXISTS, NO_TENANT, dropped, item, made
 
-# a tenant: the device and the rule of the map of each version, the line and the reply of each accepted change by its request number, the
-# reweight and whether it is up of each device with a state, and the rule of each pool by its id; no two of these pools have a name in common
+# a tenant: the device and the rule of the map of each version, the line and the reply of each
+# accepted change by its request number, the reweight and whether it is up of each device with a
+# state, and the rule of each pool by its id; no two of these pools have a name in common
 Tenant = collections.namedtuple("Tenant", "versions receipts states pools")
 GROUPS = pool_cases.POOL["pg_num"]  # of each pool
 # the texts that are imported, by the device and the rule of their maps

@@ -101,8 +101,9 @@ def write_record(crate, found, before):
     rows = [f"| `{name}` | {name.replace('_', ' ')} | {where} | {goal} |" for name, (where, goal) in sorted(found.items())]
     record(crate).write_text(
         "# Refused edits\n\n"
-        "Written by `make wrong`, never by hand. Each edit beside this file was tried on the crate as the digest names it, and the prover\n"
-        "refused it. `make test` takes that for granted while the digest fits, and `make gate` tries every edit again.\n\n"
+        "Written by `make wrong`, never by hand. Each edit beside this file was tried on the crate as the\n"
+        "digest names it, and the prover refused it. `make test` takes that for granted while the digest\n"
+        "fits, and `make gate` tries every edit again.\n\n"
         f"Toolchain: {version()}\n\nDigest: {before}\n\n"
         "| edit | what it does | refused at | goal |\n|---|---|---|---|\n" + "\n".join(rows) + "\n"
     )

@@ -34,7 +34,8 @@ CONST = re.compile(r"^pub const (\w+): \w+ = (-?[\d_]+);$")
 LIMITED = re.compile(r"^\|[^|]*\| (-?[\d,]+) \| `(\w+)` \| `(\w+)` \|$")
 LIMITS = "docs/REQUESTS.md"
 HELP = "crates/crushcalc/src/arguments.rt"
-# the code of a fault: the crate and the const of its limit, and the number that its line of the help has
+# the code of a fault: the crate and the const of its limit, and the number that its line of the
+# help has
 HELPED = {
     "X7": ("crush_text", "TEXT_LIMIT", lambda limit: f"{limit:,}"),
     "M7": ("crush_map", "TOTAL_WEIGHT_LIMIT", lambda limit: str((limit + 1) // 65536)),  # the first whole weight past it

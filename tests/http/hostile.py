@@ -9,7 +9,8 @@ import pool_cases
 from replies import BAD, made, there
 from served import Server, asked, message, replies_on, reset
 
-# what a client may take: for one read or write, and for a message with its reply; and what a busy machine adds
+# what a client may take: for one read or write, and for a message with its reply; and what a busy
+# machine adds
 WAIT, WHOLE, SLACK = 5, 30, 10
 CLIENTS, MANY = 50, 9_000
 # the text of this map is a reply of some 60 kB
