@@ -74,7 +74,7 @@ try: tools
 	@mkdir -p build
 	@[ -r '$(SCRIPT)' ] || { echo "There is no file '$(SCRIPT)' to play." >&2; exit 1; }
 	@echo 'Playing $(SCRIPT) with no proof: a minute or two. Nothing is proved by this; make run proves the program and builds it.'
-	@script=$$(realpath '$(SCRIPT)') && cd crates/crushcalc && $(RT) try -- script <"$$script" >../../build/replies 2>../../build/try.log || { tail -n 30 build/try.log; exit 1; }
+	@script=$$(realpath '$(SCRIPT)') && cd crates/crushcalc && $(RT) try -- script <"$$script" >../../build/replies 2>../../build/try.log || { tail -n 30 ../../build/try.log; exit 1; }
 	@$(SHOW)
 
 # rt try takes a folder of inputs, each beside what has to be written
