@@ -18,6 +18,9 @@ REFUSED = re.compile(r"^rt: must-fail (\w+)/(\w+)\.edit: refused, as it must be:
 TRIED = re.compile(r"^rt: must-fail (\w+)/(\w+)\.edit: (.*)$")
 PLACE = re.compile(r"(src/\w+\.rt):(\d+):\d+: (.*)")
 GOAL = re.compile(r"\(`([^`]*)`\)")
+# the proof of a function, in a file of its own, doesn't fit the edit: the source, the function, the
+# goal, and why
+PROOF = re.compile(r"\./proofs/(\w+)/(?:\w+/)?(\w+)/(?:Answers|Invariants)\.antt:\d+:\d+: error: `([^`]*)`: (.*)")
 DIGEST = re.compile(r"^Digest: ([0-9a-f]{64})$", re.M)
 
 
@@ -76,7 +79,11 @@ def function_at(crate, file, line):
 
 def refusal(crate, said):
     """The function and the goal that refused an edit, as rt says it."""
-    at, goal = PLACE.search(said), GOAL.search(said)
+    at, goal, proof = PLACE.search(said), GOAL.search(said), PROOF.search(said)
+    if not at and proof:
+        # a goal, or a call in it, that the edit took away: such an edit shows nothing of a contract
+        gone = " has no field " in proof[4] or "that can be named from here" in proof[4]
+        return f"`{proof[2]}`, src/{proof[1]}.rt", f"`{proof[3]}`" + (" (its proof names what is gone)" if gone else "")
     where = f"`{function_at(crate, at.group(1), at.group(2))}`, {at.group(1)}" if at else "-"
     return where, f"`{goal.group(1)}`" if goal else said[:120].replace("|", "/")
 
