@@ -1,26 +1,20 @@
 #!/usr/bin/env python3
 """Checks the pages (*.md) and the comments of the sources, which needs no built program.
 
-usage: tests/pages.py [WORD..]      with WORDs only the checks whose names have one, as REQUESTS,
-    limits or crush_map
+usage: tests/pages.py [WORD..]      with WORDs only the checks whose names have one, as REQUESTS, limits or crush_map
 
 - A line has at most 100 characters. Tables, code and a line that is one link may be longer.
-- A fenced block whose first line ends in 'from FILE', as in ```rust from
-    crates/crush_app/src/play.rt, is a quote. Its lines stand together
+- A fenced block whose first line ends in 'from FILE', as in ```rust from crates/crush_app/src/play.rt, is a quote. Its lines stand together
   in that file, whose path begins at the top of the repository, blanks and all.
 - A link to a file, or to a heading of a page, leads to one that is there.
-- The table of limits in docs/REQUESTS.md has a row for each limit, with its const and crate: `pub
-    const NAME: TYPE = NUMBER;` in
-  crates/CRATE/src/limits.rt. The numbers are the same. (A const that is computed from others has no
-      row.)
+- The table of limits in docs/REQUESTS.md has a row for each limit, with its const and crate: `pub const NAME: TYPE = NUMBER;` in
+  crates/CRATE/src/limits.rt. The numbers are the same. (A const that is computed from others has no row.)
 - The help of `crushcalc check` has a limit's number in the line of each code of HELPED.
-- README and some pages of docs/ have a greatest number of lines, and the table of words in
-    docs/ARCHITECTURE.md one of rows.
+- README and some pages of docs/ have a greatest number of lines, and the table of words in docs/ARCHITECTURE.md one of rows.
 - A comment in crates/*/src, specs and proofs has at most 100 characters a line.
 - docs/DEFINITIONS.md lists the definitions that public clauses cite (cited.py).
 
-tests/run runs these checks with its own. The last line is 'N passed, M failed': pages, the limits,
-the help, crates, and the list of definitions.
+tests/run runs these checks with its own. The last line is 'N passed, M failed': pages, the limits, the help, crates, and the list of definitions.
 """
 import pathlib
 import re
@@ -61,8 +55,7 @@ def pages():
 
 
 def parts(text):
-    """The lines outside fenced blocks, each with its number; and the blocks: the number and text of
-    the first line, and the lines inside."""
+    """The lines outside fenced blocks, each with its number; and the blocks: the number and text of the first line, and the lines inside."""
     prose, blocks, block = [], [], None
     for number, line in enumerate(text.splitlines(), 1):
         if line.startswith(FENCE):
@@ -207,8 +200,7 @@ def checks():
 
 
 def outcomes(words):
-    """Each check, or those whose names have one of the words: what is checked, and its first fault,
-    or None."""
+    """Each check, or those whose names have one of the words: what is checked, and its first fault, or None."""
     for name, faults in checks():
         if not words or any(it in name for it in words):
             yield name, next(faults, None)
