@@ -1,3 +1,4 @@
 pub mod Following
+pub mod LengthFacts
 pub mod NameFacts
 pub mod SizeFacts
