@@ -46,7 +46,9 @@ fn after(
 
 /// The body of an import of a map with this device alone.
 fn import_of(alloc: Global, device: u32) -> Result<String, AllocError> {
-    format!(in alloc; "{{\"request\":\"m1\",\"text\":\"tunable choose_local_tries 0\\ntunable choose_local_fallback_tries 0\\ntunable choose_total_tries 50\\ntunable chooseleaf_descend_once 1\\ntunable chooseleaf_vary_r 1\\ntunable chooseleaf_stable 1\\ndevice {device} osd.{device}\\ntype 0 osd\\ntype 1 host\\ntype 10 root\\nroot default {{\\n id -1\\n alg uniform\\n hash 0\\n item osd.{device} weight 1.0\\n}}\\nrule all {{\\n id 0\\n type replicated\\n step take default\\n step choose firstn 0 type osd\\n step emit\\n}}\\n\"}}")
+    format!(in alloc;
+        "{{\"request\":\"m1\",\"text\":\"tunable choose_local_tries 0\\ntunable choose_local_fallback_tries 0\\ntunable choose_total_tries 50\\ntunable chooseleaf_descend_once 1\\ntunable chooseleaf_vary_r 1\\ntunable chooseleaf_stable 1\\ndevice {device} osd.{device}\\ntype 0 osd\\ntype 1 host\\ntype 10 root\\nroot default {{\\n id -1\\n alg uniform\\n hash 0\\n item osd.{device} weight 1.0\\n}}\\nrule all {{\\n id 0\\n type replicated\\n step take default\\n step choose firstn 0 type osd\\n step emit\\n}}\\n\"}}"
+    )
 }
 
 /// The store with a tenant that has a pool of 8 groups on a map with this device alone.
@@ -138,7 +140,12 @@ fn each_of_300_tenants_has_placements_of_its_own(rt: HostRuntime) -> Result<(), 
     for _ in 0..2 {
         for device in 0..300 {
             let tenant = format!(in alloc; "t{device}")?;
-            assert_on(&rt, &placed(&rt, &mut store, tenant.as_str(), 0), device, true);
+            assert_on(
+                &rt,
+                &placed(&rt, &mut store, tenant.as_str(), 0),
+                device,
+                true,
+            );
         }
     }
     Ok(())

@@ -11,13 +11,13 @@ use Rattle.tenant_ready.proofs.kept.Kept.put.Goals as goal
 use Rattle.tenant_ready.proofs.kept.Kept.put.Goals.{in-Some-1, in-None-1}
 
 pub overflow_sub-bytes : goal.overflow_sub-bytes
-overflow_sub-bytes c = (pushed_read (λ r. size r.value.inventory) string_eq c.self.inside.by_name c.push.new.self c.args.name c.args.ready c.in-Ok.displaced c.self.inside.bytes (2 ^ 63 - 1) c.size-size.result c.size_of.result
-    c.len-count.ensures.valid c.in-Ok.ensures.old c.in-Ok.ensures.entries c.self.invariant.bytes (omega (arith, c.self.invariant.small)) (omega arith)
+overflow_sub-bytes c = (pushed_read (λ r. size r.value.inventory) string_eq c.self.inside.by_name c.push.new.self c.args.name c.args.ready c.in-Ok.displaced c.self.inside.bytes c.size-size.result c.size_of.result
+    c.len-count.ensures.valid c.in-Ok.ensures.old c.in-Ok.ensures.entries c.self.invariant.bytes c.self.invariant.small
     (c.size-size.ensures ∙ ap (λ r. min (size r.inventory) (2 ^ 64 - 1)) c.deref.ensures) (omega (arith, c.if-size-gt-GREATEST_BOUND.false)) c.size_of.ensures).0
 
 pub evict-self-inside-requires : goal.evict-self-inside-requires
-evict-self-inside-requires c = (pushed_read (λ r. size r.value.inventory) string_eq c.self.inside.by_name c.push.new.self c.args.name c.args.ready c.in-Ok.displaced c.self.inside.bytes (2 ^ 63 - 1) c.size-size.result c.size_of.result
-    c.len-count.ensures.valid c.in-Ok.ensures.old c.in-Ok.ensures.entries c.self.invariant.bytes (omega (arith, c.self.invariant.small)) (omega arith)
+evict-self-inside-requires c = (pushed_read (λ r. size r.value.inventory) string_eq c.self.inside.by_name c.push.new.self c.args.name c.args.ready c.in-Ok.displaced c.self.inside.bytes c.size-size.result c.size_of.result
+    c.len-count.ensures.valid c.in-Ok.ensures.old c.in-Ok.ensures.entries c.self.invariant.bytes c.self.invariant.small
     (c.size-size.ensures ∙ ap (λ r. min (size r.inventory) (2 ^ 64 - 1)) c.deref.ensures) (omega (arith, c.if-size-gt-GREATEST_BOUND.false)) c.size_of.ensures).1
 
 pub returns-in-Ok-clause-only : goal.returns-in-Ok-clause-only
