@@ -16,7 +16,7 @@ from replies import BAD, EXISTS, NO_TENANT, dropped, item, made
 Tenant = collections.namedtuple("Tenant", "versions receipts states pools")
 GROUPS = pool_cases.POOL["pg_num"]  # of each pool
 # the texts that are imported, by the device and the rule of their maps
-TEXTS = {pool_cases.with_rule(rule, map_cases.tiny(device)): (device, rule) for device in range(10) for rule in range(2)}
+TEXTS = {pool_cases.with_rule(rule, map_cases.tiny(device)): (device, rule) for device in range(300) for rule in range(2)}
 
 
 def import_into(tenant, asked, epoch):

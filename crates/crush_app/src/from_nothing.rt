@@ -9,13 +9,16 @@ ghost use Rattle.crush_app.specs.declared.limits.TheConstants.{SCRIPT_LIMIT};
 ghost use Rattle.crush_app.specs.Script.{messages, OfScript};
 
 use crate::laws::memory_stores_are_honest;
+use crate::memory_store::MemoryStore;
 use crate::play::{ScriptEnd, script_run};
 use crate::service::Service;
 use std::alloc::{AllocError, Global};
 use std::io::{Read, Write};
+use std::num::NonZeroUsize;
+use tenant_ready::ReadyStore;
 
 /// Plays a script on a service over a new store in memory, as `script_run` does, and returns how
-/// that ended. The service is gone afterwards.
+/// that ended. The service, which keeps so many placements, is gone afterwards.
 ///
 /// The clauses have no premise. They speak of an input, which is what the reader had where
 /// contracts know its bytes.
@@ -24,6 +27,7 @@ use std::io::{Read, Write};
 #[tactic(auto, using(crate::proofs::FromNothing::script_headline))]
 pub fn script_in_memory<R: Read, W: Write>(
     alloc: Global,
+    placements: NonZeroUsize,
     reader: &mut R,
     writer: &mut W,
 ) -> Result<ScriptEnd, AllocError>
@@ -56,6 +60,8 @@ pub fn script_in_memory<R: Read, W: Write>(
     ensures silent { ServesNone result → KeepsBytes (W.contents writer.old) (W.contents writer.new) }
 {
     memory_stores_are_honest();
-    let mut service = Service::in_memory(alloc)?;
+    // what the tenants have is in memory already, and is shared
+    let store = ReadyStore::over(alloc, MemoryStore::new(alloc), u64::MAX, placements)?;
+    let mut service = Service::over(alloc, store)?;
     script_run(alloc, &mut service, reader, writer)
 }

@@ -1,6 +1,6 @@
 //! The service of all tenants, over any store.
 
-ghost use Rattle.std.specs.Prelude.{◌≡◌, ◌≢◌, ◌↔◌, ℕ, List, true, false, Option, is_some, option_map, Err, IfOk, OnOk, OnErr};
+ghost use Rattle.std.specs.Prelude.{◌≡◌, ◌≢◌, ◌↔◌, ℕ, List, true, false, Option, is_some, option_map, Err, IfOk, IfSome, OnOk, OnErr};
 ghost use Rattle.tenant_messages.specs.CallParts.{call_of};
 ghost use Rattle.tenant_core.specs.Private.Performing.{Decides, LeavesRequest, Performs};
 ghost use Rattle.tenant_core.specs.States.{IsDamaged, LeavesAsItWas, LeavesAsItWasOr, LeavesStep, Follows};
@@ -14,8 +14,8 @@ use std::marker::Model;
 use std::rc::Rc;
 use tenant_core::laws::each_decision_fits_its_state;
 use tenant_core::{
-    Action, Decision, Effect, Request, Routes, StoreFault, TenantStore, decide, read_request,
-    store_fault,
+    Action, Decision, Effect, Request, Routes, StoreFault, TenantStore, decide, decide_placed,
+    read_request, store_fault,
 };
 use tenant_messages::{Call, CallParts, Refusal, Reply, refused};
 use tenant_state::Receipt;
@@ -70,9 +70,29 @@ fn receipt_of<T: TenantStore>(
     }
 }
 
+/// Decides what a query does by a placement that the store has at hand; `None`: it has none, or the
+/// request is no query. `Err(AllocError)`: an allocation failed. Nothing is changed.
+fn decide_at_hand<T: TenantStore>(
+    alloc: Global,
+    store: &mut T,
+    request: &Request<'_>,
+) -> Result<Option<Decision>, AllocError>
+    requires open { T.latched store.old ≡ false }
+    ensures decided { T.is_honest store.new → IfOk result (λ found. IfSome found (Decides request.now (T.has_state store.old))) }
+    ensures same { store.new ≡ store.old }
+{
+    let Action::Query(query) = &request.action else {
+        return Ok(None);
+    };
+    let Some(placed) = store.placed(request.tenant, query) else {
+        return Ok(None);
+    };
+    Ok(Some(decide_placed(alloc, &placed, query)?))
+}
+
 /// Loads what the tenant has, and the receipt of the request number, and decides what the request
 /// does. `Err`: the store's fault; a failed allocation is one. Nothing is changed.
-fn decide_request<T: TenantStore>(
+fn decide_loaded<T: TenantStore>(
     alloc: Global,
     store: &mut T,
     request: &Request<'_>,
@@ -95,6 +115,27 @@ fn decide_request<T: TenantStore>(
         receipt.as_deref(),
         &request.action,
     )?)
+}
+
+/// Decides what a request does, by a placement that the store has at hand, or by what it loads.
+/// `Err`: the store's fault; a failed allocation is one. Nothing is changed.
+fn decide_request<T: TenantStore>(
+    alloc: Global,
+    store: &mut T,
+    request: &Request<'_>,
+) -> Result<Decision, StoreFault>
+    requires open { T.latched store.old ≡ false }
+    ensures decided { T.is_honest store.new → IfOk result (Decides request.now (T.has_state store.old)) }
+    ensures damaged { T.is_honest store.new → result ≡ Err StoreFault.Damaged → IsDamaged (T.has_state store.old) request.now.tenant }
+    ensures same { T.is_honest store.new → T.latched store.new ≡ false → T.keeps store.old store.new }
+    ensures latch { T.latched store.new ≡ is_failed result }
+    ensures crash { T.is_honest store.new → T.latched store.new ≡ true → LeavesAsItWas (T.has_state store.old) (T.may_leave store.new) }
+    ensures honest { T.is_honest store.new → T.is_honest store.old }
+{
+    if let Some(decision) = decide_at_hand(alloc, store, request)? {
+        return Ok(decision);
+    }
+    decide_loaded(alloc, store, request)
 }
 
 /// Decides what a request does, carries that out, and returns the reply. `Err`: the store's fault,

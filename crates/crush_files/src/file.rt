@@ -18,11 +18,12 @@ use crush_app::ScriptEnd;
 use sqlite_disk::{Disk, Files, Start};
 use sqlite_std_file::FileFrom;
 use std::io::{Read, Write};
+use std::num::NonZeroUsize;
 use std::rt::HostRuntime;
 
-/// Plays a script on the tenants in a database file, and returns how that ended, with the closed
-/// file and its log. A file that is missing or empty becomes a new database. The file is opened
-/// before the script is read.
+/// Plays a script on the tenants in a database file, of whose groups so many placements are kept,
+/// and returns how that ended, with the closed file and its log. A file that is missing or empty
+/// becomes a new database. The file is opened before the script is read.
 ///
 /// The clauses speak of what the file and its log held (`S`), which no clause ties to the path, and
 /// have the premise that the disk returned what was written (`AreClean`).
@@ -34,6 +35,7 @@ pub fn script_on_file<S: Start, R: Read, W: Write>(
     rt: &HostRuntime,
     path: &str,
     start: S,
+    placements: NonZeroUsize,
     reader: &mut R,
     writer: &mut W,
 ) -> Result<(ScriptEnd, Files<FileFrom<S>>), FileFault>
@@ -66,5 +68,5 @@ pub fn script_on_file<S: Start, R: Read, W: Write>(
     ensures silent { IfOk result (λ r. ServesNone (Ok r.0) → KeepsBytes (W.contents writer.old) (W.contents writer.new)) }
 {
     let store = open_store(rt, path, start)?;
-    script_on_files(rt.alloc(), store, reader, writer)
+    script_on_files(rt.alloc(), store, placements, reader, writer)
 }

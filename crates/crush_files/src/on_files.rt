@@ -24,6 +24,7 @@ use sqlite::FileStore;
 use sqlite_disk::{Disk, Files};
 use std::alloc::{AllocError, Global};
 use std::io::{Read, Write};
+use std::num::NonZeroUsize;
 use tenant_store::Store;
 
 /// The end of a script, where its file may be closed.
@@ -40,8 +41,8 @@ fn closable(end: ScriptEnd) -> Result<ScriptEnd, FileFault>
     }
 }
 
-/// Plays a script on the tenants of a store over a database file, and returns how that ended, with
-/// the closed file and its log.
+/// Plays a script on the tenants of a store over a database file, of whose groups so many
+/// placements are kept, and returns how that ended, with the closed file and its log.
 ///
 /// The clauses have the premise that the disk returned what was written (`AreClean`).
 /// `Err(FileFault::Store)`: the file failed for good while lines were served, or as it was closed.
@@ -49,6 +50,7 @@ fn closable(end: ScriptEnd) -> Result<ScriptEnd, FileFault>
 pub fn script_on_files<D: Disk + Drop, R: Read, W: Write>(
     alloc: Global,
     store: Store<FileStore<D>>,
+    placements: NonZeroUsize,
     reader: &mut R,
     writer: &mut W,
 ) -> Result<(ScriptEnd, Files<D>), FileFault>
@@ -86,7 +88,7 @@ pub fn script_on_files<D: Disk + Drop, R: Read, W: Write>(
     // Otherwise nothing was written.
     ensures silent { IfOk result (λ r. ServesNone (Ok r.0) → KeepsBytes (W.contents writer.old) (W.contents writer.new)) }
 {
-    let (end, conn) = match script_on_tables(alloc, store, reader, writer) {
+    let (end, conn) = match script_on_tables(alloc, store, placements, reader, writer) {
         Ok(played) => played,
         Err(AllocError) => return Err(FileFault::NoMemory),
     };

@@ -17,6 +17,7 @@ use crush_app::{ScriptEnd, script_on_store};
 use sqlite::{Alter, Connection};
 use std::alloc::{AllocError, Global};
 use std::io::{Read, Write};
+use std::num::NonZeroUsize;
 use tenant_ready::ReadyStore;
 use tenant_store::Store;
 
@@ -25,7 +26,8 @@ use tenant_store::Store;
 pub const READY_BYTES: u64 = 268_435_456;
 
 /// Plays a script on the tenants of a store over tables, as `script_run` does, and returns how that
-/// ended, with the connection. What tenants have is kept ready, within `READY_BYTES`.
+/// ended, with the connection. What tenants have is kept ready, within `READY_BYTES`, and so many
+/// placements of their groups.
 ///
 /// The clauses have the premise that the disk returned what was written.
 /// `Err(AllocError)`: an allocation for the service or for the script itself failed; no line was
@@ -33,6 +35,7 @@ pub const READY_BYTES: u64 = 268_435_456;
 pub fn script_on_tables<S: Alter + Drop, R: Read, W: Write>(
     alloc: Global,
     store: Store<S>,
+    placements: NonZeroUsize,
     reader: &mut R,
     writer: &mut W,
 ) -> Result<(ScriptEnd, Connection<S>), AllocError>
@@ -75,7 +78,7 @@ pub fn script_on_tables<S: Alter + Drop, R: Read, W: Write>(
     ensures unserved { OnErr result (KeepsBytes (W.contents writer.old) (W.contents writer.new)) }
     ensures honest { IfOk result (λ r. HasCleanDisk (state S.Store r.1) → IsHonest S.Store store) }
 {
-    let ready = ReadyStore::over(alloc, store, READY_BYTES)?;
+    let ready = ReadyStore::over(alloc, store, READY_BYTES, placements)?;
     let (end, ready) = script_on_store(alloc, ready, reader, writer)?;
     Ok((end, ready.into_below().close()))
 }

@@ -12,11 +12,12 @@ use crush_files::open_store;
 use sqlite_disk::{Disk, Files, Start};
 use sqlite_std_file::FileFrom;
 use std::net::{Ipv4Addr, TcpListener};
+use std::num::NonZeroUsize;
 use std::rt::HostRuntime;
 
 /// Opens a database file, listens on a port of 127.0.0.1, writes a line that says so to standard
-/// output, and serves so many connections. Returns the closed file and its log. A file that is
-/// missing or empty becomes a new database.
+/// output, and serves so many connections, with so many placements kept. Returns the closed file
+/// and its log. A file that is missing or empty becomes a new database.
 ///
 /// The clause speaks of what the file and its log held (`S`), which no clause ties to the path, and
 /// has the premise that the disk returned what was written (`AreClean`).
@@ -29,6 +30,7 @@ pub fn serve_on_file<S: Start>(
     rt: &HostRuntime,
     path: &str,
     start: S,
+    placements: NonZeroUsize,
     port: u16,
     connections: u32,
 ) -> Result<Files<FileFrom<S>>, ServerFault>
@@ -43,5 +45,5 @@ pub fn serve_on_file<S: Start>(
     if println!(rt; "listening 127.0.0.1:{port}").is_err() {
         return Err(ServerFault::WriteFault);
     }
-    serve_on_store(rt.alloc(), rt, store, &listener, connections)
+    serve_on_store(rt.alloc(), rt, store, placements, &listener, connections)
 }

@@ -19,12 +19,13 @@ use sqlite::FileStore;
 use sqlite_disk::{Disk, Files};
 use std::alloc::Global;
 use std::net::TcpListener;
+use std::num::NonZeroUsize;
 use std::time::Clock;
 use tenant_ready::ReadyStore;
 use tenant_store::Store;
 
-/// Serves so many connections to the tenants of a store over a database file, and returns the
-/// closed file and its log.
+/// Serves so many connections to the tenants of a store over a database file, of whose groups so
+/// many placements are kept, and returns the closed file and its log.
 ///
 /// The clauses have the premise that the disk returned what was written (`AreClean`).
 /// `Err(ServerFault::Store)`: the file failed for good while calls were served, or as it was
@@ -33,6 +34,7 @@ pub fn serve_on_store<D: Disk + Drop, C: Clock>(
     alloc: Global,
     clock: &C,
     store: Store<FileStore<D>>,
+    placements: NonZeroUsize,
     listener: &TcpListener,
     connections: u32,
 ) -> Result<Files<D>, ServerFault>
@@ -44,7 +46,7 @@ pub fn serve_on_store<D: Disk + Drop, C: Clock>(
         × ServesCalls false (StandsFor (file_state store.0).now.trees) (StatesIn (file_state now).committed)) }
     ensures clean { IfOk result (λ files. AreClean D.Disk files.log files.db → HasCleanDisk (file_state store.0)) }
 {
-    let ready = ReadyStore::over(alloc, store, READY_BYTES)?;
+    let ready = ReadyStore::over(alloc, store, READY_BYTES, placements)?;
     let mut service = Service::over(alloc, ready)?;
     serve_connections(alloc, clock, &mut service, listener, connections)?;
     Ok(close_files(service.into_store().into_below().close())?)

@@ -1,7 +1,8 @@
 //! The program's arguments.
 
-use clap::{Arg, ArgAction, Command, Error, value_parser};
+use clap::{Arg, ArgAction, ArgMatches, Command, Error, value_parser};
 use std::alloc::Global;
+use std::num::NonZeroUsize;
 
 /// The program's version, and the line of `rt version` of the toolchain that proves and builds it
 /// (`tests/run` compares it).
@@ -38,13 +39,16 @@ rule that is wrong, perhaps further down, or the line of the last word where onl
 
 /// What the program is asked to do: a command, with its arguments.
 pub(crate) enum Invocation<'a> {
-    /// Serve the script on standard input, over a database file if one is named.
+    /// Serve the script on standard input, over a database file if one is named, with so many
+    /// placements kept.
     Script {
         db: Option<&'a str>,
+        placements: NonZeroUsize,
     },
-    /// Serve so many connections to a port, over a database file.
+    /// Serve so many connections to a port, over a database file, with so many placements kept.
     Serve {
         db: &'a str,
+        placements: NonZeroUsize,
         port: u16,
         connections: u32,
     },
@@ -52,6 +56,24 @@ pub(crate) enum Invocation<'a> {
     Check {
         path: &'a str,
     },
+}
+
+/// The option that says how many placements are kept.
+fn cache_option<'a>(alloc: Global) -> Arg<'a> {
+    Arg::new(alloc, "cache")
+        .long("cache")
+        .value_name("N")
+        .action(ArgAction::Set)
+        .value_parser(value_parser!(u32).range(1..=65_536))
+        .default_value("1024")
+        .help("Keeps the placements of so many groups, those asked for last")
+}
+
+/// How many placements that option says.
+fn placements_in(matches: &ArgMatches<'_>) -> NonZeroUsize {
+    let given = matches.get_one::<u32>("cache").unwrap_or(1);
+    // clap has refused 0
+    NonZeroUsize::new(given as usize).unwrap_or(NonZeroUsize::MIN)
 }
 
 /// The command `script`.
@@ -66,7 +88,8 @@ fn script_command<'a>(alloc: Global) -> Result<Command<'a>, Error> {
     Ok(
         Command::new(alloc, "script")
             .about("Serves the lines of standard input, and writes a line for each reply")
-            .arg(db)?,
+            .arg(db)?
+            .arg(cache_option(alloc))?,
     )
 }
 
@@ -97,6 +120,7 @@ fn serve_command<'a>(alloc: Global) -> Result<Command<'a>, Error> {
             .about("Serves HTTP on a port of this machine, one connection after the other")
             .arg(db)?
             .arg(port)?
+            .arg(cache_option(alloc))?
             .arg(connections)?,
     )
 }
@@ -134,6 +158,7 @@ pub(crate) fn read_arguments(alloc: Global, arguments: &[String]) -> Result<Invo
     if let Some(serve) = matches.subcommand_matches("serve") {
         return Ok(Invocation::Serve {
             db: serve.get_str("db").unwrap_or(""),
+            placements: placements_in(serve),
             port: serve.get_one::<u16>("port").unwrap_or(1),
             connections: serve.get_one::<u32>("connections").unwrap_or(1),
         });
@@ -141,5 +166,6 @@ pub(crate) fn read_arguments(alloc: Global, arguments: &[String]) -> Result<Invo
     let script = matches.subcommand_matches("script");
     Ok(Invocation::Script {
         db: script.and_then(|script| script.get_str("db")),
+        placements: script.map_or(NonZeroUsize::MIN, |script| placements_in(script)),
     })
 }

@@ -12,6 +12,7 @@ use crush_server::{ServerFault, serve_on_file};
 use sqlite_disk::Unknown;
 use std::alloc::AllocError;
 use std::fs::File;
+use std::num::NonZeroUsize;
 use std::process::ExitCode;
 use std::rt::{Files, HostRuntime};
 use std::{env, io};
@@ -72,13 +73,33 @@ impl From<ServerFault> for Stop {
 }
 
 /// Serves the lines of standard input, with no tenant at first.
-fn script_from_nothing<R: AllocGlobal + Input + Print>(rt: &R) -> Result<ScriptEnd, Stop> {
-    Ok(script_in_memory(rt.alloc(), &mut rt.reader(), &mut io::writer(rt))?)
+fn script_from_nothing<R: AllocGlobal + Input + Print>(
+    rt: &R,
+    placements: NonZeroUsize,
+) -> Result<ScriptEnd, Stop> {
+    Ok(script_in_memory(
+        rt.alloc(),
+        placements,
+        &mut rt.reader(),
+        &mut io::writer(rt),
+    )?)
 }
 
 /// Serves the lines of standard input, with the tenants in a database file.
-fn script_over_file(rt: &HostRuntime, path: &str) -> Result<ScriptEnd, Stop> {
-    let (end, _files) = script_on_file(rt, path, Unknown, &mut rt.reader(), &mut io::writer(rt))?;
+fn script_over_file(
+    rt: &HostRuntime,
+    path: &str,
+    placements: NonZeroUsize,
+) -> Result<ScriptEnd, Stop> {
+    let mut writer = io::writer(rt);
+    let (end, _files) = script_on_file(
+        rt,
+        path,
+        Unknown,
+        placements,
+        &mut rt.reader(),
+        &mut writer,
+    )?;
     Ok(end)
 }
 
@@ -116,20 +137,21 @@ fn run(rt: &HostRuntime) -> Result<ExitCode, Stop> {
     };
     let arguments = given.collect::<Vec<String>>(rt.alloc())?;
     match read_arguments(rt.alloc(), arguments.as_slice())? {
-        Invocation::Script { db: None } => {
-            stop_after(script_from_nothing(rt)?)?;
-            Ok(ExitCode::SUCCESS)
-        }
-        Invocation::Script { db: Some(path) } => {
-            stop_after(script_over_file(rt, path)?)?;
+        Invocation::Script { db, placements } => {
+            let end = match db {
+                Some(path) => script_over_file(rt, path, placements)?,
+                None => script_from_nothing(rt, placements)?,
+            };
+            stop_after(end)?;
             Ok(ExitCode::SUCCESS)
         }
         Invocation::Serve {
             db,
+            placements,
             port,
             connections,
         } => {
-            serve_on_file(rt, db, Unknown, port, connections)?;
+            serve_on_file(rt, db, Unknown, placements, port, connections)?;
             Ok(ExitCode::SUCCESS)
         }
         Invocation::Check { path } => check_file(rt, path),

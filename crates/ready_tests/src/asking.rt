@@ -4,6 +4,7 @@ use crate::watched::{Fault, Watched};
 use crush_app::{MemoryStore, Service};
 use std::alloc::{AllocError, Global};
 use std::cell::Cell;
+use std::num::NonZeroUsize;
 use std::process::Abort;
 use std::rc::Rc;
 use tenant_core::TenantStore;
@@ -24,9 +25,18 @@ pub(crate) const DOWN: &str = "{\"request\":\"d1\",\"devices\":[{\"id\":0,\"up\"
 /// A method, a path and a body.
 pub(crate) type Asked = (&'static str, &'static str, &'static str);
 
+/// A number of placements.
+pub(crate) fn room_for(rt: &impl Abort, placements: usize) -> NonZeroUsize {
+    match NonZeroUsize::new(placements) {
+        Some(placements) => placements,
+        None => rt.abort(),
+    }
+}
+
 /// A service over a store that keeps ready what takes at most `bound` bytes, over one whose call
 /// after `left` others meets a fault.
 pub(crate) fn watched_service(
+    rt: &impl Abort,
     alloc: Global,
     bound: u64,
     loads: Rc<Cell<u64>>,
@@ -40,17 +50,19 @@ pub(crate) fn watched_service(
         fault,
         has_failed: false,
     };
-    Service::over(alloc, ReadyStore::over(alloc, below, bound)?)
+    let store = ReadyStore::over(alloc, below, bound, room_for(rt, 16))?;
+    Service::over(alloc, store)
 }
 
 /// The same, of which no call meets a fault.
 pub(crate) fn counted_service(
+    rt: &impl Abort,
     alloc: Global,
     bound: u64,
     loads: &Rc<Cell<u64>>,
 ) -> Result<Service<ReadyStore<Watched<MemoryStore>>>, AllocError> {
     let shared: Result<Rc<Cell<u64>>, AllocError> = loads.clone();
-    watched_service(alloc, bound, shared?, u64::MAX, Fault::Full)
+    watched_service(rt, alloc, bound, shared?, u64::MAX, Fault::Full)
 }
 
 /// The reply to a request.

@@ -1,6 +1,6 @@
 //! What is kept of tenants within a number of bytes.
 
-use crate::asking::{IMPORT, assert_loads, counted_service};
+use crate::asking::{IMPORT, assert_loads, counted_service, room_for};
 use crush_app::MemoryStore;
 use std::cell::Cell;
 use std::rc::Rc;
@@ -16,7 +16,7 @@ const TWO: u64 = 2 * INVENTORY_BYTES;
 fn the_tenant_used_least_recently_is_given_up(rt: HostRuntime) -> Result<(), Fail> {
     let alloc = rt.alloc();
     let loads = Rc::new(alloc, Cell::new(0))?;
-    let mut service = counted_service(alloc, TWO, &loads)?;
+    let mut service = counted_service(&rt, alloc, TWO, &loads)?;
     assert_loads(
         &rt,
         &mut service,
@@ -41,12 +41,14 @@ fn the_tenant_used_least_recently_is_given_up(rt: HostRuntime) -> Result<(), Fai
     Ok(())
 }
 
-/// With a map tenant a has no room beside the bound, and takes none of that of another tenant.
+/// With a map tenant a is larger than the bound.
 #[test]
-fn a_tenant_larger_than_the_bound_is_not_kept(rt: HostRuntime) -> Result<(), Fail> {
+fn a_tenant_larger_than_the_bound_is_kept_while_it_is_the_one_used_last(
+    rt: HostRuntime,
+) -> Result<(), Fail> {
     let alloc = rt.alloc();
     let loads = Rc::new(alloc, Cell::new(0))?;
-    let mut service = counted_service(alloc, TWO, &loads)?;
+    let mut service = counted_service(&rt, alloc, TWO, &loads)?;
     assert_loads(
         &rt,
         &mut service,
@@ -57,10 +59,13 @@ fn a_tenant_larger_than_the_bound_is_not_kept(rt: HostRuntime) -> Result<(), Fai
             (("GET", "/t/b", ""), 200, 3),
             (("GET", "/t/a", ""), 200, 4),
             (("POST", "/t/a/maps", IMPORT), 201, 4),
-            (("GET", "/t/a", ""), 200, 5),
+            (("GET", "/t/a", ""), 200, 4),
+            (("GET", "/t/a", ""), 200, 4),
+            (("GET", "/t/b", ""), 200, 5),
             (("GET", "/t/b", ""), 200, 5),
             (("GET", "/t/a", ""), 200, 6),
-            (("GET", "/t/b", ""), 200, 6),
+            (("GET", "/t/a", ""), 200, 6),
+            (("GET", "/t/b", ""), 200, 7),
         ],
     );
     Ok(())
@@ -69,7 +74,7 @@ fn a_tenant_larger_than_the_bound_is_not_kept(rt: HostRuntime) -> Result<(), Fai
 #[test]
 fn the_store_below_is_given_back(rt: HostRuntime) -> Result<(), Fail> {
     let alloc = rt.alloc();
-    let mut store = ReadyStore::over(alloc, MemoryStore::new(alloc), TWO)?;
+    let mut store = ReadyStore::over(alloc, MemoryStore::new(alloc), TWO, room_for(&rt, 1))?;
     assert!(rt; store.create("a").is_ok());
     let mut below = store.into_below();
     assert!(rt; matches!(below.load("a"), Ok(Some(_))));

@@ -40,7 +40,14 @@ fn unanswered(
     left: u64,
     fault: Fault,
 ) -> Result<usize, Fail> {
-    let mut service = watched_service(alloc, bound, Rc::new(alloc, Cell::new(0))?, left, fault)?;
+    let mut service = watched_service(
+        rt,
+        alloc,
+        bound,
+        Rc::new(alloc, Cell::new(0))?,
+        left,
+        fault,
+    )?;
     let mut alone = Service::in_memory(alloc)?;
     let mut count: usize = 0;
     for place in 0..ASKED.len() {
@@ -63,7 +70,7 @@ fn unanswered(
     Ok(count)
 }
 
-/// Nothing is kept, one tenant with its map is, or all are.
+/// The tenant used last is kept, whatever its size; or others that fit beside it; or all are.
 const BOUNDS: [u64; 3] = [0, 15_000, 1_000_000];
 
 #[test]

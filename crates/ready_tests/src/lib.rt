@@ -11,4 +11,6 @@ mod faults;
 #[cfg(test)]
 mod loads;
 #[cfg(test)]
+mod placed;
+#[cfg(test)]
 mod watched;

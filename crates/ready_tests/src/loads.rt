@@ -12,7 +12,7 @@ const AMPLE: u64 = 1_000_000;
 fn a_thousand_requests_on_a_tenant_load_it_once(rt: HostRuntime) -> Result<(), Fail> {
     let alloc = rt.alloc();
     let loads = Rc::new(alloc, Cell::new(0))?;
-    let mut service = counted_service(alloc, AMPLE, &loads)?;
+    let mut service = counted_service(&rt, alloc, AMPLE, &loads)?;
     assert_loads(&rt, &mut service, &loads, &[(("PUT", "/t/a", ""), 201, 1)]);
     for _ in 0..1_000 {
         let reply = ask(&mut service, &("GET", "/t/a", ""));
@@ -28,7 +28,7 @@ fn a_thousand_requests_on_a_tenant_load_it_once(rt: HostRuntime) -> Result<(), F
 fn a_changed_tenant_is_not_loaded_again(rt: HostRuntime) -> Result<(), Fail> {
     let alloc = rt.alloc();
     let loads = Rc::new(alloc, Cell::new(0))?;
-    let mut service = counted_service(alloc, AMPLE, &loads)?;
+    let mut service = counted_service(&rt, alloc, AMPLE, &loads)?;
     assert_loads(
         &rt,
         &mut service,

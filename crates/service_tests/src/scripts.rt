@@ -4,6 +4,7 @@ use crate::rows::{CREATION_OF_A, CREATION_OF_B, Row, assert_requests, assert_run
 use crush_app::{ScriptEnd, Service, script_in_memory, script_run};
 use std::alloc::{AllocError, Global};
 use std::io::{self, ErrorKind, Read, Write};
+use std::num::NonZeroUsize;
 use std::test::Fail;
 
 const SCRIPT: &str =
@@ -92,7 +93,7 @@ fn a_script_is_played_in_memory_from_nothing(rt: HostRuntime) -> Result<(), Fail
         taken: Vec::new(rt.alloc()),
         writes: 10_000,
     };
-    let end = script_in_memory(rt.alloc(), &mut reader, &mut writer)?;
+    let end = script_in_memory(rt.alloc(), NonZeroUsize::MIN, &mut reader, &mut writer)?;
     assert_eq!(rt; end, ScriptEnd::Done);
     assert_eq!(rt; writer.taken.as_slice(), REPLIES.as_bytes());
     Ok(())

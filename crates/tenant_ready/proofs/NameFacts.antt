@@ -1,5 +1,6 @@
 -- What a name has in a cache, before and after a call.
-use Rattle.std.proofs.Common.{zero, suc, take, map, ◌≡◌, ◌≢◌, ◌⊎◌, inl, inr, ℕ, List, [], Bool, true, false, ◌∷◌, Option, Some, None, option_map, Contains, refl, sym, ap, subst, ◌∙◌, true≢false, string_bytes, String}
+use native.Mathlib.Omega.{arith}
+use Rattle.std.proofs.Common.{zero, suc, take, map, length, ◌-◌, ◌<◌, ◌≡◌, ◌≢◌, ◌⊎◌, inl, inr, ℕ, List, [], Bool, true, false, ◌∷◌, Option, Some, None, option_map, Contains, refl, sym, ap, subst, ◌∙◌, true≢false, string_bytes, String}
 use Rattle.std.specs.declared.alloc.Global.{Global}
 use Rattle.std.specs.String.{string_eq, string_eq_equiv}
 use Rattle.std.specs.Str.{bytes_eq}
@@ -8,7 +9,7 @@ use Rattle.std.specs.Map.{lookup, lookup_entry, remove_entry, keys_of}
 use Rattle.std.proofs.lemmas.Map.{lookup-remove_entry}
 use Rattle.std.proofs.lemmas.Map.Views.{lookup-from_Contains}
 use Rattle.std.proofs.lemmas.Slice.Eq.{bytes_eq-Decides}
-use Rattle.std.specs.Option.{option_map_or}
+use Rattle.std.specs.Option.{IsSome, option_map_or}
 use Rattle.lru.proofs.Pairs.{lookup-lookup_entry}
 use Rattle.lru.specs.LruCache.{LruCache, lru_cache, promoted, put_entries}
 use Rattle.lru.proofs.CallerLemmas.{Contains-lookup, Contains-lookup_entry, Contains-remove_entry, Contains-promoted, Contains-put_entries, lookup-put_entries}
@@ -97,6 +98,16 @@ module _ {V : Type 0} where
             ],
           )
 
+  -- what was put is found, however few of the first entries are left
+  first_at : (c : LruCache (String Global) V) (k : String Global) (v : V) (n : ℕ) → 0 < n → at (take n (put_entries string_eq c k v)) (string_bytes k) ≡ Some v
+  first_at c k v zero some = absurd (omega arith)
+  first_at c k v (suc n) some = go (lookup_entry (string_eq k) c.entries) refl
+    where
+      go : (o : Option (String Global × V)) → lookup_entry (string_eq k) c.entries ≡ o
+          → at (take (suc n) (option_map_or (λ e. (e.0, v) ∷ remove_entry (string_eq k) c.entries) o ((k, v) ∷ take (c.cap - 1) c.entries))) (string_bytes k) ≡ Some v
+      go None h = let same : bytes_eq (string_bytes k) (string_bytes k) ≡ true = (bytes_eq-Decides (string_bytes k) (string_bytes k)).1 refl in rw same refl
+      go (Some e) h = let same : bytes_eq (string_bytes k) (string_bytes e.0) ≡ true = (Contains-lookup_entry (string_eq k) c.entries e h).1 in rw same refl
+
 module _ {V H : Type 0} (f : V → H) where
   -- entries as contracts see them
   abbrev pub shown : List (String Global × V) → List (List ℕ × H)
@@ -141,6 +152,20 @@ module _ {V H : Type 0} (f : V → H) where
         | inl mine ↦ inl (mine.0, ap Some (ap f mine.1 ∙ it.2))
         | inr others ↦ inr (others.0, shows c.entries u it.0 h others.1 it.2)
       ]
+
+  -- what was put is seen, however few of the first entries are left
+  pub shown_first : (c new : LruCache (String Global) V) (k : String Global) (v : V) (es : List (String Global × V)) → new ≡ lru_cache (put_entries string_eq c k v) c.cap
+      → es ≡ take (length es) new.entries → 0 < length es → lookup (bytes_eq (string_bytes k)) (shown es) ≡ Some (f v)
+  shown_first c new k v es now first some =
+      shows es (string_bytes k) v (f v) (subst (λ ds. at ds (string_bytes k) ≡ Some v) (sym (first ∙ ap (λ (n : LruCache (String Global) V). take (length es) n.entries) now)) (first_at c k v (length es) some)) refl
+
+  -- an entry that is seen is there
+  pub is_there : (es : List (String Global × V)) (u : List ℕ) → IsSome (lookup (bytes_eq u) (shown es)) → IsSome (at es u)
+  is_there es u seen = go (at es u) (subst IsSome (at_shown es u) seen)
+    where
+      go : (o : Option V) → IsSome (option_map f o) → IsSome o
+      go None h = h
+      go (Some v) h = refl
 
   -- the same of caches
   pub seen_promoted : (old new : LruCache (String Global) V) (name : List ℕ) → IsDistinct string_eq (keys_of old.entries) → new ≡ lru_cache (promoted (λ k. bytes_eq name (string_bytes k)) old.entries) old.cap

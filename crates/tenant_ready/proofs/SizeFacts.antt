@@ -36,8 +36,8 @@ freed bytes size read old new is sum fits size_is =
     (omega arith, omega arith)
 
 -- a size that is read as a number of 64 bits, and is small
-exact : (size read bound : ℕ) → read ≡ min size (2 ^ 64 - 1) → read ≤ bound → bound < 2 ^ 63 → read ≡ size
-exact size read bound is fits small = omega arith
+exact : (size read : ℕ) → read ≡ min size (2 ^ 64 - 1) → read < 2 ^ 63 → read ≡ size
+exact size read is small = omega arith
 
 module _ {K V : Type 0} (f : V → ℕ) where
   abbrev pub total : List (K × V) → ℕ
@@ -146,9 +146,9 @@ module _ {K V : Type 0} (f : V → ℕ) where
       → bytes ≡ total old.entries → bytes < 2 ^ 64 → read ≡ min (size_of o) (2 ^ 64 - 1) → (read ≤ bytes) × (bytes - read ≡ total new.entries)
   evicted_read old new o bytes read is now counted fits read_is = freed bytes (size_of o) read (total old.entries) (total new.entries) counted (evicted_sum old new o is now) fits read_is
 
-  pub pushed_read : (eq : K → K → Bool) (old new : LruCache K V) (k : K) (v : V) (o : Option (K × V)) (bytes bound size read : ℕ) → IsValid eq old → o ≡ displaced eq old k v
-      → new ≡ lru_cache (put_entries eq old k v) old.cap → bytes ≡ total old.entries → bytes ≤ bound → bound < 2 ^ 63 → size ≡ min (f v) (2 ^ 64 - 1) → size ≤ bound
+  pub pushed_read : (eq : K → K → Bool) (old new : LruCache K V) (k : K) (v : V) (o : Option (K × V)) (bytes size read : ℕ) → IsValid eq old → o ≡ displaced eq old k v
+      → new ≡ lru_cache (put_entries eq old k v) old.cap → bytes ≡ total old.entries → bytes < 2 ^ 63 → size ≡ min (f v) (2 ^ 64 - 1) → size < 2 ^ 63
       → read ≡ min (size_of o) (2 ^ 64 - 1) → (read ≤ bytes + size) × (bytes + size - read ≡ total new.entries)
-  pushed_read eq old new k v o bytes bound size read valid is now counted fits small size_is room read_is =
-      let added : size ≡ f v = exact (f v) size bound size_is room small in
-      freed (bytes + size) (size_of o) read (total old.entries + f v) (total new.entries) (omega (arith, counted, added)) (pushed_sum eq old new k v o valid is now) (omega (arith, fits, small, room)) read_is
+  pushed_read eq old new k v o bytes size read valid is now counted fits size_is room read_is =
+      let added : size ≡ f v = exact (f v) size size_is room in
+      freed (bytes + size) (size_of o) read (total old.entries + f v) (total new.entries) (omega (arith, counted, added)) (pushed_sum eq old new k v o valid is now) (omega (arith, fits, room)) read_is

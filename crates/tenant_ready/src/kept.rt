@@ -9,13 +9,14 @@ use std::alloc::{AllocError, Global};
 use std::marker::Model;
 use std::rc::Rc;
 
-/// The greatest bound. No memory is larger.
+/// The greatest bound, and the greatest size of one entry. No memory is larger.
 const GREATEST_BOUND: u64 = u64::MAX / 2;
 
 type ByName = LruCache<String, Rc<Ready>>;
 
-/// What tenants have by name, whose sizes together are at most a bound. What was used least recently goes
-/// first. Contracts say what a name may still have, and never that it has it.
+/// What tenants have by name: one entry, or several whose sizes together are at most a bound. What
+/// was used least recently goes first. Contracts say what a name may still have, and only of a name
+/// that is put again that it has it.
 #[derive(Drop)]
 pub struct Kept {
     by_name: ByName,
@@ -24,7 +25,7 @@ pub struct Kept {
 }
 
 impl Model for Kept {
-    ghost use Rattle.std.specs.Prelude.{◌≡◌, ◌≤◌, ◌<◌, ◌^◌, map, string_bytes};
+    ghost use Rattle.std.specs.Prelude.{◌≡◌, ◌≤◌, ◌<◌, ◌^◌, length, map, string_bytes};
     ghost use Rattle.tenant_ready.specs.Bytes.{bytes_in};
     ghost use Rattle.tenant_ready.specs.Kept.{Kept};
 
@@ -34,19 +35,22 @@ impl Model for Kept {
 
     ghost invariant = { λ a. record {
       bytes : a.bytes ≡ bytes_in a.by_name.entries;
-      fits : a.bytes ≤ a.bound;
+      fits : 1 < length a.by_name.entries → a.bytes ≤ a.bound;
+      small : a.bytes < 2 ^ 63;
       least : a.bound < 2 ^ 63;
     } };
 }
 
 impl Kept {
-    ghost use Rattle.std.specs.Prelude.{◌≡◌, ◌≤◌, ◌≢◌, ℕ, [], List, Option, Some, None, IfOk, min, option_map, string_bytes};
+    ghost use Rattle.std.specs.Prelude.{◌≡◌, ◌≤◌, ◌<◌, ◌≢◌, ℕ, [], List, Option, Some, None, IfOk, IsSome, length, min, option_map, string_bytes};
     ghost use Rattle.tenant_ready.specs.Kept as spec;
     ghost use Rattle.tenant_ready.specs.Kept.{kept_at, bytes_kept, Updates};
     ghost use Rattle.tenant_ready.specs.declared.kept.TheConstants.{GREATEST_BOUND};
+    ghost use Rattle.tenant_state.specs.Size.{size};
 
-    /// Nothing is kept yet. What will be takes at most `bound` bytes together; a bound
-    /// above 2^63 - 1 counts as that. `Err(AllocError)`: an allocation failed; nothing is changed.
+    /// Nothing is kept yet. What will be takes at most `bound` bytes together, or is one entry; a
+    /// bound above 2^63 - 1 counts as that. `Err(AllocError)`: an allocation failed; nothing is
+    /// changed.
     pub fn new(alloc: Global, bound: u64) -> Result<Self, AllocError>
         ensures { IfOk result (λ kept. kept ≡ record { entries = []; bound = min bound GREATEST_BOUND }) }
     {
@@ -60,7 +64,7 @@ impl Kept {
     /// How many bytes all that is kept takes together.
     pub fn bytes(&self) -> u64
         ensures value { result ≡ bytes_kept self.now }
-        ensures within { result ≤ self.now.bound }
+        ensures within { 1 < length self.now.entries → result ≤ self.now.bound }
     {
         self.bytes
     }
@@ -86,14 +90,15 @@ impl Kept {
         self.bytes -= size_of(&self.by_name.pop_entry(name));
     }
 
-    /// Keeps what a name has, in place of what was kept of it, and forgets others where it
-    /// has no room beside them. One that is larger than the bound isn't kept, nor is one for which
-    /// there is no memory; a name that is there needs none.
+    /// Keeps what a name has, in place of what was kept of it, and forgets others where they have
+    /// no room beside it. One for which there is no memory isn't kept, nor is one whose size is
+    /// above 2^63 - 1; a name that is there needs no memory.
     pub fn put(&mut self, name: String, ready: Rc<Ready>)
-        ensures { Updates (string_bytes name) (Some ready.value) self.old self.new }
+        ensures only { Updates (string_bytes name) (Some ready.value) self.old self.new }
+        ensures stays { IsSome (kept_at self.old (string_bytes name)) → size ready.value.inventory ≤ GREATEST_BOUND → kept_at self.new (string_bytes name) ≡ Some ready.value }
     {
         let size = ready.size();
-        if size > self.bound {
+        if size > GREATEST_BOUND {
             self.forget(name.as_str());
             return;
         }
@@ -123,16 +128,17 @@ fn size_of(entry: &Option<(String, Rc<Ready>)>) -> u64
 }
 
 /// Forgets what was used least recently, and no more than it must, until the rest takes at most
-/// `bound` bytes. Returns how many the rest takes.
+/// `bound` bytes or is one entry. Returns how many the rest takes.
 fn evict(by_name: &mut ByName, bytes: u64, bound: u64) -> u64
     requires { bytes ≡ bytes_in by_name.old.entries }
     ensures value { result ≡ bytes_in by_name.new.entries }
-    ensures fits { result ≤ bound }
+    ensures fits { 1 < length by_name.new.entries → result ≤ bound }
     ensures first { by_name.new.entries ≡ take (length by_name.new.entries) by_name.old.entries }
+    ensures one { 0 < length by_name.old.entries → 0 < length by_name.new.entries }
     ensures most { (n : ℕ) → length by_name.new.entries < n → n ≤ length by_name.old.entries → bound < bytes_in (take n by_name.old.entries) }
 {
     let mut rest = bytes;
-    while rest > bound {
+    while rest > bound && by_name.len() > 1 {
         rest -= size_of(&by_name.pop_lru());
     }
     rest

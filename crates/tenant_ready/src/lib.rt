@@ -3,7 +3,6 @@
 #![tactic(auto)]
 
 mod kept;
-pub mod limits;
 mod placing;
 mod ready;
 mod ready_store;

@@ -1,6 +1,6 @@
 //! Placements of groups, from a cache, for what a tenant has.
 
-ghost use Rattle.std.specs.Prelude.{◌≡◌, ◌<◌, ◌⊎◌, ℕ, List, Contains, Some, IfSome};
+ghost use Rattle.std.specs.Prelude.{◌≡◌, ◌≤◌, ◌<◌, ◌⊎◌, ℕ, List, Contains, Some, IfSome};
 ghost use Rattle.crush_cache.specs.Caches.{KeepsNumbers};
 ghost use Rattle.tenant_core.specs.Queries.{AsksFor, IsPlacedFor};
 ghost use Rattle.tenant_ready.specs.Kept.{kept_at};
@@ -18,7 +18,8 @@ use tenant_state::Inventory;
 /// The number that is kept beside what a tenant has for the content of a pool, while that content
 /// is still in the cache.
 pub(crate) fn number_beside(cache: &PlacementCache, ready: &Ready, pool: &Pool) -> Option<u64>
-    ensures { IfSome result (λ n. Contains ready.now.numbers (pool.now.id, n)) }
+    ensures number { IfSome result (λ n. Contains ready.now.numbers (pool.now.id, n)) }
+    ensures there { IfSome result (λ n. cache.now.first ≤ n) }
 {
     let number = ready.number_of(pool.parts().id)?;
     if cache.has(number) {
@@ -35,6 +36,7 @@ pub(crate) fn give_number(
     pool: &Rc<Pool>,
 ) -> Option<u64>
     ensures number { IfSome result (λ n. HasNumber cache.new inventory.now pool.now.value n) }
+    ensures there { IfSome result (λ n. cache.new.first ≤ n) }
     ensures kept { KeepsNumbers cache.old cache.new }
 {
     let version = inventory.version(inventory.newest())?;
@@ -53,7 +55,7 @@ pub(crate) fn keep_number(
     pool: &Pool,
     number: u64,
 )
-    ensures { (u : List ℕ) (r : _) → kept_at kept.new u ≡ Some r → (kept_at kept.old u ≡ Some r) ⊎ IsWithNumber ready.now pool.now.id number r }
+    ensures { (u : List ℕ) (r : _) → kept_at kept.new u ≡ Some r → (kept_at kept.old u ≡ Some r) ⊎ ((u ≡ name.now) × IsWithNumber ready.now pool.now.id number r) }
 {
     let Ok(next) = ready.with_number(alloc, pool.parts().id, number) else {
         return;
@@ -76,6 +78,7 @@ pub(crate) fn place(
     group: u32,
 ) -> Option<Placed>
     requires number { HasNumber cache.old inventory.now.value pool.now number }
+    requires live { cache.old.first ≤ number }
     requires there { group < pool.now.pg_num }
     ensures inventory { IfSome result (λ r. r.inventory.value ≡ inventory.now.value) }
     ensures placed { IfSome result (λ r. (query : _) → AsksFor query inventory.now.value pool.now group → IsPlacedFor query r.inventory.value r.group r.placement.value) }

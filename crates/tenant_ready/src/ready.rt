@@ -2,11 +2,14 @@
 
 ghost use Rattle.std.specs.Prelude.{◌≡◌};
 
-use crate::limits::NUMBER_LIMIT;
 use std::alloc::{AllocError, Global};
 use std::marker::Model;
 use std::rc::Rc;
-use tenant_state::Inventory;
+use tenant_state::{Change, Inventory};
+
+/// The most numbers that are kept beside what a tenant has. They take 16 bytes each, which the
+/// bytes of an inventory without its parts cover (`INVENTORY_BYTES`).
+const NUMBER_LIMIT: usize = 16;
 
 /// What a tenant has, kept ready, with the numbers that a cache of placements gave to the contents
 /// of its pools on the newest version. Contracts see both.
@@ -26,9 +29,11 @@ impl Model for Ready {
 }
 
 impl Ready {
-    ghost use Rattle.std.specs.Prelude.{◌≡◌, ◌-◌, ◌^◌, [], Contains, IfOk, IfSome, min};
+    ghost use Rattle.std.specs.Prelude.{◌≡◌, ◌<◌, ◌-◌, ◌^◌, [], Contains, IfOk, IfSome, min};
     ghost use Rattle.tenant_ready.specs.Ready.{IsWithNumber};
     ghost use Rattle.tenant_state.specs.Size.{size};
+    ghost use Rattle.tenant_state.specs.State.{inventory_after};
+    ghost use Rattle.tenant_state.specs.declared.limits.TheConstants.{RECEIPT_LIMIT};
 
     /// What a tenant has, with no number. Allocates nothing.
     pub fn new(alloc: Global, inventory: Rc<Inventory>) -> Self
@@ -78,7 +83,18 @@ impl Ready {
         })
     }
 
-    /// How many bytes of memory it takes at most, by an estimate.
+    /// What the tenant has after a change, with no number: its contents are others.
+    /// `Err(AllocError)`: an allocation failed; nothing is changed.
+    pub fn after(&self, alloc: Global, change: &Change) -> Result<Ready, AllocError>
+        requires { self.now.inventory.epoch < RECEIPT_LIMIT }
+        ensures { IfOk result (λ r. r ≡ record { inventory = inventory_after change.now self.now.inventory; numbers = [] }) }
+    {
+        let inventory = Rc::new(alloc, self.inventory.after(alloc, change)?)?;
+        Ok(Ready::new(alloc, inventory))
+    }
+
+    /// How many bytes of memory it takes at most, by an estimate. The numbers add nothing: those of
+    /// an inventory without its parts cover them.
     pub fn size(&self) -> u64
         ensures { result ≡ min (size self.now.inventory) (2 ^ 64 - 1) }
     {

@@ -99,15 +99,6 @@ impl<T: TenantStore> ReadyStore<T> {
     }
 }
 
-/// What a tenant has after a change, with no number: its contents are others.
-fn next(alloc: Global, inventory: &Inventory, change: &Change) -> Result<Rc<Ready>, AllocError>
-    requires { inventory.now.epoch < RECEIPT_LIMIT }
-    ensures { IfOk result (λ r. r.value ≡ record { inventory = inventory_after change.now inventory.now; numbers = [] }) }
-{
-    let inventory = Rc::new(alloc, inventory.after(alloc, change)?)?;
-    Ok(Rc::new(alloc, Ready::new(alloc, inventory))?)
-}
-
 impl<T: TenantStore> TenantStore for ReadyStore<T> {
     ghost use Rattle.std.specs.Prelude.{◌≡◌, ℕ, List, false};
 
@@ -169,7 +160,7 @@ impl<T: TenantStore> TenantStore for ReadyStore<T> {
         match self.kept.get(name)? {
             Some(ready) if ready.inventory().epoch() < RECEIPT_LIMIT as u64 => {
                 // all that needs memory is made before the change
-                let next = next(self.alloc, ready.inventory(), change)?;
+                let next = Rc::new(self.alloc, ready.after(self.alloc, change)?)?;
                 let key = String::from_str(self.alloc, name)?;
                 self.below.commit(name, change)?;
                 self.kept.put(key, next);

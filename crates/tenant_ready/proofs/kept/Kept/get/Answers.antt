@@ -1,6 +1,7 @@
-use Rattle.std.proofs.Common.{◌≡◌, Some, option_map, ap, sym, subst, ◌∙◌}
+use Rattle.std.proofs.Common.{◌≡◌, ◌<◌, Some, option_map, ap, sym, subst, ◌∙◌}
 use Rattle.tenant_ready.specs.Kept.{kept_at}
 use Rattle.tenant_state.specs.Size.{size}
+use Rattle.tenant_ready.proofs.LengthFacts.{length_promoted}
 use Rattle.tenant_ready.proofs.NameFacts.{seen_promoted, same_promoted}
 use Rattle.tenant_ready.proofs.SizeFacts.{promoted_sum}
 use Rattle.tenant_ready.proofs.kept.Kept.get.Goals as goal
@@ -8,7 +9,8 @@ use Rattle.tenant_ready.proofs.kept.Kept.get.Goals as goal
 pub invariant_of-self : goal.invariant_of-self
 invariant_of-self c = (record {
   bytes = c.self.invariant.bytes ∙ sym (promoted_sum (λ r. size r.value.inventory) c.self.inside.by_name c.promote.new.self _ c.promote.ensures.entries);
-  fits = c.self.invariant.fits;
+  fits = λ more. c.self.invariant.fits (subst (λ n. 1 < n) (length_promoted c.self.inside.by_name c.promote.new.self _ c.promote.ensures.entries) more);
+  small = c.self.invariant.small;
   least = c.self.invariant.least;
 })
 
@@ -21,7 +23,8 @@ returns-in_default-clause-same c u i found = subst (λ k. kept_at k u ≡ Some i
 pub invariant_of-self-in_err-clone : goal.invariant_of-self-in_err-clone
 invariant_of-self-in_err-clone c = (record {
   bytes = c.self.invariant.bytes ∙ sym (promoted_sum (λ r. size r.value.inventory) c.self.inside.by_name c.promote.new.self _ c.promote.ensures.entries);
-  fits = c.self.invariant.fits;
+  fits = λ more. c.self.invariant.fits (subst (λ n. 1 < n) (length_promoted c.self.inside.by_name c.promote.new.self _ c.promote.ensures.entries) more);
+  small = c.self.invariant.small;
   least = c.self.invariant.least;
 })
 
@@ -31,7 +34,8 @@ returns-in_err-clone-clause-same c u i found = subst (λ k. kept_at k u ≡ Some
 pub invariant_of-self-2 : goal.invariant_of-self-2
 invariant_of-self-2 c = (record {
   bytes = c.self.invariant.bytes ∙ sym (promoted_sum (λ r. size r.value.inventory) c.self.inside.by_name c.promote.new.self _ c.promote.ensures.entries);
-  fits = c.self.invariant.fits;
+  fits = λ more. c.self.invariant.fits (subst (λ n. 1 < n) (length_promoted c.self.inside.by_name c.promote.new.self _ c.promote.ensures.entries) more);
+  small = c.self.invariant.small;
   least = c.self.invariant.least;
 })
 

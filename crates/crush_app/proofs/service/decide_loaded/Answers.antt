@@ -3,7 +3,7 @@ use Rattle.tenant_core.specs.States.{Same}
 use Rattle.tenant_state.specs.State.{inventory_of}
 use Rattle.crush_app.proofs.Kept.{deref_of}
 use Rattle.crush_app.proofs.Performed.{is_there, leaves_before}
-use Rattle.crush_app.proofs.service.decide_request.Goals as goal
+use Rattle.crush_app.proofs.service.decide_loaded.Goals as goal
 
 pub returns-in_err-receipt-clause-crash : goal.returns-in_err-receipt-clause-crash
 returns-in_err-receipt-clause-crash g c = λ honest latched.

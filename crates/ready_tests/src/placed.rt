@@ -1,0 +1,165 @@
+//! Placements that a store has at hand.
+
+use crate::asking::{DOWN, IMPORT, POOL, room_for};
+use crush_app::{MemoryStore, Service};
+use crush_choose::Slot;
+use crush_map::ItemId;
+use crush_pool::Placement;
+use std::alloc::{AllocError, Global};
+use std::process::Abort;
+use std::rc::Rc;
+use std::test::Fail;
+use tenant_core::{Query, TenantStore};
+use tenant_messages::CallParts;
+use tenant_ready::ReadyStore;
+
+type Store = ReadyStore<MemoryStore>;
+
+/// A store that keeps all tenants ready, and so many placements.
+fn store_for(rt: &impl Abort, alloc: Global, placements: usize) -> Result<Store, AllocError> {
+    ReadyStore::over(
+        alloc,
+        MemoryStore::new(alloc),
+        1_000_000_000,
+        room_for(rt, placements),
+    )
+}
+
+/// The store after an accepted request on it.
+fn after(
+    rt: &impl Abort,
+    alloc: Global,
+    store: Store,
+    method: &str,
+    path: &str,
+    body: &str,
+) -> Result<Store, AllocError> {
+    let mut service = Service::over(alloc, store)?;
+    let reply = service.request(CallParts {
+        method: method.as_bytes(),
+        path,
+        body: body.as_bytes(),
+    });
+    assert!(rt; reply.status < 300, "{method} {path}");
+    Ok(service.into_store())
+}
+
+/// The body of an import of a map with this device alone.
+fn import_of(alloc: Global, device: u32) -> Result<String, AllocError> {
+    format!(in alloc;
+        "{{\"request\":\"m1\",\"text\":\"tunable choose_local_tries 0\\ntunable choose_local_fallback_tries 0\\ntunable choose_total_tries 50\\ntunable chooseleaf_descend_once 1\\ntunable chooseleaf_vary_r 1\\ntunable chooseleaf_stable 1\\ndevice {device} osd.{device}\\ntype 0 osd\\ntype 1 host\\ntype 10 root\\nroot default {{\\n id -1\\n alg uniform\\n hash 0\\n item osd.{device} weight 1.0\\n}}\\nrule all {{\\n id 0\\n type replicated\\n step take default\\n step choose firstn 0 type osd\\n step emit\\n}}\\n\"}}"
+    )
+}
+
+/// The store with a tenant that has a pool of 8 groups on a map with this device alone.
+fn with_tenant(
+    rt: &impl Abort,
+    alloc: Global,
+    store: Store,
+    tenant: &str,
+    device: u32,
+) -> Result<Store, AllocError> {
+    let path = format!(in alloc; "/t/{tenant}")?;
+    let maps = format!(in alloc; "/t/{tenant}/maps")?;
+    let pools = format!(in alloc; "/t/{tenant}/pools")?;
+    let import = import_of(alloc, device)?;
+    let store = after(rt, alloc, store, "PUT", path.as_str(), "")?;
+    let store = after(rt, alloc, store, "POST", maps.as_str(), import.as_str())?;
+    after(rt, alloc, store, "POST", pools.as_str(), POOL)
+}
+
+/// The placement that the store has at hand of a group of a tenant's pool.
+fn placed(rt: &impl Abort, store: &mut Store, tenant: &str, group: u64) -> Rc<Placement> {
+    match store.placed(tenant, &Query::Group(1, group)) {
+        Some(placed) => placed.placement,
+        None => rt.abort(),
+    }
+}
+
+/// Asserts that a placement is on this device, which is up or not.
+fn assert_on(rt: &impl Abort, placement: &Placement, device: i32, is_up: bool) {
+    let slot: Slot = Some(ItemId(device));
+    assert_eq!(rt; placement.raw.as_slice(), [slot].as_slice());
+    assert_eq!(rt; placement.primary, if is_up { slot } else { None });
+}
+
+/// With room for one placement each of two groups has to be placed again.
+#[test]
+fn a_group_has_one_placement_whatever_is_kept(rt: HostRuntime) -> Result<(), Fail> {
+    let alloc = rt.alloc();
+    for (room, is_kept) in [(1, false), (1_024, true)] {
+        let store = store_for(&rt, alloc, room)?;
+        let mut store = with_tenant(&rt, alloc, store, "a", 0)?;
+        let first = placed(&rt, &mut store, "a", 0);
+        let other = placed(&rt, &mut store, "a", 7);
+        let again = placed(&rt, &mut store, "a", 0);
+        let last = placed(&rt, &mut store, "a", 0);
+        assert!(rt; first.seed == again.seed && first.seed != other.seed);
+        assert_on(&rt, &first, 0, true);
+        assert_on(&rt, &other, 0, true);
+        assert_on(&rt, &again, 0, true);
+        assert_eq!(rt; Rc::ptr_eq(&first, &again), is_kept);
+        assert!(rt; Rc::ptr_eq(&again, &last));
+    }
+    Ok(())
+}
+
+#[test]
+fn after_a_change_of_states_groups_are_placed_anew(rt: HostRuntime) -> Result<(), Fail> {
+    let alloc = rt.alloc();
+    let store = store_for(&rt, alloc, 1_024)?;
+    let mut store = with_tenant(&rt, alloc, store, "a", 0)?;
+    assert_on(&rt, &placed(&rt, &mut store, "a", 3), 0, true);
+    let mut store = after(&rt, alloc, store, "POST", "/t/a/devices", DOWN)?;
+    assert_on(&rt, &placed(&rt, &mut store, "a", 3), 0, false);
+    Ok(())
+}
+
+#[test]
+fn a_tenant_that_is_made_again_has_placements_of_its_own(rt: HostRuntime) -> Result<(), Fail> {
+    let alloc = rt.alloc();
+    let store = store_for(&rt, alloc, 1_024)?;
+    let mut store = with_tenant(&rt, alloc, store, "a", 0)?;
+    assert_on(&rt, &placed(&rt, &mut store, "a", 3), 0, true);
+    let mut store = after(&rt, alloc, store, "DELETE", "/t/a", "")?;
+    assert!(rt; store.placed("a", &Query::Group(1, 3)).is_none());
+    let mut store = with_tenant(&rt, alloc, store, "a", 9)?;
+    assert_on(&rt, &placed(&rt, &mut store, "a", 3), 9, true);
+    Ok(())
+}
+
+/// The 257th content empties the cache, so that numbers that are kept beside tenants name nothing.
+#[test]
+fn each_of_300_tenants_has_placements_of_its_own(rt: HostRuntime) -> Result<(), Fail> {
+    let alloc = rt.alloc();
+    let mut store = store_for(&rt, alloc, 1_024)?;
+    for device in 0..300 {
+        let tenant = format!(in alloc; "t{device}")?;
+        store = with_tenant(&rt, alloc, store, tenant.as_str(), device)?;
+    }
+    for _ in 0..2 {
+        for device in 0..300 {
+            let tenant = format!(in alloc; "t{device}")?;
+            assert_on(
+                &rt,
+                &placed(&rt, &mut store, tenant.as_str(), 0),
+                device,
+                true,
+            );
+        }
+    }
+    Ok(())
+}
+
+#[test]
+fn nothing_is_at_hand_of_what_is_not_there(rt: HostRuntime) -> Result<(), Fail> {
+    let alloc = rt.alloc();
+    let store = store_for(&rt, alloc, 1_024)?;
+    let mut store = with_tenant(&rt, alloc, store, "a", 0)?;
+    assert!(rt; store.placed("a", &Query::Group(1, 7)).is_some());
+    assert!(rt; store.placed("a", &Query::Group(1, 8)).is_none());
+    assert!(rt; store.placed("a", &Query::Group(2, 7)).is_none());
+    assert!(rt; store.placed("b", &Query::Group(1, 7)).is_none());
+    assert!(rt; store.placed("a", &Query::Usage(1)).is_none());
+    Ok(())
+}
