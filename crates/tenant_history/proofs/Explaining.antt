@@ -12,7 +12,7 @@ use Rattle.tenant_state.specs.State.{TenantState}
 
 -- ---- two lists of calls, one after the other
 
-alone-replies : (s : Option TenantState) (cs ds : List Call) → (alone s (cs ++ ds)).replies ≡ (alone s cs).replies ++ (alone (alone s cs).state ds).replies
+pub alone-replies : (s : Option TenantState) (cs ds : List Call) → (alone s (cs ++ ds)).replies ≡ (alone s cs).replies ++ (alone (alone s cs).state ds).replies
 alone-replies s [] ds = refl
 alone-replies s (c ∷ cs) ds = ap (λ rs. (step c s).reply ∷ rs) (alone-replies (step c s).state cs ds)
 

@@ -73,7 +73,10 @@ then_doubt : (t : List ℕ) (place : ℕ) (calls : List Call) (replies : List Re
 then_doubt t zero calls replies silent =
     subst (λ (ps : List (Call × Reply)). AreInOrder (map (λ (p : Call × Reply). p.0) ps ++ filter (is_of t) (take 1 calls)) calls) (sym (none_kept t calls replies silent)) (first_own t calls)
 then_doubt t (suc place) [] replies silent = tt
-then_doubt t (suc place) (c ∷ calls) [] silent = in_front (filter (is_of t) (take 1 (drop place calls))) calls c (then_doubt t place calls [] (no_replies place))
+then_doubt t (suc place) (c ∷ calls) [] silent =
+    let last = filter (is_of t) (take 1 (drop place calls)) in
+    in_front last calls c
+    (subst (λ (ps : List (Call × Reply)). AreInOrder (map (λ (p : Call × Reply). p.0) ps ++ last) calls) (none_kept t calls [] (no_replies zero)) (then_doubt t place calls [] (no_replies place)))
 then_doubt t (suc place) (c ∷ calls) (r ∷ replies) silent =
     counted_in_order (is_of t c && is_answered r) c r (answered t calls replies) (filter (is_of t) (take 1 (drop place calls))) calls (then_doubt t place calls replies silent)
 

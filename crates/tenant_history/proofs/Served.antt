@@ -1,15 +1,15 @@
 -- A session goes on by one call, and what it then leaves.
-use Rattle.std.proofs.Common.{◌≡◌, ◌⊎◌, inl, inr, ◌==◌, ◌&&◌, ◌<◌, ◌≤◌, ℕ, zero, suc, List, [], ◌∷◌, ◌++◌, map, filter, zip, length, take, drop, Bool, true, false, not, cond, Option, Some, None, is_some, refl, sym, ap, subst, ◌∙◌, arith, length-append}
-use Rattle.std.proofs.lemmas.List.{append-nil}
+use Rattle.std.proofs.Common.{◌≡◌, ◌⊎◌, inl, inr, ◌==◌, ◌&&◌, ◌+◌, ◌<◌, ◌≤◌, ℕ, zero, suc, List, [], ◌∷◌, ◌++◌, map, filter, zip, length, take, drop, Bool, true, false, not, cond, Option, Some, None, is_some, option_map, refl, sym, ap, subst, ◌∙◌, arith, append_assoc, length-append}
+use Rattle.std.proofs.lemmas.List.{append-nil, map-append}
 use Rattle.std.proofs.lemmas.List.Elements.{filter-append, All-append}
 use Rattle.std.specs.List.{All}
 use Rattle.tenant_core.proofs.Replying.{status-unavailable}
-use Rattle.tenant_core.specs.Alone.{alone, answered, calls_answered, is_answered}
+use Rattle.tenant_core.specs.Alone.{alone, answered, calls_answered, is_answered, replies_answered}
 use Rattle.tenant_core.specs.States.{Damaged, Found, HasState, LeavesStep, MeetsDefinition, Outcomes, Shows, States}
 use Rattle.tenant_core.specs.Step.{is_of, step}
 use Rattle.tenant_core.specs.StoreReply.{IsUnavailable}
-use Rattle.tenant_history.proofs.Explaining.{alone-state}
-use Rattle.tenant_history.specs.History.{IsSilentFrom, MayLeave, in_doubt}
+use Rattle.tenant_history.proofs.Explaining.{alone-replies, alone-state}
+use Rattle.tenant_history.specs.History.{IsSilentFrom, MayLeave, at_doubt, in_doubt}
 use Rattle.tenant_history.specs.Private.{LeavesSoFar, doubt_after}
 use Rattle.tenant_history.specs.Served.{IsSession, IsSound, LeavesSession, session}
 use Rattle.tenant_messages.specs.declared.call.Call.{Call}
@@ -34,6 +34,10 @@ one_within [] ys n h = absurd (omega arith)
 one_within (x ∷ xs) ys zero h = refl
 one_within (x ∷ xs) ys (suc n) h = one_within xs ys n (omega arith)
 
+drop_past : {A : Type 0} (xs ys : List A) (n : ℕ) → drop (length xs + n) (xs ++ ys) ≡ drop n ys
+drop_past {A = A} [] ys n = let e : length {A = A} [] + n ≡ n = omega arith in ap (λ m. drop m ys) e
+drop_past (x ∷ xs) ys n = let e : length (x ∷ xs) + n ≡ suc (length xs + n) = omega arith in ap (λ m. drop m (x ∷ (xs ++ ys))) e ∙ drop_past xs ys n
+
 one_last : {A : Type 0} (xs : List A) (x : A) → take 1 (drop (length xs) (xs ++ x ∷ [])) ≡ x ∷ []
 one_last [] x = refl
 one_last (y ∷ ys) x = one_last ys x
@@ -45,6 +49,20 @@ none_left (x ∷ xs) = none_left xs
 all_one : (P : Reply → Type 0) (r : Reply) → P r → All P (r ∷ [])
 all_one P r h zero d lt = h
 all_one P r h (suc k) d lt = absurd (omega arith)
+
+-- ---- the acknowledged calls of two lists, one after the other
+
+answered-append : (t : List ℕ) (cs ds : List Call) (rs qs : List Reply) → length rs ≡ length cs → answered t (cs ++ ds) (rs ++ qs) ≡ answered t cs rs ++ answered t ds qs
+answered-append t cs ds rs qs count =
+    let test = λ (p : Call × Reply). is_of t p.0 && is_answered p.1 in ap (filter test) (zip-append cs ds rs qs count) ∙ filter-append test (zip cs rs) (zip ds qs)
+
+calls-append : (t : List ℕ) (cs ds : List Call) (rs qs : List Reply) → length rs ≡ length cs → calls_answered t (cs ++ ds) (rs ++ qs) ≡ calls_answered t cs rs ++ calls_answered t ds qs
+calls-append t cs ds rs qs count =
+    ap (map (λ (p : Call × Reply). p.0)) (answered-append t cs ds rs qs count) ∙ map-append (λ (p : Call × Reply). p.0) (answered t cs rs) (answered t ds qs)
+
+replies-append : (t : List ℕ) (cs ds : List Call) (rs qs : List Reply) → length rs ≡ length cs → replies_answered t (cs ++ ds) (rs ++ qs) ≡ replies_answered t cs rs ++ replies_answered t ds qs
+replies-append t cs ds rs qs count =
+    ap (map (λ (p : Call × Reply). p.1)) (answered-append t cs ds rs qs count) ∙ map-append (λ (p : Call × Reply). p.1) (answered t cs rs) (answered t ds qs)
 
 -- ---- a call that is answered 503
 
@@ -58,9 +76,7 @@ not_counted false c r gone = refl
 same_answered : (t : List ℕ) (cs : List Call) (rs : List Reply) (c : Call) (r : Reply) → length rs ≡ length cs → IsUnavailable r
     → answered t (cs ++ c ∷ []) (rs ++ r ∷ []) ≡ answered t cs rs
 same_answered t cs rs c r count gone =
-    let test = λ (p : Call × Reply). is_of t p.0 && is_answered p.1 in
-    ap (filter test) (zip-append cs (c ∷ []) rs (r ∷ []) count) ∙ filter-append test (zip cs rs) ((c, r) ∷ [])
-    ∙ ap (λ ps. answered t cs rs ++ ps) (not_counted (is_of t c) c r gone) ∙ append-nil (answered t cs rs)
+    answered-append t cs (c ∷ []) rs (r ∷ []) count ∙ ap (λ ps. answered t cs rs ++ ps) (not_counted (is_of t c) c r gone) ∙ append-nil (answered t cs rs)
 
 -- it adds no acknowledged call
 same_calls : (t : List ℕ) (cs : List Call) (rs : List Reply) (c : Call) (r : Reply) → length rs ≡ length cs → IsUnavailable r
@@ -156,6 +172,104 @@ session_latched old mid new left cs rs c r before one after gone leaves = record
   sound = sound true old new (cs ++ c ∷ []) (rs ++ r ∷ []) (Some (length rs)) after (silent_first rs r gone);
   crash = leaves_latched old mid left cs rs c r before one gone leaves;
 }
+
+-- ---- calls before a session
+
+-- the doubt, counted from the first of all calls
+doubt_behind : List Reply → Option ℕ → Option ℕ
+doubt_behind rs doubt = option_map (λ n. length rs + n) doubt
+
+-- it is the same call
+same_doubt : (doubt : Option ℕ) (cs ds : List Call) (rs : List Reply) → length rs ≡ length cs → at_doubt (doubt_behind rs doubt) (cs ++ ds) ≡ at_doubt doubt ds
+unfolding doubt_behind
+same_doubt None cs ds rs count = refl
+same_doubt (Some place) cs ds rs count = ap (λ n. take 1 (drop (n + place) (cs ++ ds))) count ∙ ap (take 1) (drop_past cs ds place)
+
+silent_behind : (doubt : Option ℕ) (rs qs : List Reply) → IsSilentFrom doubt qs → IsSilentFrom (doubt_behind rs doubt) (rs ++ qs)
+unfolding doubt_behind
+silent_behind None rs qs silent = tt
+silent_behind (Some place) rs qs silent =
+    (omega (arith, silent.0, length-append rs qs), subst (λ ps. All (λ q. is_answered q ≡ false) ps) (sym (drop_past rs qs place)) silent.1)
+
+-- a session with calls before it that were served, and didn't latch the store
+pub session_both : (old mid : States) (left : Outcomes) (cs : List Call) (rs : List Reply) (ds : List Call) (qs : List Reply) → MeetsDefinition false old mid cs rs → IsSession mid left ds qs
+    → IsSession old left (cs ++ ds) (rs ++ qs)
+session_both old mid left cs rs ds qs first second = record {
+  doubt = doubt_behind rs second.doubt;
+  sound = λ found t has.
+      let s = found t in
+      let one = second.sound (between found) t (first.leaves refl t s has) in
+      record {
+        count = let few = first.count in let more = one.count in simp length-append (omega arith);
+        replies = rw (
+          replies-append t cs ds rs qs first.count,
+          calls-append t cs ds rs qs first.count,
+          alone-replies s (calls_answered t cs rs) (calls_answered t ds qs),
+          first.headline t s has,
+          one.replies,
+        ) refl;
+        silent = silent_behind second.doubt rs qs one.silent;
+      };
+  crash = λ found t next has there.
+      let one = second.crash (between found) t next (first.leaves refl t (found t) has) there in (one.0, one.1, may_leave found t one.0 one.2);
+}
+  where
+    -- the states that the calls before it left
+    between : (List ℕ → Option TenantState) → List ℕ → Option TenantState
+    between found t = (alone (found t) (calls_answered t cs rs)).state
+
+    may_leave : (found : List ℕ → Option TenantState) (t : List ℕ) (s : Option TenantState) → MayLeave t (session (between found) ds qs second.doubt) s
+        → MayLeave t (session found (cs ++ ds) (rs ++ qs) (doubt_behind rs second.doubt)) s
+    may_leave found t s (inl e) = inl (e ∙ sym (alone-state (found t) (calls_answered t cs rs) (calls_answered t ds qs))
+        ∙ ap (λ xs. (alone (found t) xs).state) (sym (calls-append t cs ds rs qs first.count)))
+    may_leave found t s (inr e) =
+        let calls = calls_answered t cs rs in
+        let more = calls_answered t ds qs in
+        let last = filter (is_of t) (at_doubt second.doubt ds) in
+        inr (e ∙ sym (alone-state (found t) calls (more ++ last))
+        ∙ ap (λ xs. (alone (found t) xs).state) (sym (append_assoc calls more last)
+        ∙ ap (λ xs. xs ++ last) (sym (calls-append t cs ds rs qs first.count))
+        ∙ ap (λ xs. calls_answered t (cs ++ ds) (rs ++ qs) ++ filter (is_of t) xs) (sym (same_doubt second.doubt cs ds rs first.count))))
+
+-- ---- a session goes on
+
+-- in a store that is latched
+silent_again : (rs : List Reply) (r : Reply) (doubt : Option ℕ) → IsSilentFrom doubt rs → IsUnavailable r → IsSilentFrom doubt (rs ++ r ∷ [])
+silent_again rs r None silent gone = tt
+silent_again rs r (Some place) silent gone = silent_more rs r place silent gone
+
+leaves_again : (old : States) (left after : Outcomes) (cs : List Call) (rs : List Reply) (c : Call) (r : Reply) (doubt : Option ℕ) → length rs ≡ length cs → IsUnavailable r
+    → ((t : List ℕ) (found : Found) → after t found → left t found) → IsSound old cs rs doubt → LeavesSession old left cs rs doubt → LeavesSession old after (cs ++ c ∷ []) (rs ++ r ∷ []) doubt
+leaves_again old left after cs rs c r None count gone rests sound leaves found t next has there =
+    let before = leaves found t next has (rests t next there) in (
+      before.0,
+      before.1,
+      subst (λ ds. (before.0 ≡ (alone (found t) ds).state) ⊎ (before.0 ≡ (alone (found t) (ds ++ [])).state)) (sym (same_calls t cs rs c r count gone)) before.2,
+    )
+leaves_again old left after cs rs c r (Some place) count gone rests sound leaves found t next has there =
+    leaves_shut old left after cs rs c r place count ((sound found t has).silent.0) gone rests leaves found t next has there
+
+session_shut : (old : States) (left after : Outcomes) (cs : List Call) (rs : List Reply) (c : Call) (r : Reply) → length rs ≡ length cs → IsUnavailable r
+    → ((t : List ℕ) (found : Found) → after t found → left t found) → IsSession old left cs rs → IsSession old after (cs ++ c ∷ []) (rs ++ r ∷ [])
+session_shut old left after cs rs c r count gone rests before = record {
+  doubt = before.doubt;
+  sound = λ found t has.
+      let one = before.sound found t has in
+      let same = same_answered t cs rs c r count gone in
+      record {
+        count = simp length-append (omega (arith, count));
+        replies = ap (map (λ (p : Call × Reply). p.1)) same ∙ one.replies ∙ sym (ap (λ ps. (alone (found t) (map (λ (p : Call × Reply). p.0) ps)).replies) same);
+        silent = silent_again rs r before.doubt one.silent gone;
+      };
+  crash = leaves_again old left after cs rs c r before.doubt count gone rests before.sound before.crash;
+}
+
+-- whatever the store did
+pub session_more : (old mid : States) (left right : Outcomes) (was : Bool) (cs : List Call) (rs : List Reply) (c : Call) (r : Reply) → MeetsDefinition was old mid cs rs → IsSession old left cs rs
+    → (was ≡ false → IsSession mid right (c ∷ []) (r ∷ [])) → (was ≡ true → IsUnavailable r) → (was ≡ true → (t : List ℕ) (found : Found) → right t found → left t found)
+    → IsSession old right (cs ++ c ∷ []) (rs ++ r ∷ [])
+session_more old mid left right false cs rs c r meets before one gone rests = session_both old mid right cs rs (c ∷ []) (r ∷ []) meets (one refl)
+session_more old mid left right true cs rs c r meets before one gone rests = session_shut old left right cs rs c r meets.count (gone refl) (rests refl) before
 
 -- ---- one call more
 

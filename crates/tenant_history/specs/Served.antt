@@ -1,6 +1,6 @@
 -- What a service says of a session that it served.
-use Rattle.std.specs.Prelude.{ℕ, ◌≡◌, List, Option}
-use Rattle.tenant_core.specs.States.{States, Outcomes, Found, HasState}
+use Rattle.std.specs.Prelude.{ℕ, ◌≡◌, List, Bool, false, Option}
+use Rattle.tenant_core.specs.States.{States, Outcomes, Found, HasState, MeetsDefinition}
 use Rattle.tenant_history.specs.History.{Session, IsSoundFor, MayLeave}
 use Rattle.tenant_messages.specs.declared.call.Call.{Call}
 use Rattle.tenant_messages.specs.declared.reply.Reply.{Reply}
@@ -25,3 +25,9 @@ pub record IsSession (old : States) (left : Outcomes) (calls : List Call) (repli
   pub doubt : Option ℕ
   pub sound : IsSound old calls replies doubt
   pub crash : LeavesSession old left calls replies doubt
+
+-- the calls were served as the definition says, by a store that was and is latched, or not; where
+-- it wasn't latched before, they and the replies are a session
+pub record ServesSession (was is : Bool) (old new : States) (left : Outcomes) (calls : List Call) (replies : List Reply) : Type 0 where
+  pub meets : MeetsDefinition is old new calls replies
+  pub session : was ≡ false → IsSession old left calls replies
