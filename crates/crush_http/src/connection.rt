@@ -189,8 +189,9 @@ pub fn serve<T: TenantStore, R: Read, W: Write>(
     writer: &mut W,
 ) -> Result<Ended, AllocError>
     // The messages of the input were served up to a stop: the headline holds of their calls and the
-    // replies, and these are a sound session, which leaves what it may leave. What was written is the wire form of these replies, in order, and of the one to what
-    // is no message, and nothing else; with `WriteFault` a front of it, but not all.
+    // replies, and these are a sound session, which leaves what it may leave. What was written is
+    // the wire form of these replies, in order, and of the one to what is no message, and nothing
+    // else; with `WriteFault` a front of it, but not all.
     ensures served { IfOk result (λ ended. OfInput (R.remaining reader.old)
         (λ input. ServesInput (λ calls replies. T.is_honest service.new → ServesSession (T.latched service.old) (T.latched service.new) (T.has_state service.old) (T.has_state service.new) (T.may_leave service.new) calls replies) input (R.remaining reader.new) (W.contents writer.old) (W.contents writer.new) ended)) }
 

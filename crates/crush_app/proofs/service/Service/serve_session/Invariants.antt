@@ -2,7 +2,7 @@ use Rattle.std.proofs.Common.{◌≡◌, ◌≤◌, length, take, vec_capacity, 
 use Rattle.tenant_core.specs.States.{MeetsDefinition}
 use Rattle.tenant_history.specs.History.{IsSilentFrom}
 use Rattle.tenant_history.specs.Private.{LeavesSoFar}
-use Rattle.crush_app.proofs.session.Service.serve_session.Given as goal
+use Rattle.crush_app.proofs.service.Service.serve_session.Given as goal
 
 -- the calls so far are a session, and there is room for all replies
 abbrev pub invariant-loop-call : goal.invariant-loop-call

@@ -7,9 +7,10 @@ use Rattle.tenant_history.specs.History.{IsSilentFrom}
 use Rattle.tenant_history.specs.Private.{LeavesSoFar, doubt_after}
 use Rattle.tenant_messages.specs.declared.call.Call.{Call}
 use Rattle.tenant_messages.specs.declared.reply.Reply.{Reply}
-use Rattle.crush_app.proofs.session.Service.serve_session.Goals as goal
+use Rattle.crush_app.proofs.service.Service.serve_session.Goals as goal
 
--- one call more was served, its reply added to the others, and the doubt set if it latched the store
+-- one call more was served, its reply added to the others, and the doubt set if it latched the
+-- store
 pub loop-call-preserved : goal.loop-call-preserved
 loop-call-preserved g c =
     let so = c.loop-call.invariant in

@@ -1,5 +1,5 @@
 use Rattle.tenant_history.proofs.Served.{leaves_session, sound}
-use Rattle.crush_app.proofs.session.Service.run_session.Goals as goal
+use Rattle.crush_app.proofs.service.Service.run_session.Goals as goal
 
 pub returns-clause-sound : goal.returns-clause-sound
 returns-clause-sound g c = λ honest.
