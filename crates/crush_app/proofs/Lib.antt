@@ -7,5 +7,6 @@ pub mod LineLemmas
 pub mod LongTexts
 pub mod Performed
 pub mod Playing
+pub mod Stopping
 pub mod Texts
 pub mod Writing

@@ -15,18 +15,18 @@ use Rattle.crush_app.specs.Script.{bad_line, call_of_line, calls_in, is_nonempty
 use Rattle.crush_app.proofs.Inputs.{of_read}
 use Rattle.crush_app.proofs.Writing.{appends_both, appends_none}
 
-append_none : {A : Type 0} (xs : List A) → xs ++ [] ≡ xs
+pub append_none : {A : Type 0} (xs : List A) → xs ++ [] ≡ xs
 append_none [] = refl
 append_none (x ∷ xs) = ap (λ ys. x ∷ ys) (append_none xs)
 
 -- ---- messages, one after the other
 
-calls_in-append : (ms ns : List (Option Call)) → calls_in (ms ++ ns) ≡ calls_in ms ++ calls_in ns
+pub calls_in-append : (ms ns : List (Option Call)) → calls_in (ms ++ ns) ≡ calls_in ms ++ calls_in ns
 calls_in-append [] ns = refl
 calls_in-append (None ∷ ms) ns = calls_in-append ms ns
 calls_in-append (Some c ∷ ms) ns = ap (λ cs. c ∷ cs) (calls_in-append ms ns)
 
-output-append : (ms ns : List (Option Call)) (rs qs : List Reply) → length rs ≡ length (calls_in ms) → output (ms ++ ns) (rs ++ qs) ≡ output ms rs ++ output ns qs
+pub output-append : (ms ns : List (Option Call)) (rs qs : List Reply) → length rs ≡ length (calls_in ms) → output (ms ++ ns) (rs ++ qs) ≡ output ms rs ++ output ns qs
 output-append [] ns [] qs h = refl
 output-append [] ns (r ∷ rs) qs h = absurd (omega arith)
 output-append (None ∷ ms) ns rs qs h = ap (λ ys. wire bad_line ++ ys) (output-append ms ns rs qs h) ∙ sym (append_assoc (wire bad_line) (output ms rs) (output ns qs))
@@ -131,7 +131,7 @@ pub record PlaysRest (old mid : States) (a b : Option (List ℕ)) (input rest : 
 pub rest_whole : (old : States) (a : Option (List ℕ)) (input : List ℕ) → PlaysRest old old a a input input
 rest_whole old a input = record { done = []; all = refl; plays = plays_none old a }
 
-messages-line : (rest line after : List ℕ) → lines rest ≡ line ∷ lines after → messages rest ≡ messages_in (line ∷ []) ++ messages after
+pub messages-line : (rest line after : List ℕ) → lines rest ≡ line ∷ lines after → messages rest ≡ messages_in (line ∷ []) ++ messages after
 messages-line rest line after h = ap messages_in h ∙ messages_in-front line (lines after)
 
 moved : (done m after rest input : List (Option Call)) → rest ≡ m ++ after → done ++ rest ≡ input → (done ++ m) ++ after ≡ input

@@ -1,7 +1,8 @@
 -- A script that was played: the states of tenants after it, and the bytes that were written.
 use Rattle.std.specs.Prelude.{ℕ, ◌≡◌, ◌<◌, List, [], ◌∷◌, ◌++◌, length, Bool, true, Option}
 use Rattle.std.specs.Io.KnownBytes.{Appends}
-use Rattle.tenant_core.specs.States.{States, Headline, MeetsDefinition}
+use Rattle.tenant_core.specs.States.{States, Outcomes, Headline, MeetsDefinition}
+use Rattle.tenant_history.specs.Served.{IsSession}
 use Rattle.tenant_messages.specs.declared.call.Call.{Call}
 use Rattle.tenant_messages.specs.declared.reply.Reply.{Reply}
 use Rattle.crush_app.specs.Script.{calls_in, output}
@@ -84,3 +85,8 @@ PlaysUntilLatched old new ms from to = PlaysFirstBy (MeetsDefinition true old ne
 -- definition's
 abbrev pub WritesHeadline : States → List (Option Call) → Option (List ℕ) → Option (List ℕ) → Type 0
 WritesHeadline old ms from to = WritesFirst (Headline old) ms from to
+
+-- what a stop leaves: what was written is a first part of the lines for the first messages and the
+-- replies to their calls, and these are a sound session, which leaves what it may leave
+abbrev pub WritesSession : States → Outcomes → List (Option Call) → Option (List ℕ) → Option (List ℕ) → Type 0
+WritesSession old left ms from to = WritesFirst (IsSession old left) ms from to

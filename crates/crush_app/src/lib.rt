@@ -11,6 +11,7 @@ mod on_store;
 mod play;
 mod script;
 mod service;
+mod session;
 mod wire;
 
 pub use check::{CheckEnd, check_run};
@@ -19,4 +20,5 @@ pub use memory_store::MemoryStore;
 pub use on_store::script_on_store;
 pub use play::{ScriptEnd, script_run};
 pub use service::Service;
+pub use session::SessionEnd;
 pub use wire::{shown_body, write_whole};

@@ -4,7 +4,7 @@ ghost use Rattle.std.specs.Prelude.{◌≡◌, ◌≤◌, ◌<◌, ◌+◌, fals
 ghost use Rattle.std.specs.Io.KnownBytes.{Keeps as KeepsBytes};
 ghost use Rattle.crush_app.specs.Input.{DropsFirst};
 ghost use Rattle.crush_app.specs.End.{ServesLines, ServesNone, ReadsInput};
-ghost use Rattle.crush_app.specs.Play.{Plays, PlaysUntilLatched, PlaysUpTo, WritesHeadline};
+ghost use Rattle.crush_app.specs.Play.{Plays, PlaysUntilLatched, PlaysUpTo, WritesHeadline, WritesSession};
 ghost use Rattle.crush_app.specs.declared.limits.TheConstants.{SCRIPT_LIMIT};
 ghost use Rattle.crush_app.specs.Script.{messages, OfScript};
 
@@ -46,6 +46,11 @@ pub fn script_on_store<T: TenantStore + Drop, R: Read, W: Write>(
     // had.
     ensures headline { IfOk result (λ r. T.is_honest r.1 → ServesLines (Ok r.0) → OfScript (R.remaining reader.old)
         (λ input. WritesHeadline (T.has_state store) (messages input) (W.contents writer.old) (W.contents writer.new))) }
+
+    // What a stop leaves: what was written, and what an opening may find after a crash now, are
+    // those of one sound session, whatever the store did.
+    ensures stop { IfOk result (λ r. T.is_honest r.1 → ServesLines (Ok r.0) → OfScript (R.remaining reader.old)
+        (λ input. WritesSession (T.has_state store) (T.may_leave r.1) (messages input) (W.contents writer.old) (W.contents writer.new))) }
 
     // An input is too long exactly by its length.
     ensures short { IfOk result (λ r. ServesLines (Ok r.0) → IfSome (R.remaining reader.old) (λ input. length input ≤ SCRIPT_LIMIT)) }

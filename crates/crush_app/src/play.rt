@@ -6,7 +6,7 @@ ghost use Rattle.std.specs.Io.KnownBytes.{Keeps as KeepsBytes};
 ghost use Rattle.tenant_messages.specs.CallParts.{call_of};
 ghost use Rattle.crush_app.specs.Input.{DropsFirst};
 ghost use Rattle.crush_app.specs.End.{ServesLines, ServesNone, ReadsInput};
-ghost use Rattle.crush_app.specs.Play.{Plays, PlaysUntilLatched, PlaysUpTo, WritesHeadline};
+ghost use Rattle.crush_app.specs.Play.{Plays, PlaysUntilLatched, PlaysUpTo, WritesHeadline, WritesSession};
 ghost use Rattle.crush_app.specs.declared.limits.TheConstants.{SCRIPT_LIMIT};
 ghost use Rattle.crush_app.specs.Script.{bad_line, messages, messages_in, OfScript};
 
@@ -48,6 +48,7 @@ fn play_message<T: TenantStore, W: Write>(
     requires works { T.latched service.old ≡ false }
     ensures whole { T.is_honest service.new → IsTrue result → Plays (T.latched service.new) (T.has_state service.old) (T.has_state service.new) (option_map call_of message.entry ∷ []) (W.contents writer.old) (W.contents writer.new) }
     ensures cut { T.is_honest service.new → IsFalse result → PlaysUpTo (T.latched service.new) (T.has_state service.old) (T.has_state service.new) (option_map call_of message.entry ∷ []) (W.contents writer.old) (W.contents writer.new) }
+    ensures stop { T.is_honest service.new → WritesSession (T.has_state service.old) (T.may_leave service.new) (option_map call_of message.entry ∷ []) (W.contents writer.old) (W.contents writer.new) }
     ensures honest { T.is_honest service.new → T.is_honest service.old }
 {
     match message {
@@ -71,6 +72,7 @@ fn play_line<T: TenantStore, W: Write>(
     requires works { T.latched service.old ≡ false }
     ensures whole { T.is_honest service.new → IsTrue result → Plays (T.latched service.new) (T.has_state service.old) (T.has_state service.new) (messages_in (line.now ∷ [])) (W.contents writer.old) (W.contents writer.new) }
     ensures cut { T.is_honest service.new → IsFalse result → PlaysUpTo (T.latched service.new) (T.has_state service.old) (T.has_state service.new) (messages_in (line.now ∷ [])) (W.contents writer.old) (W.contents writer.new) }
+    ensures stop { T.is_honest service.new → WritesSession (T.has_state service.old) (T.may_leave service.new) (messages_in (line.now ∷ [])) (W.contents writer.old) (W.contents writer.new) }
     ensures honest { T.is_honest service.new → T.is_honest service.old }
 {
     if line.is_empty() {
@@ -94,6 +96,7 @@ fn play<T: TenantStore, W: Write>(
     ensures cut { T.is_honest service.new → result ≡ ScriptEnd.WriteFault → PlaysUpTo (T.latched service.new) (T.has_state service.old) (T.has_state service.new) (messages input.now) (W.contents writer.old) (W.contents writer.new) }
     ensures latched { T.is_honest service.new → result ≡ ScriptEnd.Latched → PlaysUntilLatched (T.has_state service.old) (T.has_state service.new) (messages input.now) (W.contents writer.old) (W.contents writer.new) }
     ensures headline { T.is_honest service.new → WritesHeadline (T.has_state service.old) (messages input.now) (W.contents writer.old) (W.contents writer.new) }
+    ensures stop { T.is_honest service.new → WritesSession (T.has_state service.old) (T.may_leave service.new) (messages input.now) (W.contents writer.old) (W.contents writer.new) }
     ensures served { ServesLines (Ok result) }
     ensures works { result ≡ ScriptEnd.Done → T.latched service.new ≡ false }
     ensures shut { result ≡ ScriptEnd.Latched → T.latched service.new ≡ true }
@@ -119,7 +122,7 @@ fn play<T: TenantStore, W: Write>(
 /// The clauses speak of an input, which is what the reader had where contracts know its bytes.
 /// `Err(AllocError)`: an allocation for the script itself failed; no line was served, nothing was
 /// written, and the script may have been read in part.
-#[tactic(auto, using(crate::proofs::Playing::script_played, crate::proofs::Playing::script_cut_off, crate::proofs::Playing::script_latched, crate::proofs::Playing::script_written, crate::proofs::Inputs::known_short, crate::proofs::Inputs::known_long))]
+#[tactic(auto, using(crate::proofs::Playing::script_played, crate::proofs::Playing::script_cut_off, crate::proofs::Playing::script_latched, crate::proofs::Playing::script_written, crate::proofs::Stopping::script_stopped, crate::proofs::Inputs::known_short, crate::proofs::Inputs::known_long))]
 pub fn script_run<T: TenantStore, R: Read, W: Write>(
     alloc: Global,
     service: &mut Service<T>,
@@ -149,6 +152,11 @@ pub fn script_run<T: TenantStore, R: Read, W: Write>(
     // had.
     ensures headline { T.is_honest service.new → ServesLines result → OfScript (R.remaining reader.old)
         (λ input. WritesHeadline (T.has_state service.old) (messages input) (W.contents writer.old) (W.contents writer.new)) }
+
+    // What a stop leaves: what was written, and what an opening may find after a crash now, are
+    // those of one sound session, whatever the store did.
+    ensures stop { T.is_honest service.new → ServesLines result → OfScript (R.remaining reader.old)
+        (λ input. WritesSession (T.has_state service.old) (T.may_leave service.new) (messages input) (W.contents writer.old) (W.contents writer.new)) }
 
     // An input is too long exactly by its length.
     ensures short { ServesLines result → IfSome (R.remaining reader.old) (λ input. length input ≤ SCRIPT_LIMIT) }

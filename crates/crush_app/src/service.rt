@@ -186,7 +186,7 @@ fn reply_or_fault<T: TenantStore>(
 /// The service of all tenants over a store. Contracts see it as its store.
 #[derive(Drop)]
 pub struct Service<T: TenantStore> {
-    alloc: Global,
+    pub(crate) alloc: Global,
     routes: Routes,
     store: T,
 }

@@ -6,12 +6,13 @@ ghost use Rattle.sqlite.specs.Held.{state};
 ghost use Rattle.sqlite.specs.State.{HasCleanDisk};
 ghost use Rattle.crush_app.specs.Input.{DropsFirst};
 ghost use Rattle.crush_app.specs.End.{ServesLines, ServesNone, ReadsInput};
-ghost use Rattle.crush_app.specs.Play.{Plays, PlaysUntilLatched, PlaysUpTo, WritesHeadline};
+ghost use Rattle.crush_app.specs.Play.{Plays, PlaysUntilLatched, PlaysUpTo, WritesHeadline, WritesSession};
 ghost use Rattle.crush_app.specs.declared.limits.TheConstants.{SCRIPT_LIMIT};
 ghost use Rattle.crush_app.specs.Script.{messages, OfScript};
 ghost use Rattle.tenant_rows.specs.Rows.{StandsFor};
 ghost use Rattle.tenant_store.specs.Shown.{IsHonest};
 ghost use Rattle.table_schema.specs.Ready.{IsReady};
+ghost use Rattle.crush_files.specs.Stored.{MayStandFor};
 
 use crush_app::{ScriptEnd, script_on_store};
 use sqlite::{Alter, Connection};
@@ -63,6 +64,11 @@ pub fn script_on_tables<S: Alter + Drop, R: Read, W: Write>(
     // rows stood for.
     ensures headline { IfOk result (λ r. HasCleanDisk (state S.Store r.1) → ServesLines (Ok r.0) → OfScript (R.remaining reader.old)
         (λ input. WritesHeadline (StandsFor (state S.Store store.0).now.trees) (messages input) (W.contents writer.old) (W.contents writer.new))) }
+
+    // What a stop leaves: what was written, and the states that rows may stand for after a crash
+    // now, are those of one sound session, whatever the database did.
+    ensures stop { IfOk result (λ r. HasCleanDisk (state S.Store r.1) → ServesLines (Ok r.0) → OfScript (R.remaining reader.old)
+        (λ input. WritesSession (StandsFor (state S.Store store.0).now.trees) (MayStandFor S.Store r.1) (messages input) (W.contents writer.old) (W.contents writer.new))) }
 
     // An input is too long exactly by its length.
     ensures short { IfOk result (λ r. ServesLines (Ok r.0) → IfSome (R.remaining reader.old) (λ input. length input ≤ SCRIPT_LIMIT)) }

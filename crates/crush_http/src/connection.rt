@@ -2,7 +2,7 @@
 
 ghost use Rattle.std.specs.Prelude.{◌≡◌, ◌==◌, ◌||◌, ◌⊎◌, ◌-◌, ◌<◌, [], true, length, Option, None, IfSome, IfOk, OnErr};
 ghost use Rattle.std.specs.Io.KnownBytes.{Keeps as KeepsBytes, Appends};
-ghost use Rattle.tenant_core.specs.States.{MeetsDefinition};
+ghost use Rattle.tenant_history.specs.Served.{ServesSession};
 ghost use Rattle.crush_app.specs.Input.{OfInput};
 ghost use Rattle.crush_app.specs.Play.{AppendsPart, AppendsUpTo};
 ghost use Rattle.crush_http.specs.Serving.{ServesInput};
@@ -82,13 +82,13 @@ fn serve_one<T: TenantStore, R: Read, W: Write>(
 ) -> Turn
     requires some { 0 < most }
     ensures next { OnNext result ((1 < most) × ReadsOn buffers.old.read (R.remaining reader.old) (R.remaining reader.new)
-        (ServesOne (Replies (T.is_honest service.new) (T.latched service.old) (T.latched service.new) (T.has_state service.old) (T.has_state service.new)) most buffers.new.read
+        (ServesOne (Replies (T.is_honest service.new) (T.latched service.old) (T.latched service.new) (T.has_state service.old) (T.has_state service.new) (T.may_leave service.old) (T.may_leave service.new)) most buffers.new.read
         buffers.old.held buffers.new.held (W.contents writer.old) (W.contents writer.new))) }
     ensures ended { OnEnded result (λ ended. EndsOn
-        (ServesAtMostOne (service.new ≡ service.old) (Replies (T.is_honest service.new) (T.latched service.old) (T.latched service.new) (T.has_state service.old) (T.has_state service.new)))
+        (ServesAtMostOne (service.new ≡ service.old) (Replies (T.is_honest service.new) (T.latched service.old) (T.latched service.new) (T.has_state service.old) (T.has_state service.new) (T.may_leave service.old) (T.may_leave service.new)))
         most buffers.old.read (R.remaining reader.old) (R.remaining reader.new) (EndsHeld ended buffers.old.held buffers.new.held (W.contents writer.old) (W.contents writer.new))) }
     ensures cut { OnCut result (EndsOn
-        (ServesAtMostOne (service.new ≡ service.old) (Replies (T.is_honest service.new) (T.latched service.old) (T.latched service.new) (T.has_state service.old) (T.has_state service.new)))
+        (ServesAtMostOne (service.new ≡ service.old) (Replies (T.is_honest service.new) (T.latched service.old) (T.latched service.new) (T.has_state service.old) (T.has_state service.new) (T.may_leave service.old) (T.may_leave service.new)))
         most buffers.old.read (R.remaining reader.old) (R.remaining reader.new) (EndsCut buffers.old.held (W.contents writer.old) (W.contents writer.new))) }
     ensures rests { T.latched service.old ≡ true → service.new ≡ service.old }
     ensures honest { T.is_honest service.new → T.is_honest service.old }
@@ -143,7 +143,7 @@ fn serve_all<T: TenantStore, R: Read, W: Write>(
     requires unused { buffers.old.read ≡ [] }
     requires silent { buffers.old.held ≡ [] }
     ensures served { OfInput (R.remaining reader.old)
-        (λ input. ServesInput (λ calls replies. T.is_honest service.new → MeetsDefinition (T.latched service.new) (T.has_state service.old) (T.has_state service.new) calls replies) input (R.remaining reader.new) (W.contents writer.old) (W.contents writer.new) result) }
+        (λ input. ServesInput (λ calls replies. T.is_honest service.new → ServesSession (T.latched service.old) (T.latched service.new) (T.has_state service.old) (T.has_state service.new) (T.may_leave service.new) calls replies) input (R.remaining reader.new) (W.contents writer.old) (W.contents writer.new) result) }
     ensures rests { T.latched service.old ≡ true → service.new ≡ service.old }
     ensures honest { T.is_honest service.new → T.is_honest service.old }
 {
@@ -166,7 +166,7 @@ pub fn serve_with<T: TenantStore, R: Read, W: Write>(
     writer: &mut W,
 ) -> Ended
     ensures served { OfInput (R.remaining reader.old)
-        (λ input. ServesInput (λ calls replies. T.is_honest service.new → MeetsDefinition (T.latched service.new) (T.has_state service.old) (T.has_state service.new) calls replies) input (R.remaining reader.new) (W.contents writer.old) (W.contents writer.new) result) }
+        (λ input. ServesInput (λ calls replies. T.is_honest service.new → ServesSession (T.latched service.old) (T.latched service.new) (T.has_state service.old) (T.has_state service.new) (T.may_leave service.new) calls replies) input (R.remaining reader.new) (W.contents writer.old) (W.contents writer.new) result) }
     ensures rests { T.latched service.old ≡ true → service.new ≡ service.old }
     ensures honest { T.is_honest service.new → T.is_honest service.old }
 {
@@ -189,10 +189,11 @@ pub fn serve<T: TenantStore, R: Read, W: Write>(
     writer: &mut W,
 ) -> Result<Ended, AllocError>
     // The messages of the input were served up to a stop: the headline holds of their calls and the
-    // replies. What was written is the wire form of these replies, in order, and of the one to what
-    // is no message, and nothing else; with `WriteFault` a front of it, but not all.
+    // replies, and these are a sound session, which leaves what it may leave. What was written is
+    // the wire form of these replies, in order, and of the one to what is no message, and nothing
+    // else; with `WriteFault` a front of it, but not all.
     ensures served { IfOk result (λ ended. OfInput (R.remaining reader.old)
-        (λ input. ServesInput (λ calls replies. T.is_honest service.new → MeetsDefinition (T.latched service.new) (T.has_state service.old) (T.has_state service.new) calls replies) input (R.remaining reader.new) (W.contents writer.old) (W.contents writer.new) ended)) }
+        (λ input. ServesInput (λ calls replies. T.is_honest service.new → ServesSession (T.latched service.old) (T.latched service.new) (T.has_state service.old) (T.has_state service.new) (T.may_leave service.new) calls replies) input (R.remaining reader.new) (W.contents writer.old) (W.contents writer.new) ended)) }
 
     // A store that is latched isn't asked.
     ensures rests { T.latched service.old ≡ true → service.new ≡ service.old }

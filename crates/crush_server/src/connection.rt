@@ -1,6 +1,7 @@
 //! One connection.
 
-ghost use Rattle.crush_server.specs.Served.{ServesCalls};
+ghost use Rattle.std.specs.Prelude.{◌≡◌, false};
+ghost use Rattle.crush_server.specs.Served.{ServesCalls, ServesCallsInSession};
 
 use crate::client::Client;
 use crate::waiting::Waiting;
@@ -55,6 +56,7 @@ pub(crate) fn serve_stream<T: TenantStore, C: Clock>(
     stream: &TcpStream,
 )
     ensures served { T.is_honest service.new → ServesCalls (T.latched service.new) (T.has_state service.old) (T.has_state service.new) }
+    ensures stop { T.is_honest service.new → T.latched service.old ≡ false → ServesCallsInSession (T.latched service.new) (T.has_state service.old) (T.has_state service.new) (T.may_leave service.new) }
     ensures honest { T.is_honest service.new → T.is_honest service.old }
 {
     if prepare(stream).is_err() {

@@ -1,7 +1,7 @@
 //! Connections, one after the other.
 
 ghost use Rattle.std.specs.Prelude.{◌≡◌, ◌≢◌, false, true, Err, IfOk};
-ghost use Rattle.crush_server.specs.Served.{ServesCalls};
+ghost use Rattle.crush_server.specs.Served.{ServesCalls, ServesCallsInSession};
 
 use crate::connection::serve_stream;
 use crate::fault::ServerFault;
@@ -30,6 +30,10 @@ pub fn serve_connections<T: TenantStore, C: Clock>(
 ) -> Result<(), ServerFault>
     requires works { T.latched service.old ≡ false }
     ensures served { T.is_honest service.new → ServesCalls (T.latched service.new) (T.has_state service.old) (T.has_state service.new) }
+
+    // What a stop leaves: the calls and their replies are one sound session, and an opening finds
+    // after a crash now what it may leave, whatever the store did.
+    ensures stop { T.is_honest service.new → ServesCallsInSession (T.latched service.new) (T.has_state service.old) (T.has_state service.new) (T.may_leave service.new) }
     ensures works { IfOk result (λ _. T.latched service.new ≡ false) }
     ensures store { result ≡ Err ServerFault.Store → T.latched service.new ≡ true }
     ensures memory { result ≡ Err ServerFault.NoMemory → service.new ≡ service.old }

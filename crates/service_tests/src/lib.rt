@@ -1,6 +1,6 @@
 //! Tests of `tenant_core` and `crush_app`: requests, scripts, imports, rule tests, pools, states of
-//! devices and reports, a store whose data is damaged in part, and one that fails for good. They
-//! stand apart, so that these crates are proved once.
+//! devices and reports, a store whose data is damaged in part, one that fails for good, and
+//! sessions that are stopped. They stand apart, so that these crates are proved once.
 #![tactic(auto)]
 
 #[cfg(test)]
@@ -19,3 +19,7 @@ mod requests;
 mod rows;
 #[cfg(test)]
 mod scripts;
+#[cfg(test)]
+mod sessions;
+#[cfg(test)]
+mod stopping;

@@ -52,7 +52,7 @@ macro_rules! pool {
 
 pub(crate) use crate::pool;
 
-fn assert_reply(rt: &impl Abort, reply: &Reply, row: &Row) {
+pub(crate) fn assert_reply(rt: &impl Abort, reply: &Reply, row: &Row) {
     let (method, path, _, status, body) = *row;
     assert_eq!(rt; reply.status, status, "{method} {path}");
     assert_eq!(rt; reply.body.as_str(), body, "{method} {path}");
@@ -75,8 +75,8 @@ pub(crate) fn assert_requests<T: TenantStore>(
     }
 }
 
-/// Asserts that a run of the calls of some rows, on a service without a tenant, has their replies.
-pub(crate) fn assert_run(rt: &impl Abort, alloc: Global, rows: &[Row]) -> Result<(), AllocError> {
+/// The calls of some rows.
+pub(crate) fn calls_of(alloc: Global, rows: &[Row]) -> Result<Vec<Call>, AllocError> {
     let mut calls = Vec::new(alloc);
     for (method, path, body, _, _) in rows {
         calls.push(Call {
@@ -85,6 +85,12 @@ pub(crate) fn assert_run(rt: &impl Abort, alloc: Global, rows: &[Row]) -> Result
             body: Bytes::new(Vec::from_slice(alloc, body.as_bytes())?),
         })?;
     }
+    Ok(calls)
+}
+
+/// Asserts that a run of the calls of some rows, on a service without a tenant, has their replies.
+pub(crate) fn assert_run(rt: &impl Abort, alloc: Global, rows: &[Row]) -> Result<(), AllocError> {
+    let calls = calls_of(alloc, rows)?;
     let replies = Service::in_memory(alloc)?.run(&calls)?;
     assert_eq!(rt; replies.len(), rows.len());
     for (reply, row) in replies.iter().zip(rows) {

@@ -1,8 +1,9 @@
 -- What one turn of a connection does.
 use Rattle.std.specs.Prelude.{◌≡◌, ℕ, List, [], ◌∷◌, ◌++◌, length, Bool, true, false, Option, IfSome, ⊤}
 use Rattle.std.specs.Io.KnownBytes.{Consumes}
-use Rattle.tenant_core.specs.States.{States, Serves}
+use Rattle.tenant_core.specs.States.{Found, Outcomes, States, Serves}
 use Rattle.tenant_core.specs.StoreReply.{IsUnavailable}
+use Rattle.tenant_history.specs.Served.{IsSession}
 use Rattle.tenant_messages.specs.declared.call.Call.{Call}
 use Rattle.tenant_messages.specs.declared.reply.Reply.{Reply}
 use Rattle.crush_app.specs.Play.{AppendsPart, AppendsUpTo}
@@ -20,10 +21,12 @@ Puts true held now from to bytes = AppendsUpTo now from to (held ++ bytes)
 Puts false held now from to bytes = AppendsPart from to (held ++ bytes)
 
 -- a service over a store that was and is latched, or not, replied so to the call
-pub record Replies (is_honest : Type 0) (was is : Bool) (old new : States) (call : Call) (reply : Reply) : Type 0 where
+pub record Replies (is_honest : Type 0) (was is : Bool) (old new : States) (kept left : Outcomes) (call : Call) (reply : Reply) : Type 0 where
   pub serves : is_honest → is ≡ false → Serves call old new reply
   pub silent : is ≡ true → IsUnavailable reply
   pub rests : was ≡ true → is ≡ true
+  pub session : is_honest → was ≡ false → IsSession old left (call ∷ []) (reply ∷ [])
+  pub shut : was ≡ true → (t : List ℕ) (found : Found) → left t found → kept t found
 
 -- at most one call was served: for none this is so, for one the reply is such
 abbrev pub ServesAtMostOne : Type 0 → (Call → Reply → Type 0) → List Call → List Reply → Type 0

@@ -1,4 +1,5 @@
 use Rattle.crush_app.proofs.Playing.{rest_more, rest_cut, rest_latched, rest_none, headline_latched, headline_part, headline_whole}
+use Rattle.crush_app.proofs.Stopping.{rest_stopped, stopped_whole}
 use Rattle.crush_app.specs.Play.{Plays}
 use Rattle.crush_app.specs.Script.{messages, messages_in}
 use Rattle.crush_app.proofs.play.play.Goals as goal
@@ -45,6 +46,31 @@ returns-clause-headline g c = λ honest.
     let none : length c.loop-rest.rest.now ≤ 0 = grind (arith, nat_tests, c.is_empty.ensures, c.loop-rest-test.false) in
     headline_whole false (g.T.TenantStore.has_state c.args.service.now) (g.T.TenantStore.has_state c.loop-rest.service) (messages c.args.input.now) (g.W.Write.contents c.args.writer.now) (g.W.Write.contents c.loop-rest.writer)
     (rest_none (g.T.TenantStore.has_state c.args.service.now) (g.T.TenantStore.has_state c.loop-rest.service) (g.W.Write.contents c.args.writer.now) (g.W.Write.contents c.loop-rest.writer)
+    c.args.input.now c.loop-rest.rest.now none (c.loop-rest.invariant.played honest))
+
+pub returns-then-not-play_line-clause-stop : goal.returns-then-not-play_line-clause-stop
+returns-then-not-play_line-clause-stop g c = λ honest.
+    rest_stopped (g.T.TenantStore.has_state c.args.service.now) (g.T.TenantStore.has_state c.loop-rest.service) (g.T.TenantStore.may_leave c.play_line.new.service)
+    (g.W.Write.contents c.args.writer.now) (g.W.Write.contents c.loop-rest.writer) (g.W.Write.contents c.play_line.new.writer)
+    c.args.input.now c.loop-rest.rest.now c.first_line.result.0.now c.first_line.result.1.now c.first_line.ensures.lines
+    (c.loop-rest.invariant.played (c.play_line.ensures.honest honest)) (c.play_line.ensures.stop honest)
+
+pub returns-then-is_latched-clause-stop : goal.returns-then-is_latched-clause-stop
+returns-then-is_latched-clause-stop g c = λ honest.
+    rest_stopped (g.T.TenantStore.has_state c.args.service.now) (g.T.TenantStore.has_state c.loop-rest.service) (g.T.TenantStore.may_leave c.play_line.new.service)
+    (g.W.Write.contents c.args.writer.now) (g.W.Write.contents c.loop-rest.writer) (g.W.Write.contents c.play_line.new.writer)
+    c.args.input.now c.loop-rest.rest.now c.first_line.result.0.now c.first_line.result.1.now c.first_line.ensures.lines
+    (c.loop-rest.invariant.played (c.play_line.ensures.honest honest)) (c.play_line.ensures.stop honest)
+
+pub returns-clause-stop : goal.returns-clause-stop
+returns-clause-stop g c = λ honest.
+    let store = g.met.T.TenantStore in
+    let new = c.loop-rest.service in
+    let works = c.loop-rest.invariant.works in
+    let none : length c.loop-rest.rest.now ≤ 0 = grind (arith, nat_tests, c.is_empty.ensures, c.loop-rest-test.false) in
+    stopped_whole (g.T.TenantStore.has_state c.args.service.now) (g.T.TenantStore.has_state new) (g.T.TenantStore.may_leave new) (messages c.args.input.now) (g.W.Write.contents c.args.writer.now) (g.W.Write.contents c.loop-rest.writer)
+    (record { one = λ _ t s u. store.one_state new t s u honest works; settled = λ _ t found there. store.settled new t found honest works there })
+    (rest_none (g.T.TenantStore.has_state c.args.service.now) (g.T.TenantStore.has_state new) (g.W.Write.contents c.args.writer.now) (g.W.Write.contents c.loop-rest.writer)
     c.args.input.now c.loop-rest.rest.now none (c.loop-rest.invariant.played honest))
 
 pub loop-rest-preserved : goal.loop-rest-preserved

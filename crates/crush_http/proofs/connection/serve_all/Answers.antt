@@ -10,9 +10,12 @@ loop-most-init g c = record {
   honest = λ is. is;
   rests = λ _. refl;
   reached =
-      reached_none (Runs g.T.TenantStore.latched g.T.TenantStore.has_state g.T.TenantStore.is_honest c.args.service.now c.args.service.now) c.args.buffers.now.read c.args.buffers.now.held
+      reached_none (Runs g.T.TenantStore.latched g.T.TenantStore.has_state g.T.TenantStore.may_leave g.T.TenantStore.is_honest c.args.service.now c.args.service.now) c.args.buffers.now.read c.args.buffers.now.held
       (g.R.Read.remaining c.args.reader.now) (g.W.Write.contents c.args.writer.now) c.requires.unused c.requires.silent
-      (join_none g.T.TenantStore.latched g.T.TenantStore.has_state g.T.TenantStore.is_honest c.args.service.now);
+      (join_none g.T.TenantStore.latched g.T.TenantStore.has_state g.T.TenantStore.may_leave g.T.TenantStore.is_honest c.args.service.now (λ is works. record {
+        one = λ _ t s u. g.met.T.TenantStore.one_state c.args.service.now t s u is works;
+        settled = λ _ t found there. g.met.T.TenantStore.settled c.args.service.now t found is works there;
+      }));
 }
 
 pub loop-most-preserved : goal.loop-most-preserved
@@ -22,35 +25,35 @@ loop-most-preserved g c =
       honest = λ is. so_far.honest (c.serve_one.ensures.honest is);
       rests = λ was. c.serve_one.ensures.rests (ap g.T.TenantStore.latched (so_far.rests was) ∙ was) ∙ so_far.rests was;
       reached =
-          reached_one (Runs g.T.TenantStore.latched g.T.TenantStore.has_state g.T.TenantStore.is_honest c.args.service.now c.loop-most.service)
-          (Runs g.T.TenantStore.latched g.T.TenantStore.has_state g.T.TenantStore.is_honest c.args.service.now c.serve_one.new.service) _ c.loop-most.most
+          reached_one (Runs g.T.TenantStore.latched g.T.TenantStore.has_state g.T.TenantStore.may_leave g.T.TenantStore.is_honest c.args.service.now c.loop-most.service)
+          (Runs g.T.TenantStore.latched g.T.TenantStore.has_state g.T.TenantStore.may_leave g.T.TenantStore.is_honest c.args.service.now c.serve_one.new.service) _ c.loop-most.most
           c.loop-most.buffers.read c.serve_one.new.buffers.read c.loop-most.buffers.held c.serve_one.new.buffers.held
           (g.R.Read.remaining c.args.reader.now) (g.R.Read.remaining c.loop-most.reader) (g.R.Read.remaining c.serve_one.new.reader)
           (g.W.Write.contents c.args.writer.now) (g.W.Write.contents c.loop-most.writer) (g.W.Write.contents c.serve_one.new.writer) so_far.reached c.in-Next.ensures.next.1
-          (join_one g.T.TenantStore.latched g.T.TenantStore.has_state g.T.TenantStore.is_honest c.args.service.now c.loop-most.service c.serve_one.new.service c.serve_one.ensures.honest);
+          (join_one g.T.TenantStore.latched g.T.TenantStore.has_state g.T.TenantStore.may_leave g.T.TenantStore.is_honest c.args.service.now c.loop-most.service c.serve_one.new.service c.serve_one.ensures.honest);
     }
 
 pub returns-in-Ended-clause-served : goal.returns-in-Ended-clause-served
 returns-in-Ended-clause-served g c =
-    reached_end (Runs g.T.TenantStore.latched g.T.TenantStore.has_state g.T.TenantStore.is_honest c.args.service.now c.loop-most.service)
-    (Runs g.T.TenantStore.latched g.T.TenantStore.has_state g.T.TenantStore.is_honest c.args.service.now c.serve_one.new.service) _ c.loop-most.most c.loop-most.buffers.read c.loop-most.buffers.held
+    reached_end (Runs g.T.TenantStore.latched g.T.TenantStore.has_state g.T.TenantStore.may_leave g.T.TenantStore.is_honest c.args.service.now c.loop-most.service)
+    (Runs g.T.TenantStore.latched g.T.TenantStore.has_state g.T.TenantStore.may_leave g.T.TenantStore.is_honest c.args.service.now c.serve_one.new.service) _ c.loop-most.most c.loop-most.buffers.read c.loop-most.buffers.held
     (g.R.Read.remaining c.args.reader.now) (g.R.Read.remaining c.loop-most.reader) (g.R.Read.remaining c.serve_one.new.reader)
     (g.W.Write.contents c.args.writer.now) (g.W.Write.contents c.loop-most.writer) (g.W.Write.contents c.finish.new.writer) c.finish.result
     (EndsHeld c.in-Ended.ended c.loop-most.buffers.held c.serve_one.new.buffers.held (g.W.Write.contents c.loop-most.writer) (g.W.Write.contents c.serve_one.new.writer))
     c.loop-most.invariant.reached c.in-Ended.ensures.ended
-    (join_last g.T.TenantStore.latched g.T.TenantStore.has_state g.T.TenantStore.is_honest c.args.service.now c.loop-most.service c.serve_one.new.service c.serve_one.ensures.honest)
+    (join_last g.T.TenantStore.latched g.T.TenantStore.has_state g.T.TenantStore.may_leave g.T.TenantStore.is_honest c.args.service.now c.loop-most.service c.serve_one.new.service c.serve_one.ensures.honest)
     (λ stop xs more first ends.
     finished c.in-Ended.ended c.finish.result stop (g.W.Write.contents c.args.writer.now) (g.W.Write.contents c.loop-most.writer) (g.W.Write.contents c.serve_one.new.writer)
     (g.W.Write.contents c.finish.new.writer) c.loop-most.buffers.held c.serve_one.new.buffers.held xs more first ends c.finish.ensures)
 
 pub returns-in-Cut-clause-served : goal.returns-in-Cut-clause-served
 returns-in-Cut-clause-served g c =
-    reached_end (Runs g.T.TenantStore.latched g.T.TenantStore.has_state g.T.TenantStore.is_honest c.args.service.now c.loop-most.service)
-    (Runs g.T.TenantStore.latched g.T.TenantStore.has_state g.T.TenantStore.is_honest c.args.service.now c.serve_one.new.service) _ c.loop-most.most c.loop-most.buffers.read c.loop-most.buffers.held
+    reached_end (Runs g.T.TenantStore.latched g.T.TenantStore.has_state g.T.TenantStore.may_leave g.T.TenantStore.is_honest c.args.service.now c.loop-most.service)
+    (Runs g.T.TenantStore.latched g.T.TenantStore.has_state g.T.TenantStore.may_leave g.T.TenantStore.is_honest c.args.service.now c.serve_one.new.service) _ c.loop-most.most c.loop-most.buffers.read c.loop-most.buffers.held
     (g.R.Read.remaining c.args.reader.now) (g.R.Read.remaining c.loop-most.reader) (g.R.Read.remaining c.serve_one.new.reader)
     (g.W.Write.contents c.args.writer.now) (g.W.Write.contents c.loop-most.writer) (g.W.Write.contents c.serve_one.new.writer) _
     (EndsCut c.loop-most.buffers.held (g.W.Write.contents c.loop-most.writer) (g.W.Write.contents c.serve_one.new.writer))
     c.loop-most.invariant.reached c.in-Cut.ensures.cut
-    (join_last g.T.TenantStore.latched g.T.TenantStore.has_state g.T.TenantStore.is_honest c.args.service.now c.loop-most.service c.serve_one.new.service c.serve_one.ensures.honest)
+    (join_last g.T.TenantStore.latched g.T.TenantStore.has_state g.T.TenantStore.may_leave g.T.TenantStore.is_honest c.args.service.now c.loop-most.service c.serve_one.new.service c.serve_one.ensures.honest)
     (λ stop xs more first ends.
     cut _ stop (g.W.Write.contents c.args.writer.now) (g.W.Write.contents c.loop-most.writer) (g.W.Write.contents c.serve_one.new.writer) c.loop-most.buffers.held xs more first ends refl)

@@ -9,7 +9,7 @@ invariant-loop-most g l = record {
   some : 0 < l.most;
   honest : g.T.TenantStore.is_honest l.service → g.T.TenantStore.is_honest l.fn.service;
   rests : g.T.TenantStore.latched l.fn.service ≡ true → l.service ≡ l.fn.service;
-  reached : Reached (Runs g.T.TenantStore.latched g.T.TenantStore.has_state g.T.TenantStore.is_honest l.fn.service l.service) l.most l.buffers.read l.buffers.held
+  reached : Reached (Runs g.T.TenantStore.latched g.T.TenantStore.has_state g.T.TenantStore.may_leave g.T.TenantStore.is_honest l.fn.service l.service) l.most l.buffers.read l.buffers.held
       (g.R.Read.remaining l.fn.reader) (g.R.Read.remaining l.reader) (g.W.Write.contents l.fn.writer) (g.W.Write.contents l.writer);
 }
 

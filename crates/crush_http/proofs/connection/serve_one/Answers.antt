@@ -2,6 +2,7 @@ use Rattle.std.proofs.Common.{◌≡◌, ◌++◌, [], take, refl, ap, sym, ◌�
 use Rattle.std.proofs.lemmas.List.{append-nil}
 use Rattle.std.specs.Io.KnownBytes.{Consumes}
 use Rattle.tenant_messages.specs.CallParts.{call_of}
+use Rattle.crush_app.proofs.Stopping.{one_session}
 use Rattle.crush_app.specs.Play.{AppendsPart, AppendsUpTo}
 use Rattle.crush_http.specs.Wire.{reply_wire, rejection_wire}
 use Rattle.crush_http.specs.Private.Reading.{Finds as FindsIncoming, ReadsOn, call_in}
@@ -54,10 +55,22 @@ returns-in-Fault-clause-ended g c =
 pub returns-then-not-put_reply-clause-cut : goal.returns-then-not-put_reply-clause-cut
 returns-then-not-put_reply-clause-cut g c =
     let one : Replies (g.T.TenantStore.is_honest c.request-reply.new.self) (g.T.TenantStore.latched c.args.service.now) (g.T.TenantStore.latched c.request-reply.new.self)
-    (g.T.TenantStore.has_state c.args.service.now) (g.T.TenantStore.has_state c.request-reply.new.self) (call_of c.call_of.result) c.request-reply.result = record {
+    (g.T.TenantStore.has_state c.args.service.now) (g.T.TenantStore.has_state c.request-reply.new.self) (g.T.TenantStore.may_leave c.args.service.now) (g.T.TenantStore.may_leave c.request-reply.new.self)
+    (call_of c.call_of.result) c.request-reply.result = record {
       serves = c.request-reply.ensures.serves;
       silent = c.request-reply.ensures.silent;
       rests = λ was. ap g.T.TenantStore.latched (c.request-reply.ensures.rests was) ∙ was;
+      session = λ honest works.
+          let store = g.met.T.TenantStore in
+          let old = c.args.service.now in
+          let new = c.request-reply.new.self in
+          let was = c.request-reply.ensures.honest honest in
+          one_session (g.T.TenantStore.latched new) (g.T.TenantStore.has_state old) (g.T.TenantStore.has_state new) (g.T.TenantStore.may_leave old) (g.T.TenantStore.may_leave new)
+          (call_of c.call_of.result) c.request-reply.result
+          (record { one = λ _ t s u. store.one_state old t s u was works; settled = λ _ t found there. store.settled old t found was works there })
+          (record { one = λ still t s u. store.one_state new t s u honest still; settled = λ still t found there. store.settled new t found honest still there })
+          (c.request-reply.ensures.serves honest) c.request-reply.ensures.silent (c.request-reply.ensures.crash honest works);
+      shut = λ was t found there. subst (λ x. g.T.TenantStore.may_leave x t found) (c.request-reply.ensures.rests was) there;
     } in
     let read : ReadsOn c.args.buffers.now.read (g.R.Read.remaining c.args.reader.now) (g.R.Read.remaining c.next_message.new.reader)
     (Finds c.args.most (call_of c.call_of.result) c.is_last-last.result c.drop_front.new.self) =
@@ -67,7 +80,7 @@ returns-then-not-put_reply-clause-cut g c =
     c.bytes-bytes.ensures.value c.used-used.ensures c.drop_front.ensures c.is_last-last.ensures
     (c.call_of.ensures ∙ ap (λ body. call_in c.bytes-bytes.result.now c.in-Message.request (take c.in-Message.request.size body)) c.deref.ensures.value) in
     cut_after (c.request-reply.new.self ≡ c.args.service.now) (Replies (g.T.TenantStore.is_honest c.request-reply.new.self) (g.T.TenantStore.latched c.args.service.now) (g.T.TenantStore.latched c.request-reply.new.self)
-    (g.T.TenantStore.has_state c.args.service.now) (g.T.TenantStore.has_state c.request-reply.new.self)) c.args.most c.args.buffers.now.read c.drop_front.new.self (call_of c.call_of.result) c.request-reply.result
+    (g.T.TenantStore.has_state c.args.service.now) (g.T.TenantStore.has_state c.request-reply.new.self) (g.T.TenantStore.may_leave c.args.service.now) (g.T.TenantStore.may_leave c.request-reply.new.self)) c.args.most c.args.buffers.now.read c.drop_front.new.self (call_of c.call_of.result) c.request-reply.result
     (g.R.Read.remaining c.args.reader.now) (g.R.Read.remaining c.next_message.new.reader) one c.is_last-last.result
     (EndsCut c.args.buffers.now.held (g.W.Write.contents c.args.writer.now) (g.W.Write.contents c.put_reply.new.writer)) read
     (part_on (g.W.Write.contents c.args.writer.now) (g.W.Write.contents c.next_message.new.writer) (g.W.Write.contents c.put_reply.new.writer) c.next_message.new.buffers.held c.args.buffers.now.held (reply_wire c.is_last-last.result c.request-reply.result) c.in-Some.ensures.written c.if-not-put_reply.ensures)
@@ -75,10 +88,22 @@ returns-then-not-put_reply-clause-cut g c =
 pub returns-then-last-clause-ended : goal.returns-then-last-clause-ended
 returns-then-last-clause-ended g c =
     let one : Replies (g.T.TenantStore.is_honest c.request-reply.new.self) (g.T.TenantStore.latched c.args.service.now) (g.T.TenantStore.latched c.request-reply.new.self)
-    (g.T.TenantStore.has_state c.args.service.now) (g.T.TenantStore.has_state c.request-reply.new.self) (call_of c.call_of.result) c.request-reply.result = record {
+    (g.T.TenantStore.has_state c.args.service.now) (g.T.TenantStore.has_state c.request-reply.new.self) (g.T.TenantStore.may_leave c.args.service.now) (g.T.TenantStore.may_leave c.request-reply.new.self)
+    (call_of c.call_of.result) c.request-reply.result = record {
       serves = c.request-reply.ensures.serves;
       silent = c.request-reply.ensures.silent;
       rests = λ was. ap g.T.TenantStore.latched (c.request-reply.ensures.rests was) ∙ was;
+      session = λ honest works.
+          let store = g.met.T.TenantStore in
+          let old = c.args.service.now in
+          let new = c.request-reply.new.self in
+          let was = c.request-reply.ensures.honest honest in
+          one_session (g.T.TenantStore.latched new) (g.T.TenantStore.has_state old) (g.T.TenantStore.has_state new) (g.T.TenantStore.may_leave old) (g.T.TenantStore.may_leave new)
+          (call_of c.call_of.result) c.request-reply.result
+          (record { one = λ _ t s u. store.one_state old t s u was works; settled = λ _ t found there. store.settled old t found was works there })
+          (record { one = λ still t s u. store.one_state new t s u honest still; settled = λ still t found there. store.settled new t found honest still there })
+          (c.request-reply.ensures.serves honest) c.request-reply.ensures.silent (c.request-reply.ensures.crash honest works);
+      shut = λ was t found there. subst (λ x. g.T.TenantStore.may_leave x t found) (c.request-reply.ensures.rests was) there;
     } in
     let read : ReadsOn c.args.buffers.now.read (g.R.Read.remaining c.args.reader.now) (g.R.Read.remaining c.next_message.new.reader)
     (Finds c.args.most (call_of c.call_of.result) c.is_last-last.result c.drop_front.new.self) =
@@ -88,7 +113,7 @@ returns-then-last-clause-ended g c =
     c.bytes-bytes.ensures.value c.used-used.ensures c.drop_front.ensures c.is_last-last.ensures
     (c.call_of.ensures ∙ ap (λ body. call_in c.bytes-bytes.result.now c.in-Message.request (take c.in-Message.request.size body)) c.deref.ensures.value) in
     last_after (c.request-reply.new.self ≡ c.args.service.now) (Replies (g.T.TenantStore.is_honest c.request-reply.new.self) (g.T.TenantStore.latched c.args.service.now) (g.T.TenantStore.latched c.request-reply.new.self)
-    (g.T.TenantStore.has_state c.args.service.now) (g.T.TenantStore.has_state c.request-reply.new.self)) c.args.most c.args.buffers.now.read c.drop_front.new.self (call_of c.call_of.result) c.request-reply.result
+    (g.T.TenantStore.has_state c.args.service.now) (g.T.TenantStore.has_state c.request-reply.new.self) (g.T.TenantStore.may_leave c.args.service.now) (g.T.TenantStore.may_leave c.request-reply.new.self)) c.args.most c.args.buffers.now.read c.drop_front.new.self (call_of c.call_of.result) c.request-reply.result
     (g.R.Read.remaining c.args.reader.now) (g.R.Read.remaining c.next_message.new.reader) one
     (EndsHeld Closed c.args.buffers.now.held c.put_reply.new.held (g.W.Write.contents c.args.writer.now) (g.W.Write.contents c.put_reply.new.writer))
     (subst (λ l. ReadsOn c.args.buffers.now.read (g.R.Read.remaining c.args.reader.now) (g.R.Read.remaining c.next_message.new.reader) (Finds c.args.most (call_of c.call_of.result) l c.drop_front.new.self)) c.if-last.true read) (
@@ -100,10 +125,22 @@ returns-then-last-clause-ended g c =
 pub returns-clause-next : goal.returns-clause-next
 returns-clause-next g c =
     let one : Replies (g.T.TenantStore.is_honest c.request-reply.new.self) (g.T.TenantStore.latched c.args.service.now) (g.T.TenantStore.latched c.request-reply.new.self)
-    (g.T.TenantStore.has_state c.args.service.now) (g.T.TenantStore.has_state c.request-reply.new.self) (call_of c.call_of.result) c.request-reply.result = record {
+    (g.T.TenantStore.has_state c.args.service.now) (g.T.TenantStore.has_state c.request-reply.new.self) (g.T.TenantStore.may_leave c.args.service.now) (g.T.TenantStore.may_leave c.request-reply.new.self)
+    (call_of c.call_of.result) c.request-reply.result = record {
       serves = c.request-reply.ensures.serves;
       silent = c.request-reply.ensures.silent;
       rests = λ was. ap g.T.TenantStore.latched (c.request-reply.ensures.rests was) ∙ was;
+      session = λ honest works.
+          let store = g.met.T.TenantStore in
+          let old = c.args.service.now in
+          let new = c.request-reply.new.self in
+          let was = c.request-reply.ensures.honest honest in
+          one_session (g.T.TenantStore.latched new) (g.T.TenantStore.has_state old) (g.T.TenantStore.has_state new) (g.T.TenantStore.may_leave old) (g.T.TenantStore.may_leave new)
+          (call_of c.call_of.result) c.request-reply.result
+          (record { one = λ _ t s u. store.one_state old t s u was works; settled = λ _ t found there. store.settled old t found was works there })
+          (record { one = λ still t s u. store.one_state new t s u honest still; settled = λ still t found there. store.settled new t found honest still there })
+          (c.request-reply.ensures.serves honest) c.request-reply.ensures.silent (c.request-reply.ensures.crash honest works);
+      shut = λ was t found there. subst (λ x. g.T.TenantStore.may_leave x t found) (c.request-reply.ensures.rests was) there;
     } in
     let read : ReadsOn c.args.buffers.now.read (g.R.Read.remaining c.args.reader.now) (g.R.Read.remaining c.next_message.new.reader)
     (Finds c.args.most (call_of c.call_of.result) c.is_last-last.result c.drop_front.new.self) =
@@ -114,7 +151,7 @@ returns-clause-next g c =
     (c.call_of.ensures ∙ ap (λ body. call_in c.bytes-bytes.result.now c.in-Message.request (take c.in-Message.request.size body)) c.deref.ensures.value) in (
       more_to_come c.in-Message.request.closes c.is_last-last.result c.args.most c.requires.some c.is_last-last.ensures c.if-last.false,
       next_after (c.request-reply.new.self ≡ c.args.service.now) (Replies (g.T.TenantStore.is_honest c.request-reply.new.self) (g.T.TenantStore.latched c.args.service.now) (g.T.TenantStore.latched c.request-reply.new.self)
-          (g.T.TenantStore.has_state c.args.service.now) (g.T.TenantStore.has_state c.request-reply.new.self)) c.args.most c.args.buffers.now.read c.drop_front.new.self (call_of c.call_of.result) c.request-reply.result
+          (g.T.TenantStore.has_state c.args.service.now) (g.T.TenantStore.has_state c.request-reply.new.self) (g.T.TenantStore.may_leave c.args.service.now) (g.T.TenantStore.may_leave c.request-reply.new.self)) c.args.most c.args.buffers.now.read c.drop_front.new.self (call_of c.call_of.result) c.request-reply.result
           (g.R.Read.remaining c.args.reader.now) (g.R.Read.remaining c.next_message.new.reader) one c.args.buffers.now.held c.put_reply.new.held (g.W.Write.contents c.args.writer.now) (g.W.Write.contents c.put_reply.new.writer)
           (subst (λ l. ReadsOn c.args.buffers.now.read (g.R.Read.remaining c.args.reader.now) (g.R.Read.remaining c.next_message.new.reader) (Finds c.args.most (call_of c.call_of.result) l c.drop_front.new.self)) c.if-last.false read)
           (subst (λ l. AppendsUpTo c.put_reply.new.held (g.W.Write.contents c.args.writer.now) (g.W.Write.contents c.put_reply.new.writer) (c.args.buffers.now.held ++ reply_wire l c.request-reply.result)) c.if-last.false

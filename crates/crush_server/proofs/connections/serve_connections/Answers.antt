@@ -1,5 +1,5 @@
 use Rattle.std.proofs.Common.{◌≡◌, sym, ◌∙◌}
-use Rattle.crush_server.proofs.Serving.{served_none, served_both}
+use Rattle.crush_server.proofs.Serving.{served_none, served_both, session_after, session_none}
 use Rattle.crush_server.proofs.connections.serve_connections.Goals as goal
 
 pub returns-in_err-buffers-clause-served : goal.returns-in_err-buffers-clause-served
@@ -48,3 +48,32 @@ returns-clause-works g c = c.loop-connection.invariant.works
 
 pub returns-clause-honest : goal.returns-clause-honest
 returns-clause-honest g c = c.loop-connection.invariant.honest
+
+pub returns-in_err-buffers-clause-stop : goal.returns-in_err-buffers-clause-stop
+returns-in_err-buffers-clause-stop g c = λ is.
+    let works = c.requires.works in
+    session_none (g.T.TenantStore.latched c.args.service.now) (g.T.TenantStore.has_state c.args.service.now) (g.T.TenantStore.may_leave c.args.service.now)
+    (record { one = λ _ t s u. g.met.T.TenantStore.one_state c.args.service.now t s u is works; settled = λ _ t found there. g.met.T.TenantStore.settled c.args.service.now t found is works there })
+
+pub returns-in_err-taken-clause-stop : goal.returns-in_err-taken-clause-stop
+returns-in_err-taken-clause-stop g c = λ is.
+    let works = c.requires.works in
+    session_none (g.T.TenantStore.latched c.args.service.now) (g.T.TenantStore.has_state c.args.service.now) (g.T.TenantStore.may_leave c.args.service.now)
+    (record { one = λ _ t s u. g.met.T.TenantStore.one_state c.args.service.now t s u is works; settled = λ _ t found there. g.met.T.TenantStore.settled c.args.service.now t found is works there })
+
+pub returns-then-is_latched-clause-stop : goal.returns-then-is_latched-clause-stop
+returns-then-is_latched-clause-stop g c = λ is.
+    let so_far = c.loop-connection.invariant in
+    session_after (g.T.TenantStore.latched c.loop-connection.service) (g.T.TenantStore.latched c.serve_stream.new.service)
+    (g.T.TenantStore.has_state c.args.service.now) (g.T.TenantStore.has_state c.loop-connection.service) (g.T.TenantStore.has_state c.serve_stream.new.service) (g.T.TenantStore.may_leave c.serve_stream.new.service)
+    so_far.works (so_far.served (c.serve_stream.ensures.honest is)) (c.serve_stream.ensures.stop is so_far.works)
+
+pub returns-clause-stop : goal.returns-clause-stop
+returns-clause-stop g c = λ is.
+    let so_far = c.loop-connection.invariant in
+    let store = c.loop-connection.service in
+    let works = so_far.works in
+    session_after (g.T.TenantStore.latched store) (g.T.TenantStore.latched store) (g.T.TenantStore.has_state c.args.service.now) (g.T.TenantStore.has_state store) (g.T.TenantStore.has_state store) (g.T.TenantStore.may_leave store)
+    works (so_far.served is)
+    (session_none (g.T.TenantStore.latched store) (g.T.TenantStore.has_state store) (g.T.TenantStore.may_leave store)
+    (record { one = λ _ t s u. g.met.T.TenantStore.one_state store t s u is works; settled = λ _ t found there. g.met.T.TenantStore.settled store t found is works there }))

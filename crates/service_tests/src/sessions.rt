@@ -1,0 +1,136 @@
+//! Sessions one after another, stopped at each call of the store in turn.
+
+ghost use Rattle.std.specs.Prelude.{◌≡◌, false, IfOk};
+
+use crate::rows::{CREATION_OF_A, IMPORT_BY_A, Row, assert_reply, calls_of};
+use crate::stopping::Stopping;
+use crush_app::{MemoryStore, Service, SessionEnd};
+use std::alloc::{AllocError, Global};
+use std::process::Abort;
+use std::test::Fail;
+use tenant_messages::Reply;
+
+/// The calls of the store in the first session: to load and to create; to load, to find the
+/// receipt, and to commit.
+const STORE_CALLS: u32 = 5;
+
+const FIRST: &[Row] = &[CREATION_OF_A, IMPORT_BY_A];
+
+const SUMMARY: Row = (
+    "GET",
+    "/t/a",
+    "",
+    200,
+    "{\"devices\":0,\"epoch\":1,\"pools\":0,\"tenant\":\"a\",\"versions\":1}",
+);
+
+/// Each in the place of the reply to a creation.
+const EXISTS: Row = ("PUT", "/t/a", "", 409, "{\"error\":\"exists\"}");
+
+const AGAIN: &[Row] = &[CREATION_OF_A, IMPORT_BY_A, SUMMARY];
+
+const AGAIN_THERE: &[Row] = &[EXISTS, IMPORT_BY_A, SUMMARY];
+
+const FAILED: Row = ("", "", "", 503, "{\"error\":\"store_failed\"}");
+
+/// One session over a disk that fails for good after so many calls: what came of it, and the disk
+/// as a stop then leaves it.
+fn session(
+    alloc: Global,
+    disk: MemoryStore,
+    left: u32,
+    is_late: bool,
+    rows: &[Row],
+) -> Result<(SessionEnd, MemoryStore), AllocError> {
+    let store = Stopping {
+        disk,
+        left,
+        is_late,
+        has_failed: false,
+    };
+    let mut service = Service::over(alloc, store)?;
+    let end = service.run_session(&calls_of(alloc, rows)?)?;
+    let Stopping { disk, .. } = service.into_store();
+    Ok((end, disk))
+}
+
+/// Asserts that a first session has the replies of its rows up to the doubt, and 503 from there on.
+fn assert_silent_from(rt: &impl Abort, end: &SessionEnd, doubt: usize, rows: &[Row]) {
+    assert_eq!(rt; end.replies.len(), rows.len());
+    for (place, reply) in end.replies.iter().enumerate() {
+        if place < doubt {
+            assert_reply(rt, reply, &rows[place]);
+        } else {
+            assert_reply(rt, reply, &FAILED);
+        }
+    }
+}
+
+/// The place of the call that is in doubt after a stop at this call of the store.
+fn doubt_at(stop: u32) -> usize {
+    if stop < 2 { 0 } else { 1 }
+}
+
+/// Asserts that a session without a stop has the replies of its rows.
+fn assert_whole(rt: &impl Abort, end: &SessionEnd, rows: &[Row]) {
+    assert!(rt; end.doubt.is_none());
+    assert_silent_from(rt, end, rows.len(), rows);
+}
+
+/// Asserts what is promised of a stop at this call of the store: the first session ends in a doubt
+/// there; what it acknowledged is kept; and what is sent again acts once.
+fn assert_kept(
+    rt: &impl Abort,
+    alloc: Global,
+    stop: u32,
+    is_late: bool,
+) -> Result<(), AllocError> {
+    let (end, disk) = session(alloc, MemoryStore::new(alloc), stop, is_late, FIRST)?;
+    let doubt = doubt_at(stop);
+    assert!(rt; end.doubt == Some(doubt), "{stop}");
+    assert_silent_from(rt, &end, doubt, FIRST);
+    let is_there = doubt == 1 || stop == 1 && is_late;
+    let rows = if is_there { AGAIN_THERE } else { AGAIN };
+    let (end, _) = session(alloc, disk, u32::MAX, false, rows)?;
+    assert_whole(rt, &end, rows);
+    Ok(())
+}
+
+#[test]
+fn what_was_acknowledged_is_kept_and_what_is_repeated_acts_once(
+    rt: HostRuntime,
+) -> Result<(), Fail> {
+    for stop in 0..STORE_CALLS {
+        assert_kept(&rt, rt.alloc(), stop, false)?;
+        assert_kept(&rt, rt.alloc(), stop, true)?;
+    }
+    Ok(())
+}
+
+#[test]
+fn a_session_without_a_stop_has_no_doubt(rt: HostRuntime) -> Result<(), Fail> {
+    let alloc = rt.alloc();
+    let (end, disk) = session(alloc, MemoryStore::new(alloc), STORE_CALLS, false, FIRST)?;
+    assert_whole(&rt, &end, FIRST);
+    let (end, _) = session(alloc, disk, u32::MAX, false, AGAIN_THERE)?;
+    assert_whole(&rt, &end, AGAIN_THERE);
+    Ok(())
+}
+
+/// A drop that meets a stop leaves the tenant whole, or absent; its number is then new.
+const DROP: Row = ("DELETE", "/t/a", "", 200, "{\"dropped\":\"a\"}");
+
+#[test]
+fn a_drop_that_is_cut_leaves_the_tenant_whole_or_absent(rt: HostRuntime) -> Result<(), Fail> {
+    let alloc = rt.alloc();
+    for is_late in [false, true] {
+        let (_, disk) = session(alloc, MemoryStore::new(alloc), u32::MAX, false, FIRST)?;
+        let (end, disk) = session(alloc, disk, 1, is_late, &[DROP])?;
+        assert!(rt; end.doubt == Some(0));
+        assert_silent_from(&rt, &end, 0, &[DROP]);
+        let rows = if is_late { AGAIN } else { AGAIN_THERE };
+        let (end, _) = session(alloc, disk, u32::MAX, false, rows)?;
+        assert_whole(&rt, &end, rows);
+    }
+    Ok(())
+}

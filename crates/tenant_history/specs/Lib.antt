@@ -1,0 +1,4 @@
+pub mod History
+pub mod Repeats
+pub mod Served
+pub mod Private
