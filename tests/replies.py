@@ -1,5 +1,4 @@
-"""Requests and the replies that the format's rules give them, and the run that is stored with the
-program."""
+"""Requests and the replies that the format's rules give them, and the run that is stored with the program."""
 import json
 import pathlib
 
