@@ -106,12 +106,7 @@ fn assert_whole(rt: &impl Abort, end: &SessionEnd, rows: &[Row]) {
 
 /// Asserts what is promised of a stop at this call of the store: the first session ends in a doubt
 /// there; what it acknowledged is kept; and what is sent again acts once.
-fn assert_kept(
-    rt: &impl Abort,
-    alloc: Global,
-    stop: u32,
-    is_late: bool,
-) -> Result<(), AllocError> {
+fn assert_kept(rt: &impl Abort, alloc: Global, stop: u32, is_late: bool) -> Result<(), AllocError> {
     let doubt = doubt_at(stop);
     let is_there = doubt == 1 || stop == 1 && is_late;
     let rows = if is_there { AGAIN_THERE } else { AGAIN };
