@@ -1,14 +1,20 @@
 //! Sessions one after another, stopped at each call of the store in turn.
 
-ghost use Rattle.std.specs.Prelude.{◌≡◌, false, IfOk};
+ghost use Rattle.std.specs.Prelude.{ℕ, List, [], ◌∷◌, Option, None, IfOk};
+ghost use Rattle.tenant_core.specs.States.{Shows};
+ghost use Rattle.tenant_history.specs.History.{IsHistoryFor};
+ghost use Rattle.tenant_history.specs.Served.{IsSound, LeavesSession, session};
+ghost use Rattle.tenant_state.specs.State.{TenantState};
 
 use crate::rows::{CREATION_OF_A, IMPORT_BY_A, Row, assert_reply, calls_of};
 use crate::stopping::Stopping;
+use crush_app::laws::memory_stores_are_honest;
 use crush_app::{MemoryStore, Service, SessionEnd};
 use std::alloc::{AllocError, Global};
 use std::process::Abort;
 use std::test::Fail;
-use tenant_messages::Reply;
+use tenant_core::TenantStore;
+use tenant_messages::Call;
 
 /// The calls of the store in the first session: to load and to create; to load, to find the
 /// receipt, and to commit.
@@ -35,13 +41,16 @@ const FAILED: Row = ("", "", "", 503, "{\"error\":\"store_failed\"}");
 
 /// One session over a disk that fails for good after so many calls: what came of it, and the disk
 /// as a stop then leaves it.
-fn session(
+fn one_session(
     alloc: Global,
     disk: MemoryStore,
     left: u32,
     is_late: bool,
-    rows: &[Row],
-) -> Result<(SessionEnd, MemoryStore), AllocError> {
+    calls: &[Call],
+) -> Result<(SessionEnd, MemoryStore), AllocError>
+    ensures sound { IfOk result (λ r. IsSound (⟦<MemoryStore as TenantStore>⟧.has_state disk) calls.now r.0.replies.items r.0.doubt) }
+    ensures crash { IfOk result (λ r. LeavesSession (⟦<MemoryStore as TenantStore>⟧.has_state disk) (Shows (⟦<MemoryStore as TenantStore>⟧.has_state r.1)) calls.now r.0.replies.items r.0.doubt) }
+{
     let store = Stopping {
         disk,
         left,
@@ -49,9 +58,27 @@ fn session(
         has_failed: false,
     };
     let mut service = Service::over(alloc, store)?;
-    let end = service.run_session(&calls_of(alloc, rows)?)?;
+    let end = service.run_session(calls)?;
     let Stopping { disk, .. } = service.into_store();
     Ok((end, disk))
+}
+
+/// A first session over a new disk, that is stopped at this call of the store, and one without a
+/// stop over what it left: they are a history.
+fn two_sessions(
+    alloc: Global,
+    stop: u32,
+    is_late: bool,
+    first: &[Call],
+    second: &[Call],
+) -> Result<(SessionEnd, SessionEnd), AllocError>
+    ensures { IfOk result (λ r. (found : List ℕ → Option TenantState)
+        × ((t : List ℕ) → IsHistoryFor t (session (λ _. None) first.now r.0.replies.items r.0.doubt) (session found second.now r.1.replies.items r.1.doubt ∷ []))) }
+{
+    memory_stores_are_honest();
+    let (stopped, disk) = one_session(alloc, MemoryStore::new(alloc), stop, is_late, first)?;
+    let (whole, _) = one_session(alloc, disk, u32::MAX, false, second)?;
+    Ok((stopped, whole))
 }
 
 /// Asserts that a first session has the replies of its rows up to the doubt, and 503 from there on.
@@ -79,20 +106,15 @@ fn assert_whole(rt: &impl Abort, end: &SessionEnd, rows: &[Row]) {
 
 /// Asserts what is promised of a stop at this call of the store: the first session ends in a doubt
 /// there; what it acknowledged is kept; and what is sent again acts once.
-fn assert_kept(
-    rt: &impl Abort,
-    alloc: Global,
-    stop: u32,
-    is_late: bool,
-) -> Result<(), AllocError> {
-    let (end, disk) = session(alloc, MemoryStore::new(alloc), stop, is_late, FIRST)?;
+fn assert_kept(rt: &impl Abort, alloc: Global, stop: u32, is_late: bool) -> Result<(), AllocError> {
     let doubt = doubt_at(stop);
-    assert!(rt; end.doubt == Some(doubt), "{stop}");
-    assert_silent_from(rt, &end, doubt, FIRST);
     let is_there = doubt == 1 || stop == 1 && is_late;
     let rows = if is_there { AGAIN_THERE } else { AGAIN };
-    let (end, _) = session(alloc, disk, u32::MAX, false, rows)?;
-    assert_whole(rt, &end, rows);
+    let (first, again) = (calls_of(alloc, FIRST)?, calls_of(alloc, rows)?);
+    let (stopped, whole) = two_sessions(alloc, stop, is_late, &first, &again)?;
+    assert!(rt; stopped.doubt == Some(doubt), "{stop}");
+    assert_silent_from(rt, &stopped, doubt, FIRST);
+    assert_whole(rt, &whole, rows);
     Ok(())
 }
 
@@ -110,27 +132,38 @@ fn what_was_acknowledged_is_kept_and_what_is_repeated_acts_once(
 #[test]
 fn a_session_without_a_stop_has_no_doubt(rt: HostRuntime) -> Result<(), Fail> {
     let alloc = rt.alloc();
-    let (end, disk) = session(alloc, MemoryStore::new(alloc), STORE_CALLS, false, FIRST)?;
+    let (first, again) = (calls_of(alloc, FIRST)?, calls_of(alloc, AGAIN_THERE)?);
+    let (end, later) = two_sessions(alloc, STORE_CALLS, false, &first, &again)?;
     assert_whole(&rt, &end, FIRST);
-    let (end, _) = session(alloc, disk, u32::MAX, false, AGAIN_THERE)?;
-    assert_whole(&rt, &end, AGAIN_THERE);
+    assert_whole(&rt, &later, AGAIN_THERE);
     Ok(())
 }
 
 /// A drop that meets a stop leaves the tenant whole, or absent; its number is then new.
 const DROP: Row = ("DELETE", "/t/a", "", 200, "{\"dropped\":\"a\"}");
 
+/// Asserts that after a drop that met a stop, before or after it was made, the requests of the
+/// first session have these replies.
+fn assert_drop(
+    rt: &impl Abort,
+    alloc: Global,
+    is_late: bool,
+    rows: &[Row],
+) -> Result<(), AllocError> {
+    let (first, dropped) = (calls_of(alloc, FIRST)?, calls_of(alloc, &[DROP])?);
+    let (_, disk) = one_session(alloc, MemoryStore::new(alloc), u32::MAX, false, &first)?;
+    let (end, disk) = one_session(alloc, disk, 1, is_late, &dropped)?;
+    assert!(rt; end.doubt == Some(0));
+    assert_silent_from(rt, &end, 0, &[DROP]);
+    let (end, _) = one_session(alloc, disk, u32::MAX, false, &calls_of(alloc, rows)?)?;
+    assert_whole(rt, &end, rows);
+    Ok(())
+}
+
 #[test]
 fn a_drop_that_is_cut_leaves_the_tenant_whole_or_absent(rt: HostRuntime) -> Result<(), Fail> {
     let alloc = rt.alloc();
-    for is_late in [false, true] {
-        let (_, disk) = session(alloc, MemoryStore::new(alloc), u32::MAX, false, FIRST)?;
-        let (end, disk) = session(alloc, disk, 1, is_late, &[DROP])?;
-        assert!(rt; end.doubt == Some(0));
-        assert_silent_from(&rt, &end, 0, &[DROP]);
-        let rows = if is_late { AGAIN } else { AGAIN_THERE };
-        let (end, _) = session(alloc, disk, u32::MAX, false, rows)?;
-        assert_whole(&rt, &end, rows);
-    }
+    assert_drop(&rt, alloc, false, AGAIN_THERE)?;
+    assert_drop(&rt, alloc, true, AGAIN)?;
     Ok(())
 }

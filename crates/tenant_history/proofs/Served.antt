@@ -9,7 +9,7 @@ use Rattle.tenant_core.specs.States.{Damaged, Found, HasState, LeavesStep, Meets
 use Rattle.tenant_core.specs.Step.{is_of, step}
 use Rattle.tenant_core.specs.StoreReply.{IsUnavailable}
 use Rattle.tenant_history.proofs.Explaining.{alone-replies, alone-state}
-use Rattle.tenant_history.specs.History.{IsSilentFrom, MayLeave, at_doubt, in_doubt}
+use Rattle.tenant_history.specs.History.{IsHistoryFor, IsSilentFrom, IsSoundFor, MayLeave, at_doubt, in_doubt}
 use Rattle.tenant_history.specs.Private.{LeavesSoFar, doubt_after}
 use Rattle.tenant_history.specs.Served.{IsSession, IsSound, LeavesSession, session}
 use Rattle.tenant_messages.specs.declared.call.Call.{Call}
@@ -316,3 +316,15 @@ linked old left cs rs doubt found next leaves t has there =
     let is = one.1 in
     let same : next t ≡ one.0 = cc in
     subst (λ (s : Option TenantState). MayLeave t (session found cs rs doubt) s) (sym same) one.2
+
+-- two sessions, of which the second found what a crash of the first may leave, are a history
+pub history_of_two : (old mid : States) (left : Outcomes) (cs : List Call) (rs : List Reply) (doubt : Option ℕ) (ds : List Call) (qs : List Reply) (later : Option ℕ)
+    (found next : List ℕ → Option TenantState) (t : List ℕ) → IsSound old cs rs doubt → LeavesSession old left cs rs doubt → IsSound mid ds qs later
+    → old t (found t) → mid t (next t) → left t (HasState (next t)) → IsHistoryFor t (session found cs rs doubt) (session next ds qs later ∷ [])
+history_of_two old mid left cs rs doubt ds qs later found next t first leaves second has also there =
+    record { sound = all; linked = (linked old left cs rs doubt found next leaves t has there, tt) }
+  where
+    all : All (IsSoundFor t) (session found cs rs doubt ∷ session next ds qs later ∷ [])
+    all zero d lt = first found t has
+    all (suc zero) d lt = second next t also
+    all (suc (suc k)) d lt = absurd (omega arith)
