@@ -1,9 +1,11 @@
 """Edits that must fail, and the record of what refused them.
 
-crates/NAME/must-fail/WHAT_IT_DOES.edit is a wrong body: the prover must refuse the crate with that edit. Trying one takes 30 to 60
-seconds, so a crate's edits are tried when the crate changed. REFUSED.md beside them records the last time: a digest of all that the
-outcome rests on in the crate, with the toolchain's version, and for each edit the goal that refused it. A record counts only
-while its digest fits; it is written by tests/wrong (make wrong), never by hand, from a run of its own or from the gate's last run.
+crates/NAME/must-fail/WHAT_IT_DOES.edit is a wrong body: the prover must refuse the crate with that
+edit. Trying one takes 30 to 60 seconds, so a crate's edits are tried when the crate changed.
+REFUSED.md beside them records the last time: a digest of all that the outcome rests on in the
+crate, with the toolchain's version, and for each edit the goal that refused it. A record counts
+only while its digest fits; it is written by tests/wrong (make wrong), never by hand, from a run of
+its own or from the gate's last run.
 """
 import hashlib
 import os
@@ -39,7 +41,8 @@ def edits(crate):
 
 
 def digest(crate):
-    """Of the crate's line in crates.txt, its sources, definitions, proofs and edits, and the toolchain's version."""
+    """Of the crate's line in crates.txt, its sources, definitions, proofs and edits, and the
+    toolchain's version."""
     line = [line for line in (TOP / "crates.txt").read_text().splitlines() if re.match(rf"{crate}\b", line)]
     sha = hashlib.sha256(f"{version()}\n{line}\n".encode())
     files = [p for part in ("src", "specs", "proofs") for p in (CRATES / crate / part).rglob("*") if p.is_file()]
@@ -65,7 +68,8 @@ def is_recorded(crate):
 
 
 def function_at(crate, file, line):
-    """The function whose signature, attributes before it included, or whose body is at this line."""
+    """The function whose signature, attributes before it included, or whose body is at this
+    line."""
     lines = (CRATES / crate / file).read_text().splitlines()
     at = int(line) - 1
     while at + 1 < len(lines) and lines[at].lstrip().startswith("#["):
