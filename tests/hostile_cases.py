@@ -1,6 +1,6 @@
 """Texts of maps, heads and bodies at both sides of what is refused, each with what the rules of requests give: for texts, run and serve."""
 import map_cases
-from replies import BAD, TOO_LARGE, body, item, there
+from replies import BAD, TOO_LARGE, body, dropped, item, made, there
 
 LENGTH = b'501 {"error":"length"}'
 BODY_LIMIT, TEXT_LIMIT, HEAD_LIMIT, HEADER_LIMIT = 1_048_576, 524_288, 8_192, 32
@@ -88,12 +88,15 @@ def texts():
         yield f"past: {name}", past.encode(), f"refused {fault}"
 
 
+def reply_to(words):
+    """The reply to a text's import into a tenant without versions, by the words that 'crushcalc check' says of it."""
+    return map_cases.imported(1, 1) if words[0] == "ok" else map_cases.refused(words[-1], int(words[2]))
+
+
 def imports():
     """Lines that import each text into a new tenant, with their replies."""
     for name, text, answer in texts():
-        words = answer.split()
-        reply = map_cases.imported(1, 1) if words[0] == "ok" else map_cases.refused(words[-1], int(words[2]))
-        yield from [(b"PUT /t/a", b'201 {"epoch":0,"tenant":"a"}'), (map_cases.import_of(text.decode()), reply), (b"DELETE /t/a", b'200 {"dropped":"a"}')]
+        yield from [(b"PUT /t/a", made(b"a")), (map_cases.import_of(text.decode()), reply_to(answer.split())), (b"DELETE /t/a", dropped(b"a"))]
 
 
 # ---- heads on the tenant a, each with its reply and whether the connection ends behind it
