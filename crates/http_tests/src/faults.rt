@@ -42,7 +42,7 @@ fn connect(
 #[test]
 fn a_read_fault_leaves_the_replies_to_whole_messages(rt: HostRuntime) -> Result<(), Fail> {
     let mut buffers = Buffers::new(rt.alloc())?;
-    for size in [1, 7, 50, 20_000] {
+    for size in [1usize, 7, 50, 20_000] {
         let mut before = 0;
         let mut is_whole = false;
         for reads in 0..MANY {
