@@ -29,6 +29,7 @@ help:
 	@echo 'make sqlite-check   compares database files with those of the tool sqlite3, both ways'
 	@echo 'make refused-check   refuses each allocation in turn, in memory, over a file and in a server: some 80,000 runs'
 	@echo 'make fuzz      1,000,000 damaged inputs of the seed SEED=S (the time): lines, texts, bodies and streams; INPUTS=N for another number'
+	@echo 'make sanitized   the same of 20,000 inputs, each script again with AddressSanitizer'
 	@echo 'make only-tested   tries the wrong bodies that contracts let through, and records which test refused each'
 	@echo 'make http-check   compares replies of the server with those of scripts, by curl, nginx and other clients'
 	@echo 'make bench     builds and measures; beside Ceph'"'"'s own library where that is installed'
@@ -129,6 +130,12 @@ refused-check: build
 fuzz: build
 	@python3 tests/fuzz ./crushcalc --inputs $(INPUTS) --seed $(SEED)
 
+# rt try compiles with AddressSanitizer and with checks of indexes and numbers; its time is bounded, so a case is a batch of the fuzz run
+sanitized: build
+	@rm -rf build/sanitized && mkdir -p build/sanitized
+	@python3 tests/fuzz ./crushcalc --inputs 20000 --seed $(SEED) --cases build/sanitized
+	@cd crates/crushcalc && $(RT) try --cases ../../build/sanitized -- script
+
 only-tested: tools
 	@RT='$(RT)' python3 tests/only_tested/check --try
 
@@ -153,4 +160,4 @@ clean:
 	@echo 'Removing ./crushcalc, build/ and crates/*/out; the next build proves everything anew.'
 	@rm -rf crushcalc build crates/*/out
 
-.PHONY: build help tools try cases run test gate wrong form install serve ceph-check sqlite-check refused-check fuzz only-tested http-check bench bench-deps clean
+.PHONY: build help tools try cases run test gate wrong form install serve ceph-check sqlite-check refused-check fuzz sanitized only-tested http-check bench bench-deps clean

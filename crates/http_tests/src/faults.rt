@@ -121,7 +121,7 @@ fn created(rt: &impl Abort, service: &mut Service<MemoryStore>) -> usize {
     count
 }
 
-/// How many tenants are there after a connection that makes three, each message in reads of its own,
+/// How many tenants are there after a connection that makes three, each byte in a read of its own,
 /// and whose writer fails after so many writes; and how many bytes were written.
 fn create(
     rt: &impl Abort,
