@@ -1,4 +1,5 @@
-"""Inputs made from good ones by damage to their bytes and words, all drawn from a seed: lines of scripts, texts of maps, CSV, bodies, streams."""
+"""Inputs made from good ones by damage to their bytes and words, all drawn from a seed: lines of
+scripts, texts of maps, CSV, bodies, streams."""
 import json
 import pathlib
 import re
@@ -36,7 +37,8 @@ def picks():
 
 
 def sessions():
-    """The scripts of the cases and of the examples, as lists of lines of the tenant a; long lines and long scripts are left out."""
+    """The scripts of the cases and of the examples, as lists of lines of the tenant a; long lines
+    and long scripts are left out."""
     found = [path.read_bytes().splitlines() for path in sorted((HERE.parent / "examples").glob("*.script"))]
     found += [[line for line, _ in pairs] for module in (map_cases, pool_cases, report_cases) for _, pairs in module.cases()]
     found += [[b"PUT /t/a", *(b"POST /t/a/pick " + sent for _, sent, _ in hostile_cases.BODIES)]]
@@ -48,7 +50,8 @@ def is_number(word):
 
 
 def with_bytes_damaged(drawn, data):
-    """One change of bytes: one more, one less, another, a part twice, a part less, two exchanged."""
+    """One change of bytes: one more, one less, another, a part twice, a part less, two
+    exchanged."""
     data, how = bytearray(data), drawn.randrange(6)
     at = drawn.randrange(len(data) + 1)
     if how == 0:
@@ -69,7 +72,8 @@ def with_bytes_damaged(drawn, data):
 
 
 def with_words_damaged(drawn, data):
-    """One change of words: another number for a number, a word like it for a word, any word, a word less, one twice, two exchanged, nothing behind it."""
+    """One change of words: another number for a number, a word like it for a word, any word, a word
+    less, one twice, two exchanged, nothing behind it."""
     words = re.findall(rb"[A-Za-z0-9._-]+|[^A-Za-z0-9._-]", data, re.S)
     if not words:
         return data
@@ -104,7 +108,8 @@ def damaged(drawn, data):
 
 
 def member_damaged(drawn, sent):
-    """A body whose text or CSV is damaged and then sent as JSON that is whole; another body is damaged as it is."""
+    """A body whose text or CSV is damaged and then sent as JSON that is whole; another body is
+    damaged as it is."""
     try:
         asked = json.loads(sent)
         name = next(it for it in ("text", "csv") if it in asked)
@@ -115,7 +120,8 @@ def member_damaged(drawn, sent):
 
 
 def line_damaged(drawn, line):
-    """A line whose body, its text, its path or the whole of it is damaged. It has no line end in it."""
+    """A line whose body, its text, its path or the whole of it is damaged. It has no line end in
+    it."""
     method, path, *sent = line.split(b" ", 2)
     how = drawn.random()
     if sent and how < 0.75:
@@ -132,7 +138,8 @@ def of_tenant(line, tenant):
 
 
 def lines_of(drawn, whole, count):
-    """So many lines: each tenant plays one session after another, and the tenants take turns. A part of the lines is damaged."""
+    """So many lines: each tenant plays one session after another, and the tenants take turns. A
+    part of the lines is damaged."""
     found, playing = [], {tenant: iter(()) for tenant in TENANTS}
     while len(found) < count:
         tenant = drawn.choice(TENANTS)

@@ -1,4 +1,5 @@
-"""Texts of maps, heads and bodies at both sides of what is refused, each with what the rules of requests give: for texts, run and serve."""
+"""Texts of maps, heads and bodies at both sides of what is refused, each with what the rules of
+requests give: for texts, run and serve."""
 import map_cases
 from replies import BAD, TOO_LARGE, body, dropped, item, made, there
 
@@ -32,12 +33,14 @@ def rule(steps, number=0):
 
 
 def items_of(count):
-    """A bucket on the line 1030 of 1,024 devices that weigh nothing, as many as are wanted, and an empty bucket."""
+    """A bucket on the line 1030 of 1,024 devices that weigh nothing, as many as are wanted, and an
+    empty bucket."""
     places = [f"item osd.{it} weight 0" for it in range(min(count, 1024))] + ["item e"] * (count > 1024)
     return TYPES + devices(1024) + "host e { id -1 alg list }\n\n" + f"host h {{ id -2 alg list {' '.join(places)} }}\n"
 
 
-# what it is, a text that has as much as there may be and what is said of it, and one that has more and why it is refused
+# what it is, a text that has as much as there may be and what is said of it, and one that has more
+# and why it is refused
 TEXT_LIMITS = [
     ("a text's bytes", padded("", TEXT_LIMIT), "refused line 1 code M4", padded("", TEXT_LIMIT + 1), "line 1 code X7"),
     ("a map's bytes", padded(tiny(), TEXT_LIMIT), OK, padded(tiny(), TEXT_LIMIT + 1), "line 1 code X7"),
@@ -89,7 +92,8 @@ def texts():
 
 
 def reply_to(words):
-    """The reply to a text's import into a tenant without versions, by the words that 'crushcalc check' says of it."""
+    """The reply to a text's import into a tenant without versions, by the words that 'crushcalc
+    check' says of it."""
     return map_cases.imported(1, 1) if words[0] == "ok" else map_cases.refused(words[-1], int(words[2]))
 
 

@@ -1,4 +1,5 @@
-"""What a pick's body is answered, by the rules of JSON and of picks: a reader of its own, over Python's."""
+"""What a pick's body is answered, by the rules of JSON and of picks: a reader of its own, over
+Python's."""
 import json
 import math
 
@@ -32,7 +33,8 @@ def is_deep(text):
 
 
 def decimal(text):
-    """A number with a point or an exponent, which is no whole number here; one past all floats is none at all."""
+    """A number with a point or an exponent, which is no whole number here; one past all floats is
+    none at all."""
     if math.isinf(float(text)):
         raise Refused(text)
     return float(text)
@@ -62,7 +64,8 @@ def no_half_within(value):
 
 
 class Members(dict):
-    """An object whose texts are looked at as it is read, also those that a later member of the name replaces."""
+    """An object whose texts are looked at as it is read, also those that a later member of the name
+    replaces."""
 
     def __init__(self, pairs):
         for name, value in pairs:

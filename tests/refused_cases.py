@@ -1,5 +1,5 @@
-"""Scripts whose replies definition.py has, for runs with failing allocations: each ends with the stored run, which then has its own replies
-whatever came before. And what such runs may answer."""
+"""Scripts whose replies definition.py has, for runs with failing allocations: each ends with the
+stored run, which then has its own replies whatever came before. And what such runs may answer."""
 import random
 
 import map_cases
@@ -32,7 +32,8 @@ def two_tenants():
 
 
 def maps():
-    """An import, its repeat, a test, a second import, a refused one, and tests on both versions; and the same again for a tenant of the same name."""
+    """An import, its repeat, a test, a second import, a refused one, and tests on both versions;
+    and the same again for a tenant of the same name."""
     first, second = map_cases.import_of(map_cases.tiny(3), "m1"), map_cases.import_of(map_cases.tiny(5), "m2")
     calls = [
         b"PUT /t/a", first, first, map_cases.test_of(x=7), second, map_cases.import_of(map_cases.tiny(4), "m1"), map_cases.import_of("", "m3"),
@@ -43,7 +44,8 @@ def maps():
 
 
 def pools():
-    """Each request on devices, pools and groups, accepted, refused and repeated; and again for a tenant of the same name."""
+    """Each request on devices, pools and groups, accepted, refused and repeated; and again for a
+    tenant of the same name."""
     first, down = pool_cases.pool_of("p1"), pool_cases.devices_of("d1", pool_cases.state(3, up=False))
     calls = [
         b"PUT /t/a", first, map_cases.import_of(map_cases.tiny(3)), first, first, pool_cases.object_of("a"), pool_cases.group_of(7), down, pool_cases.group_of(0),
@@ -57,7 +59,8 @@ def pools():
 
 
 def reports():
-    """Each report, and states of devices as CSV, accepted, refused and repeated; and again for a tenant of the same name."""
+    """Each report, and states of devices as CSV, accepted, refused and repeated; and again for a
+    tenant of the same name."""
     usage, moves, impact, lines = report_cases.usage_of(), report_cases.moves_of, report_cases.impact_of, report_cases.lines_of
     down, other = report_cases.csv_of("c1", lines("3,65536,0")), pool_cases.with_rule(1, map_cases.tiny(5))
     calls = [
@@ -71,7 +74,8 @@ def reports():
 
 
 def same_placements():
-    """Two tenants with the same map and pool, whose groups lie alike; one of them is dropped, and comes again with another map."""
+    """Two tenants with the same map and pool, whose groups lie alike; one of them is dropped, and
+    comes again with another map."""
     def of_a(device):
         return [b"PUT /t/a", map_cases.import_of(map_cases.tiny(device)), pool_cases.pool_of("p1"), pool_cases.group_of(0), pool_cases.object_of("a")]
 
@@ -109,7 +113,8 @@ SCRIPTS = {
 
 
 def file_of_two(program, db):
-    """Makes a file with tenants a, which has a map, and b, and returns them as the definition has them."""
+    """Makes a file with tenants a, which has a map, and b, and returns them as the definition has
+    them."""
     first = [b"PUT /t/a", map_cases.import_of(map_cases.tiny(3), "first"), b"PUT /t/b"]
     replies, live = played(first)
     ran = run_over(program, db, b"".join(it + b"\n" for it in first))
@@ -119,7 +124,8 @@ def file_of_two(program, db):
 
 
 def replies_unlike(replies, lines, live):
-    """Why the replies to lines aren't the definition's for those not answered 503, or None; and the tenants that these leave."""
+    """Why the replies to lines aren't the definition's for those not answered 503, or None; and the
+    tenants that these leave."""
     served = [place for place, reply in enumerate(replies) if reply != NO_MEMORY]
     want, live = played([lines[it] for it in served], live)
     wrong = next((place for place, reply in zip(served, want) if replies[place] != reply), None)
@@ -127,8 +133,9 @@ def replies_unlike(replies, lines, live):
 
 
 def judged(name, total, found):
-    """Says how many allocations of so many were refused, and returns why one of the runs isn't as it may be, or None. found: of each run why it
-    isn't, or None, and whether it missed the memory; the last met no refusal."""
+    """Says how many allocations of so many were refused, and returns why one of the runs isn't as
+    it may be, or None. found: of each run why it isn't, or None, and whether it missed the memory;
+    the last met no refusal."""
     met = sum(it for _, it in found)
     print(f"{name}: {len(found) - 1} of {total} allocations were refused, {met} runs missed the memory.", flush=True)
     return next((why for why, _ in found if why), None) or (None if met else f"no run of {len(found)} missed the memory")

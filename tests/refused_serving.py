@@ -1,4 +1,5 @@
-"""The program as a server with one allocation after another refused, while a client sends a whole stream of requests over one connection."""
+"""The program as a server with one allocation after another refused, while a client sends a whole
+stream of requests over one connection."""
 import pathlib
 import socket
 import tempfile
@@ -27,7 +28,8 @@ def replies_to(server, lines):
 
 
 def run_of(program, db, lines, allocation):
-    """A server that takes one connection, with an allocation refused: its replies in the place of its standard output."""
+    """A server that takes one connection, with an allocation refused: its replies in the place of
+    its standard output."""
     while True:
         try:
             with Server(program, db, "--connections", "1", **refusing(allocation, 2)) as server:
@@ -52,7 +54,8 @@ def run_on_copy(program, db, lines, allocation):
 
 
 def fault_of(run, lines, live):
-    """Why the replies of a server aren't those that it may give, or None; and the tenants that the file then has to hold."""
+    """Why the replies of a server aren't those that it may give, or None; and the tenants that the
+    file then has to hold."""
     early = (run.status, run.err) == EARLY and run.mark is not None
     if early and not run.out:
         return None, live
@@ -68,7 +71,8 @@ def fault_of(run, lines, live):
 
 
 def served(program, count, name, lines):
-    """Why a server over a file that has tenants, with one allocation after another refused, answers otherwise than it may, or None."""
+    """Why a server over a file that has tenants, with one allocation after another refused, answers
+    otherwise than it may, or None."""
     with tempfile.TemporaryDirectory() as source:
         db = pathlib.Path(source, "t.db")
         live = file_of_two(program, db)

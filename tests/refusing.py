@@ -1,4 +1,5 @@
-"""Runs of a program with one of its allocations refused, by the library that refuse.c is compiled to."""
+"""Runs of a program with one of its allocations refused, by the library that refuse.c is compiled
+to."""
 import collections
 import concurrent.futures
 import functools
@@ -13,8 +14,8 @@ MOST, JOBS = 10_000_000, os.cpu_count() or 1
 # how a run ends where an allocation was refused before the first line: status and standard error
 EARLY = (1, b"crushcalc: no memory\n")
 
-# allocation: the number of the allocation that was to be refused. mark: how many replies were written before it was, or None if none
-# was refused; of a server it is 0 where one was
+# allocation: the number of the allocation that was to be refused. mark: how many replies were
+# written before it was, or None if none was refused; of a server it is 0 where one was
 Run = collections.namedtuple("Run", "allocation status out err mark")
 
 
@@ -24,7 +25,8 @@ class Unfit(Exception):
 
 @functools.lru_cache(maxsize=None)
 def refuser():
-    """The folder to run in, and the path from there of refuse.c compiled (LD_PRELOAD splits at blanks and colons)."""
+    """The folder to run in, and the path from there of refuse.c compiled (LD_PRELOAD splits at
+    blanks and colons)."""
     compiler = next(filter(None, map(shutil.which, ("cc", "gcc", "clang"))), None)
     if compiler is None:
         raise Unfit("there is no C compiler for tests/refuse.c: install the package gcc, as by 'apt-get install gcc libc6-dev'")
@@ -39,8 +41,8 @@ def refuser():
 
 
 def refusing(allocation, mark):
-    """The folder and the environment of a run with this allocation refused, if it comes to it: a zero byte then goes to the file
-    descriptor `mark`."""
+    """The folder and the environment of a run with this allocation refused, if it comes to it: a
+    zero byte then goes to the file descriptor `mark`."""
     top, library = refuser()
     return {"cwd": top, "env": {**os.environ, "LD_PRELOAD": library, "REFUSE_AT": str(allocation), "REFUSE_FD": str(mark)}}
 
@@ -66,7 +68,8 @@ def allocations_of(run):
 
 
 def chosen_of(total, count):
-    """Of so many allocations as many as are to be refused, spread over all of them (0: each), and the first that isn't made."""
+    """Of so many allocations as many as are to be refused, spread over all of them (0: each), and
+    the first that isn't made."""
     if count == 0 or total < count:
         return range(1, total + 2)
     return [*sorted({1 + place * (total - 1) // (count - 1) for place in range(count)}), total + 1]
