@@ -12,6 +12,7 @@ from replies import body
 
 HERE = pathlib.Path(__file__).resolve().parent
 LONGEST = 8_000
+CLUSTER = (HERE.parent / "examples" / "cluster.txt").read_text()
 TENANTS = (b"a", b"b", b"c", b"d")
 NUMBERS = (b"0", b"1", b"-1", b"-0", b"2", b"7", b"8", b"32", b"33", b"64", b"65", b"255", b"256", b"1.5", b"1e1", b"65535", b"65536", b"65537", b"4294967295", b"4294967296",
            b"2147483647", b"2147483648", b"9223372036854775808", b"18446744073709551616", b"00", b"", b"0.00001")
@@ -34,6 +35,13 @@ def picks():
     answered = [sent for _, sent, reply in hostile_cases.BODIES if reply == hostile_cases.SEVEN and len(sent) <= LONGEST]
     rows = [[(4, 65536), (9, 65536), (-5, 65536)], [(0, 1), (1, 0), (2, 4_294_967_294)], [(it, it * 1000) for it in range(20)], [(it, 65536) for it in range(0, 90, 7)]]
     return answered + [body(row, kind, -77, x, r) for row in rows for kind in ("uniform", "list", "tree") for x, r in ((0, 0), (4_294_967_295, 2_147_483_647))]
+
+
+def tables():
+    """Changes of devices as a spreadsheet writes them."""
+    made, rows = report_cases.lines_of, ("0,65536,1", "11,0,0", "5,32768,1", "00007,0000040000,0")
+    return [made(*rows), made(*rows, end="\r\n"), made(*rows, end="\r"), made("1,2,1"), made("1,2,1", "2,2,0")[:-1], "\ufeff" + made("3,1,1", "", "4,1,1"),
+            'id,reweight,up\n"6","1","0"\n8,"65536",1\n', '"id","reweight","up"\r\n9,1,1\r\n']
 
 
 def sessions():
