@@ -39,55 +39,82 @@ fn connect(
     Ok(connect_to(alloc, buffers, &mut service, STREAM, cuts, reads, writes))
 }
 
+/// Whether a connection whose reader fails after so many reads is closed; else it met the fault.
+fn is_closed_after(
+    rt: &impl Abort,
+    alloc: Global,
+    buffers: &mut Buffers,
+    size: usize,
+    reads: usize,
+) -> Result<bool, AllocError> {
+    let (ended, written) = connect(alloc, buffers, size, reads, MANY)?;
+    let replies = replies_within(size.saturating_mul(reads));
+    assert_eq!(rt; written.as_slice(), replies, "{reads} reads of {size}");
+    let is_closed = ended == Ended::Closed;
+    assert!(rt;
+        is_closed || ended == Ended::ReadFault,
+        "{reads} reads of {size}"
+    );
+    Ok(is_closed)
+}
+
 #[test]
 fn a_read_fault_leaves_the_replies_to_whole_messages(rt: HostRuntime) -> Result<(), Fail> {
     let mut buffers = Buffers::new(rt.alloc())?;
     for size in [1usize, 7, 50, 20_000] {
-        let mut before = 0;
-        let mut is_whole = false;
         for reads in 0..MANY {
-            let come = size.saturating_mul(reads);
-            let (ended, written) = connect(rt.alloc(), &mut buffers, size, reads, MANY)?;
+            let is_closed = is_closed_after(&rt, rt.alloc(), &mut buffers, size, reads)?;
+            // the read behind that of the last bytes says that nothing more comes
+            let before = size.saturating_mul(reads.saturating_sub(1));
             assert_eq!(rt;
-                written.as_slice(),
-                replies_within(come),
+                is_closed,
+                STREAM.len() <= before,
                 "{reads} reads of {size}"
             );
-            if ended == Ended::Closed {
-                // the read that says so is the one behind all bytes
-                assert!(rt; STREAM.len() <= before, "{reads} reads of {size}");
-                is_whole = true;
+            if is_closed {
                 break;
             }
-            assert_eq!(rt; ended, Ended::ReadFault, "{reads} reads of {size}");
-            assert!(rt; before < STREAM.len(), "{reads} reads of {size}");
-            before = come;
         }
-        assert!(rt; is_whole, "reads of {size}");
     }
     Ok(())
+}
+
+/// How many bytes of the replies are written where the writer fails after so many writes, and
+/// whether the connection is closed; else it met the fault.
+fn written_after(
+    rt: &impl Abort,
+    alloc: Global,
+    buffers: &mut Buffers,
+    size: usize,
+    writes: usize,
+) -> Result<(usize, bool), AllocError> {
+    let (ended, written) = connect(alloc, buffers, size, MANY, writes)?;
+    assert!(rt;
+        REPLIES.starts_with(written.as_slice()),
+        "after {writes} writes"
+    );
+    let is_closed = ended == Ended::Closed;
+    assert!(rt;
+        is_closed || ended == Ended::WriteFault,
+        "after {writes} writes"
+    );
+    Ok((written.len(), is_closed))
 }
 
 #[test]
 fn a_write_fault_leaves_a_front_of_the_replies(rt: HostRuntime) -> Result<(), Fail> {
     let mut buffers = Buffers::new(rt.alloc())?;
-    for size in [1, 50, 20_000] {
+    for size in [1usize, 50, 20_000] {
         let mut front = 0;
         // a write takes three bytes at most, and one at least
         for writes in 0..=REPLIES.len() {
-            let (ended, written) = connect(rt.alloc(), &mut buffers, size, MANY, writes)?;
-            let length = written.len();
-            assert!(rt;
-                REPLIES.starts_with(written.as_slice()),
-                "after {writes} writes"
-            );
+            let (length, is_closed) = written_after(&rt, rt.alloc(), &mut buffers, size, writes)?;
             assert!(rt; writes == 0 || front < length, "after {writes} writes");
+            assert_eq!(rt; is_closed, length == REPLIES.len(), "after {writes} writes");
             front = length;
-            if ended == Ended::Closed {
+            if is_closed {
                 break;
             }
-            assert_eq!(rt; ended, Ended::WriteFault, "after {writes} writes");
-            assert!(rt; length < REPLIES.len(), "after {writes} writes");
         }
         assert_eq!(rt;
             front,

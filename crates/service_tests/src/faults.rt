@@ -7,24 +7,38 @@ use std::process::Abort;
 use std::test::Fail;
 use tenant_messages::CallParts;
 
+/// How many bytes of the replies are written where the writer fails after so many writes, and
+/// whether the script is done; else it met the fault.
+fn written_after(
+    rt: &impl Abort,
+    alloc: Global,
+    writes: usize,
+) -> Result<(usize, bool), AllocError> {
+    let (end, written) = play(alloc, 10_000, writes)?;
+    assert!(rt;
+        REPLIES.as_bytes().starts_with(written.as_slice()),
+        "after {writes} writes"
+    );
+    let is_done = end == ScriptEnd::Done;
+    assert!(rt;
+        is_done || end == ScriptEnd::WriteFault,
+        "after {writes} writes"
+    );
+    Ok((written.len(), is_done))
+}
+
 #[test]
 fn a_write_fault_leaves_a_front_of_the_replies(rt: HostRuntime) -> Result<(), Fail> {
     let mut front = 0;
     // a write takes three bytes at most, and one at least
     for writes in 0..=REPLIES.len() {
-        let (end, written) = play(rt.alloc(), 10_000, writes)?;
-        let length = written.len();
-        assert!(rt;
-            REPLIES.as_bytes().starts_with(written.as_slice()),
-            "after {writes} writes"
-        );
+        let (length, is_done) = written_after(&rt, rt.alloc(), writes)?;
         assert!(rt; writes == 0 || front < length, "after {writes} writes");
+        assert_eq!(rt; is_done, length == REPLIES.len(), "after {writes} writes");
         front = length;
-        if end == ScriptEnd::Done {
+        if is_done {
             break;
         }
-        assert_eq!(rt; end, ScriptEnd::WriteFault, "after {writes} writes");
-        assert!(rt; length < REPLIES.len(), "after {writes} writes");
     }
     assert_eq!(rt; front, REPLIES.len());
     Ok(())
