@@ -7,6 +7,8 @@ CRATES =
 SCRIPT = examples/first.script
 CASES =
 PORT = 8080
+INPUTS = 1000000
+SEED = $(shell date +%s)
 SOURCES = $(shell find crates -name out -prune -o \( -name '*.rt' -o -name '*.antt' \) -print)
 
 build: crushcalc
@@ -26,6 +28,10 @@ help:
 	@echo 'make ceph-check   compares 176,000 mappings by requests, 154,000 with reweights and 93 name hashes with those of Ceph'"'"'s own library,'
 	@echo '               74,592 placements of groups with those of its osdmaptool, impacts with what its crushtool moves, and map texts with its crushtool'
 	@echo 'make sqlite-check   compares database files with those of the tool sqlite3, both ways'
+	@echo 'make refused-check   refuses each allocation in turn, in memory, over a file and in a server: some 80,000 runs'
+	@echo 'make fuzz      1,000,000 damaged inputs of the seed SEED=S (the time): lines, texts, bodies and streams; INPUTS=N for another number'
+	@echo 'make sanitized   the same of 20,000 inputs, each script again with AddressSanitizer'
+	@echo 'make only-tested   tries the wrong bodies that contracts let through, and records which test refused each'
 	@echo 'make http-check   compares replies of the server with those of scripts, by curl, nginx and other clients'
 	@echo 'make bench     builds and measures; beside Ceph'"'"'s own library where that is installed'
 	@echo 'make bench-deps   installs what the comparisons with Ceph need (Debian: librados2, ceph-base, gcc)'
@@ -122,6 +128,21 @@ sqlite-check: build
 	@command -v sqlite3 >/dev/null || { echo 'Installing sqlite3: apt-get install -y sqlite3'; apt-get update && apt-get install -y sqlite3; }
 	@python3 tests/with_sqlite3 ./crushcalc
 
+refused-check: build
+	@python3 tests/refused ./crushcalc 0
+
+fuzz: build
+	@python3 tests/fuzz ./crushcalc --inputs $(INPUTS) --seed $(SEED)
+
+# rt try compiles with AddressSanitizer, and with checks of indexes and numbers
+sanitized: build
+	@rm -rf build/sanitized && mkdir -p build/sanitized
+	@python3 tests/fuzz ./crushcalc --inputs 20000 --seed $(SEED) --cases build/sanitized
+	@cd crates/crushcalc && $(RT) try --cases ../../build/sanitized -- script
+
+only-tested: tools
+	@RT='$(RT)' python3 tests/only_tested/check --try
+
 http-check: build
 	@{ command -v curl && command -v nginx && command -v openssl && command -v ab && command -v mkfs.btrfs; } >/dev/null || { \
 	  echo 'Installing curl, nginx, openssl, ab and mkfs.btrfs: apt-get install -y curl nginx openssl apache2-utils btrfs-progs'; \
@@ -143,4 +164,4 @@ clean:
 	@echo 'Removing ./crushcalc, build/ and crates/*/out; the next build proves everything anew.'
 	@rm -rf crushcalc build crates/*/out
 
-.PHONY: build help tools try cases run test gate wrong form install serve ceph-check sqlite-check http-check bench bench-deps clean
+.PHONY: build help tools try cases run test gate wrong form install serve ceph-check sqlite-check refused-check fuzz sanitized only-tested http-check bench bench-deps clean

@@ -5,12 +5,12 @@ import socket
 import threading
 import time
 
-from replies import BAD, EXISTS, TOO_LARGE, made, short, there
+from hostile_cases import BODIES, HEADS
+from replies import EXISTS, made, short, there
 from served import Server, asked, message, replies_on, reset
 
 HERE = pathlib.Path(__file__).resolve().parent
 
-LENGTH = b'501 {"error":"length"}'
 WAIT = 5
 MESSAGES = 10_000
 
@@ -63,22 +63,28 @@ def examples(program, db):
     return None
 
 
-def refusals(program, db):
-    """What is no message ends its connection, after the reply, and nothing behind it is read."""
-    head, more = b"POST /t/a/test HTTP/1.1\r\n", message(b"DELETE /t/a")
-    bad = {
-        b"nonsense\r\n\r\n": BAD, head + b"Transfer-Encoding: chunked\r\n\r\n": LENGTH, head + b"Content-Length: 1048577\r\n\r\n": TOO_LARGE,
-        head + b"Content-Length: 1\r\nContent-Length: 1\r\n\r\n": BAD, b"GET /" + b"x" * 8192: BAD, head + b"A: b\r\n" * 33 + b"\r\n": BAD,
-    }
+def heads(program, db):
+    """Each head has its reply. What ends its connection ends it behind the reply, and nothing after
+    it is read."""
     with Server(program, db) as server:
-        for data, want in bad.items():
+        asked(server, [b"PUT /t/a"])
+        for name, data, want, ends in HEADS:
             with server.connect() as connection:
-                connection.sendall(message(b"PUT /t/a") + data + more)
+                connection.sendall(message(b"PUT /t/a") + data + message(b"DELETE /t/a" if ends else b"GET /t/a"))
                 connection.shutdown(socket.SHUT_WR)
-                found, ended = replies_on(connection)
-            if found[1:] != [want] or found[0] not in (made(b"a"), EXISTS) or not ended:
-                return f"{data[:60]!r}: the replies are {found}"
+                found = replies_on(connection)
+            if found != ([EXISTS, want] if ends else [EXISTS, want, there(b"a")], ends):
+                return f"{name}: the replies are {found}"
         return unlike(asked(server, [b"GET /t/a"]), [there(b"a")])
+
+
+def bodies(program, db):
+    """Each body has its reply, and the connection goes on."""
+    with Server(program, db) as server:
+        lines = [b"PUT /t/a", *(b"POST /t/a/pick " + sent for _, sent, _ in BODIES), b"GET /t/a"]
+        found, wanted = asked(server, lines), [made(b"a"), *(reply for _, _, reply in BODIES), there(b"a")]
+        wrong = next((name for (name, _, reply), it in zip(BODIES, found[1:]) if it != reply), None)
+        return f"{wrong}: the reply isn't as it has to be" if wrong else unlike(found, wanted)
 
 
 def last_messages(program, db):
@@ -135,4 +141,4 @@ def half_closes(program, db):
 
 
 def cases():
-    return (two_messages, byte_by_byte, examples, refusals, last_messages, silent_client, resets, half_closes)
+    return (two_messages, byte_by_byte, examples, heads, bodies, last_messages, silent_client, resets, half_closes)

@@ -1,38 +1,50 @@
 """The definition's reply to a request, and what its tenant has afterwards, for requests on the few
-maps that are named here: those of one device, with the rule 0 or 1. Written from the rules of
-requests; hashes are those of crush.py."""
+maps that are named here: those of one device, with the rule 0 or 1, and one that crushtool wrote.
+Written from the rules of requests; hashes are those of crush.py."""
 import collections
 import json
+import pathlib
 
 import crush
 import map_cases
+import map_text
 import pool_cases
 import report_cases
 from replies import BAD, EXISTS, NO_TENANT, dropped, item, made
 
-# a tenant: the device and the rule of the map of each version, the line and the reply of each
-# accepted change by its request number, the reweight and whether it is up of each device with a
-# state, and the rule of each pool by its id; no two of these pools have a name in common
+# a tenant: the map of each version, the line and the reply of each accepted change by its request
+# number, the reweight and whether it is up of each device with a state, and the rule of each pool
+# by its id; no two of these pools have a name in common
 Tenant = collections.namedtuple("Tenant", "versions receipts states pools")
 GROUPS = pool_cases.POOL["pg_num"]  # of each pool
-# the texts that are imported, by the device and the rule of their maps
-TEXTS = {pool_cases.with_rule(rule, map_cases.tiny(device)): (device, rule) for device in range(300) for rule in range(2)}
+# a map: its one device, its one rule, and its canonical text
+Map = collections.namedtuple("Map", "device rule text")
+JEWEL = (pathlib.Path(__file__).resolve().parent / "cases" / "jewel.map").read_text()
+
+
+def canonical_of(device, rule):
+    return map_cases.canonical_tiny(device).replace("\tid 0\n", f"\tid {rule}\n")
+
+
+# the texts that are imported, each with its map
+TEXTS = {pool_cases.with_rule(rule, map_cases.tiny(device)): Map(device, rule, canonical_of(device, rule)) for device in range(300) for rule in range(2)}
+TEXTS[JEWEL] = Map(0, 0, map_text.write(map_text.read(JEWEL.encode())).decode())
 
 
 def import_into(tenant, asked, epoch):
     if asked["text"] == "":
         return map_cases.refused("M4", 1), None
-    device, rule = TEXTS[asked["text"]]
-    if any(it != rule for it in tenant.pools.values()):
+    map = TEXTS[asked["text"]]
+    if any(it != map.rule for it in tenant.pools.values()):
         return pool_cases.IN_USE, None
-    versions = (*tenant.versions, (device, rule))
+    versions = (*tenant.versions, map)
     return map_cases.imported(epoch, len(versions)), tenant._replace(versions=versions)
 
 
 def change_devices(tenant, asked, epoch):
     if not tenant.versions:
         return map_cases.NO_VERSION, None
-    if any(it["id"] != tenant.versions[-1][0] for it in asked["devices"]):
+    if any(it["id"] != tenant.versions[-1].device for it in asked["devices"]):
         return pool_cases.NO_DEVICE, None
     states = dict(tenant.states)
     for it in asked["devices"]:
@@ -57,7 +69,7 @@ def change_by_csv(tenant, asked, epoch):
 def create_pool(tenant, asked, epoch):
     if not tenant.versions:
         return map_cases.NO_VERSION, None
-    if asked["rule"] != tenant.versions[-1][1]:
+    if asked["rule"] != tenant.versions[-1].rule:
         return map_cases.NO_RULE, None
     if asked["id"] in tenant.pools:
         return EXISTS, None
@@ -97,7 +109,7 @@ def test_on(tenant, asked):
     number = asked.get("version", len(tenant.versions))
     if not 1 <= number <= len(tenant.versions):
         return map_cases.NO_VERSION
-    items = items_of(tenant, tenant.versions[number - 1][0])
+    items = items_of(tenant, tenant.versions[number - 1].device)
     return map_cases.tested(items, items, len(tenant.receipts), number)
 
 
@@ -107,7 +119,7 @@ def group_in(tenant, pool, group, **more):
         return pool_cases.NO_POOL
     if group >= GROUPS:
         return pool_cases.NO_GROUP
-    device = tenant.versions[-1][0]
+    device = tenant.versions[-1].device
     return pool_cases.lies(len(tenant.receipts), group, crush.hash2(group, pool), up_of(tenant, device), items_of(tenant, device), len(tenant.versions), **more)
 
 
@@ -115,7 +127,7 @@ def usage_in(tenant, pool):
     """The definition's counts: each group is on the device of the newest version, or on none."""
     if pool not in tenant.pools:
         return pool_cases.NO_POOL
-    device = tenant.versions[-1][0]
+    device = tenant.versions[-1].device
     count = GROUPS * len(up_of(tenant, device))
     return report_cases.used(len(tenant.receipts), (device, count, count, count, 1000 if count else 0), version=len(tenant.versions), pool=pool)
 
@@ -126,10 +138,10 @@ def moves_in(tenant, pool, first, second):
         return pool_cases.NO_POOL
     if not (1 <= first <= len(tenant.versions) and 1 <= second <= len(tenant.versions)):
         return map_cases.NO_VERSION
-    (old, one), (new, other) = tenant.versions[first - 1], tenant.versions[second - 1]
-    if not one == other == tenant.pools[pool]:
+    old, new = tenant.versions[first - 1], tenant.versions[second - 1]
+    if not old.rule == new.rule == tenant.pools[pool]:
         return map_cases.NO_RULE
-    old, new = up_of(tenant, old), up_of(tenant, new)
+    old, new = up_of(tenant, old.device), up_of(tenant, new.device)
     rows = [] if old == new else [(group, len(new), old, new) for group in range(GROUPS)]
     return report_cases.moved(len(tenant.receipts), first, second, *rows, pool=pool)
 
@@ -139,10 +151,15 @@ def impact_in(tenant, pool, device):
     weight left."""
     if pool not in tenant.pools:
         return pool_cases.NO_POOL
-    if device != tenant.versions[-1][0]:
+    if device != tenant.versions[-1].device:
         return pool_cases.NO_DEVICE
     groups = list(range(GROUPS)) if items_of(tenant, device) else []
     return report_cases.touched(len(tenant.receipts), device, groups, len(tenant.versions), pool)
+
+
+def version_of(tenant, number):
+    """The definition's reply with the text of a version."""
+    return map_cases.version_of(tenant.versions[number - 1].text, number) if 1 <= number <= len(tenant.versions) else map_cases.NO_VERSION
 
 
 REPORTS = {"groups": group_in, "usage": usage_in, "moves": moves_in, "impact": impact_in}
@@ -173,16 +190,14 @@ def step(tenant, line):
         return NO_TENANT, None
     if method == b"DELETE":
         return dropped(name.encode()), None
+    if method == b"GET" and rest[:1] == ("maps",):
+        return version_of(tenant, int(rest[1])), tenant
     if method == b"GET" and rest:
         return REPORTS[rest[2]](tenant, int(rest[1]), *map(int, rest[3:])), tenant
     if method == b"GET":
         return pool_cases.summary(len(tenant.receipts), len(tenant.versions), len(tenant.states), len(tenant.pools), name), tenant
     asked = json.loads(sent)
     return change(tenant, line, asked, CHANGES[rest]) if rest in CHANGES else (ask(tenant, rest, asked), tenant)
-
-
-def canonical_of(device, rule):
-    return map_cases.canonical_tiny(device).replace("\tid 0\n", f"\tid {rule}\n")
 
 
 def pools_of(tenant):
@@ -209,7 +224,7 @@ def rows_of(tenant):
     pools = pools_of(tenant).values()
     return {
         "epoch": len(tenant.receipts),
-        "maps": [(place, canonical_of(*it)) for place, it in enumerate(tenant.versions, 1)],
+        "maps": [(place, it.text) for place, it in enumerate(tenant.versions, 1)],
         "devices": sorted((device, reweight, int(up)) for device, (reweight, up) in tenant.states.items()),
         "pools": sorted((it["id"], it["name"], int(it["kind"] == "erasure"), it["size"], it["rule"], it["pg_num"], it["pgp_num"], int(it["hashpspool"])) for it in pools),
         "receipts": sorted((receipt_of(request, *it) for request, it in tenant.receipts.items()), key=lambda row: row[0].encode()),

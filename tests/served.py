@@ -17,7 +17,12 @@ PHRASES = {
 
 
 class Unserved(Exception):
-    """Why the server or a reply isn't as it has to be."""
+    """Why the server or a reply isn't as it has to be. end: of a server that never listened, its
+    status, standard output and standard error."""
+
+    def __init__(self, why, end=None):
+        super().__init__(why)
+        self.end = end
 
 
 def free_port():
@@ -29,14 +34,14 @@ def free_port():
 class Server:
     """The program over a file. It listens once this is made, and a `with` ends it."""
 
-    def __init__(self, program, db, *words, port=None, preexec_fn=None):
+    def __init__(self, program, db, *words, port=None, **how):
         self.port = port or free_port()
         self.run = subprocess.Popen([program, "serve", "--db", str(db), "--port", str(self.port), *words], stdin=subprocess.DEVNULL,
-                                    stdout=subprocess.PIPE, stderr=subprocess.PIPE, preexec_fn=preexec_fn)
+                                    stdout=subprocess.PIPE, stderr=subprocess.PIPE, **how)
         line = self.run.stdout.readline()
         if line != b"listening 127.0.0.1:%d\n" % self.port:
             out, err = self.run.communicate(timeout=SECONDS)
-            raise Unserved(f"the server's first line is {line + out!r}; standard error {err!r}; status {self.run.returncode}")
+            raise Unserved(f"the server's first line is {line + out!r}; standard error {err!r}; status {self.run.returncode}", (self.run.returncode, line + out, err))
 
     def __enter__(self):
         return self

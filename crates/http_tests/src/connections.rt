@@ -1,7 +1,7 @@
 //! A connection to a new service over a store in memory.
 
-use crush_app::Service;
-use crush_http::{Ended, serve};
+use crush_app::{MemoryStore, Service};
+use crush_http::{Buffers, Ended, serve, serve_with};
 use std::alloc::{AllocError, Global};
 use std::io::{self, ErrorKind, Read, Write};
 use std::process::Abort;
@@ -71,8 +71,32 @@ impl Write for Writer {
     }
 }
 
-/// How a connection ends whose input is cut so into reads, and whose reader and writer fail after
-/// so many calls, and what was written.
+/// How a connection to a service ends whose input is cut so into reads, and whose reader and writer
+/// fail after so many calls, and what was written.
+pub(crate) fn connect_to(
+    alloc: Global,
+    buffers: &mut Buffers,
+    service: &mut Service<MemoryStore>,
+    input: &[u8],
+    cuts: Cuts,
+    reads: usize,
+    writes: usize,
+) -> (Ended, Vec<u8>) {
+    let mut reader = Reader {
+        rest: input,
+        cuts,
+        reads,
+    };
+    let mut writer = Writer {
+        taken: Vec::new(alloc),
+        writes,
+    };
+    let ended = serve_with(buffers, service, &mut reader, &mut writer);
+    let Writer { taken, writes: _ } = writer;
+    (ended, taken)
+}
+
+/// The same of a connection to a new service, with buffers of its own.
 pub(crate) fn connect(
     alloc: Global,
     input: &[u8],

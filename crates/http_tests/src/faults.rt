@@ -1,44 +1,180 @@
-//! Connections whose reader or writer fails.
+//! Connections whose reader or writer fails: each read and each write of the worked stream in turn.
 
-use crate::connections::{Cuts, MANY, connect};
+use crate::connections::{Cuts, MANY, connect_to};
 use crate::streams::{REPLIES, STREAM};
-use crush_http::Ended;
+use crush_app::{MemoryStore, Service};
+use crush_http::{Buffers, Ended};
+use std::alloc::{AllocError, Global};
+use std::process::Abort;
 use std::test::Fail;
+use tenant_messages::CallParts;
+
+/// The lengths of the first message and of the first two.
+const MESSAGES: [usize; 2] = [30, 60];
 
 /// The length of the reply to the first message.
 const FIRST: usize = 100;
 
+/// The replies to the messages that are whole in so many bytes of the stream.
+fn replies_within(bytes: usize) -> &'static [u8] {
+    if bytes < MESSAGES[0] {
+        &[]
+    } else if bytes < MESSAGES[1] {
+        &REPLIES[..FIRST]
+    } else {
+        REPLIES
+    }
+}
+
+/// How a connection to a new service ends that brings the worked stream, and what was written.
+fn connect(
+    alloc: Global,
+    buffers: &mut Buffers,
+    size: usize,
+    reads: usize,
+    writes: usize,
+) -> Result<(Ended, Vec<u8>), AllocError> {
+    let mut service = Service::in_memory(alloc)?;
+    let cuts = Cuts::each(size);
+    Ok(connect_to(alloc, buffers, &mut service, STREAM, cuts, reads, writes))
+}
+
+/// Whether a connection whose reader fails after so many reads is closed; else it met the fault.
+fn is_closed_after(
+    rt: &impl Abort,
+    alloc: Global,
+    buffers: &mut Buffers,
+    size: usize,
+    reads: usize,
+) -> Result<bool, AllocError> {
+    let (ended, written) = connect(alloc, buffers, size, reads, MANY)?;
+    let replies = replies_within(size.saturating_mul(reads));
+    assert_eq!(rt; written.as_slice(), replies, "{reads} reads of {size}");
+    let is_closed = ended == Ended::Closed;
+    assert!(rt;
+        is_closed || ended == Ended::ReadFault,
+        "{reads} reads of {size}"
+    );
+    Ok(is_closed)
+}
+
 #[test]
 fn a_read_fault_leaves_the_replies_to_whole_messages(rt: HostRuntime) -> Result<(), Fail> {
-    for (reads, replies) in [
-        (0, 0),
-        (29, 0),
-        (30, FIRST),
-        (59, FIRST),
-        (60, REPLIES.len()),
-        (111, REPLIES.len()),
-    ] {
-        let (ended, written) = connect(rt.alloc(), STREAM, Cuts::each(1), reads, MANY)?;
-        assert_eq!(rt; ended, Ended::ReadFault, "after {reads} reads");
+    let mut buffers = Buffers::new(rt.alloc())?;
+    for size in [1usize, 7, 50, 20_000] {
+        for reads in 0..MANY {
+            let is_closed = is_closed_after(&rt, rt.alloc(), &mut buffers, size, reads)?;
+            // the read behind that of the last bytes says that nothing more comes
+            let before = size.saturating_mul(reads.saturating_sub(1));
+            assert_eq!(rt;
+                is_closed,
+                STREAM.len() <= before,
+                "{reads} reads of {size}"
+            );
+            if is_closed {
+                break;
+            }
+        }
+    }
+    Ok(())
+}
+
+/// How many bytes of the replies are written where the writer fails after so many writes, and
+/// whether the connection is closed; else it met the fault.
+fn written_after(
+    rt: &impl Abort,
+    alloc: Global,
+    buffers: &mut Buffers,
+    size: usize,
+    writes: usize,
+) -> Result<(usize, bool), AllocError> {
+    let (ended, written) = connect(alloc, buffers, size, MANY, writes)?;
+    assert!(rt;
+        REPLIES.starts_with(written.as_slice()),
+        "after {writes} writes"
+    );
+    let is_closed = ended == Ended::Closed;
+    assert!(rt;
+        is_closed || ended == Ended::WriteFault,
+        "after {writes} writes"
+    );
+    Ok((written.len(), is_closed))
+}
+
+#[test]
+fn a_write_fault_leaves_a_front_of_the_replies(rt: HostRuntime) -> Result<(), Fail> {
+    let mut buffers = Buffers::new(rt.alloc())?;
+    for size in [1usize, 50, 20_000] {
+        let mut front = 0;
+        // a write takes three bytes at most, and one at least
+        for writes in 0..=REPLIES.len() {
+            let (length, is_closed) = written_after(&rt, rt.alloc(), &mut buffers, size, writes)?;
+            assert!(rt; writes == 0 || front < length, "after {writes} writes");
+            assert_eq!(rt; is_closed, length == REPLIES.len(), "after {writes} writes");
+            front = length;
+            if is_closed {
+                break;
+            }
+        }
         assert_eq!(rt;
-            written.as_slice(),
-            &REPLIES[..replies],
-            "after {reads} reads"
+            front,
+            REPLIES.len(),
+            "with no fault at reads of {size} bytes"
         );
     }
     Ok(())
 }
 
-#[test]
-fn a_write_fault_leaves_a_front_of_the_replies(rt: HostRuntime) -> Result<(), Fail> {
-    for writes in [0, 1, 2, 20, 40, 60] {
-        let (ended, written) = connect(rt.alloc(), STREAM, Cuts::each(50), MANY, writes)?;
-        assert_eq!(rt; ended, Ended::WriteFault, "after {writes} writes");
-        assert!(rt;
-            REPLIES.starts_with(written.as_slice()),
-            "after {writes} writes"
-        );
-        assert!(rt; written.len() < REPLIES.len(), "after {writes} writes");
+/// Three messages, each with a reply of as many bytes as the first of the worked stream.
+const CREATIONS: &[u8] =
+    b"PUT /t/a HTTP/1.1\r\nHost: l\r\n\r\nPUT /t/b HTTP/1.1\r\nHost: l\r\n\r\nPUT /t/c HTTP/1.1\r\nHost: l\r\n\r\n";
+
+/// How many of the tenants a, b and c are there; they come in this order.
+fn created(rt: &impl Abort, service: &mut Service<MemoryStore>) -> usize {
+    let mut count = 0;
+    for (place, path) in ["/t/a", "/t/b", "/t/c"].into_iter().enumerate() {
+        let reply = service.request(CallParts {
+            method: b"GET",
+            path,
+            body: b"",
+        });
+        if reply.status == 200 {
+            assert_eq!(rt; count, place, "{path}");
+            count = place + 1;
+        } else {
+            assert_eq!(rt; reply.status, 404, "{path}");
+        }
     }
+    count
+}
+
+/// How many tenants are there after a connection that makes three, each byte in a read of its own,
+/// and whose writer fails after so many writes; and how many bytes were written.
+fn create(
+    rt: &impl Abort,
+    alloc: Global,
+    buffers: &mut Buffers,
+    writes: usize,
+) -> Result<(usize, usize), AllocError> {
+    let mut service = Service::in_memory(alloc)?;
+    let cuts = Cuts::each(1);
+    let (_, written) = connect_to(alloc, buffers, &mut service, CREATIONS, cuts, MANY, writes);
+    Ok((created(rt, &mut service), written.len()))
+}
+
+#[test]
+fn a_request_whose_reply_is_cut_is_done_and_no_later_one(rt: HostRuntime) -> Result<(), Fail> {
+    let mut buffers = Buffers::new(rt.alloc())?;
+    let mut all = 0;
+    for writes in 0..FIRST + 3 {
+        let (done, bytes) = create(&rt, rt.alloc(), &mut buffers, writes)?;
+        assert_eq!(rt;
+            done,
+            3.min(bytes / FIRST + 1),
+            "after {writes} writes, {bytes} bytes"
+        );
+        all = bytes;
+    }
+    assert_eq!(rt; all, 3 * FIRST);
     Ok(())
 }

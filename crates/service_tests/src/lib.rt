@@ -1,10 +1,13 @@
 //! Tests of `tenant_core` and `crush_app`: requests, scripts, imports, rule tests, pools, states of
-//! devices and reports, a store whose data is damaged in part, one that fails for good, and
-//! sessions that are stopped. They stand apart, so that these crates are proved once.
+//! devices and reports, reads and writes that fail, a store whose data is damaged in part, one that
+//! fails for good, and sessions that are stopped. They stand apart, so that these crates are proved
+//! once.
 #![tactic(auto)]
 
 #[cfg(test)]
 mod damaged;
+#[cfg(test)]
+mod faults;
 #[cfg(test)]
 mod latched;
 #[cfg(test)]

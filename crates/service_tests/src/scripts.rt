@@ -1,6 +1,6 @@
 //! Scripts and runs on the service over a store in memory.
 
-use crate::rows::{CREATION_OF_A, CREATION_OF_B, Row, assert_requests, assert_run};
+use crate::rows::{CREATION_OF_A, CREATION_OF_B, Row, assert_run};
 use crush_app::{ScriptEnd, Service, script_in_memory, script_run};
 use std::alloc::{AllocError, Global};
 use std::io::{self, ErrorKind, Read, Write};
@@ -10,14 +10,14 @@ use std::test::Fail;
 const SCRIPT: &str =
     "PUT /t/a\nPOST /t/a/pick {\"bucket\":{\"id\":-1,\"items\":[{\"item\":4,\"weight\":0},{\"item\":9,\"weight\":65536}],\"kind\":\"list\"},\"r\":0,\"x\":5}\r\nGET\n\nGET /t/a\nPUT /t/a\nDELETE /t/a\nGET /t/a";
 
-const REPLIES: &str =
+pub(crate) const REPLIES: &str =
     "201 {\"epoch\":0,\"tenant\":\"a\"}\n200 {\"item\":9}\n400 {\"error\":\"bad_request\"}\n200 {\"devices\":0,\"epoch\":0,\"pools\":0,\"tenant\":\"a\",\"versions\":0}\n409 {\"error\":\"exists\"}\n200 {\"dropped\":\"a\"}\n404 {\"error\":\"no_tenant\"}\n";
 
 /// Gives one byte a read, and fails after so many reads.
 #[derive(Drop)]
-struct Reader<'a> {
-    rest: &'a [u8],
-    reads: usize,
+pub(crate) struct Reader<'a> {
+    pub rest: &'a [u8],
+    pub reads: usize,
 }
 
 impl Read for Reader<'_> {
@@ -37,9 +37,9 @@ impl Read for Reader<'_> {
 
 /// Takes at most three bytes a write, and fails after so many writes.
 #[derive(Drop)]
-struct Writer {
-    taken: Vec<u8>,
-    writes: usize,
+pub(crate) struct Writer {
+    pub taken: Vec<u8>,
+    pub writes: usize,
 }
 
 impl Write for Writer {
@@ -60,7 +60,11 @@ impl Write for Writer {
 
 /// How the script ends with a reader and a writer that fail after so many calls, and what was
 /// written.
-fn play(alloc: Global, reads: usize, writes: usize) -> Result<(ScriptEnd, Vec<u8>), AllocError> {
+pub(crate) fn play(
+    alloc: Global,
+    reads: usize,
+    writes: usize,
+) -> Result<(ScriptEnd, Vec<u8>), AllocError> {
     let mut service = Service::in_memory(alloc)?;
     let mut reader = Reader {
         rest: SCRIPT.as_bytes(),
@@ -99,29 +103,6 @@ fn a_script_is_played_in_memory_from_nothing(rt: HostRuntime) -> Result<(), Fail
     Ok(())
 }
 
-#[test]
-fn no_line_is_served_after_a_read_fault(rt: HostRuntime) -> Result<(), Fail> {
-    for reads in [0, 1, 9, 10, 60, 150] {
-        let (end, written) = play(rt.alloc(), reads, 10_000)?;
-        assert_eq!(rt; end, ScriptEnd::ReadFault, "after {reads} reads");
-        assert!(rt; written.is_empty(), "after {reads} reads");
-    }
-    Ok(())
-}
-
-#[test]
-fn a_write_fault_leaves_a_front_of_the_replies(rt: HostRuntime) -> Result<(), Fail> {
-    for writes in [0, 1, 2, 11, 12, 40] {
-        let (end, written) = play(rt.alloc(), 10_000, writes)?;
-        assert_eq!(rt; end, ScriptEnd::WriteFault, "after {writes} writes");
-        assert!(rt;
-            REPLIES.as_bytes().starts_with(written.as_slice()),
-            "after {writes} writes"
-        );
-    }
-    Ok(())
-}
-
 const FRESH_B: Row = (
     "GET",
     "/t/b",
@@ -129,38 +110,6 @@ const FRESH_B: Row = (
     200,
     "{\"devices\":0,\"epoch\":0,\"pools\":0,\"tenant\":\"b\",\"versions\":0}",
 );
-
-/// Two tenants that were just made, and one that wasn't.
-const TWO_OF_THREE: [Row; 3] = [
-    (
-        "GET",
-        "/t/a",
-        "",
-        200,
-        "{\"devices\":0,\"epoch\":0,\"pools\":0,\"tenant\":\"a\",\"versions\":0}",
-    ),
-    FRESH_B,
-    ("GET", "/t/c", "", 404, "{\"error\":\"no_tenant\"}"),
-];
-
-#[test]
-fn no_later_line_is_served_after_a_write_fault(rt: HostRuntime) -> Result<(), Fail> {
-    let alloc = rt.alloc();
-    let mut service = Service::in_memory(alloc)?;
-    let mut reader = Reader {
-        rest: b"PUT /t/a\nPUT /t/b\nPUT /t/c\n",
-        reads: 1_000,
-    };
-    // a reply is 28 bytes, so the writes end in the second
-    let mut writer = Writer {
-        taken: Vec::new(alloc),
-        writes: 13,
-    };
-    let end = script_run(alloc, &mut service, &mut reader, &mut writer)?;
-    assert_eq!(rt; end, ScriptEnd::WriteFault);
-    assert_requests(&rt, &mut service, &TWO_OF_THREE);
-    Ok(())
-}
 
 /// Calls of two tenants, and others.
 const TWO_TENANTS: [Row; 9] = [

@@ -6,7 +6,6 @@ import pathlib
 import subprocess
 
 import map_cases
-from proxy import run
 from served import Server, asked, run_to_end
 from stored import STORE_FAULT
 
@@ -82,17 +81,22 @@ def at_full_disk(program, folder):
     return None if found == [map_cases.summary(more, more), map_cases.imported(more + 1, more + 1)] else f"after a start: {found}"
 
 
+def mounted(folder):
+    """Whether a small file system is mounted there."""
+    if os.geteuid() != 0:
+        return False
+    ran = subprocess.run(["mount", "-t", "tmpfs", "-o", f"size={SIZE}", "crushcalc", str(folder)], stderr=subprocess.PIPE)
+    if ran.returncode:
+        print(f"no disk is filled: {ran.stderr.decode(errors='replace').strip()}")
+    return ran.returncode == 0
+
+
 def checks(program, folder):
     at = pathlib.Path(folder, "full")
     at.mkdir()
-    if os.geteuid() != 0:
-        return
-    try:
-        run("mount", "-t", "tmpfs", "-o", f"size={SIZE}", "crushcalc", str(at))
-    except (OSError, subprocess.SubprocessError) as error:
-        print(f"no disk is filled: {error}")
+    if not mounted(at):
         return
     try:
         yield "a full disk", at_full_disk(program, at)
     finally:
-        run("umount", str(at))
+        subprocess.run(["umount", str(at)], check=True)
