@@ -63,8 +63,8 @@ def at_full_disk(program, folder):
         if reply != FULL or not 0 < count < 200:
             return f"import {count + 1} is answered {reply!r}"
         summary = map_cases.summary(count, count)
-        found = asked(server, [b"GET /t/a", import_of(count + 1), import_of(1), map_cases.test_of(), b"GET /t/a"])
-        if found != [summary, FULL, map_cases.imported(1, 1), map_cases.tested([0], [0], count, count), summary]:
+        found = asked(server, [b"GET /t/a", import_of(count + 1), import_of(1), map_cases.test_of(), b"DELETE /t/a", b"GET /t/a"])
+        if found != [summary, FULL, map_cases.imported(1, 1), map_cases.tested([0], [0], count, count), FULL, summary]:
             return f"while it is full: {found}"
         ballast[0].unlink()
         more, reply = fill(server, count + 1)
