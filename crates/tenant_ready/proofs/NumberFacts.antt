@@ -10,9 +10,8 @@ use Rattle.crush_pool.specs.declared.placing.Placement.{Placement}
 use Rattle.crush_pool.specs.declared.pool.PoolParts.{PoolParts}
 use Rattle.crush_cache.specs.Caches.{KeepsNumbers, Numbered}
 use Rattle.crush_cache.specs.Contents.{content_of}
-use Rattle.tenant_messages.specs.declared.reply.Problem.{Problem}
 use Rattle.tenant_messages.specs.declared.reply.Problem.TheVariants.{NoRule}
-use Rattle.tenant_resources.specs.Groups.{on_map, placed}
+use Rattle.tenant_resources.specs.Groups.{on_map}
 use Rattle.tenant_state.specs.State.{Inventory, TenantState, if_there, newest, on_newest, pool, version}
 use Rattle.tenant_core.specs.Queries.{AsksFor, IsPlacedFor}
 use Rattle.tenant_core.specs.States.{HasInventory, Same, States}
@@ -148,8 +147,8 @@ pub renumbered : (was cache : Numbered) (old new : Kept) (name : List ℕ) (r : 
 renumbered was cache old new name r q p n same keeps known there given beside u s at = elim (beside u s at) [
   | inl before ↦ inl before
   | inr mine ↦ inr (
-      mine.0,
-      mine.1.inventory,
-      with_number cache r s p n (λ id m q here found o is. keeps m (content_of o) (known id m q here found o is)) there given (subst (λ (z : PoolParts). IsWithNumber r z.id n s) same mine.1),
-    )
+    mine.0,
+    mine.1.inventory,
+    with_number cache r s p n (λ id m q here found o is. keeps m (content_of o) (known id m q here found o is)) there given (subst (λ (z : PoolParts). IsWithNumber r z.id n s) same mine.1),
+  )
 ]

@@ -31,11 +31,7 @@ fn number_beside(cache: &PlacementCache, ready: &Ready, pool: &Pool) -> Option<u
 }
 
 /// A number for the content of a pool of what a tenant has, on the newest version.
-fn give_number(
-    cache: &mut PlacementCache,
-    inventory: &Inventory,
-    pool: &Rc<Pool>,
-) -> Option<u64>
+fn give_number(cache: &mut PlacementCache, inventory: &Inventory, pool: &Rc<Pool>) -> Option<u64>
     ensures number { IfSome result (λ n. HasNumber cache.new inventory.now pool.now.value n) }
     ensures there { IfSome result (λ n. cache.new.first ≤ n) }
     ensures kept { KeepsNumbers cache.old cache.new }
@@ -48,14 +44,7 @@ fn give_number(
 }
 
 /// Keeps a number for the content of a pool beside what a tenant has, where there is memory for it.
-fn keep_number(
-    alloc: Global,
-    kept: &mut Kept,
-    name: &str,
-    ready: &Ready,
-    pool: &Pool,
-    number: u64,
-)
+fn keep_number(alloc: Global, kept: &mut Kept, name: &str, ready: &Ready, pool: &Pool, number: u64)
     ensures { (u : List ℕ) (r : _) → kept_at kept.new u ≡ Some r → (kept_at kept.old u ≡ Some r) ⊎ ((u ≡ name.now) × IsWithNumber ready.now pool.now.id number r) }
 {
     let Ok(next) = ready.with_number(alloc, pool.parts().id, number) else {

@@ -1,11 +1,10 @@
 //! A store that keeps ready what tenants have in another store.
 
-ghost use Rattle.std.specs.Prelude.{◌≡◌, ◌≢◌, ◌⊎◌, ◌↔◌, ◌<◌, [], ℕ, List, Bool, true, false, Option, Some, None, Err, IfOk, OnOk, OnErr, option_map};
-ghost use Rattle.tenant_state.specs.State.{CanMake, TenantState, fresh, after, inventory_after};
+ghost use Rattle.std.specs.Prelude.{◌≡◌, ◌≢◌, ◌⊎◌, ◌↔◌, ℕ, List, Bool, true, false, Option, Some, None, Err, IfOk, OnOk, OnErr, option_map};
+ghost use Rattle.tenant_state.specs.State.{CanMake, TenantState, fresh, after};
 ghost use Rattle.tenant_state.specs.Receipts.{receipt_of};
 ghost use Rattle.tenant_core.specs.States.{Found, HasInventory, IsDamaged, LeavesAsItWas, LeavesAsItWasOr, Same, Shows};
 ghost use Rattle.tenant_core.specs.StoreReply.{is_failed};
-ghost use Rattle.tenant_state.specs.declared.limits.TheConstants.{RECEIPT_LIMIT};
 
 use crate::kept::Kept;
 use crate::placing::{number_for, place};

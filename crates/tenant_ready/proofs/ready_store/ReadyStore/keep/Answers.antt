@@ -1,4 +1,4 @@
-use Rattle.std.proofs.Common.{◌≡◌, Some, [], ap, subst, sym, ◌∙◌}
+use Rattle.std.proofs.Common.{◌≡◌, Some, ap, subst, sym, ◌∙◌}
 use Rattle.tenant_core.specs.States.{HasInventory}
 use Rattle.tenant_ready.specs.Kept.{Ready, Updates}
 use Rattle.tenant_ready.proofs.NumberFacts.{known_put, true_put}

@@ -1,4 +1,4 @@
-use Rattle.std.proofs.Common.{◌≡◌, Some, [], ap, option_map, subst, sym, ◌∙◌}
+use Rattle.std.proofs.Common.{Some, ap, option_map, subst, sym, ◌∙◌}
 use Rattle.tenant_ready.specs.Kept.{Ready, Updates}
 use Rattle.tenant_state.specs.State.{inventory_after}
 use Rattle.tenant_ready.proofs.Following.{committed}

@@ -1,7 +1,7 @@
-use Rattle.std.proofs.Common.{◌≡◌, Some, ap, subst, sym, ◌∙◌}
+use Rattle.std.proofs.Common.{rules, ◌≡◌, Some, ap, subst, sym, ◌∙◌}
 use Rattle.tenant_core.specs.States.{HasInventory}
 use Rattle.tenant_ready.specs.Kept.{Ready, kept_at}
-use Rattle.tenant_ready.specs.Ready.{AreNumbersOf, HasNumber}
+use Rattle.tenant_ready.specs.Ready.{AreKnown, AreNumbersOf, HasNumber}
 use Rattle.tenant_state.specs.State.{pool}
 use Rattle.tenant_ready.proofs.NumberFacts.{asked_pool, known_among, known_renumbered, true_among, true_renumbered}
 use Rattle.tenant_ready.proofs.ready_store.ReadyStoreTenantStore.placed.Goals as goal
@@ -62,6 +62,6 @@ invariant_of-self-2 g c =
           (true_among states c.self.inside.kept c.get.new.self c.get.ensures.same (c.self.invariant.states honest live))
           (subst (λ (r : Ready). HasInventory states c.args.name.now (Some r.inventory)) (sym c.deref-3.ensures) (c.self.invariant.states honest live c.args.name.now c.in-Ok-Some.ready.value at))
           c.number_for.ensures.beside;
-      numbers = known_renumbered c.self.inside.cache c.number_for.new.cache c.get.new.self c.number_for.new.kept c.args.name.now c.deref-3.result.now c.number_for.ensures.keeps
-          (known_among c.self.inside.cache c.self.inside.kept c.get.new.self c.get.ensures.same c.self.invariant.numbers) c.number_for.ensures.beside;
+      numbers = subst (λ cache. AreKnown cache c.number_for.new.kept) (sym c.place.ensures.same) (known_renumbered c.self.inside.cache c.number_for.new.cache c.get.new.self c.number_for.new.kept c.args.name.now c.deref-3.result.now c.number_for.ensures.keeps
+          (known_among c.self.inside.cache c.self.inside.kept c.get.new.self c.get.ensures.same c.self.invariant.numbers) c.number_for.ensures.beside);
     }
