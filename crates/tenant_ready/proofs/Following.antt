@@ -6,7 +6,6 @@ use Rattle.tenant_state.specs.Receipts.{with_receipt}
 use Rattle.tenant_state.specs.State.{CanMake, Change, TenantState, after, inventory_after, inventory_of}
 use Rattle.tenant_ready.specs.Kept.{Kept, Ready, Updates, kept_at}
 use Rattle.tenant_ready.specs.Ready.{AreTrue}
-use Rattle.tenant_state.specs.State.{Inventory}
 use Rattle.tenant_core.specs.States.{States}
 
 -- what a tenant has after a change is what its state after the change has

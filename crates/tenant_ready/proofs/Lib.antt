@@ -1,5 +1,5 @@
 pub mod Following
 pub mod LengthFacts
 pub mod NameFacts
-pub mod Placing
+pub mod NumberFacts
 pub mod SizeFacts

@@ -28,3 +28,9 @@ AreKnown cache kept = (name : List ℕ) (r : Ready) → kept_at kept name ≡ So
 pub record IsWithNumber (old : Ready) (id n : ℕ) (new : Ready) : Type 0 where
   pub inventory : new.inventory ≡ old.inventory
   pub numbers : (e : ℕ × ℕ) → Contains new.numbers e → (e ≡ (id, n)) ⊎ Contains old.numbers e
+
+-- what is kept is as before, but that the name may have other numbers of this cache
+abbrev pub Renumbers : List ℕ → Ready → Numbered → Kept → Kept → Type 0
+Renumbers name r cache old new =
+    (u : List ℕ) (s : Ready) → kept_at new u ≡ Some s
+    → (kept_at old u ≡ Some s) ⊎ ((u ≡ name) × (s.inventory ≡ r.inventory) × AreNumbersOf cache s)

@@ -4,7 +4,8 @@ ghost use Rattle.std.specs.Prelude.{◌≡◌, ◌≤◌, ◌<◌, ◌⊎◌, �
 ghost use Rattle.crush_cache.specs.Caches.{KeepsNumbers};
 ghost use Rattle.tenant_core.specs.Queries.{AsksFor, IsPlacedFor};
 ghost use Rattle.tenant_ready.specs.Kept.{kept_at};
-ghost use Rattle.tenant_ready.specs.Ready.{HasNumber, IsWithNumber};
+ghost use Rattle.tenant_ready.specs.Ready.{AreNumbersOf, HasNumber, IsWithNumber, Renumbers};
+ghost use Rattle.tenant_state.specs.State.{pool as pool_at};
 
 use crate::kept::Kept;
 use crate::ready::Ready;
@@ -17,7 +18,7 @@ use tenant_state::Inventory;
 
 /// The number that is kept beside what a tenant has for the content of a pool, while that content
 /// is still in the cache.
-pub(crate) fn number_beside(cache: &PlacementCache, ready: &Ready, pool: &Pool) -> Option<u64>
+fn number_beside(cache: &PlacementCache, ready: &Ready, pool: &Pool) -> Option<u64>
     ensures number { IfSome result (λ n. Contains ready.now.numbers (pool.now.id, n)) }
     ensures there { IfSome result (λ n. cache.now.first ≤ n) }
 {
@@ -30,11 +31,7 @@ pub(crate) fn number_beside(cache: &PlacementCache, ready: &Ready, pool: &Pool) 
 }
 
 /// A number for the content of a pool of what a tenant has, on the newest version.
-pub(crate) fn give_number(
-    cache: &mut PlacementCache,
-    inventory: &Inventory,
-    pool: &Rc<Pool>,
-) -> Option<u64>
+fn give_number(cache: &mut PlacementCache, inventory: &Inventory, pool: &Rc<Pool>) -> Option<u64>
     ensures number { IfSome result (λ n. HasNumber cache.new inventory.now pool.now.value n) }
     ensures there { IfSome result (λ n. cache.new.first ≤ n) }
     ensures kept { KeepsNumbers cache.old cache.new }
@@ -47,14 +44,7 @@ pub(crate) fn give_number(
 }
 
 /// Keeps a number for the content of a pool beside what a tenant has, where there is memory for it.
-pub(crate) fn keep_number(
-    alloc: Global,
-    kept: &mut Kept,
-    name: &str,
-    ready: &Ready,
-    pool: &Pool,
-    number: u64,
-)
+fn keep_number(alloc: Global, kept: &mut Kept, name: &str, ready: &Ready, pool: &Pool, number: u64)
     ensures { (u : List ℕ) (r : _) → kept_at kept.new u ≡ Some r → (kept_at kept.old u ≡ Some r) ⊎ ((u ≡ name.now) × IsWithNumber ready.now pool.now.id number r) }
 {
     let Ok(next) = ready.with_number(alloc, pool.parts().id, number) else {
@@ -67,6 +57,31 @@ pub(crate) fn keep_number(
         return;
     };
     kept.put(key, next);
+}
+
+/// The number of the content of a pool of what a tenant has, on the newest version: the one that is
+/// kept beside it, or a new one, which is then kept.
+pub(crate) fn number_for(
+    alloc: Global,
+    cache: &mut PlacementCache,
+    kept: &mut Kept,
+    name: &str,
+    ready: &Ready,
+    pool: &Rc<Pool>,
+) -> Option<u64>
+    requires known { AreNumbersOf cache.old ready.now }
+    requires there { pool_at pool.now.value.id ready.now.inventory ≡ Some pool.now.value }
+    ensures number { IfSome result (λ n. HasNumber cache.new ready.now.inventory pool.now.value n) }
+    ensures live { IfSome result (λ n. cache.new.first ≤ n) }
+    ensures keeps { KeepsNumbers cache.old cache.new }
+    ensures beside { Renumbers name.now ready.now cache.new kept.old kept.new }
+{
+    if let Some(number) = number_beside(cache, ready, pool) {
+        return Some(number);
+    }
+    let number = give_number(cache, ready.inventory(), pool)?;
+    keep_number(alloc, kept, name, ready, pool, number);
+    Some(number)
 }
 
 /// The placement of the group of a pool that a query asks for, with what the tenant has.

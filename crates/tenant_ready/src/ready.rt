@@ -85,12 +85,12 @@ impl Ready {
 
     /// What the tenant has after a change, with no number: its contents are others.
     /// `Err(AllocError)`: an allocation failed; nothing is changed.
-    pub fn after(&self, alloc: Global, change: &Change) -> Result<Ready, AllocError>
+    pub fn after(&self, alloc: Global, change: &Change) -> Result<Rc<Ready>, AllocError>
         requires { self.now.inventory.epoch < RECEIPT_LIMIT }
-        ensures { IfOk result (λ r. r ≡ record { inventory = inventory_after change.now self.now.inventory; numbers = [] }) }
+        ensures { IfOk result (λ r. r.value ≡ record { inventory = inventory_after change.now self.now.inventory; numbers = [] }) }
     {
         let inventory = Rc::new(alloc, self.inventory.after(alloc, change)?)?;
-        Ok(Ready::new(alloc, inventory))
+        Ok(Rc::new(alloc, Ready::new(alloc, inventory))?)
     }
 
     /// How many bytes of memory it takes at most, by an estimate. The numbers add nothing: those of

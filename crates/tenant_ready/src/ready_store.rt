@@ -1,14 +1,13 @@
 //! A store that keeps ready what tenants have in another store.
 
-ghost use Rattle.std.specs.Prelude.{◌≡◌, ◌≢◌, ◌⊎◌, ◌↔◌, ◌<◌, [], ℕ, List, Bool, true, false, Option, Some, None, Err, IfOk, OnOk, OnErr, option_map};
-ghost use Rattle.tenant_state.specs.State.{CanMake, TenantState, fresh, after, inventory_after};
+ghost use Rattle.std.specs.Prelude.{◌≡◌, ◌≢◌, ◌⊎◌, ◌↔◌, ℕ, List, Bool, true, false, Option, Some, None, Err, IfOk, OnOk, OnErr, option_map};
+ghost use Rattle.tenant_state.specs.State.{CanMake, TenantState, fresh, after};
 ghost use Rattle.tenant_state.specs.Receipts.{receipt_of};
 ghost use Rattle.tenant_core.specs.States.{Found, HasInventory, IsDamaged, LeavesAsItWas, LeavesAsItWasOr, Same, Shows};
 ghost use Rattle.tenant_core.specs.StoreReply.{is_failed};
-ghost use Rattle.tenant_state.specs.declared.limits.TheConstants.{RECEIPT_LIMIT};
 
 use crate::kept::Kept;
-use crate::placing::{give_number, keep_number, number_beside, place};
+use crate::placing::{number_for, place};
 use crate::ready::Ready;
 use crush_cache::PlacementCache;
 use std::alloc::{AllocError, Global};
@@ -140,14 +139,14 @@ impl<T: TenantStore> TenantStore for ReadyStore<T> {
             return None;
         };
         let (pool, group) = query.group_in(ready.inventory())?;
-        let number = match number_beside(&self.cache, &ready, pool) {
-            Some(number) => number,
-            None => {
-                let number = give_number(&mut self.cache, ready.inventory(), pool)?;
-                keep_number(self.alloc, &mut self.kept, name, &ready, pool, number);
-                number
-            }
-        };
+        let number = number_for(
+            self.alloc,
+            &mut self.cache,
+            &mut self.kept,
+            name,
+            &ready,
+            pool,
+        )?;
         place(&mut self.cache, number, ready.inventory(), pool, group)
     }
 
@@ -160,7 +159,7 @@ impl<T: TenantStore> TenantStore for ReadyStore<T> {
         match self.kept.get(name)? {
             Some(ready) if ready.inventory().epoch() < RECEIPT_LIMIT as u64 => {
                 // all that needs memory is made before the change
-                let next = Rc::new(self.alloc, ready.after(self.alloc, change)?)?;
+                let next = ready.after(self.alloc, change)?;
                 let key = String::from_str(self.alloc, name)?;
                 self.below.commit(name, change)?;
                 self.kept.put(key, next);

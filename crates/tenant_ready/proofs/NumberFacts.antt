@@ -1,5 +1,5 @@
 -- Numbers that are kept beside what tenants have, and placements by them.
-use Rattle.std.proofs.Common.{◌≡◌, ◌∙◌, ◌⊎◌, ◌<◌, ◌==◌, inl, inr, ℕ, List, [], ◌∷◌, find, Bool, true, false, nat_lt, if◌then◌else◌, ok_or, option_map, Contains, Option, Some, None, Ok, refl, sym, ap, subst, eqb-true, arith}
+use Rattle.std.proofs.Common.{◌≡◌, ◌≢◌, ◌↔◌, ◌∙◌, ◌⊎◌, ◌<◌, ◌==◌, inl, inr, ℕ, List, [], ◌∷◌, find, Bool, true, false, nat_lt, if◌then◌else◌, ok_or, option_map, Contains, Option, Some, None, Ok, refl, sym, ap, subst, eqb-true, arith}
 use Rattle.std.proofs.lemmas.Bool.Decides.{nat_tests}
 use Rattle.lru.proofs.Splits.{Contains-nil}
 use Rattle.crush_map.specs.Map.{Map}
@@ -10,16 +10,15 @@ use Rattle.crush_pool.specs.declared.placing.Placement.{Placement}
 use Rattle.crush_pool.specs.declared.pool.PoolParts.{PoolParts}
 use Rattle.crush_cache.specs.Caches.{KeepsNumbers, Numbered}
 use Rattle.crush_cache.specs.Contents.{content_of}
-use Rattle.tenant_messages.specs.declared.reply.Problem.{Problem}
 use Rattle.tenant_messages.specs.declared.reply.Problem.TheVariants.{NoRule}
-use Rattle.tenant_resources.specs.Groups.{on_map, placed}
-use Rattle.tenant_state.specs.State.{Inventory, if_there, newest, on_newest, pool, version}
+use Rattle.tenant_resources.specs.Groups.{on_map}
+use Rattle.tenant_state.specs.State.{Inventory, TenantState, if_there, newest, on_newest, pool, version}
 use Rattle.tenant_core.specs.Queries.{AsksFor, IsPlacedFor}
-use Rattle.tenant_core.specs.States.{HasInventory, States}
+use Rattle.tenant_core.specs.States.{HasInventory, Same, States}
 use Rattle.tenant_core.specs.declared.queries.Query.{Query}
 use Rattle.tenant_core.specs.declared.queries.Query.TheVariants.{Group, Impact, Moves, Object, Pick, Test, Usage, Version}
 use Rattle.tenant_ready.specs.Kept.{Kept, Ready, Updates, kept_at}
-use Rattle.tenant_ready.specs.Ready.{AreKnown, AreNumbersOf, AreTrue, HasNumber, IsWithNumber}
+use Rattle.tenant_ready.specs.Ready.{AreKnown, AreNumbersOf, AreTrue, HasNumber, IsWithNumber, Renumbers}
 
 -- ---- the pool that is asked for
 
@@ -99,27 +98,57 @@ known_updated cache old new name now known numbers updates u r at = elim (update
   | inr others ↦ known u r others.1
 ]
 
-pub true_updated : (states : States) (old new : Kept) (name : List ℕ) (now : Option Ready) → AreTrue states old → ((r : Ready) → now ≡ Some r → HasInventory states name (Some r.inventory)) → Updates name now old new
-    → AreTrue states new
-true_updated states old new name now true_before has updates u r at = elim (updates u r at) [
-  | inl mine ↦ subst (λ t. HasInventory states t (Some r.inventory)) (sym mine.0) (has r mine.1)
+nothing : (cache : Numbered) (r : Ready) → None ≡ Some r → AreNumbersOf cache r
+nothing cache r is = absurd cc
+
+-- after a name is forgotten
+pub known_without : (cache : Numbered) (old new : Kept) (name : List ℕ) → AreKnown cache old → Updates name None old new → AreKnown cache new
+known_without cache old new name known updates = known_updated cache old new name None known (nothing cache) updates
+
+-- where the states of other names are the same
+pub true_without : (were are : States) (old new : Kept) (name : List ℕ) → AreTrue were old → Updates name None old new → ((t : List ℕ) (x : Option TenantState) → t ≢ name → (were t x ↔ are t x)) → AreTrue are new
+true_without were are old new name true_before updates others u r at = elim (updates u r at) [
+  | inl mine ↦ let none : None ≡ Some r = mine.1 in absurd cc
+  | inr other ↦ let was = true_before u r other.1 in (was.0, (others u was.0 other.0).0 was.1, was.2)
+]
+
+-- where all states are the same
+pub true_same : (were are : States) (kept : Kept) → Same were are → AreTrue were kept → AreTrue are kept
+true_same were are kept same true_before u r at = let was = true_before u r at in (was.0, (same u was.0).0 was.1, was.2)
+
+-- after this is kept of a name, with no number
+some_is : (r s : Ready) → Some r ≡ Some s → r ≡ s
+some_is r s is = cc
+
+pub known_put : (cache : Numbered) (old new : Kept) (name : List ℕ) (v : Ready) → AreKnown cache old → v.numbers ≡ [] → Updates name (Some v) old new → AreKnown cache new
+known_put cache old new name v known none updates = known_updated cache old new name (Some v) known (λ r is. subst (AreNumbersOf cache) (some_is v r is) (no_numbers cache v none)) updates
+
+pub true_put : (states : States) (old new : Kept) (name : List ℕ) (v : Ready) → AreTrue states old → HasInventory states name (Some v.inventory) → Updates name (Some v) old new → AreTrue states new
+true_put states old new name v true_before has updates u r at = elim (updates u r at) [
+  | inl mine ↦ subst (λ (s : Ready). HasInventory states u (Some s.inventory)) (some_is v r mine.1) (subst (λ t. HasInventory states t (Some v.inventory)) (sym mine.0) has)
   | inr others ↦ true_before u r others.1
 ]
 
--- with one more number beside what the name has
-abbrev pub Numbers : List ℕ → Ready → PoolParts → ℕ → Kept → Kept → Type 0
-Numbers name r p n old new = (u : List ℕ) (s : Ready) → kept_at new u ≡ Some s → (kept_at old u ≡ Some s) ⊎ ((u ≡ name) × IsWithNumber r p.id n s)
-
-pub known_with : (cache : Numbered) (old new : Kept) (name : List ℕ) (r : Ready) (p : PoolParts) (n : ℕ) → AreKnown cache old → AreNumbersOf cache r → pool p.id r.inventory ≡ Some p
-    → HasNumber cache r.inventory p n → Numbers name r p n old new → AreKnown cache new
-known_with cache old new name r p n known own there given numbers u s at = elim (numbers u s at) [
-  | inl was ↦ known u s was
-  | inr mine ↦ with_number cache r s p n own there given mine.1
+-- after a name has other numbers of the cache
+pub known_renumbered : (was cache : Numbered) (old new : Kept) (name : List ℕ) (r : Ready) → KeepsNumbers was cache → AreKnown was old → Renumbers name r cache old new → AreKnown cache new
+known_renumbered was cache old new name r keeps known renumbers u s at = elim (renumbers u s at) [
+  | inl before ↦ known_later was cache old keeps known u s before
+  | inr mine ↦ mine.2
 ]
 
-pub true_with : (states : States) (old new : Kept) (name : List ℕ) (r : Ready) (p : PoolParts) (n : ℕ) → AreTrue states old → HasInventory states name (Some r.inventory) → Numbers name r p n old new
-    → AreTrue states new
-true_with states old new name r p n true_before has numbers u s at = elim (numbers u s at) [
+pub true_renumbered : (states : States) (cache : Numbered) (old new : Kept) (name : List ℕ) (r : Ready) → AreTrue states old → HasInventory states name (Some r.inventory) → Renumbers name r cache old new → AreTrue states new
+true_renumbered states cache old new name r true_before has renumbers u s at = elim (renumbers u s at) [
   | inl was ↦ true_before u s was
-  | inr mine ↦ subst (λ i. HasInventory states u (Some i)) (sym mine.1.inventory) (subst (λ t. HasInventory states t (Some r.inventory)) (sym mine.0) has)
+  | inr mine ↦ subst (λ i. HasInventory states u (Some i)) (sym mine.1) (subst (λ t. HasInventory states t (Some r.inventory)) (sym mine.0) has)
+]
+
+pub renumbered : (was cache : Numbered) (old new : Kept) (name : List ℕ) (r : Ready) (q p : PoolParts) (n : ℕ) → q ≡ p → KeepsNumbers was cache → AreNumbersOf was r → pool p.id r.inventory ≡ Some p → HasNumber cache r.inventory p n
+    → ((u : List ℕ) (s : Ready) → kept_at new u ≡ Some s → (kept_at old u ≡ Some s) ⊎ ((u ≡ name) × IsWithNumber r q.id n s)) → Renumbers name r cache old new
+renumbered was cache old new name r q p n same keeps known there given beside u s at = elim (beside u s at) [
+  | inl before ↦ inl before
+  | inr mine ↦ inr (
+    mine.0,
+    mine.1.inventory,
+    with_number cache r s p n (λ id m q here found o is. keeps m (content_of o) (known id m q here found o is)) there given (subst (λ (z : PoolParts). IsWithNumber r z.id n s) same mine.1),
+  )
 ]
