@@ -1,20 +1,15 @@
 -- A request that is decided and carried out, for a store's relations.
 use Rattle.std.proofs.Common.{◌≡◌, ◌≢◌, ◌⊎◌, inl, inr, ◌↔◌, ◌∙◌, ℕ, List, Bool, Option, Some, None, is_some, option_map, Result, Ok, Err, IfOk, OnErr, refl, ap, sym, subst}
-use Rattle.tenant_core.specs.Effects.{after_effect, decided}
+use Rattle.tenant_core.specs.Effects.{after_effect}
 use Rattle.tenant_core.specs.Private.Performing.{Decides, LeavesRequest, Performs}
-use Rattle.tenant_core.specs.Queries as queries
 use Rattle.tenant_core.specs.Request.{Request}
-use Rattle.tenant_core.specs.States.{Damaged, Found, HasInventory, HasState, IsDamaged, LeavesAsItWas, LeavesAsItWasOr, Outcomes, Same, Shows, States}
-use Rattle.tenant_core.specs.Step.{decision, decision_on}
+use Rattle.tenant_core.specs.States.{Damaged, Found, HasState, IsDamaged, LeavesAsItWas, LeavesAsItWasOr, Outcomes, Same, Shows, States}
+use Rattle.tenant_core.specs.Step.{decision}
 use Rattle.tenant_core.specs.declared.decision.Decision.{Decision}
-use Rattle.tenant_core.specs.declared.decision.Effect.TheVariants.{Keep}
-use Rattle.tenant_core.specs.declared.queries.Query.{Query}
-use Rattle.tenant_core.specs.declared.request.Action.{Action}
-use Rattle.tenant_core.specs.declared.request.Action.TheVariants as action
 use Rattle.tenant_core.specs.declared.store.StoreFault.{StoreFault}
 use Rattle.tenant_messages.specs.Reply.{reply}
 use Rattle.tenant_messages.specs.declared.reply.Reply.{Reply}
-use Rattle.tenant_state.specs.State.{Inventory, TenantState, inventory_of}
+use Rattle.tenant_state.specs.State.{TenantState}
 
 -- what holds anyway holds of an error
 pub of_any : {A E : Type 0} (result : Result A E) (P : Type 0) → P → OnErr result P
@@ -41,20 +36,6 @@ shows_before old mid t (HasState s) same has = (same t s).1 has
 
 pub leaves_before : (old mid : States) (left : Outcomes) → Same old mid → LeavesAsItWas mid left → LeavesAsItWas old left
 leaves_before old mid left same leaves = λ t found may. shows_before old mid t found same (leaves t found may)
-
--- ---- a query that is decided by what its tenant has
-
-pub query_decided : (t : List ℕ) (q : Query) (s : Option TenantState) (i : Inventory) → Some i ≡ option_map inventory_of s
-    → decision_on t (action.Query q) s ≡ decided Keep (queries.answer q i)
-query_decided t q (Some u) i same =
-    let has : inventory_of u ≡ i = cc in ap (λ j. decided Keep (queries.answer q j)) has
-query_decided t q None i same = cc
-
-pub decides_query : (t : List ℕ) (q : Query) (old : States) (d : Decision) (i : Inventory) → HasInventory old t (Some i)
-    → d.effect ≡ Keep → d.reply ≡ reply (queries.answer q i) → Decides (record { tenant = t; action = action.Query q }) old d
-decides_query t q old d i has kept said =
-    let same = query_decided t q has.0 i has.1.1 in
-    record { state = has.0; found = has.1.0; effect = kept ∙ sym (ap (λ e. e.effect) same); reply = said ∙ sym (ap (λ e. reply e.answer) same) }
 
 -- ---- a request that was carried out
 

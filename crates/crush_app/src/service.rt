@@ -14,8 +14,8 @@ use std::marker::Model;
 use std::rc::Rc;
 use tenant_core::laws::each_decision_fits_its_state;
 use tenant_core::{
-    Action, Decision, Effect, Request, Routes, StoreFault, TenantStore, decide, decide_placed,
-    read_request, store_fault,
+    Action, Decision, Effect, Query, Request, Routes, StoreFault, TenantStore, decide,
+    decide_placed, read_request, store_fault,
 };
 use tenant_messages::{Call, CallParts, Refusal, Reply, refused};
 use tenant_state::Receipt;
@@ -70,8 +70,13 @@ fn receipt_of<T: TenantStore>(
     }
 }
 
+/// Whether a query asks for a group, whose placement a store may have at hand.
+fn asks_for_group(query: &Query) -> bool {
+    matches!(query, Query::Group(_, _) | Query::Object(_, _))
+}
+
 /// Decides what a query does by a placement that the store has at hand; `None`: it has none, or the
-/// request is no query. `Err(AllocError)`: an allocation failed. Nothing is changed.
+/// request asks for no group. `Err(AllocError)`: an allocation failed. Nothing is changed.
 fn decide_at_hand<T: TenantStore>(
     alloc: Global,
     store: &mut T,
@@ -84,6 +89,9 @@ fn decide_at_hand<T: TenantStore>(
     let Action::Query(query) = &request.action else {
         return Ok(None);
     };
+    if !asks_for_group(query) {
+        return Ok(None);
+    }
     let Some(placed) = store.placed(request.tenant, query) else {
         return Ok(None);
     };
