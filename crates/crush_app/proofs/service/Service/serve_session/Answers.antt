@@ -1,7 +1,7 @@
 use Rattle.std.proofs.Common.{◌≡◌, ◌+◌, ℕ, List, Option, [], ◌∷◌, ◌++◌, true, false, Bool, is_some, length, length-append, take, refl, sym, ap, subst, ◌∙◌, arith}
 use Rattle.std.proofs.lemmas.List.{take_more}
 use Rattle.tenant_core.proofs.Running.{run_on}
-use Rattle.tenant_core.specs.States.{MeetsDefinition}
+use Rattle.tenant_core.specs.States.{LeavesStep, MeetsDefinition}
 use Rattle.tenant_history.proofs.Served.{OneMore, latch_after, leaves_more, silent_after}
 use Rattle.tenant_history.specs.History.{IsSilentFrom}
 use Rattle.tenant_history.specs.Private.{LeavesSoFar, doubt_after}
@@ -20,7 +20,8 @@ loop-call-preserved g c =
     let states = g.T.TenantStore.has_state in
     let leave = g.T.TenantStore.may_leave in
     let latched = g.T.TenantStore.latched in
-    let said = rw c.parts.ensures at c.request-reply.ensures in
+    let said = c.request-reply.ensures in
+    let serves = rw c.parts.ensures at said.serves in
     let done = take c.loop-call.call-index c.args.calls.now in
     let replies = c.loop-call.replies.items in
     let doubt = c.loop-call.doubt in
@@ -33,14 +34,14 @@ loop-call-preserved g c =
     c.doubt_after-doubt.ensures ∙ ap (λ (b : Bool). doubt_after doubt b c.len.result) c.is_latched.ensures ∙ ap (λ (n : ℕ). doubt_after doubt (latched new) n) (c.len.ensures ∙ c.loop-call.replies.ok.0) in
     let stays : is_some doubt ≡ true → latched new ≡ true = λ h. ap latched (said.rests (sym so.latch ∙ h)) ∙ (sym so.latch ∙ h) in
     let meets : (h : g.T.TenantStore.is_honest new) → MeetsDefinition (latched new) (states old) (states new) (done ++ call ∷ []) (replies ++ reply ∷ []) =
-    λ h. run_on (latched mid) (latched new) (states old) (states mid) (states new) done replies call reply (so.meets (said.honest h)) (said.serves h) said.silent
+    λ h. run_on (latched mid) (latched new) (states old) (states mid) (states new) done replies call reply (so.meets (said.honest h)) (serves h) said.silent
     (λ was. ap latched (said.rests was) ∙ was) in
     record {
       honest = λ h. so.honest (said.honest h);
       meets = λ h. rw (calls_then, replies_then) (meets h);
       leaves = λ h.
           let more : OneMore (is_some doubt) (latched new) (states mid) (leave mid) (leave new) call reply = record {
-            crash = λ was shut. said.crash h (sym so.latch ∙ was) shut;
+            crash = λ was shut. subst (λ (x : Call). LeavesStep x (states mid) (leave new)) c.parts.ensures (said.crash h (sym so.latch ∙ was) shut);
             rests = λ shut t found there. subst (λ x. leave x t found) (said.rests (sym so.latch ∙ shut)) there;
             one = λ was t s u. g.met.T.TenantStore.one_state mid t s u (said.honest h) (sym so.latch ∙ was);
           } in
