@@ -1,4 +1,5 @@
-# crushcalc: `make help` says what there is. Proofs and builds are made by the Rattle toolchain's command rt.
+# crushcalc: `make help` says what there is. Proofs and builds are made by the Rattle toolchain's
+# command rt.
 
 RT = rt
 PREFIX = /usr/local
@@ -31,7 +32,8 @@ help:
 	@echo 'make serve     builds, and serves HTTP on 127.0.0.1:8080, or PORT=N, with the tenants in build/tenants.db'
 	@echo 'make clean     removes what was built, the finished proofs too'
 
-# rt is itself a python3 program; make test needs a C compiler for tests/refuse.c, and the comparisons with Ceph need gcc
+# rt is itself a python3 program; make test needs a C compiler for tests/refuse.c, and the
+# comparisons with Ceph need gcc
 tools:
 	@command -v python3 >/dev/null 2>&1 || { \
 	  echo 'python3 is missing: rt and the tests need it.'; \
@@ -46,7 +48,8 @@ tools:
 	@command -v $(RT) >/dev/null 2>&1 || { \
 	  echo "The Rattle toolchain is missing: there is no command '$(RT)'. Put the folder bin/ of its kit on PATH, or give make RT=/path/to/rt." >&2; exit 1; }
 
-# the crates are proved side by side; then rt run builds crates/crushcalc/out/crushcalc by LLVM at -O3, and runs it
+# the crates are proved side by side; then rt run builds crates/crushcalc/out/crushcalc by LLVM at
+# -O3, and runs it
 crushcalc: $(SOURCES) crates.txt HANDLES | tools
 	@mkdir -p build
 	@echo 'Proving the crates and building ./crushcalc: the first time some 35 minutes on four cores, later what changed.'
@@ -56,7 +59,8 @@ crushcalc: $(SOURCES) crates.txt HANDLES | tools
 	@cp crates/crushcalc/out/crushcalc crushcalc
 	@echo 'Built ./crushcalc.'
 
-# what make bench measures beside Ceph, and what answers mappings with reweights; built in the same way
+# what make bench measures beside Ceph, and what answers mappings with reweights; built in the same
+# way
 build/crush_bench: $(SOURCES) crates.txt HANDLES | tools
 	@mkdir -p build
 	@echo 'Proving and building crush_bench, which is measured. build/bench.log shows how far it is.'
@@ -70,7 +74,7 @@ try: tools
 	@mkdir -p build
 	@[ -r '$(SCRIPT)' ] || { echo "There is no file '$(SCRIPT)' to play." >&2; exit 1; }
 	@echo 'Playing $(SCRIPT) with no proof: a minute or two. Nothing is proved by this; make run proves the program and builds it.'
-	@script=$$(realpath '$(SCRIPT)') && cd crates/crushcalc && $(RT) try -- script <"$$script" >../../build/replies 2>../../build/try.log || { tail -n 30 build/try.log; exit 1; }
+	@script=$$(realpath '$(SCRIPT)') && cd crates/crushcalc && $(RT) try -- script <"$$script" >../../build/replies 2>../../build/try.log || { tail -n 30 ../../build/try.log; exit 1; }
 	@$(SHOW)
 
 # rt try takes a folder of inputs, each beside what has to be written

@@ -1,5 +1,6 @@
-/* What the programs here call of Ceph's libceph-common. Its headers for CRUSH aren't packaged, so the struct stands
-   here as Ceph 16 (Debian's librados2 16.2) lays it out; finished() stops where the library has another one. */
+/* What the programs here call of Ceph's libceph-common. Its headers for CRUSH aren't packaged,
+   so the struct stands here as Ceph 16 (Debian's librados2 16.2) lays it out; finished() stops
+   where the library has another one. */
 #include <stdint.h>
 #include <stdio.h>
 #include <stdlib.h>

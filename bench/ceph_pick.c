@@ -1,10 +1,12 @@
-/* usage: ceph_pick KIND N COUNT [TRIES]     (KIND: 1 uniform, 2 list, 3 tree; N items; inputs 0 .. COUNT-1)
+/* usage: ceph_pick KIND N COUNT [TRIES]     (KIND: 1 uniform, 2 list, 3 tree; N items; inputs 0
+      .. COUNT-1)
 
-   Times picks from one bucket by Ceph's own code. The library doesn't export a single pick, so this is crush_do_rule
-   over a map of that one bucket with the rule `take -1; choose firstn 1 type 0; emit`: one pick with r 0, and the
-   rule's own work with it. With TRIES every device is out, so that each rule makes TRIES picks, with r 0 .. TRIES-1,
-   and answers nothing: the rule's own work is spread over them. README.md says which bucket. Standard output: the
-   checksum, which is 0 with TRIES. Standard error: ns a pick. */
+   Times picks from one bucket by Ceph's own code. The library doesn't export a single pick, so
+   this is crush_do_rule over a map of that one bucket with the rule `take -1; choose firstn 1
+   type 0; emit`: one pick with r 0, and the rule's own work with it. With TRIES every device is
+   out, so that each rule makes TRIES picks, with r 0 .. TRIES-1, and answers nothing: the rule's
+   own work is spread over them. README.md says which bucket. Standard output: the checksum,
+   which is 0 with TRIES. Standard error: ns a pick. */
 #include "ceph_crush.h"
 
 int main(int count, char **words) {

@@ -1,5 +1,6 @@
-/* Counts what a program asks for: preloaded into it (LD_PRELOAD), this writes the sum of the bytes that malloc and realloc were
-   asked for as the last line of standard error. A realloc counts with its new size. Takes glibc's own names of both functions. */
+/* Counts what a program asks for: preloaded into it (LD_PRELOAD), this writes the sum of the
+   bytes that malloc and realloc were asked for as the last line of standard error. A realloc
+   counts with its new size. Takes glibc's own names of both functions. */
 #include <stdio.h>
 #include <stdlib.h>
 

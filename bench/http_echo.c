@@ -1,6 +1,8 @@
-/* A loop of read and write, which is what a machine allows a server: for each so many bytes that it reads it writes a reply of so many, all
-   that are due in one write. It serves connections one after the other.
-   usage: http_echo PORT REQUEST REPLY ENDS      bytes of a request, bytes of a reply, and 1 where each reply ends its connection */
+/* A loop of read and write, which is what a machine allows a server: for each so many bytes that
+   it reads it writes a reply of so many, all that are due in one write. It serves connections
+   one after the other.
+   usage: http_echo PORT REQUEST REPLY ENDS      bytes of a request, bytes of a reply, and 1
+      where each reply ends its connection */
 #include <arpa/inet.h>
 #include <netinet/tcp.h>
 #include <signal.h>

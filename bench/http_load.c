@@ -1,9 +1,10 @@
 #define _GNU_SOURCE
 /* Sends messages to a server on the loopback and reads its replies.
    usage: http_load PORT AHEAD ALIVE FILE
-   FILE has messages, each behind a line with its length. AHEAD is how many are sent before the reply to the first is read; 0 is one message a
-   connection, each until the server ends it. A connection has at most ALIVE messages. Prints the seconds, the messages, the bytes of
-   their replies, and how many statuses don't begin with 2. */
+   FILE has messages, each behind a line with its length. AHEAD is how many are sent before the
+   reply to the first is read; 0 is one message a connection, each until the server ends it. A
+   connection has at most ALIVE messages. Prints the seconds, the messages, the bytes of their
+   replies, and how many statuses don't begin with 2. */
 #include <arpa/inet.h>
 #include <netinet/tcp.h>
 #include <stdio.h>

@@ -1,5 +1,6 @@
-/* Runs a program and writes its peak memory in bytes as the last line of standard error. A process that Python starts begins
-   with Python's own memory in that count; one that this starts begins with little. */
+/* Runs a program and writes its peak memory in bytes as the last line of standard error. A
+   process that Python starts begins with Python's own memory in that count; one that this starts
+   begins with little. */
 #include <stdio.h>
 #include <sys/resource.h>
 #include <sys/wait.h>

@@ -1,9 +1,11 @@
 #!/usr/bin/env python3
 """Writes requests for 'crushcalc script' from files, and the rows of a report as CSV.
 
-usage: plan.py map PATH NUMBER <TEXT       the request that imports the text of a map; PATH is as /t/shop/maps
-       plan.py devices PATH NUMBER <CSV    the request that changes states of devices; PATH is as /t/shop/devices/csv
+usage: plan.py map PATH NUMBER <TEXT       the request that imports the text of a map
+       plan.py devices PATH NUMBER <CSV    the request that changes states of devices
        plan.py csv <REPLY                  the rows of a reply with usage or moves
+
+PATH is as /t/shop/maps, or /t/shop/devices/csv.
 
 NUMBER is a request number: it has to be another one for each request of a tenant.
 """

@@ -1,7 +1,9 @@
-"""Choosing and rules, written from Ceph's `mapper.c` and apart from the crates: the answer of a rule, and its trace.
+"""Choosing and rules, written from Ceph's `mapper.c` and apart from the crates: the answer of a
+rule, and its trace.
 
-The comparison with Ceph takes the traces that it expects from here: Ceph prints none. `tests/ceph/check --part` holds the answers
-of this file to those of Ceph, and `check` holds it to worked examples. None is an empty slot.
+The comparison with Ceph takes the traces that it expects from here: Ceph prints none.
+`tests/ceph/check --part` holds the answers of this file to those of Ceph, and `check` holds it to
+worked examples. None is an empty slot.
 """
 import functools
 
@@ -11,7 +13,8 @@ UNDECIDED = "undecided"
 
 
 class Run:
-    """A rule's run for one input. Buckets are by id: the number of the type, the kind, and the items with their weights."""
+    """A rule's run for one input. Buckets are by id: the number of the type, the kind, and the
+    items with their weights."""
 
     def __init__(self, picks, tunables, reweights, x, size):
         self.buckets, self.pick, self.reweights, self.x, self.size = picks.buckets, picks.pick, reweights, x, size
@@ -27,7 +30,8 @@ class Run:
         return self.buckets[item][0] if item < 0 else 0
 
     def descend(self, bucket, wanted, attempt):
-        """The item where a walk ends, None where a bucket is empty, and UNDECIDED where it meets a device and wants a bucket."""
+        """The item where a walk ends, None where a bucket is empty, and UNDECIDED where it meets a
+        device and wants a bucket."""
         while self.buckets[bucket][2]:
             item = self.pick(bucket, self.x, attempt(bucket))
             if self.type_of(item) == wanted:
@@ -91,7 +95,8 @@ class Run:
             out[place] = None if out[place] == UNDECIDED else out[place]
 
     def parent_of(self, bucket, wanted, attempt):
-        """The bucket in which a walk finds the item that it wants: its attempt is that of the leaf's walk."""
+        """The bucket in which a walk finds the item that it wants: its attempt is that of the
+        leaf's walk."""
         while True:
             item = self.pick(bucket, self.x, attempt(bucket))
             if self.type_of(item) == wanted:
@@ -146,7 +151,8 @@ class Picks:
 
 
 def run_rule(picks, tunables, steps, reweights, x, size):
-    """The items of the answer, and the trace: the devices that choose steps put out, each once and ascending."""
+    """The items of the answer, and the trace: the devices that choose steps put out, each once and
+    ascending."""
     run = Run(picks, tunables, dict(reweights), x, size)
     for step in steps:
         run.step(*step.split())
@@ -154,7 +160,8 @@ def run_rule(picks, tunables, steps, reweights, x, size):
 
 
 def check():
-    """Whether worked examples come out: tries for leaves, devices that a choose step passes over, and devices that only the trace has."""
+    """Whether worked examples come out: tries for leaves, devices that a choose step passes over,
+    and devices that only the trace has."""
     one, legacy, jewel = 65536, (19, 0, 0, 0), (50, 1, 1, 1)
     host = Picks([(-1, 1, "uniform", ((0, one), (1, one))), (-2, 10, "list", ((-1, one),))])
     single = Picks([(-1, 1, "uniform", ((0, one),)), (-2, 1, "list", ((1, one),)), (-3, 1, "list", ((2, one),)), (-4, 10, "list", ((-2, one), (-3, 0)))])

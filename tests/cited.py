@@ -1,13 +1,15 @@
 #!/usr/bin/env python3
 """Lists the definitions that public clauses cite, by crate and file, in docs/DEFINITIONS.md.
 
-usage: tests/cited.py            compares the list between the two marks of the page with the sources
+usage: tests/cited.py            compares the list between the two marks of the page with the
+    sources
        tests/cited.py --write    writes it there
 
-A public clause is a `requires` or `ensures` of a public function, of a method of a public trait or of a
-trait's method on a public type, or what such a type is in contracts (`ghost Value`, the relations of a trait). A
-definition is what the clause names and `ghost use` brings from a file of `specs/`; what is declared in sources (structs,
-enums, constants) isn't one. Crates beside the product (`.._tests`, `crush_bench`) have no public clauses that count.
+A public clause is a `requires` or `ensures` of a public function, of a method of a public trait or
+of a trait's method on a public type, or what such a type is in contracts (`ghost Value`, the
+relations of a trait). A definition is what the clause names and `ghost use` brings from a file of
+`specs/`; what is declared in sources (structs, enums, constants) isn't one. Crates beside the
+product (`.._tests`, `crush_bench`) have no public clauses that count.
 """
 import pathlib
 import re
@@ -30,7 +32,8 @@ def crates():
 
 
 def shown_by(crate):
-    """What a crate shows: the modules that are public as a whole, and the names that it shows of the others."""
+    """What a crate shows: the modules that are public as a whole, and the names that it shows of
+    the others."""
     root = TOP / "crates" / crate / "src" / "lib.rt"
     text = root.read_text() if root.is_file() else ""
     names = {name.strip() for _, many, one in PUBLIC_USE.findall(text) for name in (many or one).split(",") if name.strip()}
@@ -38,7 +41,8 @@ def shown_by(crate):
 
 
 def imports(text):
-    """What a file brings in: names, each with its crate, file and name there; and files under another name."""
+    """What a file brings in: names, each with its crate, file and name there; and files under
+    another name."""
     names, files = {}, {}
     for crate, path, inside, alias in USE.findall(text):
         if path.startswith("declared"):
@@ -53,7 +57,8 @@ def imports(text):
 
 
 def public_clauses(text, whole, shown):
-    """The text of each public clause of a file. `whole`: the file's module is public; `shown`: the names that the crate shows."""
+    """The text of each public clause of a file. `whole`: the file's module is public; `shown`: the
+    names that the crate shows."""
     lines = text.splitlines()
     kind = owner = None
     at = 0
@@ -105,7 +110,8 @@ def cited_in(text, whole, shown):
 
 
 def cited():
-    """Of each crate of the product and each file of its specs the definitions that public clauses of any crate cite."""
+    """Of each crate of the product and each file of its specs the definitions that public clauses
+    of any crate cite."""
     product = crates()
     found = {}
     for crate in product:

@@ -1,4 +1,5 @@
-"""Connections to the program as a server, each with what it has to send back by the rules of requests."""
+"""Connections to the program as a server, each with what it has to send back by the rules of
+requests."""
 import pathlib
 import socket
 import threading
@@ -29,7 +30,8 @@ def goes_on(server):
 
 
 def two_messages(program, db):
-    """Two messages of one connection, and the replies before the client says that nothing more comes."""
+    """Two messages of one connection, and the replies before the client says that nothing more
+    comes."""
     with Server(program, db) as server, server.connect() as connection:
         connection.sendall(message(b"PUT /t/a") + message(b"GET /t/a"))
         connection.settimeout(WAIT - 1)
@@ -52,7 +54,8 @@ def byte_by_byte(program, db):
 
 
 def examples(program, db):
-    """The stored scripts over one connection each, all to one server that is begun anew for each."""
+    """The stored scripts over one connection each, all to one server that is begun anew for
+    each."""
     for path in sorted((HERE.parent / "examples").glob("*.script")):
         with Server(program, db.with_name(f"{path.stem}.db")) as server:
             if why := unlike(asked(server, path.read_bytes().splitlines()), path.with_suffix(".out").read_bytes().splitlines()):
@@ -79,7 +82,8 @@ def refusals(program, db):
 
 
 def last_messages(program, db):
-    """Connection: close, HTTP/1.0 and the last message that a connection may have end it; what follows is not served."""
+    """Connection: close, HTTP/1.0 and the last message that a connection may have end it; what
+    follows is not served."""
     more = message(b"DELETE /t/a")
     with Server(program, db) as server:
         asked(server, [b"PUT /t/a"])
@@ -103,7 +107,8 @@ def silent_client(program, db):
 
 
 def resets(program, db):
-    """A client that resets its connection, before a message, in one, and with replies on their way, does no harm."""
+    """A client that resets its connection, before a message, in one, and with replies on their way,
+    does no harm."""
     whole = message(b"GET /t/a")
     with Server(program, db) as server:
         for data in (b"", whole[:10], message(b'POST /t/a/pick {"x":1}')[:-3], whole, whole * 2000):

@@ -22,7 +22,8 @@ def mix(a, b, c):
 
 
 def hashed(turns, **words):
-    """The seed xor all the words, mixed in turn with the two words that each pair of letters names."""
+    """The seed xor all the words, mixed in turn with the two words that each pair of letters
+    names."""
     words = {name: word & WORD for name, word in words.items()}
     h = SEED
     for word in words.values():
@@ -34,7 +35,8 @@ def hashed(turns, **words):
 
 
 def name_hash(name):
-    """The hash of an object's name, from its bytes: 12 of them for each mix, and a last mix with the length and the rest."""
+    """The hash of an object's name, from its bytes: 12 of them for each mix, and a last mix with
+    the length and the rest."""
     a = b = 0x9E3779B9
     c = 0
     whole = len(name) // 12 * 12
@@ -49,7 +51,8 @@ def name_hash(name):
 
 
 def stable_mod(x, count):
-    """The remainder that keeps most of its values where the count grows to the next power of two."""
+    """The remainder that keeps most of its values where the count grows to the next power of
+    two."""
     mask = (1 << (count - 1).bit_length()) - 1
     return x & mask if x & mask < count else x & mask >> 1
 
@@ -76,7 +79,8 @@ def uniform_pick(bucket, entries, x, r):
 
 
 def list_pick(bucket, entries, x, r):
-    """From the last item down, the first whose share of the weights up to it is drawn; else the first item."""
+    """From the last item down, the first whose share of the weights up to it is drawn; else the
+    first item."""
     total = sum(weight for _, weight in entries)
     for item, weight in reversed(entries):
         if (hash4(x, item, r, bucket) & 0xFFFF) * total >> 16 < weight:
@@ -86,7 +90,8 @@ def list_pick(bucket, entries, x, r):
 
 
 def tree_pick(bucket, entries, x, r):
-    """Down from the root: item i is the node 2i+1, and a node's height is the number of its trailing zero bits."""
+    """Down from the root: item i is the node 2i+1, and a node's height is the number of its
+    trailing zero bits."""
     def weight(node):
         half = node & -node
         first, past = (node - half + 1) // 2, (node + half) // 2

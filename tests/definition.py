@@ -1,5 +1,6 @@
-"""The definition's reply to a request, and what its tenant has afterwards, for requests on the few maps that are named here: those of one device, with
-the rule 0 or 1. Written from the rules of requests; hashes are those of crush.py."""
+"""The definition's reply to a request, and what its tenant has afterwards, for requests on the few
+maps that are named here: those of one device, with the rule 0 or 1. Written from the rules of
+requests; hashes are those of crush.py."""
 import collections
 import json
 
@@ -9,8 +10,9 @@ import pool_cases
 import report_cases
 from replies import BAD, EXISTS, NO_TENANT, dropped, item, made
 
-# a tenant: the device and the rule of the map of each version, the line and the reply of each accepted change by its request number, the
-# reweight and whether it is up of each device with a state, and the rule of each pool by its id; no two of these pools have a name in common
+# a tenant: the device and the rule of the map of each version, the line and the reply of each
+# accepted change by its request number, the reweight and whether it is up of each device with a
+# state, and the rule of each pool by its id; no two of these pools have a name in common
 Tenant = collections.namedtuple("Tenant", "versions receipts states pools")
 GROUPS = pool_cases.POOL["pg_num"]  # of each pool
 # the texts that are imported, by the device and the rule of their maps
@@ -40,7 +42,8 @@ def change_devices(tenant, asked, epoch):
 
 
 def entries_of(csv):
-    """The entries that a CSV says; None where it isn't of the form. Those of the scripts have LF line ends and no quotes."""
+    """The entries that a CSV says; None where it isn't of the form. Those of the scripts have LF
+    line ends and no quotes."""
     head, *rows = [it.split(",") for it in csv.splitlines()] or [[]]
     if head != ["id", "reweight", "up"] or not rows or any(len(it) != 3 for it in rows):
         return None
@@ -132,7 +135,8 @@ def moves_in(tenant, pool, first, second):
 
 
 def impact_in(tenant, pool, device):
-    """The definition's groups: the device of the newest version is in each trace where it has any weight left."""
+    """The definition's groups: the device of the newest version is in each trace where it has any
+    weight left."""
     if pool not in tenant.pools:
         return pool_cases.NO_POOL
     if device != tenant.versions[-1][0]:
@@ -156,7 +160,8 @@ def ask(tenant, rest, asked):
 
 
 def step(tenant, line):
-    """The definition's reply to a line, and its tenant after it. tenant: its tenant before it; None where it is absent."""
+    """The definition's reply to a line, and its tenant after it. tenant: its tenant before it; None
+    where it is absent."""
     method, path, sent = (line.split(b" ", 2) + [b""])[:3]
     name, *rest = path.decode().split("/")[2:]
     rest = tuple(rest)

@@ -1,9 +1,11 @@
 """Edits that must fail, and the record of what refused them.
 
-crates/NAME/must-fail/WHAT_IT_DOES.edit is a wrong body: the prover must refuse the crate with that edit. Trying one takes 30 to 60
-seconds, so a crate's edits are tried when the crate changed. REFUSED.md beside them records the last time: a digest of all that the
-outcome rests on in the crate, with the toolchain's version, and for each edit the goal that refused it. A record counts only
-while its digest fits; it is written by tests/wrong (make wrong), never by hand, from a run of its own or from the gate's last run.
+crates/NAME/must-fail/WHAT_IT_DOES.edit is a wrong body: the prover must refuse the crate with that
+edit. Trying one takes 30 to 60 seconds, so a crate's edits are tried when the crate changed.
+REFUSED.md beside them records the last time: a digest of all that the outcome rests on in the
+crate, with the toolchain's version, and for each edit the goal that refused it. A record counts
+only while its digest fits; it is written by tests/wrong (make wrong), never by hand, from a run of
+its own or from the gate's last run.
 """
 import hashlib
 import os
@@ -18,6 +20,9 @@ REFUSED = re.compile(r"^rt: must-fail (\w+)/(\w+)\.edit: refused, as it must be:
 TRIED = re.compile(r"^rt: must-fail (\w+)/(\w+)\.edit: (.*)$")
 PLACE = re.compile(r"(src/\w+\.rt):(\d+):\d+: (.*)")
 GOAL = re.compile(r"\(`([^`]*)`\)")
+# the proof of a function, in a file of its own, doesn't fit the edit: the source, the function, the
+# goal, and why
+PROOF = re.compile(r"\./proofs/(\w+)/(?:\w+/)?(\w+)/(?:Answers|Invariants)\.antt:\d+:\d+: error: `([^`]*)`: (.*)")
 DIGEST = re.compile(r"^Digest: ([0-9a-f]{64})$", re.M)
 
 
@@ -36,7 +41,8 @@ def edits(crate):
 
 
 def digest(crate):
-    """Of the crate's line in crates.txt, its sources, definitions, proofs and edits, and the toolchain's version."""
+    """Of the crate's line in crates.txt, its sources, definitions, proofs and edits, and the
+    toolchain's version."""
     line = [line for line in (TOP / "crates.txt").read_text().splitlines() if re.match(rf"{crate}\b", line)]
     sha = hashlib.sha256(f"{version()}\n{line}\n".encode())
     files = [p for part in ("src", "specs", "proofs") for p in (CRATES / crate / part).rglob("*") if p.is_file()]
@@ -62,7 +68,8 @@ def is_recorded(crate):
 
 
 def function_at(crate, file, line):
-    """The function whose signature, attributes before it included, or whose body is at this line."""
+    """The function whose signature, attributes before it included, or whose body is at this
+    line."""
     lines = (CRATES / crate / file).read_text().splitlines()
     at = int(line) - 1
     while at + 1 < len(lines) and lines[at].lstrip().startswith("#["):
@@ -76,7 +83,11 @@ def function_at(crate, file, line):
 
 def refusal(crate, said):
     """The function and the goal that refused an edit, as rt says it."""
-    at, goal = PLACE.search(said), GOAL.search(said)
+    at, goal, proof = PLACE.search(said), GOAL.search(said), PROOF.search(said)
+    if not at and proof:
+        # a goal, or a call in it, that the edit took away: such an edit shows nothing of a contract
+        gone = " has no field " in proof[4] or "that can be named from here" in proof[4]
+        return f"`{proof[2]}`, src/{proof[1]}.rt", f"`{proof[3]}`" + (" (its proof names what is gone)" if gone else "")
     where = f"`{function_at(crate, at.group(1), at.group(2))}`, {at.group(1)}" if at else "-"
     return where, f"`{goal.group(1)}`" if goal else said[:120].replace("|", "/")
 
@@ -101,8 +112,9 @@ def write_record(crate, found, before):
     rows = [f"| `{name}` | {name.replace('_', ' ')} | {where} | {goal} |" for name, (where, goal) in sorted(found.items())]
     record(crate).write_text(
         "# Refused edits\n\n"
-        "Written by `make wrong`, never by hand. Each edit beside this file was tried on the crate as the digest names it, and the prover\n"
-        "refused it. `make test` takes that for granted while the digest fits, and `make gate` tries every edit again.\n\n"
+        "Written by `make wrong`, never by hand. Each edit beside this file was tried on the crate as the\n"
+        "digest names it, and the prover refused it. `make test` takes that for granted while the digest\n"
+        "fits, and `make gate` tries every edit again.\n\n"
         f"Toolchain: {version()}\n\nDigest: {before}\n\n"
         "| edit | what it does | refused at | goal |\n|---|---|---|---|\n" + "\n".join(rows) + "\n"
     )

@@ -1,4 +1,5 @@
-"""Requests on maps and rule tests, each with the reply that the rules of requests give it. The maps are small enough to be answered by hand."""
+"""Requests on maps and rule tests, each with the reply that the rules of requests give it. The maps
+are small enough to be answered by hand."""
 import json
 import pathlib
 
@@ -141,7 +142,8 @@ START = [(b"PUT /t/a", made(b"a"))]
 
 
 def receipts():
-    """A request number acts once: the first reply again for the same path and body, else a refusal."""
+    """A request number acts once: the first reply again for the same path and body, else a
+    refusal."""
     return START + [
         (import_of(tiny(), "m1"), imported(1, 1)),
         (import_of(tiny(), "m2"), imported(2, 2)),
@@ -295,7 +297,8 @@ def tenants_apart():
 
 
 def repeats():
-    """A repeat has the reply of the first time, whatever came in between; what is compared are bytes."""
+    """A repeat has the reply of the first time, whatever came in between; what is compared are
+    bytes."""
     one, other = import_of(tiny(), "m1"), import_of(tiny(5), "m2")
     turned = post("maps", {"text": tiny(), "request": "m1"})  # the same keys and values in another order
     escaped = one.replace(b'"m1"', b'"\\u006d1"')  # the same request number, written otherwise
@@ -331,7 +334,8 @@ def repeats():
 
 
 def canonical_texts():
-    """A text as crushtool writes it, without what canonical texts drop; weights are rounded down to 65536ths, and written rounded up."""
+    """A text as crushtool writes it, without what canonical texts drop; weights are rounded down to
+    65536ths, and written rounded up."""
     jewel = (HERE / "cases" / "jewel.map").read_text()
     dropped_lines = ("tunable straw_calc_version", "tunable allowed_bucket_algs", "\tid -4 class", "\t# weight", "\tmin_size", "\tmax_size")
     kept = [it for it in jewel.split("\n") if not it.startswith(dropped_lines)]
@@ -351,7 +355,8 @@ def canonical_texts():
 
 
 def legacy_text(buckets="", rules=""):
-    """The canonical text of a map that names the local tunables alone, and has two types, three devices and these buckets and rules."""
+    """The canonical text of a map that names the local tunables alone, and has two types, three
+    devices and these buckets and rules."""
     return f"""# begin crush map
 tunable choose_local_tries 0
 tunable choose_local_fallback_tries 0
@@ -383,7 +388,8 @@ def legacy_bucket(*items, name="h", number=-1, alg="list"):
 
 
 def texts_as_they_are_read():
-    """Values that a text leaves out, places, and what is dropped, as the canonical text shows them."""
+    """Values that a text leaves out, places, and what is dropped, as the canonical text shows
+    them."""
     head = "tunable choose_local_tries 0 tunable choose_local_fallback_tries 0 type 0 osd type 1 host device 0 a device 1 b device 2 c "
     of = {it: f"{it} weight 1.00000" for it in "abc"}
     emits = "rule q {\n\tid 0\n\ttype erasure\n" + "\tstep emit\n" * 32 + "}\n"
@@ -407,7 +413,8 @@ def texts_as_they_are_read():
 
 
 def version_limit():
-    """256 versions; a repeat is answered before the limit, and the limit comes before a fault of the text."""
+    """256 versions; a repeat is answered before the limit, and the limit comes before a fault of
+    the text."""
     rows = START + [(import_of(tiny(), f"m{n}"), imported(n, n)) for n in range(1, 257)]
     return rows + [
         (import_of(tiny(), "more"), LIMIT),

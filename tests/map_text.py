@@ -1,6 +1,8 @@
-"""Map texts as the definition reads them: read(bytes) gives a map, or raises Refused with the line and code of the first fault.
+"""Map texts as the definition reads them: read(bytes) gives a map, or raises Refused with the line
+and code of the first fault.
 
-It is written from the format's rules (docs/MAPS.md) alone, slowly and plainly, and calls nothing of the program.
+It is written from the format's rules (docs/MAPS.md) alone, slowly and plainly, and calls nothing of
+the program.
 """
 import collections
 import re
@@ -24,7 +26,8 @@ class Refused(Exception):
 
 
 def words_of(text):
-    """The words with their lines: braces, longest runs of name bytes, and each other byte that is no blank."""
+    """The words with their lines: braces, longest runs of name bytes, and each other byte that is
+    no blank."""
     found = []
     for number, line in enumerate(text.split(b"\n"), 1):
         for it in re.finditer(rb"[A-Za-z0-9._-]+|[^ \t\r]", line.split(b"#")[0]):
@@ -57,7 +60,8 @@ def weight_text(weight):
 
 
 class Reader:
-    """Gives the words in order. What asks for a word that isn't there is refused at the text's end."""
+    """Gives the words in order. What asks for a word that isn't there is refused at the text's
+    end."""
 
     def __init__(self, text):
         self.words, self.place = words_of(text), 0

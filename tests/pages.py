@@ -1,21 +1,28 @@
 #!/usr/bin/env python3
 """Checks the pages (*.md) and the comments of the sources, which needs no built program.
 
-usage: tests/pages.py [WORD..]      with WORDs only the checks whose names have one, as REQUESTS, limits or crush_map
+usage: tests/pages.py [WORD..]      with WORDs only the checks whose names have one, as REQUESTS,
+    limits or crush_map
 
 - A line has at most 100 characters. Tables, code and a line that is one link may be longer.
-- A fenced block whose first line ends in 'from FILE', as in ```rust from crates/crush_app/src/play.rt, is a quote. Its lines stand together
-  in that file, whose path begins at the top of the repository, blanks and all.
+- A fenced block whose first line ends in 'from FILE', as in ```rust from
+  crates/crush_app/src/play.rt, is a quote. Its lines stand together in that file, whose path begins
+  at the top of the repository, blanks and all.
 - A link to a file, or to a heading of a page, leads to one that is there.
-- The table of limits in docs/REQUESTS.md has a row for each limit, with its const and crate: `pub const NAME: TYPE = NUMBER;` in
-  crates/CRATE/src/limits.rt. The numbers are the same. (A const that is computed from others has no row.)
+- The table of limits in docs/REQUESTS.md has a row for each limit, with its const and crate: `pub
+  const NAME: TYPE = NUMBER;` in crates/CRATE/src/limits.rt. The numbers are the same. (A const that
+  is computed from others has no row.)
 - The help of `crushcalc check` has a limit's number in the line of each code of HELPED.
-- README and some pages of docs/ have a greatest number of lines, and the table of words in docs/ARCHITECTURE.md one of rows.
-- A comment in crates/*/src, specs and proofs has at most 100 characters a line.
+- README and some pages of docs/ have a greatest number of lines, and the table of words in
+  docs/ARCHITECTURE.md one of rows.
+- A comment in crates/*/src, specs and proofs, or in tests, bench, tools and examples, has at most
+  100 characters a line, and so has a docstring.
 - docs/DEFINITIONS.md lists the definitions that public clauses cite (cited.py).
 
-tests/run runs these checks with its own. The last line is 'N passed, M failed': pages, the limits, the help, crates, and the list of definitions.
+tests/run runs these checks with its own. The last line is 'N passed, M failed': pages, the limits,
+the help, crates, and the list of definitions.
 """
+import ast
 import pathlib
 import re
 import sys
@@ -34,7 +41,8 @@ CONST = re.compile(r"^pub const (\w+): \w+ = (-?[\d_]+);$")
 LIMITED = re.compile(r"^\|[^|]*\| (-?[\d,]+) \| `(\w+)` \| `(\w+)` \|$")
 LIMITS = "docs/REQUESTS.md"
 HELP = "crates/crushcalc/src/arguments.rt"
-# the code of a fault: the crate and the const of its limit, and the number that its line of the help has
+# the code of a fault: the crate and the const of its limit, and the number that its line of the
+# help has
 HELPED = {
     "X7": ("crush_text", "TEXT_LIMIT", lambda limit: f"{limit:,}"),
     "M7": ("crush_map", "TOTAL_WEIGHT_LIMIT", lambda limit: str((limit + 1) // 65536)),  # the first whole weight past it
@@ -44,6 +52,7 @@ WORDS = "## Words that mean something special here"
 MOST_LINES = {"README.md": 110, "docs/ARCHITECTURE.md": 130, "docs/STATUS.md": 40}
 MOST_WORDS = 25
 COMMENTS = {".rt": ("//",), ".antt": ("--",)}
+TOOLS, NO_TOOLS = ("tests", "bench", "tools", "examples"), {".md", ".in", ".out", ".pyc", ".json", ".script"}
 LINK_ALONE = re.compile(r"^[-\s]*\[[^\]]*\]\([^)]*\)[.,;:]?$")
 
 
@@ -54,7 +63,8 @@ def pages():
 
 
 def parts(text):
-    """The lines outside fenced blocks, each with its number; and the blocks: the number and text of the first line, and the lines inside."""
+    """The lines outside fenced blocks, each with its number; and the blocks: the number and text of
+    the first line, and the lines inside."""
     prose, blocks, block = [], [], None
     for number, line in enumerate(text.splitlines(), 1):
         if line.startswith(FENCE):
@@ -181,6 +191,27 @@ def comment_faults(crate):
                     yield f"{source.relative_to(TOP)}: line {number} is a comment of {len(line)} characters"
 
 
+def tool_faults():
+    """Lines of comments and docstrings that are too long, in what tests, measures and builds."""
+    files = [TOP / "Makefile", TOP / ".ci/run", *(it for folder in TOOLS for it in (TOP / folder).rglob("*"))]
+    for file in sorted(it for it in files if it.is_file() and it.suffix not in NO_TOOLS):
+        text = file.read_text(errors="replace")
+        spoken = docstring_lines(text) if '"""' in text else set()
+        for number, line in enumerate(text.splitlines(), 1):
+            if len(line) > LONGEST and (number in spoken or line.lstrip().startswith(("# ", "//", "/*", "* "))):
+                yield f"{file.relative_to(TOP)}: line {number} is a comment of {len(line)} characters"
+
+
+def docstring_lines(text):
+    """The numbers of the lines of a program's docstrings; none where it isn't one of Python."""
+    try:
+        nodes = list(ast.walk(ast.parse(text)))
+    except SyntaxError:
+        return set()
+    owners = (it for it in nodes if isinstance(it, (ast.Module, ast.FunctionDef, ast.ClassDef)) and ast.get_docstring(it))
+    return {number for it in owners for number in range(it.body[0].lineno, it.body[0].end_lineno + 1)}
+
+
 def cited_faults():
     why = cited.wrong()
     if why:
@@ -194,12 +225,14 @@ def checks():
     yield "the table of limits", limit_faults()
     yield "the limits in the help", help_faults()
     yield "the definitions that are cited", cited_faults()
+    yield "the comments of tests, measurements and tools", tool_faults()
     for crate in sorted(path.name for path in (TOP / "crates").iterdir() if path.is_dir()):
         yield f"the comments of {crate}", comment_faults(crate)
 
 
 def outcomes(words):
-    """Each check, or those whose names have one of the words: what is checked, and its first fault, or None."""
+    """Each check, or those whose names have one of the words: what is checked, and its first fault,
+    or None."""
     for name, faults in checks():
         if not words or any(it in name for it in words):
             yield name, next(faults, None)

@@ -1,5 +1,6 @@
-"""Requests on states of devices, on pools and on their groups, each with the reply that the rules of requests give it. The maps are small enough
-to be answered by hand; names' hashes and seeds are those of crush.py."""
+"""Requests on states of devices, on pools and on their groups, each with the reply that the rules
+of requests give it. The maps are small enough to be answered by hand; names' hashes and seeds are
+those of crush.py."""
 import json
 
 import crush
@@ -28,7 +29,8 @@ def three():
 
 
 def one_host():
-    """Two devices in a uniform host in a list, and rules of id 0 and 1; the second has two tries for a leaf."""
+    """Two devices in a uniform host in a list, and rules of id 0 and 1; the second has two tries
+    for a leaf."""
     head = "\n".join([*tiny().split("\n")[:6], "device 0 osd.0", "device 1 osd.1", *tiny().split("\n")[7:10]])
     steps = " type replicated\n{} step take default\n step chooseleaf indep 0 type host\n step emit\n}}\n"
     return head + """
@@ -121,7 +123,8 @@ SEED = 91478055  # hash2(0, 1): group 0 of pool 1
 
 
 def first_pools():
-    """A pool, its objects and groups; a rule that a pool names stays; the same pool without hashed seeds."""
+    """A pool, its objects and groups; a rule that a pool names stays; the same pool without hashed
+    seeds."""
     twelve = dict(pg_num=12, pgp_num=12, hashpspool=False)
     return START + [
         (import_of(tiny()), imported(1, 1)),
@@ -142,7 +145,8 @@ def first_pools():
 
 
 def seeds_and_names():
-    """Groups by the hashes of names, and seeds by groups, with fewer seeds than groups and at the greatest numbers."""
+    """Groups by the hashes of names, and seeds by groups, with fewer seeds than groups and at the
+    greatest numbers."""
     rows, epoch, greatest = START + [(import_of(tiny()), imported(1, 1))], 1, 2147483647
     for pool, pg_num, pgp_num, groups in ((1, 12, 12, range(12)), (2, 12, 5, range(12)), (3, 1, 1, [0]), (5, 65536, 65535, [0, 32767, 65534, 65535]), (greatest, 65536, 65536, [0, 65535])):
         for hashed in (True, False):
@@ -160,7 +164,8 @@ def seeds_and_names():
 
 
 def reweights():
-    """A device is in where the lower half of hash2(x, device) is below its reweight; a leaf that is out is looked for again by its tries."""
+    """A device is in where the lower half of hash2(x, device) is below its reweight; a leaf that is
+    out is looked for again by its tries."""
     rows = START + [
         (import_of(tiny(1)), imported(1, 1)),
         (devices_of("d1", state(1, reweight=55335)), accepted(1, 2)),  # that half of hash2(0, 1) is 55335
@@ -185,7 +190,8 @@ def reweights():
 
 
 def devices_down():
-    """A replicated pool leaves devices that are down out of up, an erasure pool has none in their places; raw stays."""
+    """A replicated pool leaves devices that are down out of up, an erasure pool has none in their
+    places; raw stays."""
     raw, seed = [0, 1, 2], crush.hash2(0, 2)
     return START + [
         (import_of(three()), imported(1, 1)),
@@ -265,7 +271,8 @@ def states_of_devices():
 
 
 def states_are_kept():
-    """States of devices that a later version lacks come into force again with a version that has them."""
+    """States of devices that a later version lacks come into force again with a version that has
+    them."""
     return START + [
         (import_of(tiny()), imported(1, 1)),
         (pool_of("p1"), created(2)),
@@ -308,7 +315,8 @@ def many_devices():
 
 
 def own_checks():
-    """A request's own checks come in their order, and what is refused changes nothing and leaves no receipt."""
+    """A request's own checks come in their order, and what is refused changes nothing and leaves no
+    receipt."""
     return START + [
         (devices_of("r", state(0, up=False)), NO_VERSION),  # no version, before no device
         (pool_of("r"), NO_VERSION),
@@ -382,7 +390,8 @@ def rules_in_use():
 
 
 def repeats():
-    """A request number acts once, whichever path it was sent to: the first reply again for the same path and body, else a refusal."""
+    """A request number acts once, whichever path it was sent to: the first reply again for the same
+    path and body, else a refusal."""
     first, down, gone = pool_of("p1"), devices_of("d1", state(0, up=False)), removal_of("e1")
     return START + [
         (import_of(tiny()), imported(1, 1)),
@@ -425,7 +434,8 @@ def repeats():
 
 
 def dropped_tenants():
-    """A tenant that is dropped leaves neither pools nor states nor receipts to the next of its name, nor to others."""
+    """A tenant that is dropped leaves neither pools nor states nor receipts to the next of its
+    name, nor to others."""
     out, down = lies(2, 0, SEED, [0]), devices_of("d1", state(0, up=False))
     first = [(import_of(tiny()), imported(1, 1)), (pool_of("p1"), created(2)), (group_of(0), out)]
     seven = [(import_of(tiny(7)), imported(1, 1)), (pool_of("p1"), created(2)), (group_of(0), lies(2, 0, SEED, [7]))]
@@ -470,7 +480,8 @@ def pool_limit():
 
 
 def receipt_limit():
-    """100,000 receipts; the limit comes before a request's own checks, a repeat before it. What changes nothing is answered as ever."""
+    """100,000 receipts; the limit comes before a request's own checks, a repeat before it. What
+    changes nothing is answered as ever."""
     down = [devices_of(f"d{it}", state(0, up=it % 2 == 0)) for it in range(2, 100_001)]
     return START + [(import_of(tiny()), imported(1, 1))] + [(line, accepted(1, epoch)) for epoch, line in enumerate(down, 2)] + [
         (devices_of("more", state(0, up=True)), LIMIT),

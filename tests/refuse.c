@@ -1,7 +1,9 @@
-/* Refuses memory once: preloaded into a program (LD_PRELOAD), this answers its REFUSE_AT-th allocation with NULL, and writes a
-   zero byte to the file descriptor REFUSE_FD as it does. An allocation is a call of malloc or realloc with a size above 0, the
-   first has number 1, and none is refused without REFUSE_AT. Counting begins when this library is started: the loader has
-   done its work by then, and what follows is the program. Takes glibc's own names of both functions, and no header. */
+/* Refuses memory once: preloaded into a program (LD_PRELOAD), this answers its REFUSE_AT-th
+   allocation with NULL, and writes a zero byte to the file descriptor REFUSE_FD as it does. An
+   allocation is a call of malloc or realloc with a size above 0, the first has number 1, and
+   none is refused without REFUSE_AT. Counting begins when this library is started: the loader
+   has done its work by then, and what follows is the program. Takes glibc's own names of both
+   functions, and no header. */
 typedef __SIZE_TYPE__ size;
 
 void *__libc_malloc(size);

@@ -1,4 +1,5 @@
-"""Runs of a program with one of its allocations refused, by the library that refuse.c is compiled to."""
+"""Runs of a program with one of its allocations refused, by the library that refuse.c is compiled
+to."""
 import functools
 import os
 import pathlib
@@ -14,7 +15,8 @@ class Unfit(Exception):
 
 @functools.lru_cache(maxsize=None)
 def refuser():
-    """The folder to run in, and the path from there of refuse.c compiled (LD_PRELOAD splits at blanks and colons)."""
+    """The folder to run in, and the path from there of refuse.c compiled (LD_PRELOAD splits at
+    blanks and colons)."""
     compiler = next(filter(None, map(shutil.which, ("cc", "gcc", "clang"))), None)
     if compiler is None:
         raise Unfit("there is no C compiler for tests/refuse.c: install the package gcc, as by 'apt-get install gcc libc6-dev'")
@@ -29,7 +31,8 @@ def refuser():
 
 
 def refused_run(command, allocation, mark, seconds, stdin=None):
-    """Runs a command with this allocation refused, if it comes to it: a zero byte then goes to the file descriptor `mark`."""
+    """Runs a command with this allocation refused, if it comes to it: a zero byte then goes to the
+    file descriptor `mark`."""
     top, library = refuser()
     env = {**os.environ, "LD_PRELOAD": library, "REFUSE_AT": str(allocation), "REFUSE_FD": str(mark)}
     return subprocess.run(command, stdin=stdin, stdout=subprocess.PIPE, stderr=subprocess.PIPE, cwd=top, env=env, timeout=seconds)

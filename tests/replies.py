@@ -1,4 +1,5 @@
-"""Requests and the replies that the format's rules give them, and the run that is stored with the program."""
+"""Requests and the replies that the format's rules give them, and the run that is stored with the
+program."""
 import json
 import pathlib
 

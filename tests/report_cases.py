@@ -1,5 +1,6 @@
-"""Requests for reports on pools, and changes of states of devices as CSV, each with the reply that the rules of requests give it. The maps are small
-enough to be answered by hand; picks and seeds are those of crush.py."""
+"""Requests for reports on pools, and changes of states of devices as CSV, each with the reply that
+the rules of requests give it. The maps are small enough to be answered by hand; picks and seeds are
+those of crush.py."""
 import crush
 from map_cases import NO_RULE, NO_VERSION, REUSED, START, import_of, imported, of_b, post, test_of, tested, tiny, with_line
 from pool_cases import NO_DEVICE, NO_POOL, SEED, accepted, created, devices_of, duo, group_of, lies, one_host, pool_of, removal_of, removed, state, summary, three, with_devices, with_rule, words
@@ -40,7 +41,8 @@ def lines_of(*lines, end="\n"):
 
 
 def used(epoch, *rows, version=1, pool=1):
-    """Each row: the device, its groups, its entries, of how many groups it is the primary, and permille."""
+    """Each row: the device, its groups, its entries, of how many groups it is the primary, and
+    permille."""
     named = [dict(zip(("device", "groups", "entries", "primaries", "permille"), it)) for it in rows]
     return words(200, {"epoch": epoch, "pool": pool, "rows": named, "version": version})
 
@@ -63,7 +65,8 @@ SECOND = dict(id=2, name="e", kind="erasure", **TWO)
 
 
 def usage():
-    """What a pool of one device lies on; a device that is down, and then one that is out, has nothing."""
+    """What a pool of one device lies on; a device that is down, and then one that is out, has
+    nothing."""
     return START + [
         (usage_of(), NO_POOL),
         (import_of(tiny()), imported(1, 1)),
@@ -91,7 +94,8 @@ def usage():
 
 
 def usage_by_entries():
-    """Permille is of all entries that aren't none, rounded down; groups count a device once, entries each time."""
+    """Permille is of all entries that aren't none, rounded down; groups count a device once,
+    entries each time."""
     return START + [
         (import_of(three()), imported(1, 1)),
         (pool_of("p1", size=3), created(2)),
@@ -143,7 +147,8 @@ def moves():
 
 
 def moves_of_lists():
-    """A group moves where its list differs, be it in its order alone; what it gains are the devices that it didn't have."""
+    """A group moves where its list differs, be it in its order alone; what it gains are the devices
+    that it didn't have."""
     lists = [[0, 1, 2], [2, 1, 0], [3, 3, 1], [0, 1], [0, 1, 1]]
     rows = START + [(import_of(taking(*it), f"m{epoch}"), imported(epoch, epoch)) for epoch, it in enumerate(lists, 1)]
     rows += [(pool_of("p1", size=3, pg_num=1, pgp_num=1), created(6))]
@@ -156,7 +161,8 @@ def moves_of_lists():
 
 
 def checks_of_moves():
-    """No pool, no version and no rule come in this order; a pool's rule may be missing on a version before the newest."""
+    """No pool, no version and no rule come in this order; a pool's rule may be missing on a version
+    before the newest."""
     return START + [
         (import_of(with_rule(1, tiny())), imported(1, 1)),
         (import_of(tiny(), "m2"), imported(2, 2)),
@@ -208,7 +214,8 @@ def impact():
 
 
 def checks_of_impact():
-    """No pool comes before no device; a device that no bucket holds, or that a rule takes by its name, is in no trace."""
+    """No pool comes before no device; a device that no bucket holds, or that a rule takes by its
+    name, is in no trace."""
     return START + [
         (import_of(three()), imported(1, 1)),
         (pool_of("p1", size=3), created(2)),
@@ -245,7 +252,8 @@ def impact_of_what_is_passed_over():
 
 
 def groups_of_two_devices():
-    """Of two devices each touches its own groups alone; with one of them out no group of the other's changes."""
+    """Of two devices each touches its own groups alone; with one of them out no group of the
+    other's changes."""
     seeds = [crush.hash2(group, 1) for group in range(64)]
     first = [crush.uniform_pick(-1, [(0, 65536), (1, 65536)], seed, 0) for seed in seeds]
     of = {device: [group for group in range(64) if first[group] == device] for device in (0, 1)}
@@ -272,7 +280,8 @@ def groups_of_two_devices():
 
 
 def states_as_csv():
-    """Both reweight and up of each device that has a line, at once; a number acts once, whichever path it was sent to."""
+    """Both reweight and up of each device that has a line, at once; a number acts once, whichever
+    path it was sent to."""
     first = csv_of("c1", lines_of("1,32768,0"))
     return START + [
         (first, NO_VERSION),

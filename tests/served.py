@@ -1,4 +1,5 @@
-"""The program as a server, for tests: messages made of lines of a script, and replies as the lines that a script writes."""
+"""The program as a server, for tests: messages made of lines of a script, and replies as the lines
+that a script writes."""
 import re
 import signal
 import socket
@@ -56,7 +57,8 @@ class Server:
         return it
 
     def stop(self, with_signal=signal.SIGTERM):
-        """Ends it by a signal, and returns the status, and what it wrote to standard output after its first line and to standard error."""
+        """Ends it by a signal, and returns the status, and what it wrote to standard output after
+        its first line and to standard error."""
         self.run.send_signal(with_signal)
         return self.ended()
 
@@ -88,7 +90,8 @@ def message(line, *headers, version=b"1.1"):
 
 
 def read_reply(stream):
-    """The next reply of a connection as a script's line, and whether the connection ends after it; None where nothing comes."""
+    """The next reply of a connection as a script's line, and whether the connection ends after it;
+    None where nothing comes."""
     head = b""
     while not head.endswith(b"\r\n\r\n"):
         line = stream.readline()
@@ -118,7 +121,8 @@ def replies_on(connection):
 
 
 def asked(server, lines, *headers):
-    """The replies to these lines, sent as one whole over a connection of their own whose writing side is then shut."""
+    """The replies to these lines, sent as one whole over a connection of their own whose writing
+    side is then shut."""
     with server.connect() as connection:
         connection.sendall(b"".join(message(it, *headers) for it in lines))
         connection.shutdown(socket.SHUT_WR)

@@ -1,5 +1,6 @@
-"""The commands that documents show, each with what it has to print: indented lines, a command after '$ ' and its output below it.
-The commands of a document run in order in one folder, which has the program as crushcalc, and the examples."""
+"""The commands that documents show, each with what it has to print: indented lines, a command after
+'$ ' and its output below it. The commands of a document run in order in one folder, which has the
+program as crushcalc, and the examples."""
 import os
 import pathlib
 import re
@@ -35,7 +36,8 @@ def commands_in(text):
 
 
 def without_jq(command):
-    """The command with rows written as CSV by plan.py where jq does it, so that the tests need no jq."""
+    """The command with rows written as CSV by plan.py where jq does it, so that the tests need no
+    jq."""
     return re.sub(r"\bjq -r '[^']*'", "python3 examples/plan.py csv", command)
 
 
@@ -47,7 +49,8 @@ def fault(folder, command, wanted, seconds):
 
 
 def outcomes(program, words, seconds):
-    """Each command of the documents, or of those whose names have one of the words: its name, and why it fails, or None."""
+    """Each command of the documents, or of those whose names have one of the words: its name, and
+    why it fails, or None."""
     for document in DOCUMENTS:
         name = f"shown in {document}"
         if words and not any(it in name for it in words):

@@ -54,7 +54,8 @@ def change(db, *statements):
 
 
 def held(db):
-    """The epoch and the rows of each tenant by its name, each table in the order of its key; of an empty file nothing."""
+    """The epoch and the rows of each tenant by its name, each table in the order of its key; of an
+    empty file nothing."""
     with opened(db) as connection:
         try:
             whole = connection.execute("PRAGMA integrity_check").fetchall(), connection.execute("PRAGMA foreign_key_check").fetchall()

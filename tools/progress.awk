@@ -1,4 +1,5 @@
-# Says how far the proofs of a crate and of all that it uses are, from what rt all check says: a line for each crate that is proved.
+# Says how far the proofs of a crate and of all that it uses are, from what rt all check says: a
+# line for each crate that is proved.
 #
 # usage: rt all check | awk -v crate=NAME -f tools/progress.awk crates.txt -
 

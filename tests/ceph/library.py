@@ -1,4 +1,5 @@
-"""Ceph's side of the comparisons: its crushtool reads the text of a map, and bench/ceph_mappings.c asks its library's crush_do_rule."""
+"""Ceph's side of the comparisons: its crushtool reads the text of a map, and bench/ceph_mappings.c
+asks its library's crush_do_rule."""
 import json
 import pathlib
 import shutil
@@ -61,7 +62,8 @@ def step_line(step, types):
 
 
 def lines_of(text, reweights=()):
-    """The lines that declare a map and its first rule to the program, as crushtool reads the text, with pairs of device and reweight."""
+    """The lines that declare a map and its first rule to the program, as crushtool reads the text,
+    with pairs of device and reweight."""
     it = read(text)
     types = {of["name"]: of["type_id"] for of in it["types"]}
     lines = ["map text", "tunables " + " ".join(str(it["tunables"][name]) for name in TUNABLES), f"devices {max(of['id'] for of in it['devices']) + 1}"]

@@ -1,4 +1,5 @@
-"""The clusters of the comparison of placements: each a map with several rules, pools, states of its devices, one after the other, and names of objects.
+"""The clusters of the comparison of placements: each a map with several rules, pools, states of its
+devices, one after the other, and names of objects.
 
 The same clusters are made each time. README.md says what they cover, and what is kept out.
 """
@@ -34,7 +35,8 @@ POOLS = (
 
 
 class Cluster(Map):
-    """A map with the rules that the pools name, under the root -1; MIDDLE is the type of its buckets below the root."""
+    """A map with the rules that the pools name, under the root -1; MIDDLE is the type of its
+    buckets below the root."""
 
     def __init__(self, name, middle, tunables=None):
         super().__init__(name, *([tunables] if tunables else []))

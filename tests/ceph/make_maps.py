@@ -1,5 +1,6 @@
 #!/usr/bin/env python3
-"""The maps of the comparison with Ceph; run, it writes them beside this file, in maps/, as CRUSH map texts.
+"""The maps of the comparison with Ceph; run, it writes them beside this file, in maps/, as CRUSH
+map texts.
 
 usage: tests/ceph/make_maps.py
 
@@ -17,12 +18,14 @@ JEWEL, LEGACY = (50, 1, 1, 1), (19, 0, 0, 0)
 
 
 def weight_text(weight):
-    """All digits of a 16.16 weight, so that every reader has the same one: w / 65536 ends after 16 digits."""
+    """All digits of a 16.16 weight, so that every reader has the same one: w / 65536 ends after 16
+    digits."""
     return f"{weight >> 16}." + (f"{(weight & 65535) * 10**16 // 65536:016d}".rstrip("0") or "0")
 
 
 class Map:
-    """A map with one rule, 0, while it is declared; buckets below the root -1 have ids from -2 on."""
+    """A map with one rule, 0, while it is declared; buckets below the root -1 have ids from -2
+    on."""
 
     def __init__(self, name, tunables=JEWEL):
         self.name, self.tunables, self.devices = name, tunables, 0
@@ -88,7 +91,8 @@ def uneven(d):
 
 
 def tree_of(map_, kinds, racks=4, hosts=4, devices=3, weight=even, host_weight=None):
-    """Racks of hosts of devices under the root -1. kinds are those of root, racks and hosts; a uniform one has equal weights."""
+    """Racks of hosts of devices under the root -1. kinds are those of root, racks and hosts; a
+    uniform one has equal weights."""
     root_kind, rack_kind, host_kind = kinds
     tops = []
     for r in range(racks):
@@ -278,7 +282,8 @@ def random_map(seed):
 
 
 def shared_map(seed):
-    """Devices that are in several hosts, and hosts in several racks: an item chosen may have been chosen elsewhere before."""
+    """Devices that are in several hosts, and hosts in several racks: an item chosen may have been
+    chosen elsewhere before."""
     choice = random.Random(seed)
     map_ = Map(f"shared_{seed}", (choice.randint(0, 19), choice.randint(0, 1), choice.randint(0, 3), choice.randint(0, 1)))
     devices = [device for device, _ in map_.take_devices(12)]

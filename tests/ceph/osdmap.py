@@ -1,8 +1,10 @@
 """OSD maps for Ceph's osdmaptool, with the pools and the states of devices that a comparison wants.
 
-osdmaptool makes pools of one form alone (`--createsimple --with-default-pool`: replicated, size 3), and none of its options keeps a device down or gives it a
-reweight. So its own map is changed here in its encoded form (`OSDMap::encode` and `pg_pool_t::encode` of Ceph's osd/, release 16): the pools, their names, and
-the states and reweights of devices. osdmaptool then has to read the changed map, and to say by `--dump json` that each pool and each device is as it was wanted.
+osdmaptool makes pools of one form alone (`--createsimple --with-default-pool`: replicated, size 3),
+and none of its options keeps a device down or gives it a reweight. So its own map is changed here
+in its encoded form (`OSDMap::encode` and `pg_pool_t::encode` of Ceph's osd/, release 16): the
+pools, their names, and the states and reweights of devices. osdmaptool then has to read the changed
+map, and to say by `--dump json` that each pool and each device is as it was wanted.
 """
 import json
 import pathlib
@@ -81,7 +83,8 @@ def of_states(states):
 
 
 def changed(data, pools, states):
-    """The encoded map of one pool with these pools, in order of id, and these states: pairs of a reweight, and whether the device is up."""
+    """The encoded map of one pool with these pools, in order of id, and these states: pairs of a
+    reweight, and whether the device is up."""
     if checksum(data[:-4]) != number(data, len(data) - 4):
         raise library.Failed("osdmaptool's own map has another checksum than this program finds")
     client_end = section_end(data, 6)
@@ -132,7 +135,8 @@ class OsdMap:
         return of["osd"], round(of["weight"] * 65536), of["up"] == 1
 
     def placements(self, *options):
-        """For each pool and group raw, up and the primary; None stands for none. Options change states of devices for this once."""
+        """For each pool and group raw, up and the primary; None stands for none. Options change
+        states of devices for this once."""
         line = re.compile(r"(\d+)\.([0-9a-f]+) raw \(\[([^]]*)\], p-?\d+\) up \(\[([^]]*)\], p(-?\d+)\) acting .*")
         found = filter(None, map(line.fullmatch, self.ask(*options, "--test-map-pgs-dump-all").splitlines()))
         return {(int(it[1]), int(it[2], 16)): (slots(it[3]), slots(it[4]), None if it[5] == "-1" else int(it[5])) for it in found}

@@ -1,4 +1,5 @@
-"""A session that has each route once and some refusals, as lines of a script, and the replies that a script of them gets."""
+"""A session that has each route once and some refusals, as lines of a script, and the replies that
+a script of them gets."""
 import json
 import pathlib
 import re

@@ -1,5 +1,5 @@
-"""A full disk: what is answered, and that the server goes on when there is room again. A file system of two MiB in memory is mounted for it,
-which takes root; elsewhere there is no check."""
+"""A full disk: what is answered, and that the server goes on when there is room again. A file
+system of two MiB in memory is mounted for it, which takes root; elsewhere there is no check."""
 import errno
 import os
 import pathlib
@@ -19,7 +19,8 @@ def import_of(place):
 
 
 def fill(server, first):
-    """Imports until one is refused: the number of the last that was accepted, and the last reply."""
+    """Imports until one is refused: the number of the last that was accepted, and the last
+    reply."""
     for place in range(first, first + 1000):
         reply, = asked(server, [import_of(place)])
         if reply != map_cases.imported(place, place):
@@ -39,7 +40,8 @@ def take_the_rest(path):
 
 
 def starts(program, db, summary):
-    """Why a start on the full disk doesn't serve, or a clean end there isn't refused after its reply, or None."""
+    """Why a start on the full disk doesn't serve, or a clean end there isn't refused after its
+    reply, or None."""
     with Server(program, db) as server:
         found = asked(server, [b"GET /t/a"])
     if found != [summary]:
@@ -50,8 +52,9 @@ def starts(program, db, summary):
 
 
 def at_full_disk(program, folder):
-    """Nothing but changes is refused while the disk is full, and they are accepted once there is room. A start with the
-    log of before needs none; a clean end does, and without it the files still have everything."""
+    """Nothing but changes is refused while the disk is full, and they are accepted once there is
+    room. A start with the log of before needs none; a clean end does, and without it the files
+    still have everything."""
     db, ballast = pathlib.Path(folder, "t.db"), [pathlib.Path(folder, f"ballast-{it}") for it in range(2)]
     for it in ballast:
         it.write_bytes(bytes(1 << 19))

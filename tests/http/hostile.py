@@ -1,4 +1,5 @@
-"""Clients that hold the service up, or go away. Each has a server of its own; they run side by side, since most of them only wait."""
+"""Clients that hold the service up, or go away. Each has a server of its own; they run side by
+side, since most of them only wait."""
 import pathlib
 import socket
 import threading
@@ -9,7 +10,8 @@ import pool_cases
 from replies import BAD, made, there
 from served import Server, asked, message, replies_on, reset
 
-# what a client may take: for one read or write, and for a message with its reply; and what a busy machine adds
+# what a client may take: for one read or write, and for a message with its reply; and what a busy
+# machine adds
 WAIT, WHOLE, SLACK = 5, 30, 10
 CLIENTS, MANY = 50, 9_000
 # the text of this map is a reply of some 60 kB
@@ -17,7 +19,8 @@ IMPORT = map_cases.import_of(pool_cases.with_devices(1000))
 
 
 def goes_on(server, within=SLACK):
-    """Why the next client isn't served, with the replies of ever and within so many seconds, or None."""
+    """Why the next client isn't served, with the replies of ever and within so many seconds, or
+    None."""
     start = time.monotonic()
     found, spent = asked(server, [b"PUT /t/next", b"GET /t/next", b"DELETE /t/next"])[:2], time.monotonic() - start
     if found != [made(b"next"), there(b"next")]:
@@ -60,7 +63,8 @@ def a_byte_a_second(server):
 
 
 def never_reads(server):
-    """Replies of many megabytes that nobody reads: a write that moves nothing for five seconds ends the connection."""
+    """Replies of many megabytes that nobody reads: a write that moves nothing for five seconds ends
+    the connection."""
     asked(server, [b"PUT /t/a", IMPORT])
     connection = server.connect(room=4096)
     connection.setblocking(False)
@@ -72,7 +76,8 @@ def never_reads(server):
 
 
 def reads_a_little(server):
-    """The client reads eight kilobytes a second of many megabytes: no write waits for long, but all of them do for more than 30 seconds."""
+    """The client reads eight kilobytes a second of many megabytes: no write waits for long, but all
+    of them do for more than 30 seconds."""
     asked(server, [b"PUT /t/a", IMPORT])
     connection, ends = server.connect(room=4096), threading.Event()
     connection.setblocking(False)

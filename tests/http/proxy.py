@@ -1,4 +1,5 @@
-"""nginx with the configuration of examples/nginx.conf before several processes, each with a file of its own, in a folder of the test."""
+"""nginx with the configuration of examples/nginx.conf before several processes, each with a file of
+its own, in a folder of the test."""
 import contextlib
 import pathlib
 import subprocess
@@ -42,7 +43,8 @@ def replaced(text, *pairs):
 
 
 def write_users(folder):
-    """A certificate that signs itself, and for each tenant its file of users, each user's password being the user's name."""
+    """A certificate that signs itself, and for each tenant its file of users, each user's password
+    being the user's name."""
     run("openssl", "req", "-x509", "-newkey", "rsa:2048", "-nodes", "-days", "1", "-subj", "/CN=localhost", "-addext", "subjectAltName=DNS:localhost",
         "-keyout", f"{folder}/key.pem", "-out", f"{folder}/certificate.pem")
     for user, tenants in USERS.items():
@@ -52,7 +54,8 @@ def write_users(folder):
 
 
 def write_configuration(folder, port, servers):
-    """examples/nginx.conf with the test's ports, and its files in place of those below /etc/nginx."""
+    """examples/nginx.conf with the test's ports, and its files in place of those below
+    /etc/nginx."""
     def lines(ports):
         return "".join(f"    server 127.0.0.1:{it} max_fails=0;\n" for it in ports)
 

@@ -1,5 +1,6 @@
-"""The commands of docs/SERVING.md and of README, each with what it has to print. Those for root, which begin with '#', run on
-folders of the test in place of /etc and /usr/local, with a systemctl that does nothing."""
+"""The commands of docs/SERVING.md and of README, each with what it has to print. Those for root,
+which begin with '#', run on folders of the test in place of /etc and /usr/local, with a systemctl
+that does nothing."""
 import os
 import pathlib
 import signal
@@ -19,7 +20,8 @@ INSTALLED = (
 
 
 def said_by(command, wanted, folder, environment=None):
-    """What a command prints once its shell has ended, and what it leaves running, if that is a server, says that it listens."""
+    """What a command prints once its shell has ended, and what it leaves running, if that is a
+    server, says that it listens."""
     with open(folder / "said", "w+b") as said:
         ran = subprocess.run(["sh", "-c", command], cwd=folder, env=environment, stdin=subprocess.DEVNULL, stdout=said, stderr=subprocess.STDOUT, timeout=SECONDS)
         end = time.monotonic() + SECONDS
@@ -29,7 +31,8 @@ def said_by(command, wanted, folder, environment=None):
 
 
 def fault(command, wanted, folder, port):
-    """Why a command doesn't print what is shown, or None. The port of the page is one that is free."""
+    """Why a command doesn't print what is shown, or None. The port of the page is one that is
+    free."""
     command, wanted = command.replace(PORT, port), wanted.replace(PORT, port).encode()
     status, said = said_by(command, wanted, folder)
     if "kill $(" in command:

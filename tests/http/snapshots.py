@@ -1,4 +1,5 @@
-"""Snapshots of a file system (btrfs in a file, which takes root) while imports are served: what each holds opens as after a kill."""
+"""Snapshots of a file system (btrfs in a file, which takes root) while imports are served: what
+each holds opens as after a kill."""
 import os
 import pathlib
 import subprocess
@@ -24,7 +25,8 @@ def imports(server, answered, ends):
 
 
 def snapshots(program, at):
-    """Each snapshot has the imports that were answered before it was made, and of those after it one at most that was under way."""
+    """Each snapshot has the imports that were answered before it was made, and of those after it
+    one at most that was under way."""
     run("btrfs", "subvolume", "create", f"{at}/files")
     answered, ends, bounds = [], threading.Event(), []
     with Server(program, at / "files" / "t.db") as server:

@@ -1,4 +1,5 @@
-"""The unit of examples/crushcalc.service, as systemd-analyze sees it: no word of it is unknown, and little is left that the process may do."""
+"""The unit of examples/crushcalc.service, as systemd-analyze sees it: no word of it is unknown, and
+little is left that the process may do."""
 import pathlib
 import re
 import shutil

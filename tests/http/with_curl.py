@@ -1,4 +1,5 @@
-"""curl: each line of the session in a call of its own, and the ways of curl that a server may stumble over."""
+"""curl: each line of the session in a call of its own, and the ways of curl that a server may
+stumble over."""
 import json
 import pathlib
 import subprocess
@@ -14,7 +15,8 @@ STATUS = "\n%{http_code} %{num_connects}\n"
 
 
 def curl(*words):
-    """What curl writes: of each URL the status and body as a script's line, and how many connections were made for it."""
+    """What curl writes: of each URL the status and body as a script's line, and how many
+    connections were made for it."""
     ran = subprocess.run(["curl", "-sS", "--max-time", "20", "-w", STATUS, *words], stdout=subprocess.PIPE, stderr=subprocess.PIPE, timeout=60)
     if ran.returncode:
         raise OSError(f"curl {words[:6]} ends with status {ran.returncode}: {ran.stderr.decode(errors='replace')}")
@@ -44,7 +46,8 @@ def one_connection(server, folder, pairs):
 
 
 def expect(server, folder):
-    """With Expect: 100-continue curl waits a second for a word that doesn't come, and then sends the body; without it nothing waits."""
+    """With Expect: 100-continue curl waits a second for a word that doesn't come, and then sends
+    the body; without it nothing waits."""
     lines = [map_cases.import_of(map_cases.tiny(), it) for it in ("e1", "e2")]
     spent = []
     for line, header in zip(lines, ("Expect: 100-continue", "Expect:")):
@@ -57,7 +60,8 @@ def expect(server, folder):
 
 
 def too_long(server, folder):
-    """Of a body over the limit curl sends nothing, since it asks first by Expect; where it doesn't ask, it sends what the server throws away."""
+    """Of a body over the limit curl sends nothing, since it asks first by Expect; where it doesn't
+    ask, it sends what the server throws away."""
     line = b"POST /t/a/maps " + json.dumps({"request": "long", "text": "#" * LONG}).encode()
     for header in ("Expect: 100-continue", "Expect:"):
         found = curl(*words_of(server, line, folder, "-H", header))

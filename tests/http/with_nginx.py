@@ -1,4 +1,5 @@
-"""nginx as a proxy: each reply through it is that of the script, users reach their tenants alone, and a tenant has one process."""
+"""nginx as a proxy: each reply through it is that of the script, users reach their tenants alone,
+and a tenant has one process."""
 import base64
 import concurrent.futures
 import http.client
@@ -79,7 +80,8 @@ def one_process_each(servers, folder):
 
 
 def load(port, folder):
-    """ab with 64 connections kept open for some seconds; it looks at the length and status of each reply."""
+    """ab with 64 connections kept open for some seconds; it looks at the length and status of each
+    reply."""
     ran = run("ab", "-q", "-k", "-c", str(CLIENTS), "-t", str(SECONDS), "-A", "anna:anna", f"https://localhost:{port}/t/t1").decode()
     said = dict(re.findall(r"^([\w -]+): +(\S+)", ran, re.M))
     if int(said["Complete requests"]) < CLIENTS // 4 or said["Failed requests"] != "0" or "Non-2xx responses" in said:
@@ -94,7 +96,8 @@ def too_long(port, folder):
 
 
 def a_process_is_down(port, folder, servers, program):
-    """The tenants of a process that is down are answered 502 and by no other process; when it is back it has them."""
+    """The tenants of a process that is down are answered 502 and by no other process; when it is
+    back it has them."""
     held = [it for it in range(TENANTS) if asked(servers[0], [b"GET /t/t%d" % it]) != [NO_TENANT]]
     servers[0].stop()
     client, other = Client(port, folder, "anna"), next(it for it in range(TENANTS) if it not in held)
@@ -107,7 +110,8 @@ def a_process_is_down(port, folder, servers, program):
 
 
 def twice_as_many(program, folder):
-    """From two processes to four: each file is copied to the process that comes two lines later, and each tenant is there."""
+    """From two processes to four: each file is copied to the process that comes two lines later,
+    and each tenant is there."""
     for it in (0, 1):
         for end in ("", "-wal"):
             if pathlib.Path(folder, f"{it}.db{end}").exists():

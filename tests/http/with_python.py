@@ -1,4 +1,5 @@
-"""Python's http.client over one connection, and a client that opens six connections at once, as a browser does."""
+"""Python's http.client over one connection, and a client that opens six connections at once, as a
+browser does."""
 import http.client
 import pathlib
 import threading
@@ -28,8 +29,9 @@ def by_http_client(server, pairs):
 
 
 def six_connections(server, pairs):
-    """Six connections are opened before anything is sent; each sends a few requests, one at a time, and says nothing more.
-    They are served one after the other: each but the first waits until the one before it has said nothing for five seconds."""
+    """Six connections are opened before anything is sent; each sends a few requests, one at a time,
+    and says nothing more. They are served one after the other: each but the first waits until the
+    one before it has said nothing for five seconds."""
     found, spent = {}, {}
 
     def ask(place, connection):

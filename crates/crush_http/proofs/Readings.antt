@@ -1,5 +1,5 @@
 -- Two readings of one input are one.
-use Rattle.std.proofs.Common.{◌≡◌, ℕ, ◌-◌, ◌<◌, ◌⊎◌, inl, inr, Bool, true, false, List, [], ◌∷◌, ◌++◌, length, refl, ap, sym, ◌∙◌, arith, append_assoc, subst, length-append}
+use Rattle.std.proofs.Common.{◌≡◌, ℕ, ◌-◌, ◌<◌, ◌⊎◌, inl, inr, Bool, true, false, List, [], ◌∷◌, ◌++◌, length, refl, ap, sym, ◌∙◌, arith, subst, length-append}
 use Rattle.std.proofs.lemmas.List.{append-nil}
 use Rattle.httparse.specs.Grammar.{RequestHead, print_request}
 use Rattle.httparse.proofs.GrammarLemmas.{request_unique}
@@ -122,37 +122,28 @@ over_one [] [] (refused p) t a b u v = absurd a
 over_one (m ∷ ms) ns s t a b u v = absurd a
 over_one [] (n ∷ ns) s t a b u v = absurd b
 
-further : (input front after : List ℕ) → input ≡ front ++ after → EndsUndecided after → EndsUndecided input
-further input front after e h = (front ++ h.0, h.1, append_assoc front h.0 h.1 ∙ ap (λ xs. front ++ xs) h.2 ∙ sym e, h.3)
-
-further_on : {P : Type 0} (input front after : List ℕ) → input ≡ front ++ after → P ⊎ EndsUndecided after → P ⊎ EndsUndecided input
-further_on input front after e (inl p) = inl p
-further_on input front after e (inr h) = inr (further input front after e h)
-
-at_once : {P : Type 0} (input : List ℕ) → P ⊎ IsUndecided input → P ⊎ EndsUndecided input
-at_once input (inl p) = inl p
-at_once input (inr h) = inr ([], input, refl, h)
+further_on : {P Q R : Type 0} → (Q → R) → P ⊎ Q → P ⊎ R
+further_on f (inl p) = inl p
+further_on f (inr h) = inr (f h)
 
 -- the messages behind one and the same
-goes_on_one : (d e : Bool) (r : List ℕ) (ms ns : List Message) (s t : Stop) (A B : Type 0) → d ≡ e → (A → B → (ms ≡ ns) × ((s ≡ t) ⊎ EndsUndecided r))
-    → GoesOn d ms s A → GoesOn e ns t B → IsOfInput s → IsOfInput t → (ms ≡ ns) × ((s ≡ t) ⊎ EndsUndecided r)
-goes_on_one true true r ms ns s t A B same more a b u v = let one = over_one ms ns s t a b u v in (one.0, inl one.1)
-goes_on_one true false r ms ns s t A B same more a b u v = cc
-goes_on_one false true r ms ns s t A B same more a b u v = cc
-goes_on_one false false r ms ns s t A B same more a b u v = more a b
+goes_on_one : (d e : Bool) (ms ns : List Message) (s t : Stop) (Q A B : Type 0) → d ≡ e → (A → B → (ms ≡ ns) × ((s ≡ t) ⊎ Q))
+    → GoesOn d ms s A → GoesOn e ns t B → IsOfInput s → IsOfInput t → (ms ≡ ns) × ((s ≡ t) ⊎ Q)
+goes_on_one true true ms ns s t Q A B same more a b u v = let one = over_one ms ns s t a b u v in (one.0, inl one.1)
+goes_on_one true false ms ns s t Q A B same more a b u v = cc
+goes_on_one false true ms ns s t Q A B same more a b u v = cc
+goes_on_one false false ms ns s t Q A B same more a b u v = more a b
 
 pub reading : (most : ℕ) (input : List ℕ) (ms ns : List Message) (s t : Stop) → HasMessages most input ms s → HasMessages most input ns t → IsOfInput s → IsOfInput t
-    → (ms ≡ ns) × ((s ≡ t) ⊎ EndsUndecided input)
-reading most input [] [] s t a b u v = (refl, at_once input (one_stop input s t a b u v))
+    → (ms ≡ ns) × ((s ≡ t) ⊎ EndsUndecided most input ms)
+reading most input [] [] s t a b u v = (refl, one_stop input s t a b u v)
 reading most input [] (n ∷ ns) s t a b u v = absurd (never_both most input n b.0 s b.1 a u)
 reading most input (m ∷ ms) [] s t a b u v = absurd (never_both most input m a.0 t a.1 b v)
 reading most input (m ∷ ms) (n ∷ ns) s t a b u v =
     let same = same_message most input m n a.0 b.0 a.1 b.1 in
-    let front = print_request a.1.head ++ a.1.body in
-    let whole : input ≡ front ++ a.0 = a.1.begins.reads.1 ∙ sym (append_assoc (print_request a.1.head) a.1.body a.0) in
-    let rest = goes_on_one m.last n.last a.0 ms ns s t (HasMessages (most - 1) a.0 ms s) (HasMessages (most - 1) b.0 ns t) (ap (λ k. k.last) same.0)
+    let rest = goes_on_one m.last n.last ms ns s t (EndsUndecided (most - 1) a.0 ms) (HasMessages (most - 1) a.0 ms s) (HasMessages (most - 1) b.0 ns t) (ap (λ k. k.last) same.0)
     (λ x y. reading (most - 1) a.0 ms ns s t x (subst (λ q. HasMessages (most - 1) q ns t) (sym same.1) y) u v) a.2 b.2 u v in
-    (λ i. same.0 i ∷ rest.0 i, further_on input front a.0 whole rest.1)
+    (λ i. same.0 i ∷ rest.0 i, further_on (λ h. (a.0, a.1, h)) rest.1)
 
 -- ---- up to a fault
 

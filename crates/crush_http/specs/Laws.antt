@@ -1,8 +1,8 @@
 -- The messages are a function of the whole input, and so is the stop, but for one choice.
-use Rattle.std.specs.Prelude.{◌≡◌, ℕ, ◌⊎◌, List, ◌++◌, ⊤}
+use Rattle.std.specs.Prelude.{◌≡◌, ℕ, ◌-◌, ◌⊎◌, List, [], ◌∷◌, ◌++◌, ⊤}
 use Rattle.httparse.specs.Spans.{RequestOverflows}
 use Rattle.crush_http.specs.Head.{IsHalfHead}
-use Rattle.crush_http.specs.Messages.{Message, Stop, input_ended, refused, last_served, read_failed, write_failed, HasMessages}
+use Rattle.crush_http.specs.Messages.{Message, MessageAt, Stop, input_ended, refused, last_served, read_failed, write_failed, HasMessages}
 use Rattle.crush_http.specs.declared.limits.TheConstants.{HEADER_LIMIT, MESSAGE_LIMIT}
 
 -- there is no head yet and no continuation makes one within the limits, which need not show yet:
@@ -11,9 +11,10 @@ use Rattle.crush_http.specs.declared.limits.TheConstants.{HEADER_LIMIT, MESSAGE_
 abbrev pub IsUndecided : List ℕ → Type 0
 IsUndecided rest = IsHalfHead rest × RequestOverflows HEADER_LIMIT rest
 
--- the input ends in such bytes
-abbrev pub EndsUndecided : List ℕ → Type 0
-EndsUndecided input = (front : List ℕ) × (rest : List ℕ) × (front ++ rest ≡ input) × IsUndecided rest
+-- such bytes follow these messages of the input, so many at most
+abbrev pub EndsUndecided : ℕ → List ℕ → List Message → Type 0
+EndsUndecided most input [] = IsUndecided input
+EndsUndecided most input (m ∷ ms) = (rest : List ℕ) × MessageAt most input m rest × EndsUndecided (most - 1) rest ms
 
 -- the stop is the input's own
 abbrev pub IsOfInput : Stop → Type 0
@@ -34,7 +35,7 @@ IsOfFault write_failed = ⊤
 abbrev pub OneReading : Type 0
 OneReading =
     (input : List ℕ) (ms ns : List Message) (s t : Stop) → HasMessages MESSAGE_LIMIT input ms s → HasMessages MESSAGE_LIMIT input ns t → IsOfInput s → IsOfInput t
-    → (ms ≡ ns) × ((s ≡ t) ⊎ EndsUndecided input)
+    → (ms ≡ ns) × ((s ≡ t) ⊎ EndsUndecided MESSAGE_LIMIT input ms)
 
 -- the messages that were served up to a fault are the first of those of the input
 abbrev pub FaultReading : Type 0

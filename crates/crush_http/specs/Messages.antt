@@ -64,7 +64,7 @@ pub data Stop : Type 0 where
   input_ended : Stop  -- the input ends before a message is whole
   refused : Rejection → Stop  -- what comes is no message
   last_served : Stop  -- the last message was served
-  read_failed : List ℕ → Stop  -- a read failed before a message was whole; these bytes were not read
+  read_failed : List ℕ → Stop  -- a read failed before a message was whole; these bytes stay unread
   write_failed : Stop  -- a write failed; nothing is said of what follows
 
 -- the connection stops at the front of this input

@@ -1,6 +1,6 @@
 //! Connections, one after the other.
 
-ghost use Rattle.std.specs.Prelude.{◌≡◌, false, true, IfOk};
+ghost use Rattle.std.specs.Prelude.{◌≡◌, ◌≢◌, false, true, Err, IfOk};
 ghost use Rattle.crush_server.specs.Served.{ServesCalls};
 
 use crate::connection::serve_stream;
@@ -31,6 +31,9 @@ pub fn serve_connections<T: TenantStore, C: Clock>(
     requires works { T.latched service.old ≡ false }
     ensures served { T.is_honest service.new → ServesCalls (T.latched service.new) (T.has_state service.old) (T.has_state service.new) }
     ensures works { IfOk result (λ _. T.latched service.new ≡ false) }
+    ensures store { result ≡ Err ServerFault.Store → T.latched service.new ≡ true }
+    ensures memory { result ≡ Err ServerFault.NoMemory → service.new ≡ service.old }
+    ensures others { (result ≢ Err ServerFault.CannotListen) × (result ≢ Err ServerFault.WriteFault) }
     ensures honest { T.is_honest service.new → T.is_honest service.old }
 {
     let mut buffers = Buffers::new(alloc)?;

@@ -17,6 +17,11 @@ pub enum ServerFault {
 }
 
 impl From<AllocError> for ServerFault {
+    ghost use Rattle.std.specs.Prelude.{◌≡◌};
+    ghost use Rattle.crush_server.specs.declared.fault.ServerFault.TheVariants.{NoMemory};
+
+    ghost from_gives = { λ _ fault. fault ≡ NoMemory };
+
     fn from(_error: AllocError) -> ServerFault {
         ServerFault::NoMemory
     }
