@@ -1,5 +1,5 @@
-"""Scripts that ask for groups again and again, with the replies of definition.py, which keeps nothing, and the room for placements that each is
-played with."""
+"""Scripts that ask for groups again and again, with the replies of definition.py, which keeps
+nothing, and the room for placements that each is played with."""
 import random
 
 import map_cases
@@ -16,15 +16,17 @@ def of(tenant, line):
 
 
 def asks(drawn, tenant):
-    """A request for a group or an object, of two pools with few of each, so that most of them come again."""
+    """A request for a group or an object, of two pools with few of each, so that most of them come
+    again."""
     pool = drawn.choice((1, 1, 2))
     line = pool_cases.group_of(drawn.randrange(3), pool) if drawn.random() < 0.7 else pool_cases.object_of(drawn.choice("ab"), pool)
     return of(tenant, line)
 
 
 def changes(drawn, tenant, number, device):
-    """What makes placements stale: states of the device of the newest map, a map, the pool removed and made again, the tenant dropped and made
-    again. Returns the lines, and the device of the newest map after them."""
+    """What makes placements stale: states of the device of the newest map, a map, the pool removed
+    and made again, the tenant dropped and made again. Returns the lines, and the device of the
+    newest map after them."""
     request = f"{tenant.decode()}{number}"
     kind = drawn.randrange(5)
     if kind < 2:
@@ -40,7 +42,8 @@ def changes(drawn, tenant, number, device):
 
 
 def calls_of(names):
-    """60 calls of three tenants: each with a map and two pools at first, then by turns as they come."""
+    """60 calls of three tenants: each with a map and two pools at first, then by turns as they
+    come."""
     drawn = random.Random(7)
     devices, lines = {name: place for place, name in enumerate(names)}, []
     for name in names:
@@ -57,7 +60,8 @@ def calls_of(names):
 
 
 def maps_by_the_hundreds():
-    """300 tenants with 300 maps, each asked for group 0, and all of them again: at the 257th what is kept of the others is given up."""
+    """300 tenants with 300 maps, each asked for group 0, and all of them again: at the 257th what
+    is kept of the others is given up."""
     names = [b"t%d" % it for it in range(TENANTS)]
     start = [b"PUT /t/a", None, pool_cases.pool_of("p1")]
     lines = [of(name, it or map_cases.import_of(map_cases.tiny(place))) for place, name in enumerate(names) for it in start]
@@ -65,7 +69,8 @@ def maps_by_the_hundreds():
 
 
 def one_content_too_many():
-    """The groups of 256 tenants with maps of their own, those of one more, and the first ones' again, after a change of states as well."""
+    """The groups of 256 tenants with maps of their own, those of one more, and the first ones'
+    again, after a change of states as well."""
     names = [b"t%d" % it for it in range(CONTENTS + 1)]
     lines = [of(name, it) for place, name in enumerate(names) for it in (b"PUT /t/a", map_cases.import_of(map_cases.tiny(place)), pool_cases.pool_of("p1"))]
     ask = lambda names: [of(name, pool_cases.group_of(group)) for name in names for group in (3, 3, 4)]
@@ -74,7 +79,8 @@ def one_content_too_many():
 
 
 def states_between():
-    """A group and an object, twice each before and after a change of states that leaves the device out, down, and as it was at first."""
+    """A group and an object, twice each before and after a change of states that leaves the device
+    out, down, and as it was at first."""
     asked = [pool_cases.group_of(7), pool_cases.object_of("a"), pool_cases.group_of(7), pool_cases.object_of("a")]
     entries = ({"reweight": 0}, {"reweight": 65536, "up": False}, {"up": True})
     lines = [b"PUT /t/a", map_cases.import_of(map_cases.tiny(3)), pool_cases.pool_of("p1"), *asked]
