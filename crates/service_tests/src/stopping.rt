@@ -39,6 +39,7 @@ impl Stopping {
 
 impl TenantStore for Stopping {
     ghost use Rattle.std.specs.Prelude.{◌≡◌, ℕ, List};
+    ghost use Rattle.std.proofs.Common.{◌∙◌, refl, sym};
     ghost use Rattle.tenant_core.specs.States.{Shows};
 
     ghost is_honest = { λ store. Unit {0} };
@@ -104,15 +105,15 @@ impl TenantStore for Stopping {
         Err(StoreFault::Failed)
     }
 
-    ghost one_state = { λ store t s u honest works is also. ⟦<MemoryStore as TenantStore>⟧.one_state store.disk t s u tt refl is also };
+    ghost one_state = { λ store t s u honest works is also. sym is ∙ also };
 
-    ghost are_states = { λ store t s honest works has. ⟦<MemoryStore as TenantStore>⟧.are_states store.disk t s tt refl has };
+    ghost are_states = { λ store t s honest works has. store.disk.are_states t s has };
 
-    ghost keeps_itself = { λ store. ⟦<MemoryStore as TenantStore>⟧.keeps_itself store.disk };
+    ghost keeps_itself = { λ store u. refl };
 
-    ghost keeps_both = { λ old mid new first second. ⟦<MemoryStore as TenantStore>⟧.keeps_both old.disk mid.disk new.disk first second };
+    ghost keeps_both = { λ old mid new first second u. second u ∙ first u };
 
-    ghost keeps_states = { λ old new honest worked works same. ⟦<MemoryStore as TenantStore>⟧.keeps_states old.disk new.disk tt refl refl same };
+    ghost keeps_states = { λ old new honest worked works same t s. (λ has. same t ∙ has, λ has. sym (same t) ∙ has) };
 
     ghost settled = { λ store t found honest works there. there };
 }
