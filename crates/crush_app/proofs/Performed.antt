@@ -1,5 +1,5 @@
 -- A request that is decided and carried out, for a store's relations.
-use Rattle.std.proofs.Common.{◌≡◌, ◌≢◌, ◌⊎◌, inl, inr, ◌↔◌, ◌∙◌, ℕ, List, Bool, Option, Some, None, is_some, option_map, Result, Ok, Err, IfOk, OnErr, refl, ap, sym, subst}
+use Rattle.std.proofs.Common.{◌≡◌, ◌≢◌, ◌⊎◌, inl, inr, ◌↔◌, ◌∙◌, ℕ, List, Option, Some, None, is_some, option_map, Result, Ok, Err, IfOk, OnErr, refl, ap, sym, subst}
 use Rattle.tenant_core.specs.Effects.{after_effect}
 use Rattle.tenant_core.specs.Private.Performing.{Decides, LeavesRequest, Performs}
 use Rattle.tenant_core.specs.Request.{Request}
@@ -7,7 +7,6 @@ use Rattle.tenant_core.specs.States.{Damaged, Found, HasState, IsDamaged, Leaves
 use Rattle.tenant_core.specs.Step.{decision}
 use Rattle.tenant_core.specs.declared.decision.Decision.{Decision}
 use Rattle.tenant_core.specs.declared.store.StoreFault.{StoreFault}
-use Rattle.tenant_messages.specs.Reply.{reply}
 use Rattle.tenant_messages.specs.declared.reply.Reply.{Reply}
 use Rattle.tenant_state.specs.State.{TenantState}
 

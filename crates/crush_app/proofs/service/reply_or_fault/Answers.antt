@@ -1,4 +1,4 @@
-use Rattle.std.proofs.Common.{◌≡◌, ◌∙◌, ap, subst, sym}
+use Rattle.std.proofs.Common.{◌∙◌, ap, subst, sym}
 use Rattle.tenant_core.specs.States.{IsDamaged}
 use Rattle.tenant_core.specs.StoreReply.{is_failed}
 use Rattle.crush_app.proofs.Kept.{problem_given}
