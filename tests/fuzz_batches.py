@@ -22,7 +22,7 @@ SECONDS = 300
 STATUSES = b"200 201 400 404 405 409 413 422 429 500 501".split()
 REPLY = re.compile(rb"(\d{3}) (\{.*\})", re.S)
 WHOLE = re.compile(rb"[A-Z]+ /[!-~]*( .*)?", re.S)
-LINES, TEXTS, PICKS, TABLES, MESSAGES = 400, 150, 300, 200, 60
+LINES, TEXTS, PICKS, TABLES, MESSAGES = 4_000, 1_500, 4_000, 2_000, 300
 
 
 class Found(Exception):

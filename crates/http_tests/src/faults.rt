@@ -9,17 +9,20 @@ use std::process::Abort;
 use std::test::Fail;
 use tenant_messages::CallParts;
 
-/// The lengths of the first message and of the first two.
-const MESSAGES: [usize; 2] = [30, 60];
+/// The length of the first message of the stream.
+const ONE: usize = 30;
+
+/// The length of the first two.
+const TWO: usize = 60;
 
 /// The length of the reply to the first message.
 const FIRST: usize = 100;
 
 /// The replies to the messages that are whole in so many bytes of the stream.
 fn replies_within(bytes: usize) -> &'static [u8] {
-    if bytes < MESSAGES[0] {
+    if bytes < ONE {
         &[]
-    } else if bytes < MESSAGES[1] {
+    } else if bytes < TWO {
         &REPLIES[..FIRST]
     } else {
         REPLIES
@@ -107,7 +110,7 @@ fn a_write_fault_leaves_a_front_of_the_replies(rt: HostRuntime) -> Result<(), Fa
     for size in [1usize, 50, 20_000] {
         let mut front = 0;
         // a write takes three bytes at most, and one at least
-        for writes in 0..=REPLIES.len() {
+        for writes in 0..MANY {
             let (length, is_closed) = written_after(&rt, rt.alloc(), &mut buffers, size, writes)?;
             assert!(rt; writes == 0 || front < length, "after {writes} writes");
             assert_eq!(rt; is_closed, length == REPLIES.len(), "after {writes} writes");
@@ -140,7 +143,7 @@ fn created(rt: &impl Abort, service: &mut Service<MemoryStore>) -> usize {
         });
         if reply.status == 200 {
             assert_eq!(rt; count, place, "{path}");
-            count = place + 1;
+            count = place.saturating_add(1);
         } else {
             assert_eq!(rt; reply.status, 404, "{path}");
         }
@@ -170,7 +173,7 @@ fn a_request_whose_reply_is_cut_is_done_and_no_later_one(rt: HostRuntime) -> Res
         let (done, bytes) = create(&rt, rt.alloc(), &mut buffers, writes)?;
         assert_eq!(rt;
             done,
-            3.min(bytes / FIRST + 1),
+            (bytes / FIRST).saturating_add(1).min(3),
             "after {writes} writes, {bytes} bytes"
         );
         all = bytes;

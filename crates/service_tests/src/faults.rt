@@ -31,7 +31,7 @@ fn written_after(
 fn a_write_fault_leaves_a_front_of_the_replies(rt: HostRuntime) -> Result<(), Fail> {
     let mut front = 0;
     // a write takes three bytes at most, and one at least
-    for writes in 0..=REPLIES.len() {
+    for writes in 0..10_000 {
         let (length, is_done) = written_after(&rt, rt.alloc(), writes)?;
         assert!(rt; writes == 0 || front < length, "after {writes} writes");
         assert_eq!(rt; is_done, length == REPLIES.len(), "after {writes} writes");
@@ -61,7 +61,7 @@ fn created(rt: &impl Abort, service: &mut Service<MemoryStore>) -> usize {
         });
         if reply.status == 200 {
             assert_eq!(rt; count, place, "{path}");
-            count = place + 1;
+            count = place.saturating_add(1);
         } else {
             assert_eq!(rt; reply.status, 404, "{path}");
         }
@@ -95,7 +95,7 @@ fn no_line_is_served_after_a_read_fault(rt: HostRuntime) -> Result<(), Fail> {
     let whole = (ScriptEnd::Done, 3, 3 * REPLY);
     let nothing = (ScriptEnd::ReadFault, 0, 0);
     // a read gives one byte; the last one says that nothing more comes
-    for reads in 0..CREATIONS.len() + 2 {
+    for reads in 0..CREATIONS.len().saturating_add(2) {
         let found = create(&rt, rt.alloc(), reads, 10_000)?;
         let want = if reads <= CREATIONS.len() {
             nothing
@@ -110,9 +110,9 @@ fn no_line_is_served_after_a_read_fault(rt: HostRuntime) -> Result<(), Fail> {
 #[test]
 fn a_line_whose_reply_is_cut_is_done_and_no_later_one(rt: HostRuntime) -> Result<(), Fail> {
     let mut all = 0;
-    for writes in 0..=2 * REPLY {
+    for writes in 0..2 * REPLY {
         let (_, done, bytes) = create(&rt, rt.alloc(), 10_000, writes)?;
-        let want = 3.min(bytes / REPLY + 1);
+        let want = (bytes / REPLY).saturating_add(1).min(3);
         assert_eq!(rt; done, want, "after {writes} writes, {bytes} bytes");
         all = bytes;
     }
