@@ -107,7 +107,10 @@ fn size_of_map(map: &CrushMap) -> u64
     ensures { result ≡ min (map_size map.now) (2 ^ 64 - 1) }
 {
     let named = (map.types().len() + map.devices().len() + map.rules().len()) as u64;
-    let parts = plus(times(PART_BYTES, named), times(STEP_BYTES, steps_in(map.rules())));
+    let parts = plus(
+        times(PART_BYTES, named),
+        times(STEP_BYTES, steps_in(map.rules())),
+    );
     let buckets = times(BUCKET_BYTES, map.buckets().len() as u64);
     let items = times(ITEM_BYTES, items_in(map.buckets()));
     let index = BUCKET_ID_BYTES * u64::from(bucket_reach(map.buckets()));
@@ -119,7 +122,10 @@ pub(crate) fn size_of_version(map: &CrushMap, text: u64) -> u64
     requires { text ≡ length (canonical map.now) }
     ensures { result ≡ min (version_size map.now) (2 ^ 64 - 1) }
 {
-    plus(plus(VERSION_BYTES, times(TEXT_BYTES, text)), size_of_map(map))
+    plus(
+        plus(VERSION_BYTES, times(TEXT_BYTES, text)),
+        size_of_map(map),
+    )
 }
 
 /// How many bytes versions take.
