@@ -6,6 +6,7 @@ mod from_nothing;
 mod input;
 pub mod laws;
 pub mod limits;
+mod line;
 mod memory_store;
 mod on_store;
 mod play;
