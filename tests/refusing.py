@@ -7,6 +7,7 @@ import os
 import pathlib
 import shutil
 import subprocess
+import threading
 
 HERE = pathlib.Path(__file__).resolve().parent
 MOST, JOBS = 10_000_000, os.cpu_count() or 1
@@ -32,7 +33,7 @@ def refuser():
         raise Unfit("there is no C compiler for tests/refuse.c: install the package gcc, as by 'apt-get install gcc libc6-dev'")
     top = HERE.parent
     (top / "build").mkdir(exist_ok=True)
-    library, made = "build/refuse.so", f"build/refuse.{os.getpid()}.so"
+    library, made = "build/refuse.so", f"build/refuse.{os.getpid()}-{threading.get_ident()}.so"
     compiled = subprocess.run([compiler, "-O1", "-fPIC", "-shared", "-o", made, str(HERE / "refuse.c")], cwd=top, stderr=subprocess.PIPE)
     if compiled.returncode != 0:
         raise Unfit(f"{compiler} doesn't compile tests/refuse.c (are the packages gcc and libc6-dev installed?): {compiled.stderr.decode(errors='replace').strip()[:200]}")
