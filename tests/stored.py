@@ -5,7 +5,7 @@ import shutil
 import sqlite3
 import subprocess
 
-SECONDS = 120
+SECONDS = 600
 STORE_FAULT = b"crushcalc: store fault\n"
 BESIDE = ("", "-wal", "-journal", "-shm")
 # the columns of each table of a tenant's rows, with those of its key first
