@@ -2,6 +2,7 @@
 its own, in a folder of the test."""
 import contextlib
 import pathlib
+import shutil
 import subprocess
 import time
 
@@ -15,6 +16,7 @@ pid {folder}/nginx.pid;
 error_log {folder}/error.log;
 events {{ worker_connections 512; }}
 http {{
+    include /etc/nginx/mime.types;
     access_log off;
     client_body_temp_path {folder}/client;
     proxy_temp_path {folder}/proxy;
@@ -54,13 +56,15 @@ def write_users(folder):
 
 
 def write_configuration(folder, port, servers):
-    """examples/nginx.conf with the test's ports, and its files in place of those below
-    /etc/nginx."""
+    """examples/nginx.conf with the test's ports, and its files in place of those below /etc/nginx
+    and of the page."""
     def lines(ports):
         return "".join(f"    server 127.0.0.1:{it} max_fails=0;\n" for it in ports)
 
-    files = (("/etc/nginx/crushcalc/" + it, f"{folder}/{it}") for it in ("certificate.pem", "key.pem", "$tenant.users"))
-    text = replaced((TOP / "examples" / "nginx.conf").read_text(), (lines((8081, 8082)), lines(servers)), ("listen 443 ssl;", f"listen 127.0.0.1:{port} ssl;"), *files)
+    files = (("/etc/nginx/crushcalc/" + it, f"{folder}/{it}") for it in ("certificate.pem", "key.pem", "$owner.users"))
+    shutil.copytree(TOP / "web", folder / "web", dirs_exist_ok=True)
+    page = ("/usr/local/share/crushcalc/web/", f"{folder}/web/")
+    text = replaced((TOP / "examples" / "nginx.conf").read_text(), (lines((8081, 8082)), lines(servers)), ("listen 443 ssl;", f"listen 127.0.0.1:{port} ssl;"), page, *files)
     (folder / "crushcalc.conf").write_text(text)
     (folder / "main.conf").write_text(MAIN.format(folder=folder))
 

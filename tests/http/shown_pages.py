@@ -1,6 +1,6 @@
 """The commands of docs/SERVING.md and of README, each with what it has to print. Those for root,
 which begin with '#', run on folders of the test in place of /etc and /usr/local, with a systemctl
-that does nothing."""
+and an apt-get that do nothing."""
 import os
 import pathlib
 import signal
@@ -12,10 +12,10 @@ from expected import TOP
 from served import SECONDS, free_port
 
 PAGE, README, PORT, ROOT = "docs/SERVING.md", "README.md", "8080", "    # "
-PLACES = ("/etc/nginx/crushcalc", "/etc/nginx/conf.d", "/etc/systemd/system", "/usr/local/bin")
+PLACES = ("/etc/nginx/crushcalc", "/etc/nginx/conf.d", "/etc/systemd/system", "/usr/local/bin", "/usr/local/share/crushcalc/web")
 INSTALLED = (
     *(f"/etc/nginx/crushcalc/{it}" for it in ("key.pem", "certificate.pem", "shop.users")), "/etc/nginx/conf.d/crushcalc.conf", "/etc/systemd/system/crushcalc@.service",
-    "/usr/local/bin/crushcalc",
+    "/usr/local/bin/crushcalc", "/usr/local/share/crushcalc/web/index.html",
 )
 
 
@@ -53,15 +53,17 @@ def folder_for(top, name, program):
     at = pathlib.Path(top, name)
     at.mkdir()
     (at / "crushcalc").symlink_to(program)
-    (at / "examples").symlink_to(TOP / "examples")
+    for it in ("examples", "web"):
+        (at / it).symlink_to(TOP / it)
     return at
 
 
 def by_root(text, folder):
     """Runs the commands for root below a folder, and says which of them fails, or None."""
     (folder / "bin").mkdir()
-    (folder / "bin" / "systemctl").write_text("#!/bin/sh\n")
-    (folder / "bin" / "systemctl").chmod(0o755)
+    for it in ("systemctl", "apt-get"):
+        (folder / "bin" / it).write_text("#!/bin/sh\n")
+        (folder / "bin" / it).chmod(0o755)
     environment = {**os.environ, "PATH": f"{folder}/bin:{os.environ['PATH']}"}
     for it in PLACES[1:]:
         pathlib.Path(f"{folder}{it}").mkdir(parents=True)

@@ -21,6 +21,8 @@ ASKED = (
     (None, None, "/t/shop", 401), ("anna", "wrong", "/t/shop", 401), ("ben", "anna", "/t/shop", 401), ("ben", None, "/t/shop", 401),
     ("ben", None, "/t/lab", 404), ("anna", None, "/t/shop", 404), ("ben", None, "/t/nobody", 403), ("ben", None, "/", 403), ("ben", None, "/t/", 403),
     ("ben", None, "/t/lab/../shop", 404), ("ben", None, "/t/lab/%2e%2e/shop", 404), ("ben", None, "/t/lab%2f..%2fshop", 403), ("ben", None, "/t/lab?/../shop", 403),
+    (None, None, "/page/", 200), (None, None, "/page/page.js", 200), (None, None, "/page/../t/shop", 401), ("anna", None, "/t/shop.copy-0123456789ab", 404),
+    ("ben", None, "/t/shop.copy-0123456789ab", 401), ("anna", None, "/t/shop.copy-0123456789abc", 403), ("anna", None, "/t/lab.copy-0123456789ab", 401),
     ("ben", None, "/t/../t/shop", 403), ("ben", None, "/t/../shop", 403), ("ben", None, "/t/../shop.users", 403), ("ben", None, "//t/shop", 403), ("ben", None, "/t/%73hop", 403),
 )
 
@@ -54,6 +56,17 @@ def users(port, folder):
         found = Client(port, folder, user, password).ask(b"GET " + path.encode())
         if not found.startswith(b"%d " % status):
             return f"{user} asks for {path}: {found[:100]!r}, not {status}"
+    return None
+
+
+def other_sites(port, folder):
+    """What another site makes a browser send is refused, with the right password too."""
+    for site, status in (("cross-site", 403), ("same-site", 403), ("same-origin", 404), ("none", 404)):
+        client = Client(port, folder, "anna")
+        client.headers["Sec-Fetch-Site"] = site
+        found = client.ask(b'POST /t/shop/pools/remove {"id":1,"request":"r"}')
+        if not found.startswith(b"%d " % status):
+            return f"{site}: {found[:100]!r}, not {status}"
     return None
 
 
@@ -127,6 +140,7 @@ def checks(program, top):
     folder.mkdir(mode=0o755)
     with processes(program, folder, 2) as servers, nginx(folder, [it.port for it in servers]) as port:
         yield "users and paths", users(port, folder)
+        yield "other sites", other_sites(port, folder)
         yield "each route", whole_session(port, folder, program)
         yield "64 clients at once", clients_at_once(port, folder)
         yield "a tenant has one process", one_process_each(servers, folder)

@@ -1,0 +1,57 @@
+"""A proxy between the browser and the page's server, which loses replies or answers in the
+service's place, and notes every changing request."""
+import contextlib
+import http.client
+import http.server
+import threading
+
+
+class Between(http.server.ThreadingHTTPServer):
+    """loses: how many replies to come are lost, after their requests are done. refuses: how many
+    requests to come are answered 503 and not passed on. Both look at changing requests alone."""
+
+    daemon_threads = True
+
+    def __init__(self, port):
+        super().__init__(("127.0.0.1", 0), Handler)
+        self.behind, self.loses, self.refuses, self.posts = port, 0, 0, []
+
+
+class Handler(http.server.BaseHTTPRequestHandler):
+    def pass_on(self):
+        body = self.rfile.read(int(self.headers.get("Content-Length", 0)))
+        changes = self.command == "POST" and not self.path.endswith(("/locate", "/test", "/pick"))
+        if changes:
+            self.server.posts.append((self.path, body))
+        if changes and self.server.refuses:
+            self.server.refuses -= 1
+            return self.answer(503, b'{"error":"no_memory"}', "application/json")
+        asked = http.client.HTTPConnection("127.0.0.1", self.server.behind, timeout=60)
+        asked.request(self.command, self.path, body or None)
+        reply = asked.getresponse()
+        said = reply.read()
+        if changes and self.server.loses:
+            self.server.loses -= 1
+            self.close_connection = True
+            return None
+        return self.answer(reply.status, said, reply.headers["Content-Type"])
+
+    def answer(self, status, said, kind):
+        self.send_response(status)
+        self.send_header("Content-Type", kind)
+        self.send_header("Content-Length", str(len(said)))
+        self.end_headers()
+        self.wfile.write(said)
+
+    do_GET = do_POST = do_PUT = do_DELETE = pass_on
+
+    def log_message(self, *_):
+        pass
+
+
+@contextlib.contextmanager
+def between(port):
+    with Between(port) as it:
+        threading.Thread(target=it.serve_forever, daemon=True).start()
+        yield it
+        it.shutdown()

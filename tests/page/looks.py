@@ -1,0 +1,196 @@
+"""The page at 360 and at 1,920 pixels, dark and light, by keyboard, and as a screen reader has
+it."""
+import re
+
+from selenium.webdriver.common.action_chains import ActionChains
+from selenium.webdriver.common.keys import Keys
+
+from page import DRAINED, PICTURES, example, first, unlike
+
+WIDTHS, VIEWS = (360, 1920), ("Map", "Pools", "Usage", "Compare", "Drain", "Object")
+CONTRAST, MOST_TABS = 4.5, 80
+# of each text that is shown: its colour, and the colours below it from the nearest on
+TEXTS = """
+const found = new Map();
+for (const it of document.querySelectorAll("body *")) {
+    const own = [...it.childNodes].some((at) => at.nodeType === 3 && at.data.trim());
+    if (!own || it.disabled || !it.checkVisibility({ opacityProperty: true, visibilityProperty: true }) || it.closest(".skip, noscript, option")) continue;
+    const below = [];
+    for (let at = it; at; at = at.parentElement) below.push(getComputedStyle(at).backgroundColor);
+    found.set(getComputedStyle(it).color + below, [it.tagName + "." + it.className, getComputedStyle(it).color, below]);
+}
+return [...found.values()];
+"""
+
+
+def full(page):
+    """A tenant with two versions and a pool."""
+    tenant = page.planned()
+    page.browser.tab("Map")
+    page.drop(example("four_hosts.txt"), "four_hosts.txt", "version 2")
+    return tenant
+
+
+def filled(page, view):
+    """A view with what it shows when it is used."""
+    page.browser.tab(view)
+    if view == "Drain":
+        page.browser.named("label.host", "host0").click()
+        page.browser.click("#drain")
+        page.browser.one("#usages tr[data-device]")
+        page.browser.has(DRAINED)
+    elif view == "Object":
+        page.browser.fill("#object", "cat.jpg")
+        page.browser.click("form button.main")
+        page.browser.one("#found")
+    elif view in ("Usage", "Compare"):
+        page.browser.one("#cards tr[data-device]")
+
+
+def it_fits_both_widths(page):
+    full(page)
+    whys = []
+    for width in WIDTHS:
+        page.browser.size(width, 740 if width == 360 else 1080)
+        for view in VIEWS:
+            filled(page, view)
+            over = page.browser.run("return document.scrollingElement.scrollWidth") - width
+            page.browser.picture(PICTURES / f"{view.lower()}-{width}.png")
+            if over > 0:
+                whys.append(f"{view} is {over} pixels wider than {width}")
+    page.browser.size(1280)
+    return first(*whys)
+
+
+def the_longest_names_fit(page):
+    """Names of 64 letters, at 360 pixels."""
+    text = example("three_hosts.txt")
+    for name in (*(f"osd.{it}" for it in range(6)), *(f"host{it}" for it in range(3)), "replicated_rule"):
+        text = re.sub(rf"\b{re.escape(name)}\b", name.ljust(64, "m"), text)
+    page.imported(text, "m" * 64 + ".txt", tenant="n" * 46)
+    page.pool("p" * 64, size=2, pg_num=16)
+    page.browser.tab("Map")
+    page.drop(text.replace("weight 1.0", "weight 1.5"), "other.txt", "version 2")
+    page.browser.size(360, 740)
+    whys = []
+    for view in VIEWS:
+        page.browser.tab(view)
+        if view == "Drain":
+            page.browser.named("label.host", "host0").click()
+            page.browser.click("#drain")
+            page.browser.has("#usages tr[data-device]")
+            page.browser.has(DRAINED)
+        elif view in ("Usage", "Compare"):
+            page.browser.has(".figures, #cards tr[data-device]")
+        over = page.browser.run("return document.scrollingElement.scrollWidth") - 360
+        page.browser.picture(PICTURES / f"{view.lower()}-long.png")
+        if over > 0:
+            whys.append(f"{view} is {over} pixels wider than 360")
+    page.browser.size(1280)
+    page.browser.driver.refresh()
+    return first(*whys)
+
+
+def bright(colour):
+    """The relative luminance of WCAG, of a colour without transparency."""
+    parts = [it / 255 for it in colour]
+    red, green, blue = (it / 12.92 if it <= 0.03928 else ((it + 0.055) / 1.055) ** 2.4 for it in parts)
+    return 0.2126 * red + 0.7152 * green + 0.0722 * blue
+
+
+def colour_of(text):
+    parts = [float(it) for it in text[text.index("(") + 1 : -1].split(",")]
+    return parts[:3], parts[3] if len(parts) == 4 else 1
+
+
+def contrast(text, below):
+    behind = next((colour_of(it)[0] for it in below if colour_of(it)[1] == 1), [255, 255, 255])
+    one, other = sorted((bright(colour_of(text)[0]), bright(behind)))
+    return (other + 0.05) / (one + 0.05)
+
+
+def it_is_read_well_in_light_and_dark(page):
+    full(page)
+    grounds, whys = [], []
+    for scheme in ("light", "dark"):
+        page.browser.colours(scheme)
+        grounds.append(page.browser.run("return getComputedStyle(document.documentElement).backgroundColor"))
+        for view in VIEWS:
+            filled(page, view)
+            page.browser.picture(PICTURES / f"{view.lower()}-{scheme}.png")
+            for what, text, below in page.browser.run(TEXTS):
+                if contrast(text, below) < CONTRAST:
+                    whys.append(f"{scheme}, {view}, {what}: {text} on {below} has {contrast(text, below):.2f}")
+    page.browser.colours("light")
+    return first(*whys, None if bright(colour_of(grounds[0])[0]) > 0.7 and bright(colour_of(grounds[1])[0]) < 0.1 else f"the grounds are {grounds}")
+
+
+def press(page, *keys):
+    ActionChains(page.browser.driver).send_keys(*keys).perform()
+
+
+def tab_to(page, holds):
+    """Goes on by Tab until the focus is where it should be; it has to be seen on the way."""
+    for _ in range(MOST_TABS):
+        press(page, Keys.TAB)
+        at = page.browser.driver.switch_to.active_element
+        if holds(at):
+            seen = page.browser.run("const it = document.activeElement, ring = it.closest('.choose')?.querySelector('label') ?? it; return getComputedStyle(ring).outlineStyle")
+            if seen == "none":
+                raise ValueError(f"the focus isn't seen on {at.tag_name}")
+            return at
+    raise ValueError("Tab doesn't lead there")
+
+
+def a_drain_by_keyboard_alone(page):
+    """From an empty page to a drained host. The dialog of files is the browser's own, so the file
+    is dropped; all else is keys."""
+    tenant = page.fresh()
+    press(page, Keys.TAB)
+    tab_to(page, lambda it: it.get_attribute("id") == "name")
+    tab_to(page, lambda it: it.text == "Make it")
+    press(page, Keys.ENTER)
+    page.browser.one(".drop")
+    page.browser.until(lambda: page.browser.text("h1") == "Map", "no map's view")
+    tab_to(page, lambda it: it.get_attribute("type") == "file")
+    page.browser.drop(example("three_hosts.txt"), "three_hosts.txt")
+    page.browser.one("#tree [data-bucket]")
+    tab_to(page, lambda it: it.text == "Pools")
+    press(page, Keys.ENTER)
+    page.browser.one("#pool-name")
+    tab_to(page, lambda it: it.get_attribute("id") == "pool-name")
+    press(page, "photos", Keys.ENTER)
+    page.browser.until(lambda: "The pool photos is made" in page.browser.text("#said"), "no pool")
+    tab_to(page, lambda it: it.text == "Drain")
+    press(page, Keys.ENTER)
+    page.browser.one(".picker")
+    tab_to(page, lambda it: it.get_attribute("type") == "checkbox")
+    press(page, Keys.SPACE)
+    tab_to(page, lambda it: it.get_attribute("id") == "drain")
+    press(page, Keys.ENTER)
+    page.browser.one("#usages tr[data-device]")
+    chosen = [int(it.get_attribute("data-impact")) for it in page.browser.all("[data-impact]")]
+    return first(unlike(chosen, [0, 1]), unlike(page.clicks(), 0, "clicks:"), unlike(page.summary(tenant)["epoch"], 2))
+
+
+def a_screen_reader_has_names_for_all(page):
+    full(page)
+    for view in reversed(VIEWS):
+        filled(page, view)
+        for kind in ("a", "button", "input", "select", "summary", "table.plain", "#cards table", "fieldset", "form"):
+            for it in page.browser.all(kind):
+                if it.is_displayed() and not (it.accessible_name or "").strip() and not page.browser.run("return arguments[0].caption?.textContent || arguments[0].closest('#groups')", it):
+                    return f"{view}: {kind} {it.get_attribute('outerHTML')[:120]} has no name"
+        heads = page.browser.run("return [...document.querySelectorAll('h1')].length")
+        current = page.browser.run("return document.querySelectorAll('nav [aria-current=page]').length")
+        hidden = page.browser.run("return [...document.querySelectorAll('svg')].filter((it) => it.getAttribute('aria-hidden') !== 'true').length")
+        if why := first(unlike(heads, 1, f"{view}: headings h1"), unlike(current, 1, f"{view}: current views"), unlike(hidden, 0, f"{view}: pictures that are read")):
+            return why
+        if page.browser.run("return document.activeElement.tagName") not in ("H1", "INPUT", "BUTTON"):
+            return f"{view}: the focus is on {page.browser.run('return document.activeElement.outerHTML')[:100]}"
+    roles = page.browser.run("return ['main', 'nav[aria-label]', 'header', '[role=status]', '[role=alert]'].filter((it) => !document.querySelector(it))")
+    return first(unlike(roles, []), unlike(page.browser.run("return document.documentElement.lang"), "en"))
+
+
+def cases():
+    return it_fits_both_widths, the_longest_names_fit, it_is_read_well_in_light_and_dark, a_drain_by_keyboard_alone, a_screen_reader_has_names_for_all

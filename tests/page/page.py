@@ -1,0 +1,146 @@
+"""The page for the cases: opened anew for a tenant, with requests to the service beside it."""
+import contextlib
+import http.client
+import json
+import pathlib
+import subprocess
+import time
+
+from served import SECONDS, free_port
+
+TOP = pathlib.Path(__file__).resolve().parent.parent.parent
+PICTURES = TOP / "build" / "page-check"
+EXAMPLES = TOP / "examples"
+# the button of a drain that has ended
+DRAINED = "#drain:not([aria-disabled])"
+
+
+def example(name):
+    return (EXAMPLES / name).read_text()
+
+
+@contextlib.contextmanager
+def serving(program, folder):
+    """What `make page` starts. What is given is its port."""
+    port = free_port()
+    run = subprocess.Popen(["python3", str(TOP / "tools" / "page"), str(program), "--port", str(port), "--folder", str(folder)], stdout=subprocess.PIPE)
+    try:
+        line = run.stdout.readline().decode()
+        if f"http://127.0.0.1:{port}/page/" not in line:
+            raise OSError(f"tools/page says {line!r}")
+        yield port
+    finally:
+        run.terminate()
+        run.communicate(timeout=SECONDS)
+
+
+class Page:
+    def __init__(self, browser, port, proxy, downloads):
+        self.browser, self.port, self.proxy, self.downloads = browser, port, proxy, downloads
+        self.made = 0
+        self.copies = []
+
+    # ---- the service, without the page
+
+    def ask(self, method, path, fields=None):
+        """A reply of the service to a direct request: its status and its JSON."""
+        connection = http.client.HTTPConnection("127.0.0.1", self.port, timeout=60)
+        connection.request(method, path, json.dumps(fields) if fields is not None else None)
+        reply = connection.getresponse()
+        return reply.status, json.loads(reply.read())
+
+    def summary(self, tenant):
+        return self.ask("GET", f"/t/{tenant}")[1]
+
+    # ---- the page
+
+    def open(self, address="", port=None):
+        self.browser.open(f"http://127.0.0.1:{port or self.port}/page/{address}")
+
+    def fresh(self, port=None, tenant=None):
+        """The page as one sees it who never was there, and a name for a new tenant."""
+        self.open(port=port)
+        self.browser.one("h1")
+        self.browser.run("localStorage.clear()")
+        self.open(port=port)
+        self.browser.driver.refresh()
+        self.made += 1
+        self.browser.one("#name")
+        tenant = tenant or f"plan-{self.made}"
+        self.browser.fill("#name", tenant)
+        self.browser.run("window.clicks = 0")
+        return tenant
+
+    def imported(self, text, name="map.txt", port=None, tenant=None):
+        """A new tenant with this map, by dropping it on the first page."""
+        tenant = self.fresh(port, tenant)
+        self.browser.drop(text, name)
+        self.browser.one("#tree [data-bucket]")
+        return tenant
+
+    def drop(self, text, name, words):
+        """Drops a file on an open tenant, and waits until the page says these words."""
+        self.browser.drop(text, name)
+        self.browser.until(lambda: words in self.browser.text("#said"), f"the page doesn't say {words!r}")
+
+    def pool(self, name="photos", **fields):
+        """A pool by the form, with what it isn't given left as it is."""
+        self.browser.tab("Pools")
+        self.browser.fill("#pool-name", name)
+        for field, value in fields.items():
+            self.browser.fill(f"#{field}", str(value))
+        self.browser.click("form button.main")
+        self.browser.until(lambda: f"The pool {name} is made" in self.browser.text("#said"), "the pool isn't made")
+
+    def planned(self, size=2, groups=16):
+        """The tenant of docs/PLANNING.md: the map of three hosts, and its pool."""
+        tenant = self.imported(example("three_hosts.txt"), "three_hosts.txt")
+        self.pool(size=size, pg_num=groups)
+        self.browser.run("window.clicks = 0")
+        return tenant
+
+    def clicks(self):
+        return self.browser.run("return window.clicks")
+
+    def rows(self, selector):
+        """The rows of tables: of each its device and the texts of its cells."""
+        script = "return [...document.querySelectorAll(arguments[0])].map((row) => [row.dataset.device ?? row.dataset.group, [...row.children].map((it) => it.textContent.trim())])"
+        return {int(it): cells for it, cells in self.browser.run(script, selector)}
+
+    def bars(self, selector, kind):
+        """Of each row's device, the place and the width of a mark, in hundredths of the bar."""
+        script = """return [...document.querySelectorAll(arguments[0])].map((row) => {
+            const it = row.querySelector(arguments[1]);
+            return [row.dataset.device, it && (it.getAttribute("x1") ?? it.getAttribute("x")), it && it.getAttribute("width")];
+        })"""
+        number = lambda it: None if it is None else float(it.rstrip("%"))
+        return {int(device): (number(at), number(width)) for device, at, width in self.browser.run(script, selector, kind)}
+
+    def saved(self, selector):
+        """The file that a button saves."""
+        for it in self.downloads.iterdir():
+            it.unlink()
+        self.browser.click(selector)
+        end = time.monotonic() + SECONDS
+        while time.monotonic() < end:
+            files = [it for it in self.downloads.iterdir() if it.suffix == ".csv"]
+            if files:
+                return files[0].read_text()
+            time.sleep(0.05)
+        raise OSError("no file is saved")
+
+    def faults(self):
+        """What no case may have: an error in the console, or a request to another host."""
+        loaded = self.browser.loaded()
+        self.copies = sorted({it.split("/t/")[1].split("/")[0] for it in loaded if ".copy-" in it})
+        others = [it for it in loaded if not it.startswith((f"http://127.0.0.1:{self.port}/", f"http://127.0.0.1:{self.proxy.server_port}/", "blob:", "data:"))]
+        errors = self.browser.errors()
+        return f"it asks for {others[:3]}" if others else f"the console says {errors[:2]}" if errors else None
+
+
+def unlike(found, wanted, what=""):
+    return None if found == wanted else f"{what} {str(found)[:300]}, not {str(wanted)[:300]}".strip()
+
+
+def first(*whys):
+    return next((it for it in whys if it), None)

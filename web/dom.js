@@ -1,0 +1,96 @@
+// Elements of the page. Text enters as text nodes only, so that no name and no map is ever taken
+// for markup.
+
+export function el(tag, fields, ...children) {
+    const made = document.createElement(tag);
+    for (const [name, value] of Object.entries(fields ?? {})) {
+        if (value === undefined || value === null || value === false) continue;
+        if (name === "on") {
+            for (const [event, act] of Object.entries(value)) made.addEventListener(event, act);
+        } else {
+            made.setAttribute(name, value === true ? "" : value);
+        }
+    }
+    made.append(...children.flat().filter((it) => it !== undefined && it !== null && it !== false));
+    return made;
+}
+
+export function button(text, act, fields) {
+    return el("button", { type: "button", ...fields, on: { click: act } }, text);
+}
+
+// A control with its label above it.
+export function labelled(text, control, hint) {
+    const id = control.id || fresh();
+    control.id = id;
+    const under = hint && el("span", { class: "hint", id: `${id}-hint` }, hint);
+    if (under) control.setAttribute("aria-describedby", under.id);
+    return el("div", { class: "field" }, el("label", { for: id }, text), control, under);
+}
+
+let made = 0;
+
+export function fresh() {
+    made += 1;
+    return `it-${made}`;
+}
+
+export function options(select, pairs, chosen) {
+    select.replaceChildren(...pairs.map(([value, text]) => el("option", { value, selected: String(value) === String(chosen) }, text)));
+    return select;
+}
+
+let clearing = 0;
+
+// What goes on, for those who hear the page and those who see it.
+export function say(text) {
+    clearTimeout(clearing);
+    document.getElementById("status").textContent = text;
+}
+
+// What is done; it is shown for some seconds.
+export function sayDone(text) {
+    say(text);
+    clearing = setTimeout(() => say(""), 6000);
+}
+
+export function fault(...text) {
+    return el("p", { class: "fault", role: "alert" }, ...text);
+}
+
+// Acts once nothing was typed for a moment.
+export function later(act) {
+    let waiting = 0;
+    return () => {
+        clearTimeout(waiting);
+        waiting = setTimeout(act, 150);
+    };
+}
+
+// Lets the browser draw and listen before long work goes on.
+export function pause() {
+    return new Promise((go) => setTimeout(go));
+}
+
+// A list of which `step` lines are shown, and more when asked. `make` gives the element of a line.
+export function cut(into, count, make, step = 100) {
+    const foot = el("p", { class: "cut" });
+    let shown = 0;
+    function more() {
+        const first = shown;
+        shown = Math.min(count, shown + step);
+        for (let place = first; place < shown; place += 1) into.append(make(place));
+        foot.replaceChildren();
+        if (shown < count) foot.append(`The first ${shown} of ${count} lines. `, button("Show more", more));
+    }
+    into.replaceChildren();
+    more();
+    return foot;
+}
+
+// A file for the planner, made of text.
+export function save(name, text) {
+    const address = URL.createObjectURL(new Blob([text], { type: "text/csv" }));
+    el("a", { href: address, download: name }).click();
+    setTimeout(() => URL.revokeObjectURL(address), 10000);
+}

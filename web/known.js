@@ -1,0 +1,53 @@
+// What this browser knows of a tenant beside the service's replies: the pools and the states of
+// devices that it set, since no request lists these, and the names of files that were imported.
+
+const KNOWN = "crushcalc.tenant.";
+
+export function tenants() {
+    return Object.keys(localStorage).filter((it) => it.startsWith(KNOWN)).map((it) => it.slice(KNOWN.length)).sort();
+}
+
+export function known(tenant) {
+    const empty = { epoch: 0, pools: [], states: {}, files: {}, pool: 0 };
+    try {
+        return { ...empty, ...JSON.parse(localStorage.getItem(KNOWN + tenant) ?? "{}") };
+    } catch {
+        return empty;
+    }
+}
+
+export function note(tenant, fields) {
+    const now = { ...known(tenant), ...fields };
+    localStorage.setItem(KNOWN + tenant, JSON.stringify(now));
+    return now;
+}
+
+export function forgetTenant(tenant) {
+    localStorage.removeItem(KNOWN + tenant);
+}
+
+// Notes what an accepted request did.
+export function learn(record, reply) {
+    if (record.note?.copy) return;
+    const { request, ...fields } = JSON.parse(record.body);
+    const it = known(record.tenant);
+    if (record.route === "maps") {
+        it.files[reply.version] = record.note?.file ?? "";
+    } else if (record.route === "pools") {
+        it.pools = [...it.pools.filter((pool) => pool.id !== fields.id), fields];
+        it.pool = fields.id;
+    } else if (record.route === "devices/csv") {
+        for (const [id, state] of statesOf(fields.csv)) it.states[id] = state;
+    }
+    note(record.tenant, it);
+}
+
+// The states that a CSV says which the service has accepted: of each device its id, and the
+// reweight and whether it is up.
+export function statesOf(csv) {
+    const lines = csv.replace(/^\ufeff/, "").split(/\r\n|\n|\r/).filter((it) => it !== "");
+    return lines.slice(1).map((line) => {
+        const [id, reweight, up] = line.split(",").map((it) => Number(it.replace(/^"(.*)"$/, "$1")));
+        return [id, { reweight, up: up === 1 }];
+    });
+}

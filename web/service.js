@@ -1,0 +1,109 @@
+// Requests to the service. A changing request has a number that is made here, and is kept in the
+// browser from before it is sent until it is answered, so that a reload or a lost reply repeats the
+// same bytes and it acts once.
+import { meaning } from "./codes.js";
+
+const PENDING = "crushcalc.pending.";
+const NO_ANSWER = new Set([0, 502, 503, 504]);
+const decoder = new TextDecoder();
+
+export class GivenUp extends Error {}
+export class NotKept extends Error {}
+
+let decide = async () => { throw new GivenUp(); };
+let learn = () => {};
+
+// Who asks the planner whether to repeat, and who notes what was accepted.
+export function connect(asks, notes) {
+    decide = asks;
+    learn = notes;
+}
+
+export function hex(bytes) {
+    return Array.from(crypto.getRandomValues(new Uint8Array(bytes)), (it) => it.toString(16).padStart(2, "0")).join("");
+}
+
+async function send(method, path, body) {
+    try {
+        const reply = await fetch(path, { method, body, cache: "no-store", redirect: "error" });
+        return { status: reply.status, bytes: await reply.arrayBuffer() };
+    } catch {
+        return { status: 0, bytes: new ArrayBuffer(0) };
+    }
+}
+
+// The JSON of a reply, or none where it has none, as a page of the web server's own.
+function said(bytes) {
+    try {
+        return JSON.parse(decoder.decode(bytes));
+    } catch {
+        return {};
+    }
+}
+
+// Sends until there is an answer: after a lost reply once more by itself, and then, as after a 503,
+// when the planner says so.
+async function answer(what, method, path, body, changes) {
+    for (let itself = true; ; ) {
+        const { status, bytes } = await send(method, path, body);
+        if (!NO_ANSWER.has(status)) return { status, bytes };
+        if (status !== 503 && itself) {
+            itself = false;
+            await new Promise((go) => setTimeout(go, 500));
+        } else {
+            await decide({ what, why: meaning(status, said(bytes).error), changes });
+            itself = true;
+        }
+    }
+}
+
+// A request that changes nothing, or one that may be repeated as it is (PUT, DELETE).
+export async function ask(what, method, path, fields) {
+    const { status, bytes } = await answer(what, method, path, fields && JSON.stringify(fields), false);
+    return { status, ...said(bytes) };
+}
+
+// A reply that may be long, as bytes.
+export function askLong(what, path) {
+    return answer(what, "GET", path, undefined, false);
+}
+
+export function read(bytes) {
+    return said(bytes);
+}
+
+// A changing request of a tenant. `what` says it in words, `note` is what the page wants to know of
+// it after a reload.
+export function change(what, tenant, route, fields, note) {
+    const number = hex(16);
+    const record = { number, what, tenant, route, path: `/t/${tenant}/${route}`, body: JSON.stringify({ request: number, ...fields }), note };
+    try {
+        localStorage.setItem(PENDING + number, JSON.stringify(record));
+    } catch {
+        throw new NotKept("The browser has no room to keep this request until it is answered, so it isn't sent.");
+    }
+    return finish(record);
+}
+
+// Sends a kept request, and forgets it once it is answered.
+export async function finish(record) {
+    try {
+        const { status, bytes } = await answer(record.what, "POST", record.path, record.body, true);
+        const reply = { status, ...said(bytes) };
+        if (status === 200 || status === 201) learn(record, reply);
+        forget(record);
+        return reply;
+    } catch (fault) {
+        if (fault instanceof GivenUp) forget(record);
+        throw fault;
+    }
+}
+
+export function forget(record) {
+    localStorage.removeItem(PENDING + record.number);
+}
+
+// The requests that were sent, or were about to be, and have no answer yet.
+export function kept() {
+    return Object.keys(localStorage).filter((it) => it.startsWith(PENDING)).map((it) => JSON.parse(localStorage.getItem(it)));
+}

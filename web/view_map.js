@@ -1,0 +1,149 @@
+// The map: a text that is dropped and imported, or its first fault; the tree with weights and
+// states.
+import { ask, change } from "./service.js";
+import { FAULTS, meaning } from "./codes.js";
+import { cut, el, fault, labelled, options, say, sayDone } from "./dom.js";
+import { pathOf, readMap } from "./map.js";
+
+const AROUND = 8, LONGEST_FILE = 1048576, LONGEST_LINE = 300;
+const WHOLE = { reweight: 65536, up: true };
+
+// The place where a file is dropped, or chosen.
+export function dropBox(take, more) {
+    const input = el("input", { type: "file", id: "file", class: "file", on: { change: () => input.files.length && take(input.files[0]) } });
+    return el("div", { class: "drop" },
+        el("p", { class: "large" }, "Drop a map text here"),
+        el("p", {}, el("span", { class: "choose" }, input, el("label", { for: "file" }, "or choose a file"))),
+        el("p", { class: "hint" }, "As crushtool -d writes it, with list, tree and uniform buckets. Most clusters have straw2 buckets: their maps are refused. A CSV of device states (id,reweight,up) is taken here too."), more);
+}
+
+// The text of a file as it is, its byte order mark too.
+async function textOf(file) {
+    return new TextDecoder("utf-8", { ignoreBOM: true }).decode(await file.arrayBuffer());
+}
+
+// Imports a map, or changes states of devices, and says what came of it, as an element.
+export async function takeFile(cluster, file) {
+    if (file.size > LONGEST_FILE) return fault(`${file.name} isn't sent: it is longer than the 1,048,576 bytes that a request may have.`);
+    const text = await textOf(file);
+    say(`Sending ${file.name}`);
+    if (/^\ufeff?"?id"?,/.test(text)) return takeStates(cluster, file.name, text);
+    const reply = await change(`Import ${file.name}`, cluster.tenant, "maps", { text }, { file: file.name });
+    if (reply.status === 201) {
+        sayDone(`${file.name} is version ${reply.version}`);
+        const next = reply.version > 1 ? ["compare", "Compare the versions"] : ["pools", "Make a pool"];
+        return el("p", { class: "done" }, `${file.name} is version ${reply.version} of the map. `, el("a", { href: `#/${cluster.tenant}/${next[0]}` }, next[1]));
+    }
+    say("");
+    return reply.error === "map_refused" ? faultOf(file.name, text, reply) : fault(`${file.name} isn't imported. `, meaning(reply.status, reply.error));
+}
+
+async function takeStates(cluster, name, csv) {
+    const reply = await change(`Set the states of ${name}`, cluster.tenant, "devices/csv", { csv }, {});
+    say("");
+    if (reply.status !== 200) return fault(`The states of ${name} aren't set. `, meaning(reply.status, reply.error));
+    return el("p", { class: "done" }, `The states of ${name} are set: ${reply.devices} devices.`);
+}
+
+// The first fault of a text, at its line between the lines around it.
+function faultOf(name, text, { fault: code, line }) {
+    const lines = text.split("\n"), first = Math.max(1, line - AROUND), last = Math.min(lines.length, line + AROUND);
+    const shown = el("ol", { class: "text", start: first, "aria-label": `Lines ${first} to ${last} of the text` });
+    for (let at = first; at <= last; at += 1) {
+        const said = lines[at - 1].replace(/\r$/, "");
+        const words = el("code", {}, said.length > LONGEST_LINE ? `${said.slice(0, LONGEST_LINE)} ..` : said);
+        if (at !== line) {
+            shown.append(el("li", { value: at }, words));
+        } else {
+            shown.append(el("li", { value: at, class: "here", "aria-current": "true" }, words, el("p", { class: "meaning" }, el("strong", {}, code), `: ${FAULTS[code] ?? "a code that this page doesn't know."}`)));
+        }
+    }
+    return el("div", { class: "card refused", role: "alert" }, el("h3", {}, `${name} isn't imported: line ${line}, code ${code}`), shown);
+}
+
+function stateOf(states, device) {
+    const { reweight, up } = { ...WHOLE, ...states[device.id] };
+    const share = reweight === 65536 ? ["in", "in"] : reweight === 0 ? ["out", "out"] : ["part", `reweight ${reweight}`];
+    return [share, up ? ["up", "up"] : ["down", "down"]].flatMap(([kind, text]) => [" ", el("span", { class: `badge ${kind}` }, text)]);
+}
+
+function deviceLine(cluster, device, weight) {
+    return el("div", { class: "leaf", "data-device": device.id }, el("span", { class: "device" }, device.name), el("span", { class: "weight" }, weight ?? ""),
+        el("span", {}, stateOf(cluster.known.states, device)));
+}
+
+// A bucket, whose items are made when it is opened.
+function bucketLine(cluster, bucket, weight, open) {
+    const items = el("ul"), foot = el("div");
+    const line = el("details", { "data-bucket": bucket.name }, el("summary", {}, el("span", { class: "type" }, bucket.type), el("span", { class: "name" }, bucket.name),
+        el("span", { class: "weight" }, weight ?? ""), el("span", { class: "hint" }, `${bucket.alg}, id ${bucket.id}`)), items, foot);
+    let filled = false;
+    function fill() {
+        if (filled || !line.open) return;
+        filled = true;
+        foot.replaceChildren(cut(items, bucket.items.length, (place) => {
+            const item = bucket.items[place];
+            return el("li", {}, item.device ? deviceLine(cluster, item.device, item.weight) : bucketLine(cluster, item.bucket, item.weight, open - 1));
+        }));
+    }
+    line.addEventListener("toggle", fill);
+    line.open = open > 0;
+    fill();
+    return line;
+}
+
+// How many levels are opened at first: all of a small map.
+function levels(map) {
+    return map.devices.size <= 64 ? 9 : map.buckets.size <= 64 ? 2 : 1;
+}
+
+function tree(cluster, map) {
+    const list = el("ul", { class: "tree", id: "tree" }), foot = el("div");
+    const alone = map.hosts.filter((it) => it.type === "").flatMap((it) => it.devices);
+    function whole() {
+        const lines = [...map.roots, ...alone];
+        foot.replaceChildren(cut(list, lines.length, (it) => el("li", {}, lines[it].items ? bucketLine(cluster, lines[it], null, levels(map)) : deviceLine(cluster, lines[it]))));
+    }
+    function search() {
+        const word = input.value.trim().toLowerCase();
+        if (!word) return whole();
+        const names = [...map.buckets.values(), ...map.devices.values()].filter((it) => it.name.toLowerCase().includes(word));
+        foot.replaceChildren(cut(list, names.length, (place) => {
+            const it = names[place], above = it.items ? pathOf(it) : it.buckets[0] ? [it.buckets[0].name, pathOf(it.buckets[0])].filter(Boolean).join(", ") : "";
+            const line = it.items ? bucketLine(cluster, it, null, 0) : deviceLine(cluster, it, it.buckets[0]?.items.find((item) => item.device === it).weight);
+            return el("li", {}, line, above && el("span", { class: "hint above" }, `in ${above}`));
+        }));
+        if (!names.length) list.append(el("li", { class: "empty" }, "No bucket and no device has this in its name."));
+        return undefined;
+    }
+    const input = el("input", { type: "search", id: "tree-search", on: { input: search } });
+    whole();
+    return el("div", { class: "card" }, labelled("Find a bucket or device", input), list, foot);
+}
+
+// What the service has that this page doesn't know.
+function unknown(cluster) {
+    const count = Object.keys(cluster.known.states).length;
+    if (cluster.summary.devices === count) return null;
+    return el("p", { class: "note" }, `The service keeps the states of ${cluster.summary.devices} devices, and this browser knows ${count}: the others were set elsewhere, `
+        + "and no request lists them. Drop a CSV of all states to set them here.");
+}
+
+export function showMap(cluster, said, take) {
+    const { summary } = cluster, at = el("div", {}, el("div", { id: "said" }, said));
+    const section = el("section", { class: "split" }, el("div", {}, el("h1", { tabindex: "-1" }, "Map"), dropBox(take)), at);
+    if (!summary.versions) {
+        at.append(el("p", { class: "empty" }, "The tenant has no map yet."));
+        return section;
+    }
+    const versions = Array.from({ length: summary.versions }, (_, it) => summary.versions - it);
+    const select = options(el("select", { id: "version" }), versions.map((it) => [it, `${it}${cluster.known.files[it] ? `: ${cluster.known.files[it]}` : ""}`]), summary.versions);
+    const shown = el("div");
+    select.addEventListener("change", async () => {
+        const reply = await ask("Read a version", "GET", `/t/${cluster.tenant}/maps/${select.value}`);
+        shown.replaceChildren(reply.status === 200 ? tree(cluster, readMap(reply.text)) : fault(meaning(reply.status, reply.error)));
+    });
+    shown.append(tree(cluster, cluster.map));
+    at.append(el("div", { class: "controls" }, labelled("Version", select)), ...[unknown(cluster)].filter(Boolean), shown);
+    return section;
+}

@@ -1,0 +1,53 @@
+// Where an object or a group lies.
+import { ask } from "./service.js";
+import { meaning } from "./codes.js";
+import { button, el, fault, labelled, say } from "./dom.js";
+import { pathOf } from "./map.js";
+import { missing, poolOf, poolPicker } from "./view_pools.js";
+
+function placeOf(cluster, id) {
+    const device = cluster.map.byId.get(id), host = device?.buckets[0];
+    return host ? [host.name, pathOf(host)].filter(Boolean).join(", ") : "";
+}
+
+function deviceLines(cluster, reply) {
+    return el("ol", { class: "lies" }, reply.up.map((id) => {
+        if (id === null) return el("li", {}, el("span", { class: "device" }, "none"));
+        return el("li", { "data-device": id }, el("span", { class: "device" }, cluster.name(id)), el("span", { class: "hint" }, placeOf(cluster, id)), id === reply.primary && el("span", { class: "badge in" }, "primary"));
+    }));
+}
+
+function shown(cluster, pool, title, reply) {
+    const raw = JSON.stringify(reply.raw) !== JSON.stringify(reply.up) && el("p", {}, `What the rule answers, with devices that are down: ${reply.raw.map((it) => (it === null ? "none" : cluster.name(it))).join(", ")}.`);
+    const numbers = [["group", reply.group], ["seed", reply.seed], ...("hash" in reply ? [["hash of the name", reply.hash]] : []), ["version", reply.version]];
+    return el("div", { class: "card", id: "found" }, el("h2", { class: "name" }, title), el("p", {}, `In pool ${pool.name}, on these devices:`), deviceLines(cluster, reply), raw,
+        el("dl", { class: "facts" }, numbers.map(([text, value]) => el("div", {}, el("dt", {}, text), el("dd", {}, value)))));
+}
+
+export function showObject(cluster) {
+    const section = el("section", {}, el("h1", { tabindex: "-1" }, "Object"));
+    const lacks = missing(cluster);
+    if (lacks) {
+        section.append(lacks);
+        return section;
+    }
+    const name = el("input", { id: "object", autocomplete: "off" }), group = el("input", { type: "number", id: "group", min: 0 }), at = el("div");
+    async function find(what, title, ask) {
+        say("Asking");
+        const pool = poolOf(cluster), reply = await ask(`/t/${cluster.tenant}/pools/${pool.id}`);
+        say("");
+        at.replaceChildren(reply.status === 200 ? shown(cluster, pool, title, reply) : fault(meaning(reply.status, reply.error)));
+    }
+    const byName = (event) => {
+        event.preventDefault();
+        return find("Object", name.value, (pool) => ask("Locate an object", "POST", `${pool}/locate`, { name: name.value }));
+    };
+    const byNumber = (event) => {
+        event.preventDefault();
+        return find("Group", `Group ${group.value}`, (pool) => ask("Locate a group", "GET", `${pool}/groups/${group.value}`));
+    };
+    section.append(el("div", { class: "split" }, el("div", {}, poolPicker(cluster, () => at.replaceChildren()),
+        el("form", { class: "card form", "aria-label": "An object", on: { submit: byName } }, labelled("Name of an object", name), el("button", { class: "main" }, "Where is it?")),
+        el("form", { class: "card form", "aria-label": "A group", on: { submit: byNumber } }, labelled("Number of a group", group), el("button", {}, "Where is it?"))), at));
+    return section;
+}

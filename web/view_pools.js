@@ -1,0 +1,111 @@
+// Pools: made by a form, with what Ceph takes where nothing else is said.
+import { ask, change } from "./service.js";
+import { meaning } from "./codes.js";
+import { button, el, fault, labelled, options, sayDone } from "./dom.js";
+import { learn, note } from "./known.js";
+
+// Ceph's defaults: osd_pool_default_size and _pg_num, and k=2 m=2 of the erasure code profile
+const SIZES = { replicated: 3, erasure: 4 }, GROUPS = 32;
+
+export function poolPicker(cluster, changed) {
+    const { pools, pool } = cluster.known;
+    const select = options(el("select", { id: "pool" }), pools.map((it) => [it.id, `${it.id}: ${it.name}`]), pool);
+    select.addEventListener("change", () => {
+        cluster.known = note(cluster.tenant, { pool: Number(select.value) });
+        changed();
+    });
+    return labelled("Pool", select);
+}
+
+export function poolOf(cluster) {
+    return cluster.known.pools.find((it) => it.id === cluster.known.pool) ?? cluster.known.pools[0];
+}
+
+// What a view says in place of its content where a map or a pool is missing.
+export function missing(cluster) {
+    const to = (view, text) => el("a", { href: `#/${cluster.tenant}/${view}` }, text);
+    if (!cluster.summary.versions) return el("p", { class: "empty" }, "There is no map yet: ", to("map", "import one"), " first.");
+    if (!cluster.known.pools.length) return el("p", { class: "empty" }, "There is no pool yet: ", to("pools", "make one"), " first.");
+    return null;
+}
+
+export function showPools(cluster, refresh) {
+    const section = el("section", { class: "split" }, el("div", {}, el("h1", { tabindex: "-1" }, "Pools")));
+    if (!cluster.summary.versions) {
+        section.append(missing(cluster));
+        return section;
+    }
+    const said = el("div", { id: "said" });
+    section.firstChild.append(form(cluster, said, refresh), said);
+    section.append(list(cluster));
+    return section;
+}
+
+function list(cluster) {
+    const { pools } = cluster.known, rows = pools.map((it) => el("tr", {}, el("td", { class: "number" }, it.id), el("th", { scope: "row" }, it.name), el("td", {}, it.kind),
+        ...[it.size, it.rule, it.pg_num, it.pgp_num].map((value) => el("td", { class: "number" }, value)), el("td", {}, it.hashpspool ? "yes" : "no")));
+    const heads = ["id", "name", "kind", "size", "rule", "pg_num", "pgp_num", "hashpspool"];
+    const others = cluster.summary.pools !== pools.length && el("p", { class: "note" }, `The service keeps ${cluster.summary.pools} pools of this tenant, and this browser knows `
+        + `${pools.length}: the others were made elsewhere, and no request lists them. Fill in the form as such a pool was made; then you can say that it is there.`);
+    const numbers = new Set(["id", "size", "rule", "pg_num", "pgp_num"]), head = heads.map((it) => el("th", { scope: "col", class: numbers.has(it) && "number" }, it));
+    const table = el("table", { class: "plain" }, el("caption", {}, "Pools of this tenant"), el("thead", {}, el("tr", {}, head)), el("tbody", {}, rows));
+    return el("div", {}, others, rows.length ? el("div", { class: "card scroll", tabindex: "0", role: "region", "aria-label": "Pools of this tenant" }, table) : el("p", { class: "empty" }, "No pool yet."));
+}
+
+function form(cluster, said, refresh) {
+    const { rules } = cluster.map, next = cluster.known.pools.reduce((most, it) => Math.max(most, it.id), 0) + 1;
+    const number = (id, value, most) => el("input", { type: "number", id, min: 1, max: most, value, required: true });
+    const name = el("input", { id: "pool-name", required: true, maxlength: 64, pattern: "[A-Za-z0-9_.\\-]+", autocomplete: "off", title: "Letters, digits, - _ and ." });
+    const kind = options(el("select", { id: "kind" }), [["replicated", "replicated"], ["erasure", "erasure"]], "replicated");
+    const rule = options(el("select", { id: "rule" }), rules.map((it) => [it.id, `${it.id}: ${it.name} (${it.kind})`]), first(rules, "replicated"));
+    const [id, size] = [number("pool-id", next, 2147483647), number("size", SIZES.replicated, 32)];
+    const [groups, places] = [number("pg_num", GROUPS, 65536), number("pgp_num", GROUPS, 65536)];
+    const hashed = el("input", { type: "checkbox", id: "hashpspool", checked: true });
+    kind.addEventListener("change", () => {
+        size.value = SIZES[kind.value];
+        rule.value = first(rules, kind.value) ?? rule.value;
+    });
+    groups.addEventListener("input", () => { places.value = groups.value; });
+    const fields = () => ({
+        id: Number(id.value), name: name.value, kind: kind.value, size: Number(size.value), rule: Number(rule.value), pg_num: Number(groups.value), pgp_num: Number(places.value), hashpspool: hashed.checked,
+    });
+    async function make(event) {
+        event.preventDefault();
+        await asMade(cluster, said, fields(), refresh);
+    }
+    return el("form", { class: "card form", "aria-label": "A pool", on: { submit: make } },
+        labelled("Name", name), el("div", { class: "pair" }, labelled("Id", id), labelled("Kind", kind)), el("div", { class: "pair" }, labelled("Size", size), labelled("Rule", rule)),
+        el("div", { class: "pair" }, labelled("Groups: pg_num", groups), labelled("pgp_num", places)),
+        el("p", { class: "check" }, hashed, el("label", { for: "hashpspool" }, " The id enters the hash (hashpspool)")), el("button", { class: "main" }, "Make the pool"));
+}
+
+function first(rules, kind) {
+    return rules.filter((it) => it.kind === kind).reduce((least, it) => (least === undefined || it.id < least ? it.id : least), undefined);
+}
+
+async function asMade(cluster, said, fields, refresh) {
+    const reply = await change(`Make the pool ${fields.name}`, cluster.tenant, "pools", fields, {});
+    if (reply.status === 201) {
+        sayDone(`The pool ${fields.name} is made`);
+        await refresh();
+        document.getElementById("said")?.replaceChildren(el("p", { class: "done" }, `The pool ${fields.name} is made. `, el("a", { href: `#/${cluster.tenant}/usage` }, "See its usage"), ", or ",
+            el("a", { href: `#/${cluster.tenant}/drain` }, "drain a host on paper")));
+        return;
+    }
+    const there = reply.error === "exists" && button("It is the pool that I filled in", async () => {
+        if (await isThere(cluster, fields)) {
+            learn({ tenant: cluster.tenant, route: "pools", body: JSON.stringify(fields) }, reply);
+            await refresh();
+        } else {
+            said.replaceChildren(fault(`The service has no pool ${fields.id} of ${fields.pg_num} groups.`));
+        }
+    });
+    said.replaceChildren(fault(`The pool isn't made. `, meaning(reply.status, reply.error)), ...(there ? [there] : []));
+}
+
+// Whether the tenant has a pool of this id with so many groups. That all else is as filled in shows
+// when a copy of it is compared.
+async function isThere(cluster, { id, pg_num: groups }) {
+    const at = (group) => ask("Look for the pool", "GET", `/t/${cluster.tenant}/pools/${id}/groups/${group}`);
+    return (await at(groups - 1)).status === 200 && (await at(groups)).error === "no_group";
+}
