@@ -1,0 +1,95 @@
+"""A file system that becomes read-only while it is served, as one does whose disk fails. An ext4 in
+a file is mounted for it, which takes root and a loop device; elsewhere there is no check."""
+import os
+import pathlib
+import subprocess
+
+import map_cases
+from replies import made
+from served import Server, asked, run_to_end
+from stored import STORE_FAULT
+
+FAILED = b'503 {"error":"store_failed"}'
+SIZE = 1 << 24
+ACKNOWLEDGED = 20  # imports
+
+
+def said(*words):
+    return subprocess.run(words, check=True, stdout=subprocess.PIPE, stderr=subprocess.PIPE, text=True).stdout.strip()
+
+
+def import_of(place):
+    return map_cases.import_of(map_cases.tiny(), f"m{place}")
+
+
+def mounted(image, at):
+    """Whether an ext4 is mounted there that becomes read-only at its first error."""
+    if os.geteuid() != 0:
+        return False
+    try:
+        with open(image, "wb") as file:
+            file.truncate(SIZE)
+        said("mkfs.ext4", "-q", "-F", str(image))
+        said("mount", "-o", "loop,errors=remount-ro", str(image), str(at))
+    except (OSError, subprocess.CalledProcessError) as error:
+        print(f"no file system becomes read-only: {error} {getattr(error, 'stderr', '')}".strip())
+        return False
+    return True
+
+
+def fail(at):
+    """Makes the file system report an error to itself, as where its disk fails."""
+    device = pathlib.Path(said("findmnt", "-n", "-o", "SOURCE", str(at))).name
+    pathlib.Path("/sys/fs/ext4", device, "trigger_fs_error").write_text("a test")
+
+
+def becomes_read_only(program, at):
+    """While it is read-only what was loaded is served, a change is answered 503 and the server
+    ends; a start is refused, and changes nothing."""
+    db, lines = at / "t.db", [b"PUT /t/a", *map(import_of, range(1, ACKNOWLEDGED + 1))]
+    summary = map_cases.summary(ACKNOWLEDGED, ACKNOWLEDGED)
+    with Server(program, db) as server:
+        if asked(server, lines) != [made(b"a"), *(map_cases.imported(it, it) for it in range(1, ACKNOWLEDGED + 1))]:
+            return "the imports aren't answered"
+        fail(at)
+        found = asked(server, [b"GET /t/a", import_of(ACKNOWLEDGED + 1), b"GET /t/a"])
+        if found != [summary, FAILED, FAILED]:
+            return f"once it is read-only: {found}"
+        if (ended := server.ended()) != (1, b"", STORE_FAULT):
+            return f"the server ends with {ended}"
+    before = [it.read_bytes() for it in sorted(at.glob("t.db*"))]
+    if (ended := run_to_end(program, "script", "--db", str(db), data=b"GET /t/a\n")) != (1, b"", STORE_FAULT):
+        return f"a start while it is read-only ends with {ended}"
+    return None if [it.read_bytes() for it in sorted(at.glob("t.db*"))] == before else "a start changes the files"
+
+
+def after_repair(program, at):
+    """Once it is repaired the file has what was acknowledged, and of the change that met the fault
+    all or nothing; sent again it is done once."""
+    last = ACKNOWLEDGED + 1
+    status, out, err = run_to_end(program, "script", "--db", str(at / "t.db"), data=b"GET /t/a\n" + import_of(last) + b"\n" + import_of(1) + b"\nGET /t/a\n")
+    found = out.splitlines()
+    wanted = [map_cases.imported(last, last), map_cases.imported(1, 1), map_cases.summary(last, last)]
+    if (status, err, found[1:]) != (0, b"", wanted) or found[0] not in (map_cases.summary(it, it) for it in (last - 1, last)):
+        return f"after a repair: status {status}, {err!r}, {found}"
+    return None
+
+
+def checks(program, folder):
+    """Names, each with why it fails, or None; none where nothing can be mounted."""
+    at, image = pathlib.Path(folder, "read-only"), pathlib.Path(folder, "image")
+    at.mkdir()
+    if not mounted(image, at):
+        return
+    try:
+        why = becomes_read_only(program, at)
+    finally:
+        said("umount", str(at))
+    yield "a file system becomes read-only", why
+    subprocess.run(["e2fsck", "-f", "-y", str(image)], stdout=subprocess.DEVNULL, stderr=subprocess.DEVNULL)
+    said("mount", "-o", "loop", str(image), str(at))
+    try:
+        why = after_repair(program, at)
+    finally:
+        said("umount", str(at))
+    yield "a file system that was read-only", why
