@@ -26,6 +26,8 @@ use text_tests::texts::map_of;
 pub(crate) struct Asked {
     /// The id of the map's device.
     pub(crate) device: u32,
+    /// Whether the map's text is long: it then has devices too that are in no bucket.
+    pub(crate) is_long: bool,
     /// The state of the device.
     pub(crate) state: Option<(u32, bool)>,
     /// The id of the pool.
@@ -36,17 +38,36 @@ pub(crate) struct Asked {
     pub(crate) erasure: bool,
 }
 
-/// The device 0, without a state, and the pool 1. Its group g has the seed g + 1.
+/// The device 0, without a state, on a map with a short text, and the pool 1. Its group g has the
+/// seed g + 1.
 pub(crate) const FIRST: Asked = Asked {
     device: 0,
+    is_long: false,
     state: None,
     pool: 1,
     name: "rbd",
     erasure: false,
 };
 
-/// A map of one device, which its rule 0 takes.
-fn map_with(alloc: Global, device: u32) -> Result<CrushMap, Fail> {
+/// The same on a map with a long text.
+pub(crate) const LONG: Asked = Asked {
+    is_long: true,
+    ..FIRST
+};
+
+/// Declarations of the devices with the ids from 1,000 on below `end`, with names of 64 bytes: some
+/// 77,000 bytes below 2,000.
+fn devices(alloc: Global, end: u32) -> Result<String, Fail> {
+    let mut text = String::new(alloc);
+    for id in 1_000..end {
+        write!(text, "device {id} device-{id:057}\n")?;
+    }
+    Ok(text)
+}
+
+/// A map whose rule 0 takes one device.
+fn map_with(alloc: Global, device: u32, is_long: bool) -> Result<CrushMap, Fail> {
+    let others = devices(alloc, if is_long { 2_000 } else { 1_000 })?;
     let text = format!(in alloc;
         "tunable choose_local_tries 0
 tunable choose_local_fallback_tries 0
@@ -55,7 +76,7 @@ tunable chooseleaf_descend_once 1
 tunable chooseleaf_vary_r 1
 tunable chooseleaf_stable 1
 device {device} osd.{device}
-type 0 osd
+{others}type 0 osd
 type 1 host
 type 10 root
 root default {{
@@ -186,7 +207,7 @@ pub(crate) fn ask(
     group: u32,
     how: How,
 ) -> Result<Answer, Fail> {
-    let map = map_with(alloc, asked.device)?;
+    let map = map_with(alloc, asked.device, asked.is_long)?;
     let tables = Tables::build(alloc, &map)?;
     let states = SharedStates::new(states_of(alloc, asked)?)?;
     let weights = Weights::of(alloc, &reweights_of(alloc, states.as_slice())?)?;

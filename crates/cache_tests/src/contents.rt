@@ -1,6 +1,6 @@
 //! Contents that are too many.
 
-use crate::asking::{FIRST, How, ask, assert_placed, cache_for, give_numbers, is_one};
+use crate::asking::{How, LONG, ask, assert_placed, cache_for, give_numbers, is_one};
 use std::test::Fail;
 
 /// With the 257th content all placements are gone, and no number is given again.
@@ -8,14 +8,14 @@ use std::test::Fail;
 fn the_content_after_the_last_empties_the_cache(rt: HostRuntime) -> Result<(), Fail> {
     let alloc = rt.alloc();
     let mut cache = cache_for(&rt, alloc, 1_024)?;
-    let first = ask(&rt, alloc, &mut cache, &FIRST, 3, How::ByContent)?;
+    let first = ask(&rt, alloc, &mut cache, &LONG, 3, How::ByContent)?;
     give_numbers(&rt, alloc, &mut cache, 255)?;
     assert!(rt; cache.has(first.1));
-    let kept = ask(&rt, alloc, &mut cache, &FIRST, 3, How::ByContent)?;
+    let kept = ask(&rt, alloc, &mut cache, &LONG, 3, How::ByContent)?;
     assert!(rt; is_one(&rt, &first, &kept));
     give_numbers(&rt, alloc, &mut cache, 256)?;
     assert!(rt; !cache.has(first.1));
-    let again = ask(&rt, alloc, &mut cache, &FIRST, 3, How::ByContent)?;
+    let again = ask(&rt, alloc, &mut cache, &LONG, 3, How::ByContent)?;
     assert!(rt; !is_one(&rt, &first, &again));
     assert_placed(&rt, &again, 4, 0, true);
     assert!(rt; cache.has(again.1));
@@ -28,8 +28,8 @@ fn the_content_after_the_last_empties_the_cache(rt: HostRuntime) -> Result<(), F
 fn a_number_whose_content_is_gone_is_of_no_use(rt: HostRuntime) -> Result<(), Fail> {
     let alloc = rt.alloc();
     let mut cache = cache_for(&rt, alloc, 1_024)?;
-    let first = ask(&rt, alloc, &mut cache, &FIRST, 3, How::ByContent)?;
-    let gone = ask(&rt, alloc, &mut cache, &FIRST, 3, How::ByNumber(256))?;
+    let first = ask(&rt, alloc, &mut cache, &LONG, 3, How::ByContent)?;
+    let gone = ask(&rt, alloc, &mut cache, &LONG, 3, How::ByNumber(256))?;
     assert_eq!(rt; gone.1, first.1);
     assert!(rt; !cache.has(gone.1));
     assert!(rt; !is_one(&rt, &first, &gone));

@@ -1,10 +1,10 @@
 //! Placements that are kept are shared, and not made anew.
 
-use crate::asking::{Asked, FIRST, How, ask, assert_placed, cache_for, is_one};
+use crate::asking::{Asked, FIRST, How, LONG, ask, assert_placed, cache_for, is_one};
 use crush_pool::PoolFault;
 use std::test::Fail;
 
-/// What is asked after the first: how, and of which group.
+/// What is asked after the one that is kept: how, and of which group.
 const AGAIN: &[(How, u32)] = &[
     (How::ByContent, 3),
     (How::ByNumber(0), 3),
@@ -16,12 +16,34 @@ const AGAIN: &[(How, u32)] = &[
 fn a_group_that_is_asked_again_is_not_placed_again(rt: HostRuntime) -> Result<(), Fail> {
     let alloc = rt.alloc();
     let mut cache = cache_for(&rt, alloc, 2)?;
-    let first = ask(&rt, alloc, &mut cache, &FIRST, 3, How::ByContent)?;
+    let first = ask(&rt, alloc, &mut cache, &LONG, 3, How::ByContent)?;
     assert_placed(&rt, &first, 4, 0, true);
     for (how, group) in AGAIN {
-        let again = ask(&rt, alloc, &mut cache, &FIRST, *group, *how)?;
+        let again = ask(&rt, alloc, &mut cache, &LONG, *group, *how)?;
         assert!(rt; is_one(&rt, &first, &again));
         assert_eq!(rt; again.1, first.1);
+    }
+    Ok(())
+}
+
+/// Where the map's text is short a group is kept when it is asked a second time.
+#[test]
+fn by_a_short_text_a_group_is_placed_twice(rt: HostRuntime) -> Result<(), Fail> {
+    let alloc = rt.alloc();
+    for how in [How::ByContent, How::ByNumber(0)] {
+        let mut cache = cache_for(&rt, alloc, 16)?;
+        let first = ask(&rt, alloc, &mut cache, &FIRST, 3, how)?;
+        let other = ask(&rt, alloc, &mut cache, &FIRST, 4, how)?;
+        let second = ask(&rt, alloc, &mut cache, &FIRST, 3, how)?;
+        assert!(rt; !is_one(&rt, &first, &second));
+        assert_placed(&rt, &first, 4, 0, true);
+        assert_placed(&rt, &other, 5, 0, true);
+        assert_placed(&rt, &second, 4, 0, true);
+        for (how, group) in AGAIN {
+            let again = ask(&rt, alloc, &mut cache, &FIRST, *group, *how)?;
+            assert!(rt; is_one(&rt, &second, &again));
+            assert_eq!(rt; again.1, first.1);
+        }
     }
     Ok(())
 }
@@ -31,10 +53,10 @@ fn a_group_that_is_asked_again_is_not_placed_again(rt: HostRuntime) -> Result<()
 fn a_cache_for_one_placement_keeps_the_last(rt: HostRuntime) -> Result<(), Fail> {
     let alloc = rt.alloc();
     let mut cache = cache_for(&rt, alloc, 1)?;
-    let first = ask(&rt, alloc, &mut cache, &FIRST, 3, How::ByContent)?;
-    let other = ask(&rt, alloc, &mut cache, &FIRST, 4, How::ByContent)?;
-    let again = ask(&rt, alloc, &mut cache, &FIRST, 3, How::ByContent)?;
-    let last = ask(&rt, alloc, &mut cache, &FIRST, 3, How::ByNumber(0))?;
+    let first = ask(&rt, alloc, &mut cache, &LONG, 3, How::ByContent)?;
+    let other = ask(&rt, alloc, &mut cache, &LONG, 4, How::ByContent)?;
+    let again = ask(&rt, alloc, &mut cache, &LONG, 3, How::ByContent)?;
+    let last = ask(&rt, alloc, &mut cache, &LONG, 3, How::ByNumber(0))?;
     assert!(rt; !is_one(&rt, &first, &again));
     assert!(rt; is_one(&rt, &again, &last));
     assert_placed(&rt, &first, 4, 0, true);
@@ -47,11 +69,11 @@ fn a_cache_for_one_placement_keeps_the_last(rt: HostRuntime) -> Result<(), Fail>
 /// What differs from the first, and where the device then is: its id, the seed of the group 3, and
 /// whether the device is up.
 const DIFFERENT: &[(Asked, u32, u32, bool)] = &[
-    (Asked { device: 7, ..FIRST }, 7, 4, true),
+    (Asked { device: 7, ..LONG }, 7, 4, true),
     (
         Asked {
             state: Some((65_536, false)),
-            ..FIRST
+            ..LONG
         },
         0,
         4,
@@ -60,17 +82,17 @@ const DIFFERENT: &[(Asked, u32, u32, bool)] = &[
     (
         Asked {
             state: Some((65_536, true)),
-            ..FIRST
+            ..LONG
         },
         0,
         4,
         true,
     ),
-    (Asked { pool: 2, ..FIRST }, 0, 5, true),
+    (Asked { pool: 2, ..LONG }, 0, 5, true),
     (
         Asked {
             name: "other",
-            ..FIRST
+            ..LONG
         },
         0,
         4,
@@ -79,7 +101,7 @@ const DIFFERENT: &[(Asked, u32, u32, bool)] = &[
     (
         Asked {
             erasure: true,
-            ..FIRST
+            ..LONG
         },
         0,
         4,
@@ -91,7 +113,7 @@ const DIFFERENT: &[(Asked, u32, u32, bool)] = &[
 fn another_map_state_or_pool_is_another_content(rt: HostRuntime) -> Result<(), Fail> {
     let alloc = rt.alloc();
     let mut cache = cache_for(&rt, alloc, 16)?;
-    let first = ask(&rt, alloc, &mut cache, &FIRST, 3, How::ByContent)?;
+    let first = ask(&rt, alloc, &mut cache, &LONG, 3, How::ByContent)?;
     let mut number = first.1;
     for (asked, device, seed, is_up) in DIFFERENT {
         let other = ask(&rt, alloc, &mut cache, asked, 3, How::ByContent)?;
@@ -100,7 +122,7 @@ fn another_map_state_or_pool_is_another_content(rt: HostRuntime) -> Result<(), F
         assert!(rt; number < other.1);
         number = other.1;
     }
-    let again = ask(&rt, alloc, &mut cache, &FIRST, 3, How::ByContent)?;
+    let again = ask(&rt, alloc, &mut cache, &LONG, 3, How::ByContent)?;
     assert!(rt; is_one(&rt, &first, &again));
     Ok(())
 }
@@ -110,11 +132,11 @@ fn another_map_state_or_pool_is_another_content(rt: HostRuntime) -> Result<(), F
 fn a_group_past_the_last_is_refused(rt: HostRuntime) -> Result<(), Fail> {
     let alloc = rt.alloc();
     let mut cache = cache_for(&rt, alloc, 2)?;
-    let last = ask(&rt, alloc, &mut cache, &FIRST, 11, How::ByContent)?;
+    let last = ask(&rt, alloc, &mut cache, &LONG, 11, How::ByContent)?;
     assert_placed(&rt, &last, 12, 0, true);
     for how in [How::ByContent, How::ByNumber(0)] {
         for group in [12, 13, 4_294_967_295] {
-            let past = ask(&rt, alloc, &mut cache, &FIRST, group, how)?;
+            let past = ask(&rt, alloc, &mut cache, &LONG, group, how)?;
             assert!(rt; matches!(past.0, Err(PoolFault::P2)));
         }
     }

@@ -10,8 +10,8 @@ use Rattle.crush_grammar.specs.declared.code.TextCode.TheVariants.{X7}
 use Rattle.crush_text.specs.Codes.{code_text}
 use Rattle.crush_text.specs.MapText.{IsShort, IsTextOf, HasFirstFault, IsRefusedFor}
 use Rattle.crush_text.specs.declared.limits.TheConstants.{TEXT_LIMIT}
-use Rattle.crush_app.specs.Input.{OfInput}
-use Rattle.crush_app.specs.Play.{AppendsPart}
+use Rattle.tenant_service.specs.Input.{OfInput}
+use Rattle.tenant_service.specs.Writing.{AppendsPart}
 use Rattle.crush_app.specs.Check.{accepted_line, refused_line, IsLineFor}
 use Rattle.crush_app.specs.Private.Verdict.{IsVerdict}
 use Rattle.crush_app.proofs.Inputs.{of_input}

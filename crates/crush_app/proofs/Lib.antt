@@ -1,12 +1,8 @@
 pub mod Checking
 pub mod FromNothing
 pub mod Inputs
-pub mod Kept
-pub mod KeptStates
 pub mod LineLemmas
 pub mod LongTexts
-pub mod Performed
 pub mod Playing
 pub mod Stopping
 pub mod Texts
-pub mod Writing

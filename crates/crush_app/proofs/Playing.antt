@@ -8,12 +8,13 @@ use Rattle.tenant_core.specs.StoreReply.{IsUnavailable}
 use Rattle.tenant_messages.specs.declared.call.Call.{Call}
 use Rattle.tenant_messages.specs.declared.reply.Reply.{Reply}
 use Rattle.tenant_core.proofs.Running.{run_both, run_latched, run_one, run_none}
-use Rattle.crush_app.specs.Play.{Plays, PlaysUntilLatched, PlaysUpTo, WritesHeadline, AppendsPart}
-use Rattle.crush_app.specs.Input.{OfInput}
+use Rattle.tenant_service.specs.Writing.{AppendsPart}
+use Rattle.crush_app.specs.Play.{Plays, PlaysUntilLatched, PlaysUpTo, WritesHeadline}
+use Rattle.tenant_service.specs.Input.{OfInput}
 use Rattle.crush_app.specs.declared.limits.TheConstants.{SCRIPT_LIMIT}
 use Rattle.crush_app.specs.Script.{bad_line, call_of_line, calls_in, is_nonempty, messages_in, messages, OfScript, output, wire}
 use Rattle.crush_app.proofs.Inputs.{of_read}
-use Rattle.crush_app.proofs.Writing.{appends_both, appends_none}
+use Rattle.tenant_service.proofs.Written.{appends_both, appends_none}
 
 pub append_none : {A : Type 0} (xs : List A) → xs ++ [] ≡ xs
 append_none [] = refl

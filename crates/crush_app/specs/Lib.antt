@@ -1,4 +1,3 @@
-pub mod Input
 pub mod Script
 pub mod Play
 pub mod End

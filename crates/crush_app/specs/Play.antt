@@ -5,21 +5,8 @@ use Rattle.tenant_core.specs.States.{States, Outcomes, Headline, MeetsDefinition
 use Rattle.tenant_history.specs.Served.{IsSession}
 use Rattle.tenant_messages.specs.declared.call.Call.{Call}
 use Rattle.tenant_messages.specs.declared.reply.Reply.{Reply}
+use Rattle.tenant_service.specs.Writing.{AppendsUpTo}
 use Rattle.crush_app.specs.Script.{calls_in, output}
-
--- ---- bytes
-
--- of these bytes all but the rest were written
-pub record AppendsUpTo (rest : List ℕ) (old new : Option (List ℕ)) (bytes : List ℕ) : Type 0 where
-  pub front : List ℕ
-  pub all : front ++ rest ≡ bytes
-  pub written : Appends old new front
-
--- the bytes were written, all but a rest that isn't empty
-pub record AppendsPart (old new : Option (List ℕ)) (bytes : List ℕ) : Type 0 where
-  pub rest : List ℕ
-  pub some : 0 < length rest
-  pub front : AppendsUpTo rest old new bytes
 
 -- ---- messages
 

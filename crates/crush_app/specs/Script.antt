@@ -1,9 +1,10 @@
 -- A script: the lines of an input as calls, and replies as lines.
-use Rattle.std.specs.Prelude.{ℕ, ◌==◌, ◌≤◌, List, [], ◌∷◌, ◌++◌, length, map, filter, Bool, nat_lt, if◌then◌else◌, Option, Some, None, option_map, codes, decimal}
+use Rattle.std.specs.Prelude.{ℕ, ◌==◌, ◌≤◌, List, [], ◌∷◌, ◌++◌, length, map, filter, Bool, nat_lt, if◌then◌else◌, Option, Some, None, option_map, decimal}
 use Rattle.std.specs.List.{list_any, before_first, after_first}
 use Rattle.std.specs.Str.{is_utf8}
 use Rattle.std.specs.Str.Lines.{lines}
-use Rattle.crush_app.specs.Input.{OfInput}
+use Rattle.tenant_service.specs.Input.{OfInput}
+use Rattle.tenant_service.specs.Writing.{shown_body}
 use Rattle.crush_app.specs.declared.limits.TheConstants.{SCRIPT_LIMIT}
 use Rattle.tenant_messages.specs.Reply.{reply, refused}
 use Rattle.tenant_messages.specs.declared.call.Call.{Call}
@@ -45,12 +46,6 @@ calls_in (None ∷ ms) = calls_in ms
 calls_in (Some call ∷ ms) = call ∷ calls_in ms
 
 -- ---- from replies to bytes
-
--- the body as it is written. A reply for a failed allocation has an empty body, and its text stands
--- here
-abbrev pub shown_body : List ℕ → List ℕ
-shown_body [] = codes "{\"error\":\"no_memory\"}"
-shown_body (b ∷ body) = b ∷ body
 
 -- a reply as a line: STATUS, a space, the body, LF
 abbrev pub wire : Reply → List ℕ

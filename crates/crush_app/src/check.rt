@@ -7,13 +7,12 @@ ghost use Rattle.crush_text.specs.MapText.{IsShort, IsTextOf, IsRefusedFor};
 ghost use Rattle.crush_grammar.specs.declared.code.TextCode.TheVariants.{X7};
 ghost use Rattle.crush_grammar.specs.declared.code.TextFault as spec_fault;
 ghost use Rattle.crush_text.specs.declared.limits.TheConstants.{TEXT_LIMIT};
-ghost use Rattle.crush_app.specs.Input.{OfInput, DropsFirst};
-ghost use Rattle.crush_app.specs.Play.{AppendsPart};
+ghost use Rattle.tenant_service.specs.Input.{OfInput, DropsFirst};
+ghost use Rattle.tenant_service.specs.Writing.{AppendsPart};
 ghost use Rattle.crush_app.specs.Check.{accepted_line as line_of_map, refused_line as line_of_fault, IsLineFor, WritesLine, WritesNothing, HasVerdict};
 ghost use Rattle.crush_app.specs.Private.Verdict.{IsVerdict};
 
 use crate::input::{InputFault, read_input};
-use crate::wire::write_whole;
 use crush_map::CrushMap;
 use crush_text::limits::TEXT_LIMIT;
 use crush_text::{
@@ -22,6 +21,7 @@ use crush_text::{
 };
 use std::alloc::{AllocError, Global};
 use std::io::{Read, Write};
+use tenant_service::write_whole;
 
 /// How a check ended.
 #[derive(Clone, Copy, Debug, PartialEq, Eq)]

@@ -2,20 +2,19 @@
 
 ghost use Rattle.std.specs.Prelude.{◌≡◌, ◌≢◌, ◌≤◌, ◌<◌, ◌+◌, length, Ok, IfSome};
 ghost use Rattle.std.specs.Io.KnownBytes.{Keeps as KeepsBytes};
-ghost use Rattle.crush_app.specs.Input.{DropsFirst};
+ghost use Rattle.tenant_service.specs.Input.{DropsFirst};
 ghost use Rattle.crush_app.specs.End.{ServesLines, ServesNone, ReadsInput};
 ghost use Rattle.crush_app.specs.FromNothing.{PlaysFromNothing, PlaysUpToFromNothing, WritesHeadlineFromNothing};
 ghost use Rattle.crush_app.specs.declared.limits.TheConstants.{SCRIPT_LIMIT};
 ghost use Rattle.crush_app.specs.Script.{messages, OfScript};
 
-use crate::laws::memory_stores_are_honest;
-use crate::memory_store::MemoryStore;
 use crate::play::{ScriptEnd, script_run};
-use crate::service::Service;
 use std::alloc::{AllocError, Global};
 use std::io::{Read, Write};
 use std::num::NonZeroUsize;
 use tenant_ready::ReadyStore;
+use tenant_service::laws::memory_stores_are_honest;
+use tenant_service::{MemoryStore, Service};
 
 /// Plays a script on a service over a new store in memory, as `script_run` does, and returns how
 /// that ended. The service, which keeps so many placements, is gone afterwards.
@@ -60,8 +59,7 @@ pub fn script_in_memory<R: Read, W: Write>(
     ensures silent { ServesNone result → KeepsBytes (W.contents writer.old) (W.contents writer.new) }
 {
     memory_stores_are_honest();
-    // what the tenants have is in memory already, and is shared
-    let store = ReadyStore::over(alloc, MemoryStore::new(alloc), u64::MAX, placements)?;
+    let store = ReadyStore::over_memory(alloc, MemoryStore::new(alloc), placements)?;
     let mut service = Service::over(alloc, store)?;
     script_run(alloc, &mut service, reader, writer)
 }

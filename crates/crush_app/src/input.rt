@@ -3,7 +3,7 @@
 ghost use Rattle.std.specs.Prelude.{◌≡◌, ◌≢◌, ◌≤◌, ◌<◌, ◌+◌, length, IfOk};
 ghost use Rattle.std.specs.Io.{ReadsAtMost};
 ghost use Rattle.std.specs.Io.KnownBytes.{ReadConsumes};
-ghost use Rattle.crush_app.specs.Input.{OfInput, DropsFirst};
+ghost use Rattle.tenant_service.specs.Input.{OfInput, DropsFirst};
 ghost use Rattle.crush_app.specs.Private.Reading.{IsReadUpTo};
 
 use std::alloc::Global;

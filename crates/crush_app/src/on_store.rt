@@ -2,17 +2,17 @@
 
 ghost use Rattle.std.specs.Prelude.{◌≡◌, ◌≤◌, ◌<◌, ◌+◌, false, true, length, Ok, IfOk, IfSome, OnErr};
 ghost use Rattle.std.specs.Io.KnownBytes.{Keeps as KeepsBytes};
-ghost use Rattle.crush_app.specs.Input.{DropsFirst};
+ghost use Rattle.tenant_service.specs.Input.{DropsFirst};
 ghost use Rattle.crush_app.specs.End.{ServesLines, ServesNone, ReadsInput};
 ghost use Rattle.crush_app.specs.Play.{Plays, PlaysUntilLatched, PlaysUpTo, WritesHeadline, WritesSession};
 ghost use Rattle.crush_app.specs.declared.limits.TheConstants.{SCRIPT_LIMIT};
 ghost use Rattle.crush_app.specs.Script.{messages, OfScript};
 
 use crate::play::{ScriptEnd, script_run};
-use crate::service::Service;
 use std::alloc::{AllocError, Global};
 use std::io::{Read, Write};
 use tenant_core::TenantStore;
+use tenant_service::Service;
 
 /// Plays a script on a service over a store, as `script_run` does, and returns how that ended, with
 /// the store. `Err(AllocError)`: an allocation for the service or for the script itself failed; no

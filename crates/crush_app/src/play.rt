@@ -4,7 +4,7 @@ ghost use Rattle.std.specs.Prelude.{◌≡◌, ◌≤◌, ◌<◌, ◌∷◌, �
 ghost use Rattle.std.specs.Bool.{IsFalse};
 ghost use Rattle.std.specs.Io.KnownBytes.{Keeps as KeepsBytes};
 ghost use Rattle.tenant_messages.specs.CallParts.{call_of};
-ghost use Rattle.crush_app.specs.Input.{DropsFirst};
+ghost use Rattle.tenant_service.specs.Input.{DropsFirst};
 ghost use Rattle.crush_app.specs.End.{ServesLines, ServesNone, ReadsInput};
 ghost use Rattle.crush_app.specs.Play.{Plays, PlaysUntilLatched, PlaysUpTo, WritesHeadline, WritesSession};
 ghost use Rattle.crush_app.specs.declared.limits.TheConstants.{SCRIPT_LIMIT};
@@ -13,12 +13,12 @@ ghost use Rattle.crush_app.specs.Script.{bad_line, messages, messages_in, OfScri
 use crate::input::{InputFault, read_input};
 use crate::limits::SCRIPT_LIMIT;
 use crate::script::{call_of_line, first_line};
-use crate::service::Service;
 use crate::wire::write_line;
 use std::alloc::{AllocError, Global};
 use std::io::{Read, Write};
 use tenant_core::TenantStore;
 use tenant_messages::{CallParts, Problem, Reply, refused};
+use tenant_service::Service;
 
 /// How a script ended.
 #[derive(Clone, Copy, Debug, PartialEq, Eq)]

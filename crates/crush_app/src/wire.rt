@@ -3,29 +3,14 @@
 ghost use Rattle.std.specs.Prelude.{◌≡◌, ◌+◌, ◌≤◌, ◌++◌, ◌∷◌, [], length, IsTrue};
 ghost use Rattle.std.specs.Bool.{IsFalse};
 ghost use Rattle.std.specs.Io.KnownBytes.{Appends};
-ghost use Rattle.crush_app.specs.Play.{AppendsPart};
+ghost use Rattle.tenant_service.specs.Writing.{AppendsPart};
 ghost use Rattle.crush_app.specs.Script as spec;
 ghost use Rattle.crush_app.specs.declared.line.TheConstants.{LINE_ROOM};
 
 use crate::line::{LINE_ROOM, Line};
 use std::io::Write;
 use tenant_messages::Reply;
-
-/// Writes the bytes and returns whether all were written: it ends at the first error, or where a
-/// write accepts no byte. Without bytes the writer isn't called. Allocates nothing.
-pub fn write_whole<W: Write>(writer: &mut W, bytes: &[u8]) -> bool
-    ensures whole { IsTrue result → Appends (W.contents writer.old) (W.contents writer.new) bytes.now }
-    ensures part { IsFalse result → AppendsPart (W.contents writer.old) (W.contents writer.new) bytes.now }
-{
-    let mut rest = bytes;
-    while !rest.is_empty() {
-        match writer.write(rest) {
-            Ok(0) | Err(_) => return false,
-            Ok(count) => rest = &rest[count..],
-        }
-    }
-    true
-}
+use tenant_service::{shown_body, write_whole};
 
 /// Writes both, one after the other, and returns whether all bytes were written. Allocates nothing.
 fn write_both<W: Write>(writer: &mut W, first: &[u8], second: &[u8]) -> bool
@@ -36,18 +21,6 @@ fn write_both<W: Write>(writer: &mut W, first: &[u8], second: &[u8]) -> bool
         return false;
     }
     write_whole(writer, second)
-}
-
-/// Returns the body of a reply as it is written. A reply for a failed allocation has an empty body,
-/// and its text stands here. Allocates nothing.
-pub fn shown_body(body: &str) -> &[u8]
-    ensures { result.now ≡ spec.shown_body body.now }
-{
-    if body.is_empty() {
-        b"{\"error\":\"no_memory\"}"
-    } else {
-        body.as_bytes()
-    }
 }
 
 /// Writes the line of a status and a body in pieces, and returns whether all of it was written.

@@ -8,7 +8,7 @@ use Rattle.crush_map.specs.declared.word.Kind.TheVariants.{Uniform}
 use Rattle.crush_map.specs.declared.draft.Bucket.{Bucket}
 use Rattle.crush_map.specs.declared.draft.Tunables.{Tunables}
 use Rattle.crush_map.specs.Map.{Map}
-use Rattle.crush_bucket.specs.Bucket.{BucketView}
+use Rattle.crush_bucket.specs.Bucket.{BucketView, item_at}
 use Rattle.crush_permutation.specs.Permutation.{PermView}
 use Rattle.crush_bucket.specs.Pick.{pick, perm_for}
 
@@ -71,6 +71,10 @@ IsDevice t item = (id : ℕ) × (item.0 ≡ pos id) × (has_device t id ≡ true
 -- the item is a bucket of a smaller number, or else a device
 abbrev pub IsBelow : TablesView → ℕ → ItemId → Type 0
 IsBelow t number item = MatchOption (bucket_numbered t item) (IsDevice t item) (λ below. below < number)
+
+-- each item of each bucket is a bucket of a smaller number, or else a device
+abbrev pub HasItemsBelow : TablesView → Type 0
+HasItemsBelow t = (number place : ℕ) → number < length t.buckets → place < size_at t number → IsBelow t number (item_at (bucket_at t number).items place)
 
 -- ---- the scratch
 

@@ -95,6 +95,17 @@ impl AnyBucket {
         }
     }
 
+    /// The items with their weights, in order of place.
+    pub(crate) fn items(&self) -> &[(ItemId, Weight)]
+        ensures { result.now ≡ self.now.items }
+    {
+        match &self.by_kind {
+            ByKind::Uniform(bucket) => bucket.items(),
+            ByKind::List(bucket) => bucket.items(),
+            ByKind::Tree(bucket) => bucket.items(),
+        }
+    }
+
     /// The bucket, by its kind.
     #[inline]
     pub(crate) fn by_kind(&self) -> &ByKind

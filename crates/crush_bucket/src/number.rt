@@ -22,7 +22,8 @@ impl Model for BucketNo {
 }
 
 impl BucketNo {
-    pub(crate) fn new(place: usize) -> Self
+    /// Returns the number of the bucket at a place.
+    pub fn new(place: usize) -> Self
         ensures { result ≡ place }
     {
         BucketNo { place }

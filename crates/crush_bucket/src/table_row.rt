@@ -6,7 +6,7 @@ ghost use Rattle.crush_bucket.specs.Private.Laid.{IsFit};
 ghost use Rattle.crush_bucket.specs.Private.TableRows.{bucket_in};
 
 use crate::any::AnyBucket;
-use crush_map::{Bucket, ItemId, Kind};
+use crush_map::{Bucket, ItemId, Kind, Weight};
 use std::alloc::{AllocError, Global};
 use std::marker::Model;
 
@@ -83,6 +83,16 @@ impl TableRow {
         match &self.content {
             Content::Empty { id: _, kind: _ } => 0,
             Content::Bucket(bucket) => bucket.size(),
+        }
+    }
+
+    /// The bucket's items with their weights, in order of place.
+    pub(crate) fn items(&self) -> &[(ItemId, Weight)]
+        ensures { result.now ≡ self.now.bucket.items }
+    {
+        match &self.content {
+            Content::Empty { id: _, kind: _ } => &[],
+            Content::Bucket(bucket) => bucket.items(),
         }
     }
 

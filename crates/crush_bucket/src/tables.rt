@@ -3,14 +3,14 @@
 ghost use Rattle.std.specs.Prelude.{◌≡◌, ◌<◌, ◌<ℤ◌, ◌==◌, ◌^◌, pos, IfOk, IfSome, OnSome, All, length, map};
 ghost use Rattle.crush_bucket.specs.Bucket.{IsItemOf};
 ghost use Rattle.crush_bucket.specs.Private.Laid.{IsFit, AreSlots};
-ghost use Rattle.crush_bucket.specs.Tables.{tables_of, typed_bucket, bucket_numbered, bucket_at, type_at, kind_at, size_at, pick_at, has_device, perms_of, IsBelow};
+ghost use Rattle.crush_bucket.specs.Tables.{tables_of, typed_bucket, bucket_numbered, bucket_at, type_at, kind_at, size_at, pick_at, has_device, perms_of, IsBelow, HasItemsBelow};
 
 use crate::any::ByKind;
 use crate::index::index_of;
 use crate::number::{BucketNo, index_place};
 use crate::scratch::Scratch;
 use crate::table_row::{Content, TableRow};
-use crush_map::{Bucket, CrushMap, Device, ItemId, Kind, Tunables, buckets_are_sound};
+use crush_map::{Bucket, CrushMap, Device, ItemId, Kind, Tunables, Weight, buckets_are_sound};
 use std::alloc::{AllocError, Global};
 use std::marker::Model;
 
@@ -115,6 +115,21 @@ impl Tables {
         ensures { result ≡ (size_at self.now bucket == 0) }
     {
         self.size(bucket) == 0
+    }
+
+    /// Returns the items of a bucket with their weights, in order of place.
+    pub fn items(&self, bucket: BucketNo) -> &[(ItemId, Weight)]
+        requires { bucket < length self.now.buckets }
+        ensures { result.now ≡ (bucket_at self.now bucket).items }
+    {
+        self.rows[bucket.place()].items()
+    }
+
+    /// Each item of a bucket is a bucket of a smaller number, or a device.
+    pub fn items_are_below(&self)
+        ensures { HasItemsBelow self.now }
+    {
+        let _rows = &self.rows;
     }
 
     /// Returns the tunables of the map.

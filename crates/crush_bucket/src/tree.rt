@@ -83,6 +83,13 @@ impl TreeBucket {
         self.items.len()
     }
 
+    /// Returns the items with their weights, in order of place.
+    pub(crate) fn items(&self) -> &[(ItemId, Weight)]
+        ensures { result.now ≡ self.now.items }
+    {
+        self.items.as_slice()
+    }
+
     /// Returns the item that is picked.
     #[tactic(auto, unfolding(crate::specs::Kinds::tree_pick, crate::specs::Pick::pick))]
     pub(crate) fn item_for(&self, x: u32, r: u32) -> ItemId

@@ -71,6 +71,13 @@ impl UniformBucket {
         self.items.len()
     }
 
+    /// Returns the items with their weights, in order of place.
+    pub(crate) fn items(&self) -> &[(ItemId, Weight)]
+        ensures { result.now ≡ self.now.items }
+    {
+        self.items.as_slice()
+    }
+
     /// Returns the place for which an attempt asks.
     #[inline]
     pub(crate) fn asked_place(&self, r: u32) -> usize

@@ -5,11 +5,13 @@ ghost use Rattle.crush_pool.specs.Placements.{placement};
 ghost use Rattle.crush_cache.specs.Caches.{IsNumberOf, KeepsNumbers, WasNumberOf};
 ghost use Rattle.crush_cache.specs.Contents.{Content, content_eq, content_of};
 ghost use Rattle.crush_cache.specs.Private.Entries.{IsPlacementIn, IsPlacementOf};
+ghost use Rattle.crush_cache.specs.declared.content.TheConstants.{LONG_TEXT};
 ghost use Rattle.crush_cache.specs.declared.limits.TheConstants.{CONTENT_LIMIT};
 
 use crate::content::Content;
 use crate::entries::{Entries, Key, keep, recall};
 use crate::limits::CONTENT_LIMIT;
+use crate::seen::Seen;
 use crush_bucket::Scratch;
 use crush_pool::{Placement, Placer, PoolFault};
 use crush_rules::Out;
@@ -19,6 +21,10 @@ use std::alloc::{AllocError, Global};
 use std::marker::Model;
 use std::num::NonZeroUsize;
 use std::rc::Rc;
+
+/// The most placements that are near. Of more each lies elsewhere in memory, and finding one takes
+/// longer than placing it anew by a map with a short text.
+const NEAR_CAPACITY: usize = 8_192;
 
 /// Placements of groups, for at most `CONTENT_LIMIT` contents. Each content has a number, which is
 /// never given again. Contracts see the contents and their numbers, and never which placements are
@@ -30,6 +36,7 @@ pub struct PlacementCache {
     first: u64,
     contents: Vec<Content>,
     entries: Entries,
+    seen: Seen,
 }
 
 impl Model for PlacementCache {
@@ -81,6 +88,7 @@ impl PlacementCache {
             first: 0,
             contents: Vec::new(alloc),
             entries: LruCache::new(alloc, capacity)?,
+            seen: Seen::new(alloc, capacity)?,
         })
     }
 
@@ -183,6 +191,28 @@ impl PlacementCache {
         Ok(answer)
     }
 
+    /// Whether the map of the content with a number has a long text.
+    fn is_long(&self, number: u64) -> bool
+        requires { (c : Content) × IsNumberOf self.now number c }
+        ensures { (c : Content) → IsNumberOf self.now number c → result ≡ nat_le LONG_TEXT (length c.text) }
+    {
+        let place = (number - self.first) as usize;
+        self.contents[place].is_long()
+    }
+
+    /// Whether the placement of a group of the content with a number is looked up, and kept: by a
+    /// map with a long text at once, and by others from the second time on that the group is asked
+    /// for, if the placements are near.
+    fn is_kept(&mut self, number: u64, group: u32) -> bool
+        requires { (c : Content) × IsNumberOf self.old number c }
+        ensures { self.new ≡ self.old }
+    {
+        if self.is_long(number) {
+            return true;
+        }
+        self.entries.cap().get() <= NEAR_CAPACITY && self.seen.is_asked_again(Key { number, group })
+    }
+
     /// The placement of a group, which is kept, or made anew. The number is that of the content.
     fn place_numbered(
         &mut self,
@@ -200,6 +230,9 @@ impl PlacementCache {
         let _tunables = placer.map().tunables();
         if group >= placer.pool().parts().pg_num {
             return Ok(Err(PoolFault::P2));
+        }
+        if !self.is_kept(number, group) {
+            return place_anew(self.alloc, placer, group);
         }
         match self.kept(number, group) {
             Some(placement) => Ok(Ok(placement)),

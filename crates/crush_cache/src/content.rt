@@ -13,6 +13,10 @@ use std::hash::{FoldHasher, Hash, Hasher};
 use std::marker::Model;
 use std::rc::Rc;
 
+/// The bytes from which on a map's text is long: a placement by a map of one list bucket with as
+/// long a text, and names of 64 bytes, takes longer than all else of a request.
+const LONG_TEXT: usize = 65_536;
+
 /// What placements depend on: the canonical text of a map, all states of devices, and a pool.
 /// Contracts see these three.
 #[derive(Drop)]
@@ -47,8 +51,9 @@ fn hash_of(text: u64, states: u64, pool: &Pool) -> u64
 }
 
 impl Content {
-    ghost use Rattle.std.specs.Prelude.{◌≡◌, IfOk};
+    ghost use Rattle.std.specs.Prelude.{◌≡◌, IfOk, length, nat_le};
     ghost use Rattle.crush_cache.specs.Contents.{content_eq};
+    ghost use Rattle.crush_cache.specs.declared.content.TheConstants.{LONG_TEXT};
 
     /// The content of these. Takes no memory, and time that doesn't depend on the lengths of the
     /// text and of the states.
@@ -62,6 +67,13 @@ impl Content {
             pool,
             hash,
         }
+    }
+
+    /// Whether the text is long.
+    pub(crate) fn is_long(&self) -> bool
+        ensures { result ≡ nat_le LONG_TEXT (length self.now.text) }
+    {
+        self.text.as_str().len() >= LONG_TEXT
     }
 
     /// Whether pool, states and text are the same.

@@ -9,6 +9,7 @@ mod content;
 mod entries;
 pub mod limits;
 mod pools;
+mod seen;
 mod states;
 mod text;
 

@@ -9,3 +9,6 @@ pub mod Answering
 pub mod Walking
 pub mod Entries
 pub mod Entering
+pub mod WalkEnds
+pub mod Hopeless
+pub mod HopelessRounds

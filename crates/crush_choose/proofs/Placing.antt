@@ -10,7 +10,7 @@ use Rattle.crush_choose.specs.Marks.{Marks, Slot, spots, items_of, leaves_of}
 use Rattle.crush_choose.specs.Firstn.{mark_of, mark_beside}
 use Rattle.crush_choose.specs.Growing.{grown}
 
-spots_append : (before after : Marks) → spots (before ++ after) ≡ spots before ++ spots after
+pub spots_append : (before after : Marks) → spots (before ++ after) ≡ spots before ++ spots after
 spots_append [] after = refl
 spots_append (Some (Placed spot) ∷ before) after = ap (λ (placed : List Spot). spot ∷ placed) (spots_append before after)
 spots_append (Some Skipped ∷ before) after = spots_append before after

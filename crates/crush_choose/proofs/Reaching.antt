@@ -48,7 +48,7 @@ pub to_device : (t : TablesView) (x : ℕ) (rr : ℕ → ℕ) (wanted from bucke
     → bucket_numbered t item ≡ None → wanted ≡ 0 → reach t x rr wanted from ≡ Found item r
 to_device t x rr wanted from bucket item r picks device e = picks.same ∙ rw (device, e) refl
 
-not_zero : (n : ℕ) → (n ≡ 0 → ⊥) → (0 == n) ≡ false
+pub not_zero : (n : ℕ) → (n ≡ 0 → ⊥) → (0 == n) ≡ false
 not_zero zero ne = absurd (ne refl)
 not_zero (suc n) ne = grind (arith, nat_tests)
 

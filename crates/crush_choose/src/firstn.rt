@@ -1,17 +1,22 @@
 //! `choose firstn`: items are chosen in order, without gaps.
 
-ghost use Rattle.std.specs.Prelude.{◌≡◌, ◌<◌, ◌≤◌, ◌+◌, ◌++◌, ◌∷◌, [], ◌^◌, length};
+ghost use Rattle.std.specs.Prelude.{◌≡◌, ◌<◌, ◌≤◌, ◌+◌, ◌++◌, ◌∷◌, ◌||◌, [], ◌^◌, nat_le, length};
 ghost use Rattle.crush_bucket.specs.Tables.{perms_of, bucket_numbered};
 ghost use Rattle.crush_choose.specs.Firstn as spec;
 ghost use Rattle.crush_choose.specs.Firstn.{IsFirstnCall, IsFirstnAnswer};
 ghost use Rattle.crush_choose.specs.Marks.{Marks, items_of, leaves_of};
-ghost use Rattle.crush_map.specs.declared.limits.TheConstants.{TRIES_LIMIT, COUNT_LIMIT, VARY_R_LIMIT};
+ghost use Rattle.crush_choose.specs.Private.Decisions.{IsDecision, mark_in};
+ghost use Rattle.crush_choose.specs.Private.Reachable.{firstn_can_place};
+ghost use Rattle.crush_map.specs.declared.limits.TheConstants.{BUCKET_LIMIT, TRIES_LIMIT, COUNT_LIMIT, VARY_R_LIMIT};
 ghost use Rattle.crush_choose.specs.declared.limits.TheConstants.{SIZE_LIMIT};
 
+use crate::effort::Effort;
 use crate::mark::{Mark, Spot};
+use crate::reachable::can_choose;
 use crate::row::{Row, Slot};
 use crate::walk::{Reached, reach_by};
 use crate::weights::{Weights, is_device_in};
+use crush_bucket::laws::a_pick_is_an_item;
 use crush_bucket::{BucketNo, Scratch, Tables};
 use crush_map::ItemId;
 
@@ -65,6 +70,7 @@ fn leaf_by(
     leaves: &[Slot],
     bucket: BucketNo,
     r: u32,
+    effort: &mut Effort,
 ) -> Option<ItemId>
     requires bucket { bucket < length tables.now.buckets }
     requires fits { scratch.old ≡ perms_of tables.now }
@@ -72,7 +78,7 @@ fn leaf_by(
     ensures value { result ≡ spec.leaf_by tables.now weights.now call.now leaves.now bucket r }
     ensures fits { scratch.new ≡ perms_of tables.now }
 {
-    match reach_by(tables, scratch, call.x, r, 0, bucket) {
+    match reach_by(tables, scratch, call.x, r, 0, bucket, effort) {
         Reached::Found(item, _) if is_device_in(weights, call.x, item) && !has(leaves, item) => {
             Some(item)
         }
@@ -98,7 +104,7 @@ fn leaf_start(call: &FirstnCall, count: u32, r: u32) -> u32
     base + sub
 }
 
-/// Returns the leaf of the first attempt that finds one.
+/// Returns the leaf of the first attempt that finds one. It gives up where none can.
 #[tactic(auto, unfolding(crate::specs::Firstn::leaf_below))]
 fn leaf_below(
     tables: &Tables,
@@ -108,18 +114,30 @@ fn leaf_below(
     leaves: &[Slot],
     bucket: BucketNo,
     start: u32,
+    effort: &mut Effort,
 ) -> Option<ItemId>
     requires bucket { bucket < length tables.now.buckets }
     requires fits { scratch.old ≡ perms_of tables.now }
+    requires from { call.now.bucket < length tables.now.buckets }
     requires low { start < 2 ^ 17 }
     requires few { call.now.leaf_tries ≤ TRIES_LIMIT }
     ensures value { result ≡ spec.leaf_below tables.now weights.now call.now leaves.now bucket start }
     ensures fits { scratch.new ≡ perms_of tables.now }
 {
+    a_pick_is_an_item();
+    let since = effort.spent();
+    let mut asked = false;
     for g in 0..call.leaf_tries {
-        let leaf = leaf_by(tables, scratch, weights, call, leaves, bucket, start + g);
+        let r = start + g;
+        let leaf = leaf_by(tables, scratch, weights, call, leaves, bucket, r, effort);
         if leaf.is_some() {
             return leaf;
+        }
+        if !asked && effort.is_due(tables, call.bucket, since) {
+            asked = true;
+            if !can_choose(tables, weights, call.x, 0, leaves, false, &[], bucket) {
+                return None;
+            }
         }
     }
     None
@@ -135,6 +153,7 @@ fn leaf_of(
     count: u32,
     item: ItemId,
     r: u32,
+    effort: &mut Effort,
 ) -> Option<ItemId>
     requires call { IsFirstnCall tables.now call.now }
     requires fits { scratch.old ≡ perms_of tables.now }
@@ -148,7 +167,9 @@ fn leaf_of(
         Some(_) if call.leaf_tries == 0 => Some(item),
         Some(bucket) => {
             let start = leaf_start(call, count, r);
-            leaf_below(tables, scratch, weights, call, leaves, bucket, start)
+            leaf_below(
+                tables, scratch, weights, call, leaves, bucket, start, effort,
+            )
         }
     }
 }
@@ -164,6 +185,7 @@ fn firstn_try(
     leaves: &[Slot],
     rep: u32,
     round: u32,
+    effort: &mut Effort,
 ) -> Option<Mark>
     requires call { IsFirstnCall tables.now call.now }
     requires fits { scratch.old ≡ perms_of tables.now }
@@ -180,6 +202,7 @@ fn firstn_try(
         rep + round,
         call.wanted,
         call.bucket,
+        effort,
     );
     let (item, r) = match end {
         Reached::Found(item, r) => (item, r),
@@ -190,11 +213,47 @@ fn firstn_try(
         return None;
     }
     let count = items.len() as u32;
-    let leaf = leaf_of(tables, scratch, weights, call, leaves, count, item, r)?;
+    let leaf = leaf_of(
+        tables, scratch, weights, call, leaves, count, item, r, effort,
+    )?;
     Some(Mark::Placed(Spot { round, item, leaf }))
 }
 
-/// Returns the mark of a rep: that of its first try that doesn't fail.
+/// What is decided of a rep.
+#[derive(Clone, Copy)]
+enum Decision {
+    /// The mark of the rep.
+    Mark(Option<Mark>),
+    /// Nothing more can be placed, for this rep or a later one.
+    Hopeless,
+}
+
+/// Returns whether a try can place an item, given these items and leaves.
+fn can_place(
+    tables: &Tables,
+    weights: &Weights,
+    call: &FirstnCall,
+    items: &[Slot],
+    leaves: &[Slot],
+) -> bool
+    requires { call.now.bucket < length tables.now.buckets }
+    ensures { result ≡ (nat_le BUCKET_LIMIT call.now.bucket || firstn_can_place tables.now weights.now call.now items.now leaves.now) }
+{
+    let leaf = call.leaf_tries > 0;
+    can_choose(
+        tables,
+        weights,
+        call.x,
+        call.wanted,
+        items,
+        leaf,
+        leaves,
+        call.bucket,
+    )
+}
+
+/// Decides a rep: its mark is that of its first try that doesn't fail. It gives up where no try can
+/// place an item.
 #[tactic(auto, unfolding(crate::specs::Firstn::decided))]
 fn decide(
     tables: &Tables,
@@ -204,25 +263,36 @@ fn decide(
     items: &[Slot],
     leaves: &[Slot],
     rep: u32,
-) -> Option<Mark>
+    effort: &mut Effort,
+) -> Decision
     requires call { IsFirstnCall tables.now call.now }
     requires fits { scratch.old ≡ perms_of tables.now }
     requires few { length items.now ≤ SIZE_LIMIT }
     requires rep { rep ≤ COUNT_LIMIT }
-    ensures value { result ≡ spec.decided tables.now weights.now call.now items.now leaves.now rep }
+    ensures value { IsDecision tables.now weights.now call.now items.now leaves.now (spec.decided tables.now weights.now call.now items.now leaves.now rep) result }
     ensures fits { scratch.new ≡ perms_of tables.now }
 {
+    let since = effort.spent();
+    let mut asked = false;
     for round in 0..call.tries {
-        let mark = firstn_try(tables, scratch, weights, call, items, leaves, rep, round);
+        let mark = firstn_try(
+            tables, scratch, weights, call, items, leaves, rep, round, effort,
+        );
         if mark.is_some() {
-            return mark;
+            return Decision::Mark(mark);
+        }
+        if !asked && effort.is_due(tables, call.bucket, since) {
+            asked = true;
+            if !can_place(tables, weights, call, items, leaves) {
+                return Decision::Hopeless;
+            }
         }
     }
-    None
+    Decision::Mark(None)
 }
 
-/// Returns the mark of a rep, and `None` where no room is left.
-fn mark_beside(
+/// Decides a rep: it has no mark where no room is left.
+fn decide_with_room(
     tables: &Tables,
     scratch: &mut Scratch,
     weights: &Weights,
@@ -230,19 +300,20 @@ fn mark_beside(
     items: &[Slot],
     leaves: &[Slot],
     rep: u32,
-) -> Option<Mark>
+    effort: &mut Effort,
+) -> Decision
     requires call { IsFirstnCall tables.now call.now }
     requires fits { scratch.old ≡ perms_of tables.now }
     requires few { length items.now ≤ call.now.room }
     requires rep { rep ≤ COUNT_LIMIT }
-    ensures value { result ≡ spec.mark_beside tables.now weights.now call.now items.now leaves.now rep }
-    ensures room { length items.now + length (items_of (result ∷ [])) ≤ call.now.room }
+    ensures value { IsDecision tables.now weights.now call.now items.now leaves.now (spec.mark_beside tables.now weights.now call.now items.now leaves.now rep) result }
+    ensures room { length items.now + length (items_of (mark_in result ∷ [])) ≤ call.now.room }
     ensures fits { scratch.new ≡ perms_of tables.now }
 {
     if (items.len() as u32) < call.room {
-        decide(tables, scratch, weights, call, items, leaves, rep)
+        decide(tables, scratch, weights, call, items, leaves, rep, effort)
     } else {
-        None
+        Decision::Mark(None)
     }
 }
 
@@ -286,10 +357,12 @@ pub fn choose_firstn(
     ensures even { length leaves.new ≡ length items.new }
     ensures fits { scratch.new ≡ perms_of tables.now }
 {
+    a_pick_is_an_item();
     items.clear();
     leaves.clear();
+    let mut effort = Effort::new();
     for rep in 0..call.numrep {
-        let mark = mark_beside(
+        let decision = decide_with_room(
             tables,
             scratch,
             weights,
@@ -297,7 +370,11 @@ pub fn choose_firstn(
             items.items(),
             leaves.items(),
             rep,
+            &mut effort,
         );
-        add(items, leaves, mark);
+        match decision {
+            Decision::Mark(mark) => add(items, leaves, mark),
+            Decision::Hopeless => return,
+        }
     }
 }

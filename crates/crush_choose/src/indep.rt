@@ -1,18 +1,23 @@
 //! `choose indep`: items are chosen at fixed positions; one that can't be filled stays empty.
 
-ghost use Rattle.std.specs.Prelude.{◌≡◌, ◌<◌, ◌≤◌, ◌+◌, ◌++◌, ◌^◌, length, map, None, is_some, replicate};
+ghost use Rattle.std.specs.Prelude.{◌≡◌, ◌<◌, ◌≤◌, ◌+◌, ◌++◌, ◌||◌, ◌^◌, nat_le, length, map, None, is_some, replicate};
 ghost use Rattle.std.specs.List.{list_all};
 ghost use Rattle.crush_bucket.specs.Tables.{perms_of, bucket_numbered};
 ghost use Rattle.crush_choose.specs.Marks.{Marks, item_at, leaf_at};
 ghost use Rattle.crush_choose.specs.Indep as spec;
 ghost use Rattle.crush_choose.specs.Indep.{IsIndepCall, IsIndepAnswer};
-ghost use Rattle.crush_map.specs.declared.limits.TheConstants.{TRIES_LIMIT};
+ghost use Rattle.crush_choose.specs.Private.Decisions.{PlaceTheSame};
+ghost use Rattle.crush_choose.specs.Private.Reachable.{indep_can_place};
+ghost use Rattle.crush_map.specs.declared.limits.TheConstants.{BUCKET_LIMIT, TRIES_LIMIT};
 
+use crate::effort::Effort;
 use crate::limits::SIZE_LIMIT;
 use crate::mark::{Mark, Spot};
+use crate::reachable::can_choose;
 use crate::row::{Row, Slot};
 use crate::walk::{Attempts, Reached, reach};
 use crate::weights::{Weights, is_device_in};
+use crush_bucket::laws::a_pick_is_an_item;
 use crush_bucket::{BucketNo, Scratch, Tables};
 use crush_map::ItemId;
 
@@ -77,6 +82,7 @@ fn leaf_by(
     bucket: BucketNo,
     start: u32,
     round: u32,
+    effort: &mut Effort,
 ) -> Option<ItemId>
     requires call { IsIndepCall tables.now call.now }
     requires bucket { bucket < length tables.now.buckets }
@@ -91,14 +97,14 @@ fn leaf_by(
         numrep: call.numrep,
         round,
     };
-    match reach(tables, scratch, call.x, attempts, 0, bucket) {
+    match reach(tables, scratch, call.x, attempts, 0, bucket, effort) {
         Reached::Found(item, _) => is_device_in(weights, call.x, item).then_some(item),
         Reached::Empty => None,
         Reached::Wrong => None,
     }
 }
 
-/// Returns the leaf of the first round that finds one.
+/// Returns the leaf of the first round that finds one. It gives up where none can.
 #[tactic(auto, unfolding(crate::specs::Indep::indep_leaf))]
 fn leaf_below(
     tables: &Tables,
@@ -107,6 +113,7 @@ fn leaf_below(
     call: &IndepCall,
     bucket: BucketNo,
     start: u32,
+    effort: &mut Effort,
 ) -> Option<ItemId>
     requires call { IsIndepCall tables.now call.now }
     requires bucket { bucket < length tables.now.buckets }
@@ -115,10 +122,19 @@ fn leaf_below(
     ensures value { result ≡ spec.indep_leaf tables.now weights.now call.now bucket start }
     ensures fits { scratch.new ≡ perms_of tables.now }
 {
+    a_pick_is_an_item();
+    let since = effort.spent();
+    let mut asked = false;
     for round in 0..call.leaf_tries {
-        let leaf = leaf_by(tables, scratch, weights, call, bucket, start, round);
+        let leaf = leaf_by(tables, scratch, weights, call, bucket, start, round, effort);
         if leaf.is_some() {
             return leaf;
+        }
+        if !asked && effort.is_due(tables, call.bucket, since) {
+            asked = true;
+            if !can_choose(tables, weights, call.x, 0, &[], false, &[], bucket) {
+                return None;
+            }
         }
     }
     None
@@ -133,6 +149,7 @@ fn leaf_of(
     pos: u32,
     item: ItemId,
     r: u32,
+    effort: &mut Effort,
 ) -> Option<ItemId>
     requires call { IsIndepCall tables.now call.now }
     requires fits { scratch.old ≡ perms_of tables.now }
@@ -144,7 +161,7 @@ fn leaf_of(
     match tables.bucket_of(item) {
         None => is_device_in(weights, call.x, item).then_some(item),
         Some(_) if call.leaf_tries == 0 => Some(item),
-        Some(bucket) => leaf_below(tables, scratch, weights, call, bucket, pos + r),
+        Some(bucket) => leaf_below(tables, scratch, weights, call, bucket, pos + r, effort),
     }
 }
 
@@ -158,6 +175,7 @@ fn indep_try(
     marks: &[Option<Mark>],
     pos: u32,
     round: u32,
+    effort: &mut Effort,
 ) -> Option<Mark>
     requires call { IsIndepCall tables.now call.now }
     requires fits { scratch.old ≡ perms_of tables.now }
@@ -172,7 +190,16 @@ fn indep_try(
         numrep: call.numrep,
         round,
     };
-    let (item, r) = match reach(tables, scratch, call.x, attempts, call.wanted, call.bucket) {
+    let end = reach(
+        tables,
+        scratch,
+        call.x,
+        attempts,
+        call.wanted,
+        call.bucket,
+        effort,
+    );
+    let (item, r) = match end {
         Reached::Found(item, r) => (item, r),
         Reached::Empty => return None,
         Reached::Wrong => return Some(Mark::Skipped),
@@ -180,7 +207,7 @@ fn indep_try(
     if taken(marks, round, pos, item) {
         return None;
     }
-    let leaf = leaf_of(tables, scratch, weights, call, pos, item, r)?;
+    let leaf = leaf_of(tables, scratch, weights, call, pos, item, r, effort)?;
     Some(Mark::Placed(Spot { round, item, leaf }))
 }
 
@@ -193,6 +220,7 @@ fn try_position(
     marks: &mut [Option<Mark>],
     pos: u32,
     round: u32,
+    effort: &mut Effort,
 )
     requires call { IsIndepCall tables.now call.now }
     requires fits { scratch.old ≡ perms_of tables.now }
@@ -203,7 +231,7 @@ fn try_position(
     ensures fits { scratch.new ≡ perms_of tables.now }
 {
     if marks[pos as usize].is_none() {
-        marks[pos as usize] = indep_try(tables, scratch, weights, call, marks, pos, round);
+        marks[pos as usize] = indep_try(tables, scratch, weights, call, marks, pos, round, effort);
     }
 }
 
@@ -215,6 +243,7 @@ fn run_round(
     call: &IndepCall,
     marks: &mut [Option<Mark>],
     round: u32,
+    effort: &mut Effort,
 )
     requires call { IsIndepCall tables.now call.now }
     requires fits { scratch.old ≡ perms_of tables.now }
@@ -225,7 +254,7 @@ fn run_round(
     ensures fits { scratch.new ≡ perms_of tables.now }
 {
     for pos in 0..call.n {
-        try_position(tables, scratch, weights, call, marks, pos, round);
+        try_position(tables, scratch, weights, call, marks, pos, round, effort);
     }
 }
 
@@ -235,7 +264,37 @@ fn all_decided(marks: &[Option<Mark>]) -> bool
     marks.iter().all(|mark| mark.is_some())
 }
 
-/// Makes the rounds, until each position is decided or there is none left.
+/// Returns how many positions are undecided.
+fn undecided(marks: &[Option<Mark>]) -> usize
+    ensures { result ≤ length marks.now }
+{
+    marks.iter().filter(|mark| mark.is_none()).count()
+}
+
+/// Returns whether a try of a position can place an item, given these marks.
+fn can_place(tables: &Tables, weights: &Weights, call: &IndepCall, marks: &[Option<Mark>]) -> bool
+    requires bucket { call.now.bucket < length tables.now.buckets }
+    requires few { length marks.now ≤ SIZE_LIMIT }
+    ensures { result ≡ (nat_le BUCKET_LIMIT call.now.bucket || indep_can_place tables.now weights.now call.now (map item_at marks.now)) }
+{
+    let mut items = Row::new();
+    let mut leaves = Row::new();
+    fill(&mut items, &mut leaves, marks);
+    let leaf = call.leaf_tries > 0;
+    let chosen = items.items();
+    can_choose(
+        tables,
+        weights,
+        call.x,
+        call.wanted,
+        chosen,
+        leaf,
+        &[],
+        call.bucket,
+    )
+}
+
+/// Makes the rounds, until each position is decided, none can be, or there is no round left.
 #[tactic(auto, unfolding(crate::specs::Indep::indep))]
 fn run_rounds(
     tables: &Tables,
@@ -247,15 +306,27 @@ fn run_rounds(
     requires call { IsIndepCall tables.now call.now }
     requires fits { scratch.old ≡ perms_of tables.now }
     requires places { marks.old ≡ replicate call.now.n None }
-    ensures value { marks.new ≡ spec.indep tables.now weights.now call.now }
+    ensures value { PlaceTheSame marks.new (spec.indep tables.now weights.now call.now) }
     ensures places { length marks.new ≡ call.now.n }
     ensures fits { scratch.new ≡ perms_of tables.now }
 {
+    a_pick_is_an_item();
+    let mut effort = Effort::new();
+    let mut since = 0;
+    let mut waiting = marks.len();
     for round in 0..call.tries {
         if all_decided(marks) {
             return;
         }
-        run_round(tables, scratch, weights, call, marks, round);
+        if effort.is_due(tables, call.bucket, since) {
+            let left = undecided(marks);
+            if left == waiting && !can_place(tables, weights, call, marks) {
+                return;
+            }
+            since = effort.spent();
+            waiting = left;
+        }
+        run_round(tables, scratch, weights, call, marks, round, &mut effort);
     }
 }
 

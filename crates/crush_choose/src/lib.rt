@@ -5,11 +5,13 @@
 //! are in the crate `kernel_tests`.
 #![tactic(auto)]
 
+mod effort;
 mod firstn;
 mod indep;
 pub mod laws;
 pub mod limits;
 mod mark;
+mod reachable;
 mod row;
 mod walk;
 mod weights;

@@ -6,6 +6,7 @@ ghost use Rattle.crush_choose.specs.Reach.{reach, step};
 ghost use Rattle.crush_choose.specs.Private.Walks.{AreAttempts, IsUpTo};
 ghost use Rattle.crush_map.specs.declared.limits.TheConstants.{COUNT_LIMIT};
 
+use crate::effort::Effort;
 use crush_bucket::{BucketNo, Scratch, Tables};
 use crush_map::{ItemId, Kind};
 
@@ -52,6 +53,7 @@ pub(crate) fn reach(
     attempts: Attempts,
     wanted: u32,
     from: BucketNo,
+    effort: &mut Effort,
 ) -> Reached
     requires from { from < length tables.now.buckets }
     requires fits { scratch.old ≡ perms_of tables.now }
@@ -65,6 +67,7 @@ pub(crate) fn reach(
         if tables.is_empty(bucket) {
             return Reached::Empty;
         }
+        effort.add_pick();
         let r = attempt_at(tables, attempts, bucket);
         let item = tables.pick(bucket, scratch, x, r);
         match tables.bucket_of(item) {
@@ -93,6 +96,7 @@ pub(crate) fn reach_by(
     r: u32,
     wanted: u32,
     from: BucketNo,
+    effort: &mut Effort,
 ) -> Reached
     requires from { from < length tables.now.buckets }
     requires fits { scratch.old ≡ perms_of tables.now }
@@ -106,5 +110,5 @@ pub(crate) fn reach_by(
         numrep: 1,
         round: 0,
     };
-    reach(tables, scratch, x, attempts, wanted, from)
+    reach(tables, scratch, x, attempts, wanted, from, effort)
 }

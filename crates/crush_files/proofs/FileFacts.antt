@@ -1,5 +1,5 @@
 -- What a closed file holds after a script, and what an opening found before it.
-use Rattle.std.proofs.Common.{◌≡◌, ◌↔◌, ℕ, List, Bool, true, false, Option, Result, Ok, Err, IfOk, subst}
+use Rattle.std.proofs.Common.{◌≡◌, ◌↔◌, ℕ, List, Bool, true, false, Option, subst}
 use Rattle.sqlite_disk.specs.declared.Disk as disk
 use Rattle.sqlite_disk.specs.declared.Files.{Files}
 use Rattle.sqlite_wal.specs.Recovery.{Image}
@@ -14,14 +14,10 @@ use Rattle.table_schema.specs.Ready.{IsReady}
 use Rattle.crush_app.specs.Play.{Plays, PlaysUpTo, WritesHeadline}
 use Rattle.crush_app.specs.Script.{OfScript, messages}
 use Rattle.crush_app.proofs.Inputs.{of_script}
-use Rattle.crush_files.specs.Opened.{IsFound, IsPlayed}
-use Rattle.crush_files.specs.Stored.{StatesIn}
-use Rattle.crush_files.proofs.StoredFacts.{plays_same, cut_weaker, headline_same, left_states}
-
--- what follows from two things that are said of a result
-pub both_ok : {A E : Type 0} (r : Result A E) {P C Q : A → Type 0} → ((a : A) → P a → C a → Q a) → IfOk r P → IfOk r C → IfOk r Q
-both_ok (Ok a) follows said also = follows a said also
-both_ok (Err e) follows said also = tt
+use Rattle.tenant_files.specs.Opened.{IsFound, IsPlayed}
+use Rattle.tenant_files.specs.Stored.{StatesIn}
+use Rattle.tenant_files.proofs.StoredFacts.{left_states}
+use Rattle.crush_files.proofs.PlayFacts.{plays_same, cut_weaker, headline_same}
 
 same_states : (a : States) → Same a a
 same_states a t s = (λ has. has, λ has. has)

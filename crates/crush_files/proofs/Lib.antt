@@ -1,3 +1,2 @@
 pub mod FileFacts
-pub mod StoredFacts
-pub mod TableFacts
+pub mod PlayFacts

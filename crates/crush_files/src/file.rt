@@ -2,24 +2,23 @@
 
 ghost use Rattle.std.specs.Prelude.{◌≡◌, ◌≤◌, ◌<◌, ◌+◌, true, false, length, Ok, IfOk, IfSome};
 ghost use Rattle.std.specs.Io.KnownBytes.{Keeps as KeepsBytes};
-ghost use Rattle.crush_app.specs.Input.{DropsFirst};
+ghost use Rattle.tenant_service.specs.Input.{DropsFirst};
 ghost use Rattle.crush_app.specs.End.{ServesLines, ServesNone, ReadsInput};
 ghost use Rattle.crush_app.specs.Play.{Plays, PlaysUpTo, WritesHeadline};
 ghost use Rattle.crush_app.specs.declared.limits.TheConstants.{SCRIPT_LIMIT};
 ghost use Rattle.crush_app.specs.Script.{messages, OfScript};
 ghost use Rattle.sqlite_wal.specs.Files.{image_at};
 ghost use Rattle.sqlite_wal.specs.Reads.{AreClean};
-ghost use Rattle.crush_files.specs.Opened.{IsPlayed};
+ghost use Rattle.tenant_files.specs.Opened.{IsPlayed};
 
-use crate::fault::FileFault;
 use crate::on_files::script_on_files;
-use crate::opening::open_store;
 use crush_app::ScriptEnd;
 use sqlite_disk::{Disk, Files, Start};
 use sqlite_std_file::FileFrom;
 use std::io::{Read, Write};
 use std::num::NonZeroUsize;
 use std::rt::HostRuntime;
+use tenant_files::{FileFault, open_store};
 
 /// Plays a script on the tenants in a database file, of whose groups so many placements are kept,
 /// and returns how that ended, with the closed file and its log. A file that is missing or empty

@@ -2,7 +2,7 @@
 
 ghost use Rattle.std.specs.Prelude.{◌≡◌, ◌≢◌, ◌≤◌, ◌<◌, ◌+◌, true, false, length, Ok, IfOk, IfErr, IfSome};
 ghost use Rattle.std.specs.Io.KnownBytes.{Keeps as KeepsBytes};
-ghost use Rattle.crush_app.specs.Input.{DropsFirst};
+ghost use Rattle.tenant_service.specs.Input.{DropsFirst};
 ghost use Rattle.crush_app.specs.End.{ServesLines, ServesNone, ReadsInput};
 ghost use Rattle.crush_app.specs.Play.{Plays, PlaysUpTo, WritesHeadline};
 ghost use Rattle.crush_app.specs.declared.limits.TheConstants.{SCRIPT_LIMIT};
@@ -14,10 +14,8 @@ ghost use Rattle.sqlite.specs.State.{HasCleanDisk};
 ghost use Rattle.sqlite_store.specs.declared.store.FileStore.{FileStore};
 ghost use Rattle.sqlite_wal.specs.Reads.{AreClean};
 ghost use Rattle.tenant_rows.specs.Rows.{StandsFor};
-ghost use Rattle.crush_files.specs.Stored.{StatesIn};
+ghost use Rattle.tenant_files.specs.Stored.{StatesIn};
 
-use crate::closing::close_files;
-use crate::fault::FileFault;
 use crate::on_tables::script_on_tables;
 use crush_app::ScriptEnd;
 use sqlite::FileStore;
@@ -25,6 +23,7 @@ use sqlite_disk::{Disk, Files};
 use std::alloc::{AllocError, Global};
 use std::io::{Read, Write};
 use std::num::NonZeroUsize;
+use tenant_files::{FileFault, close_files};
 use tenant_store::Store;
 
 /// The end of a script, where its file may be closed.

@@ -4,7 +4,7 @@ ghost use Rattle.std.specs.Prelude.{◌≡◌, ◌≤◌, ◌<◌, ◌+◌, fals
 ghost use Rattle.std.specs.Io.KnownBytes.{Keeps as KeepsBytes};
 ghost use Rattle.sqlite.specs.Held.{state};
 ghost use Rattle.sqlite.specs.State.{HasCleanDisk};
-ghost use Rattle.crush_app.specs.Input.{DropsFirst};
+ghost use Rattle.tenant_service.specs.Input.{DropsFirst};
 ghost use Rattle.crush_app.specs.End.{ServesLines, ServesNone, ReadsInput};
 ghost use Rattle.crush_app.specs.Play.{Plays, PlaysUntilLatched, PlaysUpTo, WritesHeadline, WritesSession};
 ghost use Rattle.crush_app.specs.declared.limits.TheConstants.{SCRIPT_LIMIT};
@@ -12,19 +12,16 @@ ghost use Rattle.crush_app.specs.Script.{messages, OfScript};
 ghost use Rattle.tenant_rows.specs.Rows.{StandsFor};
 ghost use Rattle.tenant_store.specs.Shown.{IsHonest};
 ghost use Rattle.table_schema.specs.Ready.{IsReady};
-ghost use Rattle.crush_files.specs.Stored.{MayStandFor};
+ghost use Rattle.tenant_files.specs.Stored.{MayStandFor};
 
 use crush_app::{ScriptEnd, script_on_store};
 use sqlite::{Alter, Connection};
 use std::alloc::{AllocError, Global};
 use std::io::{Read, Write};
 use std::num::NonZeroUsize;
+use tenant_files::READY_BYTES;
 use tenant_ready::ReadyStore;
 use tenant_store::Store;
-
-/// How many bytes of what tenants have are kept in memory: 256 MiB. That is hundreds of tenants
-/// with middling maps, and leaves most of a small machine to the file's pages and to the script.
-pub const READY_BYTES: u64 = 268_435_456;
 
 /// Plays a script on the tenants of a store over tables, as `script_run` does, and returns how that
 /// ended, with the connection. What tenants have is kept ready, within `READY_BYTES`, and so many

@@ -5,9 +5,9 @@ use Rattle.std.proofs.lemmas.List.{append-nil, map-append}
 use Rattle.std.specs.Io.KnownBytes.{Appends, Consumes, IsAtEnd}
 use Rattle.tenant_messages.specs.declared.call.Call.{Call}
 use Rattle.tenant_messages.specs.declared.reply.Reply.{Reply}
-use Rattle.crush_app.specs.Input.{OfInput}
-use Rattle.crush_app.specs.Play.{AppendsPart, AppendsUpTo}
-use Rattle.crush_app.proofs.Writing.{appends_none}
+use Rattle.tenant_service.specs.Input.{OfInput}
+use Rattle.tenant_service.specs.Writing.{AppendsPart, AppendsUpTo}
+use Rattle.tenant_service.proofs.Written.{appends_none}
 use Rattle.crush_http.specs.Head.{HeadAt}
 use Rattle.crush_http.specs.Headers.{bytes}
 use Rattle.crush_http.specs.Messages.{Message, MessageAt, message_of, calls_of, Stop, input_ended, refused, last_served, read_failed, write_failed, HasMessages, GoesOn, IsHalf, IsRejected}

@@ -5,8 +5,8 @@ use Rattle.std.proofs.lemmas.Grind.{flat_map-append}
 use Rattle.std.proofs.lemmas.List.{append-nil, take-append-drop, take_more}
 use Rattle.std.specs.Io.KnownBytes.{Appends}
 use Rattle.std.specs.List.{flat_map}
-use Rattle.crush_app.specs.Play.{AppendsPart, AppendsUpTo}
-use Rattle.crush_app.proofs.Writing.{appends_both, part_first}
+use Rattle.tenant_service.specs.Writing.{AppendsPart, AppendsUpTo}
+use Rattle.tenant_service.proofs.Written.{appends_both, part_first}
 
 -- ---- what was held, and then on from there
 

@@ -7,7 +7,7 @@ use Rattle.tenant_history.proofs.Served.{session_more}
 use Rattle.tenant_history.specs.Served.{ServesSession}
 use Rattle.tenant_messages.specs.declared.call.Call.{Call}
 use Rattle.tenant_messages.specs.declared.reply.Reply.{Reply}
-use Rattle.crush_app.proofs.Stopping.{Rests, no_session}
+use Rattle.tenant_service.proofs.OneSession.{Rests, no_session}
 use Rattle.crush_http.specs.Private.Served.{Replies, ServesAtMostOne}
 
 module _ {T : Type 0} (latched : T → Bool) (states : T → States) (leave : T → Outcomes) (honest : T → Type 0) (old : T) where

@@ -3,7 +3,7 @@ use Rattle.std.specs.Prelude.{ℕ, ◌&&◌, Bool, true, false, List, [], ◌∷
 use Rattle.std.specs.List.{flat_map}
 use Rattle.http.specs.StatusCode.{reason_phrase}
 use Rattle.tenant_messages.specs.declared.reply.Reply.{Reply}
-use Rattle.crush_app.specs.Script.{shown_body}
+use Rattle.tenant_service.specs.Writing.{shown_body}
 use Rattle.crush_http.specs.Messages.{Message}
 use Rattle.crush_http.specs.declared.rejection.Rejection.{Rejection}
 use Rattle.crush_http.specs.declared.rejection.Rejection.TheVariants.{BadRequest, TooLarge, Length}

@@ -3,8 +3,8 @@
 ghost use Rattle.std.specs.Prelude.{◌≡◌, ◌==◌, ◌||◌, ◌⊎◌, ◌-◌, ◌<◌, [], true, length, Option, None, IfSome, IfOk, OnErr};
 ghost use Rattle.std.specs.Io.KnownBytes.{Keeps as KeepsBytes, Appends};
 ghost use Rattle.tenant_history.specs.Served.{ServesSession};
-ghost use Rattle.crush_app.specs.Input.{OfInput};
-ghost use Rattle.crush_app.specs.Play.{AppendsPart, AppendsUpTo};
+ghost use Rattle.tenant_service.specs.Input.{OfInput};
+ghost use Rattle.tenant_service.specs.Writing.{AppendsPart, AppendsUpTo};
 ghost use Rattle.crush_http.specs.Serving.{ServesInput};
 ghost use Rattle.crush_http.specs.Private.Reading.{Finds, ReadsOn};
 ghost use Rattle.crush_http.specs.Private.Served.{EndsCut, EndsHeld, EndsOn, OnCut, OnEnded, OnNext, Replies, ServesAtMostOne, ServesOne};
@@ -15,10 +15,10 @@ use crate::limits::MESSAGE_LIMIT;
 use crate::message::{Incoming, read_message};
 use crate::request::call_of;
 use crate::wire::{put_rejection, put_reply};
-use crush_app::Service;
 use std::alloc::{AllocError, Global};
 use std::io::{self, Read, Write};
 use tenant_core::TenantStore;
+use tenant_service::Service;
 
 /// How a connection ended.
 #[derive(Clone, Copy, Debug, PartialEq, Eq)]

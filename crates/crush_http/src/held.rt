@@ -3,14 +3,14 @@
 ghost use Rattle.std.specs.Prelude.{◌≡◌, ℕ, ◌+◌, ◌≤◌, ◌++◌, List, [], length, take, IfOk, IsTrue};
 ghost use Rattle.std.specs.Bool.{IsFalse};
 ghost use Rattle.std.specs.Io.KnownBytes.{Appends};
-ghost use Rattle.crush_app.specs.Play.{AppendsPart, AppendsUpTo};
+ghost use Rattle.tenant_service.specs.Writing.{AppendsPart, AppendsUpTo};
 ghost use Rattle.crush_http.specs.declared.limits.TheConstants.{HELD_LIMIT};
 
 use crate::limits::HELD_LIMIT;
-use crush_app::write_whole;
 use std::alloc::{AllocError, Global};
 use std::io::Write;
 use std::marker::Model;
+use tenant_service::write_whole;
 
 /// Bytes that wait to be written, at most `HELD_LIMIT`.
 #[derive(Drop)]

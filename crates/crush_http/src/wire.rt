@@ -7,10 +7,10 @@ ghost use Rattle.crush_http.specs.Private.Served.{Puts};
 
 use crate::held::Held;
 use crate::rejection::Rejection;
-use crush_app::shown_body;
 use http::StatusCode;
 use std::io::Write;
 use tenant_messages::Reply;
+use tenant_service::shown_body;
 
 /// Puts the pieces, one after the other, behind what is held, and returns whether all bytes are
 /// held or written. Allocates nothing.

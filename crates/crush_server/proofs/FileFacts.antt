@@ -12,10 +12,10 @@ use Rattle.tenant_core.specs.States.{States, Same}
 use Rattle.tenant_rows.specs.Rows.{StandsFor}
 use Rattle.tenant_store.specs.Shown.{IsHonest, HasState}
 use Rattle.table_schema.specs.Ready.{IsReady}
-use Rattle.crush_files.specs.Opened.{IsFound, IsPlayed}
-use Rattle.crush_files.specs.Stored.{StatesIn}
-use Rattle.crush_files.proofs.StoredFacts.{left_states}
-use Rattle.crush_files.proofs.TableFacts.{of_rows}
+use Rattle.tenant_files.specs.Opened.{IsFound, IsPlayed}
+use Rattle.tenant_files.specs.Stored.{StatesIn}
+use Rattle.tenant_files.proofs.StoredFacts.{left_states}
+use Rattle.tenant_files.proofs.TableFacts.{of_rows}
 use Rattle.crush_server.specs.Served.{ServesCalls}
 use Rattle.crush_server.proofs.Serving.{served_same}
 

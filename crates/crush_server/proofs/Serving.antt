@@ -6,12 +6,12 @@ use Rattle.tenant_history.proofs.Served.{session_both}
 use Rattle.tenant_history.specs.Served.{ServesSession}
 use Rattle.tenant_messages.specs.declared.call.Call.{Call}
 use Rattle.tenant_messages.specs.declared.reply.Reply.{Reply}
-use Rattle.crush_app.proofs.Stopping.{Rests, no_session}
-use Rattle.crush_app.specs.Input.{OfInput}
+use Rattle.tenant_service.proofs.OneSession.{Rests, no_session}
+use Rattle.tenant_service.specs.Input.{OfInput}
 use Rattle.crush_http.specs.Messages.{calls_of}
 use Rattle.crush_http.specs.Serving.{ServesInput}
 use Rattle.crush_http.specs.declared.connection.Ended.{Ended}
-use Rattle.crush_files.proofs.StoredFacts.{meets_same}
+use Rattle.tenant_files.proofs.StoredFacts.{meets_same}
 use Rattle.crush_server.specs.Served.{ServesCalls, ServesCallsInSession}
 
 pub served_none : (latched : Bool) (states : States) → ServesCalls latched states states

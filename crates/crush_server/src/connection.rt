@@ -5,12 +5,12 @@ ghost use Rattle.crush_server.specs.Served.{ServesCalls, ServesCallsInSession};
 
 use crate::client::Client;
 use crate::waiting::Waiting;
-use crush_app::Service;
 use crush_http::{Buffers, serve_with};
 use std::io::{self, Read};
 use std::net::{Shutdown, TcpStream};
 use std::time::{Clock, Duration};
 use tenant_core::TenantStore;
+use tenant_service::Service;
 
 /// How many seconds one read or write may wait for the client.
 const WAIT_SECONDS: u64 = 5;

@@ -5,12 +5,12 @@ ghost use Rattle.crush_server.specs.Served.{ServesCalls, ServesCallsInSession};
 
 use crate::connection::serve_stream;
 use crate::fault::ServerFault;
-use crush_app::Service;
 use crush_http::Buffers;
 use std::alloc::Global;
 use std::net::TcpListener;
 use std::time::Clock;
 use tenant_core::TenantStore;
+use tenant_service::Service;
 
 /// How many bytes that a client still sends are taken at once.
 const TAKEN_SIZE: usize = 65_536;

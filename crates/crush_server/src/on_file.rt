@@ -3,17 +3,17 @@
 ghost use Rattle.std.specs.Prelude.{false, IfOk};
 ghost use Rattle.sqlite_wal.specs.Files.{image_at};
 ghost use Rattle.sqlite_wal.specs.Reads.{AreClean};
-ghost use Rattle.crush_files.specs.Opened.{IsPlayed};
+ghost use Rattle.tenant_files.specs.Opened.{IsPlayed};
 ghost use Rattle.crush_server.specs.Served.{ServesCalls};
 
 use crate::fault::ServerFault;
 use crate::on_store::serve_on_store;
-use crush_files::open_store;
 use sqlite_disk::{Disk, Files, Start};
 use sqlite_std_file::FileFrom;
 use std::net::{Ipv4Addr, TcpListener};
 use std::num::NonZeroUsize;
 use std::rt::HostRuntime;
+use tenant_files::open_store;
 
 /// Opens a database file, listens on a port of 127.0.0.1, writes a line that says so to standard
 /// output, and serves so many connections, with so many placements kept. Returns the closed file

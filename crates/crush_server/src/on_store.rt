@@ -8,20 +8,20 @@ ghost use Rattle.sqlite.specs.State.{HasCleanDisk};
 ghost use Rattle.sqlite_store.specs.declared.store.FileStore.{FileStore};
 ghost use Rattle.sqlite_wal.specs.Reads.{AreClean};
 ghost use Rattle.tenant_rows.specs.Rows.{StandsFor};
-ghost use Rattle.crush_files.specs.Stored.{StatesIn};
+ghost use Rattle.tenant_files.specs.Stored.{StatesIn};
 ghost use Rattle.crush_server.specs.Served.{ServesCalls};
 
 use crate::connections::serve_connections;
 use crate::fault::ServerFault;
-use crush_app::Service;
-use crush_files::{READY_BYTES, close_files};
 use sqlite::FileStore;
 use sqlite_disk::{Disk, Files};
 use std::alloc::Global;
 use std::net::TcpListener;
 use std::num::NonZeroUsize;
 use std::time::Clock;
+use tenant_files::{READY_BYTES, close_files};
 use tenant_ready::ReadyStore;
+use tenant_service::Service;
 use tenant_store::Store;
 
 /// Serves so many connections to the tenants of a store over a database file, of whose groups so

@@ -4,9 +4,9 @@ use clap::{Arg, ArgAction, ArgMatches, Command, Error, value_parser};
 use std::alloc::Global;
 use std::num::NonZeroUsize;
 
-/// The program's version, and the line of `rt version` of the toolchain that proves and builds it
-/// (`tests/run` compares it).
-const VERSION: &str = "0.1.0\nrattle-kit-13f logic dac8208d650f15bf";
+/// The program's version, and the logic of the toolchain that proves it, which its `rt version`
+/// names (`tests/run` compares it).
+const VERSION: &str = "0.1.0\nRattle logic dac8208d650f15bf";
 
 /// The end of the help of `check`: its line, and each code in a line of its own (`docs/MAPS.md` has
 /// more of each).

@@ -7,7 +7,7 @@ use arguments::{Invocation, read_arguments};
 use clap::Error;
 use clap::error::ErrorKind;
 use crush_app::{CheckEnd, ScriptEnd, check_run, script_in_memory};
-use crush_files::{FileFault, script_on_file};
+use crush_files::script_on_file;
 use crush_server::{ServerFault, serve_on_file};
 use sqlite_disk::Unknown;
 use std::alloc::AllocError;
@@ -16,6 +16,7 @@ use std::num::NonZeroUsize;
 use std::process::ExitCode;
 use std::rt::{Files, HostRuntime};
 use std::{env, io};
+use tenant_files::FileFault;
 
 /// Why the program stops before its command is done, or has none.
 enum Stop {

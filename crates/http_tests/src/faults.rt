@@ -1,13 +1,14 @@
 //! Connections whose reader or writer fails: each read and each write of the worked stream in turn.
 
-use crate::connections::{Cuts, MANY, connect_to};
+use crate::connections::connect_to;
 use crate::streams::{REPLIES, STREAM};
-use crush_app::{MemoryStore, Service};
+use common_tests::rows::created;
+use common_tests::streams::{Cuts, MANY};
 use crush_http::{Buffers, Ended};
 use std::alloc::{AllocError, Global};
 use std::process::Abort;
 use std::test::Fail;
-use tenant_messages::CallParts;
+use tenant_service::Service;
 
 /// The length of the first message of the stream.
 const ONE: usize = 30;
@@ -132,37 +133,17 @@ fn a_write_fault_leaves_a_front_of_the_replies(rt: HostRuntime) -> Result<(), Fa
 const CREATIONS: &[u8] =
     b"PUT /t/a HTTP/1.1\r\nHost: l\r\n\r\nPUT /t/b HTTP/1.1\r\nHost: l\r\n\r\nPUT /t/c HTTP/1.1\r\nHost: l\r\n\r\n";
 
-/// How many of the tenants a, b and c are there; they come in this order.
-fn created(rt: &impl Abort, service: &mut Service<MemoryStore>) -> usize {
-    let mut count = 0;
-    for (place, path) in ["/t/a", "/t/b", "/t/c"].into_iter().enumerate() {
-        let reply = service.request(CallParts {
-            method: b"GET",
-            path,
-            body: b"",
-        });
-        if reply.status == 200 {
-            assert_eq!(rt; count, place, "{path}");
-            count = place.saturating_add(1);
-        } else {
-            assert_eq!(rt; reply.status, 404, "{path}");
-        }
-    }
-    count
-}
-
 /// How many tenants are there after a connection that makes three, each byte in a read of its own,
 /// and whose writer fails after so many writes; and how many bytes were written.
 fn create(
-    rt: &impl Abort,
     alloc: Global,
     buffers: &mut Buffers,
     writes: usize,
-) -> Result<(usize, usize), AllocError> {
+) -> Result<(Option<usize>, usize), AllocError> {
     let mut service = Service::in_memory(alloc)?;
     let cuts = Cuts::each(1);
     let (_, written) = connect_to(alloc, buffers, &mut service, CREATIONS, cuts, MANY, writes);
-    Ok((created(rt, &mut service), written.len()))
+    Ok((created(&mut service), written.len()))
 }
 
 #[test]
@@ -170,10 +151,10 @@ fn a_request_whose_reply_is_cut_is_done_and_no_later_one(rt: HostRuntime) -> Res
     let mut buffers = Buffers::new(rt.alloc())?;
     let mut all = 0;
     for writes in 0..FIRST + 3 {
-        let (done, bytes) = create(&rt, rt.alloc(), &mut buffers, writes)?;
+        let (done, bytes) = create(rt.alloc(), &mut buffers, writes)?;
         assert_eq!(rt;
             done,
-            (bytes / FIRST).saturating_add(1).min(3),
+            Some((bytes / FIRST).saturating_add(1).min(3)),
             "after {writes} writes, {bytes} bytes"
         );
         all = bytes;

@@ -1,14 +1,14 @@
 //! When replies are written: together, before a read, at the end, and a long body at once.
 
-use crate::connections::Cuts;
 use crate::streams::{REPLIES, STREAM};
-use crush_app::Service;
+use common_tests::streams::{Cuts, MANY, Reader};
 use crush_http::limits::HELD_LIMIT;
 use crush_http::{Buffers, Ended, serve_with};
 use std::alloc::{AllocError, Global};
 use std::cell::Cell;
 use std::io::{self, ErrorKind, Read, Write};
 use std::test::Fail;
+use tenant_service::Service;
 
 /// A message for a path that there isn't.
 const ASKS: &[u8] = b"GET /x HTTP/1.1\r\n\r\n";
@@ -20,11 +20,10 @@ const NO_PATH: &[u8] =
 /// The length of the two whole messages of the stream.
 const TWO: usize = 60;
 
-/// Gives so many bytes a read at most, and notes at each read how many had been written by then.
+/// Notes at each read how many bytes had been written by then.
 #[derive(Drop)]
 struct Watcher<'a> {
-    rest: &'a [u8],
-    cuts: Cuts,
+    reader: Reader<'a>,
     written: &'a Cell<usize>,
     seen: Vec<usize>,
 }
@@ -32,11 +31,7 @@ struct Watcher<'a> {
 impl Read for Watcher<'_> {
     fn read(&mut self, buf: &mut [u8]) -> io::Result<usize> {
         self.seen.push(self.written.get())?;
-        let count = self.cuts.first.min(buf.len()).min(self.rest.len());
-        self.cuts.first = self.cuts.later;
-        buf[..count].copy_from_slice(&self.rest[..count]);
-        self.rest = &self.rest[count..];
-        Ok(count)
+        self.reader.read(buf)
     }
 }
 
@@ -89,8 +84,11 @@ fn connect(
     let mut service = Service::in_memory(alloc)?;
     let written = Cell::new(0);
     let mut reader = Watcher {
-        rest: input,
-        cuts,
+        reader: Reader {
+            rest: input,
+            cuts,
+            reads: MANY,
+        },
         written: &written,
         seen: Vec::new(alloc),
     };

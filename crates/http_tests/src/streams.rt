@@ -1,6 +1,7 @@
 //! Streams of messages and their replies.
 
-use crate::connections::{Cuts, MANY, assert_replies, connect};
+use crate::connections::{assert_replies, connect};
+use common_tests::streams::{Cuts, MANY};
 use crush_http::Ended;
 use std::test::Fail;
 

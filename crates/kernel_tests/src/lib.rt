@@ -5,6 +5,8 @@
 #[cfg(test)]
 mod buckets;
 #[cfg(test)]
+mod giving_up;
+#[cfg(test)]
 mod lanes;
 #[cfg(test)]
 mod limits;

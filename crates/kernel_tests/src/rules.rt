@@ -24,7 +24,7 @@ const LEGACY: Tunables = Tunables {
     stable: 0,
 };
 
-const TAKE: Step = Step::Take(ItemId(-1));
+pub(crate) const TAKE: Step = Step::Take(ItemId(-1));
 
 /// The wanted answer and trace of each input, where they are the same.
 pub(crate) type Wanted<'a> = Option<(&'a [Slot], &'a [u32])>;
@@ -111,18 +111,18 @@ fn folded(sum: u64, items: &[Slot]) -> u64 {
 
 /// A rule on a map of seven devices, and what it answers for each of so many inputs.
 #[derive(Clone, Copy)]
-struct Example<'a> {
-    buckets: &'a [ShortBucket<'a>],
-    tunables: Tunables,
-    steps: &'a [Step],
-    reweights: &'a [(u32, u32)],
-    size: u32,
-    inputs: u32,
-    items: &'a [Slot],
-    trace: &'a [u32],
+pub(crate) struct Example<'a> {
+    pub(crate) buckets: &'a [ShortBucket<'a>],
+    pub(crate) tunables: Tunables,
+    pub(crate) steps: &'a [Step],
+    pub(crate) reweights: &'a [(u32, u32)],
+    pub(crate) size: u32,
+    pub(crate) inputs: u32,
+    pub(crate) items: &'a [Slot],
+    pub(crate) trace: &'a [u32],
 }
 
-const NOTHING: Example<'static> = Example {
+pub(crate) const NOTHING: Example<'static> = Example {
     buckets: &[],
     tunables: JEWEL,
     steps: &[],
@@ -334,7 +334,7 @@ const EXAMPLES: &[Example] = &[
     },
 ];
 
-const SEVEN: &[(u32, &str)] = &[
+pub(crate) const SEVEN: &[(u32, &str)] = &[
     (0, "osd.0"),
     (1, "osd.1"),
     (2, "osd.2"),
@@ -419,7 +419,7 @@ fn row(first: i32, step: i32, weight: u32) -> [(i32, u32); 4] {
 
 /// A root of 3 racks of 4 hosts of 3 devices, with a kind for each level; ids fall from -2 on, and
 /// the root has -1.
-fn three_levels(alloc: Global, kinds: [Kind; 3]) -> Result<Listed<Bucket>, AllocError> {
+pub(crate) fn three_levels(alloc: Global, kinds: [Kind; 3]) -> Result<Listed<Bucket>, AllocError> {
     let [of_root, of_racks, of_hosts] = kinds;
     let mut all = Vec::new(alloc);
     let mut device = 0;
@@ -436,8 +436,8 @@ fn three_levels(alloc: Global, kinds: [Kind; 3]) -> Result<Listed<Bucket>, Alloc
     Ok(Listed::new(all))
 }
 
-/// The maps that Ceph was asked with: the kinds of their levels, and tunables.
-const MAPS: [([Kind; 3], Tunables); 4] = [
+/// The maps that are asked with: the kinds of their levels, and tunables.
+pub(crate) const MAPS: [([Kind; 3], Tunables); 4] = [
     ([Uniform, Uniform, Uniform], JEWEL),
     ([List, Tree, Uniform], JEWEL),
     ([Tree, Uniform, List], LEGACY),

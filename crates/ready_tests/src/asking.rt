@@ -1,7 +1,6 @@
 //! Services over a store that keeps ready what tenants have, and what asks them.
 
 use crate::watched::{Fault, Watched};
-use crush_app::{MemoryStore, Service};
 use std::alloc::{AllocError, Global};
 use std::cell::Cell;
 use std::num::NonZeroUsize;
@@ -10,6 +9,7 @@ use std::rc::Rc;
 use tenant_core::TenantStore;
 use tenant_messages::{CallParts, Reply};
 use tenant_ready::ReadyStore;
+use tenant_service::{MemoryStore, Service};
 
 /// The body of an import of a map with one device.
 pub(crate) const IMPORT: &str =
@@ -33,12 +33,21 @@ pub(crate) fn room_for(rt: &impl Abort, placements: usize) -> NonZeroUsize {
     }
 }
 
-/// A service over a store that keeps ready what takes at most `bound` bytes, over one whose call
-/// after `left` others meets a fault.
+/// What a store below keeps, and what the one over it does.
+#[derive(Clone, Copy, Debug, PartialEq, Eq)]
+pub(crate) enum Over {
+    /// At most so many bytes are kept, and made anew by each change.
+    Bound(u64),
+    /// All is kept, and shared with the store below after each change.
+    Memory,
+}
+
+/// A service over a store that keeps tenants ready, over one whose call after `left` others meets a
+/// fault.
 pub(crate) fn watched_service(
     rt: &impl Abort,
     alloc: Global,
-    bound: u64,
+    over: Over,
     loads: Rc<Cell<u64>>,
     left: u64,
     fault: Fault,
@@ -50,7 +59,11 @@ pub(crate) fn watched_service(
         fault,
         has_failed: false,
     };
-    let store = ReadyStore::over(alloc, below, bound, room_for(rt, 16))?;
+    let placements = room_for(rt, 16);
+    let store = match over {
+        Over::Bound(bound) => ReadyStore::over(alloc, below, bound, placements)?,
+        Over::Memory => ReadyStore::over_memory(alloc, below, placements)?,
+    };
     Service::over(alloc, store)
 }
 
@@ -58,11 +71,11 @@ pub(crate) fn watched_service(
 pub(crate) fn counted_service(
     rt: &impl Abort,
     alloc: Global,
-    bound: u64,
+    over: Over,
     loads: &Rc<Cell<u64>>,
 ) -> Result<Service<ReadyStore<Watched<MemoryStore>>>, AllocError> {
     let shared: Result<Rc<Cell<u64>>, AllocError> = loads.clone();
-    watched_service(rt, alloc, bound, shared?, u64::MAX, Fault::Full)
+    watched_service(rt, alloc, over, shared?, u64::MAX, Fault::Full)
 }
 
 /// The reply to a request.

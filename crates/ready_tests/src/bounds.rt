@@ -1,12 +1,12 @@
 //! What is kept of tenants within a number of bytes.
 
-use crate::asking::{IMPORT, assert_loads, counted_service, room_for};
-use crush_app::MemoryStore;
+use crate::asking::{IMPORT, Over, assert_loads, counted_service, room_for};
 use std::cell::Cell;
 use std::rc::Rc;
 use std::test::Fail;
 use tenant_core::TenantStore;
 use tenant_ready::ReadyStore;
+use tenant_service::MemoryStore;
 use tenant_state::size::INVENTORY_BYTES;
 
 /// Room for two tenants that were just created.
@@ -16,7 +16,7 @@ const TWO: u64 = 2 * INVENTORY_BYTES;
 fn the_tenant_used_least_recently_is_given_up(rt: HostRuntime) -> Result<(), Fail> {
     let alloc = rt.alloc();
     let loads = Rc::new(alloc, Cell::new(0))?;
-    let mut service = counted_service(&rt, alloc, TWO, &loads)?;
+    let mut service = counted_service(&rt, alloc, Over::Bound(TWO), &loads)?;
     assert_loads(
         &rt,
         &mut service,
@@ -48,7 +48,7 @@ fn a_tenant_larger_than_the_bound_is_kept_while_it_is_the_one_used_last(
 ) -> Result<(), Fail> {
     let alloc = rt.alloc();
     let loads = Rc::new(alloc, Cell::new(0))?;
-    let mut service = counted_service(&rt, alloc, TWO, &loads)?;
+    let mut service = counted_service(&rt, alloc, Over::Bound(TWO), &loads)?;
     assert_loads(
         &rt,
         &mut service,

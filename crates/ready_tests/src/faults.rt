@@ -1,14 +1,14 @@
 //! Replies where a call of the store below meets a fault, beside those of a run without a fault and
 //! with nothing kept.
 
-use crate::asking::{Asked, DOWN, IMPORT, POOL, ask, watched_service};
+use crate::asking::{Asked, DOWN, IMPORT, Over, POOL, ask, watched_service};
 use crate::watched::Fault;
-use crush_app::Service;
 use std::alloc::Global;
 use std::cell::Cell;
 use std::process::Abort;
 use std::rc::Rc;
 use std::test::Fail;
+use tenant_service::Service;
 
 /// Requests of two tenants, one of which is dropped and created again.
 const ASKED: &[Asked] = &[
@@ -36,18 +36,11 @@ const ASKED: &[Asked] = &[
 fn unanswered(
     rt: &impl Abort,
     alloc: Global,
-    bound: u64,
+    over: Over,
     left: u64,
     fault: Fault,
 ) -> Result<usize, Fail> {
-    let mut service = watched_service(
-        rt,
-        alloc,
-        bound,
-        Rc::new(alloc, Cell::new(0))?,
-        left,
-        fault,
-    )?;
+    let mut service = watched_service(rt, alloc, over, Rc::new(alloc, Cell::new(0))?, left, fault)?;
     let mut alone = Service::in_memory(alloc)?;
     let mut count: usize = 0;
     for place in 0..ASKED.len() {
@@ -71,16 +64,42 @@ fn unanswered(
 }
 
 /// The tenant used last is kept, whatever its size; or others that fit beside it; or all are.
-const BOUNDS: [u64; 3] = [0, 15_000, 1_000_000];
+const BOUNDS: [Over; 3] = [Over::Bound(0), Over::Bound(15_000), Over::Bound(1_000_000)];
+
+/// How many calls reach a store in memory where none meets a fault, and how many of them are loads
+/// after changes.
+const CALLS_IN_MEMORY: u64 = 27;
+
+const LOADS_AFTER_CHANGES: u64 = 5;
 
 #[test]
 fn a_call_that_fails_changes_no_other_reply(rt: HostRuntime) -> Result<(), Fail> {
     let alloc = rt.alloc();
-    for bound in BOUNDS {
+    for over in BOUNDS {
         for left in 0..16 {
-            assert_eq!(rt; unanswered(&rt, alloc, bound, left, Fault::NoMemory)?, 1);
-            assert_eq!(rt; unanswered(&rt, alloc, bound, left, Fault::Full)?, 1);
+            assert_eq!(rt; unanswered(&rt, alloc, over, left, Fault::NoMemory)?, 1);
+            assert_eq!(rt; unanswered(&rt, alloc, over, left, Fault::Full)?, 1);
         }
+    }
+    Ok(())
+}
+
+/// Over a store in memory a change that was made is answered so, though the load after it fails.
+#[test]
+fn a_load_that_fails_after_a_change_in_memory_takes_nothing_back(
+    rt: HostRuntime,
+) -> Result<(), Fail> {
+    let alloc = rt.alloc();
+    for fault in [Fault::NoMemory, Fault::Full] {
+        let mut answered: u64 = 0;
+        for left in 0..CALLS_IN_MEMORY {
+            let count = unanswered(&rt, alloc, Over::Memory, left, fault)?;
+            assert!(rt; count <= 1);
+            if count == 0 {
+                answered = answered.wrapping_add(1);
+            }
+        }
+        assert_eq!(rt; answered, LOADS_AFTER_CHANGES);
     }
     Ok(())
 }
@@ -89,10 +108,15 @@ fn a_call_that_fails_changes_no_other_reply(rt: HostRuntime) -> Result<(), Fail>
 #[test]
 fn a_store_that_latches_is_asked_no_more(rt: HostRuntime) -> Result<(), Fail> {
     let alloc = rt.alloc();
-    for bound in BOUNDS {
+    for (over, calls) in [
+        (BOUNDS[0], 16),
+        (BOUNDS[1], 16),
+        (BOUNDS[2], 16),
+        (Over::Memory, CALLS_IN_MEMORY),
+    ] {
         let mut before = ASKED.len() + 1;
-        for left in 0..16 {
-            let count = unanswered(&rt, alloc, bound, left, Fault::Failed)?;
+        for left in 0..calls {
+            let count = unanswered(&rt, alloc, over, left, Fault::Failed)?;
             assert!(rt; 0 < count && count <= before);
             before = count;
         }

@@ -1,5 +1,5 @@
 //! Tests of `tenant_ready`, over a store in memory whose loads are counted and one of whose calls
-//! may meet a fault. They stand apart, since they are over `crush_app` too.
+//! may meet a fault. They stand apart, since they are over `tenant_service` too.
 #![tactic(auto)]
 
 #[cfg(test)]

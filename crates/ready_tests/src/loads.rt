@@ -1,12 +1,17 @@
 //! How often a store is loaded from while another one over it keeps ready what tenants have.
 
-use crate::asking::{DOWN, IMPORT, POOL, ask, assert_loads, counted_service};
+use crate::asking::{DOWN, IMPORT, Over, POOL, ask, assert_loads, counted_service, room_for};
+use std::alloc::{AllocError, Global};
 use std::cell::Cell;
+use std::process::Abort;
 use std::rc::Rc;
 use std::test::Fail;
+use tenant_core::TenantStore;
+use tenant_ready::ReadyStore;
+use tenant_service::{MemoryStore, Service};
 
 /// Room for all that these tests keep.
-const AMPLE: u64 = 1_000_000;
+const AMPLE: Over = Over::Bound(1_000_000);
 
 #[test]
 fn a_thousand_requests_on_a_tenant_load_it_once(rt: HostRuntime) -> Result<(), Fail> {
@@ -49,5 +54,65 @@ fn a_changed_tenant_is_not_loaded_again(rt: HostRuntime) -> Result<(), Fail> {
             (("GET", "/t/a/maps/1", ""), 404, 6),
         ],
     );
+    Ok(())
+}
+
+/// Over a store in memory a change is followed by one load below, which gives what that store has.
+#[test]
+fn a_change_in_memory_loads_once(rt: HostRuntime) -> Result<(), Fail> {
+    let alloc = rt.alloc();
+    let loads = Rc::new(alloc, Cell::new(0))?;
+    let mut service = counted_service(&rt, alloc, Over::Memory, &loads)?;
+    assert_loads(
+        &rt,
+        &mut service,
+        &loads,
+        &[
+            (("PUT", "/t/a", ""), 201, 1),
+            (("POST", "/t/a/maps", IMPORT), 201, 3),
+            (("POST", "/t/a/pools", POOL), 201, 4),
+            (("POST", "/t/a/devices", DOWN), 200, 5),
+            (("POST", "/t/a/devices", DOWN), 200, 5),
+            (("POST", "/t/a/maps", POOL), 400, 5),
+            (("GET", "/t/a/pools/1/groups/0", ""), 200, 5),
+            (("DELETE", "/t/a", ""), 200, 5),
+            (("GET", "/t/a", ""), 404, 6),
+        ],
+    );
+    Ok(())
+}
+
+/// Whether what a store has of a tenant after a change is what the store below has of it, and no
+/// second one.
+fn is_shared(
+    rt: &impl Abort,
+    alloc: Global,
+    store: ReadyStore<MemoryStore>,
+) -> Result<bool, AllocError> {
+    let mut service = Service::over(alloc, store)?;
+    assert_eq!(rt; ask(&mut service, &("PUT", "/t/a", "")).status, 201);
+    assert_eq!(rt;
+        ask(&mut service, &("POST", "/t/a/maps", IMPORT)).status,
+        201
+    );
+    let mut store = service.into_store();
+    let Ok(Some(kept)) = store.load("a") else {
+        rt.abort()
+    };
+    let Ok(Some(below)) = store.into_below().load("a") else {
+        rt.abort()
+    };
+    assert!(rt; kept.newest() == 1 && below.newest() == 1);
+    Ok(Rc::ptr_eq(&kept, &below))
+}
+
+#[test]
+fn what_a_store_in_memory_has_after_a_change_is_shared(rt: HostRuntime) -> Result<(), Fail> {
+    let alloc = rt.alloc();
+    let room = room_for(&rt, 1);
+    let made = ReadyStore::over(alloc, MemoryStore::new(alloc), u64::MAX, room)?;
+    assert!(rt; !is_shared(&rt, alloc, made)?);
+    let shared = ReadyStore::over_memory(alloc, MemoryStore::new(alloc), room)?;
+    assert!(rt; is_shared(&rt, alloc, shared)?);
     Ok(())
 }

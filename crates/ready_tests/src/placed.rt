@@ -1,7 +1,6 @@
 //! Placements that a store has at hand.
 
 use crate::asking::{DOWN, IMPORT, POOL, room_for};
-use crush_app::{MemoryStore, Service};
 use crush_choose::Slot;
 use crush_map::ItemId;
 use crush_pool::Placement;
@@ -12,6 +11,7 @@ use std::test::Fail;
 use tenant_core::{Query, TenantStore};
 use tenant_messages::CallParts;
 use tenant_ready::ReadyStore;
+use tenant_service::{MemoryStore, Service};
 
 type Store = ReadyStore<MemoryStore>;
 
@@ -83,13 +83,16 @@ fn assert_on(rt: &impl Abort, placement: &Placement, device: i32, is_up: bool) {
     assert_eq!(rt; placement.primary, if is_up { slot } else { None });
 }
 
-/// With room for one placement each of two groups has to be placed again.
+/// With room for one placement each of two groups has to be placed again. The first two requests
+/// for a group place it, since the map's text is short.
 #[test]
 fn a_group_has_one_placement_whatever_is_kept(rt: HostRuntime) -> Result<(), Fail> {
     let alloc = rt.alloc();
     for (room, is_kept) in [(1, false), (1_024, true)] {
         let store = store_for(&rt, alloc, room)?;
         let mut store = with_tenant(&rt, alloc, store, "a", 0)?;
+        placed(&rt, &mut store, "a", 0);
+        placed(&rt, &mut store, "a", 7);
         let first = placed(&rt, &mut store, "a", 0);
         let other = placed(&rt, &mut store, "a", 7);
         let again = placed(&rt, &mut store, "a", 0);

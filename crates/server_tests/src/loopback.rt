@@ -1,12 +1,12 @@
 //! A client that sends all it has, shuts its side and reads replies when it has been served.
 
-use crush_app::Service;
 use crush_server::{ServerFault, serve_connections};
 use std::alloc::Global;
 use std::io::{Read, Write};
 use std::net::{Ipv4Addr, Shutdown, TcpListener, TcpStream};
 use std::rt::HostRuntime;
 use std::test::Fail;
+use tenant_service::Service;
 
 /// Two messages, as in a script: a tenant is created and shown.
 const STREAM: &[u8] = b"PUT /t/a HTTP/1.1\r\nHost: l\r\n\r\nGET /t/a HTTP/1.1\r\nHost: l\r\n\r\n";

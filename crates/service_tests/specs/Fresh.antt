@@ -1,6 +1,6 @@
 -- The states of a store of the tests are those of tenants that were just made.
 use Rattle.std.proofs.Common.{◌≡◌, ℕ, List, Bool, true, false, if◌then◌else◌, Some, None, subst}
-use Rattle.service_tests.specs.Damaged.{begins_with, state_of}
+use Rattle.service_tests.specs.Fixed.{begins_with, state_of}
 use Rattle.tenant_state.proofs.Leaving.{fresh_is_state}
 use Rattle.tenant_state.specs.State.{TenantState, fresh}
 use Rattle.tenant_state.specs.Valid.{IsState}

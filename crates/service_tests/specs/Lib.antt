@@ -1,2 +1,2 @@
-pub mod Damaged
+pub mod Fixed
 pub mod Fresh

@@ -1,6 +1,6 @@
-//! Tests of `tenant_core` and `crush_app`: requests, scripts, imports, rule tests, pools, states of
-//! devices and reports, reads and writes that fail, a store whose data is damaged in part, one that
-//! fails for good, and sessions that are stopped. They stand apart, so that these crates are proved
+//! Tests of `tenant_core`, `tenant_service` and `crush_app`: requests, scripts, imports, rule
+//! tests, pools, states of devices and reports, reads and writes that fail, a store whose data is
+//! damaged in part, and one that fails for good. They stand apart, so that these crates are proved
 //! once.
 #![tactic(auto)]
 
@@ -8,6 +8,8 @@
 mod damaged;
 #[cfg(test)]
 mod faults;
+#[cfg(test)]
+mod fixed;
 #[cfg(test)]
 mod latched;
 #[cfg(test)]
@@ -19,10 +21,4 @@ mod reports;
 #[cfg(test)]
 mod requests;
 #[cfg(test)]
-mod rows;
-#[cfg(test)]
 mod scripts;
-#[cfg(test)]
-mod sessions;
-#[cfg(test)]
-mod stopping;

@@ -1,44 +1,11 @@
 //! Imports, versions and rule tests over a store in memory, and the bodies that ask for them.
 
-use crate::rows::{
-    CREATION_OF_A, CREATION_OF_B, IMPORT_BY_A, IMPORT_BY_B, Row, assert_each_alone, assert_requests,
+use common_tests::imports::{FIRST, OTHER, SECOND, STRAW2};
+use common_tests::rows::{
+    CREATION_OF_A, CREATION_OF_B, IMPORT_BY_A, IMPORT_BY_B, Row, check_each_alone, check_requests,
 };
-use crush_app::Service;
 use std::test::Fail;
-
-/// The body of an import of a map with one device, under a request number: the device, its bucket's
-/// kind, and how the rule chooses.
-macro_rules! import {
-    ($number:literal, $device:literal, $alg:literal, $choose:literal) => {
-        concat!(
-            "{\"request\":\"",
-            $number,
-            "\",\"text\":\"tunable choose_local_tries 0\\ntunable choose_local_fallback_tries 0\\ntunable choose_total_tries 50\\ntunable chooseleaf_descend_once 1\\ntunable chooseleaf_vary_r 1\\ntunable chooseleaf_stable 1\\ndevice ",
-            $device,
-            " osd.",
-            $device,
-            "\\ntype 0 osd\\ntype 1 host\\ntype 10 root\\nroot default {\\n id -1\\n alg ",
-            $alg,
-            "\\n hash 0\\n item osd.",
-            $device,
-            " weight 1.0\\n}\\nrule all {\\n id 0\\n type replicated\\n step take default\\n step choose ",
-            $choose,
-            " type osd\\n step emit\\n}\\n\"}"
-        )
-    };
-}
-
-/// An import of a map with the device 0.
-pub(crate) const FIRST: &str = import!("m1", 0, "uniform", "firstn 0");
-
-/// An import of a map with the device 3, whose rule wants two items in their places.
-pub(crate) const SECOND: &str = import!("m2", 3, "uniform", "indep 2");
-
-/// The second map under the request number of the first import.
-pub(crate) const OTHER: &str = import!("m1", 3, "uniform", "indep 2");
-
-/// A text with a straw2 bucket on its line 13.
-pub(crate) const STRAW2: &str = import!("m3", 0, "straw2", "firstn 0");
+use tenant_service::Service;
 
 /// The reply with the canonical text of the first map.
 const CANONICAL: &str =
@@ -148,7 +115,7 @@ const ROWS: [Row; 24] = [
 /// same replies.
 #[test]
 fn tenants_in_turn_are_answered_as_each_alone(rt: HostRuntime) -> Result<(), Fail> {
-    assert_each_alone(&rt, rt.alloc(), &ROWS)?;
+    check_each_alone(rt.alloc(), &ROWS)?;
     Ok(())
 }
 
@@ -165,6 +132,6 @@ const TWO_VERSIONS: [Row; 4] = [
 fn a_version_is_read_as_its_canonical_text(rt: HostRuntime) -> Result<(), Fail> {
     let alloc = rt.alloc();
     let mut service = Service::in_memory(alloc)?;
-    assert_requests(&rt, &mut service, &TWO_VERSIONS);
+    check_requests(&mut service, &TWO_VERSIONS)?;
     Ok(())
 }

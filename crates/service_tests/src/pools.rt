@@ -1,8 +1,8 @@
 //! Devices, pools and groups over a store in memory.
 
-use crate::maps::SECOND;
-use crate::rows::{
-    CREATION_OF_A, CREATION_OF_B, IMPORT_BY_A, IMPORT_BY_B, Row, assert_each_alone, pool,
+use common_tests::imports::SECOND;
+use common_tests::rows::{
+    CREATION_OF_A, CREATION_OF_B, IMPORT_BY_A, IMPORT_BY_B, Row, check_each_alone, pool,
 };
 use std::test::Fail;
 
@@ -240,6 +240,6 @@ const ROWS: [Row; 35] = [
 fn pools_and_devices_in_turn_are_answered_as_of_each_tenant_alone(
     rt: HostRuntime,
 ) -> Result<(), Fail> {
-    assert_each_alone(&rt, rt.alloc(), &ROWS)?;
+    check_each_alone(rt.alloc(), &ROWS)?;
     Ok(())
 }

@@ -1,5 +1,6 @@
 pub mod Following
 pub mod LengthFacts
+pub mod Loading
 pub mod NameFacts
 pub mod NumberFacts
 pub mod SizeFacts

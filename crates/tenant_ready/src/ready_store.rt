@@ -26,6 +26,8 @@ pub struct ReadyStore<T: TenantStore> {
     below: T,
     kept: Kept,
     cache: PlacementCache,
+    /// Whether the store below has what tenants have in memory, and makes none of it for a load.
+    shares: bool,
 }
 
 impl<T: TenantStore> Model for ReadyStore<T> {
@@ -63,6 +65,26 @@ impl<T: TenantStore + Drop> ReadyStore<T> {
             kept: Kept::new(alloc, bound)?,
             cache: PlacementCache::new(alloc, placements)?,
             below,
+            shares: false,
+        })
+    }
+
+    /// A store over one that has what all tenants have in memory, with so many placements beside.
+    /// What it keeps is shared with that store, also after a change, and has no bound. Nothing is
+    /// kept yet. `Err(AllocError)`: an allocation failed; the store below is dropped.
+    pub fn over_memory(
+        alloc: Global,
+        below: T,
+        placements: NonZeroUsize,
+    ) -> Result<Self, AllocError>
+        ensures { IfOk result (λ store. store ≡ below) }
+    {
+        Ok(ReadyStore {
+            alloc,
+            kept: Kept::new(alloc, u64::MAX)?,
+            cache: PlacementCache::new(alloc, placements)?,
+            below,
+            shares: true,
         })
     }
 }
@@ -95,6 +117,28 @@ impl<T: TenantStore> ReadyStore<T> {
             return;
         };
         self.kept.put(key, ready);
+    }
+
+    /// Makes a change of a tenant, as `commit`, and keeps what the store below then has of it.
+    fn commit_shared(&mut self, name: &str, change: &Change) -> Result<(), StoreFault>
+        requires open { T.latched self.old ≡ false }
+        requires there { T.is_honest self.old → (s : TenantState) × T.has_state self.old name.now (Some s) × CanMake change.now s }
+        ensures made { T.is_honest self.new → (s : TenantState) → T.has_state self.old name.now (Some s) → OnOk result (T.has_state self.new name.now (Some (after change.now s))) }
+        ensures others { T.is_honest self.new → T.latched self.new ≡ false → (t : List ℕ) (s : Option TenantState) → t ≢ name.now → (T.has_state self.old t s ↔ T.has_state self.new t s) }
+        ensures err { T.is_honest self.new → T.latched self.new ≡ false → OnErr result (T.keeps self.old self.new) }
+        ensures damaged { T.is_honest self.new → result ≢ Err StoreFault.Damaged }
+        ensures latch { T.latched self.new ≡ is_failed result }
+        ensures crash { T.is_honest self.new → T.latched self.new ≡ true → (s : TenantState) → T.has_state self.old name.now (Some s)
+            → LeavesAsItWasOr name.now (Some (after change.now s)) (T.has_state self.old) (T.may_leave self.new) }
+        ensures honest { T.is_honest self.new → T.is_honest self.old }
+    {
+        self.kept.forget(name);
+        self.below.commit(name, change)?;
+        // the change stays made where this load fails; for good, that is an error of the call
+        match self.load(name) {
+            Err(StoreFault::Failed) => Err(StoreFault::Failed),
+            _ => Ok(()),
+        }
     }
 }
 
@@ -156,6 +200,9 @@ impl<T: TenantStore> TenantStore for ReadyStore<T> {
     }
 
     fn commit(&mut self, name: &str, change: &Change) -> Result<(), StoreFault> {
+        if self.shares {
+            return self.commit_shared(name, change);
+        }
         match self.kept.get(name)? {
             Some(ready) if ready.inventory().epoch() < RECEIPT_LIMIT as u64 => {
                 // all that needs memory is made before the change

@@ -24,6 +24,10 @@ use tenant_messages::{
     Problem, Refusal, Reply, has_keys, integer, natural, read_value, success, text,
 };
 
+/// The most entries of which each is compared with each other: of more a table of flags takes less
+/// time.
+const FEW_ENTRIES: usize = 256;
+
 // ---- a bucket in a request
 
 /// A bucket as a request describes it: at least one item, and weights whose sum is below 2^32.
@@ -151,9 +155,23 @@ fn mark(seen: &mut [bool], item: i32)
     }
 }
 
+/// Whether no item comes twice, by looking through the entries behind each.
+fn are_few_distinct(entries: &[(ItemId, Weight)]) -> bool
+    ensures { result ≡ spec.are_distinct entries.now }
+{
+    let mut rest = entries;
+    while let [first, others @ ..] = rest {
+        if contains(first.0.0, others) {
+            return false;
+        }
+        rest = others;
+    }
+    true
+}
+
 /// Whether no item comes twice, by a table of flags for all ids that an item can have: in linear
 /// time where all ids are such. Allocates nothing.
-fn are_distinct(entries: &[(ItemId, Weight)]) -> bool
+fn are_many_distinct(entries: &[(ItemId, Weight)]) -> bool
     ensures { result ≡ spec.are_distinct entries.now }
 {
     let mut seen = [false; 2 * ID_COUNT];
@@ -165,6 +183,17 @@ fn are_distinct(entries: &[(ItemId, Weight)]) -> bool
         mark(&mut seen, item);
     }
     true
+}
+
+/// Whether no item comes twice.
+fn are_distinct(entries: &[(ItemId, Weight)]) -> bool
+    ensures { result ≡ spec.are_distinct entries.now }
+{
+    if entries.len() <= FEW_ENTRIES {
+        are_few_distinct(entries)
+    } else {
+        are_many_distinct(entries)
+    }
 }
 
 // ---- a bucket

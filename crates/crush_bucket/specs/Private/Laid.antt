@@ -4,10 +4,10 @@ use Rattle.std.specs.List.{position_from}
 use Rattle.std.specs.Ordering.{int_eq}
 use Rattle.crush_map.specs.declared.draft.Bucket.{Bucket}
 use Rattle.crush_map.specs.declared.word.Kind.TheVariants.{Uniform}
-use Rattle.crush_bucket.specs.Bucket.{BucketView, item_at, total_weight, HasEqualWeights}
+use Rattle.crush_bucket.specs.Bucket.{BucketView, total_weight, HasEqualWeights}
 use Rattle.crush_permutation.specs.Permutation.{PermView}
 use Rattle.crush_bucket.specs.Pick.{perm_for}
-use Rattle.crush_bucket.specs.Tables.{TypedBucket, TablesView, bucket_at, size_at, perms_in, IsBelow}
+use Rattle.crush_bucket.specs.Tables.{TypedBucket, TablesView, bucket_at, perms_in, HasItemsBelow}
 
 -- what a bucket must be so that it can be kept: few items, a sum of weights that is a word, equal
 -- weights where it is uniform
@@ -23,7 +23,7 @@ HasNegativeIds t = (number : ℕ) → number < length t.buckets → (n : ℕ) ×
 -- the buckets have ids below 0, and each of their items is a bucket of a smaller number or a device
 pub record IsLaid (t : TablesView) : Type 0 where
   pub negative : HasNegativeIds t
-  pub below : (number place : ℕ) → number < length t.buckets → place < size_at t number → IsBelow t number (item_at (bucket_at t number).items place)
+  pub below : HasItemsBelow t
 
 -- at each n the number of the bucket -1 - n
 abbrev pub IsIndexOf : List TypedBucket → List (Option ℕ) → Type 0

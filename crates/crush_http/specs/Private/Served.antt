@@ -6,7 +6,7 @@ use Rattle.tenant_core.specs.StoreReply.{IsUnavailable}
 use Rattle.tenant_history.specs.Served.{IsSession}
 use Rattle.tenant_messages.specs.declared.call.Call.{Call}
 use Rattle.tenant_messages.specs.declared.reply.Reply.{Reply}
-use Rattle.crush_app.specs.Play.{AppendsPart, AppendsUpTo}
+use Rattle.tenant_service.specs.Writing.{AppendsPart, AppendsUpTo}
 use Rattle.crush_http.specs.Messages.{Message, MessageAt, Stop, HasMessages, calls_of}
 use Rattle.crush_http.specs.Serving.{due, EndsAs, LeavesUnread}
 use Rattle.crush_http.specs.Wire.{reply_wire}

@@ -1,6 +1,7 @@
 use Rattle.tenant_messages.specs.CallParts.{call_of}
 use Rattle.crush_app.proofs.Playing.{plays_bad, plays_call, cut_bad, cut_call}
-use Rattle.crush_app.proofs.Stopping.{bad_stopped, call_stopped, line_written, no_session, one_session}
+use Rattle.tenant_service.proofs.OneSession.{no_session, one_session}
+use Rattle.crush_app.proofs.Stopping.{bad_stopped, call_stopped, line_written}
 use Rattle.crush_app.specs.Script.{bad_line, wire}
 use Rattle.crush_app.proofs.play.play_message.Goals as goal
 

@@ -1,5 +1,5 @@
 use Rattle.std.proofs.Common.{refl, ◌++◌, ◌∷◌, []}
-use Rattle.crush_app.proofs.Writing.{part_first, part_after}
+use Rattle.tenant_service.proofs.Written.{part_first, part_after}
 use Rattle.crush_app.proofs.wire.write_long.Goals as goal
 
 pub returns-then-not-write_both-clause-part : goal.returns-then-not-write_both-clause-part

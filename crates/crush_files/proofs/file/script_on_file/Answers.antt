@@ -1,6 +1,7 @@
 -- What the opening found, the script and the closing, put together.
 use Rattle.std.proofs.Common.{◌≡◌}
-use Rattle.crush_files.proofs.FileFacts.{both_ok, played_done, played_cut, played_headline}
+use Rattle.tenant_files.proofs.Results.{both_ok}
+use Rattle.crush_files.proofs.FileFacts.{played_done, played_cut, played_headline}
 use Rattle.crush_files.proofs.file.script_on_file.Goals as goal
 
 pub returns-clause-done : goal.returns-clause-done

@@ -7,7 +7,7 @@ use Rattle.tenant_store.specs.Shown.{IsHonest, HasState}
 use Rattle.crush_app.specs.Play.{Plays, PlaysUpTo, PlaysUntilLatched, WritesHeadline, WritesSession}
 use Rattle.crush_app.specs.Script.{OfScript, messages}
 use Rattle.crush_app.proofs.Inputs.{of_script}
-use Rattle.crush_files.proofs.TableFacts.{of_rows, of_stop}
+use Rattle.tenant_files.proofs.TableFacts.{of_rows, of_stop}
 use Rattle.crush_files.proofs.on_tables.script_on_tables.Goals as goal
 
 pub returns-clause-done : goal.returns-clause-done

@@ -2,8 +2,8 @@ use Rattle.std.proofs.Common.{◌≡◌, ◌++◌, [], take, refl, ap, sym, ◌�
 use Rattle.std.proofs.lemmas.List.{append-nil}
 use Rattle.std.specs.Io.KnownBytes.{Consumes}
 use Rattle.tenant_messages.specs.CallParts.{call_of}
-use Rattle.crush_app.proofs.Stopping.{one_session}
-use Rattle.crush_app.specs.Play.{AppendsPart, AppendsUpTo}
+use Rattle.tenant_service.proofs.OneSession.{one_session}
+use Rattle.tenant_service.specs.Writing.{AppendsPart, AppendsUpTo}
 use Rattle.crush_http.specs.Wire.{reply_wire, rejection_wire}
 use Rattle.crush_http.specs.Private.Reading.{Finds as FindsIncoming, ReadsOn, call_in}
 use Rattle.crush_http.specs.Private.Served.{EndsCut, EndsHeld, Replies}

@@ -1,6 +1,6 @@
 use Rattle.std.proofs.Common.{◌++◌, take}
 use Rattle.std.specs.List.{flat_map}
-use Rattle.crush_app.specs.Play.{AppendsUpTo}
+use Rattle.tenant_service.specs.Writing.{AppendsUpTo}
 use Rattle.crush_http.proofs.wire.put_pieces.Given as goal
 
 -- the pieces so far came behind what was held

@@ -77,3 +77,7 @@ returns-clause-stop g c = λ is.
     works (so_far.served is)
     (session_none (g.T.TenantStore.latched store) (g.T.TenantStore.has_state store) (g.T.TenantStore.may_leave store)
     (record { one = λ _ t s u. g.met.T.TenantStore.one_state store t s u is works; settled = λ _ t found there. g.met.T.TenantStore.settled store t found is works there }))
+
+-- (written out, since a search for it takes gigabytes where a body answers something else)
+pub returns-then-is_latched-clause-works : goal.returns-then-is_latched-clause-works
+returns-then-is_latched-clause-works g c = tt

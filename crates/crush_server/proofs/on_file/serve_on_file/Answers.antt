@@ -1,6 +1,6 @@
 -- What the opening found, the connections and the closing, put together.
 use Rattle.std.proofs.Common.{◌≡◌}
-use Rattle.crush_files.proofs.FileFacts.{both_ok}
+use Rattle.tenant_files.proofs.Results.{both_ok}
 use Rattle.crush_server.proofs.FileFacts.{played_served}
 use Rattle.crush_server.proofs.on_file.serve_on_file.Goals as goal
 

@@ -1,0 +1,29 @@
+-- The store's rows are those that the opening found, or there are none where there were no tables.
+use Rattle.std.proofs.Common.{◌≡◌, arith, sym, subst}
+use Rattle.sqlite.specs.Effect.{Database}
+use Rattle.sqlite.specs.Files.{file_state}
+use Rattle.sqlite.specs.State.{HasCleanDisk}
+use Rattle.tenant_core.specs.States.{Same}
+use Rattle.tenant_rows.specs.Rows.{StandsFor}
+use Rattle.tenant_files.specs.Stored.{StatesIn}
+use Rattle.tenant_files.proofs.StoredFacts.{found_states}
+use Rattle.tenant_files.proofs.opening.open_store.Goals as goal
+
+pub returns-in-Ok-open-clause-found : goal.returns-in-Ok-open-clause-found
+returns-in-Ok-open-clause-found g c clean =
+    let was = c.in-Ok.conn in
+    let store = c.in-Ok-open.store in
+    let early : HasCleanDisk (file_state was) = c.in-Ok-open.ensures.clean clean in
+    let opened = c.in-Ok.ensures.opened early in
+    let rows = (file_state store.0).now.trees in
+    let same : Same (StandsFor rows) (StatesIn (file_state was).now) = found_states (file_state was).now rows (λ t s u is also. c.names_stand_for_one_state.ensures rows t s u is also)
+    (c.in-Ok-open.ensures.made clean) (λ some. let own = c.in-Ok-open.ensures.adopted clean some in (own.0, own.1)) in
+    record {
+      was = was;
+      opened = opened;
+      found = c.in-Ok.ensures.found early;
+      same = subst (λ (db : Database). Same (StandsFor rows) (StatesIn db)) opened.0.clean same;
+    }
+
+pub open-requires-clause-settled : goal.open-requires-clause-settled
+open-requires-clause-settled g c clean = (c.in-Ok.ensures.opened clean).0.clean

@@ -1,0 +1,11 @@
+//! Database files of tenants: opening and closing.
+#![tactic(auto)]
+
+mod closing;
+mod fault;
+mod log;
+mod opening;
+
+pub use closing::close_files;
+pub use fault::FileFault;
+pub use opening::{READY_BYTES, open_store};

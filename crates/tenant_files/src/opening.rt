@@ -1,0 +1,80 @@
+//! Opening a database file for the tenants in its tables.
+
+ghost use Rattle.std.specs.Prelude.{◌≡◌, false, IfOk};
+ghost use Rattle.sqlite.specs.Files.{file_state};
+ghost use Rattle.sqlite.specs.State.{HasCleanDisk};
+ghost use Rattle.sqlite_wal.specs.Files.{image_at};
+ghost use Rattle.tenant_rows.specs.Rows.{StandsFor};
+ghost use Rattle.tenant_files.specs.Opened.{IsFound};
+
+use crate::fault::{FileFault, fault_of};
+use crate::log::{LogBefore, log_before};
+use sqlite::{Connection, Error, ErrorCode, FileStore};
+use sqlite_disk::{Disk, Files, Start};
+use sqlite_std_file::FileFrom;
+use std::rt::HostRuntime;
+use tenant_core::StoreFault;
+use tenant_rows::laws::names_stand_for_one_state;
+use tenant_store::Store;
+
+/// How many bytes of what tenants have are kept in memory: 256 MiB. That is hundreds of tenants
+/// with middling maps, and leaves most of a small machine to the file's pages and to the script.
+pub const READY_BYTES: u64 = 268_435_456;
+
+/// Whether a file is refused for what it holds.
+fn is_refusal(error: Error) -> bool {
+    matches!(
+        error,
+        Error::SqliteFailure(ErrorCode::NotADatabase | ErrorCode::DatabaseCorrupt)
+    )
+}
+
+/// Lets go of files that are refused for what they hold, with their log as it was.
+fn let_go<S: Start>(rt: &HostRuntime, before: &Option<LogBefore>, files: Files<FileFrom<S>>) {
+    if let Some(log) = before {
+        // where the log can't be cut, what was added to it holds nothing
+        let _left = log.restore(rt);
+    }
+    drop(files);
+}
+
+/// Opens the tables in the file at a path. A file that is missing or empty becomes a new database.
+/// `S` stands for what the file and its log hold; no clause ties them to the path.
+///
+/// `Err(FileFault::Store)`: the file can't be opened, or isn't a database with the tables of this
+/// service; it is then as it was. `Err(FileFault::NoMemory)`: an allocation failed; no row is
+/// changed, and the tables may have been made.
+pub fn open_store<S: Start>(
+    rt: &HostRuntime,
+    path: &str,
+    start: S,
+) -> Result<Store<FileStore<FileFrom<S>>>, FileFault>
+    ensures live { IfOk result (λ store. store.1 ≡ false) }
+
+    // The rows stand for the states that the files held.
+    ensures found { IfOk result (λ store. HasCleanDisk (file_state store.0) → IsFound ⟦<FileFrom<S> as Disk>⟧ (image_at S.Start) (StandsFor (file_state store.0).now.trees)) }
+{
+    names_stand_for_one_state();
+    let before = log_before(rt, path);
+    let conn = match Connection::open_from(rt, path, false, start) {
+        Ok(conn) => conn,
+        Err((error, left)) => {
+            if let Some(left) = left {
+                if is_refusal(error) {
+                    let_go(rt, &before, left.into_files());
+                }
+            }
+            return Err(fault_of(error));
+        }
+    };
+    match Store::open(rt.alloc(), conn) {
+        Ok(store) => Ok(store),
+        Err((fault, store)) => {
+            let files = store.close();
+            if fault == StoreFault::Damaged {
+                let_go(rt, &before, files);
+            }
+            Err(FileFault::from(fault))
+        }
+    }
+}

@@ -1,0 +1,10 @@
+use Rattle.std.proofs.Common.{◌≡◌, length}
+use Rattle.tenant_resources.specs.Picks.{are_distinct}
+use Rattle.tenant_resources.proofs.picks.are_few_distinct.Given as goal
+
+-- what is left decides
+abbrev pub invariant-loop-rest : goal.invariant-loop-rest
+invariant-loop-rest l = are_distinct l.rest ≡ are_distinct l.entries
+
+abbrev pub decreases-loop-rest : goal.decreases-loop-rest
+decreases-loop-rest l = length l.rest

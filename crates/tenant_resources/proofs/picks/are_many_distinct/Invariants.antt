@@ -1,0 +1,10 @@
+use Rattle.std.proofs.Common.{◌≡◌, true, drop}
+use Rattle.tenant_resources.specs.Picks.{are_distinct}
+use Rattle.tenant_resources.specs.Private.Seen.{HasItems}
+use Rattle.tenant_resources.proofs.picks.are_many_distinct.Given as goal
+
+abbrev pub invariant-loop-place : goal.invariant-loop-place
+invariant-loop-place l = record {
+  seen : HasItems l.seen (drop l.place l.entries);
+  distinct : are_distinct (drop l.place l.entries) ≡ true;
+}
