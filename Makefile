@@ -8,6 +8,9 @@ SCRIPT = examples/first.script
 CASES =
 PORT = 8080
 INPUTS = 1000000
+SECONDS = 600
+KILLS = 1000
+HISTORIES = 4
 SEED = $(shell date +%s)
 SOURCES = $(shell find crates -name out -prune -o \( -name '*.rt' -o -name '*.antt' \) -print)
 
@@ -15,7 +18,7 @@ build: crushcalc
 	@echo 'The program is ./crushcalc.'
 
 help:
-	@echo 'make build     proves the crates of the program and builds it as ./crushcalc, optimised (the first time: some 35 minutes)'
+	@echo 'make build     proves the crates of the program and builds it as ./crushcalc, optimised (the first time: an hour or more)'
 	@echo 'make try       plays examples/first.script, or the file SCRIPT=FILE, with no proof: each request with its reply, in a minute or two'
 	@echo 'make cases     plays the scripts of tests/cases, or those with CASES=WORD in their names, with no proof, and compares their replies, in a minute or two'
 	@echo 'make run       builds, and serves examples/first.script or SCRIPT=FILE: each request with its reply'
@@ -31,15 +34,20 @@ help:
 	@echo 'make refused-check   refuses each allocation in turn, in memory, over a file and in a server: some 80,000 runs'
 	@echo 'make fuzz      1,000,000 damaged inputs of the seed SEED=S (the time): lines, texts, bodies and streams; INPUTS=N for another number'
 	@echo 'make sanitized   the same of 20,000 inputs, each script again with AddressSanitizer'
+	@echo 'make stops     cuts and changes logs of killed runs for SECONDS=600, of the seed SEED=S (the time); then stops sessions at each'
+	@echo '               call on their file, its log and their folder, and HISTORIES=4 of 51 sessions each at random calls, with cuts of the power too'
+	@echo 'make kill-check   kills the program at 1,000 random moments, or KILLS=N, as a script and as a server, and compares what its files hold'
 	@echo 'make only-tested   tries the wrong bodies that contracts let through, and records which test refused each'
 	@echo 'make http-check   compares replies of the server with those of scripts, by curl, nginx and other clients'
 	@echo 'make bench     builds and measures; beside Ceph'"'"'s own library where that is installed'
 	@echo 'make bench-deps   installs what the comparisons with Ceph need (Debian: librados2, ceph-base, gcc)'
 	@echo 'make serve     builds, and serves HTTP on 127.0.0.1:8080, or PORT=N, with the tenants in build/tenants.db'
+	@echo 'make page      builds, and serves the planner'"'"'s page on 127.0.0.1:8080, or PORT=N, by nginx, with the tenants in build/page/tenants.db'
+	@echo 'make page-check   tries the page in a real browser, chromium; pictures of it are in build/page-check'
 	@echo 'make clean     removes what was built, the finished proofs too'
 
-# rt is itself a python3 program; make test needs a C compiler for tests/refuse.c, and the
-# comparisons with Ceph need gcc
+# rt is itself a python3 program; make test needs a C compiler for tests/refuse.c, stop.c and
+# record.c, and the comparisons with Ceph need gcc
 tools:
 	@command -v python3 >/dev/null 2>&1 || { \
 	  echo 'python3 is missing: rt and the tests need it.'; \
@@ -58,7 +66,7 @@ tools:
 # -O3, and runs it
 crushcalc: $(SOURCES) crates.txt HANDLES | tools
 	@mkdir -p build
-	@echo 'Proving the crates and building ./crushcalc: the first time some 35 minutes on four cores, later what changed.'
+	@echo 'Proving the crates and building ./crushcalc: the first time an hour or more on four cores, later what changed.'
 	@{ (cd crates/crushcalc && $(RT) all check --jobs $$(nproc)) 2>&1; echo "$$?" >build/build.status; } | tee build/build.log | awk -v crate=crushcalc -f tools/progress.awk crates.txt -
 	@[ "$$(cat build/build.status)" = 0 ] || { tail -n 30 build/build.log; echo 'The proofs failed; the whole log is build/build.log.' >&2; exit 1; }
 	@(cd crates/crushcalc && $(RT) run -- --help) >build/help.txt 2>>build/build.log || { tail -n 30 build/build.log; echo 'The build failed; the whole log is build/build.log.' >&2; exit 1; }
@@ -112,6 +120,9 @@ install: build
 	@echo 'Installing $(DESTDIR)$(PREFIX)/bin/crushcalc'
 	@install -d '$(DESTDIR)$(PREFIX)/bin'
 	@install -m 755 crushcalc '$(DESTDIR)$(PREFIX)/bin/crushcalc'
+	@echo 'Installing the page: $(DESTDIR)$(PREFIX)/share/crushcalc/web'
+	@install -d '$(DESTDIR)$(PREFIX)/share/crushcalc/web'
+	@install -m 644 web/* '$(DESTDIR)$(PREFIX)/share/crushcalc/web'
 
 serve: build
 	@mkdir -p build
@@ -140,6 +151,13 @@ sanitized: build
 	@python3 tests/fuzz ./crushcalc --inputs 20000 --seed $(SEED) --cases build/sanitized
 	@cd crates/crushcalc && $(RT) try --cases ../../build/sanitized -- script
 
+stops: build
+	@python3 tests/stops ./crushcalc --logs $(SECONDS) $(SEED)
+	@python3 tests/sessions ./crushcalc $(HISTORIES) $(SEED)
+
+kill-check: build
+	@python3 tests/stops ./crushcalc $(KILLS) $(SEED)
+
 only-tested: tools
 	@RT='$(RT)' python3 tests/only_tested/check --try
 
@@ -148,6 +166,22 @@ http-check: build
 	  echo 'Installing curl, nginx, openssl, ab and mkfs.btrfs: apt-get install -y curl nginx openssl apache2-utils btrfs-progs'; \
 	  apt-get update && apt-get install -y curl nginx openssl apache2-utils btrfs-progs; }
 	@python3 tests/http/check ./crushcalc
+
+# the page's files are served as they stand in web/, and d3 from where libjs-d3 puts it
+D3 = /usr/share/javascript/d3/d3.min.js
+
+page: build
+	@{ command -v nginx >/dev/null && [ -r $(D3) ]; } || { \
+	  echo 'Installing nginx and d3: apt-get install -y nginx libjs-d3'; \
+	  apt-get update && apt-get install -y nginx libjs-d3; }
+	@python3 tools/page ./crushcalc --port $(PORT)
+
+# Debian's selenium is that of /usr/bin/python3
+page-check: build
+	@{ command -v nginx && command -v chromium && command -v chromedriver && command -v openssl && [ -r $(D3) ] && /usr/bin/python3 -c 'import selenium'; } >/dev/null 2>&1 || { \
+	  echo 'Installing what the page and a browser need: apt-get install -y nginx openssl libjs-d3 chromium chromium-driver python3-selenium'; \
+	  apt-get update && apt-get install -y nginx openssl libjs-d3 chromium chromium-driver python3-selenium; }
+	@/usr/bin/python3 tests/page/check ./crushcalc
 
 bench: build build/crush_bench
 	@sh bench/all
@@ -164,4 +198,4 @@ clean:
 	@echo 'Removing ./crushcalc, build/ and crates/*/out; the next build proves everything anew.'
 	@rm -rf crushcalc build crates/*/out
 
-.PHONY: build help tools try cases run test gate wrong form install serve ceph-check sqlite-check refused-check fuzz sanitized only-tested http-check bench bench-deps clean
+.PHONY: build help tools try cases run test gate wrong form install serve ceph-check sqlite-check refused-check fuzz sanitized stops kill-check only-tested http-check page page-check bench bench-deps clean

@@ -94,14 +94,17 @@ def change(tenant, line, asked, act):
     return reply, changed._replace(receipts={**tenant.receipts, asked["request"]: (line, reply)}) if changed else tenant
 
 
-def items_of(tenant, device):
-    """What the rule of a version's map answers: its device, where that has any weight left."""
-    return [device] if tenant.states.get(device, (65536, True))[0] else []
+def items_of(tenant, device, x):
+    """What the rule of a version's map answers for an input: its device, unless that is out by its
+    reweight. Every try then comes to the same."""
+    weight = tenant.states.get(device, (65536, True))[0]
+    is_out = weight < 65536 and (weight == 0 or crush.hash2(x, device) & 0xFFFF >= weight)
+    return [] if is_out else [device]
 
 
-def up_of(tenant, device):
+def up_of(tenant, device, x):
     """The devices of that answer that are up."""
-    return [it for it in items_of(tenant, device) if tenant.states.get(it, (65536, True))[1]]
+    return [it for it in items_of(tenant, device, x) if tenant.states.get(it, (65536, True))[1]]
 
 
 def test_on(tenant, asked):
@@ -109,8 +112,15 @@ def test_on(tenant, asked):
     number = asked.get("version", len(tenant.versions))
     if not 1 <= number <= len(tenant.versions):
         return map_cases.NO_VERSION
-    items = items_of(tenant, tenant.versions[number - 1].device)
+    map = tenant.versions[number - 1]
+    if asked["rule"] != map.rule:
+        return map_cases.NO_RULE
+    items = items_of(tenant, map.device, asked["x"])
     return map_cases.tested(items, items, len(tenant.receipts), number)
+
+
+def seed_of(pool, group):
+    return crush.hash2(group, pool)
 
 
 def group_in(tenant, pool, group, **more):
@@ -119,8 +129,8 @@ def group_in(tenant, pool, group, **more):
         return pool_cases.NO_POOL
     if group >= GROUPS:
         return pool_cases.NO_GROUP
-    device = tenant.versions[-1].device
-    return pool_cases.lies(len(tenant.receipts), group, crush.hash2(group, pool), up_of(tenant, device), items_of(tenant, device), len(tenant.versions), **more)
+    device, seed = tenant.versions[-1].device, seed_of(pool, group)
+    return pool_cases.lies(len(tenant.receipts), group, seed, up_of(tenant, device, seed), items_of(tenant, device, seed), len(tenant.versions), **more)
 
 
 def usage_in(tenant, pool):
@@ -128,7 +138,7 @@ def usage_in(tenant, pool):
     if pool not in tenant.pools:
         return pool_cases.NO_POOL
     device = tenant.versions[-1].device
-    count = GROUPS * len(up_of(tenant, device))
+    count = sum(len(up_of(tenant, device, seed_of(pool, it))) for it in range(GROUPS))
     return report_cases.used(len(tenant.receipts), (device, count, count, count, 1000 if count else 0), version=len(tenant.versions), pool=pool)
 
 
@@ -141,19 +151,19 @@ def moves_in(tenant, pool, first, second):
     old, new = tenant.versions[first - 1], tenant.versions[second - 1]
     if not old.rule == new.rule == tenant.pools[pool]:
         return map_cases.NO_RULE
-    old, new = up_of(tenant, old.device), up_of(tenant, new.device)
-    rows = [] if old == new else [(group, len(new), old, new) for group in range(GROUPS)]
+    lists = [(group, *(up_of(tenant, it.device, seed_of(pool, group)) for it in (old, new))) for group in range(GROUPS)]
+    rows = [(group, len(set(after) - set(before)), before, after) for group, before, after in lists if before != after]
     return report_cases.moved(len(tenant.receipts), first, second, *rows, pool=pool)
 
 
 def impact_in(tenant, pool, device):
-    """The definition's groups: the device of the newest version is in each trace where it has any
-    weight left."""
+    """The definition's groups: the device of the newest version is in each trace where it isn't out
+    by its reweight."""
     if pool not in tenant.pools:
         return pool_cases.NO_POOL
     if device != tenant.versions[-1].device:
         return pool_cases.NO_DEVICE
-    groups = list(range(GROUPS)) if items_of(tenant, device) else []
+    groups = [it for it in range(GROUPS) if items_of(tenant, device, seed_of(pool, it))]
     return report_cases.touched(len(tenant.receipts), device, groups, len(tenant.versions), pool)
 
 

@@ -2,10 +2,11 @@
 
 crates/NAME/must-fail/WHAT_IT_DOES.edit is a wrong body: the prover must refuse the crate with that
 edit. Trying one takes 30 to 60 seconds, so a crate's edits are tried when the crate changed.
-REFUSED.md beside them records the last time: a digest of all that the outcome rests on in the
-crate, with the toolchain's version, and for each edit the goal that refused it. A record counts
-only while its digest fits; it is written by tests/wrong (make wrong), never by hand, from a run of
-its own or from the gate's last run.
+REFUSED.md beside them records the last time: the toolchain's version, a digest of all that the
+outcome rests on in the crate, with that version, and for each edit the goal that refused it. A
+record counts only while its digest fits, and with each build of the toolchain that has the same
+logic; it is written by tests/wrong (make wrong), never by hand, from a run of its own or from the
+gate's last run.
 """
 import hashlib
 import os
@@ -24,10 +25,16 @@ GOAL = re.compile(r"\(`([^`]*)`\)")
 # goal, and why
 PROOF = re.compile(r"\./proofs/(\w+)/(?:\w+/)?(\w+)/(?:Answers|Invariants)\.antt:\d+:\d+: error: `([^`]*)`: (.*)")
 DIGEST = re.compile(r"^Digest: ([0-9a-f]{64})$", re.M)
+TOOLCHAIN = re.compile(r"^Toolchain: (.*)$", re.M)
 
 
 def version():
     return subprocess.run([RT, "version"], stdout=subprocess.PIPE, text=True, check=True).stdout.strip()
+
+
+def logic(toolchain):
+    """The logic of a toolchain, which its line of `rt version` ends with: what a proof rests on."""
+    return toolchain.partition(" logic ")[2]
 
 
 def crates():
@@ -40,11 +47,11 @@ def edits(crate):
     return sorted((CRATES / crate / "must-fail").glob("*.edit"))
 
 
-def digest(crate):
+def digest(crate, toolchain=None):
     """Of the crate's line in crates.txt, its sources, definitions, proofs and edits, and the
-    toolchain's version."""
+    version of a toolchain, this one if none is named."""
     line = [line for line in (TOP / "crates.txt").read_text().splitlines() if re.match(rf"{crate}\b", line)]
-    sha = hashlib.sha256(f"{version()}\n{line}\n".encode())
+    sha = hashlib.sha256(f"{toolchain or version()}\n{line}\n".encode())
     files = [p for part in ("src", "specs", "proofs") for p in (CRATES / crate / part).rglob("*") if p.is_file()]
     for path in sorted(files + edits(crate)):
         data = path.read_bytes()
@@ -62,9 +69,11 @@ def is_recorded(crate):
     if not path.is_file():
         return False
     text = path.read_text()
-    found = DIGEST.search(text)
+    found, toolchain = DIGEST.search(text), TOOLCHAIN.search(text)
+    if not found or not toolchain or logic(toolchain.group(1)) != logic(version()):
+        return False
     rows = set(re.findall(r"^\| `(\w+)` \|", text, re.M))
-    return found is not None and found.group(1) == digest(crate) and rows == {p.stem for p in edits(crate)}
+    return found.group(1) == digest(crate, toolchain.group(1)) and rows == {p.stem for p in edits(crate)}
 
 
 def function_at(crate, file, line):

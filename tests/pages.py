@@ -52,7 +52,7 @@ WORDS = "## Words that mean something special here"
 MOST_LINES = {"README.md": 110, "docs/ARCHITECTURE.md": 130, "docs/STATUS.md": 40}
 MOST_WORDS = 25
 COMMENTS = {".rt": ("//",), ".antt": ("--",)}
-TOOLS, NO_TOOLS = ("tests", "bench", "tools", "examples"), {".md", ".in", ".out", ".pyc", ".json", ".script"}
+TOOLS, NO_TOOLS = ("tests", "bench", "tools", "examples", "web"), {".md", ".in", ".out", ".pyc", ".json", ".script"}
 LINK_ALONE = re.compile(r"^[-\s]*\[[^\]]*\]\([^)]*\)[.,;:]?$")
 
 

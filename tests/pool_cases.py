@@ -55,6 +55,16 @@ def with_devices(count):
     return with_line(tiny(), 7, "\n".join(f"device {it} osd.{it}" for it in range(count)))
 
 
+def with_long_text(count):
+    """The map of one device with a text of some 70,000 bytes: so many more devices stand in 800
+    lines of hosts, which no rule takes."""
+    names = [f"device-{it:057}" for it in range(count)]
+    devices = "\n".join(f"device {it} {name}" for it, name in enumerate(names, 1))
+    items = "".join(f" item {name} weight 1.0\n" for name in names)
+    hosts = "".join(f"host h{it} {{\n id -{it}\n alg list\n{items}}}\n" for it in range(2, 2 + 800 // count))
+    return with_line(tiny(), 7, f"device 0 osd.0\n{devices}").replace("root default", f"{hosts}root default", 1)
+
+
 def with_rule(number, text):
     """The map with this id for its rule."""
     return with_line(text, 18, f" id {number}")

@@ -1,5 +1,5 @@
 """Runs of a program with one of its allocations refused, by the library that refuse.c is compiled
-to."""
+to; and such libraries."""
 import collections
 import concurrent.futures
 import functools
@@ -25,18 +25,18 @@ class Unfit(Exception):
 
 
 @functools.lru_cache(maxsize=None)
-def refuser():
-    """The folder to run in, and the path from there of refuse.c compiled (LD_PRELOAD splits at
+def compiled(name):
+    """The folder to run in, and the path from there of tests/NAME.c compiled (LD_PRELOAD splits at
     blanks and colons)."""
     compiler = next(filter(None, map(shutil.which, ("cc", "gcc", "clang"))), None)
     if compiler is None:
-        raise Unfit("there is no C compiler for tests/refuse.c: install the package gcc, as by 'apt-get install gcc libc6-dev'")
+        raise Unfit(f"there is no C compiler for tests/{name}.c: install the package gcc, as by 'apt-get install gcc libc6-dev'")
     top = HERE.parent
     (top / "build").mkdir(exist_ok=True)
-    library, made = "build/refuse.so", f"build/refuse.{os.getpid()}-{threading.get_ident()}.so"
-    compiled = subprocess.run([compiler, "-O1", "-fPIC", "-shared", "-o", made, str(HERE / "refuse.c")], cwd=top, stderr=subprocess.PIPE)
-    if compiled.returncode != 0:
-        raise Unfit(f"{compiler} doesn't compile tests/refuse.c (are the packages gcc and libc6-dev installed?): {compiled.stderr.decode(errors='replace').strip()[:200]}")
+    library, made = f"build/{name}.so", f"build/{name}.{os.getpid()}-{threading.get_ident()}.so"
+    ran = subprocess.run([compiler, "-O1", "-fPIC", "-shared", "-o", made, str(HERE / f"{name}.c"), "-ldl"], cwd=top, stderr=subprocess.PIPE)
+    if ran.returncode != 0:
+        raise Unfit(f"{compiler} doesn't compile tests/{name}.c (are the packages gcc and libc6-dev installed?): {ran.stderr.decode(errors='replace').strip()[:200]}")
     os.replace(top / made, top / library)
     return top, library
 
@@ -44,7 +44,7 @@ def refuser():
 def refusing(allocation, mark):
     """The folder and the environment of a run with this allocation refused, if it comes to it: a
     zero byte then goes to the file descriptor `mark`."""
-    top, library = refuser()
+    top, library = compiled("refuse")
     return {"cwd": top, "env": {**os.environ, "LD_PRELOAD": library, "REFUSE_AT": str(allocation), "REFUSE_FD": str(mark)}}
 
 
@@ -76,7 +76,7 @@ def chosen_of(total, count):
     return [*sorted({1 + place * (total - 1) // (count - 1) for place in range(count)}), total + 1]
 
 
-def side_by_side(act, numbers):
+def side_by_side(act, numbers, jobs=JOBS):
     """What comes of this on each of the numbers, in their order."""
-    with concurrent.futures.ThreadPoolExecutor(JOBS) as pool:
+    with concurrent.futures.ThreadPoolExecutor(jobs) as pool:
         return list(pool.map(act, numbers))

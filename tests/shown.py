@@ -9,8 +9,10 @@ import subprocess
 import tempfile
 
 TOP = pathlib.Path(__file__).resolve().parent.parent
-DOCUMENTS = ("README.md", "examples/README.md", "docs/REQUESTS.md", "docs/MAPS.md", "docs/PLANNING.md")
-INDENT, PROMPT, HERE_END = "    ", "    $ ", "<<'END'"
+DOCUMENTS = ("README.md", "examples/README.md", "docs/REQUESTS.md", "docs/MAPS.md", "docs/PLANNING.md", "docs/STORE.md")
+INDENT, PROMPT = "    ", "    $ "
+# what a command's first line ends with that goes on, and what its last line begins with
+LONGER = {"<<'END'": "END", "; do": "done"}
 # commands of the server and of curl, which http/shown_pages.py runs
 SERVED = re.compile(r"\bcurl\b|\bserve\b|crushcalc\.pid")
 
@@ -22,11 +24,11 @@ def commands_in(text):
     for line in lines:
         if line.startswith(PROMPT):
             command = [line[len(PROMPT) :]]
-            if HERE_END in command[0]:
-                for more in lines:
-                    command.append(more.removeprefix(INDENT))
-                    if command[-1] == "END":
-                        break
+            last = next((last for first, last in LONGER.items() if command[0].endswith(first)), None)
+            for more in lines if last else ():
+                command.append(more.removeprefix(INDENT))
+                if command[-1].startswith(last):
+                    break
             found.append(("\n".join(command) + "\n", []))
         elif line.startswith(INDENT) and command is not None:
             found[-1][1].append(line[len(INDENT) :] + "\n")

@@ -31,6 +31,12 @@ def files_at(db):
     return {it: path.read_bytes() for it in BESIDE if (path := pathlib.Path(f"{db}{it}")).is_file()}
 
 
+def write_files(db, files):
+    """Makes a database file and what lies beside it of such bytes."""
+    for suffix, content in files.items():
+        pathlib.Path(f"{db}{suffix}").write_bytes(content)
+
+
 def copy_to(db, folder):
     """A copy of a database file and its log, which sqlite3 may change as it reads them."""
     to = pathlib.Path(folder, "copy.db")

@@ -6,7 +6,8 @@
 # crates.txt: a crate and what it uses on each line, the lowest first
 FILENAME == "crates.txt" {
     if ($0 !~ /^#/ && split($0, parts, ":") == 2) {
-        names[++lines] = parts[1]
+        split(parts[1], words, " ")
+        names[++lines] = words[1]
         uses[lines] = parts[2]
     }
     next
