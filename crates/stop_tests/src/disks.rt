@@ -1,0 +1,59 @@
+//! A database file and its log in memory, of which one fails from some call on.
+
+use sqlite_disk::{Crash, Disk, Files, Fuse, Memory};
+use std::alloc::Global;
+use std::io;
+
+/// A database file and its log.
+pub(crate) type Disks = Files<Fuse<Memory>>;
+
+/// Which of the two fails, and after how many calls.
+#[derive(Clone, Copy)]
+pub(crate) enum Stop {
+    Log(u64),
+    Database(u64),
+}
+
+impl Stop {
+    /// After how many calls the log and the database file fail.
+    fn calls(self) -> (u64, u64) {
+        match self {
+            Stop::Log(calls) => (calls, u64::MAX),
+            Stop::Database(calls) => (u64::MAX, calls),
+        }
+    }
+}
+
+/// New files.
+pub(crate) fn new_files(alloc: Global, stop: Stop) -> Disks {
+    let (log, db) = stop.calls();
+    Files {
+        log: Fuse::new(Memory::new(alloc), log),
+        db: Fuse::new(Memory::new(alloc), db),
+    }
+}
+
+/// The files after a crash of both. From then on no call fails.
+pub(crate) fn crashed(mut files: Disks) -> Disks {
+    files.log.crash();
+    files.db.crash();
+    files
+}
+
+/// A disk with the same bytes, all of them synced, that fails after so many calls.
+fn copied(alloc: Global, disk: &Fuse<Memory>, calls: u64) -> io::Result<Fuse<Memory>> {
+    let mut copy = Memory::new(alloc);
+    copy.write_at(0, disk.inner().bytes())?;
+    copy.sync()?;
+    Ok(Fuse::new(copy, calls))
+}
+
+/// What a crash leaves of the files; one of them then fails again.
+pub(crate) fn crashed_with(alloc: Global, files: Disks, stop: Stop) -> io::Result<Disks> {
+    let files = crashed(files);
+    let (log, db) = stop.calls();
+    Ok(Files {
+        log: copied(alloc, &files.log, log)?,
+        db: copied(alloc, &files.db, db)?,
+    })
+}
