@@ -51,9 +51,9 @@ function cards(into, hosts, heads, row, badge = () => null) {
         const host = hosts[place], body = el("tbody");
         const above = [host.type, host.path && `in ${host.path}`].filter(Boolean).join(" ");
         const foot = cut(body, host.devices.length, (it) => row(host.devices[it], host), DEVICES);
-        const first = host.devices.some((it) => it.name.length > LONG_NAME) ? "device long" : "device";
+        const long = host.devices.some((it) => it.name.length > LONG_NAME), first = long ? "device long" : "device";
         const head = el("tr", {}, heads.map(([text, kind]) => el("th", { scope: "col", class: kind === "device" ? first : kind }, text)));
-        return el("div", { class: "card" }, el("table", {}, el("caption", {}, host.name, el("span", {}, above), badge(host)), el("thead", {}, head), body), foot);
+        return el("div", { class: "card" }, el("table", { class: long && "long" }, el("caption", {}, host.name, el("span", {}, above), badge(host)), el("thead", {}, head), body), foot);
     }, Math.min(HOSTS, Math.ceil(ROWS / longest)));
 }
 

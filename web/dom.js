@@ -1,6 +1,8 @@
 // Elements of the page. Text enters as text nodes only, so that no name and no map is ever taken
 // for markup.
 
+const SLICE = 8192;
+
 export function el(tag, fields, ...children) {
     const made = document.createElement(tag);
     for (const [name, value] of Object.entries(fields ?? {})) {
@@ -107,6 +109,16 @@ export function cut(into, count, make, step = 100) {
 // Lines of a CSV, of lists of fields; none of the page's fields needs quotes.
 export function csv(heads, rows) {
     return [heads, ...rows].map((it) => `${it.join(",")}\n`).join("");
+}
+
+// The same of many rows, some thousands at a time, so that the page never waits for them.
+export async function longCsv(heads, count, row) {
+    const lines = [csv(heads, [])];
+    for (let first = 0; first < count; first += SLICE) {
+        for (let it = first; it < Math.min(first + SLICE, count); it += 1) lines.push(`${row(it).join(",")}\n`);
+        await pause();
+    }
+    return lines.join("");
 }
 
 // A file for the planner, made of text.

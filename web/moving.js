@@ -1,7 +1,7 @@
 // The groups that can move in a drain, and where those go that are chosen of them.
 import { ask, askLong, read } from "./service.js";
 import { meaning } from "./codes.js";
-import { button, counted, csv, cut, el, fault, labelled, roving, save, say } from "./dom.js";
+import { button, counted, csv, cut, el, fault, labelled, longCsv, pause, roving, save, say } from "./dom.js";
 import { Unlike } from "./copies.js";
 import { devicesCell, groupOf, idOf, written } from "./groups.js";
 import { readLong } from "./reading.js";
@@ -34,10 +34,14 @@ function groupList(pool, { text, groups, hint, ...fields }, open) {
 }
 
 // One line of each group that can move, with the devices in whose lists it is.
-function csvOf(cluster, pool, all, lists) {
-    const devices = new Map(all.map((it) => [it, []]));
-    for (const { device, groups } of lists) for (const it of groups) devices.get(it).push(cluster.name(device));
-    return csv(["group", "id", "lists"], all.map((it) => [it, idOf(pool, it), devices.get(it).join(" ")]));
+async function csvOf(cluster, pool, all, lists) {
+    const names = new Map();
+    for (const { device, groups } of lists) {
+        const name = cluster.name(device);
+        for (const it of groups) names.set(it, names.has(it) ? `${names.get(it)} ${name}` : name);
+        await pause();
+    }
+    return longCsv(["group", "id", "lists"], all.length, (place) => [all[place], idOf(pool, all[place]), names.get(all[place])]);
 }
 
 // The groups that can move: all of them, those of each device, and a search. `ready` promises the
@@ -67,11 +71,11 @@ export function movingGroups(cluster, pool, lists, ready) {
     const each = lists.map(({ device, groups }) => groupList(pool, { text: cluster.name(device), groups, "data-impact": device }, lists.length === 1));
     const whole = lists.length > 1 && groupList(pool, { text: "All of them", groups: all, id: "all-groups", hint: `The lists of ${names}, joined by this page: each group once.` }, true);
     const card = el("div", { class: "card", id: "impact" }, el("h2", {}, counted("Groups that can move", all)),
-        el("p", { class: "hint" }, `Of pool ${pool.name}. While only the reweights of these devices are lowered, no other group of it moves. One in a list need not move: the device may only have been tried for it.`),
+        el("p", { class: "hint" }, `Placement groups of pool ${pool.name}. While only the reweights of these devices are lowered, no other group of it moves. One in a list need not move: the device may only have been tried for it. Choose one to see where it goes.`),
         el("div", { class: "controls" }, el("form", { class: "find", "aria-label": "A group", on: { submit } }, labelled("Find a group", search, `By its number, or as Ceph writes it: ${pool.id}.1c is group 28.`),
-            el("button", {}, "Where does it go?")), button("Save the lists as CSV", () => save(`groups-${cluster.tenant}-${pool.name}.csv`, csvOf(cluster, pool, all, lists)), { id: "impact-csv" })),
+            el("button", {}, "Where does it go?")), button("Save the lists as CSV", async () => save(`groups-${cluster.tenant}-${pool.name}.csv`, await csvOf(cluster, pool, all, lists)), { id: "impact-csv" })),
         result, el("div", { on: { click: chosen, keydown: roving } }, whole, el("div", { class: "lists" }, each)));
-    return el("div", { class: "moving" }, goes.card, card);
+    return el("div", { class: "moving" }, card, goes.card);
 }
 
 // What the service says of a group before the drain and after it, or an end where it has nothing
@@ -87,6 +91,16 @@ async function bothOf(cluster, pool, group, { name, epochs }) {
     return both;
 }
 
+// The row of a group, with what the service says of it before and after.
+function lineOf(cluster, pool, group, both, host) {
+    const [old, now] = both.map((it) => it.up), after = devicesCell(cluster, now, old, "ins", host);
+    if (JSON.stringify(old) === JSON.stringify(now)) after.append(" ", el("span", { class: "badge in" }, "stays"));
+    const row = el("tr", { "data-group": group }, el("th", { scope: "row", class: "number" }, group), el("td", {}, idOf(pool, group)), devicesCell(cluster, old, now, "del", host), after);
+    // the heads are beside the cells where the page is narrow
+    HEADS.forEach((it, place) => { row.children[place].dataset.head = it; });
+    return { row, both };
+}
+
 // A table of the groups that were chosen, the last one first, each with its devices before and
 // after.
 function whereGroupsGo(cluster, pool, ready) {
@@ -95,11 +109,11 @@ function whereGroupsGo(cluster, pool, ready) {
         const above = cluster.map.byId.get(id)?.buckets[0];
         return above && el("span", { class: "hint" }, ` ${above.name}`);
     };
-    const empty = el("tr", {}, el("td", { colspan: 4, class: "hint" }, "Choose a group of the lists, or find one: its devices before and after the drain are shown here."));
+    const empty = el("tr", {}, el("td", { colspan: 4, class: "hint" }, "Choose a group: its devices before and after the drain are shown here."));
     const heads = HEADS.map((it) => el("th", { scope: "col" }, it));
     const csvOfThem = () => csv(["group", "id", "old", "new"], [...rows].map(([group, { both: [old, now] }]) => [group, idOf(pool, group), written(old.up), written(now.up)]));
     const file = button("Save as CSV", () => save(`where-${cluster.tenant}-${pool.name}.csv`, csvOfThem()), { id: "goes-csv", hidden: true });
-    const card = el("div", { class: "card", id: "goes" }, el("div", { class: "head" }, el("h2", {}, "Where a group goes"), file),
+    const card = el("div", { class: "card empty-yet", id: "goes" }, el("div", { class: "head" }, el("h2", {}, "Where a group goes"), el("div", { class: "buttons" }, file, button("Close", () => card.classList.add("empty-yet"), { id: "goes-close" }))),
         el("div", { class: "box", tabindex: "0", role: "region", "aria-label": "Where a group goes" }, el("table", { class: "plain", "aria-label": "Groups before and after the drain" }, el("thead", {}, el("tr", {}, heads)), body)), said);
     body.append(empty);
     function show(group) {
@@ -107,29 +121,23 @@ function whereGroupsGo(cluster, pool, ready) {
         empty.remove();
         body.prepend(row);
         file.hidden = false;
+        card.classList.remove("empty-yet");
         const names = (it) => it.up.map((id) => (id === null ? "none" : cluster.name(id))).join(", ") || "none";
         said.replaceChildren(el("p", { class: "sr" }, `Group ${group}: before ${names(old)}; after ${names(now)}.`));
-        card.scrollIntoView({ block: "nearest" });
     }
     async function look(group) {
-        const copy = await ready.catch(() => null);
-        if (rows.has(group)) return show(group);
-        if (!copy) return undefined;
-        say(`Where group ${idOf(pool, group)} goes`);
         try {
-            const both = await bothOf(cluster, pool, group, copy), [old, now] = both.map((it) => it.up);
-            const stays = JSON.stringify(old) === JSON.stringify(now) && el("span", { class: "badge in" }, "stays");
-            const row = el("tr", { "data-group": group }, el("th", { scope: "row", class: "number" }, group), el("td", {}, idOf(pool, group)), devicesCell(cluster, old, now, "del", host), devicesCell(cluster, now, old, "ins", host));
-            if (stays) row.lastChild.append(" ", stays);
-            // the heads are beside the cells where the page is narrow
-            HEADS.forEach((it, place) => { row.children[place].dataset.head = it; });
-            rows.set(group, { row, both });
+            const copy = await ready;
+            if (!rows.has(group)) {
+                say(`Where group ${idOf(pool, group)} goes`);
+                rows.set(group, lineOf(cluster, pool, group, await bothOf(cluster, pool, group, copy), host));
+            }
             show(group);
         } catch (why) {
-            said.replaceChildren(fault(why.message));
+            card.classList.remove("empty-yet");
+            said.replaceChildren(fault(`Where group ${group} goes isn't known. `, why.message));
         }
         say("");
-        return undefined;
     }
     return { card, look };
 }

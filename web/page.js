@@ -73,7 +73,7 @@ function place() {
 
 function tabs({ tenant, view }) {
     at("tabs").replaceChildren(...(tenant ? Object.entries(VIEWS).map(([it, text]) => el("a", { href: `#/${tenant}/${it}`, "aria-current": it === view && "page" }, text)) : []));
-    at("tenant").replaceChildren(...(tenant ? [el("span", {}, "Cluster "), el("strong", {}, tenant), el("a", { href: "#/" }, "Change")] : []));
+    at("tenant").replaceChildren(...(tenant ? [el("span", {}, "Cluster "), el("strong", {}, tenant), el("a", { href: "#/", "aria-label": "Change the cluster" }, "Change")] : []));
     document.title = tenant ? `${VIEWS[view]} of ${tenant}: crushcalc` : "crushcalc";
 }
 

@@ -1,29 +1,21 @@
 // Two versions compared: which groups move, and what each device gains and loses.
 import { askLong, read } from "./service.js";
 import { meaning } from "./codes.js";
-import { button, counted, cut, el, fault, labelled, later, options, pause, save, say } from "./dom.js";
+import { button, counted, cut, el, fault, labelled, later, longCsv, options, pause, save, say } from "./dom.js";
 import { devicesCell, idOf, written } from "./groups.js";
 import { readLong } from "./reading.js";
 import { changeCards, found } from "./charts.js";
 import { legend } from "./view_usage.js";
 import { missing, poolOf, poolPicker } from "./view_pools.js";
 
-const SLICE = 8192, LINES = 50;
+const LINES = 50;
 
 function listOf({ starts, items }, place) {
     return items.subarray(starts[place], starts[place + 1]);
 }
 
-// The rows as CSV, some thousands at a time.
-async function csvOf(report) {
-    const lines = ["group,gained,old,new\n"];
-    for (let first = 0; first < report.groups.length; first += SLICE) {
-        for (let it = first; it < Math.min(first + SLICE, report.groups.length); it += 1) {
-            lines.push(`${report.groups[it]},${report.gainedBy[it]},${written(listOf(report.old, it))},${written(listOf(report.next, it))}\n`);
-        }
-        await pause();
-    }
-    return lines.join("");
+function csvOf(report) {
+    return longCsv(["group", "gained", "old", "new"], report.groups.length, (it) => [report.groups[it], report.gainedBy[it], written(listOf(report.old, it)), written(listOf(report.next, it))]);
 }
 
 // The groups that each device gains and loses, as their rows.

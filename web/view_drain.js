@@ -109,7 +109,7 @@ function usages(cluster, pool, chosen, both) {
     draw();
     const name = `${cluster.tenant}-${pool.name}.csv`;
     return el("div", { id: "usages" }, el("h2", {}, "Usage before and after"),
-        el("p", { class: "hint" }, `Of pool ${pool.name}, with these devices' reweights as they are, and with 0. Computed on a copy of the cluster on the service, which is dropped when you leave this result.`),
+        el("p", { class: "hint" }, `Of pool ${pool.name}, with these devices' reweights as they are, and with 0. Entries are the places that a device has in the groups' up lists. Computed on a copy of the cluster on the service, which is dropped when you leave this result.`),
         fullest(cluster, both),
         el("div", { class: "controls" }, labelled("Unit", unit), labelled("Order", order), labelled("Find a device", search)),
         el("div", { class: "bar-line" }, legend(["used", "before and after"], ["gain", "more after"], ["less", "less after"], ["even", "even share after"], ["even-before", "even share before"]),

@@ -7,6 +7,8 @@ import { removal } from "./removing.js";
 import { pathOf, readMap } from "./map.js";
 
 const AROUND = 8, LONGEST_FILE = 1048576, LONGEST_LINE = 300;
+// writes the states of a cluster's devices as the service takes them
+const STATES = 'ceph osd dump -f json | jq -r \'"id,reweight,up", (.osds[] | "\\(.osd),\\(.weight * 65536 | round),\\(.up)")\' >states.csv';
 const WHOLE = { reweight: 65536, up: true };
 
 // The place where a file is dropped, or chosen.
@@ -149,7 +151,8 @@ function unknown(cluster) {
 
 export function showMap(cluster, said, take) {
     const { summary, tenant } = cluster, at = el("div", {}, el("div", { id: "said", tabindex: "-1" }, said));
-    const states = el("p", { class: "hint" }, "A CSV of device states (id,reweight,up) is taken here too: a reweight is in 65536ths, up is 1 or 0.");
+    const states = el("details", { class: "hint" }, el("summary", {}, "A CSV of device states is taken here too"), el("p", {}, "Where devices are down or reweighted. Its lines are id,reweight,up: a reweight is in 65536ths, up is 1 or 0. On the cluster this writes it:"),
+        el("pre", {}, el("code", {}, STATES)));
     const section = el("section", { class: "split" }, el("div", {}, el("h1", { tabindex: "-1" }, "Map"), dropBox(take, states)), at);
     if (!summary.versions) {
         at.append(el("p", { class: "empty" }, `${tenant} has no map yet. Drop one here, or delete ${tenant}, of which the service keeps nothing but the name.`), removal(cluster));

@@ -75,6 +75,7 @@ function form(cluster, said, refresh) {
         await asMade(cluster, said, fields(), refresh);
     }
     return el("form", { class: "card form", "aria-label": "A pool", on: { submit: make } },
+        el("p", { class: "hint" }, "As on the cluster: ", el("code", {}, "ceph osd pool ls detail"), " says it all."),
         labelled("Name", name), el("div", { class: "pair" }, labelled("Id", id), labelled("Kind", kind)), el("div", { class: "pair" }, labelled("Size", size), labelled("Rule", rule)),
         el("div", { class: "pair" }, labelled("Groups: pg_num", groups), labelled("pgp_num", places)),
         el("p", { class: "check" }, hashed, el("label", { for: "hashpspool" }, " The id enters the hash (hashpspool)")), el("button", { class: "main" }, "Make the pool"));

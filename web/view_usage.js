@@ -30,7 +30,7 @@ export function evenLines(cluster, pool, rows, unit, states = cluster.known.stat
     return new Map([...evenParts(cluster.map, pool.rule, states)].map(([id, part]) => [id, part * whole]));
 }
 
-export const ORDERS = [["host", "by host"], ["most", "most first"], ["above", "most above the even share first"]];
+export const ORDERS = [["host", "by host"], ["most", "most first"], ["above", "most above even share first"]];
 
 // The hosts as they are, or all devices as one list, each with its host: by how much they have, or
 // by how far that is above their even share.
@@ -40,7 +40,7 @@ export function ordered(hosts, order, value, even) {
     const above = (it) => (value(it) === 0 ? 0 : value(it) / (even.get(it.id) || Number.MIN_VALUE));
     const first = order === "above" ? above : value;
     const devices = [...all.values()].sort((a, b) => first(b) - first(a) || value(b) - value(a) || a.id - b.id);
-    return [{ name: order === "above" ? "Most above the even share first" : "Most first", type: "", path: "", ordered: true, devices }];
+    return [{ name: order === "above" ? "Most above even share first" : "Most first", type: "", path: "", ordered: true, devices }];
 }
 
 export function showUsage(cluster) {

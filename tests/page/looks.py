@@ -246,9 +246,11 @@ def the_list_of_hosts_is_skipped(page):
     shown = page.browser.run("return document.querySelector('#goes tr[data-group]').dataset.group")
     left = tabs_to(page, lambda it: not it.get_attribute("data-group"))
     heard = page.browser.run("return document.querySelector('#goes [aria-live] p').textContent")
+    page.browser.click("#goes-close")
+    open_yet = page.browser.one("#impact").is_displayed() and page.browser.all("#goes")[0].is_displayed()
     return first(
         None if to_skip <= 3 else f"{to_skip} tabs to what skips the list", unlike(skipped, "drain", "the focus is on"), unlike(early, "", "a search drains:"), unlike((at, shown), (groups[1], groups[1])),
-        unlike(left, 1, "tabs out of the groups:"), None if heard.startswith(f"Group {groups[1]}: before osd.") else heard,
+        unlike(left, 1, "tabs out of the groups:"), unlike(open_yet, False, "after closing it, it is open:"), None if heard.startswith(f"Group {groups[1]}: before osd.") else heard,
     )
 
 

@@ -98,8 +98,8 @@ def a_drain_with_lost_replies_and_a_503(page):
 
 
 def a_copy_goes_with_its_page(page):
-    """The result of a drain is shown, and its copy with it; then the page is closed, and its address
-    is never opened again."""
+    """The result of a drain is shown, and its copy is kept; then the page is closed and not opened
+    again."""
     tenant = page.imported(example("three_hosts.txt"))
     page.pool(size=2, pg_num=16)
     page.browser.tab("Drain")
@@ -131,7 +131,9 @@ def a_drain_is_stopped(page):
     page.browser.has(DRAINED)
     page.faults()
     left = [it for it in page.copies if page.ask("GET", f"/t/{it}")[0] != 404]
-    return first(unlike(said, "Stopped."), unlike(len(page.browser.all("#usages")), 0, "usages:"), unlike(left, [], "copies are left:"), unlike(page.summary(tenant), summary))
+    page.browser.click("#all-groups button.group")
+    of_group = page.browser.text("#goes .fault")
+    return first(None if of_group.endswith("goes isn't known. Stopped.") else of_group, unlike(said, "Stopped."), unlike(len(page.browser.all("#usages")), 0, "usages:"), unlike(left, [], "copies are left:"), unlike(page.summary(tenant), summary))
 
 
 def a_copy_that_was_left_is_dropped(page):
