@@ -31,7 +31,7 @@ export const NOT_COMPUTED = new Set(["X2", "X3", "X4", "M13"]);
 
 // What a map with straw or straw2 buckets can still be used for.
 export const STRAW = {
-    why: "Nothing is wrong with this map: Ceph computes such buckets, and most clusters have them. crushcalc can't, so it has no answer on where the objects of this cluster lie.",
+    why: "Nothing is wrong with such a map: Ceph computes these buckets, and most clusters have them. crushcalc can't, so it has no answer on where the objects of its cluster lie.",
     copy: "You can try a copy of the text in which the buckets are lists. This command writes it:",
     command: "sed -E 's/^([[:space:]]*alg[[:space:]]+)straw2?/\\1list/' map.txt >lists.txt",
     good: "Good for: this page's steps, whether the rules find enough hosts or racks, and how evenly a pool spreads, since each device still gets its share by weight.",
@@ -40,7 +40,7 @@ export const STRAW = {
 };
 
 // What is said of a map that Ceph computes and crushcalc doesn't, where there is no more to say.
-export const NO_FAULT = "Nothing is wrong with this map: Ceph computes this, and crushcalc doesn't. What it says of a copy without it need not hold of the cluster.";
+export const NO_FAULT = "Nothing is wrong with such a map: Ceph computes this, and crushcalc doesn't. What it says of a copy without it need not hold of the cluster.";
 
 const REFUSALS = {
     bad_request: "a part of the request isn't of its form",

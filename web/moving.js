@@ -63,6 +63,7 @@ export function movingGroups(cluster, pool, lists, ready) {
     const submit = (event) => {
         event.preventDefault();
         if (wanted() !== undefined) goes.look(wanted());
+        else result.textContent = `Which one? Pool ${pool.name} has ${pool.pg_num} groups, from 0.`;
     };
     const chosen = (event) => {
         const it = event.target.closest("button.group");
@@ -84,7 +85,7 @@ async function bothOf(cluster, pool, group, { name, epochs }) {
     const of = (tenant, when) => ask(`Group ${idOf(pool, group)} ${when} the drain`, "GET", `/t/${tenant}/pools/${pool.id}/groups/${group}`);
     const both = await Promise.all([of(cluster.tenant, "before"), of(name, "after")]);
     for (const [place, it] of both.entries()) {
-        if (it.error === "no_tenant") throw new Unlike("The copy on which it was drained is gone: drain again.");
+        if (place === 1 && it.error === "no_tenant") throw new Unlike("The copy on which it was drained is gone: drain again.");
         if (it.status !== 200) throw new Unlike(meaning(it.status, it.error));
         if (it.epoch !== epochs[place]) throw new Unlike("The cluster was changed on the service since the drain: drain again.");
     }
@@ -113,13 +114,14 @@ function whereGroupsGo(cluster, pool, ready) {
     const heads = HEADS.map((it) => el("th", { scope: "col" }, it));
     const csvOfThem = () => csv(["group", "id", "old", "new"], [...rows].map(([group, { both: [old, now] }]) => [group, idOf(pool, group), written(old.up), written(now.up)]));
     const file = button("Save as CSV", () => save(`where-${cluster.tenant}-${pool.name}.csv`, csvOfThem()), { id: "goes-csv", hidden: true });
-    const card = el("div", { class: "card empty-yet", id: "goes" }, el("div", { class: "head" }, el("h2", {}, "Where a group goes"), el("div", { class: "buttons" }, file, button("Close", () => card.classList.add("empty-yet"), { id: "goes-close" }))),
-        el("div", { class: "box", tabindex: "0", role: "region", "aria-label": "Where a group goes" }, el("table", { class: "plain", "aria-label": "Groups before and after the drain" }, el("thead", {}, el("tr", {}, heads)), body)), said);
+    const box = el("div", { class: "box", tabindex: "0", role: "region", "aria-label": "Where a group goes" }, el("table", { class: "plain", "aria-label": "Groups before and after the drain" }, el("thead", {}, el("tr", {}, heads)), body));
+    const card = el("div", { class: "card empty-yet", id: "goes" }, el("div", { class: "head" }, el("h2", {}, "Where a group goes"), el("div", { class: "buttons" }, file, button("Close", () => card.classList.add("empty-yet"), { id: "goes-close" }))), box, said);
     body.append(empty);
     function show(group) {
         const { row, both: [old, now] } = rows.get(group);
         empty.remove();
         body.prepend(row);
+        box.scrollTop = 0;
         file.hidden = false;
         card.classList.remove("empty-yet");
         const names = (it) => it.up.map((id) => (id === null ? "none" : cluster.name(id))).join(", ") || "none";

@@ -86,8 +86,8 @@ function fullest(cluster, { before, after }) {
     if (!top) return null;
     const names = rows.slice(0, NAMED).map((it) => cluster.name(it.device)).join(", ") + (rows.length > NAMED ? " and more" : "");
     const was = before.rows.find((it) => it.device === rows[0].device);
-    const each = rows.length > 1 ? ` each, ${rows[0].permille} permille of all.` : `, ${rows[0].permille} permille of all. Before: ${was.entries}, ${was.permille} permille.`;
-    return el("p", { id: "fullest" }, "Most entries after the drain: ", el("strong", {}, names), ` with ${top}${each}`);
+    const each = rows.length > 1 ? " each." : `; before it ${was.entries} entries, ${was.permille} permille.`;
+    return el("p", { id: "fullest" }, "Most after the drain: ", el("strong", {}, names), ` with ${top} entries, ${rows[0].permille} permille of all${each}`);
 }
 
 function bothCsv(cluster, { before, after }) {

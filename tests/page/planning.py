@@ -9,11 +9,11 @@ from page import DRAINED, EXAMPLES, TOP, example, first, unlike
 from placed import Placed
 
 CLICKS = 3
-STRAW = "Nothing is wrong with this map: Ceph computes such buckets"
+STRAW = "Nothing is wrong with such a map: Ceph computes these buckets"
 NOT_COMPUTED = {"X2", "X3", "X4", "M13"}
 MARKUP = '<b>cat</b> & "dog"<img src=x onerror=alert(1)>.jpg'
 PAGE = (TOP / "docs" / "PLANNING.md").read_text()
-MAPS = (TOP / "docs" / "MAPS.md").read_text().split("\n## Codes\n")[1]
+STRAW_PAGE, MAPS = (TOP / "docs" / "MAPS.md").read_text().split("\n## Codes\n")
 
 
 def said_by(words):
@@ -88,11 +88,11 @@ def the_first_view_says_what_to_do(page):
     label, hint = (page.browser.text(it) for it in ("label[for=name]", "#name-hint"))
     note, whole = page.browser.text(".start .note"), page.browser.text("main")
     page.browser.click(".start .note summary")
-    more = page.browser.text(".start .note")
+    more, command = page.browser.text(".start .note"), page.browser.text(".start .note pre")
     tops = page.browser.run("return ['.start .note', '#name', '.drop', '#there'].map((it) => document.querySelector(it).getBoundingClientRect().top)")
     return first(
         unlike(label, "Cluster (tenant)"), None if "A name of your choice" in hint and "calls that a tenant" in hint else hint, None if "straw2" in note and "can't compute" in note else note,
-        unlike(whole.count("tenant"), 2, "'tenant' stands so often:"), None if STRAW in more else more, unlike(tops, sorted(tops), "the order is"),
+        unlike(whole.count("tenant"), 2, "'tenant' stands so often:"), None if STRAW in more else more, None if f"    {command}\n" in STRAW_PAGE else command, unlike(tops, sorted(tops), "the order is"),
     )
 
 
@@ -161,12 +161,14 @@ def devices_are_saved_as_csv(page):
     page.imported(example("cluster.txt"))
     page.drop("id,reweight,up\n4,32768,0\n", "states.csv", "1 devices")
     note = page.browser.text("#tree-search-hint")
+    page.browser.click(".drop summary")
+    command = page.browser.text(".drop pre")
     rows = [it.split(",") for it in page.saved("#devices-csv").splitlines()]
     tree, states = wanted_tree(example("cluster.txt")), {"osd.4": ["32768", "0"]}
     wanted = [[name[4:], name, path[-1], " ".join(reversed(path[:-1])), words[0], *states.get(name, ["65536", "1"])] for name, (path, words) in tree.items()]
     return first(
         unlike(rows[0], "id name bucket above weight reweight up".split()), unlike(sorted(rows[1:]), sorted(wanted)),
-        None if note.startswith("Classes of devices") else note,
+        None if note.startswith("Classes of devices") else note, None if f"    {command}\n" in PAGE else command,
     )
 
 
@@ -206,7 +208,7 @@ def every_code_is_shown_at_its_line(page):
         if not said[0][2].startswith(f"{code}: {meaning.removesuffix(' may have')}"):
             return f"{code} is said to be {said[0][2]!r}, not {meaning!r}"
         whole = page.browser.text(".refused")
-        if (code in NOT_COMPUTED) != ("Nothing is wrong with this map" in whole) or (code == "X2") != (STRAW in whole and "straw2?/\\1list/'" in whole) or "docs/" in whole:
+        if (code in NOT_COMPUTED) != ("Nothing is wrong with such a map" in whole) or (code == "X2") != (STRAW in whole and "straw2?/\\1list/'" in whole) or "docs/" in whole:
             return f"{code}: the page says {whole}"
     return unlike(len(codes), 22, "the codes are")
 
@@ -505,7 +507,7 @@ def before_and_after_are_one_bar(page):
     text = page.saved("#both-csv").splitlines()
     rows = [f"{it},osd.{it},{before[it][0]},{after[it][0]},{before[it][2]},{after[it][2]},{before[it][1]},{after[it][1]}" for it in range(6)]
     return first(
-        *whys, unlike(line, f"Most entries after the drain: osd.{most} with {after[most][0]}, {after[most][2]} permille of all. Before: {before[most][0]}, {before[most][2]} permille."),
+        *whys, unlike(line, f"Most after the drain: osd.{most} with {after[most][0]} entries, {after[most][2]} permille of all; before it {before[most][0]} entries, {before[most][2]} permille."),
         unlike(after[top][1], max(it[1] for it in after.values()), "the first of the most primaries has"), unlike(text, ["device,name,entries_before,entries_after,permille_before,permille_after,primaries_before,primaries_after", *rows]),
         unlike(page.summary(tenant)["epoch"], 2),
     )

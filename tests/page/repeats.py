@@ -115,6 +115,19 @@ def a_copy_goes_with_its_page(page):
     return unlike(there, 200, "the copy's status while it is shown:")
 
 
+def a_cluster_is_deleted_at_the_second_try(page):
+    """A 503 is shown and repeated, and no question lies over it."""
+    tenant = page.imported(example("three_hosts.txt"), port=through(page))
+    page.proxy.keeps = 1
+    page.browser.click("#remove")
+    page.browser.named("dialog button", "Delete it").click()
+    notice = page.browser.text(".notice")
+    there = page.ask("GET", f"/t/{tenant}")[0]
+    page.browser.named(".notice button", "Repeat").click()
+    page.browser.one("#name")
+    return first(None if "503 store_failed" in notice and f"Delete {tenant}" in notice else notice, unlike(there, 200, "its status before the repeat:"), unlike(page.ask("GET", f"/t/{tenant}")[0], 404, "its status:"))
+
+
 def a_drain_is_stopped(page):
     """While a request of the copy waits, the planner stops the drain: the copy is dropped."""
     tenant = page.imported(example("three_hosts.txt"), port=through(page))
@@ -155,4 +168,4 @@ def a_copy_that_was_left_is_dropped(page):
 
 
 def cases():
-    return (a_lost_reply_is_asked_for_again, a_reload_repeats_what_had_no_reply, a_503_is_shown_and_repeated, what_is_given_up_is_forgotten, a_drain_with_lost_replies_and_a_503, a_copy_goes_with_its_page, a_drain_is_stopped, a_copy_that_was_left_is_dropped)
+    return (a_lost_reply_is_asked_for_again, a_reload_repeats_what_had_no_reply, a_503_is_shown_and_repeated, what_is_given_up_is_forgotten, a_drain_with_lost_replies_and_a_503, a_copy_goes_with_its_page, a_cluster_is_deleted_at_the_second_try, a_drain_is_stopped, a_copy_that_was_left_is_dropped)
