@@ -449,6 +449,8 @@ def a_host_is_drained_on_a_copy(page):
     for word, said in (("15", "Group 15 (1.f) can move: it is in the list of osd.0."), ("1.B", "Group 11 (1.b) can't move: no list has it."), ("16", "Pool photos has no such group."), ("2.1", "Pool photos has no such group.")):
         page.browser.fill("#impact-search", word)
         page.browser.until(lambda: said in page.browser.text("#impact"), f"no {said!r}")
+    page.browser.press(page.browser.named("#impact button", "Where does it go?"))
+    page.browser.until(lambda: "Which one? Pool photos has 16 groups, from 0." in page.browser.text("#impact"), "a group of another pool is looked up")
     return first(
         clicks, unlike(lists_of_impact(page), {it: before.impact(it) for it in (0, 1)}), unlike(found, {it: (before.usage()[it][0], after.usage()[it][0]) for it in range(6)}),
         unlike(page.saved("#drained-csv"), said_by("tee drained.csv")), unlike(page.ask("GET", f"/t/{tenant}/pools/1/usage"), usage), no_copy_is_left(page, tenant, summary),
