@@ -412,8 +412,10 @@ def empty_places_of_an_erasure_pool(page):
 
 def lists_of_impact(page):
     """Of each device the groups that its list shows, once it is opened."""
-    for it in page.browser.all("[data-impact]:not([open]) summary"):
-        page.browser.press(it)
+    for it in page.browser.all("[data-impact]"):
+        if not it.get_attribute("open"):
+            page.browser.press(it.find_element("css selector", "summary"))
+        page.browser.has(f"[data-impact='{it.get_attribute('data-impact')}'] :is(button.group, p.hint)")
     return {int(device): list(map(int, groups)) for device, groups in page.browser.run(
         "return [...document.querySelectorAll('[data-impact]')].map((it) => [it.dataset.impact, [...it.querySelectorAll('button.group')].map((one) => one.dataset.group)])")}
 
