@@ -2,10 +2,15 @@
 // written beside a bar is the service's.
 import { cut, el } from "./dom.js";
 
-const ROWS = 100, HOSTS = 24, DEVICES = 48, HEIGHT = 26, LONG_NAME = 14, SPOKEN = 12;
+const ROWS = 100, HOSTS = 24, DEVICES = 48, HEIGHT = 26, LONG_NAME = 8, SPOKEN = 12;
 
-function percent(most, least = 0) {
-    const scale = d3.scale.linear().domain([least, Math.max(most, least + 1)]).range([0, 100]);
+// Where a value lies on a bar from the least to the greatest, in hundredths of the bar.
+function scaled(top, least = 0) {
+    return d3.scale.linear().domain([least, Math.max(top, least + 1)]).range([0, 100]);
+}
+
+function percent(top, least = 0) {
+    const scale = scaled(top, least);
     return (value) => `${scale(value)}%`;
 }
 
@@ -46,9 +51,9 @@ function cards(into, hosts, heads, row, badge = () => null) {
         const host = hosts[place], body = el("tbody");
         const above = [host.type, host.path && `in ${host.path}`].filter(Boolean).join(" ");
         const foot = cut(body, host.devices.length, (it) => row(host.devices[it], host), DEVICES);
-        const first = host.devices.some((it) => it.name.length > LONG_NAME) ? "device long" : "device";
+        const long = host.devices.some((it) => it.name.length > LONG_NAME), first = long ? "device long" : "device";
         const head = el("tr", {}, heads.map(([text, kind]) => el("th", { scope: "col", class: kind === "device" ? first : kind }, text)));
-        return el("div", { class: "card" }, el("table", {}, el("caption", {}, host.name, el("span", {}, above), badge(host)), el("thead", {}, head), body), foot);
+        return el("div", { class: "card" }, el("table", { class: long && "long" }, el("caption", {}, host.name, el("span", {}, above), badge(host)), el("thead", {}, head), body), foot);
     }, Math.min(HOSTS, Math.ceil(ROWS / longest)));
 }
 
@@ -62,8 +67,8 @@ function number(value) {
 
 // Usage by device: the row of each device, and where its even share lies.
 export function usageCards(into, hosts, rows, even) {
-    const at = percent(Math.max(d3.max([...rows.values()], (it) => it.entries) ?? 0, d3.max([...even.values()]) ?? 0));
-    return cards(into, hosts, [["device", "device"], ["", "wide"], ["entries", "number"], ["‰", "number"]], (device) => {
+    const at = percent(most(rows.values(), "entries", even));
+    return cards(into, hosts, [["device", "device"], ["", "wide"], ["entries", "number"], ["permille", "number"]], (device) => {
         const it = rows.get(device.id), cell = el("td", { class: "wide" }), svg = bar(cell);
         block(svg, "used", 0, at(it.entries));
         if (even.has(device.id)) upright(svg, "even", at(even.get(device.id)));
@@ -71,24 +76,33 @@ export function usageCards(into, hosts, rows, even) {
     });
 }
 
-// Usage before and after: two bars for each device.
-export function drainCards(into, hosts, before, after, drained) {
-    const at = percent(d3.max([...before.values(), ...after.values()], (it) => it.entries) ?? 0);
-    return cards(into, hosts, [["device", "device"], ["", "wide"], ["before", "number"], ["after", "number"]], (device) => {
-        const cell = el("td", { class: "wide" }), svg = bar(cell), [old, now] = [before.get(device.id), after.get(device.id)];
-        block(svg, "before", 0, at(old.entries), 4, 7);
-        block(svg, "used", 0, at(now.entries), 12, 10);
+// The greatest number of a unit in these rows, or the greatest even share.
+function most(rows, unit, even) {
+    return Math.max(d3.max([...rows], (it) => it[unit]) ?? 0, d3.max([...even.values()]) ?? 0);
+}
+
+// Usage before and after in one bar: what is there both times, what is more afterwards, and what is
+// less; and the even share of before and of after.
+export function drainCards(into, hosts, { before, after, evens, unit, drained }) {
+    const at = scaled(Math.max(most(before.values(), unit, evens.before), most(after.values(), unit, evens.after)));
+    return cards(into, hosts, [["device", "device"], ["", "wide"], [`${unit} before`, "number"], [`${unit} after`, "number"]], (device) => {
+        const cell = el("td", { class: "wide" }), svg = bar(cell), [old, now] = [before.get(device.id)[unit], after.get(device.id)[unit]];
+        const between = (kind, from, to) => to > from && block(svg, kind, `${at(from)}%`, `${at(to) - at(from)}%`);
+        between("used", 0, Math.min(old, now));
+        between("gain", old, now);
+        between("less", now, old);
+        for (const [kind, even] of [["even-before", evens.before], ["even", evens.after]]) if (even.has(device.id)) upright(svg, kind, `${at(even.get(device.id))}%`);
         const name = drained.has(device.id) ? el("del", {}, device.name, el("span", { class: "sr" }, ", drained")) : device.name;
-        return el("tr", { "data-device": device.id }, named(device, name), cell, number(old.entries), number(now.entries));
-    }, (host) => host.devices.some((it) => drained.has(it.id)) && el("span", { class: "badge out" }, host.devices.every((it) => drained.has(it.id)) ? "drained" : "drained in part"));
+        return el("tr", { "data-device": device.id }, named(device, name), cell, number(old), number(now));
+    }, (host) => !host.ordered && host.devices.some((it) => drained.has(it.id)) && el("span", { class: "badge out" }, host.devices.every((it) => drained.has(it.id)) ? "drained" : "drained in part"));
 }
 
 // What each device gains, to the right, and loses, to the left: each bar is as long as the list of
 // its rows in the groups. A device leads to that list.
 export function changeCards(into, hosts, lists, groups, choose) {
-    const most = (kind) => d3.max([...lists.values()], (it) => it[kind].length) ?? 0;
-    const least = -most("losses"), at = percent(most("gains"), least);
-    const from = d3.scale.linear().domain([least, Math.max(most("gains"), least + 1)]).range([0, 100]);
+    const longest = (kind) => d3.max([...lists.values()], (it) => it[kind].length) ?? 0;
+    const least = -longest("losses"), at = percent(longest("gains"), least);
+    const from = scaled(longest("gains"), least);
     const width = (count) => `${from(count) - from(0)}%`;
     return cards(into, hosts, [["device", "device"], ["loses | gains", "wide middle"]], (device) => {
         const it = lists.get(device.id) ?? { gains: [], losses: [] }, cell = el("td", { class: "wide" }), svg = bar(cell);

@@ -3,8 +3,8 @@
 
 export const FAULTS = {
     X1: "a word that can't stand there, a byte that no word has, or a text that ends too early. Look at this line, and at the word before it.",
-    X2: "alg straw or alg straw2. Placements of such buckets aren't computed; docs/MAPS.md says what a copy with list buckets can still show.",
-    X3: "a class in a take step. The trees that Ceph derives for each class aren't computed; take the bucket itself, or a bucket that has only the devices of that class.",
+    X2: "alg straw or alg straw2. Placements of such buckets aren't computed.",
+    X3: "a class in a take step. The trees that Ceph derives for each class aren't computed; in a copy, take the bucket itself, or a bucket that has only the devices of that class.",
     X4: "choose_args, the weight sets of a balancer. They aren't computed; leave them out of a copy.",
     X5: "a pos that isn't below the number of the bucket's items, or that an earlier item of the bucket has.",
     X6: "a word that is no weight where one is expected: it isn't of the form of a weight, or is 65536 or more. Where the weight was left out after weight, the line is that of the next word.",
@@ -26,25 +26,41 @@ export const FAULTS = {
     M15: "a name of more than 64 bytes, or a type named tunable, device, type, rule, choose_args or class.",
 };
 
+// The codes of what Ceph computes and crushcalc doesn't: such a map isn't wrong.
+export const NOT_COMPUTED = new Set(["X2", "X3", "X4", "M13"]);
+
+// What a map with straw or straw2 buckets can still be used for.
+export const STRAW = {
+    why: "Nothing is wrong with such a map: Ceph computes these buckets, and most clusters have them. crushcalc can't, so it has no answer on where the objects of its cluster lie.",
+    copy: "You can try a copy of the text in which the buckets are lists. This command writes it:",
+    command: "sed -E 's/^([[:space:]]*alg[[:space:]]+)straw2?/\\1list/' map.txt >lists.txt",
+    good: "Good for: this page's steps, whether the rules find enough hosts or racks, and how evenly a pool spreads, since each device still gets its share by weight.",
+    bad: "Not good for: which groups lie where or move, and how much moves. Nearly every object lies elsewhere in the copy than in the cluster, and a change of weights or of hosts moves other amounts in lists.",
+    never: "Never load the copy into a cluster: nearly all of its data would move.",
+};
+
+// What is said of a map that Ceph computes and crushcalc doesn't, where there is no more to say.
+export const NO_FAULT = "Nothing is wrong with such a map: Ceph computes this, and crushcalc doesn't. What it says of a copy without it need not hold of the cluster.";
+
 const REFUSALS = {
     bad_request: "a part of the request isn't of its form",
-    no_tenant: "there is no tenant of this name (it may have been dropped)",
+    no_tenant: "the service has no cluster (tenant) of this name; it may have been deleted",
     no_version: "there is no such version of the map",
     no_device: "the newest version of the map has no such device",
     no_pool: "there is no pool of this id",
     no_rule: "the map has no such rule",
     no_group: "the pool has no such group",
     exists: "it is there already",
-    tenant_limit: "the tenant has no room for more of these",
-    rule_in_use: "the map lacks the rule of one of the tenant's pools",
+    tenant_limit: "the service keeps no more of these for one cluster (tenant)",
+    rule_in_use: "the map lacks the rule of one of the cluster's pools",
     request_reused: "another request had this number",
-    store_damaged: "the service's file has damaged rows of this tenant",
+    store_damaged: "the service's file has damaged rows of this cluster (tenant)",
 };
 
 const STATUSES = {
     0: "no reply came: the connection failed. The request may be done",
     401: "the web server wants a user and a password",
-    403: "the web server has no users for this tenant, or not this one",
+    403: "the web server has no users for this cluster (tenant), or not this one",
     413: "the request is longer than the service takes",
     502: "the service doesn't answer the web server. The request may be done",
     504: "the service took too long for the web server. The request may be done",

@@ -1,12 +1,13 @@
 // A copy of a tenant, made for one look and dropped afterwards, so that the planner's own tenant
-// isn't changed. A copy that a closed or reloaded page left behind is dropped when a page is
-// opened.
+// isn't changed. A copy that is in use when the page is closed or reloaded is dropped then, and
+// when a page is opened again if that wasn't answered.
 import { ask, change, forget, hex, kept } from "./service.js";
 import { meaning } from "./codes.js";
 
 const COPY = "crushcalc.copy.";
 const CHANGES = 1024;
 export const LONGEST = 46;
+const inUse = new Set();
 
 export class Unlike extends Error {}
 
@@ -36,25 +37,45 @@ export async function dropLeft() {
 }
 
 // Makes a copy of the tenant's newest map, the known states of its devices and a pool, and lets
-// `act` work with it, by its name.
-export function withCopy({ tenant, text, states, pool }, step, act) {
+// `act` work with it, by its name. Gives what `act` gives, and keeps the copy until `gone` is
+// settled; where `act` fails the copy is dropped first.
+export function withCopy({ tenant, text, states, pool }, step, act, gone) {
     const name = `${tenant}.copy-${hex(6)}`;
-    return holding(name, async () => {
-        localStorage.setItem(COPY + name, "1");
-        try {
-            step("Making a copy of the tenant");
-            const there = await ask(`Make the copy ${name}`, "PUT", `/t/${name}`);
-            if (there.error !== "exists") good(there, "The copy");
-            const set = (what, route, fields) => change(what, name, route, fields, { copy: true }).then((it) => good(it, what));
-            await set("Import the map into the copy", "maps", { text });
-            for (const part of parts(states)) await set("Set states of devices in the copy", "devices", { devices: part });
-            await set("Make the pool in the copy", "pools", pool);
-            return await act(name, set);
-        } finally {
-            step("Dropping the copy");
-            await drop(name);
-        }
+    async function made() {
+        step("Making a copy of the cluster");
+        const there = await ask(`Make the copy ${name}`, "PUT", `/t/${name}`);
+        if (there.error !== "exists") good(there, "The copy");
+        const set = (what, route, fields) => change(what, name, route, fields, { copy: true }).then((it) => good(it, what));
+        await set("Import the map into the copy", "maps", { text });
+        for (const part of parts(states)) await set("Set states of devices in the copy", "devices", { devices: part });
+        await set("Make the pool in the copy", "pools", pool);
+        return act(name, set);
+    }
+    return new Promise((done, failed) => {
+        holding(name, async () => {
+            localStorage.setItem(COPY + name, "1");
+            inUse.add(name);
+            let fault = null;
+            try {
+                done(await made());
+                await gone;
+            } catch (why) {
+                fault = why;
+                step("Dropping the copy");
+            }
+            try {
+                await drop(name);
+            } finally {
+                inUse.delete(name);
+            }
+            if (fault) failed(fault);
+        }).catch(failed);
     });
+}
+
+// Drops what is in use when the page goes, without waiting for an answer.
+export function leave() {
+    for (const name of inUse) fetch(`/t/${name}`, { method: "DELETE", keepalive: true, redirect: "error" }).catch(() => {});
 }
 
 export function parts(all) {

@@ -1,6 +1,8 @@
 // Elements of the page. Text enters as text nodes only, so that no name and no map is ever taken
 // for markup.
 
+const SLICE = 8192;
+
 export function el(tag, fields, ...children) {
     const made = document.createElement(tag);
     for (const [name, value] of Object.entries(fields ?? {})) {
@@ -42,6 +44,17 @@ export function options(select, pairs, chosen) {
 
 let clearing = 0;
 
+// Buttons of which Tab reaches one and the arrows the others: for a list of many.
+export function roving(event) {
+    const step = { ArrowRight: 1, ArrowDown: 1, ArrowLeft: -1, ArrowUp: -1 }[event.key];
+    const from = event.target.closest("[role=toolbar] button"), to = step > 0 ? from?.nextElementSibling : step < 0 ? from?.previousElementSibling : null;
+    if (!to) return;
+    event.preventDefault();
+    from.tabIndex = -1;
+    to.tabIndex = 0;
+    to.focus();
+}
+
 // What goes on, for those who hear the page and those who see it.
 export function say(text) {
     clearTimeout(clearing);
@@ -56,6 +69,11 @@ export function sayDone(text) {
 
 export function fault(...text) {
     return el("p", { class: "fault", role: "alert" }, ...text);
+}
+
+// The caption of a list, with how long that list is.
+export function counted(text, list) {
+    return `${text} (${list.length.toLocaleString("en")})`;
 }
 
 // Acts once nothing was typed for a moment.
@@ -86,6 +104,21 @@ export function cut(into, count, make, step = 100) {
     into.replaceChildren();
     more();
     return foot;
+}
+
+// Lines of a CSV, of lists of fields; none of the page's fields needs quotes.
+export function csv(heads, rows) {
+    return [heads, ...rows].map((it) => `${it.join(",")}\n`).join("");
+}
+
+// The same of many rows, some thousands at a time, so that the page never waits for them.
+export async function longCsv(heads, count, row) {
+    const lines = [csv(heads, [])];
+    for (let first = 0; first < count; first += SLICE) {
+        for (let it = first; it < Math.min(first + SLICE, count); it += 1) lines.push(`${row(it).join(",")}\n`);
+        await pause();
+    }
+    return lines.join("");
 }
 
 // A file for the planner, made of text.

@@ -4,8 +4,8 @@ import { meaning } from "./codes.js";
 import { button, el, fault, fresh, labelled, say, sayDone } from "./dom.js";
 import { forgetTenant, known, learn, note, tenants } from "./known.js";
 import { readMap } from "./map.js";
-import { dropLeft } from "./copies.js";
-import { dropBox, showMap, takeFile } from "./view_map.js";
+import { LONGEST, dropLeft, leave } from "./copies.js";
+import { aboutStraw, dropBox, showMap, takeFile } from "./view_map.js";
 import { showPools } from "./view_pools.js";
 import { showUsage } from "./view_usage.js";
 import { showCompare } from "./view_compare.js";
@@ -55,9 +55,12 @@ async function openTenant(name) {
     cluster = it;
 }
 
+class Taken extends Error {}
+
 async function makeTenant(name) {
     const reply = await ask(`Make ${name}`, "PUT", `/t/${name}`);
-    if (reply.status !== 201) throw new Error(reply.error === "exists" ? `There is a tenant ${name} already: open it, or take another name.` : `${name}: ${meaning(reply.status, reply.error)}`);
+    if (reply.error === "exists") throw new Taken(`There is a cluster ${name} already. Take another name, or add this map to that one: `);
+    if (reply.status !== 201) throw new Error(`${name}: ${meaning(reply.status, reply.error)}`);
     note(name, {});
 }
 
@@ -70,20 +73,24 @@ function place() {
 
 function tabs({ tenant, view }) {
     at("tabs").replaceChildren(...(tenant ? Object.entries(VIEWS).map(([it, text]) => el("a", { href: `#/${tenant}/${it}`, "aria-current": it === view && "page" }, text)) : []));
-    at("tenant").replaceChildren(...(tenant ? [el("span", {}, "Tenant "), el("strong", {}, tenant), el("a", { href: "#/" }, "Change")] : []));
+    at("tenant").replaceChildren(...(tenant ? [el("span", {}, "Cluster "), el("strong", {}, tenant), el("a", { href: "#/", "aria-label": "Change the cluster" }, "Change")] : []));
     document.title = tenant ? `${VIEWS[view]} of ${tenant}: crushcalc` : "crushcalc";
 }
 
 function put(section, focus) {
+    for (const it of at("main").children) it.dispatchEvent(new Event("left"));
     at("main").replaceChildren(section);
     if (focus) section.querySelector("h1").focus({ preventScroll: true });
 }
 
+// Shows the view as the service has it now. `said` is what came of the planner's last step, which
+// then has the focus.
 async function refresh(said) {
     const { tenant, view } = place();
     await openTenant(tenant);
-    const shows = { map: () => showMap(cluster, said, take), pools: () => showPools(cluster, refresh), usage: () => showUsage(cluster), compare: () => showCompare(cluster), drain: () => showDrain(cluster), object: () => showObject(cluster) };
+    const shows = { map: () => showMap(cluster, said, take), pools: () => showPools(cluster, said, refresh), usage: () => showUsage(cluster), compare: () => showCompare(cluster), drain: () => showDrain(cluster), object: () => showObject(cluster) };
     put(shows[view](), false);
+    if (said) at("said")?.focus();
 }
 
 async function show(focus = true) {
@@ -95,8 +102,9 @@ async function show(focus = true) {
         await refresh();
         if (focus) at("main").querySelector("h1").focus({ preventScroll: true });
     } catch (why) {
+        history.replaceState(null, "", "#/");
         put(start(fault(why.message)), focus);
-        tabs({ tenant: "" });
+        tabs(place());
     }
     return undefined;
 }
@@ -106,26 +114,31 @@ function isName(field) {
     return field.reportValidity();
 }
 
+// A name that no tenant has that was open here.
+function freeName() {
+    const taken = new Set(tenants()), names = ["plan", ...Array.from(taken, (_, it) => `plan-${it + 2}`)];
+    return names.find((it) => !taken.has(it));
+}
+
 function start(said) {
-    const name = el("input", { id: "name", value: tenants().length ? "" : "plan", maxlength: 64, autocomplete: "off", on: { input: () => name.setCustomValidity("") } });
-    const outcome = el("div", { id: "said" }, said);
-    const go = (act) => async (event) => {
-        event?.preventDefault();
-        try {
-            if (!isName(name)) return;
-            await act(name.value);
-            location.hash = `#/${name.value}/map`;
-        } catch (why) {
-            outcome.replaceChildren(fault(why.message));
-        }
+    const valid = { input: (event) => event.target.setCustomValidity("") };
+    const name = el("input", { id: "name", value: freeName(), maxlength: LONGEST, autocomplete: "off", on: valid }), there = el("input", { id: "there", maxlength: 64, autocomplete: "off", on: valid });
+    const outcome = el("div", { id: "said", tabindex: "-1" }, said);
+    const open = (event) => {
+        event.preventDefault();
+        if (isName(there)) location.hash = `#/${there.value}/map`;
     };
-    const others = tenants().length > 0 && el("div", { class: "card" }, el("h2", {}, "Tenants that were open here"), el("ul", { class: "tenants" }, tenants().map((it) => el("li", {}, el("a", { href: `#/${it}/map` }, it)))));
+    const links = tenants().length > 0 && [el("p", {}, "Open here before:"), el("ul", { class: "tenants" }, tenants().map((it) => el("li", {}, el("a", { href: `#/${it}/map` }, it))))];
     return el("section", { class: "start" }, el("h1", { tabindex: "-1" }, "Plan a cluster on paper"),
         el("p", { class: "lead" }, "Which devices are full, what a new host moves, what a drain touches: computed from the text of a CRUSH map, without touching the cluster."),
-        el("form", { class: "card form", "aria-label": "A tenant", on: { submit: go(makeTenant) } },
-            labelled("Tenant", name, "A name of your choice, under which the service keeps the map, its versions and its pools."),
-            el("div", { class: "buttons" }, el("button", { class: "main" }, "Make it"), button("Open it", go(openTenant)))),
-        outcome, dropBox((file) => take(file, name), el("p", { class: "hint" }, "Its map goes into a new tenant of the name above.")), others);
+        el("div", { class: "note" }, el("p", {}, "Look first for ", el("code", {}, "alg straw2"), " in your map's text: most clusters have it, and crushcalc can't compute such buckets."),
+            el("details", {}, el("summary", {}, "What can be done with such a map"), aboutStraw())),
+        outcome,
+        el("div", { class: "card", role: "group", "aria-labelledby": "new" }, el("h2", { id: "new" }, "Begin with the map of a cluster"),
+            labelled("Cluster (tenant)", name, "A name of your choice. Under it the service keeps this cluster's maps, pools and device states, apart from all others; it calls that a tenant."),
+            dropBox((file) => take(file, name)), el("p", { class: "hint" }, "Then you fill in its pools, and see usage, moves and drains.")),
+        el("form", { class: "card form", "aria-label": "A cluster that is there", on: { submit: open } }, el("h2", {}, "Or go on with one that is there"), links,
+            labelled("Its name", there), el("button", {}, "Open it")));
 }
 
 // A file that was dropped or chosen: into the open tenant, or into a new one.
@@ -143,7 +156,9 @@ async function take(file, name) {
         await refresh(said);
     } catch (why) {
         if (why instanceof GivenUp) return;
-        (at("said") ?? at("main")).replaceChildren(fault(why.message));
+        const into = at("said") ?? at("main");
+        into.replaceChildren(fault(why.message, why instanceof Taken && el("a", { href: `#/${name.value}/map` }, `open ${name.value}`)));
+        into.focus();
     }
 }
 
@@ -184,6 +199,11 @@ async function begin() {
 }
 
 connect(decide, learn);
+document.querySelector(".skip").addEventListener("click", (event) => {
+    event.preventDefault();
+    at("main").focus();
+});
+window.addEventListener("pagehide", leave);
 window.addEventListener("hashchange", () => show());
 window.addEventListener("unhandledrejection", (event) => {
     if (event.reason instanceof NotKept) at("notices").append(fault(event.reason.message));

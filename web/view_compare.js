@@ -1,32 +1,21 @@
 // Two versions compared: which groups move, and what each device gains and loses.
 import { askLong, read } from "./service.js";
 import { meaning } from "./codes.js";
-import { button, cut, el, fault, labelled, later, options, pause, save, say } from "./dom.js";
+import { button, counted, cut, el, fault, labelled, later, longCsv, options, pause, save, say } from "./dom.js";
+import { devicesCell, idOf, written } from "./groups.js";
 import { readLong } from "./reading.js";
 import { changeCards, found } from "./charts.js";
 import { legend } from "./view_usage.js";
 import { missing, poolOf, poolPicker } from "./view_pools.js";
 
-const SLICE = 8192, LINES = 50;
+const LINES = 50;
 
 function listOf({ starts, items }, place) {
     return items.subarray(starts[place], starts[place + 1]);
 }
 
-function written(list) {
-    return [...list].map((it) => (it === -1 ? "-" : it)).join(" ");
-}
-
-// The rows as CSV, some thousands at a time.
-async function csvOf(report) {
-    const lines = ["group,gained,old,new\n"];
-    for (let first = 0; first < report.groups.length; first += SLICE) {
-        for (let it = first; it < Math.min(first + SLICE, report.groups.length); it += 1) {
-            lines.push(`${report.groups[it]},${report.gainedBy[it]},${written(listOf(report.old, it))},${written(listOf(report.next, it))}\n`);
-        }
-        await pause();
-    }
-    return lines.join("");
+function csvOf(report) {
+    return longCsv(["group", "gained", "old", "new"], report.groups.length, (it) => [report.groups[it], report.gainedBy[it], written(listOf(report.old, it)), written(listOf(report.next, it))]);
 }
 
 // The groups that each device gains and loses, as their rows.
@@ -34,13 +23,9 @@ function changesOf({ changes }) {
     return new Map(Array.from(changes.devices, (id, place) => [id, { gains: listOf(changes.gains, place), losses: listOf(changes.losses, place) }]));
 }
 
-function devicesLine(cluster, list, other, kind) {
-    const name = (id) => cluster.name(id);
-    return el("td", {}, Array.from(list, (id, place) => [place ? " " : "", id === -1 ? "none" : other.includes(id) ? el("span", {}, name(id)) : el(kind, {}, name(id))]).flat());
-}
-
-// The rows in which the word is a device that joins or leaves, or begins the group's number.
-function rowsOf(cluster, report, changes, word) {
+// The rows in which the word is a device that joins or leaves, or begins the group's number or the
+// id that Ceph writes.
+function rowsOf(cluster, pool, report, changes, word) {
     const device = cluster.deviceOf(word);
     if (device !== undefined) {
         const { gains, losses } = changes.get(device) ?? { gains: [], losses: [] };
@@ -48,24 +33,26 @@ function rowsOf(cluster, report, changes, word) {
     }
     const rows = new Int32Array(report.groups.length);
     for (let it = 0; it < rows.length; it += 1) rows[it] = it;
-    return word ? rows.filter((it) => String(report.groups[it]).startsWith(word)) : rows;
+    const text = (group) => (word.includes(".") ? idOf(pool, group) : String(group));
+    return word ? rows.filter((it) => text(report.groups[it]).startsWith(word)) : rows;
 }
 
-function groupList(cluster, report, changes) {
-    const body = el("tbody"), foot = el("div"), search = el("input", { type: "search", id: "group-search" });
+function groupList(cluster, pool, report, changes) {
+    const body = el("tbody"), foot = el("div"), search = el("input", { type: "search", id: "group-search" }), title = el("h2");
     function draw() {
-        const rows = rowsOf(cluster, report, changes, search.value.trim());
+        const word = search.value.trim(), rows = rowsOf(cluster, pool, report, changes, word);
+        title.replaceChildren(counted(`Groups that move${word && `, of ${word}`}`, rows));
         foot.replaceChildren(cut(body, rows.length, (place) => {
-            const row = rows[place], [old, next] = [listOf(report.old, row), listOf(report.next, row)];
-            return el("tr", { "data-group": report.groups[row] }, el("th", { scope: "row", class: "number" }, report.groups[row]),
-                devicesLine(cluster, old, next, "del"), devicesLine(cluster, next, old, "ins"));
+            const row = rows[place], group = report.groups[row], [old, next] = [listOf(report.old, row), listOf(report.next, row)];
+            return el("tr", { "data-group": group }, el("th", { scope: "row", class: "number" }, group), el("td", {}, idOf(pool, group)),
+                devicesCell(cluster, old, next, "del"), devicesCell(cluster, next, old, "ins"));
         }, LINES));
         if (!rows.length) foot.replaceChildren(el("p", { class: "empty" }, "No group that moves has this."));
     }
     search.addEventListener("input", draw);
     draw();
-    const heads = el("tr", {}, ["group", `on version ${report.from}`, `on version ${report.to}`].map((it) => el("th", { scope: "col" }, it)));
-    const list = el("div", { class: "card", id: "groups" }, el("h2", {}, "Groups that move"), labelled("Find a group or device", search, "A group's number, or the name of a device that it joins or leaves."),
+    const heads = el("tr", {}, ["group", "in Ceph", `on version ${report.from}`, `on version ${report.to}`].map((it) => el("th", { scope: "col" }, it)));
+    const list = el("div", { class: "card", id: "groups" }, title, labelled("Find a group or device", search, `A group's number or its id in Ceph (as ${idOf(pool, 28)}), or the name of a device that it joins or leaves.`),
         el("table", { class: "plain" }, el("thead", {}, heads), body), foot);
     const choose = (device) => {
         search.value = device.name;
@@ -96,11 +83,11 @@ function figures(report) {
 }
 
 // Puts the figures, the bars and the list there one after the other, so that none waits for all.
-async function fill(at, cluster, report, save) {
+async function fill(at, cluster, pool, report, save) {
     at.replaceChildren(save, figures(report));
     if (!report.groups.length) return at.append(el("p", { class: "done" }, "No group moves: each lies as before."));
     await pause();
-    const changes = changesOf(report), [list, choose] = groupList(cluster, report, changes), both = el("div", { class: "split wide-left" }, list);
+    const changes = changesOf(report), [list, choose] = groupList(cluster, pool, report, changes), both = el("div", { class: "split wide-left" }, list);
     at.append(both);
     await pause();
     return both.prepend(deviceChart(cluster, report, changes, choose));
@@ -127,7 +114,7 @@ export function showCompare(cluster) {
         }
         const report = await readLong("moves", bytes);
         say("");
-        return fill(at, cluster, report, button("Save as CSV", async () => save(`moves-${cluster.tenant}-${pool.name}.csv`, await csvOf(report)), { id: "moves-csv", class: "right" }));
+        return fill(at, cluster, pool, report, button("Save as CSV", async () => save(`moves-${cluster.tenant}-${pool.name}.csv`, await csvOf(report)), { id: "moves-csv", class: "right" }));
     }
     for (const it of [from, to]) it.addEventListener("change", load);
     section.append(el("div", { class: "controls" }, poolPicker(cluster, load), labelled("From version", from), labelled("To version", to)),

@@ -1,11 +1,14 @@
 // The map: a text that is dropped and imported, or its first fault; the tree with weights and
 // states.
 import { ask, change } from "./service.js";
-import { FAULTS, meaning } from "./codes.js";
-import { cut, el, fault, labelled, options, say, sayDone } from "./dom.js";
+import { FAULTS, NOT_COMPUTED, NO_FAULT, STRAW, meaning } from "./codes.js";
+import { button, csv, cut, el, fault, labelled, options, save, say, sayDone } from "./dom.js";
+import { removal } from "./removing.js";
 import { pathOf, readMap } from "./map.js";
 
 const AROUND = 8, LONGEST_FILE = 1048576, LONGEST_LINE = 300;
+// writes the states of a cluster's devices as the service takes them
+const STATES = 'ceph osd dump -f json | jq -r \'"id,reweight,up", (.osds[] | "\\(.osd),\\(.weight * 65536 | round),\\(.up)")\' >states.csv';
 const WHOLE = { reweight: 65536, up: true };
 
 // The place where a file is dropped, or chosen.
@@ -14,7 +17,12 @@ export function dropBox(take, more) {
     return el("div", { class: "drop" },
         el("p", { class: "large" }, "Drop a map text here"),
         el("p", {}, el("span", { class: "choose" }, input, el("label", { for: "file" }, "or choose a file"))),
-        el("p", { class: "hint" }, "As crushtool -d writes it, with list, tree and uniform buckets. Most clusters have straw2 buckets: their maps are refused. A CSV of device states (id,reweight,up) is taken here too."), more);
+        el("p", { class: "hint" }, "As ", el("code", {}, "ceph osd getcrushmap -o map.bin && crushtool -d map.bin -o map.txt"), " writes it, with list, tree and uniform buckets."), more);
+}
+
+// What holds of a map with straw or straw2 buckets.
+export function aboutStraw() {
+    return [el("p", {}, STRAW.why), el("p", {}, STRAW.copy), el("pre", {}, el("code", {}, STRAW.command)), el("p", {}, STRAW.good), el("p", {}, STRAW.bad), el("p", {}, el("strong", {}, STRAW.never))];
 }
 
 // The text of a file as it is, its byte order mark too.
@@ -38,8 +46,8 @@ export async function takeFile(cluster, file) {
     return reply.error === "map_refused" ? faultOf(file.name, text, reply) : fault(`${file.name} isn't imported. `, meaning(reply.status, reply.error));
 }
 
-async function takeStates(cluster, name, csv) {
-    const reply = await change(`Set the states of ${name}`, cluster.tenant, "devices/csv", { csv }, {});
+async function takeStates(cluster, name, text) {
+    const reply = await change(`Set the states of ${name}`, cluster.tenant, "devices/csv", { csv: text }, {});
     say("");
     if (reply.status !== 200) return fault(`The states of ${name} aren't set. `, meaning(reply.status, reply.error));
     return el("p", { class: "done" }, `The states of ${name} are set: ${reply.devices} devices.`);
@@ -58,7 +66,9 @@ function faultOf(name, text, { fault: code, line }) {
             shown.append(el("li", { value: at, class: "here", "aria-current": "true" }, words, el("p", { class: "meaning" }, el("strong", {}, code), `: ${FAULTS[code] ?? "a code that this page doesn't know."}`)));
         }
     }
-    return el("div", { class: "card refused", role: "alert" }, el("h3", {}, `${name} isn't imported: line ${line}, code ${code}`), shown);
+    const title = NOT_COMPUTED.has(code) ? `crushcalc can't compute ${name}` : `${name} isn't imported`;
+    const more = code === "X2" ? aboutStraw() : NOT_COMPUTED.has(code) ? el("p", {}, NO_FAULT) : null;
+    return el("div", { class: "card refused", role: "alert" }, el("h3", {}, `${title}: line ${line}, code ${code}`), more, shown);
 }
 
 function stateOf(states, device) {
@@ -118,7 +128,17 @@ function tree(cluster, map) {
     }
     const input = el("input", { type: "search", id: "tree-search", on: { input: search } });
     whole();
-    return el("div", { class: "card" }, labelled("Find a bucket or device", input), list, foot);
+    return el("div", { class: "card" }, labelled("Find a bucket or device", input, "Classes of devices (hdd, ssd) aren't shown: the service reads them and doesn't keep them."), list, foot);
+}
+
+// One line of each place of a device, with the state that this page knows.
+function devicesCsv(cluster, map) {
+    const rows = map.hosts.flatMap((host) => host.devices.map((device) => {
+        const { reweight, up } = { ...WHOLE, ...cluster.known.states[device.id] };
+        const weight = device.buckets.find((it) => it.name === host.name)?.items.find((it) => it.device === device).weight ?? "";
+        return [device.id, device.name, device.buckets.length ? host.name : "", host.path.replaceAll(",", ""), weight, reweight, up ? 1 : 0];
+    }));
+    return csv(["id", "name", "bucket", "above", "weight", "reweight", "up"], rows);
 }
 
 // What the service has that this page doesn't know.
@@ -130,20 +150,26 @@ function unknown(cluster) {
 }
 
 export function showMap(cluster, said, take) {
-    const { summary } = cluster, at = el("div", {}, el("div", { id: "said" }, said));
-    const section = el("section", { class: "split" }, el("div", {}, el("h1", { tabindex: "-1" }, "Map"), dropBox(take)), at);
+    const { summary, tenant } = cluster, at = el("div", {}, el("div", { id: "said", tabindex: "-1" }, said));
+    const states = el("details", { class: "hint" }, el("summary", {}, "A CSV of device states is taken here too"), el("p", {}, "Where devices are down or reweighted. Its lines are id,reweight,up: a reweight is in 65536ths, up is 1 or 0. On the cluster this writes it:"),
+        el("pre", {}, el("code", {}, STATES)));
+    const section = el("section", { class: "split" }, el("div", {}, el("h1", { tabindex: "-1" }, "Map"), dropBox(take, states)), at);
     if (!summary.versions) {
-        at.append(el("p", { class: "empty" }, "The tenant has no map yet."));
+        at.append(el("p", { class: "empty" }, `${tenant} has no map yet. Drop one here, or delete ${tenant}, of which the service keeps nothing but the name.`), removal(cluster));
         return section;
     }
     const versions = Array.from({ length: summary.versions }, (_, it) => summary.versions - it);
     const select = options(el("select", { id: "version" }), versions.map((it) => [it, `${it}${cluster.known.files[it] ? `: ${cluster.known.files[it]}` : ""}`]), summary.versions);
     const shown = el("div");
+    let map = cluster.map;
     select.addEventListener("change", async () => {
-        const reply = await ask("Read a version", "GET", `/t/${cluster.tenant}/maps/${select.value}`);
-        shown.replaceChildren(reply.status === 200 ? tree(cluster, readMap(reply.text)) : fault(meaning(reply.status, reply.error)));
+        const version = select.value, reply = await ask("Read a version", "GET", `/t/${tenant}/maps/${version}`);
+        if (version !== select.value) return;
+        map = readMap(reply.text ?? "");
+        shown.replaceChildren(reply.status === 200 ? tree(cluster, map) : fault(meaning(reply.status, reply.error)));
     });
-    shown.append(tree(cluster, cluster.map));
-    at.append(el("div", { class: "controls" }, labelled("Version", select)), ...[unknown(cluster)].filter(Boolean), shown);
+    shown.append(tree(cluster, map));
+    const file = button("Save devices as CSV", () => save(`devices-${tenant}-${select.value}.csv`, devicesCsv(cluster, map)), { id: "devices-csv" });
+    at.append(el("div", { class: "controls" }, labelled("Version", select), file), ...[unknown(cluster)].filter(Boolean), shown, removal(cluster));
     return section;
 }

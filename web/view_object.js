@@ -1,7 +1,8 @@
 // Where an object or a group lies.
 import { ask } from "./service.js";
 import { meaning } from "./codes.js";
-import { button, el, fault, labelled, say } from "./dom.js";
+import { el, fault, labelled, say } from "./dom.js";
+import { groupOf, idOf } from "./groups.js";
 import { pathOf } from "./map.js";
 import { missing, poolOf, poolPicker } from "./view_pools.js";
 
@@ -19,7 +20,7 @@ function deviceLines(cluster, reply) {
 
 function shown(cluster, pool, title, reply) {
     const raw = JSON.stringify(reply.raw) !== JSON.stringify(reply.up) && el("p", {}, `What the rule answers, with devices that are down: ${reply.raw.map((it) => (it === null ? "none" : cluster.name(it))).join(", ")}.`);
-    const numbers = [["group", reply.group], ["seed", reply.seed], ...("hash" in reply ? [["hash of the name", reply.hash]] : []), ["version", reply.version]];
+    const numbers = [["group", reply.group], ["group in Ceph", idOf(pool, reply.group)], ["seed", reply.seed], ...("hash" in reply ? [["hash of the name", reply.hash]] : []), ["version", reply.version]];
     return el("div", { class: "card", id: "found" }, el("h2", { class: "name" }, title), el("p", {}, `In pool ${pool.name}, on these devices:`), deviceLines(cluster, reply), raw,
         el("dl", { class: "facts" }, numbers.map(([text, value]) => el("div", {}, el("dt", {}, text), el("dd", {}, value)))));
 }
@@ -31,8 +32,8 @@ export function showObject(cluster) {
         section.append(lacks);
         return section;
     }
-    const name = el("input", { id: "object", autocomplete: "off" }), group = el("input", { type: "number", id: "group", min: 0 }), at = el("div");
-    async function find(what, title, ask) {
+    const name = el("input", { id: "object", autocomplete: "off" }), group = el("input", { id: "group", autocomplete: "off", required: true, on: { input: () => group.setCustomValidity("") } }), at = el("div");
+    async function find(title, ask) {
         say("Asking");
         const pool = poolOf(cluster), reply = await ask(`/t/${cluster.tenant}/pools/${pool.id}`);
         say("");
@@ -40,14 +41,16 @@ export function showObject(cluster) {
     }
     const byName = (event) => {
         event.preventDefault();
-        return find("Object", name.value, (pool) => ask("Locate an object", "POST", `${pool}/locate`, { name: name.value }));
+        return find(name.value, (pool) => ask("Locate an object", "POST", `${pool}/locate`, { name: name.value }));
     };
     const byNumber = (event) => {
         event.preventDefault();
-        return find("Group", `Group ${group.value}`, (pool) => ask("Locate a group", "GET", `${pool}/groups/${group.value}`));
+        const pool = poolOf(cluster), number = groupOf(pool, group.value);
+        group.setCustomValidity(number === undefined ? `A number, or an id in Ceph of this pool, as ${idOf(pool, 28)}.` : "");
+        return group.reportValidity() && find(`Group ${number}`, (at) => ask("Locate a group", "GET", `${at}/groups/${number}`));
     };
     section.append(el("div", { class: "split" }, el("div", {}, poolPicker(cluster, () => at.replaceChildren()),
         el("form", { class: "card form", "aria-label": "An object", on: { submit: byName } }, labelled("Name of an object", name), el("button", { class: "main" }, "Where is it?")),
-        el("form", { class: "card form", "aria-label": "A group", on: { submit: byNumber } }, labelled("Number of a group", group), el("button", {}, "Where is it?"))), at));
+        el("form", { class: "card form", "aria-label": "A group", on: { submit: byNumber } }, labelled("A group", group, "Its number, or its id as Ceph writes it: 1.1c is group 28 of pool 1."), el("button", {}, "Where is it?"))), at));
     return section;
 }

@@ -1,7 +1,7 @@
 // Pools: made by a form, with what Ceph takes where nothing else is said.
 import { ask, change } from "./service.js";
 import { meaning } from "./codes.js";
-import { button, el, fault, labelled, options, sayDone } from "./dom.js";
+import { button, counted, csv, el, fault, labelled, options, save, sayDone } from "./dom.js";
 import { learn, note } from "./known.js";
 
 // Ceph's defaults: osd_pool_default_size and _pg_num, and k=2 m=2 of the erasure code profile
@@ -29,14 +29,14 @@ export function missing(cluster) {
     return null;
 }
 
-export function showPools(cluster, refresh) {
+export function showPools(cluster, message, refresh) {
     const section = el("section", { class: "split" }, el("div", {}, el("h1", { tabindex: "-1" }, "Pools")));
     if (!cluster.summary.versions) {
         section.append(missing(cluster));
         return section;
     }
-    const said = el("div", { id: "said" });
-    section.firstChild.append(form(cluster, said, refresh), said);
+    const said = el("div", { id: "said", tabindex: "-1" }, message);
+    section.firstChild.append(said, form(cluster, said, refresh));
     section.append(list(cluster));
     return section;
 }
@@ -45,11 +45,12 @@ function list(cluster) {
     const { pools } = cluster.known, rows = pools.map((it) => el("tr", {}, el("td", { class: "number" }, it.id), el("th", { scope: "row" }, it.name), el("td", {}, it.kind),
         ...[it.size, it.rule, it.pg_num, it.pgp_num].map((value) => el("td", { class: "number" }, value)), el("td", {}, it.hashpspool ? "yes" : "no")));
     const heads = ["id", "name", "kind", "size", "rule", "pg_num", "pgp_num", "hashpspool"];
-    const others = cluster.summary.pools !== pools.length && el("p", { class: "note" }, `The service keeps ${cluster.summary.pools} pools of this tenant, and this browser knows `
+    const others = cluster.summary.pools !== pools.length && el("p", { class: "note" }, `The service keeps ${cluster.summary.pools} pools of this cluster, and this browser knows `
         + `${pools.length}: the others were made elsewhere, and no request lists them. Fill in the form as such a pool was made; then you can say that it is there.`);
     const numbers = new Set(["id", "size", "rule", "pg_num", "pgp_num"]), head = heads.map((it) => el("th", { scope: "col", class: numbers.has(it) && "number" }, it));
-    const table = el("table", { class: "plain" }, el("caption", {}, "Pools of this tenant"), el("thead", {}, el("tr", {}, head)), el("tbody", {}, rows));
-    return el("div", {}, others, rows.length ? el("div", { class: "card scroll", tabindex: "0", role: "region", "aria-label": "Pools of this tenant" }, table) : el("p", { class: "empty" }, "No pool yet."));
+    const table = el("table", { class: "plain" }, el("caption", {}, counted("Pools", pools)), el("thead", {}, el("tr", {}, head)), el("tbody", {}, rows));
+    const file = button("Save as CSV", () => save(`pools-${cluster.tenant}.csv`, csv(heads, pools.map((it) => heads.map((head) => it[head])))), { id: "pools-csv" });
+    return el("div", {}, others, rows.length ? [el("div", { class: "card scroll", tabindex: "0", role: "region", "aria-label": "Pools" }, table), file] : el("p", { class: "empty" }, "No pool yet."));
 }
 
 function form(cluster, said, refresh) {
@@ -74,6 +75,7 @@ function form(cluster, said, refresh) {
         await asMade(cluster, said, fields(), refresh);
     }
     return el("form", { class: "card form", "aria-label": "A pool", on: { submit: make } },
+        el("p", { class: "hint" }, "As on the cluster: ", el("code", {}, "ceph osd pool ls detail"), " says it all."),
         labelled("Name", name), el("div", { class: "pair" }, labelled("Id", id), labelled("Kind", kind)), el("div", { class: "pair" }, labelled("Size", size), labelled("Rule", rule)),
         el("div", { class: "pair" }, labelled("Groups: pg_num", groups), labelled("pgp_num", places)),
         el("p", { class: "check" }, hashed, el("label", { for: "hashpspool" }, " The id enters the hash (hashpspool)")), el("button", { class: "main" }, "Make the pool"));
@@ -87,8 +89,7 @@ async function asMade(cluster, said, fields, refresh) {
     const reply = await change(`Make the pool ${fields.name}`, cluster.tenant, "pools", fields, {});
     if (reply.status === 201) {
         sayDone(`The pool ${fields.name} is made`);
-        await refresh();
-        document.getElementById("said")?.replaceChildren(el("p", { class: "done" }, `The pool ${fields.name} is made. `, el("a", { href: `#/${cluster.tenant}/usage` }, "See its usage"), ", or ",
+        await refresh(el("p", { class: "done" }, `The pool ${fields.name} is made. `, el("a", { href: `#/${cluster.tenant}/usage` }, "See its usage"), ", or ",
             el("a", { href: `#/${cluster.tenant}/drain` }, "drain a host on paper")));
         return;
     }
@@ -101,6 +102,7 @@ async function asMade(cluster, said, fields, refresh) {
         }
     });
     said.replaceChildren(fault(`The pool isn't made. `, meaning(reply.status, reply.error)), ...(there ? [there] : []));
+    said.focus();
 }
 
 // Whether the tenant has a pool of this id with so many groups. That all else is as filled in shows

@@ -1,7 +1,7 @@
 // How evenly a pool lies: a bar for each device, by host.
 import { ask } from "./service.js";
 import { meaning } from "./codes.js";
-import { button, el, fault, labelled, later, options, save, say } from "./dom.js";
+import { button, csv, el, fault, labelled, later, options, save, say } from "./dom.js";
 import { evenParts } from "./map.js";
 import { found, usageCards } from "./charts.js";
 import { missing, poolOf, poolPicker } from "./view_pools.js";
@@ -17,24 +17,30 @@ export function byDevice(reply) {
 }
 
 export function usageCsv(reply) {
-    return [COLUMNS.join(","), ...reply.rows.map((row) => COLUMNS.map((it) => row[it]).join(","))].map((it) => `${it}\n`).join("");
+    return csv(COLUMNS, reply.rows.map((row) => COLUMNS.map((it) => row[it])));
 }
 
 export function legend(...pairs) {
     return el("ul", { class: "legend" }, pairs.map(([kind, text]) => el("li", {}, el("span", { class: `key ${kind}`, "aria-hidden": "true" }), text)));
 }
 
-// Where the even share of each device is drawn, in entries.
-function evenLines(cluster, pool, reply) {
-    const whole = d3.sum(reply.rows, (it) => it.entries);
-    return new Map([...evenParts(cluster.map, pool.rule, cluster.known.states)].map(([id, part]) => [id, part * whole]));
+// Where the even share of each device is drawn, in a unit of usage.
+export function evenLines(cluster, pool, rows, unit, states = cluster.known.states) {
+    const whole = unit === "permille" ? 1000 : d3.sum(rows, (it) => it[unit]);
+    return new Map([...evenParts(cluster.map, pool.rule, states)].map(([id, part]) => [id, part * whole]));
 }
 
-// The devices with the most entries first, as one list.
-function fullest(hosts, rows) {
-    const all = hosts.flatMap((host) => host.devices.map((device) => ({ device, host })));
-    all.sort((a, b) => rows.get(b.device.id).entries - rows.get(a.device.id).entries || a.device.id - b.device.id);
-    return all.length ? [{ name: "Fullest first", type: "", path: "", devices: [...new Set(all.map((it) => it.device))] }] : [];
+export const ORDERS = [["host", "by host"], ["most", "most first"], ["above", "most above even share first"]];
+
+// The hosts as they are, or all devices as one list, each with its host: by how much they have, or
+// by how far that is above their even share.
+export function ordered(hosts, order, value, even) {
+    if (order === "host" || !hosts.length) return hosts;
+    const all = new Map(hosts.flatMap((host) => host.devices.map((it) => [it.id, { id: it.id, name: `${it.name}, ${host.name}` }])));
+    const above = (it) => (value(it) === 0 ? 0 : value(it) / (even.get(it.id) || Number.MIN_VALUE));
+    const first = order === "above" ? above : value;
+    const devices = [...all.values()].sort((a, b) => first(b) - first(a) || value(b) - value(a) || a.id - b.id);
+    return [{ name: order === "above" ? "Most above even share first" : "Most first", type: "", path: "", ordered: true, devices }];
 }
 
 export function showUsage(cluster) {
@@ -45,7 +51,7 @@ export function showUsage(cluster) {
         return section;
     }
     const at = el("div"), search = el("input", { type: "search", id: "usage-search" });
-    const order = options(el("select", { id: "order" }), [["host", "by host"], ["fullest", "fullest first"]], "host");
+    const order = options(el("select", { id: "order" }), ORDERS, "host");
     section.append(el("div", { class: "controls" }, poolPicker(cluster, load), labelled("Find a device", search), labelled("Order", order)), at);
     async function load() {
         const pool = poolOf(cluster);
@@ -53,16 +59,16 @@ export function showUsage(cluster) {
         const reply = await usageOf(cluster.tenant, pool.id);
         say("");
         if (reply.status !== 200) return at.replaceChildren(fault(meaning(reply.status, reply.error)));
-        const rows = byDevice(reply), even = evenLines(cluster, pool, reply), cards = el("div", { class: "cards", id: "cards" }), foot = el("div");
+        const rows = byDevice(reply), even = evenLines(cluster, pool, reply.rows, "entries"), cards = el("div", { class: "cards", id: "cards" }), foot = el("div");
         function draw() {
             const hosts = found(cluster.map.hosts, search.value, (it) => rows.has(it.id));
-            foot.replaceChildren(...[usageCards(cards, order.value === "fullest" ? fullest(hosts, rows) : hosts, rows, even)].filter(Boolean));
+            foot.replaceChildren(...[usageCards(cards, ordered(hosts, order.value, (it) => rows.get(it.id).entries, even), rows, even)].filter(Boolean));
         }
         search.oninput = later(draw);
         order.onchange = draw;
         at.replaceChildren(el("div", { class: "bar-line" },
-            el("p", {}, `Pool ${pool.name} on version ${reply.version}: the places (entries) that each device has in the groups' lists, and its part of all in thousandths.`),
-            legend(["used", "entries"], ["even", "even share, by weight and reweight"]),
+            el("p", {}, `Pool ${pool.name} on version ${reply.version}: entries of up lists, which are the places that each device has in the groups' lists, and its part of all entries in thousandths (permille).`),
+            legend(["used", "entries of up lists"], ["even", "even share, by weight and reweight"]),
             button("Save as CSV", () => save(`usage-${cluster.tenant}-${pool.name}.csv`, usageCsv(reply)), { id: "usage-csv" })), cards, foot);
         return draw();
     }

@@ -8,13 +8,14 @@ import threading
 
 class Between(http.server.ThreadingHTTPServer):
     """loses: how many replies to come are lost, after their requests are done. refuses: how many
-    requests to come are answered 503 and not passed on. Both look at changing requests alone."""
+    requests to come are answered 503 and not passed on. Both look at changing requests alone.
+    keeps: how many DELETE to come are answered 503."""
 
     daemon_threads = True
 
     def __init__(self, port):
         super().__init__(("127.0.0.1", 0), Handler)
-        self.behind, self.loses, self.refuses, self.posts = port, 0, 0, []
+        self.behind, self.loses, self.refuses, self.keeps, self.posts = port, 0, 0, 0, []
 
 
 class Handler(http.server.BaseHTTPRequestHandler):
@@ -26,6 +27,9 @@ class Handler(http.server.BaseHTTPRequestHandler):
         if changes and self.server.refuses:
             self.server.refuses -= 1
             return self.answer(503, b'{"error":"no_memory"}', "application/json")
+        if self.command == "DELETE" and self.server.keeps:
+            self.server.keeps -= 1
+            return self.answer(503, b'{"error":"store_failed"}', "application/json")
         asked = http.client.HTTPConnection("127.0.0.1", self.server.behind, timeout=60)
         asked.request(self.command, self.path, body or None)
         reply = asked.getresponse()

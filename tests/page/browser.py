@@ -53,7 +53,13 @@ class Browser:
         return self.one(selector).text
 
     def click(self, selector):
-        self.until(lambda: self.one(selector).click() or True, f"{selector} can't be clicked")
+        self.until(lambda: self.press(self.one(selector)), f"{selector} can't be clicked")
+
+    def press(self, it):
+        """Clicks on an element in the middle of the window, where nothing lies over it."""
+        self.run("arguments[0].scrollIntoView({ block: 'center' })", it)
+        it.click()
+        return True
 
     def named(self, kind, words):
         """The element of this kind whose text has the words."""

@@ -39,6 +39,8 @@ def filled(page, view):
         page.browser.click("#drain")
         page.browser.one("#usages tr[data-device]")
         page.browser.has(DRAINED)
+        page.browser.click("#all-groups button.group")
+        page.browser.has("#goes tr[data-group]")
     elif view == "Object":
         page.browser.fill("#object", "cat.jpg")
         page.browser.click("form button.main")
@@ -80,6 +82,9 @@ def the_longest_names_fit(page):
             page.browser.click("#drain")
             page.browser.has("#usages tr[data-device]")
             page.browser.has(DRAINED)
+            page.browser.click("#all-groups button.group")
+            page.browser.has("#goes tr[data-group]")
+            page.browser.click("#order option[value='most']")
         elif view in ("Usage", "Compare"):
             page.browser.has(".figures, #cards tr[data-device]")
         over = page.browser.run("return document.scrollingElement.scrollWidth") - 360
@@ -109,6 +114,39 @@ def contrast(text, below):
     return (other + 0.05) / (one + 0.05)
 
 
+def faint(page, what):
+    """The texts that are shown with too little contrast."""
+    return [f"{what}, {it}: {text} on {below} has {contrast(text, below):.2f}" for it, text, below in page.browser.run(TEXTS) if contrast(text, below) < CONTRAST]
+
+
+def the_first_view_a_refused_map_and_a_question(page):
+    """They fit both widths, and are read well in light and dark."""
+    tenant, whys = page.fresh(), []
+    page.browser.click(".start .note summary")
+
+    def looked_at(what):
+        for width, scheme in ((360, "dark"), (360, "light"), (1920, "light"), (1920, "dark")):
+            page.browser.size(width, 740 if width == 360 else 1080)
+            page.browser.colours(scheme)
+            over = page.browser.run("return document.scrollingElement.scrollWidth") - width
+            page.browser.picture(PICTURES / f"{what}-{width}-{scheme}.png")
+            whys.extend(faint(page, f"{what} in {scheme}") + ([f"{what} is {over} pixels wider than {width}"] if over > 0 else []))
+        page.browser.size(1280)
+        page.browser.colours("light")
+
+    looked_at("first")
+    page.browser.drop(example("cluster.txt").replace("alg list", "alg straw2"), "straw2.txt")
+    page.browser.one(".refused")
+    looked_at("refused")
+    page.browser.click("#remove")
+    page.browser.one("dialog")
+    focus = page.browser.run("return document.activeElement.textContent")
+    looked_at("question")
+    press(page, Keys.ESCAPE)
+    page.browser.until(lambda: not page.browser.run("return document.querySelector('dialog').open"), "Escape doesn't leave the question")
+    return first(*whys, unlike(focus, "Keep it", "the question begins at"), unlike(page.ask("GET", f"/t/{tenant}")[0], 200))
+
+
 def it_is_read_well_in_light_and_dark(page):
     full(page)
     grounds, whys = [], []
@@ -118,9 +156,7 @@ def it_is_read_well_in_light_and_dark(page):
         for view in VIEWS:
             filled(page, view)
             page.browser.picture(PICTURES / f"{view.lower()}-{scheme}.png")
-            for what, text, below in page.browser.run(TEXTS):
-                if contrast(text, below) < CONTRAST:
-                    whys.append(f"{scheme}, {view}, {what}: {text} on {below} has {contrast(text, below):.2f}")
+            whys += faint(page, f"{view} in {scheme}")
     page.browser.colours("light")
     return first(*whys, None if bright(colour_of(grounds[0])[0]) > 0.7 and bright(colour_of(grounds[1])[0]) < 0.1 else f"the grounds are {grounds}")
 
@@ -142,35 +178,90 @@ def tab_to(page, holds):
     raise ValueError("Tab doesn't lead there")
 
 
+def id_is(name):
+    return lambda it: it.get_attribute("id") == name
+
+
+def tabs_to(page, holds):
+    """How often Tab is pressed until the focus is there."""
+    for count in range(1, MOST_TABS):
+        press(page, Keys.TAB)
+        if holds(page.browser.driver.switch_to.active_element):
+            return count
+    raise ValueError("Tab doesn't lead there")
+
+
 def a_drain_by_keyboard_alone(page):
     """From an empty page to a drained host. The dialog of files is the browser's own, so the file
     is dropped; all else is keys."""
     tenant = page.fresh()
     press(page, Keys.TAB)
-    tab_to(page, lambda it: it.get_attribute("id") == "name")
-    tab_to(page, lambda it: it.text == "Make it")
-    press(page, Keys.ENTER)
-    page.browser.one(".drop")
-    page.browser.until(lambda: page.browser.text("h1") == "Map", "no map's view")
+    tab_to(page, id_is("name"))
     tab_to(page, lambda it: it.get_attribute("type") == "file")
     page.browser.drop(example("three_hosts.txt"), "three_hosts.txt")
     page.browser.one("#tree [data-bucket]")
-    tab_to(page, lambda it: it.text == "Pools")
+    page.browser.until(lambda: page.browser.run("return document.activeElement.id") == "said", "what came of the import has the focus")
+    tab_to(page, lambda it: it.text == "Make a pool")
     press(page, Keys.ENTER)
     page.browser.one("#pool-name")
-    tab_to(page, lambda it: it.get_attribute("id") == "pool-name")
+    tab_to(page, id_is("pool-name"))
     press(page, "photos", Keys.ENTER)
     page.browser.until(lambda: "The pool photos is made" in page.browser.text("#said"), "no pool")
-    tab_to(page, lambda it: it.text == "Drain")
+    after_pool = tabs_to(page, lambda it: it.text == "drain a host on paper")
     press(page, Keys.ENTER)
     page.browser.one(".picker")
-    tab_to(page, lambda it: it.get_attribute("type") == "checkbox")
-    press(page, Keys.SPACE)
-    tab_to(page, lambda it: it.get_attribute("id") == "drain")
-    press(page, Keys.ENTER)
+    to_list = tabs_to(page, lambda it: it.get_attribute("type") == "checkbox")
+    press(page, Keys.SPACE, Keys.ENTER)
     page.browser.one("#usages tr[data-device]")
     chosen = [int(it.get_attribute("data-impact")) for it in page.browser.all("[data-impact]")]
-    return first(unlike(chosen, [0, 1]), unlike(page.clicks(), 0, "clicks:"), unlike(page.summary(tenant)["epoch"], 2))
+    return first(
+        unlike(chosen, [0, 1]), unlike(page.clicks(), 0, "clicks:"), unlike(page.summary(tenant)["epoch"], 2), None if after_pool <= 2 else f"{after_pool} tabs from the pool to its drain",
+        None if to_list <= 4 else f"{to_list} tabs to the first host",
+    )
+
+
+def the_list_of_hosts_is_skipped(page):
+    """On a cluster of more hosts, the button is a few keys away, and so is what is behind a list of
+    groups."""
+    page.imported(example("cluster.txt"))
+    page.pool(pg_num=64)
+    page.browser.tab("Drain")
+    page.browser.run("document.querySelector('h1').focus()")
+    to_skip = tabs_to(page, lambda it: it.text == "Skip the list")
+    press(page, Keys.ENTER)
+    skipped = page.browser.run("return document.activeElement.id")
+    page.browser.fill("#drain-search", "host2")
+    press(page, Keys.ENTER)
+    early = page.browser.run("return document.getElementById('result').textContent")
+    tab_to(page, lambda it: it.get_attribute("type") == "checkbox")
+    press(page, Keys.SPACE, Keys.ENTER)
+    page.browser.one("#usages tr[data-device]")
+    page.browser.has(DRAINED)
+    groups = [it.get_attribute("data-group") for it in page.browser.all("#all-groups button.group")]
+    tab_to(page, lambda it: it.get_attribute("data-group") == groups[0])
+    press(page, Keys.ARROW_RIGHT, Keys.ARROW_DOWN, Keys.ARROW_LEFT)
+    at = page.browser.run("return document.activeElement.dataset.group")
+    press(page, Keys.ENTER)
+    page.browser.has("#goes tr[data-group]")
+    shown = page.browser.run("return document.querySelector('#goes tr[data-group]').dataset.group")
+    left = tabs_to(page, lambda it: not it.get_attribute("data-group"))
+    heard = page.browser.run("return document.querySelector('#goes [aria-live] p').textContent")
+    page.browser.click("#goes-close")
+    open_yet = page.browser.one("#impact").is_displayed() and page.browser.all("#goes")[0].is_displayed()
+    return first(
+        None if to_skip <= 3 else f"{to_skip} tabs to what skips the list", unlike(skipped, "drain", "the focus is on"), unlike(early, "", "a search drains:"), unlike((at, shown), (groups[1], groups[1])),
+        unlike(left, 1, "tabs out of the groups:"), unlike(open_yet, False, "after closing it, it is open:"), None if heard.startswith(f"Group {groups[1]}: before osd.") else heard,
+    )
+
+
+def the_content_is_skipped_to(page):
+    """The first link of the page leads to the content of the view that is open."""
+    page.planned()
+    page.browser.tab("Usage")
+    page.browser.driver.refresh()
+    page.browser.one("#cards tr[data-device]")
+    press(page, Keys.TAB, Keys.ENTER)
+    return first(unlike(page.browser.run("return document.activeElement.id"), "main", "the focus is on"), unlike(page.browser.text("h1"), "Usage"))
 
 
 def a_screen_reader_has_names_for_all(page):
@@ -193,4 +284,4 @@ def a_screen_reader_has_names_for_all(page):
 
 
 def cases():
-    return it_fits_both_widths, the_longest_names_fit, it_is_read_well_in_light_and_dark, a_drain_by_keyboard_alone, a_screen_reader_has_names_for_all
+    return it_fits_both_widths, the_first_view_a_refused_map_and_a_question, the_longest_names_fit, it_is_read_well_in_light_and_dark, a_drain_by_keyboard_alone, the_list_of_hosts_is_skipped, the_content_is_skipped_to, a_screen_reader_has_names_for_all

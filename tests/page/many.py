@@ -8,7 +8,7 @@ where both are over the limit.
 """
 import time
 
-from page import DRAINED, PICTURES, first, unlike
+from page import DRAINED, PICTURES, example, first, unlike
 
 MOST_MS, SECONDS, GROUPS = 200, 120, 65536
 RACKS, HOSTS, DEVICES = 10, 10, 10
@@ -101,6 +101,32 @@ def a_thousand_devices_and_the_most_groups(page):
     watch.step("a drain of a host", lambda: browser.click("#drain"), f"{count('#usages tr[data-device]')} > 0 && {count(DRAINED)} === 1")
     before = {it: int(row[2]) for it, row in page.rows("#usages tr[data-device]").items()}
     watch.expect(before, {it: wanted[it] for it in before})
+    watch.step("where a group goes", lambda: browser.click("#all-groups button.group"), f"{count('#goes tr[data-group]')} === 1")
+    watch.step("the list of a device", lambda: browser.click("[data-impact] summary"), f"{count('[data-impact] button.group')} > 0")
+    watch.step("another unit", lambda: browser.click("#unit option[value='primaries']"), "document.querySelector('#cards th.number').textContent.startsWith('primaries')")
+    watch.step("another order", lambda: browser.click("#order option[value='above']"), f"{count('#cards table')} === 1")
+    watch.step("the usages as CSV", lambda: page.saved("#both-csv"), "true")
+    return first(*watch.whys)
+
+
+def every_group_can_move(page):
+    """Long lists: each of the 65,536 groups lies on each host, and a host is drained."""
+    watch, browser = Watch(page), page.browser
+    tenant = page.imported(example("three_hosts.txt"))
+    page.pool(size=3, pg_num=GROUPS)
+    browser.tab("Drain")
+    browser.named("label.host", "host0").click()
+    watch.step("a drain of every group", lambda: browser.click("#drain"), f"{count('#usages tr[data-device]')} > 0 && {count(DRAINED)} === 1")
+    lists = {it: page.ask("GET", f"/t/{tenant}/pools/1/impact/{it}")[1]["groups"] for it in (0, 1)}
+    title = browser.text("#impact h2")
+    watch.expect(title, f"Groups that can move ({GROUPS:,})")
+    watch.expect([it.text for it in browser.all("[data-impact] summary")], [f"osd.{it} ({len(groups):,})" for it, groups in lists.items()])
+    watch.typed("a search in the lists", "#impact-search", "65535", "document.getElementById('impact').textContent.includes('Group 65535 (1.ffff) can move')")
+    watch.step("more of a list", lambda: browser.click("#all-groups .cut button"), f"{count('#all-groups button.group')} === 200")
+    text = []
+    watch.step("the lists as CSV", lambda: text.append(page.saved("#impact-csv")), "true")
+    rows = text[0].splitlines()[1:]
+    watch.expect((len(rows), rows[-1]), (GROUPS, f"65535,1.ffff,{' '.join(f'osd.{it}' for it in lists if 65535 in lists[it])}"))
     return first(*watch.whys)
 
 
@@ -119,4 +145,4 @@ def every_group_moves(page):
 
 
 def cases():
-    return a_thousand_devices_and_the_most_groups, every_group_moves
+    return a_thousand_devices_and_the_most_groups, every_group_can_move, every_group_moves

@@ -123,8 +123,9 @@ class Page:
         self.browser.click(selector)
         end = time.monotonic() + SECONDS
         while time.monotonic() < end:
-            files = [it for it in self.downloads.iterdir() if it.suffix == ".csv"]
-            if files:
+            files = list(self.downloads.iterdir())
+            # an empty file has the name while what is in it comes under another
+            if len(files) == 1 and files[0].suffix == ".csv" and files[0].stat().st_size:
                 return files[0].read_text()
             time.sleep(0.05)
         raise OSError("no file is saved")

@@ -90,9 +90,42 @@ def a_drain_with_lost_replies_and_a_503(page):
     page.browser.named(".notice button", "Repeat").click()
     page.browser.one("#usages tr[data-device]")
     page.browser.has(DRAINED)
+    page.browser.tab("Usage")
     page.faults()
-    left = [it for it in page.copies if page.ask("GET", f"/t/{it}")[0] != 404]
-    return first(unlike(left, [], "copies are left:"), unlike(page.summary(tenant), summary))
+    for it in page.copies:
+        page.browser.until(lambda: page.ask("GET", f"/t/{it}")[0] == 404, f"the copy {it} is left")
+    return first(None if page.copies else "there was no copy", unlike(page.summary(tenant), summary))
+
+
+def a_copy_goes_with_its_page(page):
+    """The result of a drain is shown, and its copy is kept; then the page is closed and not opened
+    again."""
+    tenant = page.imported(example("three_hosts.txt"))
+    page.pool(size=2, pg_num=16)
+    page.browser.tab("Drain")
+    page.browser.named("label.host", "host1").click()
+    page.browser.click("#drain")
+    page.browser.one("#usages tr[data-device]")
+    page.browser.has(DRAINED)
+    page.faults()
+    name = next(it for it in page.copies if it.startswith(f"{tenant}.copy-"))
+    there = page.ask("GET", f"/t/{name}")[0]
+    page.browser.open("about:blank")
+    page.browser.until(lambda: page.ask("GET", f"/t/{name}")[0] == 404, "the copy is left")
+    return unlike(there, 200, "the copy's status while it is shown:")
+
+
+def a_cluster_is_deleted_at_the_second_try(page):
+    """A 503 is shown and repeated, and no question lies over it."""
+    tenant = page.imported(example("three_hosts.txt"), port=through(page))
+    page.proxy.keeps = 1
+    page.browser.click("#remove")
+    page.browser.named("dialog button", "Delete it").click()
+    notice = page.browser.text(".notice")
+    there = page.ask("GET", f"/t/{tenant}")[0]
+    page.browser.named(".notice button", "Repeat").click()
+    page.browser.one("#name")
+    return first(None if "503 store_failed" in notice and f"Delete {tenant}" in notice else notice, unlike(there, 200, "its status before the repeat:"), unlike(page.ask("GET", f"/t/{tenant}")[0], 404, "its status:"))
 
 
 def a_drain_is_stopped(page):
@@ -111,7 +144,9 @@ def a_drain_is_stopped(page):
     page.browser.has(DRAINED)
     page.faults()
     left = [it for it in page.copies if page.ask("GET", f"/t/{it}")[0] != 404]
-    return first(unlike(said, "Stopped."), unlike(len(page.browser.all("#usages")), 0, "usages:"), unlike(left, [], "copies are left:"), unlike(page.summary(tenant), summary))
+    page.browser.click("#all-groups button.group")
+    of_group = page.browser.text("#goes .fault")
+    return first(None if of_group.endswith("goes isn't known. Stopped.") else of_group, unlike(said, "Stopped."), unlike(len(page.browser.all("#usages")), 0, "usages:"), unlike(left, [], "copies are left:"), unlike(page.summary(tenant), summary))
 
 
 def a_copy_that_was_left_is_dropped(page):
@@ -133,4 +168,4 @@ def a_copy_that_was_left_is_dropped(page):
 
 
 def cases():
-    return (a_lost_reply_is_asked_for_again, a_reload_repeats_what_had_no_reply, a_503_is_shown_and_repeated, what_is_given_up_is_forgotten, a_drain_with_lost_replies_and_a_503, a_drain_is_stopped, a_copy_that_was_left_is_dropped)
+    return (a_lost_reply_is_asked_for_again, a_reload_repeats_what_had_no_reply, a_503_is_shown_and_repeated, what_is_given_up_is_forgotten, a_drain_with_lost_replies_and_a_503, a_copy_goes_with_its_page, a_cluster_is_deleted_at_the_second_try, a_drain_is_stopped, a_copy_that_was_left_is_dropped)
