@@ -31,7 +31,7 @@ help:
 	@echo 'make ceph-check   compares 176,000 mappings by requests, 154,000 with reweights and 93 name hashes with those of Ceph'"'"'s own library,'
 	@echo '               74,592 placements of groups with those of its osdmaptool, impacts with what its crushtool moves, and map texts with its crushtool'
 	@echo 'make sqlite-check   compares database files with those of the tool sqlite3, both ways'
-	@echo 'make refused-check   refuses each allocation in turn, in memory, over a file and in a server: some 80,000 runs'
+	@echo 'make refused-check   refuses each allocation in turn, in memory, over a file and in a server: some 110,000 runs'
 	@echo 'make fuzz      1,000,000 damaged inputs of the seed SEED=S (the time): lines, texts, bodies and streams; INPUTS=N for another number'
 	@echo 'make sanitized   the same of 20,000 inputs, each script again with AddressSanitizer'
 	@echo 'make stops     cuts and changes logs of killed runs for SECONDS=600, of the seed SEED=S (the time); then stops sessions at each'
