@@ -41,7 +41,7 @@ pub struct ReceiptRow {
 }
 
 /// The integer at a place of the row, or `None` where there is none.
-fn int_at(row: &Row, at: usize) -> Result<Option<i64>, AllocError>
+pub fn int_at(row: &Row, at: usize) -> Result<Option<i64>, AllocError>
     ensures some { IfOk result (λ o. IfSome o (λ n. (at < length row.now) × (column row.now at ≡ Int n))) }
     ensures none { IfOk result (λ o. o ≡ None → at < length row.now → (n : ℤ) → column row.now at ≢ Int n) }
 {

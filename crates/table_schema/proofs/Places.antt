@@ -49,6 +49,7 @@ tree_is schema db name sound has = listed name _ db.schema.tables sound.lists.li
 pub record Places (layout : Layout) (db : Trees) : Type 0 where
   pub info : tree_of db (codes "schema_info") ≡ 0
   pub tenants : tree_of db (codes "tenants") ≡ 1
+  pub sequence : tree_of db (codes "sqlite_sequence") ≡ 3
   pub maps : tree_of db (codes "maps") ≡ 4
   pub devices : tree_of db (codes "devices") ≡ 6
   pub pools : tree_of db (codes "pools_2") ≡ pools_tree layout
@@ -60,6 +61,7 @@ unfolding binary value_cmp lib.Ieee.is_nan lib.Ieee.lt
 places layout db sound has = record {
   info = tree_is (store_schema layout) db (codes "schema_info") sound has;
   tenants = tree_is (store_schema layout) db (codes "tenants") sound has;
+  sequence = tree_is (store_schema layout) db (codes "sqlite_sequence") sound has;
   maps = tree_is (store_schema layout) db (codes "maps") sound has;
   devices = tree_is (store_schema layout) db (codes "devices") sound has;
   pools = tree_is (store_schema layout) db (codes "pools_2") sound has;
@@ -71,6 +73,7 @@ places layout db sound has = record {
 pub record FirstPlaces (db : Trees) : Type 0 where
   pub info : tree_of db (codes "schema_info") ≡ 0
   pub tenants : tree_of db (codes "tenants") ≡ 1
+  pub sequence : tree_of db (codes "sqlite_sequence") ≡ 3
   pub maps : tree_of db (codes "maps") ≡ 4
   pub devices : tree_of db (codes "devices") ≡ 6
   pub pools : tree_of db (codes "pools") ≡ 8
@@ -81,6 +84,7 @@ unfolding binary value_cmp lib.Ieee.is_nan lib.Ieee.lt
 first_places db sound has = record {
   info = tree_is first_schema db (codes "schema_info") sound has;
   tenants = tree_is first_schema db (codes "tenants") sound has;
+  sequence = tree_is first_schema db (codes "sqlite_sequence") sound has;
   maps = tree_is first_schema db (codes "maps") sound has;
   devices = tree_is first_schema db (codes "devices") sound has;
   pools = tree_is first_schema db (codes "pools") sound has;

@@ -135,7 +135,7 @@ fn are_indexes(indexes: &[Index], layout: Layout) -> bool
 }
 
 /// Whether the schema is schema 2 in this layout.
-fn is_laid_out(schema: &Schema, layout: Layout) -> bool
+pub fn is_laid_out(schema: &Schema, layout: Layout) -> bool
     ensures { IsTrue result ↔ schema.now ≡ store_schema layout }
 {
     are_tables(schema.tables.as_slice(), layout)
