@@ -1,5 +1,5 @@
 -- Where the trees of the tables are.
-use Rattle.std.proofs.Common.{◌≡◌, ◌≢◌, ◌<◌, ℕ, ◌-◌, ◌+◌, pos, List, [], ◌∷◌, map, filter, find, option_map, unwrap_or, Option, Some, None, Bool, true, false, cond, codes, refl, ap, ◌∙◌, arith}
+use Rattle.std.proofs.Common.{◌≡◌, ◌≢◌, ◌<◌, ℕ, ◌-◌, ◌+◌, pos, List, [], ◌∷◌, find, option_map, unwrap_or, Some, Bool, true, false, cond, codes, refl, ap, ◌∙◌, arith}
 use Rattle.std.specs.List.{AllZip}
 use Rattle.sqlite_value.specs.declared.value.Value.TheVariants.{Int, Text as Words}
 use Rattle.sqlite_value.specs.declared.keys.Collation.TheVariants.{Binary}

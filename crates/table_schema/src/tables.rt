@@ -16,8 +16,8 @@ use crate::parts::{
 use sqlite_items::Items;
 use sqlite_schema::schema::Table;
 
-/// Whether the table is one of tenants' rows with this name, this tree and this primary key, but for
-/// its columns and its keys.
+/// Whether the table is one of tenants' rows with this name, this tree and this primary key, but
+/// for its columns and its keys.
 fn is_child(table: &Table, name: &str, tree: u32, primary: &[usize]) -> bool
     ensures { IsTrue result ↔ table.now ≡ child name.now tree table.now.columns primary.now table.now.uniques table.now.orders }
 {

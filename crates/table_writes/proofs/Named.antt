@@ -1,16 +1,15 @@
 -- Tables by their names, whatever their trees are.
-use Rattle.std.proofs.Common.{◌≡◌, ◌≢◌, ◌⊎◌, inl, inr, ℕ, List, [], ◌∷◌, Bool, true, false, sym, ap, subst, ◌∙◌, arith, true≢false, bytes_eq}
+use Rattle.std.proofs.Common.{◌≡◌, ◌≢◌, ◌⊎◌, inl, inr, ℕ, List, [], ◌∷◌, true, false, sym, ap, subst, ◌∙◌, arith, true≢false, bytes_eq}
 use Rattle.std.specs.List.{AllByRecursion}
 use Rattle.std.specs.Cmp.Lexicographic.{same_text}
 use Rattle.std.proofs.lemmas.Bool.{cases_Bool}
-use Rattle.sqlite_value.specs.Order.{Row}
 use Rattle.sqlite_trees.specs.Tree.{Trees}
 use Rattle.sqlite_trees.proofs.ListLemmas.{all_weaker}
 use Rattle.sqlite_schema.specs.declared.schema.Table.{Table}
 use Rattle.table_schema.specs.declared.schema.Layout.{Layout}
 use Rattle.table_schema.specs.Layout.{store_schema, receipts_tree, pools_tree, exceptions_tree, placed, tenants_table, maps_table, devices_table, pools_table, receipts_table, exceptions_table, tables_of_tenants}
 use Rattle.table_schema.specs.Holds.{tree_of, rows_in}
-use Rattle.table_schema.proofs.Places.{Places, Apart, apart}
+use Rattle.table_schema.proofs.Places.{Places, apart}
 
 -- the tables whose rows these writes concern
 abbrev pub written_tables : List Table

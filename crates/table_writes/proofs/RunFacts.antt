@@ -10,7 +10,7 @@ use Rattle.table_schema.specs.declared.values.Exception.{Exception}
 use Rattle.table_schema.specs.declared.values.Pool.{Pool}
 use Rattle.table_schema.specs.declared.values.State.{State}
 use Rattle.table_schema.specs.Values.{pool_row, exception_row}
-use Rattle.table_writes.specs.declared.write.Write.TheVariants.{Raise, ClearState, AddState, AddPool, RemovePool, AddException, ClearExceptions, AddReceipt}
+use Rattle.table_writes.specs.declared.write.Write.TheVariants.{Raise, ClearState, AddState, AddException, AddReceipt}
 use Rattle.table_schema.specs.declared.values.Receipt.{Receipt}
 use Rattle.sqlite.specs.Effect.{Database}
 use Rattle.table_schema.specs.Holds.{TenantRows, Holds, Turns}

@@ -1,5 +1,5 @@
 -- What the writes make of the rows of names.
-use Rattle.std.proofs.Common.{◌≡◌, ◌≢◌, ◌⊎◌, inl, inr, ℕ, ℤ, List, [], ◌∷◌, map, filter, Bool, true, false, cond, not, ◌&&◌, refl, sym, ap, subst, ◌∙◌, true≢false, Equal, is_eq, bytes_eq}
+use Rattle.std.proofs.Common.{◌≡◌, ◌≢◌, inl, ℕ, ℤ, List, [], ◌∷◌, map, filter, Bool, true, false, cond, not, ◌&&◌, refl, sym, ap, subst, ◌∙◌, true≢false, Equal, is_eq, bytes_eq}
 use Rattle.std.specs.List.{AllByRecursion}
 use Rattle.std.specs.List.Sorted.{IsPermutation}
 use Rattle.std.proofs.lemmas.Cmp.{tied_itself, tied_back}

@@ -40,7 +40,8 @@ with_pool pool rows = record rows { pools = pool_row pool ∷ rows.pools }
 abbrev pub without_pool : ℤ → TenantRows → TenantRows
 without_pool pool rows = record rows { pools = without_key pool rows.pools; exceptions = without_key pool rows.exceptions }
 
--- the pool's row stands in place of the earlier one, and its exceptions in place of its earlier ones
+-- the pool's row stands in place of the earlier one, and these exceptions in place of its earlier
+-- ones
 abbrev pub with_exceptions : Pool → List Exception → TenantRows → TenantRows
 with_exceptions pool exceptions rows = record rows {
   pools = pool_row pool ∷ without_key pool.id rows.pools;

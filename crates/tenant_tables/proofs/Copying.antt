@@ -1,5 +1,5 @@
 -- How the rows of pools come into the new table.
-use Rattle.std.proofs.Common.{◌≡◌, ◌≢◌, ℕ, zero, suc, ℤ, ◌+◌, pos, List, [], ◌∷◌, ◌++◌, map, filter, flat_map, drop, Bool, true, false, not, cond, ◌&&◌, ◌||◌, if◌then◌else◌, None, Some, Ok, refl, sym, ap, ap₂, subst, ◌∙◌, true≢false, append-nil}
+use Rattle.std.proofs.Common.{◌≡◌, ℕ, zero, suc, ℤ, ◌+◌, pos, List, [], ◌∷◌, ◌++◌, map, filter, drop, Bool, true, false, not, ◌&&◌, None, refl, sym, ap, ap₂, subst, ◌∙◌, true≢false, append-nil}
 use Rattle.std.proofs.Math.Seq.{drop-drop}
 use Rattle.std.specs.List.{AllByRecursion}
 use Rattle.std.specs.List.Sorted.{IsPermutation}
@@ -21,7 +21,7 @@ use Rattle.sqlite.specs.Kind.TheVariants.{Integer, Text}
 use Rattle.table_schema.specs.Layout.{placed, first_pools_table, pools_table}
 use Rattle.table_schema.specs.Holds.{values_from}
 use Rattle.table_writes.proofs.RowFacts.{perm_put}
-use Rattle.table_writes.proofs.Inserting.{not_taken, cast_null, cast_int}
+use Rattle.table_writes.proofs.Inserting.{cast_null, cast_int}
 
 -- ---- rows that are put in
 

@@ -1,5 +1,5 @@
 -- How the tables of schema 1 are replaced.
-use Rattle.std.proofs.Common.{Bor, ◌≡◌, ◌≢◌, ◌++◌, ℕ, pos, List, [], ◌∷◌, map, flat_map, drop, Bool, true, false, ◌&&◌, None, Some, Ok, refl, sym, ap, subst, ◌∙◌, is_eq, true≢false}
+use Rattle.std.proofs.Common.{◌≡◌, ◌≢◌, ℕ, pos, List, [], ◌∷◌, map, flat_map, drop, Bool, true, false, ◌&&◌, None, Ok, refl, sym, ap, subst, ◌∙◌, is_eq, true≢false}
 use Rattle.std.specs.Bool.{MatchBool}
 use Rattle.std.specs.List.{AllByRecursion}
 use Rattle.std.specs.List.Sorted.{IsPermutation}
@@ -18,7 +18,7 @@ use Rattle.sqlite_schema.specs.Rules.{Obeys, are_typed}
 use Rattle.sqlite_rules.specs.Edit.{edit_of, id_in, put_all}
 use Rattle.sqlite_rules.specs.Action.{Writes as Leaves}
 use Rattle.sqlite_rules.specs.declared.error.Rowids.TheVariants.{Chosen, Given}
-use Rattle.sqlite_catalog.specs.Change.{KeepsRows, without_table}
+use Rattle.sqlite_catalog.specs.Change.{KeepsRows}
 use Rattle.sqlite_tied.specs.Compute.{everything}
 use Rattle.sqlite.specs.Query.{IsAnswer, Output, output}
 use Rattle.sqlite.specs.Program.{overlay}
@@ -31,7 +31,7 @@ use Rattle.sqlite.specs.Effect.{Database, IsDatabase}
 use Rattle.sqlite.specs.State.{State, mode_of, Executes}
 use Rattle.sqlite.proofs.Callers.{statement_of, runs_as, one_step, one_permutation}
 use Rattle.table_schema.specs.declared.schema.Layout.TheVariants.{Gapped}
-use Rattle.table_schema.specs.Layout.{store_schema, first_schema, placed, info_table, tenants_table, sequence_table, maps_table, devices_table, receipts_table, first_pools_table, pools_table, exceptions_table}
+use Rattle.table_schema.specs.Layout.{store_schema, first_schema, placed, info_table, first_pools_table, pools_table, exceptions_table}
 use Rattle.table_schema.specs.Holds.{rows_in}
 use Rattle.table_schema.proofs.Places.{places, first_places}
 use Rattle.table_writes.proofs.Inserting.{went, same_value, unlike, cast_null, cast_int}

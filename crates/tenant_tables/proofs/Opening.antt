@@ -1,5 +1,5 @@
 -- Connections that are opened again.
-use Rattle.std.proofs.Common.{◌≡◌, ℕ, List, [], ap, subst, Bool, true, false, IsTrue, true≢false, refl, sym, ◌∙◌}
+use Rattle.std.proofs.Common.{◌≡◌, ℕ, [], ap, subst, Bool, true, false, IsTrue, true≢false, refl, sym, ◌∙◌}
 use Rattle.std.specs.List.{AllByRecursion}
 use Rattle.sqlite_trees.specs.declared.store.Shape.TheVariants.{Table as TableShape}
 use Rattle.sqlite_trees.specs.Tree.{Trees}

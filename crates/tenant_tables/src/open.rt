@@ -1,4 +1,5 @@
-//! The tables are made where there are none, and else tested for their version; schema 1 is replaced.
+//! The tables are made where there are none, and else tested for their version. Those of schema 1
+//! are replaced.
 
 ghost use Rattle.std.specs.Prelude.{pos, [], ◌∷◌, map, IsPermutation, ◌≡◌, ◌≢◌, ◌⊎◌, ◌↔◌, false, IfOk, IfErr, OnOk, OnErr, Err, IsTrue};
 ghost use Rattle.sqlite.specs.Held.{state};

@@ -240,9 +240,9 @@ impl<S: Alter> Tables<S> {
         written
     }
 
-    /// Sets the row of a pool and its exceptions, in place of the earlier ones. `id` is the tenant's
-    /// number, and `epoch` the new one. `pool.pairs` is to be the number of the exceptions, each of
-    /// which names the pool.
+    /// Sets the row of a pool and its exceptions, in place of the earlier ones. `id` is the
+    /// tenant's number, and `epoch` the new one. `pool.pairs` is to be the number of the
+    /// exceptions, each of which names the pool.
     ///
     /// `Err(Fault::NoMemory)`, `Err(Fault::Full)`: nothing is changed. `Err(Fault::Failed)`: the
     /// tables are latched.
@@ -275,7 +275,8 @@ impl<S: Alter> Tables<S> {
         written
     }
 
-    /// Removes the pool with the id, and its exceptions. `id` is the tenant's number, and `epoch` the new one.
+    /// Removes the pool with the id, and its exceptions. `id` is the tenant's number, and `epoch`
+    /// the new one.
     ///
     /// `Err(Fault::NoMemory)`, `Err(Fault::Full)`: nothing is changed. `Err(Fault::Failed)`: the
     /// tables are latched.
@@ -373,8 +374,8 @@ impl<S: Alter> Tables<S> {
 
     /// The exceptions of the pools of the tenant with the number, by pool and place, none twice.
     ///
-    /// No row is changed. `Err(Fault::Damaged)`: a place of a pool stands twice, or a row is none of this
-    /// service's. `Err(Fault::Failed)`: the tables are latched.
+    /// No row is changed. `Err(Fault::Damaged)`: a place of a pool stands twice, or a row is none
+    /// of this service's. `Err(Fault::Failed)`: the tables are latched.
     pub fn exceptions_of(&mut self, id: i64) -> Result<Vec<Exception>, Fault>
         requires live { self.old.1 ≡ false }
         ensures found { HasCleanDisk (state S.Store self.new.0) → IfOk result (λ exceptions. ListsBy Precedes (of_tenant exceptions_table id (state S.Store self.old.0).now.trees) (map exception_row exceptions.items)) }

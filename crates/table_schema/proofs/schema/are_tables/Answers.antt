@@ -1,4 +1,4 @@
-use Rattle.std.proofs.Common.{◌≡◌, length, get_or, sym, ap, ◌∙◌, arith}
+use Rattle.std.proofs.Common.{◌≡◌, length, get_or, ap, ◌∙◌, arith}
 use Rattle.table_schema.proofs.Elements.{of_8}
 use Rattle.table_schema.proofs.schema.are_tables.Goals as goal
 
