@@ -1,16 +1,18 @@
 //! Pools on maps, and asking a cache for the placements of their groups.
 
-ghost use Rattle.std.specs.Prelude.{◌≡◌, IfOk};
+ghost use Rattle.std.specs.Prelude.{◌≡◌, IfOk, true};
 ghost use Rattle.crush_writing.specs.Canonical.{canonical};
+ghost use Rattle.crush_pool.specs.Exceptions.{are_pairs};
 ghost use Rattle.crush_cache.specs.Caches.{KeepsNumbers, WasNumberOf};
 ghost use Rattle.crush_cache.specs.Contents.{content_of};
 
 use crush_bucket::Tables;
-use crush_cache::{Content, PlacementCache, SharedStates, SharedText};
+use crush_cache::{Content, PlacementCache, SharedExceptions, SharedStates, SharedText};
 use crush_choose::{Slot, Weights};
 use crush_map::{CrushMap, ItemId, Text};
 use crush_pool::{
-    DeviceState, DeviceStates, Placement, Placer, Pool, PoolFault, PoolParts, reweights_of,
+    DeviceState, DeviceStates, Exceptions, Pair, Placement, Placer, Pool, PoolFault, PoolParts,
+    reweights_of,
 };
 use crush_text::write_map;
 use std::alloc::{AllocError, Global};
@@ -36,6 +38,8 @@ pub(crate) struct Asked {
     pub(crate) name: &'static str,
     /// Whether the pool is erasure coded.
     pub(crate) erasure: bool,
+    /// The exceptions of the pool.
+    pub(crate) pairs: &'static [Pair],
 }
 
 /// The device 0, without a state, on a map with a short text, and the pool 1. Its group g has the
@@ -47,6 +51,7 @@ pub(crate) const FIRST: Asked = Asked {
     pool: 1,
     name: "rbd",
     erasure: false,
+    pairs: &[],
 };
 
 /// The same on a map with a long text.
@@ -124,6 +129,25 @@ fn pool_of(rt: &impl Abort, alloc: Global, asked: &Asked) -> Result<Pool, Fail> 
     };
     match Pool::new(parts) {
         Ok(pool) => Ok(pool),
+        Err(_) => rt.abort(),
+    }
+}
+
+/// The exceptions of the pool.
+fn exceptions_of(
+    rt: &impl Abort,
+    alloc: Global,
+    pool: &Pool,
+    pairs: &[Pair],
+) -> Result<SharedExceptions, Fail>
+    ensures { IfOk result (λ exceptions. are_pairs pool.now.pg_num exceptions ≡ true) }
+{
+    let mut list = Vec::with_capacity(alloc, pairs.len())?;
+    for pair in pairs {
+        list.push(*pair)?;
+    }
+    match Exceptions::new(alloc, pool, list)? {
+        Ok(exceptions) => Ok(SharedExceptions::new(alloc, exceptions)?),
         Err(_) => rt.abort(),
     }
 }
@@ -213,9 +237,19 @@ pub(crate) fn ask(
     let weights = Weights::of(alloc, &reweights_of(alloc, states.as_slice())?)?;
     let flags = DeviceStates::build(alloc, states.as_slice())?;
     let pool = Rc::new(alloc, pool_of(rt, alloc, asked)?)?;
+    let exceptions = exceptions_of(rt, alloc, &pool, asked.pairs)?;
     let text = text_of(rt, alloc, &map)?;
-    let content = Content::new(text, states.share()?, pool.clone()?);
-    match Placer::new(&map, &tables, states.as_slice(), &weights, &flags, &pool) {
+    let content = Content::new(text, states.share()?, pool.clone()?, exceptions.share()?);
+    let pairs = exceptions.exceptions();
+    match Placer::new(
+        &map,
+        &tables,
+        states.as_slice(),
+        &weights,
+        &flags,
+        &pool,
+        pairs,
+    ) {
         Some(placer) => answer_of(rt, alloc, cache, &placer, &content, group, how),
         None => rt.abort(),
     }
@@ -238,7 +272,8 @@ pub(crate) fn give_numbers(
         let text = SharedText::new(String::from_str(alloc, "other")?)?;
         let states = SharedStates::new(Vec::new(alloc))?;
         let pool = Rc::new(alloc, pool_of(rt, alloc, &asked)?)?;
-        number_of(rt, cache, &Content::new(text, states, pool));
+        let exceptions = SharedExceptions::new(alloc, Exceptions::none(alloc)?)?;
+        number_of(rt, cache, &Content::new(text, states, pool, exceptions));
     }
     Ok(())
 }

@@ -1,7 +1,10 @@
 //! Placements that are kept are shared, and not made anew.
 
-use crate::asking::{Asked, FIRST, How, LONG, ask, assert_placed, cache_for, is_one};
-use crush_pool::PoolFault;
+use crate::asking::{Answer, Asked, FIRST, How, LONG, ask, assert_placed, cache_for, is_one};
+use crush_choose::Slot;
+use crush_map::ItemId;
+use crush_pool::{Pair, PoolFault};
+use std::process::Abort;
 use std::test::Fail;
 
 /// What is asked after the one that is kept: how, and of which group.
@@ -121,6 +124,63 @@ fn another_map_state_or_pool_is_another_content(rt: HostRuntime) -> Result<(), F
         assert_placed(&rt, &other, *seed, *device, *is_up);
         assert!(rt; number < other.1);
         number = other.1;
+    }
+    let again = ask(&rt, alloc, &mut cache, &LONG, 3, How::ByContent)?;
+    assert!(rt; is_one(&rt, &first, &again));
+    Ok(())
+}
+
+/// The group 3 has another device than its rule answers.
+const AWAY: Pair = Pair {
+    group: 3,
+    from: 0,
+    to: 1_000,
+};
+
+/// It has a third one in the place of that.
+const ON: Pair = Pair {
+    group: 3,
+    from: 1_000,
+    to: 1_001,
+};
+
+/// Exceptions, and the device that the group 3 then has.
+const EXCEPTIONS: &[(&[Pair], i32)] = &[
+    (&[AWAY], 1_000),
+    (&[AWAY, ON], 1_001),
+    (&[ON, AWAY], 1_000),
+];
+
+/// The up list of the group 3 has this device alone.
+fn assert_up(rt: &impl Abort, answer: &Answer, device: i32) {
+    let Ok(placement) = &answer.0 else {
+        return rt.abort();
+    };
+    let (raw, up): (Slot, Slot) = (Some(ItemId(0)), Some(ItemId(device)));
+    assert_eq!(rt; placement.raw.as_slice(), [raw].as_slice());
+    assert_eq!(rt; placement.up.as_slice(), [up].as_slice());
+    assert_eq!(rt; placement.primary, up);
+}
+
+#[test]
+fn other_exceptions_are_another_content(rt: HostRuntime) -> Result<(), Fail> {
+    let alloc = rt.alloc();
+    let mut cache = cache_for(&rt, alloc, 16)?;
+    let first = ask(&rt, alloc, &mut cache, &LONG, 3, How::ByContent)?;
+    let mut number = first.1;
+    for (pairs, device) in EXCEPTIONS {
+        let asked = Asked {
+            pairs: *pairs,
+            ..LONG
+        };
+        let other = ask(&rt, alloc, &mut cache, &asked, 3, How::ByContent)?;
+        assert!(rt; !is_one(&rt, &first, &other));
+        assert_up(&rt, &other, *device);
+        assert!(rt; number < other.1);
+        number = other.1;
+        let again = ask(&rt, alloc, &mut cache, &asked, 3, How::ByContent)?;
+        assert!(rt; is_one(&rt, &other, &again));
+        assert_eq!(rt; again.1, number);
     }
     let again = ask(&rt, alloc, &mut cache, &LONG, 3, How::ByContent)?;
     assert!(rt; is_one(&rt, &first, &again));

@@ -5,14 +5,20 @@ use Rattle.std.proofs.lemmas.Bool.Decides.{Decides-and, Decides-like}
 use Rattle.std.specs.Bool.{Decides}
 use Rattle.std.specs.Cmp.{IsEquivalence, IsPartialEquivalence, booleans_Decides, decided, partial_equiv_from_equiv, unsigned_Decides}
 use Rattle.std.specs.Cmp.Lexicographic.{bytes_decides, pointwise_decides}
+use Rattle.crush_pool.specs.declared.exceptions.Pair.{Pair}
 use Rattle.crush_pool.specs.declared.pool.PoolParts.{PoolParts}
 use Rattle.crush_pool.specs.declared.states.DeviceState.{DeviceState}
-use Rattle.crush_cache.specs.Contents.{Content, content_eq, content_hash, content_writes, pool_eq, state_eq}
+use Rattle.crush_cache.specs.Contents.{Content, content_eq, content_hash, content_writes, pair_eq, pool_eq, state_eq}
 
 pub state_decides : (s t : DeviceState) → Decides (state_eq s t) (s ≡ t)
 state_decides s t =
     Decides-like _ (λ h i. record { device = h.0.0 i; reweight = h.0.1 i; up = h.1 i }) (λ e. ((ap (λ u. u.device) e, ap (λ u. u.reweight) e), ap (λ u. u.up) e))
     (Decides-and _ _ (Decides-and _ _ (unsigned_Decides s.device t.device) (unsigned_Decides s.reweight t.reweight)) (booleans_Decides s.up t.up))
+
+pub pair_decides : (p q : Pair) → Decides (pair_eq p q) (p ≡ q)
+pair_decides p q =
+    Decides-like _ (λ h i. record { group = h.0.0 i; from = h.0.1 i; to = h.1 i }) (λ e. ((ap (λ r. r.group) e, ap (λ r. r.from) e), ap (λ r. r.to) e))
+    (Decides-and _ _ (Decides-and _ _ (unsigned_Decides p.group q.group) (unsigned_Decides p.from q.from)) (unsigned_Decides p.to q.to))
 
 pub pool_decides : (p q : PoolParts) → Decides (pool_eq p q) (p ≡ q)
 pool_decides p q =
@@ -25,8 +31,11 @@ pool_decides p q =
 
 pub content_decides : (a b : Content) → Decides (content_eq a b) (a ≡ b)
 content_decides a b =
-    Decides-like _ (λ h i. record { text = h.1 i; states = h.0.1 i; pool = h.0.0 i }) (λ e. ((ap (λ c. c.pool) e, ap (λ c. c.states) e), ap (λ c. c.text) e))
-    (Decides-and _ _ (Decides-and _ _ (pool_decides a.pool b.pool) (pointwise_decides state_decides a.states b.states)) (bytes_decides a.text b.text))
+    Decides-like _ (λ h i. record { text = h.1 i; states = h.0.1 i; pool = h.0.0.0 i; pairs = h.0.0.1 i })
+    (λ e. (((ap (λ c. c.pool) e, ap (λ c. c.pairs) e), ap (λ c. c.states) e), ap (λ c. c.text) e))
+    (Decides-and _ _
+    (Decides-and _ _ (Decides-and _ _ (pool_decides a.pool b.pool) (pointwise_decides pair_decides a.pairs b.pairs)) (pointwise_decides state_decides a.states b.states))
+    (bytes_decides a.text b.text))
 
 pub content_laws : IsPartialEquivalence content_eq × IsEquivalence content_eq
 content_laws = let e = decided content_eq content_decides in (partial_equiv_from_equiv e, e)

@@ -65,7 +65,7 @@ fn place_anew(
     group: u32,
 ) -> Result<Result<Rc<Placement>, PoolFault>, AllocError>
     ensures there { IfOk result (λ answer. is_ok answer ≡ nat_lt group placer.now.pool.pg_num) }
-    ensures placed { IfOk result (λ answer. IfOk answer (λ p. placement placer.now.map placer.now.states placer.now.pool group ≡ Some p.value)) }
+    ensures placed { IfOk result (λ answer. IfOk answer (λ p. placement placer.now.map placer.now.states placer.now.pool placer.now.pairs group ≡ Some p.value)) }
     ensures fault { IfOk result (λ answer. IfErr answer (λ fault. fault ≡ PoolFault.P2)) }
 {
     if group >= placer.pool().parts().pg_num {
@@ -175,7 +175,7 @@ impl PlacementCache {
     ) -> Result<Result<Rc<Placement>, PoolFault>, AllocError>
         requires { IsNumberOf self.old number (content_of placer.now) }
         ensures there { IfOk result (λ answer. is_ok answer ≡ nat_lt group placer.now.pool.pg_num) }
-        ensures placed { IfOk result (λ answer. IfOk answer (λ p. placement placer.now.map placer.now.states placer.now.pool group ≡ Some p.value)) }
+        ensures placed { IfOk result (λ answer. IfOk answer (λ p. placement placer.now.map placer.now.states placer.now.pool placer.now.pairs group ≡ Some p.value)) }
         ensures fault { IfOk result (λ answer. IfErr answer (λ fault. fault ≡ PoolFault.P2)) }
         ensures same { self.new ≡ self.old }
     {
@@ -222,7 +222,7 @@ impl PlacementCache {
     ) -> Result<Result<Rc<Placement>, PoolFault>, AllocError>
         requires { IsNumberOf self.old number (content_of placer.now) }
         ensures there { IfOk result (λ answer. is_ok answer ≡ nat_lt group placer.now.pool.pg_num) }
-        ensures placed { IfOk result (λ answer. IfOk answer (λ p. placement placer.now.map placer.now.states placer.now.pool group ≡ Some p.value)) }
+        ensures placed { IfOk result (λ answer. IfOk answer (λ p. placement placer.now.map placer.now.states placer.now.pool placer.now.pairs group ≡ Some p.value)) }
         ensures fault { IfOk result (λ answer. IfErr answer (λ fault. fault ≡ PoolFault.P2)) }
         ensures same { self.new ≡ self.old }
     {
@@ -253,7 +253,7 @@ impl PlacementCache {
     ) -> Result<Result<Rc<Placement>, PoolFault>, AllocError>
         requires { content.now ≡ content_of placer.now }
         ensures there { IfOk result (λ answer. is_ok answer ≡ nat_lt group placer.now.pool.pg_num) }
-        ensures placed { IfOk result (λ answer. IfOk answer (λ p. placement placer.now.map placer.now.states placer.now.pool group ≡ Some p.value)) }
+        ensures placed { IfOk result (λ answer. IfOk answer (λ p. placement placer.now.map placer.now.states placer.now.pool placer.now.pairs group ≡ Some p.value)) }
         ensures fault { IfOk result (λ answer. IfErr answer (λ fault. fault ≡ PoolFault.P2)) }
         ensures kept { KeepsNumbers self.old self.new }
     {
@@ -274,7 +274,7 @@ impl PlacementCache {
     ) -> Result<Result<Rc<Placement>, PoolFault>, AllocError>
         requires { WasNumberOf self.old number (content_of placer.now) }
         ensures there { IfOk result (λ answer. is_ok answer ≡ nat_lt group placer.now.pool.pg_num) }
-        ensures placed { IfOk result (λ answer. IfOk answer (λ p. placement placer.now.map placer.now.states placer.now.pool group ≡ Some p.value)) }
+        ensures placed { IfOk result (λ answer. IfOk answer (λ p. placement placer.now.map placer.now.states placer.now.pool placer.now.pairs group ≡ Some p.value)) }
         ensures fault { IfOk result (λ answer. IfErr answer (λ fault. fault ≡ PoolFault.P2)) }
         ensures same { self.new ≡ self.old }
     {

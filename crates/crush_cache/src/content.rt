@@ -4,6 +4,7 @@ ghost use Rattle.std.specs.Prelude.{◌≡◌};
 ghost use Rattle.crush_pool.specs.declared.pool.PoolParts.{PoolParts};
 ghost use Rattle.crush_cache.specs.Hashes.{joined_hash};
 
+use crate::exceptions::SharedExceptions;
 use crate::pools::{feed_pool, is_same_pool};
 use crate::states::SharedStates;
 use crate::text::SharedText;
@@ -17,14 +18,15 @@ use std::rc::Rc;
 /// long a text, and names of 64 bytes, takes longer than all else of a request.
 const LONG_TEXT: usize = 65_536;
 
-/// What placements depend on: the canonical text of a map, all states of devices, and a pool.
-/// Contracts see these three.
+/// What placements depend on: the canonical text of a map, all states of devices, a pool, and the
+/// exceptions of the pool. Contracts see these four, of the exceptions the pairs.
 #[derive(Drop)]
 pub struct Content {
     text: SharedText,
     states: SharedStates,
     pool: Rc<Pool>,
-    /// The hash of the three, which is made once.
+    exceptions: SharedExceptions,
+    /// The hash of the four, which is made once.
     hash: u64,
 }
 
@@ -34,18 +36,19 @@ impl Model for Content {
 
     ghost Value = { Content };
 
-    ghost view = { λ a. record { text = a.text; states = a.states; pool = a.pool.value } };
+    ghost view = { λ a. record { text = a.text; states = a.states; pool = a.pool.value; pairs = a.exceptions } };
 
-    ghost invariant = { λ a. a.hash ≡ content_hash (record { text = a.text; states = a.states; pool = a.pool.value }) };
+    ghost invariant = { λ a. a.hash ≡ content_hash (record { text = a.text; states = a.states; pool = a.pool.value; pairs = a.exceptions }) };
 }
 
-/// The hash of a text's hash, that of states, and a pool.
-fn hash_of(text: u64, states: u64, pool: &Pool) -> u64
-    ensures { result ≡ joined_hash text states pool.now }
+/// The hash of a text's hash, that of states, that of pairs, and a pool.
+fn hash_of(text: u64, states: u64, pairs: u64, pool: &Pool) -> u64
+    ensures { result ≡ joined_hash text states pairs pool.now }
 {
     let mut hasher = FoldHasher::default();
     text.hash(&mut hasher);
     states.hash(&mut hasher);
+    pairs.hash(&mut hasher);
     feed_pool(&mut hasher, pool);
     hasher.finish()
 }
@@ -56,15 +59,21 @@ impl Content {
     ghost use Rattle.crush_cache.specs.declared.content.TheConstants.{LONG_TEXT};
 
     /// The content of these. Takes no memory, and time that doesn't depend on the lengths of the
-    /// text and of the states.
-    pub fn new(text: SharedText, states: SharedStates, pool: Rc<Pool>) -> Self
-        ensures { result ≡ record { text = text; states = states; pool = pool.value } }
+    /// text, of the states and of the exceptions.
+    pub fn new(
+        text: SharedText,
+        states: SharedStates,
+        pool: Rc<Pool>,
+        exceptions: SharedExceptions,
+    ) -> Self
+        ensures { result ≡ record { text = text; states = states; pool = pool.value; pairs = exceptions } }
     {
-        let hash = hash_of(text.hash(), states.hash(), &pool);
+        let hash = hash_of(text.hash(), states.hash(), exceptions.hash(), &pool);
         Content {
             text,
             states,
             pool,
+            exceptions,
             hash,
         }
     }
@@ -76,11 +85,12 @@ impl Content {
         self.text.as_str().len() >= LONG_TEXT
     }
 
-    /// Whether pool, states and text are the same.
+    /// Whether pool, exceptions, states and text are the same.
     fn is_same(&self, other: &Content) -> bool
         ensures { result ≡ content_eq self.now other.now }
     {
         is_same_pool(&self.pool, &other.pool)
+            && self.exceptions.is_same(&other.exceptions)
             && self.states.as_slice() == other.states.as_slice()
             && self.text.as_str() == other.text.as_str()
     }
@@ -94,6 +104,7 @@ impl Content {
             text: self.text.share()?,
             states: self.states.share()?,
             pool: self.pool.clone()?,
+            exceptions: self.exceptions.share()?,
             hash: self.hash,
         })
     }

@@ -7,6 +7,7 @@
 mod cache;
 mod content;
 mod entries;
+mod exceptions;
 pub mod limits;
 mod pools;
 mod seen;
@@ -16,5 +17,6 @@ mod text;
 pub use cache::PlacementCache;
 pub use content::Content;
 pub use entries::{Entries, Key};
+pub use exceptions::SharedExceptions;
 pub use states::SharedStates;
 pub use text::SharedText;

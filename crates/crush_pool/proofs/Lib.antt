@@ -1,5 +1,7 @@
 mod Masks
+pub mod Excepting
 pub mod Flags
+pub mod Pairs
 mod Placed
 mod Ranges
 mod Seen

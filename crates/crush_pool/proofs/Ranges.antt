@@ -7,3 +7,6 @@ use Rattle.crush_pool.specs.declared.pool.PoolParts.{PoolParts}
 
 pub pool_ranges : (p : PoolParts) → is_pool p ≡ true → (p.id ≤ POOL_ID_LIMIT) × (p.pgp_num ≤ GROUP_LIMIT)
 pool_ranges p valid = grind (arith, nat_tests, valid)
+
+pub pool_groups : (p : PoolParts) → is_pool p ≡ true → p.pg_num ≤ GROUP_LIMIT
+pool_groups p valid = grind (arith, nat_tests, valid)

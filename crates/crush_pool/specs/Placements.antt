@@ -8,13 +8,15 @@ use Rattle.crush_bucket.specs.Tables.{TablesView, tables_of}
 use Rattle.crush_choose.specs.Marks.{Slot}
 use Rattle.crush_rules.specs.Rules.{rule_answer}
 use Rattle.crush_choose.specs.Weights.{weights_of}
+use Rattle.crush_pool.specs.Exceptions.{excepted}
 use Rattle.crush_pool.specs.Pools.{seed_of}
 use Rattle.crush_pool.specs.States.{flags_of, up_at, reweights}
+use Rattle.crush_pool.specs.declared.exceptions.Pair.{Pair}
 use Rattle.crush_pool.specs.declared.placing.Placement.{Placement}
 use Rattle.crush_pool.specs.declared.pool.PoolParts.{PoolParts}
 use Rattle.crush_pool.specs.declared.states.DeviceState.{DeviceState}
 
--- ---- from the rule's answer to the devices that are up
+-- ---- from the rule's answer, with its exceptions, to the devices that are up
 
 abbrev pub id_is_up : List Bool → ℤ → Bool
 id_is_up flags (pos device) = up_at flags device
@@ -42,19 +44,20 @@ primary_of (Some item ∷ slots) = Some item
 
 -- ---- placements
 
--- the placement of a group by the steps of its pool's rule
-unfoldable pub placed : TablesView → List ℕ → List Bool → List Step → PoolParts → ℕ → Placement
-placed t w flags steps p group =
+-- the placement of a group by the steps of its pool's rule: raw is the rule's answer, and the
+-- pairs of the pool change what up is made of
+unfoldable pub placed : TablesView → List ℕ → List Bool → List Step → PoolParts → List Pair → ℕ → Placement
+placed t w flags steps p pairs group =
     let raw = rule_answer t w steps (seed_of p group) p.size in
-    let up = up_of p.erasure flags raw in
+    let up = up_of p.erasure flags (excepted t w pairs group raw) in
     record { seed = seed_of p group; raw = raw; up = up; primary = primary_of up }
 
 -- the rule of a map with an id
 abbrev pub rule_numbered : Map → ℕ → Option Rule
 rule_numbered m id = find (λ r. r.id == id) m.rules
 
--- the placement of a group of a pool on a map, with these states of devices; none where the map
--- lacks the pool's rule
-abbrev pub placement : Map → List DeviceState → PoolParts → ℕ → Option Placement
-placement m states p group =
-    option_map (λ r. placed (tables_of m) (weights_of (reweights states)) (flags_of states) r.steps p group) (rule_numbered m p.rule)
+-- the placement of a group of a pool with these pairs on a map, with these states of devices; none
+-- where the map lacks the pool's rule
+abbrev pub placement : Map → List DeviceState → PoolParts → List Pair → ℕ → Option Placement
+placement m states p pairs group =
+    option_map (λ r. placed (tables_of m) (weights_of (reweights states)) (flags_of states) r.steps p pairs group) (rule_numbered m p.rule)

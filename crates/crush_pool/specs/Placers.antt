@@ -4,14 +4,16 @@ use Rattle.crush_map.specs.Map.{Map}
 use Rattle.crush_map.specs.declared.draft.Rule.{Rule}
 use Rattle.crush_map.specs.declared.draft.Step.{Step}
 use Rattle.crush_pool.specs.Placements.{rule_numbered}
+use Rattle.crush_pool.specs.declared.exceptions.Pair.{Pair}
 use Rattle.crush_pool.specs.declared.pool.PoolParts.{PoolParts}
 use Rattle.crush_pool.specs.declared.states.DeviceState.{DeviceState}
 
--- a pool on a map, with states of devices
+-- a pool on a map, with its pairs and with states of devices
 pub record PoolOnMap : Type 0 where
   pub map : Map
   pub states : List DeviceState
   pub pool : PoolParts
+  pub pairs : List Pair
 
 abbrev pub steps_in : Option Rule → List Step
 steps_in None = []

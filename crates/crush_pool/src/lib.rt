@@ -1,11 +1,12 @@
-//! Pools and placements: the group of an object's name, and the devices of a group. States of
-//! devices, and changes of them.
+//! Pools and placements: the group of an object's name, and the devices of a group. Exceptions of a
+//! pool. States of devices, and changes of them.
 //!
 //! Source: Ceph's `osd/osd_types.cc`, `osd/OSDMap.cc` and `include/rados.h`. The tests are in the
 //! crate `pool_tests`.
 #![tactic(auto)]
 
 mod changes;
+mod exceptions;
 mod group;
 pub mod laws;
 pub mod limits;
@@ -15,6 +16,7 @@ mod pool;
 mod states;
 
 pub use changes::{DeviceChange, are_valid_changes};
+pub use exceptions::{Excepted, Exceptions, Pair};
 pub use group::{mask_of, stable_mod};
 pub use placer::Placer;
 pub use placing::{Placement, is_up_slot, place, primary_of, rule_with_id};

@@ -1,4 +1,4 @@
-//! The limits of pools, and of changes of devices.
+//! The limits of pools, of their exceptions, and of changes of devices.
 //!
 //! Each limit is itself allowed. It stands here alone: the definitions import it.
 
@@ -10,3 +10,6 @@ pub const GROUP_LIMIT: u32 = 65_536;
 
 /// The most changes of devices in one body.
 pub const CHANGE_LIMIT: usize = 1_024;
+
+/// The most pairs in the exceptions of a pool.
+pub const PAIR_LIMIT: usize = 1_024;

@@ -1,4 +1,5 @@
-//! What places the groups of a pool: the pool on a map, with states of devices.
+//! What places the groups of a pool: the pool on a map, with its exceptions and with states of
+//! devices.
 
 ghost use Rattle.std.specs.Prelude.{◌≡◌, option_map};
 ghost use Rattle.crush_bucket.specs.Tables.{tables_of};
@@ -6,18 +7,20 @@ ghost use Rattle.crush_choose.specs.Weights.{weights_of};
 ghost use Rattle.crush_pool.specs.Placements.{rule_numbered};
 ghost use Rattle.crush_pool.specs.States.{flags_of, reweights};
 
+use crate::exceptions::{Excepted, Exceptions};
 use crate::placing::{Placement, placement_by, rule_with_id, run};
 use crate::pool::Pool;
 use crate::states::{DeviceState, DeviceStates};
 use crush_bucket::{Scratch, Tables};
-use crush_choose::Weights;
+use crush_choose::{Slot, Weights};
 use crush_map::{CrushMap, Rule};
 use crush_rules::{Out, touches};
 use std::alloc::{AllocError, Global};
 use std::marker::Model;
 
-/// A pool on a map that has the pool's rule, with states of devices: all that is needed to place
-/// the pool's groups. Contracts see the map, the states and the pool.
+/// A pool on a map that has the pool's rule, with the pool's exceptions and with states of devices:
+/// all that is needed to place the pool's groups. Contracts see the map, the states, the pool and
+/// its pairs.
 #[derive(Drop)]
 pub struct Placer<'a> {
     map: &'a CrushMap,
@@ -27,20 +30,22 @@ pub struct Placer<'a> {
     weights: &'a Weights,
     flags: &'a DeviceStates,
     pool: &'a Pool,
+    exceptions: &'a Exceptions,
 }
 
 impl<'a> Model for Placer<'a> {
-    ghost use Rattle.std.specs.Prelude.{◌≡◌, Some};
+    ghost use Rattle.std.specs.Prelude.{◌≡◌, Some, true};
     ghost use Rattle.crush_bucket.specs.Tables.{tables_of};
     ghost use Rattle.crush_rules.specs.Rules.{CanRun};
     ghost use Rattle.crush_choose.specs.Weights.{weights_of};
+    ghost use Rattle.crush_pool.specs.Exceptions.{are_pairs};
     ghost use Rattle.crush_pool.specs.Placements.{rule_numbered};
     ghost use Rattle.crush_pool.specs.Placers.{PoolOnMap};
     ghost use Rattle.crush_pool.specs.States.{flags_of, reweights};
 
     ghost Value = { PoolOnMap };
 
-    ghost view = { λ a. record { map = a.map.now; states = a.states.now; pool = a.pool.now } };
+    ghost view = { λ a. record { map = a.map.now; states = a.states.now; pool = a.pool.now; pairs = a.exceptions.now } };
 
     ghost invariant = { λ a. record {
       tables : a.tables.now ≡ tables_of a.map.now;
@@ -48,25 +53,28 @@ impl<'a> Model for Placer<'a> {
       flags : a.flags.now ≡ flags_of a.states.now;
       rule : rule_numbered a.map.now a.pool.now.rule ≡ Some a.rule.now;
       runs : CanRun a.tables.now a.rule.now;
+      pairs : are_pairs a.pool.now.pg_num a.exceptions.now ≡ true;
     } };
 }
 
 impl<'a> Placer<'a> {
-    ghost use Rattle.std.specs.Prelude.{◌≡◌, ◌<◌, ℕ, List, Some, IfOk, is_some, true, option_map};
+    ghost use Rattle.std.specs.Prelude.{◌≡◌, ◌<◌, ◌≤◌, ℕ, List, Some, IfOk, is_some, true, length, option_map};
     ghost use Rattle.crush_map.specs.Faults.{has_number};
     ghost use Rattle.crush_bucket.specs.Tables.{perms_of, tables_of};
     ghost use Rattle.crush_rules.specs.Rules.{IsTrace, rule_answer};
     ghost use Rattle.crush_choose.specs.Weights.{weights_of};
+    ghost use Rattle.crush_choose.specs.declared.limits.TheConstants.{SIZE_LIMIT};
+    ghost use Rattle.crush_pool.specs.Exceptions.{are_pairs, excepted};
     ghost use Rattle.crush_pool.specs.Placements.{placement, rule_numbered};
     ghost use Rattle.crush_pool.specs.Placers.{steps_of};
     ghost use Rattle.crush_pool.specs.Pools.{seed_of};
     ghost use Rattle.crush_pool.specs.States.{flags_of, reweights};
 
-    /// The pool on the map, with these states of devices; `None` exactly where the map lacks the
-    /// pool's rule.
+    /// The pool on the map, with these exceptions and states of devices; `None` exactly where the
+    /// map lacks the pool's rule.
     ///
-    /// The tables are those of the map, the weights are the reweights of the states, and the flags
-    /// say which devices are up by the states.
+    /// The tables are those of the map, the weights are the reweights of the states, the flags say
+    /// which devices are up by the states, and each exception is of a group of the pool.
     pub fn new(
         map: &'a CrushMap,
         tables: &'a Tables,
@@ -74,11 +82,13 @@ impl<'a> Placer<'a> {
         weights: &'a Weights,
         flags: &'a DeviceStates,
         pool: &'a Pool,
+        exceptions: &'a Exceptions,
     ) -> Option<Placer<'a>>
         requires tables { tables.now ≡ tables_of map.now }
         requires weights { weights.now ≡ weights_of (reweights states.now) }
         requires flags { flags.now ≡ flags_of states.now }
-        ensures { result ≡ option_map (λ rule. record { map = map.now; states = states.now; pool = pool.now }) (rule_numbered map.now pool.now.rule) }
+        requires exceptions { are_pairs pool.now.pg_num exceptions.now ≡ true }
+        ensures { result ≡ option_map (λ rule. record { map = map.now; states = states.now; pool = pool.now; pairs = exceptions.now }) (rule_numbered map.now pool.now.rule) }
     {
         let rule = rule_with_id(map, pool.parts().rule)?;
         Some(Placer {
@@ -89,6 +99,7 @@ impl<'a> Placer<'a> {
             weights,
             flags,
             pool,
+            exceptions,
         })
     }
 
@@ -112,6 +123,22 @@ impl<'a> Placer<'a> {
         ensures { result.now ≡ self.now.pool }
     {
         self.pool
+    }
+
+    /// The exceptions of the pool.
+    pub fn exceptions(&self) -> &'a Exceptions
+        ensures same { result.now ≡ self.now.pairs }
+        ensures valid { are_pairs self.now.pool.pg_num self.now.pairs ≡ true }
+    {
+        self.exceptions
+    }
+
+    /// What the rule answered for a group, with the exceptions of that group. Allocates nothing.
+    pub fn excepted(&self, group: u32, raw: &[Slot]) -> Excepted
+        requires { length raw.now ≤ SIZE_LIMIT }
+        ensures { result ≡ excepted (tables_of self.now.map) (weights_of (reweights self.now.states)) self.now.pairs group raw.now }
+    {
+        Excepted::new(self.tables, self.weights, self.exceptions, group, raw)
     }
 
     /// The flags of the states: which devices are up.
@@ -173,13 +200,22 @@ impl<'a> Placer<'a> {
     ) -> Result<Placement, AllocError>
         requires there { group < self.now.pool.pg_num }
         requires fits { scratch.old ≡ perms_of (tables_of self.now.map) }
-        ensures placed { IfOk result (λ p. placement self.now.map self.now.states self.now.pool group ≡ Some p) }
+        ensures placed { IfOk result (λ p. placement self.now.map self.now.states self.now.pool self.now.pairs group ≡ Some p) }
         ensures items { IfOk result (λ p. out.new.items ≡ p.raw) }
         ensures trace { IfOk result (λ p. IsTrace (tables_of self.now.map) (weights_of (reweights self.now.states)) (steps_of self.now) p.seed self.now.pool.size out.new.trace) }
         ensures fits { scratch.new ≡ perms_of (tables_of self.now.map) }
     {
         self.run(scratch, out, group);
-        let placement = placement_by(alloc, self.pool, self.flags, group, out)?;
+        let placement = placement_by(
+            alloc,
+            self.tables,
+            self.weights,
+            self.pool,
+            self.exceptions,
+            self.flags,
+            group,
+            out,
+        )?;
         Ok(placement)
     }
 }

@@ -1,15 +1,18 @@
 //! Placements: the devices of a group.
 
-ghost use Rattle.std.specs.Prelude.{◌≡◌, ◌<◌, ◌≤◌, List, Some, IfOk, IfErr, IfSome, is_ok, nat_lt, length, option_map};
+ghost use Rattle.std.specs.Prelude.{◌≡◌, ◌<◌, ◌≤◌, List, Some, IfOk, IfErr, IfSome, is_ok, nat_lt, length, option_map, true};
 ghost use Rattle.crush_map.specs.Map.{Map};
 ghost use Rattle.crush_bucket.specs.Tables.{perms_of, tables_of};
 ghost use Rattle.crush_rules.specs.Rules.{CanRun, IsTrace, rule_answer};
 ghost use Rattle.crush_choose.specs.Weights.{weights_of};
+ghost use Rattle.crush_choose.specs.declared.limits.TheConstants.{SIZE_LIMIT};
+ghost use Rattle.crush_pool.specs.Exceptions.{are_pairs, excepted};
 ghost use Rattle.crush_pool.specs.States.{flags_of, reweights};
 ghost use Rattle.crush_pool.specs.Placements as spec;
 ghost use Rattle.crush_pool.specs.Pools.{seed_of};
 ghost use Rattle.crush_pool.specs.declared.states.DeviceState.{DeviceState};
 
+use crate::exceptions::{Excepted, Exceptions};
 use crate::pool::{Pool, PoolFault};
 use crate::states::DeviceStates;
 use crush_bucket::{Scratch, Tables};
@@ -26,8 +29,8 @@ pub struct Placement {
     pub seed: u32,
     /// What the rule answered.
     pub raw: Listed<Slot>,
-    /// The devices of `raw` that are up, in order. In an erasure pool each other entry of `raw` is
-    /// `None` here.
+    /// Of `raw`, with the exceptions of the group, the devices that are up, in order. In an erasure
+    /// pool each other entry is `None` here.
     pub up: Listed<Slot>,
     /// The first device of `up`; `None` where there is none.
     pub primary: Slot,
@@ -52,7 +55,7 @@ pub fn is_up_slot(states: &DeviceStates, slot: Slot) -> bool
     }
 }
 
-/// The up list of a replicated or an erasure pool, by what the rule answered.
+/// The up list of a replicated or an erasure pool, by what the rule answered, with its exceptions.
 fn up_of(
     alloc: Global,
     erasure: bool,
@@ -70,6 +73,31 @@ fn up_of(
         }
     }
     Ok(up)
+}
+
+/// The up list of a group, by what the rule answered for it. Only where the group has exceptions
+/// they are applied, to a copy of the answer.
+#[tactic(auto, using(crate::proofs::Pairs::nothing_excepted))]
+fn up_with(
+    alloc: Global,
+    tables: &Tables,
+    weights: &Weights,
+    pool: &Pool,
+    exceptions: &Exceptions,
+    states: &DeviceStates,
+    group: u32,
+    raw: &[Slot],
+) -> Result<Vec<Slot>, AllocError>
+    requires { length raw.now ≤ SIZE_LIMIT }
+    ensures { IfOk result (λ up. up.items ≡ spec.up_of pool.now.erasure states.now (excepted tables.now weights.now exceptions.now group raw.now)) }
+{
+    let erasure = pool.parts().erasure;
+    if exceptions.concern(group) {
+        let changed = Excepted::new(tables, weights, exceptions, group, raw);
+        up_of(alloc, erasure, states, changed.items())
+    } else {
+        up_of(alloc, erasure, states, raw)
+    }
 }
 
 /// The first device of an up list; `None` where there is none.
@@ -119,18 +147,30 @@ pub(crate) fn run(
 /// The placement of a group by what the pool's rule answered for it.
 pub(crate) fn placement_by(
     alloc: Global,
+    tables: &Tables,
+    weights: &Weights,
     pool: &Pool,
+    exceptions: &Exceptions,
     states: &DeviceStates,
     group: u32,
     out: &Out,
 ) -> Result<Placement, AllocError>
     ensures seed { IfOk result (λ p. p.seed ≡ seed_of pool.now group) }
     ensures raw { IfOk result (λ p. p.raw ≡ out.now.items) }
-    ensures up { IfOk result (λ p. p.up ≡ spec.up_of pool.now.erasure states.now out.now.items) }
+    ensures up { IfOk result (λ p. p.up ≡ spec.up_of pool.now.erasure states.now (excepted tables.now weights.now exceptions.now group out.now.items)) }
     ensures primary { IfOk result (λ p. p.primary ≡ spec.primary_of p.up) }
 {
     let raw = copied(alloc, out.items())?;
-    let up = up_of(alloc, pool.parts().erasure, states, &raw)?;
+    let up = up_with(
+        alloc,
+        tables,
+        weights,
+        pool,
+        exceptions,
+        states,
+        group,
+        out.items(),
+    )?;
     let primary = primary_of(&up);
     Ok(Placement {
         seed: pool.seed_of(group),
@@ -140,31 +180,36 @@ pub(crate) fn placement_by(
     })
 }
 
-/// The placement of a group, or `P2` where the pool has no such group. `Err(AllocError)`: an
-/// allocation failed; nothing is changed.
+/// The placement of a group of a pool with these exceptions, or `P2` where the pool has no such
+/// group. `Err(AllocError)`: an allocation failed; nothing is changed.
 #[tactic(auto, unfolding(crate::specs::Placements::placed))]
 pub fn place(
     alloc: Global,
     tables: &Tables,
     scratch: &mut Scratch,
     pool: &Pool,
+    exceptions: &Exceptions,
     rule: &Rule,
     weights: &Weights,
     states: &DeviceStates,
     group: u32,
 ) -> Result<Result<Placement, PoolFault>, AllocError>
+    requires exceptions { are_pairs pool.now.pg_num exceptions.now ≡ true }
     requires rule { CanRun tables.now rule.now }
     requires fits { scratch.old ≡ perms_of tables.now }
     ensures there { IfOk result (λ answer. is_ok answer ≡ nat_lt group pool.now.pg_num) }
-    ensures placed { IfOk result (λ answer. IfOk answer (λ p. p ≡ spec.placed tables.now weights.now states.now rule.now.steps pool.now group)) }
+    ensures placed { IfOk result (λ answer. IfOk answer (λ p. p ≡ spec.placed tables.now weights.now states.now rule.now.steps pool.now exceptions.now group)) }
     ensures fault { IfOk result (λ answer. IfErr answer (λ fault. fault ≡ PoolFault.P2)) }
     ensures fits { scratch.new ≡ perms_of tables.now }
-    ensures map { (m : Map) (given : List DeviceState) → tables.now ≡ tables_of m → weights.now ≡ weights_of (reweights given) → states.now ≡ flags_of given → spec.rule_numbered m pool.now.rule ≡ Some rule.now → IfOk result (λ answer. IfOk answer (λ p. Some p ≡ spec.placement m given pool.now group)) }
+    ensures map { (m : Map) (given : List DeviceState) → tables.now ≡ tables_of m → weights.now ≡ weights_of (reweights given) → states.now ≡ flags_of given → spec.rule_numbered m pool.now.rule ≡ Some rule.now → IfOk result (λ answer. IfOk answer (λ p. Some p ≡ spec.placement m given pool.now exceptions.now group)) }
 {
     if group >= pool.parts().pg_num {
         return Ok(Err(PoolFault::P2));
     }
     let mut out = Out::build(alloc)?;
     run(tables, scratch, pool, rule, weights, group, &mut out);
-    Ok(Ok(placement_by(alloc, pool, states, group, &out)?))
+    let placement = placement_by(
+        alloc, tables, weights, pool, exceptions, states, group, &out,
+    )?;
+    Ok(Ok(placement))
 }

@@ -12,13 +12,15 @@ use crush_map::limits::RULE_ID_LIMIT;
 use crush_map::{Text, is_name};
 use std::marker::Model;
 
-/// Why there is no pool, or no placement in it.
+/// Why there is no pool, no placement in it, or why pairs are no exceptions of it.
 #[derive(Clone, Copy, Debug, PartialEq, Eq)]
 pub enum PoolFault {
     /// A number or the name is out of range.
     P1,
     /// The pool has no such group.
     P2,
+    /// There are too many pairs, or one of them has a number out of range or one id twice.
+    P3,
 }
 
 /// The settings of a pool.

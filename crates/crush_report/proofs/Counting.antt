@@ -13,7 +13,8 @@ use Rattle.crush_choose.specs.Marks.{Slot}
 use Rattle.crush_pool.specs.Placements.{id_is_up, is_up_slot, primary_of, up_of}
 use Rattle.crush_report.proofs.Sums.{filter_if, one_if}
 use Rattle.crush_report.specs.Private.Tallies.{HasRoom, HasSameLengths, IsCounting, IsTally, TallyView, count_at, entries_in, filled_in, groups_in, is_again, primaries_in}
-use Rattle.crush_report.specs.Usage.{all_entries, device_item}
+use Rattle.crush_pool.specs.Exceptions.{device_item}
+use Rattle.crush_report.specs.Usage.{all_entries}
 
 -- ---- one slot of an answer
 

@@ -9,7 +9,7 @@ use Rattle.crush_map.specs.declared.word.ItemId.{ItemId}
 use Rattle.crush_choose.specs.Firstn.{has}
 use Rattle.crush_choose.specs.Marks.{Slot}
 use Rattle.crush_report.specs.Moves.{gained, gained_in, is_gain}
-use Rattle.crush_report.specs.Usage.{device_item}
+use Rattle.crush_pool.specs.Exceptions.{device_item}
 use Rattle.crush_report.specs.declared.rows.MoveRow.{MoveRow}
 use Rattle.crush_report.proofs.Sums.{AreAscending, IsAmong, counted_once, none_counted, one_if, sum_both, sum_same, sum_zero}
 

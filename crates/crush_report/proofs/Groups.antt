@@ -5,10 +5,10 @@ use Rattle.std.proofs.lemmas.List.{map-append}
 use Rattle.std.proofs.lemmas.List.Elements.{filter-append, filter_map-append}
 use Rattle.crush_bucket.specs.Tables.{TablesView}
 use Rattle.crush_map.specs.declared.draft.Step.{Step}
-use Rattle.crush_map.specs.Faults.{has_number}
 use Rattle.crush_choose.specs.Marks.{Slot}
+use Rattle.crush_pool.specs.declared.exceptions.Pair.{Pair}
 use Rattle.crush_pool.specs.declared.pool.PoolParts.{PoolParts}
-use Rattle.crush_report.specs.Impact.{trace_of, touched}
+use Rattle.crush_report.specs.Impact.{touches, touched}
 use Rattle.crush_report.specs.Moves.{move_between, move_rows}
 
 range_more : (a n : ℕ) → range_with_len a (suc n) ≡ range_with_len a n ++ (a + n) ∷ []
@@ -25,10 +25,10 @@ groups_more n =
     let z : 0 + n ≡ n = omega arith in
     rw e (rw z at (range_more 0 n))
 
-pub touched_more : (t : TablesView) (w : List ℕ) (steps : List Step) (p : PoolParts) (device n : ℕ)
-    → touched t w steps p device (range_with_len 0 (n + 1)) ≡ touched t w steps p device (range_with_len 0 n) ++ cond (has_number (trace_of t w steps p n) device) (n ∷ []) []
-touched_more t w steps p device n =
-    ap (touched t w steps p device) (groups_more n) ∙ filter-append (λ group. has_number (trace_of t w steps p group) device) (range_with_len 0 n) (n ∷ [])
+pub touched_more : (t : TablesView) (w : List ℕ) (steps : List Step) (p : PoolParts) (pairs : List Pair) (device n : ℕ)
+    → touched t w steps p pairs device (range_with_len 0 (n + 1)) ≡ touched t w steps p pairs device (range_with_len 0 n) ++ cond (touches t w steps p pairs device n) (n ∷ []) []
+touched_more t w steps p pairs device n =
+    ap (touched t w steps p pairs device) (groups_more n) ∙ filter-append (touches t w steps p pairs device) (range_with_len 0 n) (n ∷ [])
 
 pub moves_more : (old new : ℕ → List Slot) (n : ℕ)
     → move_rows old new (range_with_len 0 (n + 1)) ≡ move_rows old new (range_with_len 0 n) ++ cons_option (move_between n (old n) (new n)) []

@@ -1,18 +1,19 @@
 -- Which groups have a row in `moves`, and which stand in a list of groups that pass a test.
-use Rattle.std.proofs.Common.{◌≡◌, ℕ, ℤ, zero, suc, ◌+◌, ◌<◌, ◌≤◌, ◌==◌, ◌||◌, Bool, true, false, not, cond, if◌then◌else◌, List, [], ◌∷◌, map, filter, Option, Some, None, option_map, option_and_then, refl, ap, sym, ◌∙◌, arith, inl, inr}
+use Rattle.std.proofs.Common.{◌≡◌, ℕ, ℤ, zero, suc, ◌+◌, ◌<◌, ◌≤◌, ◌==◌, ◌||◌, Bool, true, false, not, cond, if◌then◌else◌, List, [], ◌∷◌, map, filter, Option, Some, None, option_map, option_and_then, refl, ap, sym, ◌∙◌, arith, ◌⊎◌, inl, inr}
 use Rattle.std.specs.List.{range_with_len, cons_option}
-use Rattle.std.proofs.lemmas.Bool.{and_parts, and_from, false≢true, cases_eq, eq-eqb, ne_eqb}
-use Rattle.std.proofs.lemmas.Bool.Decides.{Decides-int_eq}
+use Rattle.std.proofs.lemmas.Bool.{and_parts, and_from, false≢true, cases_eq, cases_lt, eq-eqb, ne_eqb}
+use Rattle.std.proofs.lemmas.Bool.Decides.{Decides-int_eq, nat_tests}
 use Rattle.crush_map.specs.Faults.{has_number}
 use Rattle.crush_choose.specs.Marks.{Slot}
 use Rattle.crush_map.specs.Map.{Map}
 use Rattle.crush_map.specs.declared.draft.Rule.{Rule}
 use Rattle.crush_bucket.specs.Tables.{tables_of}
 use Rattle.crush_rules.specs.Rules.{rule_answer}
-use Rattle.crush_choose.specs.Weights.{weights_of}
+use Rattle.crush_choose.specs.Weights.{weight_at, weights_of}
 use Rattle.crush_pool.specs.Placements.{placed, rule_numbered}
 use Rattle.crush_pool.specs.Pools.{seed_of}
 use Rattle.crush_pool.specs.States.{reweights}
+use Rattle.crush_pool.specs.declared.exceptions.Pair.{Pair}
 use Rattle.crush_pool.specs.declared.pool.PoolParts.{PoolParts}
 use Rattle.crush_pool.specs.declared.states.DeviceState.{DeviceState}
 use Rattle.crush_report.specs.Reports.{groups, up_by, raw_by, moves_by, moves}
@@ -119,17 +120,52 @@ passes test n group lt e = passes_from test 0 n group (omega arith) (omega (arit
 
 -- ---- from a map to itself
 
-moves_itself : (m : Map) (states : List DeviceState) (p : PoolParts) (rows : List MoveRow) (found : Option Rule)
-    → option_and_then (λ first. option_map (moves_by m m states p first) found) found ≡ Some rows → rows ≡ []
-moves_itself m states p rows None e = let never : None ≡ Some rows = e in absurd cc
-moves_itself m states p rows (Some rule) e = let is : moves_by m m states p rule rule ≡ rows = cc in sym is ∙ none_moves (up_by m states p rule) (groups p)
+moves_itself : (m : Map) (states : List DeviceState) (p : PoolParts) (pairs : List Pair) (rows : List MoveRow) (found : Option Rule)
+    → option_and_then (λ first. option_map (moves_by m m states p pairs first) found) found ≡ Some rows → rows ≡ []
+moves_itself m states p pairs rows None e = let never : None ≡ Some rows = e in absurd cc
+moves_itself m states p pairs rows (Some rule) e =
+    let is : moves_by m m states p pairs rule rule ≡ rows = cc in
+    sym is ∙ none_moves (up_by m states p pairs rule) (groups p)
 
-pub no_moves : (m : Map) (states : List DeviceState) (p : PoolParts) (rows : List MoveRow) → moves m m states p ≡ Some rows → rows ≡ []
-no_moves m states p rows e = moves_itself m states p rows (rule_numbered m p.rule) e
+pub no_moves : (m : Map) (states : List DeviceState) (p : PoolParts) (pairs : List Pair) (rows : List MoveRow) → moves m m states p pairs ≡ Some rows → rows ≡ []
+no_moves m states p pairs rows e = moves_itself m states p pairs rows (rule_numbered m p.rule) e
 
 -- ---- the raw list of a group
 
-pub raw_is : (m : Map) (states : List DeviceState) (p : PoolParts) (rule : Rule) (group : ℕ)
-    → raw_by m states p rule group ≡ rule_answer (tables_of m) (weights_of (reweights states)) rule.steps (seed_of p group) p.size
+pub raw_is : (m : Map) (states : List DeviceState) (p : PoolParts) (pairs : List Pair) (rule : Rule) (group : ℕ)
+    → raw_by m states p pairs rule group ≡ rule_answer (tables_of m) (weights_of (reweights states)) rule.steps (seed_of p group) p.size
 unfolding placed
-raw_is m states p rule group = refl
+raw_is m states p pairs rule group = refl
+
+-- ---- lowered devices
+
+pub at_first : (a b : Bool) → a ≡ true → (a || b) ≡ true
+at_first true b e = refl
+at_first false b e = absurd (false≢true e)
+
+pub at_second : (a b : Bool) → b ≡ true → (a || b) ≡ true
+at_second true b e = refl
+at_second false b e = e
+
+same_number : (n m : ℕ) → (n == m) ≡ true → n ≡ m
+same_number n m e = grind (arith, nat_tests, e)
+
+-- among some devices there is one whose second weight is lower, or their weights are the same
+pub lowered_or_same : (first second devices : List ℕ) → ((device : ℕ) → weight_at second device ≤ weight_at first device)
+    → ((device : ℕ) × (weight_at second device < weight_at first device) × (has_number devices device ≡ true))
+    ⊎ ((device : ℕ) → has_number devices device ≡ true → weight_at second device ≡ weight_at first device)
+lowered_or_same first second [] lower = inr (λ device there. absurd (false≢true there))
+lowered_or_same first second (d ∷ devices) lower = elim (cases_lt (weight_at second d) (weight_at first d)) [
+  | inl less ↦ inl (d, less, at_first (d == d) (has_number devices d) (eq-eqb d d refl))
+  | inr same ↦ elim (lowered_or_same first second devices lower) [
+    | inl found ↦ inl (found.0, found.1, at_second (d == found.0) (has_number devices found.0) found.2)
+    | inr others ↦ inr (λ device there. by device (d == device) refl there same (others device))
+  ]
+]
+  where
+    by : (device : ℕ) (b : Bool) → (d == device) ≡ b → (b || has_number devices device) ≡ true → weight_at first d ≤ weight_at second d
+        → (has_number devices device ≡ true → weight_at second device ≡ weight_at first device) → weight_at second device ≡ weight_at first device
+    by device true is there same rest =
+        let own : weight_at second d ≡ weight_at first d = omega (arith, same, lower d) in
+        rw (same_number d device is) at own
+    by device false is there same rest = rest there

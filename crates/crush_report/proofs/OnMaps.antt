@@ -7,16 +7,18 @@ use Rattle.crush_bucket.specs.Tables.{tables_of}
 use Rattle.crush_choose.specs.Marks.{Slot}
 use Rattle.crush_rules.specs.Rules.{rule_answer}
 use Rattle.crush_choose.specs.Weights.{weights_of}
+use Rattle.crush_pool.specs.Exceptions.{excepted}
 use Rattle.crush_pool.specs.Placements.{placed, placement, rule_numbered, up_of}
 use Rattle.crush_pool.specs.Placers.{PoolOnMap, steps_in, steps_of}
 use Rattle.crush_pool.specs.Pools.{is_pool, seed_of}
 use Rattle.crush_pool.specs.States.{flags_of, reweights}
+use Rattle.crush_pool.specs.declared.exceptions.Pair.{Pair}
 use Rattle.crush_pool.specs.declared.placing.Placement.{Placement}
 use Rattle.crush_pool.specs.declared.pool.PoolParts.{PoolParts}
 use Rattle.crush_pool.specs.declared.states.DeviceState.{DeviceState}
 use Rattle.crush_report.specs.Impact.{touched}
 use Rattle.crush_report.specs.Moves.{move_rows}
-use Rattle.crush_report.specs.Private.OnMaps.{up_on, touched_on}
+use Rattle.crush_report.specs.Private.OnMaps.{up_from, up_on, touched_on}
 use Rattle.crush_report.specs.Reports.{groups, impact, impact_by, moves, moves_by, up_list, usage, usage_by}
 use Rattle.crush_report.specs.Usage.{usage_rows}
 use Rattle.crush_report.proofs.Short.{up_short, size_few}
@@ -25,59 +27,61 @@ use Rattle.crush_choose.specs.declared.limits.TheConstants.{SIZE_LIMIT}
 -- ---- the up list of a group
 
 -- an up list by a rule that was looked for
-abbrev up_found : Map → List DeviceState → PoolParts → Option Rule → ℕ → List Slot
-up_found m states p found = up_list (tables_of m) (weights_of (reweights states)) (flags_of states) (steps_in found) p
+abbrev up_found : Map → List DeviceState → PoolParts → List Pair → Option Rule → ℕ → List Slot
+up_found m states p pairs found = up_list (tables_of m) (weights_of (reweights states)) (flags_of states) (steps_in found) p pairs
 
-up_placed : (m : Map) (states : List DeviceState) (p : PoolParts) (group : ℕ) (q : Placement) (found : Option Rule)
-    → option_map (λ r. placed (tables_of m) (weights_of (reweights states)) (flags_of states) r.steps p group) found ≡ Some q → q.up ≡ up_found m states p found group
-up_placed m states p group q None e = let never : None ≡ Some q = e in absurd cc
-up_placed m states p group q (Some rule) e =
-    let is : placed (tables_of m) (weights_of (reweights states)) (flags_of states) rule.steps p group ≡ q = cc in
+up_placed : (m : Map) (states : List DeviceState) (p : PoolParts) (pairs : List Pair) (group : ℕ) (q : Placement) (found : Option Rule)
+    → option_map (λ r. placed (tables_of m) (weights_of (reweights states)) (flags_of states) r.steps p pairs group) found ≡ Some q → q.up ≡ up_found m states p pairs found group
+up_placed m states p pairs group q None e = let never : None ≡ Some q = e in absurd cc
+up_placed m states p pairs group q (Some rule) e =
+    let is : placed (tables_of m) (weights_of (reweights states)) (flags_of states) rule.steps p pairs group ≡ q = cc in
     sym (ap (λ (made : Placement). made.up) is)
 
 -- that of a placement
-pub up_is : (p : PoolOnMap) (group : ℕ) (q : Placement) → placement p.map p.states p.pool group ≡ Some q → q.up ≡ up_on p group
-up_is p group q e = up_placed p.map p.states p.pool group q (rule_numbered p.map p.pool.rule) e
+pub up_is : (p : PoolOnMap) (group : ℕ) (q : Placement) → placement p.map p.states p.pool p.pairs group ≡ Some q → q.up ≡ up_on p group
+up_is p group q e = up_placed p.map p.states p.pool p.pairs group q (rule_numbered p.map p.pool.rule) e
 
 -- that of what the rule answers
 pub up_of_answer : (p : PoolOnMap) (group : ℕ) (raw : List Slot)
     → raw ≡ rule_answer (tables_of p.map) (weights_of (reweights p.states)) (steps_of p) (seed_of p.pool group) p.pool.size
-    → up_of p.pool.erasure (flags_of p.states) raw ≡ up_on p group
+    → up_from p group raw ≡ up_on p group
 unfolding placed
-up_of_answer p group raw e = ap (λ (slots : List Slot). up_of p.pool.erasure (flags_of p.states) slots) e
+up_of_answer p group raw e =
+    ap (λ (slots : List Slot). up_of p.pool.erasure (flags_of p.states) (excepted (tables_of p.map) (weights_of (reweights p.states)) p.pairs group slots)) e
 
 -- an up list has at most SIZE_LIMIT slots
 pub up_few : (p : PoolOnMap) → is_pool p.pool ≡ true → (group : ℕ) → length (up_on p group) ≤ SIZE_LIMIT
 up_few p is group =
-    let short = up_short (tables_of p.map) (weights_of (reweights p.states)) (flags_of p.states) (steps_of p) p.pool group in
+    let short = up_short (tables_of p.map) (weights_of (reweights p.states)) (flags_of p.states) (steps_of p) p.pool p.pairs group in
     omega (arith, short, size_few p.pool is)
 
 -- ---- reports
 
-usage_found : (m : Map) (states : List DeviceState) (p : PoolParts) (found : Option Rule) → is_some found ≡ true
-    → Some (usage_rows m.devices (map (up_found m states p found) (groups p))) ≡ option_map (usage_by m states p) found
-usage_found m states p None there = absurd (false≢true there)
-usage_found m states p (Some rule) there = refl
+usage_found : (m : Map) (states : List DeviceState) (p : PoolParts) (pairs : List Pair) (found : Option Rule) → is_some found ≡ true
+    → Some (usage_rows m.devices (map (up_found m states p pairs found) (groups p))) ≡ option_map (usage_by m states p pairs) found
+usage_found m states p pairs None there = absurd (false≢true there)
+usage_found m states p pairs (Some rule) there = refl
 
-pub usage_on : (p : PoolOnMap) → is_some (rule_numbered p.map p.pool.rule) ≡ true → Some (usage_rows p.map.devices (map (up_on p) (groups p.pool))) ≡ usage p.map p.states p.pool
-usage_on p there = usage_found p.map p.states p.pool (rule_numbered p.map p.pool.rule) there
+pub usage_on : (p : PoolOnMap) → is_some (rule_numbered p.map p.pool.rule) ≡ true → Some (usage_rows p.map.devices (map (up_on p) (groups p.pool))) ≡ usage p.map p.states p.pool p.pairs
+usage_on p there = usage_found p.map p.states p.pool p.pairs (rule_numbered p.map p.pool.rule) there
 
-moves_found : (from to : Map) (states : List DeviceState) (p : PoolParts) (first second : Option Rule) → is_some first ≡ true → is_some second ≡ true
-    → Some (move_rows (up_found from states p first) (up_found to states p second) (groups p))
-    ≡ option_and_then (λ rule. option_map (moves_by from to states p rule) second) first
-moves_found from to states p None second there also = absurd (false≢true there)
-moves_found from to states p (Some first) None there also = absurd (false≢true also)
-moves_found from to states p (Some first) (Some second) there also = refl
+moves_found : (from to : Map) (states : List DeviceState) (p : PoolParts) (pairs : List Pair) (first second : Option Rule) → is_some first ≡ true → is_some second ≡ true
+    → Some (move_rows (up_found from states p pairs first) (up_found to states p pairs second) (groups p))
+    ≡ option_and_then (λ rule. option_map (moves_by from to states p pairs rule) second) first
+moves_found from to states p pairs None second there also = absurd (false≢true there)
+moves_found from to states p pairs (Some first) None there also = absurd (false≢true also)
+moves_found from to states p pairs (Some first) (Some second) there also = refl
 
-pub moves_on : (from to : PoolOnMap) → to.states ≡ from.states → to.pool ≡ from.pool → is_some (rule_numbered from.map from.pool.rule) ≡ true → is_some (rule_numbered to.map to.pool.rule) ≡ true
-    → Some (move_rows (up_on from) (up_on to) (groups from.pool)) ≡ moves from.map to.map from.states from.pool
-moves_on from to states pool there also =
-    rw (states, pool) (moves_found from.map to.map from.states from.pool (rule_numbered from.map from.pool.rule) (rule_numbered to.map from.pool.rule) there (rw pool at also))
+pub moves_on : (from to : PoolOnMap) → to.states ≡ from.states → to.pool ≡ from.pool → to.pairs ≡ from.pairs
+    → is_some (rule_numbered from.map from.pool.rule) ≡ true → is_some (rule_numbered to.map to.pool.rule) ≡ true
+    → Some (move_rows (up_on from) (up_on to) (groups from.pool)) ≡ moves from.map to.map from.states from.pool from.pairs
+moves_on from to states pool pairs there also =
+    rw (states, pool, pairs) (moves_found from.map to.map from.states from.pool from.pairs (rule_numbered from.map from.pool.rule) (rule_numbered to.map from.pool.rule) there (rw pool at also))
 
-impact_found : (m : Map) (states : List DeviceState) (p : PoolParts) (device : ℕ) (found : Option Rule) → is_some found ≡ true
-    → Some (touched (tables_of m) (weights_of (reweights states)) (steps_in found) p device (groups p)) ≡ option_map (impact_by m states p device) found
-impact_found m states p device None there = absurd (false≢true there)
-impact_found m states p device (Some rule) there = refl
+impact_found : (m : Map) (states : List DeviceState) (p : PoolParts) (pairs : List Pair) (device : ℕ) (found : Option Rule) → is_some found ≡ true
+    → Some (touched (tables_of m) (weights_of (reweights states)) (steps_in found) p pairs device (groups p)) ≡ option_map (impact_by m states p pairs device) found
+impact_found m states p pairs device None there = absurd (false≢true there)
+impact_found m states p pairs device (Some rule) there = refl
 
-pub impact_on : (p : PoolOnMap) (device : ℕ) → is_some (rule_numbered p.map p.pool.rule) ≡ true → Some (touched_on p device (groups p.pool)) ≡ impact p.map p.states p.pool device
-impact_on p device there = impact_found p.map p.states p.pool device (rule_numbered p.map p.pool.rule) there
+pub impact_on : (p : PoolOnMap) (device : ℕ) → is_some (rule_numbered p.map p.pool.rule) ≡ true → Some (touched_on p device (groups p.pool)) ≡ impact p.map p.states p.pool p.pairs device
+impact_on p device there = impact_found p.map p.states p.pool p.pairs device (rule_numbered p.map p.pool.rule) there

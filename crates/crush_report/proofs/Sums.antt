@@ -11,7 +11,8 @@ use Rattle.std.proofs.lemmas.List.Sums.{sum_by-cons}
 use Rattle.crush_map.specs.declared.draft.Device.{Device}
 use Rattle.crush_choose.specs.Firstn.{slot_has}
 use Rattle.crush_choose.specs.Marks.{Slot}
-use Rattle.crush_report.specs.Usage.{device_item, usage_row}
+use Rattle.crush_pool.specs.Exceptions.{device_item}
+use Rattle.crush_report.specs.Usage.{usage_row}
 use Rattle.crush_report.specs.declared.rows.UsageRow.{UsageRow}
 
 abbrev pub one_if : Bool → ℕ

@@ -15,7 +15,8 @@ use Rattle.crush_choose.specs.Marks.{Slot}
 use Rattle.crush_pool.specs.Placements.{primary_of}
 use Rattle.crush_report.proofs.Short.{filter_few}
 use Rattle.crush_report.specs.Private.Tallies.{count_at, HasRoom, TallyView, IsTally, id_bound, row_by}
-use Rattle.crush_report.specs.Usage.{device_item, all_entries, entries_of, usage_row, usage_rows}
+use Rattle.crush_pool.specs.Exceptions.{device_item}
+use Rattle.crush_report.specs.Usage.{all_entries, entries_of, usage_row, usage_rows}
 use Rattle.crush_report.specs.declared.rows.UsageRow.{UsageRow}
 use Rattle.crush_choose.specs.declared.limits.TheConstants.{SIZE_LIMIT}
 use Rattle.crush_pool.specs.declared.limits.TheConstants.{GROUP_LIMIT}

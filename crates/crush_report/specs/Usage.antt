@@ -1,16 +1,12 @@
 -- How much of a pool lies on each device: counts over the up lists of its groups.
-use Rattle.std.specs.Prelude.{ℕ, pos, ◌*◌, ◌/◌, ◌==◌, List, length, map, filter, is_some, if◌then◌else◌}
+use Rattle.std.specs.Prelude.{ℕ, ◌*◌, ◌/◌, ◌==◌, List, length, map, filter, is_some, if◌then◌else◌}
 use Rattle.std.specs.List.{flat_map}
-use Rattle.crush_map.specs.declared.word.ItemId.{ItemId}
 use Rattle.crush_map.specs.declared.draft.Device.{Device}
 use Rattle.crush_choose.specs.Firstn.{has, slot_has}
 use Rattle.crush_choose.specs.Marks.{Slot}
+use Rattle.crush_pool.specs.Exceptions.{device_item}
 use Rattle.crush_pool.specs.Placements.{primary_of}
 use Rattle.crush_report.specs.declared.rows.UsageRow.{UsageRow}
-
--- the item that is the device with an id
-abbrev pub device_item : ℕ → ItemId
-device_item device = record { 0 = pos device }
 
 -- all entries of up lists, one list after the other
 abbrev pub all_entries : List (List Slot) → List Slot

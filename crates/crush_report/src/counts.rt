@@ -3,7 +3,7 @@
 ghost use Rattle.std.specs.Prelude.{◌≡◌, ◌<◌, ◌+◌, ◌&&◌, ℕ, if◌then◌else◌, length, slice_index_or};
 ghost use Rattle.crush_choose.specs.Firstn.{slot_has};
 ghost use Rattle.crush_report.specs.Private.Tallies.{count_at, HasRoom, is_again};
-ghost use Rattle.crush_report.specs.Usage.{device_item};
+ghost use Rattle.crush_pool.specs.Exceptions.{device_item};
 
 use crush_choose::{Slot, has};
 

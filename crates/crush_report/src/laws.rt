@@ -7,16 +7,19 @@ ghost use Rattle.crush_map.specs.declared.draft.Rule.{Rule};
 ghost use Rattle.crush_choose.specs.Firstn.{has};
 ghost use Rattle.crush_choose.specs.Marks.{Slot};
 ghost use Rattle.crush_choose.specs.Weights.{weight_at, weights_of};
-ghost use Rattle.crush_pool.specs.States.{reweights};
+ghost use Rattle.crush_pool.specs.States.{flags_of, reweights};
+ghost use Rattle.crush_pool.specs.declared.exceptions.Pair.{Pair};
 ghost use Rattle.crush_pool.specs.declared.pool.PoolParts.{PoolParts};
 ghost use Rattle.crush_pool.specs.declared.states.DeviceState.{DeviceState};
 ghost use Rattle.crush_report.specs.Moves.{gained, gained_in, same_slots, move_rows};
-ghost use Rattle.crush_report.specs.Reports.{groups, raw_by, impact_by, moves};
-ghost use Rattle.crush_report.specs.Usage.{device_item};
+ghost use Rattle.crush_report.specs.Reports.{groups, raw_by, up_by, impact_by, moves};
+ghost use Rattle.crush_pool.specs.Exceptions.{device_item};
 ghost use Rattle.crush_report.specs.declared.rows.MoveRow.{MoveRow};
 
 use crush_rules::laws::traces_ascend;
-use crush_rules::stability::a_changed_answer_has_a_lowered_device_in_its_trace;
+use crush_rules::stability::{
+    a_changed_answer_has_a_lowered_device_in_its_trace, lowering_outside_the_trace_changes_nothing,
+};
 
 /// A group has a row in `moves` exactly where its up lists differ. From a map to itself no group
 /// moves.
@@ -24,7 +27,7 @@ pub fn groups_move_where_their_lists_differ()
     ensures same { (first second : List Slot) → same_slots first second ≡ true ↔ first ≡ second }
     ensures rows { (old new : ℕ → List Slot) (p : PoolParts) (group : ℕ) → group < p.pg_num
         → has_number (map (λ row. row.group) (move_rows old new (groups p))) group ≡ not (same_slots (old group) (new group)) }
-    ensures itself { (m : Map) (states : List DeviceState) (p : PoolParts) (rows : List MoveRow) → moves m m states p ≡ Some rows → rows ≡ [] }
+    ensures itself { (m : Map) (states : List DeviceState) (p : PoolParts) (pairs : List Pair) (rows : List MoveRow) → moves m m states p pairs ≡ Some rows → rows ≡ [] }
 {}
 
 /// `gained` counts each device once that is in the new list and not in the old one: it is a count
@@ -38,14 +41,22 @@ pub fn gained_counts_each_new_device_once()
 {}
 
 /// A group whose raw list changes where reweights of devices are lowered is in the impact list of
-/// one of these devices, by the reweights before. The law says nothing of reweights that are raised
-/// and of devices that go down or up. A group of such a list need not move.
+/// one of these devices, by the reweights before. So is a group whose up list changes, if no device
+/// goes down or up: where no lowered device is in the trace of a group, and no pair of the group
+/// leads to one, its up list stays too. The law says nothing of reweights that are raised. A group
+/// of such a list need not move.
 pub fn groups_that_move_are_in_an_impact_list()
-    ensures { (m : Map) (states lowered : List DeviceState) (p : PoolParts) (rule : Rule) (group : ℕ) → group < p.pg_num
+    ensures raw { (m : Map) (states lowered : List DeviceState) (p : PoolParts) (pairs : List Pair) (rule : Rule) (group : ℕ) → group < p.pg_num
         → ((device : ℕ) → weight_at (weights_of (reweights lowered)) device ≤ weight_at (weights_of (reweights states)) device)
-        → raw_by m lowered p rule group ≢ raw_by m states p rule group
-        → (device : ℕ) × (weight_at (weights_of (reweights lowered)) device < weight_at (weights_of (reweights states)) device) × (has_number (impact_by m states p device rule) group ≡ true) }
+        → raw_by m lowered p pairs rule group ≢ raw_by m states p pairs rule group
+        → (device : ℕ) × (weight_at (weights_of (reweights lowered)) device < weight_at (weights_of (reweights states)) device) × (has_number (impact_by m states p pairs device rule) group ≡ true) }
+    ensures up { (m : Map) (states lowered : List DeviceState) (p : PoolParts) (pairs : List Pair) (rule : Rule) (group : ℕ) → group < p.pg_num
+        → flags_of lowered ≡ flags_of states
+        → ((device : ℕ) → weight_at (weights_of (reweights lowered)) device ≤ weight_at (weights_of (reweights states)) device)
+        → up_by m lowered p pairs rule group ≢ up_by m states p pairs rule group
+        → (device : ℕ) × (weight_at (weights_of (reweights lowered)) device < weight_at (weights_of (reweights states)) device) × (has_number (impact_by m states p pairs device rule) group ≡ true) }
 {
     a_changed_answer_has_a_lowered_device_in_its_trace();
+    lowering_outside_the_trace_changes_nothing();
     traces_ascend();
 }

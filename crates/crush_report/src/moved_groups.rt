@@ -100,13 +100,14 @@ pub fn gained_in(rows: &[MoveRow]) -> u64
     total
 }
 
-/// The groups of a pool whose up lists differ between two maps, in order. The states of devices are
-/// the same on both. `Err(AllocError)`: an allocation failed.
+/// The groups of a pool whose up lists differ between two maps, in order. The exceptions and the
+/// states of devices are the same on both. `Err(AllocError)`: an allocation failed.
 #[tactic(auto, using(crate::proofs::Groups::moves_more))]
 pub fn moves_with(alloc: Global, from: &Placer, to: &Placer) -> Result<Listed<MoveRow>, AllocError>
     requires states { to.now.states ≡ from.now.states }
     requires pool { to.now.pool ≡ from.now.pool }
-    ensures rows { IfOk result (λ rows. Some rows ≡ moves from.now.map to.now.map from.now.states from.now.pool) }
+    requires exceptions { to.now.pairs ≡ from.now.pairs }
+    ensures rows { IfOk result (λ rows. Some rows ≡ moves from.now.map to.now.map from.now.states from.now.pool from.now.pairs) }
     ensures gained { IfOk result (λ rows. spec.gained_in rows ≤ SIZE_LIMIT * GROUP_LIMIT) }
 {
     let _first = from.map();

@@ -1,7 +1,8 @@
-//! Reports on a pool, by a map and states of devices.
+//! Reports on a pool, by a map, the exceptions of the pool and states of devices.
 
 ghost use Rattle.std.specs.Prelude.{◌≡◌, Some, IfOk, is_some, true};
 ghost use Rattle.crush_choose.specs.Weights.{weights_of};
+ghost use Rattle.crush_pool.specs.Exceptions.{are_pairs};
 ghost use Rattle.crush_pool.specs.Placements.{rule_numbered};
 ghost use Rattle.crush_pool.specs.States.{flags_of, reweights};
 ghost use Rattle.crush_report.specs.Reports as spec;
@@ -13,7 +14,7 @@ use crate::usage_counts::usage_with;
 use crush_bucket::Tables;
 use crush_choose::Weights;
 use crush_map::{CrushMap, Listed};
-use crush_pool::{DeviceState, DeviceStates, Placer, Pool, reweights_of};
+use crush_pool::{DeviceState, DeviceStates, Exceptions, Placer, Pool, reweights_of};
 use std::alloc::{AllocError, Global};
 
 /// The table of the reweights of these states. `Err(AllocError)`: an allocation failed.
@@ -24,20 +25,23 @@ fn weights_of(alloc: Global, states: &[DeviceState]) -> Result<Weights, AllocErr
 }
 
 /// How much of a pool lies on each device of a map, in the order of the devices. The map has the
-/// pool's rule. `Err(AllocError)`: an allocation failed.
+/// pool's rule, and each exception is of a group of the pool. `Err(AllocError)`: an allocation
+/// failed.
 pub fn usage(
     alloc: Global,
     map: &CrushMap,
     pool: &Pool,
+    exceptions: &Exceptions,
     states: &[DeviceState],
 ) -> Result<Listed<UsageRow>, AllocError>
-    requires { is_some (rule_numbered map.now pool.now.rule) ≡ true }
-    ensures { IfOk result (λ rows. Some rows ≡ spec.usage map.now states.now pool.now) }
+    requires rule { is_some (rule_numbered map.now pool.now.rule) ≡ true }
+    requires exceptions { are_pairs pool.now.pg_num exceptions.now ≡ true }
+    ensures { IfOk result (λ rows. Some rows ≡ spec.usage map.now states.now pool.now exceptions.now) }
 {
     let tables = Tables::build(alloc, map)?;
     let weights = weights_of(alloc, states)?;
     let flags = DeviceStates::build(alloc, states)?;
-    match Placer::new(map, &tables, states, &weights, &flags, pool) {
+    match Placer::new(map, &tables, states, &weights, &flags, pool, exceptions) {
         Some(placer) => usage_with(alloc, &placer),
         None => unreachable!(),
     }
@@ -53,62 +57,72 @@ fn moves_to(
     weights: &Weights,
     flags: &DeviceStates,
     pool: &Pool,
+    exceptions: &Exceptions,
 ) -> Result<Listed<MoveRow>, AllocError>
     requires rule { is_some (rule_numbered to.now pool.now.rule) ≡ true }
     requires states { states.now ≡ old.now.states }
     requires pool { pool.now ≡ old.now.pool }
+    requires exceptions { exceptions.now ≡ old.now.pairs }
+    requires valid { are_pairs pool.now.pg_num exceptions.now ≡ true }
     requires weights { weights.now ≡ weights_of (reweights states.now) }
     requires flags { flags.now ≡ flags_of states.now }
-    ensures { IfOk result (λ rows. Some rows ≡ spec.moves old.now.map to.now old.now.states old.now.pool) }
+    ensures { IfOk result (λ rows. Some rows ≡ spec.moves old.now.map to.now old.now.states old.now.pool old.now.pairs) }
 {
     let tables = Tables::build(alloc, to)?;
-    match Placer::new(to, &tables, states, weights, flags, pool) {
+    match Placer::new(to, &tables, states, weights, flags, pool, exceptions) {
         Some(new) => moves_with(alloc, old, &new),
         None => unreachable!(),
     }
 }
 
 /// The groups of a pool whose up lists differ between two maps, in order. Both maps have the pool's
-/// rule. `Err(AllocError)`: an allocation failed.
+/// rule, and each exception is of a group of the pool. The exceptions are those of both maps: on
+/// each, only one that leads to a device of it can take effect. `Err(AllocError)`: an allocation
+/// failed.
 pub fn moves(
     alloc: Global,
     from: &CrushMap,
     to: &CrushMap,
     pool: &Pool,
+    exceptions: &Exceptions,
     states: &[DeviceState],
 ) -> Result<Listed<MoveRow>, AllocError>
     requires first { is_some (rule_numbered from.now pool.now.rule) ≡ true }
     requires second { is_some (rule_numbered to.now pool.now.rule) ≡ true }
-    ensures { IfOk result (λ rows. Some rows ≡ spec.moves from.now to.now states.now pool.now) }
+    requires exceptions { are_pairs pool.now.pg_num exceptions.now ≡ true }
+    ensures { IfOk result (λ rows. Some rows ≡ spec.moves from.now to.now states.now pool.now exceptions.now) }
 {
-    let old_tables = Tables::build(alloc, from)?;
+    let tables = Tables::build(alloc, from)?;
     let weights = weights_of(alloc, states)?;
     let flags = DeviceStates::build(alloc, states)?;
-    match Placer::new(from, &old_tables, states, &weights, &flags, pool) {
-        Some(old) => moves_to(alloc, &old, to, states, &weights, &flags, pool),
+    match Placer::new(from, &tables, states, &weights, &flags, pool, exceptions) {
+        Some(old) => moves_to(alloc, &old, to, states, &weights, &flags, pool, exceptions),
         None => unreachable!(),
     }
 }
 
-/// The groups of a pool in whose trace a device is, in order. The map has the pool's rule.
+/// The groups of a pool in whose trace a device is, and those of which a pair leads to it, in
+/// order, each once. The map has the pool's rule, and each exception is of a group of the pool.
 /// `Err(AllocError)`: an allocation failed.
 ///
-/// A group whose raw list changes where reweights are lowered is in the list of one of the devices
-/// of which they are lowered (`laws::groups_that_move_are_in_an_impact_list`).
+/// A group whose raw or up list changes where reweights are lowered is in the list of one of the
+/// devices of which they are lowered (`laws::groups_that_move_are_in_an_impact_list`).
 pub fn impact(
     alloc: Global,
     map: &CrushMap,
     pool: &Pool,
+    exceptions: &Exceptions,
     states: &[DeviceState],
     device: u32,
 ) -> Result<Listed<u32>, AllocError>
-    requires { is_some (rule_numbered map.now pool.now.rule) ≡ true }
-    ensures { IfOk result (λ groups. Some groups ≡ spec.impact map.now states.now pool.now device) }
+    requires rule { is_some (rule_numbered map.now pool.now.rule) ≡ true }
+    requires exceptions { are_pairs pool.now.pg_num exceptions.now ≡ true }
+    ensures { IfOk result (λ groups. Some groups ≡ spec.impact map.now states.now pool.now exceptions.now device) }
 {
     let tables = Tables::build(alloc, map)?;
     let weights = weights_of(alloc, states)?;
     let flags = DeviceStates::build(alloc, states)?;
-    match Placer::new(map, &tables, states, &weights, &flags, pool) {
+    match Placer::new(map, &tables, states, &weights, &flags, pool, exceptions) {
         Some(placer) => impact_with(alloc, &placer, device),
         None => unreachable!(),
     }

@@ -1,9 +1,8 @@
 //! The groups of a pool that a device can touch.
 
 ghost use Rattle.std.specs.Prelude.{◌≡◌, Some, IfOk};
-ghost use Rattle.crush_map.specs.Faults.{has_number};
 ghost use Rattle.crush_bucket.specs.Tables.{perms_of, tables_of};
-ghost use Rattle.crush_report.specs.Private.OnMaps.{trace_on};
+ghost use Rattle.crush_report.specs.Private.OnMaps.{touches_on};
 ghost use Rattle.crush_report.specs.Reports.{impact};
 
 use crush_bucket::Scratch;
@@ -13,7 +12,8 @@ use crush_rules::Out;
 use crush_rules::laws::traces_ascend;
 use std::alloc::{AllocError, Global};
 
-/// Whether a device is in the trace of a group.
+/// Whether a pair of a group leads to a device, or the device is in the trace of the group. The
+/// rule runs only where no pair does.
 fn is_touched(
     placer: &Placer,
     scratch: &mut Scratch,
@@ -22,21 +22,24 @@ fn is_touched(
     group: u32,
 ) -> bool
     requires fits { scratch.old ≡ perms_of (tables_of placer.now.map) }
-    ensures touched { result ≡ has_number (trace_on placer.now group) device }
+    ensures touched { result ≡ touches_on placer.now device group }
     ensures fits { scratch.new ≡ perms_of (tables_of placer.now.map) }
 {
     traces_ascend();
+    if placer.exceptions().lead_to(group, device) {
+        return true;
+    }
     placer.touches(scratch, out, group, device)
 }
 
-/// The groups of a pool in whose trace a device is, in order. `Err(AllocError)`: an allocation
-/// failed.
+/// The groups of a pool in whose trace a device is, and those of which a pair leads to it, in
+/// order. `Err(AllocError)`: an allocation failed.
 ///
-/// A lower reweight of the device leaves the raw list of each other group as it is
+/// A lower reweight of the device leaves the raw and the up list of each other group as they are
 /// (`laws::groups_that_move_are_in_an_impact_list`).
 #[tactic(auto, using(crate::proofs::Groups::touched_more))]
 pub fn impact_with(alloc: Global, placer: &Placer, device: u32) -> Result<Listed<u32>, AllocError>
-    ensures { IfOk result (λ found. Some found ≡ impact placer.now.map placer.now.states placer.now.pool device) }
+    ensures { IfOk result (λ found. Some found ≡ impact placer.now.map placer.now.states placer.now.pool placer.now.pairs device) }
 {
     let _map = placer.map();
     let mut scratch = Scratch::build(alloc, placer.tables())?;

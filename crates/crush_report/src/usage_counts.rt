@@ -1,8 +1,10 @@
 //! How much of a pool lies on each device.
 
-ghost use Rattle.std.specs.Prelude.{◌≡◌, ◌<◌, ◌≤◌, ◌*◌, ◌^◌, ℕ, List, Some, IfOk, length, map};
-ghost use Rattle.crush_report.specs.Private.OnMaps.{up_on};
-ghost use Rattle.crush_report.specs.Private.Tallies.{IsTally, count_at, id_bound, row_by};
+ghost use Rattle.std.specs.Prelude.{◌≡◌, ◌<◌, ◌≤◌, ◌+◌, ◌*◌, ◌^◌, ◌++◌, ◌∷◌, [], ℕ, List, Some, IfOk, length, map};
+ghost use Rattle.crush_choose.specs.Marks.{Slot};
+ghost use Rattle.crush_choose.specs.declared.limits.TheConstants.{SIZE_LIMIT};
+ghost use Rattle.crush_report.specs.Private.OnMaps.{up_from, up_on};
+ghost use Rattle.crush_report.specs.Private.Tallies.{HasRoom, IsTally, count_at, id_bound, row_by};
 ghost use Rattle.crush_report.specs.Usage as spec;
 ghost use Rattle.crush_report.specs.Reports.{groups, usage};
 
@@ -42,7 +44,7 @@ impl Tally {
     ghost use Rattle.crush_choose.specs.declared.limits.TheConstants.{SIZE_LIMIT};
     ghost use Rattle.crush_pool.specs.Placements.{up_of};
     ghost use Rattle.crush_report.specs.Private.Tallies.{IsTally, IsCounting, HasRoom, HasSameLengths, count_at, row_by};
-    ghost use Rattle.crush_report.specs.Usage.{device_item};
+    ghost use Rattle.crush_pool.specs.Exceptions.{device_item};
 
     /// The counts over no list, for the devices with ids below a bound. `Err(AllocError)`: an
     /// allocation failed.
@@ -96,7 +98,8 @@ impl Tally {
         }
     }
 
-    /// Counts the up list of one more group, for which the rule gave this answer.
+    /// Counts the up list of one more group, for which the rule gave this answer, with its
+    /// exceptions.
     ///
     /// An entry counts where its device is up, and the first one that counts is the primary. So it
     /// is in both kinds of pools: the other entries leave the up list of a replicated pool, and
@@ -158,6 +161,22 @@ fn bound_of(devices: &[Device]) -> usize
     bound
 }
 
+/// Counts the up list of one more group, for which the rule gave this answer.
+fn add_group(tally: &mut Tally, placer: &Placer, group: u32, raw: &[Slot])
+    requires short { length raw.now ≤ SIZE_LIMIT }
+    requires groups { HasRoom tally.old.groups SIZE_LIMIT }
+    requires entries { HasRoom tally.old.entries SIZE_LIMIT }
+    requires primaries { HasRoom tally.old.primaries SIZE_LIMIT }
+    requires filled { tally.old.filled + SIZE_LIMIT < 2 ^ 32 }
+    ensures { (bound : ℕ) (ups : List (List Slot)) → IsTally bound ups tally.old → IsTally bound (ups ++ up_from placer.now group raw.now ∷ []) tally.new }
+{
+    if placer.exceptions().concern(group) {
+        tally.add(placer.excepted(group, raw).items(), placer.flags());
+    } else {
+        tally.add(raw, placer.flags());
+    }
+}
+
 /// The counts over the up lists of all groups of a pool, for these devices. `Err(AllocError)`: an
 /// allocation failed.
 fn tally_of(alloc: Global, devices: &[Device], placer: &Placer) -> Result<Tally, AllocError>
@@ -169,7 +188,7 @@ fn tally_of(alloc: Global, devices: &[Device], placer: &Placer) -> Result<Tally,
     let mut tally = Tally::new(alloc, bound_of(devices))?;
     for group in 0..placer.pool().parts().pg_num {
         placer.run(&mut scratch, &mut out, group);
-        tally.add(out.items(), placer.flags());
+        add_group(&mut tally, placer, group, out.items());
     }
     Ok(tally)
 }
@@ -189,7 +208,7 @@ fn rows_of(alloc: Global, devices: &[Device], tally: &Tally) -> Result<Listed<Us
 /// How much of a pool lies on each device of a map, in the order of the devices.
 /// `Err(AllocError)`: an allocation failed.
 pub fn usage_with(alloc: Global, placer: &Placer) -> Result<Listed<UsageRow>, AllocError>
-    ensures { IfOk result (λ rows. Some rows ≡ usage placer.now.map placer.now.states placer.now.pool) }
+    ensures { IfOk result (λ rows. Some rows ≡ usage placer.now.map placer.now.states placer.now.pool placer.now.pairs) }
 {
     let devices = placer.map().devices();
     let tally = tally_of(alloc, devices, placer)?;

@@ -7,6 +7,7 @@ ghost use Rattle.crush_map.specs.declared.draft.Rule.{Rule};
 ghost use Rattle.crush_bucket.specs.Tables.{tables_of};
 ghost use Rattle.crush_rules.specs.Rules.{rule_answer};
 ghost use Rattle.crush_pool.specs.Placements.{primary_of, rule_numbered};
+ghost use Rattle.crush_pool.specs.declared.exceptions.Pair.{Pair};
 ghost use Rattle.crush_pool.specs.declared.pool.PoolParts.{PoolParts};
 ghost use Rattle.crush_pool.specs.declared.states.DeviceState.{DeviceState};
 ghost use Rattle.crush_report.specs.Reports.{groups, up_by, usage_by};
@@ -29,10 +30,10 @@ pub fn answers_are_of_the_map()
 /// that has a primary: the entries of all rows add up to the number of entries that aren't none,
 /// and the primaries to the number of groups that have a primary.
 pub fn usage_counts_each_entry()
-    ensures entries { (m : Map) (states : List DeviceState) (p : PoolParts) (rule : Rule) → IsMap m → rule_numbered m p.rule ≡ Some rule
-        → sum_by (λ r. r.entries) (usage_by m states p rule) ≡ entry_count (map (up_by m states p rule) (groups p)) }
-    ensures primaries { (m : Map) (states : List DeviceState) (p : PoolParts) (rule : Rule) → IsMap m → rule_numbered m p.rule ≡ Some rule
-        → sum_by (λ r. r.primaries) (usage_by m states p rule) ≡ length (filter (λ up. is_some (primary_of up)) (map (up_by m states p rule) (groups p))) }
+    ensures entries { (m : Map) (states : List DeviceState) (p : PoolParts) (pairs : List Pair) (rule : Rule) → IsMap m → rule_numbered m p.rule ≡ Some rule
+        → sum_by (λ r. r.entries) (usage_by m states p pairs rule) ≡ entry_count (map (up_by m states p pairs rule) (groups p)) }
+    ensures primaries { (m : Map) (states : List DeviceState) (p : PoolParts) (pairs : List Pair) (rule : Rule) → IsMap m → rule_numbered m p.rule ≡ Some rule
+        → sum_by (λ r. r.primaries) (usage_by m states p pairs rule) ≡ length (filter (λ up. is_some (primary_of up)) (map (up_by m states p pairs rule) (groups p))) }
 {
     answers_are_of_the_map();
 }

@@ -5,6 +5,8 @@
 #[cfg(test)]
 mod csvs;
 #[cfg(test)]
+mod exceptions;
+#[cfg(test)]
 mod groups;
 #[cfg(test)]
 mod maps;

@@ -1,13 +1,14 @@
 //! A map text, and placements on the maps of texts.
 
-ghost use Rattle.std.specs.Prelude.{◌≡◌, ◌<◌};
+ghost use Rattle.std.specs.Prelude.{◌≡◌, ◌<◌, IfOk, true};
 ghost use Rattle.crush_bucket.specs.Tables.{perms_of, tables_of};
+ghost use Rattle.crush_pool.specs.Exceptions.{are_pairs};
 
 use crush_bucket::{Scratch, Tables};
 use crush_choose::Weights;
 use crush_pool::{
-    DeviceState, DeviceStates, Placement, Placer, Pool, PoolFault, place, reweights_of,
-    rule_with_id,
+    DeviceState, DeviceStates, Exceptions, Pair, Placement, Placer, Pool, PoolFault, place,
+    reweights_of, rule_with_id,
 };
 use crush_rules::Out;
 use std::alloc::{AllocError, Global};
@@ -67,6 +68,49 @@ rule twice {
 "
 );
 
+/// A map of two devices, of which the first is the one item of its root.
+pub(crate) const TWO: &str = map_text!(
+    "",
+    "device 0 osd.0
+device 1 osd.1
+type 0 osd
+type 1 host
+type 10 root
+root default {
+ id -1
+ alg uniform
+ hash 0
+ item osd.0 weight 1.0
+}
+rule all {
+ id 0
+ type replicated
+ step take default
+ step choose firstn 0 type osd
+ step emit
+}
+"
+);
+
+/// The exceptions of a pool with these pairs.
+pub(crate) fn exceptions_of(
+    rt: &impl Abort,
+    alloc: Global,
+    pool: &Pool,
+    pairs: &[Pair],
+) -> Result<Exceptions, Fail>
+    ensures { IfOk result (λ exceptions. are_pairs pool.now.pg_num exceptions ≡ true) }
+{
+    let mut list = Vec::with_capacity(alloc, pairs.len())?;
+    for pair in pairs {
+        list.push(*pair)?;
+    }
+    match Exceptions::new(alloc, pool, list)? {
+        Ok(exceptions) => Ok(exceptions),
+        Err(_) => rt.abort(),
+    }
+}
+
 /// The placer places a group as it is placed elsewhere; the answer and the trace that it leaves.
 fn left(
     rt: &impl Abort,
@@ -88,13 +132,14 @@ fn left(
     Ok(out)
 }
 
-/// A group's placement, with these states on the map of a text, and the answer and the trace that a
-/// placement of it leaves.
+/// A group's placement, with these exceptions and states on the map of a text, and the answer and
+/// the trace that a placement of it leaves.
 pub(crate) fn asked<'a>(
     rt: &impl Abort,
     alloc: Global,
     text: &str,
     pool: &'a Pool,
+    pairs: &[Pair],
     given: &'a [DeviceState],
     group: u32,
 ) -> Result<(Result<Placement, PoolFault>, Out), Fail> {
@@ -103,10 +148,11 @@ pub(crate) fn asked<'a>(
     let mut scratch = Scratch::build(alloc, &tables)?;
     let weights = Weights::of(alloc, &reweights_of(alloc, given)?)?;
     let flags = DeviceStates::build(alloc, given)?;
+    let exceptions = exceptions_of(rt, alloc, pool, pairs)?;
     let Some(rule) = rule_with_id(&map, pool.parts().rule) else {
         return rt.abort();
     };
-    let Some(placer) = Placer::new(&map, &tables, given, &weights, &flags, pool) else {
+    let Some(placer) = Placer::new(&map, &tables, given, &weights, &flags, pool, &exceptions) else {
         return rt.abort();
     };
     match place(
@@ -114,6 +160,7 @@ pub(crate) fn asked<'a>(
         &tables,
         &mut scratch,
         pool,
+        &exceptions,
         rule,
         &weights,
         &flags,
@@ -127,11 +174,12 @@ pub(crate) fn asked<'a>(
     }
 }
 
-/// Whether a pool without states of devices can be placed on the map of a text.
+/// Whether a pool without exceptions and states of devices can be placed on the map of a text.
 pub(crate) fn has_placer(alloc: Global, text: &str, pool: &Pool) -> Result<bool, Fail> {
     let map = map_of(alloc, text)?;
     let tables = Tables::build(alloc, &map)?;
     let weights = Weights::of(alloc, &[])?;
     let flags = DeviceStates::build(alloc, &[])?;
-    Ok(Placer::new(&map, &tables, &[], &weights, &flags, pool).is_some())
+    let none = Exceptions::none(alloc)?;
+    Ok(Placer::new(&map, &tables, &[], &weights, &flags, pool, &none).is_some())
 }

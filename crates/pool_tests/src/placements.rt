@@ -6,26 +6,27 @@ use crate::pools::{Short, TWELVE, pool};
 use crate::states::{DOWN_0, DOWN_1, DOWN_2};
 use crush_choose::Slot;
 use crush_map::ItemId;
-use crush_pool::{DeviceState, Placement, PoolFault};
+use crush_pool::{DeviceState, Pair, Placement, PoolFault};
 use std::alloc::Global;
 use std::process::Abort;
 use std::test::Fail;
 use text_tests::texts::{DEVICE_0, DEVICE_7};
 
-/// A group of a pool, on the map of a text with these states, and its placement with the trace that
-/// is left.
+/// A group of a pool, on the map of a text with these exceptions and states, and its placement with
+/// the trace that is left.
 #[derive(Clone, Copy)]
-struct Case {
-    what: &'static str,
-    text: &'static str,
-    pool: Short,
-    states: &'static [DeviceState],
-    group: u32,
-    seed: u32,
-    raw: &'static [Slot],
-    up: &'static [Slot],
-    primary: Slot,
-    trace: &'static [u32],
+pub(crate) struct Case {
+    pub(crate) what: &'static str,
+    pub(crate) text: &'static str,
+    pub(crate) pool: Short,
+    pub(crate) pairs: &'static [Pair],
+    pub(crate) states: &'static [DeviceState],
+    pub(crate) group: u32,
+    pub(crate) seed: u32,
+    pub(crate) raw: &'static [Slot],
+    pub(crate) up: &'static [Slot],
+    pub(crate) primary: Slot,
+    pub(crate) trace: &'static [u32],
 }
 
 fn assert_placement(rt: &impl Abort, placement: &Placement, case: &Case) {
@@ -35,9 +36,17 @@ fn assert_placement(rt: &impl Abort, placement: &Placement, case: &Case) {
     assert_eq!(rt; placement.primary, case.primary, "primary: {}", case.what);
 }
 
-fn assert_placed(rt: &impl Abort, alloc: Global, case: &Case) -> Result<(), Fail> {
+pub(crate) fn assert_placed(rt: &impl Abort, alloc: Global, case: &Case) -> Result<(), Fail> {
     let pool = pool(rt, alloc, case.pool)?;
-    let (answer, out) = asked(rt, alloc, case.text, &pool, case.states, case.group)?;
+    let (answer, out) = asked(
+        rt,
+        alloc,
+        case.text,
+        &pool,
+        case.pairs,
+        case.states,
+        case.group,
+    )?;
     match answer {
         Ok(placement) => assert_placement(rt, &placement, case),
         Err(_) => return rt.abort(),
@@ -47,19 +56,20 @@ fn assert_placed(rt: &impl Abort, alloc: Global, case: &Case) -> Result<(), Fail
     Ok(())
 }
 
-const ZERO: Slot = Some(ItemId(0));
+pub(crate) const ZERO: Slot = Some(ItemId(0));
 
-const ONE: Slot = Some(ItemId(1));
+pub(crate) const ONE: Slot = Some(ItemId(1));
 
-const TWO: Slot = Some(ItemId(2));
+pub(crate) const TWO: Slot = Some(ItemId(2));
 
 const SEVEN: Slot = Some(ItemId(7));
 
 /// The group of an object without a name.
-const NAMELESS: Case = Case {
+pub(crate) const NAMELESS: Case = Case {
     what: "of 12 groups, that of an object without a name",
     text: DEVICE_0,
     pool: TWELVE,
+    pairs: &[],
     states: &[],
     group: 5,
     seed: 6,
@@ -70,7 +80,7 @@ const NAMELESS: Case = Case {
 };
 
 /// A group whose seed is a hash.
-const HASHED: Case = Case {
+pub(crate) const HASHED: Case = Case {
     what: "a group that is placed by a hash",
     pool: Short {
         pg_num: 8,
@@ -84,16 +94,16 @@ const HASHED: Case = Case {
 };
 
 /// A pool on the map of three devices.
-const OF_THREE: Short = Short { size: 3, ..TWELVE };
+pub(crate) const OF_THREE: Short = Short { size: 3, ..TWELVE };
 
 /// The same, erasure coded.
-const CODED: Short = Short {
+pub(crate) const CODED: Short = Short {
     erasure: true,
     ..OF_THREE
 };
 
 /// Three devices that are taken, and not chosen.
-const ALL_UP: Case = Case {
+pub(crate) const ALL_UP: Case = Case {
     what: "three devices that are up",
     text: THREE,
     pool: OF_THREE,
@@ -110,7 +120,7 @@ const OF_ONE: Short = Short {
     ..CODED
 };
 
-const SHORT: Case = Case {
+pub(crate) const SHORT: Case = Case {
     what: "of an erasure pool, a place without a device",
     pool: OF_ONE,
     raw: &[ZERO, None],
@@ -120,7 +130,7 @@ const SHORT: Case = Case {
 };
 
 /// A rule that answers a bucket and a device.
-const BUCKET: Case = Case {
+pub(crate) const BUCKET: Case = Case {
     what: "a bucket in the answer is never up",
     pool: Short {
         rule: 2,
@@ -282,7 +292,7 @@ fn groups_are_placed(rt: HostRuntime) -> Result<(), Fail> {
 fn groups_end_below_pg_num(rt: HostRuntime) -> Result<(), Fail> {
     let alloc = rt.alloc();
     let pool = pool(&rt, alloc, TWELVE)?;
-    let (past, _) = asked(&rt, alloc, DEVICE_0, &pool, &[], 12)?;
+    let (past, _) = asked(&rt, alloc, DEVICE_0, &pool, &[], &[], 12)?;
     assert_eq!(rt; past.err(), Some(PoolFault::P2));
     Ok(())
 }

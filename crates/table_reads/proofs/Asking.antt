@@ -17,7 +17,10 @@ use Rattle.sqlite.specs.Listing.{understood, reads_listing}
 use Rattle.sqlite.specs.State.{State, Shown, IsUnchanged}
 use Rattle.sqlite.proofs.Callers.{IsPlain, command_of, reads_as, one_permutation}
 use Rattle.table_schema.specs.Layout.{store_schema}
-use Rattle.table_schema.specs.Holds.{tenants_of, AreTables}
+use Rattle.table_schema.specs.Holds.{rows_with, tenants_of, AreTables}
+use Rattle.table_schema.specs.declared.schema.Layout.{Layout}
+use Rattle.table_schema.specs.declared.schema.Layout.TheVariants.{Compact, Gapped}
+use Rattle.table_schema.proofs.Places.{places}
 use Rattle.table_reads.specs.Found.{head_of, Names}
 use Rattle.table_schema.specs.Ready.{Rests, IsReady, Remains}
 use Rattle.table_schema.proofs.Queries.{plain_query, equals, staged_is}
@@ -28,7 +31,7 @@ pub remains : (old new : State) → IsReady old → IsUnchanged old new → Rema
 remains old new ready same = record {
   ready = record {
     is_open = same.0.is_open;
-    schema = ap (λ (db : Database). db.schema) same.0.now_is ∙ ready.schema;
+    schema = (ready.schema.0, ap (λ (db : Database). db.schema) same.0.now_is ∙ ready.schema.1);
     tables = subst (λ (db : Database). AreTables db.trees) (sym same.0.now_is) ready.tables;
     sound = subst IsDatabase (sym same.0.now_is) ready.sound;
     settled = same.0.now_is ∙ ready.settled ∙ sym same.0.committed_is;
@@ -43,7 +46,7 @@ remains_after old mid new ready (inr kept) after =
     let now : mid.now ≡ old.now = kept.now after.0.was_open ∙ sym ready.settled in
     let first : IsReady mid = record {
       is_open = after.0.was_open;
-      schema = ap (λ (db : Database). db.schema) now ∙ ready.schema;
+      schema = (ready.schema.0, ap (λ (db : Database). db.schema) now ∙ ready.schema.1);
       tables = subst (λ (db : Database). AreTables db.trees) (sym now) ready.tables;
       sound = subst IsDatabase (sym now) ready.sound;
       settled = kept.now after.0.was_open ∙ sym (kept.committed after.0.was_open);
@@ -59,19 +62,25 @@ find_text = codes "SELECT id, epoch FROM tenants WHERE name = ?1"
 abbrev pub find_query : Query
 find_query = plain_query 1 (equals 2 0 ∷ []) (col 1 0 ∷ col 1 3 ∷ [])
 
-pub find_is : (command_of (understood store_schema find_text) ≡ Select (record { lets = []; body = find_query }) (codes "id" ∷ codes "epoch" ∷ [])) × (reads_listing store_schema find_text ≡ false) × IsPlain (understood store_schema find_text)
+pub find_is : (layout : Layout) → (command_of (understood (store_schema layout) find_text) ≡ Select (record { lets = []; body = find_query }) (codes "id" ∷ codes "epoch" ∷ []))
+    × (reads_listing (store_schema layout) find_text ≡ false) × IsPlain (understood (store_schema layout) find_text)
 unfolding understood everything
-find_is = (refl, refl, (refl, refl))
+find_is Compact = (refl, refl, (refl, refl))
+find_is Gapped = (refl, refl, (refl, refl))
 
-pub finds : (old new : State) (name : List ℕ) (rows : List Row) → old.now.schema ≡ store_schema → Shown find_text (Words name ∷ []) old new rows → IsPermutation (map head_of (tenants_of old.now.trees name)) rows
-finds old new name rows has h =
+pub finds : (old new : State) (name : List ℕ) (rows : List Row) → IsReady old → Shown find_text (Words name ∷ []) old new rows → IsPermutation (map head_of (tenants_of old.now.trees name)) rows
+finds old new name rows ready h =
     let params : Row = Words name ∷ [] in
-    let got = reads_as find_text params old new store_schema has _ find_is.0 find_is.2 find_is.1 rows h in
+    let layout = ready.schema.0 in
+    let its = find_is layout in
+    let got = reads_as find_text params old new (store_schema layout) ready.schema.1 _ its.0 its.2 its.1 rows h in
     let a : IsAnswer find_query (overlay old.now.trees []) params rows = got.answer Null in
+    let here : List Row = rows_with 2 (Words name) (old.now.trees 1) in
     let staged = a.grouped ∙ staged_is params _ (old.now.trees 1) in
-    let kept : map (λ (o : Output). o.1) a.kept ≡ map head_of (tenants_of old.now.trees name) =
+    let kept : map (λ (o : Output). o.1) a.kept ≡ map head_of here =
     ap (map (λ (o : Output). o.1)) (a.distinct ∙ ap (map (output find_query)) staged) ∙ ap (map (λ (o : Output). o.1)) (map-map (output find_query) (λ (r : Row). params ∷ r ∷ []) _) ∙ map-map (λ (o : Output). o.1) _ _ in
-    subst (λ l. IsPermutation l rows) kept (subst (IsPermutation _) (sym a.shown) (IsPermutation-map (λ (o : Output). o.1) a.kept a.ordered a.same))
+    let found : IsPermutation (map head_of here) rows = subst (λ l. IsPermutation l rows) kept (subst (IsPermutation _) (sym a.shown) (IsPermutation-map (λ (o : Output). o.1) a.kept a.ordered a.same)) in
+    subst (λ tree. IsPermutation (map head_of (rows_with 2 (Words name) (old.now.trees tree))) rows) (sym (places layout old.now ready.sound ready.schema.1).tenants) found
 
 -- what the rows say of the name
 pub names : (db : Trees) (name : List ℕ) (rows : List Row) (result : Result (Option Tenant) Fault) → IsPermutation (map head_of (tenants_of db name)) rows

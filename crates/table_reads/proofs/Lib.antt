@@ -4,3 +4,4 @@ pub mod Columns
 pub mod Rising
 pub mod Listing
 pub mod Paging
+pub mod Placing

@@ -31,8 +31,12 @@ use Rattle.sqlite.specs.Command.TheVariants.{Select}
 use Rattle.sqlite.specs.Listing.{understood, reads_listing}
 use Rattle.sqlite.specs.State.{State, Shown}
 use Rattle.sqlite.proofs.Callers.{IsPlain, command_of, reads_as}
-use Rattle.table_schema.specs.Layout.{store_schema, receipts_table}
+use Rattle.table_schema.specs.declared.schema.Layout.{Layout}
+use Rattle.table_schema.specs.declared.schema.Layout.TheVariants.{Compact, Gapped}
+use Rattle.table_schema.specs.Layout.{store_schema, receipts_tree, receipts_table}
 use Rattle.table_schema.specs.Holds.{rows_with, values_of, of_tenant}
+use Rattle.table_schema.specs.Ready.{IsReady}
+use Rattle.table_schema.proofs.Places.{places, read}
 use Rattle.table_schema.proofs.Queries.{equals, staged_is, staged_are}
 use Rattle.table_reads.proofs.Listing.{by_key, back, no_tie, filter_two}
 use Rattle.sqlite_keyed.proofs.ListLemmas.{all_weaker, all_of, all_map, filter-map, filter_same, ascending-map, ascending_from_map, ascending_weaker}
@@ -110,9 +114,9 @@ begins_none IsOne most all rows first none list each is =
 
 -- ---- the queries
 
-abbrev pub page_query : List Term → Query
-page_query filter = record {
-  from = inner 11 end;
+abbrev pub page_query : ℕ → List Term → Query
+page_query tree filter = record {
+  from = inner tree end;
   filter = filter;
   group = None;
   project = col 1 2 ∷ col 1 3 ∷ col 1 4 ∷ col 1 5 ∷ col 1 6 ∷ [];
@@ -153,9 +157,9 @@ cut (suc n) (r ∷ rows) =
     let it = cut n rows in
     (omega (arith, it.0), elim it.1 [ inl none ↦ inl none | inr full ↦ inr (ap suc full) ])
 
-first_of : (filter : List Term) (params : Row) (all rows : List Row) (db : Trees) (a : IsAnswer (page_query filter) (overlay db []) params rows) → a.kept ≡ map by_key all → AreFirst 17 all rows
-first_of filter params all rows db a kept =
-    let q = page_query filter in
+first_of : (tree : ℕ) (filter : List Term) (params : Row) (all rows : List Row) (db : Trees) (a : IsAnswer (page_query tree filter) (overlay db []) params rows) → a.kept ≡ map by_key all → AreFirst 17 all rows
+first_of tree filter params all rows db a kept =
+    let q = page_query tree filter in
     let os = a.ordered in
     let list : List Row = map (λ (o : Output). o.1) os in
     let mixed : IsPermutation (map by_key all) os = subst (λ k. IsPermutation k os) kept a.same in
@@ -177,7 +181,7 @@ first_of filter params all rows db a kept =
       whole = elim cuts.1 [ inl none ↦ inl none | inr full ↦ inr (ap length shown ∙ full) ];
     }
   where
-    rising_keys : (filter : List Term) (ys : List Row) → IsRising ys → IsAscending (λ a b. output_cmp (page_query filter) a b ≡ Less) (map by_key ys)
+    rising_keys : (filter : List Term) (ys : List Row) → IsRising ys → IsAscending (λ a b. output_cmp (page_query tree filter) a b ≡ Less) (map by_key ys)
     rising_keys filter ys up = ascending-map _ by_key ys (ascending_weaker (λ a b. value_cmp (column a 0) (column b 0) ≡ Less) _ (λ a b. no_tie a b) ys up)
 
 abbrev pub first_text : List ℕ
@@ -186,18 +190,26 @@ first_text = codes "SELECT request, path, body, status, reply FROM receipts WHER
 abbrev receipt_names : List (List ℕ)
 receipt_names = codes "request" ∷ codes "path" ∷ codes "body" ∷ codes "status" ∷ codes "reply" ∷ []
 
-pub first_is : (command_of (understood store_schema first_text) ≡ Select (record { lets = []; body = page_query (equals 1 0 ∷ []) }) receipt_names) × (reads_listing store_schema first_text ≡ false) × IsPlain (understood store_schema first_text)
+pub first_is : (layout : Layout) → (command_of (understood (store_schema layout) first_text) ≡ Select (record { lets = []; body = page_query (receipts_tree layout) (equals 1 0 ∷ []) }) receipt_names)
+    × (reads_listing (store_schema layout) first_text ≡ false) × IsPlain (understood (store_schema layout) first_text)
 unfolding understood everything
-first_is = (refl, refl, (refl, refl))
+first_is Compact = (refl, refl, (refl, refl))
+first_is Gapped = (refl, refl, (refl, refl))
 
-pub reads_first : (id : ℤ) (old new : State) (rows : List Row) → old.now.schema ≡ store_schema → Shown first_text (Int id ∷ []) old new rows → AreFirst 17 (of_tenant receipts_table id old.now.trees) rows
-reads_first id old new rows has h =
+pub reads_first : (id : ℤ) (old new : State) (rows : List Row) → IsReady old → Shown first_text (Int id ∷ []) old new rows → AreFirst 17 (of_tenant receipts_table id old.now.trees) rows
+reads_first id old new rows ready h =
     let params : Row = Int id ∷ [] in
-    let q = page_query (equals 1 0 ∷ []) in
-    let a : IsAnswer q (overlay old.now.trees []) params rows = (reads_as first_text params old new store_schema has _ first_is.0 first_is.2 first_is.1 rows h).answer Null in
-    let staged = a.grouped ∙ staged_is params _ (old.now.trees 11) in
-    first_of (equals 1 0 ∷ []) params (of_tenant receipts_table id old.now.trees) rows old.now.trees a
-    (a.distinct ∙ ap (map (output q)) staged ∙ map-map (output q) (λ (r : Row). params ∷ r ∷ []) _ ∙ sym (map-map by_key (values_of receipts_table) _))
+    let layout = ready.schema.0 in
+    let tree = receipts_tree layout in
+    let its = first_is layout in
+    let q = page_query tree (equals 1 0 ∷ []) in
+    let a : IsAnswer q (overlay old.now.trees []) params rows = (reads_as first_text params old new (store_schema layout) ready.schema.1 _ its.0 its.2 its.1 rows h).answer Null in
+    let all = overlay old.now.trees [] tree in
+    let staged = a.grouped ∙ staged_is params _ all in
+    let own : List Row → List Row = λ here. map (values_of receipts_table) (rows_with 1 (Int id) here) in
+    subst (λ here. AreFirst 17 (own here) rows) ((read layout old.now.trees).receipts ∙ ap old.now.trees (sym (places layout old.now ready.sound ready.schema.1).receipts))
+    (first_of tree (equals 1 0 ∷ []) params (own all) rows old.now.trees a
+    (a.distinct ∙ ap (map (output q)) staged ∙ map-map (output q) (λ (r : Row). params ∷ r ∷ []) _ ∙ sym (map-map by_key (values_of receipts_table) _)))
 
 abbrev pub next_text : List ℕ
 next_text = codes "SELECT request, path, body, status, reply FROM receipts WHERE tenant = ?1 AND request > ?2 ORDER BY request LIMIT 17"
@@ -205,9 +217,11 @@ next_text = codes "SELECT request, path, body, status, reply FROM receipts WHERE
 abbrev above_term : Term
 above_term = op2 (Compare Gt Binary) (col 1 2) (col 0 1)
 
-pub next_is : (command_of (understood store_schema next_text) ≡ Select (record { lets = []; body = page_query (equals 1 0 ∷ above_term ∷ []) }) receipt_names) × (reads_listing store_schema next_text ≡ false) × IsPlain (understood store_schema next_text)
+pub next_is : (layout : Layout) → (command_of (understood (store_schema layout) next_text) ≡ Select (record { lets = []; body = page_query (receipts_tree layout) (equals 1 0 ∷ above_term ∷ []) }) receipt_names)
+    × (reads_listing (store_schema layout) next_text ≡ false) × IsPlain (understood (store_schema layout) next_text)
 unfolding understood everything
-next_is = (refl, refl, (refl, refl))
+next_is Compact = (refl, refl, (refl, refl))
+next_is Gapped = (refl, refl, (refl, refl))
 
 -- as SQL tests it
 abbrev is_above : List ℕ → Value → Bool
@@ -225,17 +239,22 @@ above_is after (Real x) = told_gt _
 above_is after (Words t) = told_gt _
 above_is after (Blob b) = told_gt _
 
-pub reads_next : (id : ℤ) (after : List ℕ) (old new : State) (rows : List Row) → old.now.schema ≡ store_schema → Shown next_text (Int id ∷ Words after ∷ []) old new rows
+pub reads_next : (id : ℤ) (after : List ℕ) (old new : State) (rows : List Row) → IsReady old → Shown next_text (Int id ∷ Words after ∷ []) old new rows
     → AreFirst 17 (rows_above after (of_tenant receipts_table id old.now.trees)) rows
-reads_next id after old new rows has h =
+reads_next id after old new rows ready h =
     let params : Row = Int id ∷ Words after ∷ [] in
+    let layout = ready.schema.0 in
+    let tree = receipts_tree layout in
+    let its = next_is layout in
     let filters = equals 1 0 ∷ above_term ∷ [] in
-    let q = page_query filters in
-    let a : IsAnswer q (overlay old.now.trees []) params rows = (reads_as next_text params old new store_schema has _ next_is.0 next_is.2 next_is.1 rows h).answer Null in
-    let all = old.now.trees 11 in
+    let q = page_query tree filters in
+    let a : IsAnswer q (overlay old.now.trees []) params rows = (reads_as next_text params old new (store_schema layout) ready.schema.1 _ its.0 its.2 its.1 rows h).answer Null in
+    let all = overlay old.now.trees [] tree in
     let mine : Row → Bool = λ r. equal Binary (column r 1) (Int id) in
     let asked : Row → Bool = λ r. is_above after (column r 2) in
     let staged = a.grouped ∙ staged_are params mine asked all ∙ ap (map (λ r. params ∷ r ∷ [])) (filter_two mine asked all ∙ filter_same asked (λ r. is_gt (value_cmp (column r 2) (Words after))) (λ r. above_is after (column r 2)) (rows_with 1 (Int id) all)) in
-    first_of filters params (rows_above after (of_tenant receipts_table id old.now.trees)) rows old.now.trees a
+    let above : List Row → List Row = λ here. rows_above after (map (values_of receipts_table) (rows_with 1 (Int id) here)) in
+    subst (λ here. AreFirst 17 (above here) rows) ((read layout old.now.trees).receipts ∙ ap old.now.trees (sym (places layout old.now ready.sound ready.schema.1).receipts))
+    (first_of tree filters params (above all) rows old.now.trees a
     (a.distinct ∙ ap (map (output q)) staged ∙ map-map (output q) (λ (r : Row). params ∷ r ∷ []) _ ∙ sym (map-map by_key (values_of receipts_table) _)
-    ∙ ap (map by_key) (sym (filter-map (λ row. is_gt (value_cmp (column row 0) (Words after))) (values_of receipts_table) (rows_with 1 (Int id) all))))
+    ∙ ap (map by_key) (sym (filter-map (λ row. is_gt (value_cmp (column row 0) (Words after))) (values_of receipts_table) (rows_with 1 (Int id) all)))))

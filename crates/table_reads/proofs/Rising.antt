@@ -1,5 +1,5 @@
 -- Lists that rise from each element to the next.
-use Rattle.std.proofs.Common.{◌≡◌, ◌⊎◌, inl, inr, ℕ, ℤ, suc, zero, ◌<◌, List, [], ◌∷◌, length, get_or, Bool, true, false, T, IsTrue, Ordering, Less, Equal, Greater, is_lt, nat_cmp, true≢false, refl, sym, ap, subst, subst₂, ◌∙◌, arith}
+use Rattle.std.proofs.Common.{◌≡◌, ◌⊎◌, inl, inr, ℕ, ℤ, suc, zero, ◌<◌, ◌-◌, List, [], ◌∷◌, length, get_or, Bool, true, false, T, IsTrue, Ordering, Less, Equal, Greater, is_lt, nat_cmp, true≢false, refl, sym, ap, subst, subst₂, ◌∙◌, arith}
 use Rattle.std.specs.Int.Signed.{lt_z, lt_z_yes, ◌<ℤ◌}
 use Rattle.std.specs.Cmp.Lexicographic.{slice_cmp}
 use Rattle.std.specs.Ordering.{MatchOrdering}
@@ -47,6 +47,11 @@ module _ {X : Type 0} (R : X → X → Type 0) where
   neighbours (x ∷ []) up i d e low = absurd (omega (arith, low))
   neighbours (x ∷ y ∷ xs) up zero d e low = up.0.0
   neighbours (x ∷ y ∷ xs) up (suc i) d e low = neighbours (y ∷ xs) up.1 i d e (omega (arith, low))
+
+  pub near : (xs : List X) → IsAscending R xs → (at : ℕ) (d e : X) → 0 < at → at < length xs → R (get_or xs (at - 1) d) (get_or xs at e)
+  near xs up at d e low in_it =
+      let here : suc (at - 1) ≡ at = omega (arith, low) in
+      subst (λ n. R (get_or xs (at - 1) d) (get_or xs n e)) here (neighbours xs up (at - 1) d e (omega (arith, low, in_it)))
 
   pub from_neighbours : ((a b c : X) → R a b → R b c → R a c) → (n : ℕ) (xs : List X) → length xs < suc n → RisesTo n xs → IsAscending R xs
   from_neighbours trans n [] long near = tt

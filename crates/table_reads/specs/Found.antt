@@ -1,18 +1,19 @@
 -- What reads of the tables find.
 use Rattle.std.specs.Prelude.{◌≡◌, ℕ, ℤ, List, [], ◌∷◌, ◌++◌, ◌⊎◌, ◌≤◌, length, filter, false, Option, Some, None, IsPermutation, IsUtf8, string_bytes}
 use Rattle.std.specs.List.{AllByRecursion}
-use Rattle.std.specs.Ordering.{is_gt}
+use Rattle.std.specs.Ordering.{is_gt, ordering_then}
 use Rattle.std.specs.declared.cmp.Ordering.TheVariants.{Less}
 use Rattle.sqlite_value.specs.declared.value.Value.TheVariants.{Int, Text as Words}
 use Rattle.sqlite_value.specs.Order.{Row, column, value_cmp}
 use Rattle.sqlite_trees.specs.Tree.{Trees, IsAscending}
 use Rattle.table_schema.specs.Layout.{receipts_table}
 use Rattle.table_schema.specs.Holds.{rows_with, of_tenant, tenants_of, IsAbsent}
-use Rattle.table_schema.specs.Values.{version_row, state_row}
+use Rattle.table_schema.specs.Values.{version_row, state_row, exception_row}
 use Rattle.table_reads.specs.declared.find.Tenant.{Tenant}
 use Rattle.table_reads.specs.declared.rows.VersionRow.{VersionRow}
 use Rattle.table_reads.specs.declared.rows.PoolRow.{PoolRow}
 use Rattle.table_reads.specs.declared.rows.ReceiptRow.{ReceiptRow}
+use Rattle.table_schema.specs.declared.values.Exception.{Exception}
 use Rattle.table_schema.specs.declared.values.State.{State}
 
 -- the number and the epoch of a row of tenants
@@ -31,10 +32,18 @@ Names db name (Some tenant) =
 abbrev pub IsRising : List Row → Type 0
 IsRising = IsAscending (λ a b. value_cmp (column a 0) (column b 0) ≡ Less)
 
--- the list has each of these rows once, in the order of the keys
-pub record Lists (all list : List Row) : Type 0 where
+-- the list has each of these rows once, in an order
+pub record ListsBy (Before : Row → Row → Type 0) (all list : List Row) : Type 0 where
   pub same : IsPermutation all list
-  pub rising : IsRising list
+  pub rising : IsAscending Before list
+
+-- in the order of the keys
+abbrev pub Lists : List Row → List Row → Type 0
+Lists = ListsBy (λ a b. value_cmp (column a 0) (column b 0) ≡ Less)
+
+-- a row comes before another by its first value, and where those are equal by its second
+abbrev pub Precedes : Row → Row → Type 0
+Precedes a b = ordering_then (value_cmp (column a 0) (column b 0)) (value_cmp (column a 1) (column b 1)) ≡ Less
 
 -- the values of a row of maps that was read
 abbrev pub version_values : VersionRow → Row
@@ -48,6 +57,10 @@ IsVersionRow row = (version : ℤ) × (text : List ℕ) × IsUtf8 text × (row �
 abbrev pub IsStateRow : Row → Type 0
 IsStateRow row = (state : State) × (row ≡ state_row state)
 
+-- the values are those of an exception
+abbrev pub IsExceptionRow : Row → Type 0
+IsExceptionRow row = (e : Exception) × (row ≡ exception_row e)
+
 -- the values of a row of pools that was read
 abbrev pub pool_values : PoolRow → Row
 pool_values pool =
@@ -59,13 +72,14 @@ pool_values pool =
     ∷ Int pool.pg_num
     ∷ Int pool.pgp_num
     ∷ Int pool.hashpspool
+    ∷ Int pool.pairs
     ∷ []
 
 -- the values are those of a pool
 abbrev pub IsPoolRow : Row → Type 0
 IsPoolRow row =
-    (id : ℤ) × (name : List ℕ) × IsUtf8 name × (erasure : ℤ) × (size : ℤ) × (rule : ℤ) × (pg_num : ℤ) × (pgp_num : ℤ) × (hashpspool : ℤ)
-    × (row ≡ Int id ∷ Words name ∷ Int erasure ∷ Int size ∷ Int rule ∷ Int pg_num ∷ Int pgp_num ∷ Int hashpspool ∷ [])
+    (id : ℤ) × (name : List ℕ) × IsUtf8 name × (erasure : ℤ) × (size : ℤ) × (rule : ℤ) × (pg_num : ℤ) × (pgp_num : ℤ) × (hashpspool : ℤ) × (pairs : ℤ)
+    × (row ≡ Int id ∷ Words name ∷ Int erasure ∷ Int size ∷ Int rule ∷ Int pg_num ∷ Int pgp_num ∷ Int hashpspool ∷ Int pairs ∷ [])
 
 -- the values of a row of receipts that was read
 abbrev pub receipt_values : ReceiptRow → Row
@@ -92,10 +106,13 @@ abbrev pub AreReceipt : List Row → Option ReceiptRow → Type 0
 AreReceipt rows None = rows ≡ []
 AreReceipt rows (Some receipt) = rows ≡ receipt_values receipt ∷ []
 
--- The rows are these in some order, and in the order of the keys where no key stands twice.
-pub record AreOrdered (all rows : List Row) : Type 0 where
+-- The rows are these in some order, and in this order where no two are alike in it.
+pub record AreOrderedBy (Before : Row → Row → Type 0) (all rows : List Row) : Type 0 where
   pub same : IsPermutation all rows
-  pub in_order : (list : List Row) → Lists all list → rows ≡ list
+  pub in_order : (list : List Row) → ListsBy Before all list → rows ≡ list
+
+abbrev pub AreOrdered : List Row → List Row → Type 0
+AreOrdered = AreOrderedBy (λ a b. value_cmp (column a 0) (column b 0) ≡ Less)
 
 -- the rows whose first value is above a text, as SQL orders values
 abbrev pub rows_above : List ℕ → List Row → List Row

@@ -7,6 +7,7 @@ ghost use Rattle.sqlite.specs.Listing.{understood};
 ghost use Rattle.sqlite.specs.State.{HasCleanDisk, Shown, Survives};
 ghost use Rattle.sqlite.specs.Values.{bound};
 ghost use Rattle.table_schema.specs.Layout.{store_schema};
+ghost use Rattle.table_schema.specs.declared.schema.Layout.{Layout};
 ghost use Rattle.table_schema.specs.Ready.{IsReady, Remains};
 
 use sqlite::types::ValueRef;
@@ -23,7 +24,7 @@ pub fn ask<S: Alter>(
 ) -> Result<Vec<Row>, Fault>
     requires autocommit { conn.old.in_transaction ≡ false }
     requires ready { HasCleanDisk (state S.Store conn.old) → IsReady (state S.Store conn.old) }
-    requires plain { IsPlain (understood store_schema sql.now) }
+    requires plain { (layout : Layout) → IsPlain (understood (store_schema layout) sql.now) }
     ensures shown { HasCleanDisk (state S.Store conn.new) → IfOk result (λ rows. Shown sql.now (bound params.now) (state S.Store conn.old) (state S.Store conn.new) rows.items) }
     ensures remains { HasCleanDisk (state S.Store conn.new) → result ≢ Err Fault.Failed → Remains (state S.Store conn.old) (state S.Store conn.new) }
     ensures faults { IfErr result (λ fault. (fault ≡ Fault.NoMemory) ⊎ (fault ≡ Fault.Failed)) }

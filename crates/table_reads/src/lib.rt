@@ -2,6 +2,7 @@
 #![tactic(auto)]
 
 mod ask;
+pub mod exceptions;
 pub mod find;
 pub mod lists;
 pub mod pages;

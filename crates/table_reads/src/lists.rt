@@ -109,7 +109,7 @@ fn pool_rows<S: Alter>(conn: &mut Connection<S>, id: i64) -> Result<Vec<Row>, Fa
 {
     ask(
         conn,
-        "SELECT id, name, erasure, size, rule, pg_num, pgp_num, hashpspool FROM pools WHERE tenant = ?1 ORDER BY id",
+        "SELECT id, name, erasure, size, rule, pg_num, pgp_num, hashpspool, pairs FROM pools_2 WHERE tenant = ?1 ORDER BY id",
         &[ValueRef::Int(id)],
     )
 }

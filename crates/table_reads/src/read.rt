@@ -34,7 +34,10 @@ pub fn one_of<T: TenantRow + Drop>(rows: &[Row]) -> Result<Option<T>, Fault>
 }
 
 /// The values of the rows, in their order, or `None` where one of them is no such row.
-fn all_in<T: TenantRow + Drop>(alloc: Global, rows: &[Row]) -> Result<Option<Vec<T>>, AllocError>
+pub fn all_in<T: TenantRow + Drop>(
+    alloc: Global,
+    rows: &[Row],
+) -> Result<Option<Vec<T>>, AllocError>
     ensures some { IfOk result (λ o. IfSome o (λ list. rows.now ≡ map T.values list.items)) }
     ensures none { IfOk result (λ o. o ≡ None → ¬ AllByRecursion T.is_one rows.now) }
 {

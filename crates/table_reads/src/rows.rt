@@ -7,7 +7,7 @@ ghost use Rattle.sqlite_value.specs.Order.{Row as Values, column, value_cmp};
 
 use sqlite::{Error, ErrorCode, Row};
 use std::alloc::AllocError;
-use table_schema::values::State;
+use table_schema::values::{Exception, State};
 
 /// A row of `maps`.
 #[derive(Drop)]
@@ -16,7 +16,7 @@ pub struct VersionRow {
     pub text: String,
 }
 
-/// A row of `pools`.
+/// A row of `pools_2`.
 #[derive(Drop)]
 pub struct PoolRow {
     pub id: i64,
@@ -27,6 +27,7 @@ pub struct PoolRow {
     pub pg_num: i64,
     pub pgp_num: i64,
     pub hashpspool: i64,
+    pub pairs: i64,
 }
 
 /// A row of `receipts`.
@@ -40,7 +41,7 @@ pub struct ReceiptRow {
 }
 
 /// The integer at a place of the row, or `None` where there is none.
-fn int_at(row: &Row, at: usize) -> Result<Option<i64>, AllocError>
+pub fn int_at(row: &Row, at: usize) -> Result<Option<i64>, AllocError>
     ensures some { IfOk result (λ o. IfSome o (λ n. (at < length row.now) × (column row.now at ≡ Int n))) }
     ensures none { IfOk result (λ o. o ≡ None → at < length row.now → (n : ℤ) → column row.now at ≢ Int n) }
 {
@@ -149,7 +150,7 @@ impl TenantRow for PoolRow {
     ghost is_one = { IsPoolRow };
 
     fn from_values(row: &Row) -> Result<Option<PoolRow>, AllocError> {
-        if row.column_count() != 8 {
+        if row.column_count() != 9 {
             return Ok(None);
         }
         let Some(id) = int_at(row, 0)? else {
@@ -176,6 +177,9 @@ impl TenantRow for PoolRow {
         let Some(hashpspool) = int_at(row, 7)? else {
             return Ok(None);
         };
+        let Some(pairs) = int_at(row, 8)? else {
+            return Ok(None);
+        };
         Ok(Some(PoolRow {
             id,
             name,
@@ -185,6 +189,7 @@ impl TenantRow for PoolRow {
             pg_num,
             pgp_num,
             hashpspool,
+            pairs,
         }))
     }
 
@@ -230,5 +235,46 @@ impl TenantRow for ReceiptRow {
 
     fn is_below(&self, other: &ReceiptRow) -> bool {
         self.request.as_str() < other.request.as_str()
+    }
+}
+
+impl TenantRow for Exception {
+    ghost use Rattle.table_schema.specs.Values.{exception_row};
+    ghost use Rattle.table_reads.specs.Found.{IsExceptionRow};
+
+    ghost values = { exception_row };
+
+    ghost is_one = { IsExceptionRow };
+
+    fn from_values(row: &Row) -> Result<Option<Exception>, AllocError> {
+        if row.column_count() != 5 {
+            return Ok(None);
+        }
+        let Some(pool) = int_at(row, 0)? else {
+            return Ok(None);
+        };
+        let Some(place) = int_at(row, 1)? else {
+            return Ok(None);
+        };
+        let Some(group) = int_at(row, 2)? else {
+            return Ok(None);
+        };
+        let Some(from) = int_at(row, 3)? else {
+            return Ok(None);
+        };
+        let Some(to) = int_at(row, 4)? else {
+            return Ok(None);
+        };
+        Ok(Some(Exception {
+            pool,
+            place,
+            group,
+            from,
+            to,
+        }))
+    }
+
+    fn is_below(&self, other: &Exception) -> bool {
+        self.pool < other.pool
     }
 }

@@ -1,3 +1,4 @@
 pub mod Queries
 pub mod Elements
 pub mod Tested
+pub mod Places

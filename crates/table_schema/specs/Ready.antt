@@ -3,7 +3,7 @@ use Rattle.std.specs.Prelude.{◌≡◌, ◌⊎◌, IsTrue}
 use Rattle.sqlite_trees.specs.Tree.{Trees}
 use Rattle.sqlite.specs.Effect.{Database, IsDatabase}
 use Rattle.sqlite.specs.State.{State as Shown, IsUnchanged}
-use Rattle.table_schema.specs.Layout.{store_schema}
+use Rattle.table_schema.specs.Layout.{IsStoreSchema}
 use Rattle.table_schema.specs.Holds.{AreTables}
 
 -- Nothing was committed, and while the connection is open it shows the last commit.
@@ -26,7 +26,7 @@ Rests old new = IsUnchanged old new ⊎ Keeps old new
 -- The connection is open between transactions, and has this service's tables.
 pub record IsReady (s : Shown) : Type 0 where
   pub is_open : IsTrue s.is_open
-  pub schema : s.now.schema ≡ store_schema
+  pub schema : IsStoreSchema s.now.schema
   pub tables : AreTables s.now.trees
   pub sound : IsDatabase s.now
   pub settled : s.now ≡ s.committed

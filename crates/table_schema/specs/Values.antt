@@ -2,6 +2,7 @@
 use Rattle.std.specs.Prelude.{ℕ, ℤ, List, [], ◌∷◌}
 use Rattle.sqlite_value.specs.declared.value.Value.TheVariants.{Int, Text as Words}
 use Rattle.sqlite_value.specs.Order.{Row}
+use Rattle.table_schema.specs.declared.values.Exception.{Exception}
 use Rattle.table_schema.specs.declared.values.Pool.{Pool}
 use Rattle.table_schema.specs.declared.values.Receipt.{Receipt}
 use Rattle.table_schema.specs.declared.values.State.{State}
@@ -22,7 +23,11 @@ pool_row pool =
     ∷ Int pool.pg_num
     ∷ Int pool.pgp_num
     ∷ Int pool.hashpspool
+    ∷ Int pool.pairs
     ∷ []
+
+abbrev pub exception_row : Exception → Row
+exception_row e = Int e.pool ∷ Int e.place ∷ Int e.group ∷ Int e.from ∷ Int e.to ∷ []
 
 abbrev pub receipt_row : Receipt → Row
 receipt_row receipt =

@@ -1,7 +1,7 @@
 //! The columns of each table.
 
 ghost use Rattle.std.specs.Prelude.{◌≡◌, ◌↔◌, IsTrue};
-ghost use Rattle.table_schema.specs.Layout.{info_table, tenants_table, sequence_table, maps_table, devices_table, pools_table, receipts_table};
+ghost use Rattle.table_schema.specs.Layout.{info_table, tenants_table, sequence_table, maps_table, devices_table, first_pools_table, pools_table, exceptions_table, receipts_table};
 
 use crate::parts::{is_loose, is_needed};
 use sqlite_schema::schema::{Column, Kind};
@@ -41,9 +41,9 @@ pub fn are_columns_of_devices(columns: &[Column]) -> bool
     }
 }
 
-/// Whether the columns are those of `pools`.
-pub fn are_columns_of_pools(columns: &[Column]) -> bool
-    ensures { IsTrue result ↔ columns.now ≡ pools_table.columns }
+/// Whether the columns are those of `pools` of schema 1.
+pub fn are_columns_of_first_pools(columns: &[Column]) -> bool
+    ensures { IsTrue result ↔ columns.now ≡ first_pools_table.columns }
 {
     match columns {
         [
@@ -82,6 +82,83 @@ pub fn are_columns_of_pools(columns: &[Column]) -> bool
                 return false;
             }
             is_needed(hashpspool, "hashpspool", Kind::Integer)
+        }
+        _ => false,
+    }
+}
+
+/// Whether the columns are those of `pools_2`.
+pub fn are_columns_of_pools(columns: &[Column]) -> bool
+    ensures { IsTrue result ↔ columns.now ≡ pools_table.columns }
+{
+    match columns {
+        [
+            tenant,
+            id,
+            name,
+            erasure,
+            size,
+            rule,
+            pg_num,
+            pgp_num,
+            hashpspool,
+            pairs,
+        ] => {
+            if !is_needed(tenant, "tenant", Kind::Integer) {
+                return false;
+            }
+            if !is_needed(id, "id", Kind::Integer) {
+                return false;
+            }
+            if !is_needed(name, "name", Kind::Text) {
+                return false;
+            }
+            if !is_needed(erasure, "erasure", Kind::Integer) {
+                return false;
+            }
+            if !is_needed(size, "size", Kind::Integer) {
+                return false;
+            }
+            if !is_needed(rule, "rule", Kind::Integer) {
+                return false;
+            }
+            if !is_needed(pg_num, "pg_num", Kind::Integer) {
+                return false;
+            }
+            if !is_needed(pgp_num, "pgp_num", Kind::Integer) {
+                return false;
+            }
+            if !is_needed(hashpspool, "hashpspool", Kind::Integer) {
+                return false;
+            }
+            is_needed(pairs, "pairs", Kind::Integer)
+        }
+        _ => false,
+    }
+}
+
+/// Whether the columns are those of `exceptions`.
+pub fn are_columns_of_exceptions(columns: &[Column]) -> bool
+    ensures { IsTrue result ↔ columns.now ≡ exceptions_table.columns }
+{
+    match columns {
+        [tenant, pool, place, group, from, to] => {
+            if !is_needed(tenant, "tenant", Kind::Integer) {
+                return false;
+            }
+            if !is_needed(pool, "pool", Kind::Integer) {
+                return false;
+            }
+            if !is_needed(place, "place", Kind::Integer) {
+                return false;
+            }
+            if !is_needed(group, "grp", Kind::Integer) {
+                return false;
+            }
+            if !is_needed(from, "src", Kind::Integer) {
+                return false;
+            }
+            is_needed(to, "dst", Kind::Integer)
         }
         _ => false,
     }

@@ -2,8 +2,10 @@
 #![tactic(auto)]
 
 mod columns;
+pub mod first;
 mod one_test;
 mod parts;
 pub mod refuse;
 pub mod schema;
+mod tables;
 pub mod values;

@@ -1,6 +1,6 @@
 //! Parts of a schema: names, columns, keys, references and indexes.
 
-ghost use Rattle.std.specs.Prelude.{◌≡◌, ◌↔◌, true, [], ◌∷◌, IsTrue};
+ghost use Rattle.std.specs.Prelude.{◌≡◌, ◌↔◌, ◌+◌, ◌<◌, true, [], ◌∷◌, IsTrue};
 ghost use Rattle.sqlite_value.specs.declared.value.Value.TheVariants.{Null};
 ghost use Rattle.sqlite_value.specs.declared.keys.Collation.TheVariants.{Binary};
 ghost use Rattle.sqlite_value.specs.Keys.{plain};
@@ -110,12 +110,13 @@ pub fn is_one_reference(references: &Items<Reference>) -> bool
     }
 }
 
-/// Whether the index is the automatic one of a table's key.
-pub fn is_automatic(index: &Index, name: &str, table: u32, places: &[usize], tree: u32) -> bool
-    ensures { IsTrue result ↔ index.now ≡ record { name = name.now; tree = tree; table = table; columns = places.now; order = plain; is_unique = true } }
+/// Whether the index is the automatic one of a table's key, in the tree so many behind the table's.
+pub fn is_automatic(index: &Index, name: &str, table: u32, places: &[usize], behind: u32) -> bool
+    requires { table + behind < 65536 }
+    ensures { IsTrue result ↔ index.now ≡ record { name = name.now; tree = table + behind; table = table; columns = places.now; order = plain; is_unique = true } }
 {
     is_name(&index.name, name)
-        && index.tree == tree
+        && index.tree == table + behind
         && index.table == table
         && are_places(&index.columns, places)
         && index.order.digits == 0

@@ -8,7 +8,7 @@ pub struct State {
     pub up: i64,
 }
 
-/// A row of `pools`, without the tenant's number.
+/// A row of `pools_2`, without the tenant's number. `pairs` is the number of the pool's exceptions.
 #[derive(Clone, Copy)]
 pub struct Pool<'a> {
     pub id: i64,
@@ -19,6 +19,18 @@ pub struct Pool<'a> {
     pub pg_num: i64,
     pub pgp_num: i64,
     pub hashpspool: i64,
+    pub pairs: i64,
+}
+
+/// A row of `exceptions`, without the tenant's number: in the group of the pool the device `to`
+/// takes the place of `from`. `place` is its place in the pool's list, from 0.
+#[derive(Clone, Copy)]
+pub struct Exception {
+    pub pool: i64,
+    pub place: i64,
+    pub group: i64,
+    pub from: i64,
+    pub to: i64,
 }
 
 /// A row of `receipts`, without the tenant's number.

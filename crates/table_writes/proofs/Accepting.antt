@@ -13,17 +13,18 @@ use Rattle.sqlite.specs.Effect.{Database}
 use Rattle.sqlite.specs.Store.{Ghosts}
 use Rattle.sqlite.specs.Held.{Held, state}
 use Rattle.sqlite.specs.State.{State, Executes}
-use Rattle.table_writes.specs.declared.write.Write.TheVariants.{Plain, Create, Remove, Raise, AddVersion, ClearState, AddState, AddPool, RemovePool, AddReceipt}
+use Rattle.table_writes.specs.declared.write.Write.TheVariants.{Plain, Create, Remove, Raise, AddVersion, ClearState, AddState, AddPool, RemovePool, AddException, ClearExceptions, AddReceipt}
 use Rattle.table_writes.specs.declared.write.Write.{Write}
-use Rattle.table_schema.specs.Layout.{maps_table, devices_table, pools_table, receipts_table, tables_of_tenants}
-use Rattle.table_schema.specs.Holds.{rows_with, values_of, of_tenant, IsTenant, TenantRows, Holds, Turns}
+use Rattle.table_schema.specs.declared.schema.Layout.{Layout}
+use Rattle.table_schema.specs.Layout.{store_schema, tenants_table, maps_table, devices_table, pools_table, receipts_table, exceptions_table, tables_of_tenants}
+use Rattle.table_schema.specs.Holds.{rows_in, rows_with, values_of, of_tenant, IsTenant, TenantRows, Holds, Turns}
 use Rattle.table_writes.specs.Run.{text_of, params_of, Ran, Makes, begun}
 use Rattle.table_schema.specs.Ready.{IsReady}
-use Rattle.table_schema.specs.Values.{version_row, state_row, pool_row}
+use Rattle.table_schema.specs.Values.{version_row, state_row, pool_row, exception_row}
 use Rattle.table_writes.specs.Change.{without_key, with_receipt}
-use Rattle.table_writes.proofs.Inserting.{unlike, adds_version, adds_state, adds_pool, adds_receipt}
+use Rattle.table_writes.proofs.Inserting.{adds_version, adds_state, adds_pool, adds_exception, adds_receipt}
 use Rattle.table_writes.proofs.Raising.{raises}
-use Rattle.table_writes.proofs.Deleting.{is_keyed, clears_state, removes_pool}
+use Rattle.table_writes.proofs.Deleting.{is_keyed, clears_state, removes_pool, clears_exceptions}
 use Rattle.table_writes.proofs.Turning.{Touches, touches_then, touched, named, alone, added_touches, added_own, taken_touches, filter_within, raised_touches, raised_row_is}
 use Rattle.table_writes.proofs.Committing.{AreSound}
 
@@ -38,6 +39,8 @@ does rows (ClearState id device) = record rows { devices = without_key device ro
 does rows (AddState id state) = record rows { devices = state_row state ∷ rows.devices }
 does rows (AddPool id pool) = record rows { pools = pool_row pool ∷ rows.pools }
 does rows (RemovePool id pool) = record rows { pools = without_key pool rows.pools }
+does rows (AddException id e) = record rows { exceptions = exception_row e ∷ rows.exceptions }
+does rows (ClearExceptions id pool) = record rows { exceptions = without_key pool rows.exceptions }
 does rows (AddReceipt id receipt) = with_receipt receipt rows
 
 abbrev pub does_all : TenantRows → List Write → TenantRows
@@ -54,6 +57,8 @@ IsAbout id (ClearState at device) = at ≡ id
 IsAbout id (AddState at state) = at ≡ id
 IsAbout id (AddPool at pool) = at ≡ id
 IsAbout id (RemovePool at pool) = at ≡ id
+IsAbout id (AddException at e) = at ≡ id
+IsAbout id (ClearExceptions at pool) = at ≡ id
 IsAbout id (AddReceipt at receipt) = at ≡ id
 
 pub record AreRows (id : ℤ) (db : Trees) (rows : TenantRows) : Type 0 where
@@ -61,27 +66,28 @@ pub record AreRows (id : ℤ) (db : Trees) (rows : TenantRows) : Type 0 where
   pub devices : IsPermutation (of_tenant devices_table id db) rows.devices
   pub pools : IsPermutation (of_tenant pools_table id db) rows.pools
   pub receipts : IsPermutation (of_tenant receipts_table id db) rows.receipts
+  pub exceptions : IsPermutation (of_tenant exceptions_table id db) rows.exceptions
 
 -- what some writes of the tenant's rows come to
 pub record Steps (name : List ℕ) (id : ℤ) (change : TenantRows → TenantRows) (old new : Database) : Type 0 where
   pub touches : Touches name id old new
-  pub tenants : new.trees 1 ≡ old.trees 1
+  pub tenants : rows_in tenants_table new.trees ≡ rows_in tenants_table old.trees
   pub rows : (rows : TenantRows) → AreRows id old.trees rows → AreRows id new.trees (change rows)
 
 -- a table that is as it was
-same_table : (table : Table) (id : ℤ) (old new : Trees) (l : List Row) → new table.tree ≡ old table.tree → IsPermutation (of_tenant table id old) l → IsPermutation (of_tenant table id new) l
+same_table : (table : Table) (id : ℤ) (old new : Trees) (l : List Row) → rows_in table new ≡ rows_in table old → IsPermutation (of_tenant table id old) l → IsPermutation (of_tenant table id new) l
 same_table table id old new l same = subst (λ all. IsPermutation (map (values_of table) (rows_with 1 (Int id) all)) l) (sym same)
 
 -- the tenant's rows in a table without those of a key
-keyed_rows : (table : Table) (id key : ℤ) (old new : Trees) (l : List Row) → ((r : Row) → column (values_of table r) 0 ≡ column r 2) → new table.tree ≡ filter (λ r. not (is_keyed id key r)) (old table.tree)
+keyed_rows : (table : Table) (id key : ℤ) (old new : Trees) (l : List Row) → ((r : Row) → column (values_of table r) 0 ≡ column r 2) → rows_in table new ≡ filter (λ r. not (is_keyed id key r)) (rows_in table old)
     → IsPermutation (of_tenant table id old) l → IsPermutation (of_tenant table id new) (without_key key l)
 keyed_rows table id key old new l second rows before =
     let mine : Row → Bool = λ r. equal Binary (column r 1) (Int id) in
     let keyed : Row → Bool = λ r. equal Binary (column r 2) (Int key) in
     let first : Row → Bool = λ w. not (equal Binary (column w 0) (Int key)) in
-    let left : of_tenant table id new ≡ map (values_of table) (filter (λ r. not (keyed r)) (filter mine (old table.tree))) = ap (λ all. map (values_of table) (filter mine all)) rows ∙ ap (map (values_of table)) (filter_within mine keyed (old table.tree)) in
-    let right : filter first (of_tenant table id old) ≡ map (values_of table) (filter (λ r. first (values_of table r)) (filter mine (old table.tree))) = filter-map first (values_of table) (filter mine (old table.tree)) in
-    let same : filter (λ r. first (values_of table r)) (filter mine (old table.tree)) ≡ filter (λ r. not (keyed r)) (filter mine (old table.tree)) = same_tests (λ r. first (values_of table r)) (λ r. not (keyed r)) (filter mine (old table.tree)) (λ r. ap (λ v. not (equal Binary v (Int key))) (second r)) in
+    let left : of_tenant table id new ≡ map (values_of table) (filter (λ r. not (keyed r)) (filter mine (rows_in table old))) = ap (λ all. map (values_of table) (filter mine all)) rows ∙ ap (map (values_of table)) (filter_within mine keyed (rows_in table old)) in
+    let right : filter first (of_tenant table id old) ≡ map (values_of table) (filter (λ r. first (values_of table r)) (filter mine (rows_in table old))) = filter-map first (values_of table) (filter mine (rows_in table old)) in
+    let same : filter (λ r. first (values_of table r)) (filter mine (rows_in table old)) ≡ filter (λ r. not (keyed r)) (filter mine (rows_in table old)) = same_tests (λ r. first (values_of table r)) (λ r. not (keyed r)) (filter mine (rows_in table old)) (λ r. ap (λ v. not (equal Binary v (Int key))) (second r)) in
     subst (λ all. IsPermutation all (without_key key l)) (right ∙ ap (map (values_of table)) same ∙ sym left) (IsPermutation-filter first _ _ before)
   where
     same_tests : (p q : Row → Bool) (all : List Row) → ((r : Row) → p r ≡ q r) → filter p all ≡ filter q all
@@ -92,93 +98,133 @@ within_tenant : (id key : ℤ) (r : Row) → equal Binary (column r 1) (Int id) 
 within_tenant id key r other = rw other refl
 
 module _ (name : List ℕ) (id : ℤ) (old new : State) (count : ℕ) (sound : AreSound old.now) where
+  abbrev layout : Layout
+  layout = sound.schema.0
+
+  has : old.now.schema ≡ store_schema layout
+  has = sound.schema.1
+
   step : (w : Write) → IsAbout id w → Executes (text_of w) (params_of w) old new (Ok count) → Steps name id (λ rows. does rows w) old.now new.now
   step (Plain sql) about h = absurd about
   step (Create name) about h = absurd about
   step (Remove at) about h = absurd about
   step (Raise at epoch) about h = absurd about
   step (AddVersion at version text) about h =
-      let it = adds_version old new id count sound.schema version text.now (subst (λ n. Executes (text_of (AddVersion n version text)) (params_of (AddVersion n version text)) old new (Ok count)) about h) in
+      let it = adds_version old new id count layout has sound.sound version text.now (subst (λ n. Executes (text_of (AddVersion n version text)) (params_of (AddVersion n version text)) old new (Ok count)) about h) in
       let others = it.1.others.1 in
       record {
-        touches = added_touches maps_table name id it.0 _ old.now new.now (unlike 1 4 refl) it.1 sound.tables sound.tables.others.0;
-        tenants = it.1.others.0 (unlike 1 4 refl);
+        touches = added_touches maps_table name id it.0 _ old.now new.now refl it.1 sound.tables sound.tables.others.0;
+        tenants = it.1.others.0 refl;
         rows = λ rows before. record {
-          maps = added_own maps_table name id it.0 _ old.now new.now (unlike 1 4 refl) it.1 rows.maps before.maps;
-          devices = same_table devices_table id old.now.trees new.now.trees rows.devices (others.1.0 (unlike 6 4 refl)) before.devices;
-          pools = same_table pools_table id old.now.trees new.now.trees rows.pools (others.1.1.0 (unlike 8 4 refl)) before.pools;
-          receipts = same_table receipts_table id old.now.trees new.now.trees rows.receipts (others.1.1.1.0 (unlike 11 4 refl)) before.receipts;
+          maps = added_own maps_table name id it.0 _ old.now new.now refl it.1 rows.maps before.maps;
+          devices = same_table devices_table id old.now.trees new.now.trees rows.devices (others.1.0 refl) before.devices;
+          pools = same_table pools_table id old.now.trees new.now.trees rows.pools (others.1.1.0 refl) before.pools;
+          receipts = same_table receipts_table id old.now.trees new.now.trees rows.receipts (others.1.1.1.0 refl) before.receipts;
+          exceptions = same_table exceptions_table id old.now.trees new.now.trees rows.exceptions (others.1.1.1.1.0 refl) before.exceptions;
         };
       }
   step (AddState at s) about h =
-      let it = adds_state old new id count sound.schema s.device s.reweight s.up (subst (λ n. Executes (text_of (AddState n s)) (params_of (AddState n s)) old new (Ok count)) about h) in
+      let it = adds_state old new id count layout has sound.sound s.device s.reweight s.up (subst (λ n. Executes (text_of (AddState n s)) (params_of (AddState n s)) old new (Ok count)) about h) in
       let others = it.1.others.1 in
       record {
-        touches = added_touches devices_table name id it.0 _ old.now new.now (unlike 1 6 refl) it.1 sound.tables sound.tables.others.1.0;
-        tenants = it.1.others.0 (unlike 1 6 refl);
+        touches = added_touches devices_table name id it.0 _ old.now new.now refl it.1 sound.tables sound.tables.others.1.0;
+        tenants = it.1.others.0 refl;
         rows = λ rows before. record {
-          maps = same_table maps_table id old.now.trees new.now.trees rows.maps (others.0 (unlike 4 6 refl)) before.maps;
-          devices = added_own devices_table name id it.0 _ old.now new.now (unlike 1 6 refl) it.1 rows.devices before.devices;
-          pools = same_table pools_table id old.now.trees new.now.trees rows.pools (others.1.1.0 (unlike 8 6 refl)) before.pools;
-          receipts = same_table receipts_table id old.now.trees new.now.trees rows.receipts (others.1.1.1.0 (unlike 11 6 refl)) before.receipts;
+          maps = same_table maps_table id old.now.trees new.now.trees rows.maps (others.0 refl) before.maps;
+          devices = added_own devices_table name id it.0 _ old.now new.now refl it.1 rows.devices before.devices;
+          pools = same_table pools_table id old.now.trees new.now.trees rows.pools (others.1.1.0 refl) before.pools;
+          receipts = same_table receipts_table id old.now.trees new.now.trees rows.receipts (others.1.1.1.0 refl) before.receipts;
+          exceptions = same_table exceptions_table id old.now.trees new.now.trees rows.exceptions (others.1.1.1.1.0 refl) before.exceptions;
         };
       }
   step (AddPool at pool) about h =
-      let it = adds_pool old new id count sound.schema pool.id pool.name.now pool.erasure pool.size pool.rule pool.pg_num pool.pgp_num pool.hashpspool (subst (λ n. Executes (text_of (AddPool n pool)) (params_of (AddPool n pool)) old new (Ok count)) about h) in
+      let it = adds_pool old new id count layout has sound.sound pool.id pool.name.now pool.erasure pool.size pool.rule pool.pg_num pool.pgp_num pool.hashpspool pool.pairs (subst (λ n. Executes (text_of (AddPool n pool)) (params_of (AddPool n pool)) old new (Ok count)) about h) in
       let others = it.1.others.1 in
       record {
-        touches = added_touches pools_table name id it.0 _ old.now new.now (unlike 1 8 refl) it.1 sound.tables sound.tables.others.1.1.0;
-        tenants = it.1.others.0 (unlike 1 8 refl);
+        touches = added_touches pools_table name id it.0 _ old.now new.now refl it.1 sound.tables sound.tables.others.1.1.0;
+        tenants = it.1.others.0 refl;
         rows = λ rows before. record {
-          maps = same_table maps_table id old.now.trees new.now.trees rows.maps (others.0 (unlike 4 8 refl)) before.maps;
-          devices = same_table devices_table id old.now.trees new.now.trees rows.devices (others.1.0 (unlike 6 8 refl)) before.devices;
-          pools = added_own pools_table name id it.0 _ old.now new.now (unlike 1 8 refl) it.1 rows.pools before.pools;
-          receipts = same_table receipts_table id old.now.trees new.now.trees rows.receipts (others.1.1.1.0 (unlike 11 8 refl)) before.receipts;
+          maps = same_table maps_table id old.now.trees new.now.trees rows.maps (others.0 refl) before.maps;
+          devices = same_table devices_table id old.now.trees new.now.trees rows.devices (others.1.0 refl) before.devices;
+          pools = added_own pools_table name id it.0 _ old.now new.now refl it.1 rows.pools before.pools;
+          receipts = same_table receipts_table id old.now.trees new.now.trees rows.receipts (others.1.1.1.0 refl) before.receipts;
+          exceptions = same_table exceptions_table id old.now.trees new.now.trees rows.exceptions (others.1.1.1.1.0 refl) before.exceptions;
+        };
+      }
+  step (AddException at e) about h =
+      let it = adds_exception old new id count layout has sound.sound e.pool e.place e.group e.from e.to (subst (λ n. Executes (text_of (AddException n e)) (params_of (AddException n e)) old new (Ok count)) about h) in
+      let others = it.1.others.1 in
+      record {
+        touches = added_touches exceptions_table name id it.0 _ old.now new.now refl it.1 sound.tables sound.tables.others.1.1.1.1.0;
+        tenants = it.1.others.0 refl;
+        rows = λ rows before. record {
+          maps = same_table maps_table id old.now.trees new.now.trees rows.maps (others.0 refl) before.maps;
+          devices = same_table devices_table id old.now.trees new.now.trees rows.devices (others.1.0 refl) before.devices;
+          pools = same_table pools_table id old.now.trees new.now.trees rows.pools (others.1.1.0 refl) before.pools;
+          receipts = same_table receipts_table id old.now.trees new.now.trees rows.receipts (others.1.1.1.0 refl) before.receipts;
+          exceptions = added_own exceptions_table name id it.0 _ old.now new.now refl it.1 rows.exceptions before.exceptions;
         };
       }
   step (AddReceipt at receipt) about h =
-      let it = adds_receipt old new id count sound.schema receipt.request.now receipt.path.now receipt.body.now receipt.status receipt.reply.now (subst (λ n. Executes (text_of (AddReceipt n receipt)) (params_of (AddReceipt n receipt)) old new (Ok count)) about h) in
+      let it = adds_receipt old new id count layout has sound.sound receipt.request.now receipt.path.now receipt.body.now receipt.status receipt.reply.now (subst (λ n. Executes (text_of (AddReceipt n receipt)) (params_of (AddReceipt n receipt)) old new (Ok count)) about h) in
       let others = it.1.others.1 in
       record {
-        touches = added_touches receipts_table name id it.0 _ old.now new.now (unlike 1 11 refl) it.1 sound.tables sound.tables.others.1.1.1.0;
-        tenants = it.1.others.0 (unlike 1 11 refl);
+        touches = added_touches receipts_table name id it.0 _ old.now new.now refl it.1 sound.tables sound.tables.others.1.1.1.0;
+        tenants = it.1.others.0 refl;
         rows = λ rows before. record {
-          maps = same_table maps_table id old.now.trees new.now.trees rows.maps (others.0 (unlike 4 11 refl)) before.maps;
-          devices = same_table devices_table id old.now.trees new.now.trees rows.devices (others.1.0 (unlike 6 11 refl)) before.devices;
-          pools = same_table pools_table id old.now.trees new.now.trees rows.pools (others.1.1.0 (unlike 8 11 refl)) before.pools;
-          receipts = added_own receipts_table name id it.0 _ old.now new.now (unlike 1 11 refl) it.1 rows.receipts before.receipts;
+          maps = same_table maps_table id old.now.trees new.now.trees rows.maps (others.0 refl) before.maps;
+          devices = same_table devices_table id old.now.trees new.now.trees rows.devices (others.1.0 refl) before.devices;
+          pools = same_table pools_table id old.now.trees new.now.trees rows.pools (others.1.1.0 refl) before.pools;
+          receipts = added_own receipts_table name id it.0 _ old.now new.now refl it.1 rows.receipts before.receipts;
+          exceptions = same_table exceptions_table id old.now.trees new.now.trees rows.exceptions (others.1.1.1.1.0 refl) before.exceptions;
         };
       }
   step (ClearState at device) about h =
-      let it = clears_state old new id device count sound.schema sound.tables.others.1.0 (subst (λ n. Executes (text_of (ClearState n device)) (params_of (ClearState n device)) old new (Ok count)) about h) in
+      let it = clears_state old new id device count layout has sound.sound sound.tables.others.1.0 (subst (λ n. Executes (text_of (ClearState n device)) (params_of (ClearState n device)) old new (Ok count)) about h) in
       let others = it.taken.others.1 in
       record {
-        touches = taken_touches devices_table name id (is_keyed id device) old.now new.now (unlike 1 6 refl) (within_tenant id device) it.taken it.schema it.sound sound.tables sound.tables.others.1.0;
-        tenants = it.taken.others.0 (unlike 1 6 refl);
+        touches = taken_touches devices_table name id (is_keyed id device) old.now new.now refl (within_tenant id device) it.taken it.schema it.sound sound.tables sound.tables.others.1.0;
+        tenants = it.taken.others.0 refl;
         rows = λ rows before. record {
-          maps = same_table maps_table id old.now.trees new.now.trees rows.maps (others.0 (unlike 4 6 refl)) before.maps;
+          maps = same_table maps_table id old.now.trees new.now.trees rows.maps (others.0 refl) before.maps;
           devices = keyed_rows devices_table id device old.now.trees new.now.trees rows.devices (λ r. refl) it.taken.rows before.devices;
-          pools = same_table pools_table id old.now.trees new.now.trees rows.pools (others.1.1.0 (unlike 8 6 refl)) before.pools;
-          receipts = same_table receipts_table id old.now.trees new.now.trees rows.receipts (others.1.1.1.0 (unlike 11 6 refl)) before.receipts;
+          pools = same_table pools_table id old.now.trees new.now.trees rows.pools (others.1.1.0 refl) before.pools;
+          receipts = same_table receipts_table id old.now.trees new.now.trees rows.receipts (others.1.1.1.0 refl) before.receipts;
+          exceptions = same_table exceptions_table id old.now.trees new.now.trees rows.exceptions (others.1.1.1.1.0 refl) before.exceptions;
         };
       }
   step (RemovePool at pool) about h =
-      let it = removes_pool old new id pool count sound.schema sound.tables.others.1.1.0 (subst (λ n. Executes (text_of (RemovePool n pool)) (params_of (RemovePool n pool)) old new (Ok count)) about h) in
+      let it = removes_pool old new id pool count layout has sound.sound sound.tables.others.1.1.0 (subst (λ n. Executes (text_of (RemovePool n pool)) (params_of (RemovePool n pool)) old new (Ok count)) about h) in
       let others = it.taken.others.1 in
       record {
-        touches = taken_touches pools_table name id (is_keyed id pool) old.now new.now (unlike 1 8 refl) (within_tenant id pool) it.taken it.schema it.sound sound.tables sound.tables.others.1.1.0;
-        tenants = it.taken.others.0 (unlike 1 8 refl);
+        touches = taken_touches pools_table name id (is_keyed id pool) old.now new.now refl (within_tenant id pool) it.taken it.schema it.sound sound.tables sound.tables.others.1.1.0;
+        tenants = it.taken.others.0 refl;
         rows = λ rows before. record {
-          maps = same_table maps_table id old.now.trees new.now.trees rows.maps (others.0 (unlike 4 8 refl)) before.maps;
-          devices = same_table devices_table id old.now.trees new.now.trees rows.devices (others.1.0 (unlike 6 8 refl)) before.devices;
+          maps = same_table maps_table id old.now.trees new.now.trees rows.maps (others.0 refl) before.maps;
+          devices = same_table devices_table id old.now.trees new.now.trees rows.devices (others.1.0 refl) before.devices;
           pools = keyed_rows pools_table id pool old.now.trees new.now.trees rows.pools (λ r. refl) it.taken.rows before.pools;
-          receipts = same_table receipts_table id old.now.trees new.now.trees rows.receipts (others.1.1.1.0 (unlike 11 8 refl)) before.receipts;
+          receipts = same_table receipts_table id old.now.trees new.now.trees rows.receipts (others.1.1.1.0 refl) before.receipts;
+          exceptions = same_table exceptions_table id old.now.trees new.now.trees rows.exceptions (others.1.1.1.1.0 refl) before.exceptions;
+        };
+      }
+  step (ClearExceptions at pool) about h =
+      let it = clears_exceptions old new id pool count layout has sound.sound sound.tables.others.1.1.1.1.0 (subst (λ n. Executes (text_of (ClearExceptions n pool)) (params_of (ClearExceptions n pool)) old new (Ok count)) about h) in
+      let others = it.taken.others.1 in
+      record {
+        touches = taken_touches exceptions_table name id (is_keyed id pool) old.now new.now refl (within_tenant id pool) it.taken it.schema it.sound sound.tables sound.tables.others.1.1.1.1.0;
+        tenants = it.taken.others.0 refl;
+        rows = λ rows before. record {
+          maps = same_table maps_table id old.now.trees new.now.trees rows.maps (others.0 refl) before.maps;
+          devices = same_table devices_table id old.now.trees new.now.trees rows.devices (others.1.0 refl) before.devices;
+          pools = same_table pools_table id old.now.trees new.now.trees rows.pools (others.1.1.0 refl) before.pools;
+          receipts = same_table receipts_table id old.now.trees new.now.trees rows.receipts (others.1.1.1.0 refl) before.receipts;
+          exceptions = keyed_rows exceptions_table id pool old.now.trees new.now.trees rows.exceptions (λ r. refl) it.taken.rows before.exceptions;
         };
       }
 
 -- the tables are sound after what concerns one tenant
 sound_after : (name : List ℕ) (id : ℤ) (old new : Database) → AreSound old → Touches name id old new → AreSound new
-sound_after name id old new sound it = record { schema = it.schema ∙ sound.schema; tables = it.tables; sound = it.sound }
+sound_after name id old new sound it = record { schema = (sound.schema.0, it.schema ∙ sound.schema.1); tables = it.tables; sound = it.sound }
 
 module _ {S : Type 0} (g : Ghosts S) (name : List ℕ) (id : ℤ) where
   -- the writes in turn
@@ -187,7 +233,7 @@ module _ {S : Type 0} (g : Ghosts S) (name : List ℕ) (id : ℤ) where
   steps [] old last sound about ran =
       subst (λ h. Steps name id (λ rows. rows) (state g old).now (state g h).now) (sym ran)
       (record {
-        touches = record { schema = refl; sound = sound.sound; tables = sound.tables; tenants = λ other away. refl; rows = λ v away. all_of (λ t. rows_with 1 v ((state g old).now.trees t.tree) ≡ rows_with 1 v ((state g old).now.trees t.tree)) (λ t. refl) tables_of_tenants };
+        touches = record { schema = refl; sound = sound.sound; tables = sound.tables; tenants = λ other away. refl; rows = λ v away. all_of (λ t. rows_with 1 v (rows_in t (state g old).now.trees) ≡ rows_with 1 v (rows_in t (state g old).now.trees)) (λ t. refl) tables_of_tenants };
         tenants = refl;
         rows = λ rows before. before;
       })
@@ -209,7 +255,7 @@ module _ {S : Type 0} (g : Ghosts S) (old : Held S) (ready : IsReady (state g ol
     mid = (state g made.1.0).now
 
     raised_is : Rattle.table_writes.proofs.Raising.Raised id name e before mid
-    raised_is = raises (state g (begun g old)) (state g made.1.0) name e tenant.row id made.1.1 ready.schema (alone before.trees name id epoch tenant ready.tables) tenant.number (named before.trees name id epoch tenant) made.1.3
+    raised_is = raises (state g (begun g old)) (state g made.1.0) name e tenant.row id made.1.1 ready.schema.0 ready.schema.1 ready.sound (alone before.trees name id epoch tenant ready.tables) tenant.number (named before.trees name id epoch tenant) made.1.3
 
     raise_touches : Touches name id before mid
     raise_touches = raised_touches name id e epoch before mid ready.tables tenant raised_is
@@ -235,6 +281,7 @@ module _ {S : Type 0} (g : Ghosts S) (old : Held S) (ready : IsReady (state g ol
         devices = subst (λ n. IsPermutation (of_tenant devices_table n (state g old).now.trees) rows.devices) same held.devices;
         pools = subst (λ n. IsPermutation (of_tenant pools_table n (state g old).now.trees) rows.pools) same held.pools;
         receipts = subst (λ n. IsPermutation (of_tenant receipts_table n (state g old).now.trees) rows.receipts) same held.receipts;
+        exceptions = subst (λ n. IsPermutation (of_tenant exceptions_table n (state g old).now.trees) rows.exceptions) same held.exceptions;
       } in
       let there = (state g old).now.trees in
       let here = (state g made.1.0).now.trees in
@@ -243,6 +290,7 @@ module _ {S : Type 0} (g : Ghosts S) (old : Held S) (ready : IsReady (state g ol
         devices = same_table devices_table id there here rows.devices first.others.1.0 kept.devices;
         pools = same_table pools_table id there here rows.pools first.others.1.1.0 kept.pools;
         receipts = same_table receipts_table id there here rows.receipts first.others.1.1.1.0 kept.receipts;
+        exceptions = same_table exceptions_table id there here rows.exceptions first.others.1.1.1.1.0 kept.exceptions;
       }) in
       subst (λ (d : Database). Turns name (λ trees. Holds trees name (record (does_all rows writes) { epoch = epoch })) there d.trees) (sym made.2)
       (record {
@@ -258,6 +306,7 @@ module _ {S : Type 0} (g : Ghosts S) (old : Held S) (ready : IsReady (state g ol
           devices = after.devices;
           pools = after.pools;
           receipts = after.receipts;
+          exceptions = after.exceptions;
         };
         others = touched name id rows.epoch (state g old).now last ready.tables tenant (all_touches name rows.epoch tenant);
       })

@@ -1,5 +1,5 @@
 -- Rows of a tenant with a key are deleted.
-use Rattle.std.proofs.Common.{◌≡◌, ◌≢◌, ℕ, ℤ, List, [], ◌∷◌, map, filter, Bool, not, ◌&&◌, None, Ok, refl, sym, ap, subst, ◌∙◌}
+use Rattle.std.proofs.Common.{◌≡◌, ◌≢◌, ℕ, ℤ, List, [], ◌∷◌, map, filter, Bool, not, ◌&&◌, None, Some, slice_get, Ok, refl, sym, ap, subst, ◌∙◌}
 use Rattle.std.specs.List.{AllByRecursion}
 use Rattle.std.specs.List.Sorted.{IsPermutation}
 use Rattle.std.proofs.lemmas.List.Sorted.{IsPermutation-map, IsPermutation-sym}
@@ -29,36 +29,43 @@ use Rattle.sqlite.specs.Listing.{understood}
 use Rattle.sqlite.specs.Effect.{Database, IsDatabase}
 use Rattle.sqlite.specs.State.{State, mode_of, Executes}
 use Rattle.sqlite.proofs.Callers.{statement_of, runs_as, one_step}
-use Rattle.table_schema.specs.Layout.{store_schema, devices_table, pools_table}
+use Rattle.table_schema.specs.declared.schema.Layout.{Layout}
+use Rattle.table_schema.specs.declared.schema.Layout.TheVariants.{Compact, Gapped}
+use Rattle.table_schema.specs.Layout.{store_schema, receipts_tree, pools_tree, exceptions_tree, placed, devices_table, pools_table, exceptions_table}
+use Rattle.table_schema.specs.Holds.{tree_of, rows_in}
+use Rattle.table_schema.proofs.Places.{Places, places, read}
+use Rattle.table_writes.proofs.Named.{OthersStay, but_devices, but_pools, but_exceptions}
 use Rattle.table_schema.proofs.Queries.{staged_are}
-use Rattle.table_writes.proofs.Statements.{keyed_query, clear_state_text, clear_state_is, remove_pool_text, remove_pool_is}
-use Rattle.table_writes.proofs.Inserting.{went, same_value, written_tables}
+use Rattle.table_writes.proofs.Statements.{keyed_query, DeletesKeyed, clear_state_text, clear_state_is, remove_pool_text, remove_pool_is, clear_exceptions_text, clear_exceptions_is}
+use Rattle.table_writes.proofs.Inserting.{went, same_value}
 use Rattle.table_writes.proofs.Taking.{taken_out, has_permuted, has_mapped, was_mapped, own_rowid}
 
 -- the rows that pass are taken out of the table, and the others are as they were
 pub record TakenOut (table : Table) (p : Row → Bool) (old new : Trees) : Type 0 where
-  pub rows : new table.tree ≡ filter (λ r. not (p r)) (old table.tree)
-  pub others : AllByRecursion (λ t. t.tree ≢ table.tree → new t.tree ≡ old t.tree) written_tables
+  pub rows : rows_in table new ≡ filter (λ r. not (p r)) (rows_in table old)
+  pub others : OthersStay table old new
 
 -- the row is the tenant's, and has the key
 abbrev pub is_keyed : ℤ → ℤ → Row → Bool
 is_keyed id key row = equal Binary (column row 1) (Int id) && equal Binary (column row 2) (Int key)
 
--- what is deleted from these tables sets nothing off
-pub nothing_after_devices : (depth : ℕ) (olds : List Row) → works store_schema Enforced depth 6 olds [] ≡ []
+-- what is deleted from a table of tenants' rows sets nothing off
+pub nothing_after : (layout : Layout) (depth : ℕ) (olds : List Row)
+    → (works (store_schema layout) Enforced depth 4 olds [] ≡ [])
+    × (works (store_schema layout) Enforced depth 6 olds [] ≡ [])
+    × (works (store_schema layout) Enforced depth (pools_tree layout) olds [] ≡ [])
+    × (works (store_schema layout) Enforced depth (receipts_tree layout) olds [] ≡ [])
+    × (works (store_schema layout) Enforced depth (exceptions_tree layout) olds [] ≡ [])
 unfolding everything same_name joined
-nothing_after_devices depth olds = refl
-
-pub nothing_after_pools : (depth : ℕ) (olds : List Row) → works store_schema Enforced depth 8 olds [] ≡ []
-unfolding everything same_name joined
-nothing_after_pools depth olds = refl
+nothing_after Compact depth olds = (refl, refl, refl, refl, refl)
+nothing_after Gapped depth olds = (refl, refl, refl, refl, refl)
 
 pub record Deleted (table : Table) (id key : ℤ) (old new : Database) : Type 0 where
   pub schema : new.schema ≡ old.schema
   pub sound : IsDatabase new
   pub taken : TakenOut table (is_keyed id key) old.trees new.trees
 
-module _ (old new : State) (id key : ℤ) (count : ℕ) (has : old.now.schema ≡ store_schema) where
+module _ (old new : State) (id key : ℤ) (count : ℕ) (layout : Layout) (has : old.now.schema ≡ store_schema layout) (sound : IsDatabase old.now) where
   -- the rowids of the rows that the query gives
   keyed_ids : (n : ℕ) (rows : List Row) → IsAnswer (keyed_query n) (overlay old.now.trees []) (Int id ∷ Int key ∷ []) rows
       → IsPermutation (map (λ r. id_in (rowid r)) (filter (is_keyed id key) (overlay old.now.trees [] n))) (map (λ r. id_in (rowid r)) rows)
@@ -85,38 +92,48 @@ module _ (old new : State) (id key : ℤ) (count : ℕ) (has : old.now.schema �
       let found = has_filtered (is_keyed id key) all it.0 it.1 in
       (it.0, found.0, found.1, own_rowid all it.0 up found.0 ∙ ap Int (sym it.2)))
 
-  pub clears_state : IsShaped TableShape (old.now.trees 6) → Executes clear_state_text (Int id ∷ Int key ∷ []) old new (Ok count) → Deleted devices_table id key old.now new.now
-  clears_state up h =
+  before : Places layout old.now.trees
+  before = places layout old.now sound has
+
+  deletes : (table : Table) (tree place : ℕ) (text : List ℕ) → tree_of old.now.trees table.name ≡ tree → (Places layout new.now.trees → tree_of new.now.trees table.name ≡ tree)
+      → (Places layout new.now.trees → AllByRecursion (λ t. t.tree ≢ tree → new.now.trees t.tree ≡ old.now.trees t.tree) (store_schema layout).tables → OthersStay table old.now.trees new.now.trees)
+      → ((olds : List Row) → works (store_schema layout) Enforced 0 tree olds [] ≡ []) → overlay old.now.trees [] tree ≡ old.now.trees tree → slice_get (store_schema layout).tables place ≡ Some (placed tree table)
+      → DeletesKeyed layout text place tree → IsShaped TableShape (rows_in table old.now.trees) → Executes text (Int id ∷ Int key ∷ []) old new (Ok count) → Deleted table id key old.now new.now
+  deletes table tree place text was is others nothing over there by up h =
+      let schema = store_schema layout in
       let params : Row = Int id ∷ Int key ∷ [] in
-      let command = Delete 4 (record { lets = []; body = keyed_query 6 }) in
-      let w = runs_as clear_state_text params old new store_schema has command clear_state_is.0 clear_state_is.1 count h in
-      let text = statement_of clear_state_text (understood store_schema clear_state_text) in
-      let done = went (subst (λ s. Does old.step_limit (mode_of old) params (record old.now { schema = s }) text None command (Ok (w.tally, new.now))) has w.changed) in
+      let command = Delete place (record { lets = []; body = keyed_query tree }) in
+      let w = runs_as text params old new schema has command by.command by.plain count h in
+      let statement = statement_of text (understood schema text) in
+      let does = subst (λ s. Does old.step_limit (mode_of old) params (record old.now { schema = s }) statement None command (Ok (w.tally, new.now))) has w.changed in
+      let done = went (rw there at does) in
       let now = ap (λ (p : Tally × Database). p.1) (same_value (went (went done.2).2).2) in
       let found = went done.1 in
       let left = went found.2 in
       let trees : new.now.trees ≡ left.0 = ap (λ (d : Database). d.trees) now ∙ ap (λ (it : Written). it.trees) (same_value left.2) in
-      let step = one_step store_schema Enforced old.now.trees left.0 (edit_of old.now.trees devices_table (map (λ r. id_in (rowid r)) found.0) Given 0 []) (nothing_after_devices 0 _) left.1 in
+      let step = one_step schema Enforced old.now.trees left.0 (edit_of old.now.trees (placed tree table) (map (λ r. id_in (rowid r)) found.0) Given 0 []) (nothing _) left.1 in
+      let same : new.now.schema ≡ old.now.schema = ap (λ (d : Database). d.schema) now ∙ sym has in
+      let after = places layout new.now w.sound (same ∙ has) in
+      let here : rows_in table old.now.trees ≡ overlay old.now.trees [] tree = ap old.now.trees was ∙ sym over in
+      let out = keyed_out tree found.0 (subst (IsShaped TableShape) here up) (found.1.answer Null) in
+      let gone : left.0 tree ≡ filter (λ r. not (is_keyed id key r)) (rows_in table old.now.trees) =
+      step.rows ∙ subst (λ rows. without_all rows (map (λ r. id_in (rowid r)) found.0) ≡ filter (λ r. not (is_keyed id key r)) (rows_in table old.now.trees)) over (subst (λ rows. without_all (overlay old.now.trees [] tree) (map (λ r. id_in (rowid r)) found.0) ≡ filter (λ r. not (is_keyed id key r)) rows) (sym here) out) in
       record {
-        schema = ap (λ (d : Database). d.schema) now ∙ sym has;
+        schema = same;
         sound = w.sound;
-        taken = subst (TakenOut devices_table (is_keyed id key) old.now.trees) (sym trees) (record { rows = step.rows ∙ keyed_out 6 found.0 up (found.1.answer Null); others = (step.tables.1.0, step.tables.1.1.1) });
+        taken = record {
+          rows = ap new.now.trees (is after) ∙ ap (λ (t : Trees). t tree) trees ∙ gone;
+          others = others after (subst (λ (n : Trees). AllByRecursion (λ t. t.tree ≢ tree → n t.tree ≡ old.now.trees t.tree) schema.tables) (sym trees) step.tables);
+        };
       }
 
-  pub removes_pool : IsShaped TableShape (old.now.trees 8) → Executes remove_pool_text (Int id ∷ Int key ∷ []) old new (Ok count) → Deleted pools_table id key old.now new.now
-  removes_pool up h =
-      let params : Row = Int id ∷ Int key ∷ [] in
-      let command = Delete 5 (record { lets = []; body = keyed_query 8 }) in
-      let w = runs_as remove_pool_text params old new store_schema has command remove_pool_is.0 remove_pool_is.1 count h in
-      let text = statement_of remove_pool_text (understood store_schema remove_pool_text) in
-      let done = went (subst (λ s. Does old.step_limit (mode_of old) params (record old.now { schema = s }) text None command (Ok (w.tally, new.now))) has w.changed) in
-      let now = ap (λ (p : Tally × Database). p.1) (same_value (went (went done.2).2).2) in
-      let found = went done.1 in
-      let left = went found.2 in
-      let trees : new.now.trees ≡ left.0 = ap (λ (d : Database). d.trees) now ∙ ap (λ (it : Written). it.trees) (same_value left.2) in
-      let step = one_step store_schema Enforced old.now.trees left.0 (edit_of old.now.trees pools_table (map (λ r. id_in (rowid r)) found.0) Given 0 []) (nothing_after_pools 0 _) left.1 in
-      record {
-        schema = ap (λ (d : Database). d.schema) now ∙ sym has;
-        sound = w.sound;
-        taken = subst (TakenOut pools_table (is_keyed id key) old.now.trees) (sym trees) (record { rows = step.rows ∙ keyed_out 8 found.0 up (found.1.answer Null); others = (step.tables.1.0, step.tables.1.1.1) });
-      }
+  pub clears_state : IsShaped TableShape (rows_in devices_table old.now.trees) → Executes clear_state_text (Int id ∷ Int key ∷ []) old new (Ok count) → Deleted devices_table id key old.now new.now
+  clears_state = deletes devices_table 6 4 clear_state_text before.devices (λ after. after.devices) (λ after. but_devices layout old.now.trees new.now.trees before after) (λ olds. (nothing_after layout 0 olds).1) refl refl (clear_state_is layout)
+
+  pub removes_pool : IsShaped TableShape (rows_in pools_table old.now.trees) → Executes remove_pool_text (Int id ∷ Int key ∷ []) old new (Ok count) → Deleted pools_table id key old.now new.now
+  removes_pool = deletes pools_table (pools_tree layout) 6 remove_pool_text before.pools (λ after. after.pools) (λ after. but_pools layout old.now.trees new.now.trees before after) (λ olds. (nothing_after layout 0 olds).2) (read layout old.now.trees).pools refl (remove_pool_is layout)
+
+  pub clears_exceptions : IsShaped TableShape (rows_in exceptions_table old.now.trees) → Executes clear_exceptions_text (Int id ∷ Int key ∷ []) old new (Ok count) → Deleted exceptions_table id key old.now new.now
+  clears_exceptions =
+      deletes exceptions_table (exceptions_tree layout) 7 clear_exceptions_text before.exceptions (λ after. after.exceptions) (λ after. but_exceptions layout old.now.trees new.now.trees before after) (λ olds. (nothing_after layout 0 olds).4)
+      (read layout old.now.trees).exceptions refl (clear_exceptions_is layout)

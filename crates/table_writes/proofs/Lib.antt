@@ -1,5 +1,6 @@
 pub mod Statements
 pub mod RowFacts
+pub mod Named
 pub mod Inserting
 pub mod Taking
 pub mod Creating

@@ -28,31 +28,27 @@ use Rattle.sqlite.specs.Listing.{understood}
 use Rattle.sqlite.specs.Effect.{Database, IsDatabase}
 use Rattle.sqlite.specs.State.{State, mode_of, Executes}
 use Rattle.sqlite.proofs.Callers.{statement_of, runs_as, one_permutation}
-use Rattle.table_schema.specs.Layout.{store_schema, to_tenant, tenants_table, maps_table, devices_table, pools_table, receipts_table, tables_of_tenants}
-use Rattle.table_schema.specs.Holds.{rows_with, AreTables}
+use Rattle.table_schema.specs.declared.schema.Layout.{Layout}
+use Rattle.table_schema.specs.Layout.{store_schema, receipts_tree, pools_tree, exceptions_tree, placed, to_tenant, tenants_table, maps_table, devices_table, pools_table, receipts_table, exceptions_table, tables_of_tenants}
+use Rattle.table_schema.specs.Holds.{tree_of, rows_in, rows_with, AreTables}
+use Rattle.table_schema.proofs.Places.{Places, places, apart}
+use Rattle.table_writes.proofs.Named.{placed_tables}
 use Rattle.table_writes.proofs.Statements.{remove_text, remove_query, remove_is}
 use Rattle.table_writes.proofs.RowFacts.{equal_itself}
-use Rattle.table_writes.proofs.Inserting.{went, same_value, unlike, written_tables}
+use Rattle.table_writes.proofs.Inserting.{went, same_value, unlike}
 use Rattle.table_writes.proofs.Taking.{taken_out, own_rowid}
 use Rattle.table_schema.proofs.Queries.{staged_is}
-use Rattle.table_writes.proofs.Deleting.{TakenOut, nothing_after_devices, nothing_after_pools}
+use Rattle.table_writes.proofs.Deleting.{nothing_after}
 
 -- what is done to a table when these rows of tenants go
 abbrev follow : Table → List Row → Work
 follow table olds = record { depth = 0; child = table; ref = to_tenant; places = 0 ∷ []; order = plain; deed = Delete; moves = pairs olds [] }
 
-works_are : (olds : List Row) → list_any (loses plain (0 ∷ [])) (pairs olds []) ≡ true
-    → works store_schema Enforced 0 1 olds [] ≡ follow maps_table olds ∷ follow devices_table olds ∷ follow pools_table olds ∷ follow receipts_table olds ∷ []
+works_are : (layout : Layout) (olds : List Row) → list_any (loses plain (0 ∷ [])) (pairs olds []) ≡ true
+    → works (store_schema layout) Enforced 0 1 olds []
+    ≡ follow (placed 4 maps_table) olds ∷ follow (placed 6 devices_table) olds ∷ follow (placed (receipts_tree layout) receipts_table) olds ∷ follow (placed (pools_tree layout) pools_table) olds ∷ follow (placed (exceptions_tree layout) exceptions_table) olds ∷ []
 unfolding everything same_name joined
-works_are olds e = rw e
-
-nothing_after_maps : (depth : ℕ) (olds : List Row) → works store_schema Enforced depth 4 olds [] ≡ []
-unfolding everything same_name joined
-nothing_after_maps depth olds = refl
-
-nothing_after_receipts : (depth : ℕ) (olds : List Row) → works store_schema Enforced depth 11 olds [] ≡ []
-unfolding everything same_name joined
-nothing_after_receipts depth olds = refl
+works_are layout olds e = rw e
 
 plain_key : (first_key plain).collation ≡ Binary
 unfolding first_key
@@ -93,23 +89,23 @@ last_is (y ∷ front) (x ∷ below) one w e =
     (rw (head, more.0), more.1)
 
 -- the last action has been carried out, on the rows of one table, and those below it wait
-record Followed (table : Table) (row : Row) (db next : Trees) (below : List Work) : Type 0 where
+record Followed (layout : Layout) (table : Table) (row : Row) (db next : Trees) (below : List Work) : Type 0 where
   mid : Trees
   left : ℕ
   ids : List ℤ
   are : AreChildren db (follow table (row ∷ [])) ids
   rows : mid table.tree ≡ without_all (db table.tree) ids
-  others : AllByRecursion (λ t. t.tree ≢ table.tree → mid t.tree ≡ db t.tree) written_tables
-  rest : Leads store_schema Enforced left mid below (Ok next)
+  others : AllByRecursion (λ t. t.tree ≢ table.tree → mid t.tree ≡ db t.tree) (placed_tables layout)
+  rest : Leads (store_schema layout) Enforced left mid below (Ok next)
 
 all_same : (tables : List Table) (n : ℕ) (db : Trees) → AllByRecursion (λ t. t.tree ≢ n → db t.tree ≡ db t.tree) tables
 all_same [] n db = tt
 all_same (t ∷ tables) n db = ((λ other. refl), all_same tables n db)
 
-module _ (table : Table) (row : Row) (ends : (olds : List Row) → works store_schema Enforced 1 table.tree olds [] ≡ []) where
+module _ (layout : Layout) (table : Table) (row : Row) (ends : (olds : List Row) → works (store_schema layout) Enforced 1 table.tree olds [] ≡ []) where
   acted : (n : ℕ) (db next : Trees) (below : List Work) (ids : List ℤ) → AreChildren db (follow table (row ∷ [])) ids
-      → ActsOn store_schema Enforced (Leads store_schema Enforced n) db (follow table (row ∷ [])) below (Ok next) ids → Followed table row db next below
-  acted n db next below [] are h = record { mid = db; left = n; ids = []; are = are; rows = refl; others = all_same written_tables table.tree db; rest = h }
+      → ActsOn (store_schema layout) Enforced (Leads (store_schema layout) Enforced n) db (follow table (row ∷ [])) below (Ok next) ids → Followed layout table row db next below
+  acted n db next below [] are h = record { mid = db; left = n; ids = []; are = are; rows = refl; others = all_same (placed_tables layout) table.tree db; rest = h }
   acted n db next below (id ∷ ids) are (inl refused) = absurd (let e = refused.2 in cc)
   acted n db next below (id ∷ ids) are (inr (inl big)) = absurd big.1
   acted n db next below (id ∷ ids) are (inr (inr on)) =
@@ -121,102 +117,143 @@ module _ (table : Table) (row : Row) (ends : (olds : List Row) → works store_s
         are = are;
         rows = step.rows;
         others = (step.tables.1.0, step.tables.1.1.1);
-        rest = subst (λ stack. Leads store_schema Enforced n on.0 stack (Ok next)) (ap (λ more. below ++ more) (ends (taken_by db (action_edit db (follow table (row ∷ [])) (id ∷ ids)))) ∙ append-nil below) on.2;
+        rest = subst (λ stack. Leads (store_schema layout) Enforced n on.0 stack (Ok next)) (ap (λ more. below ++ more) (ends (taken_by db (action_edit db (follow table (row ∷ [])) (id ∷ ids)))) ∙ append-nil below) on.2;
       }
 
-  followed : (n : ℕ) (db next : Trees) (front : List Work) → Leads store_schema Enforced n db (front ++ follow table (row ∷ []) ∷ []) (Ok next) → Followed table row db next front
+  followed : (n : ℕ) (db next : Trees) (front : List Work) → Leads (store_schema layout) Enforced n db (front ++ follow table (row ∷ []) ∷ []) (Ok next) → Followed layout table row db next front
   followed zero db next front h = absurd (omega (arith, ap length h.0, length-append front (follow table (row ∷ []) ∷ [])))
   followed (suc n) db next front h =
       let it = last_is front h.0 (follow table (row ∷ [])) h.1 h.2 in
-      let acts = subst₂ (λ w below. Acts store_schema Enforced (Leads store_schema Enforced n) db w below (Ok next)) it.1 it.0 h.3 in
+      let acts = subst₂ (λ w below. Acts (store_schema layout) Enforced (Leads (store_schema layout) Enforced n) db w below (Ok next)) it.1 it.0 h.3 in
       acted n db next front acts.0 acts.1 acts.2
 
 -- the row refers to the tenant
 abbrev pub is_of : ℤ → Row → Bool
 is_of id row = equal Binary (column row 1) (Int id)
 
-taken : (table : Table) (row : Row) (id : ℤ) (db next : Trees) (below : List Work) → column row 0 ≡ Int id → IsShaped TableShape (db table.tree) → (it : Followed table row db next below)
-    → TakenOut table (is_of id) db it.mid
-taken table row id db next below is up it = record {
+-- the rows of the table in its tree that refer to the tenant are taken out
+record TakenAt (layout : Layout) (tree : ℕ) (p : Row → Bool) (old new : Trees) : Type 0 where
+  rows : new tree ≡ filter (λ r. not (p r)) (old tree)
+  others : AllByRecursion (λ t. t.tree ≢ tree → new t.tree ≡ old t.tree) (placed_tables layout)
+
+taken : (layout : Layout) (table : Table) (row : Row) (id : ℤ) (db next : Trees) (below : List Work) → column row 0 ≡ Int id → IsShaped TableShape (db table.tree) → (it : Followed layout table row db next below)
+    → TakenAt layout table.tree (is_of id) db it.mid
+taken layout table row id db next below is up it = record {
   rows = it.rows ∙ taken_out (db table.tree) (is_of id) it.ids up
       (λ r there passes. it.are.complete r (id_in (rowid r)) there (children_are table row r id is ∙ passes) (own_rowid (db table.tree) r up there))
       (λ at there. let child = it.are.sound at there in (child.0, child.1, sym (children_are table row child.0 id is) ∙ child.2, child.3));
   others = it.others;
 }
 
-settled : (n : ℕ) (db next : Trees) → Leads store_schema Enforced n db [] (Ok next) → next ≡ db
-settled zero db next h = let e = h.1 in cc
-settled (suc n) db next h = absurd (omega (arith, ap length h.2, length-append h.0 (h.1 ∷ [])))
+settled : (layout : Layout) (n : ℕ) (db next : Trees) → Leads (store_schema layout) Enforced n db [] (Ok next) → next ≡ db
+settled layout zero db next h = let e = h.1 in cc
+settled layout (suc n) db next h = absurd (omega (arith, ap length h.2, length-append h.0 (h.1 ∷ [])))
 
 -- the tenant's row goes, and in each table what refers to it
 pub record Removed (id : ℤ) (old new : Trees) : Type 0 where
-  pub tenants : new 1 ≡ without_rowid id (old 1)
-  pub rows : AllByRecursion (λ t. new t.tree ≡ filter (λ r. not (is_of id r)) (old t.tree)) tables_of_tenants
+  pub tenants : rows_in tenants_table new ≡ without_rowid id (rows_in tenants_table old)
+  pub rows : AllByRecursion (λ t. rows_in t new ≡ filter (λ r. not (is_of id r)) (rows_in t old)) tables_of_tenants
 
-removed : (db next : Trees) (row : Row) (id : ℤ) → AreTables db → row_at (db 1) id ≡ row → column row 0 ≡ Int id
-    → Leaves store_schema Enforced db (edit_of db tenants_table (id ∷ []) Given 0 []) (Ok next) → Removed id db next
-removed db next row id up there is (inl refused) = absurd (let e = refused.2 in cc)
-removed db next row id up there is (inr (inl big)) = absurd big.1
-removed db next row id up there is (inr (inr on)) =
+-- the same by trees
+record RemovedAt (layout : Layout) (id : ℤ) (old new : Trees) : Type 0 where
+  tenants : new 1 ≡ without_rowid id (old 1)
+  maps : new 4 ≡ filter (λ r. not (is_of id r)) (old 4)
+  devices : new 6 ≡ filter (λ r. not (is_of id r)) (old 6)
+  receipts : new (receipts_tree layout) ≡ filter (λ r. not (is_of id r)) (old (receipts_tree layout))
+  pools : new (pools_tree layout) ≡ filter (λ r. not (is_of id r)) (old (pools_tree layout))
+  exceptions : new (exceptions_tree layout) ≡ filter (λ r. not (is_of id r)) (old (exceptions_tree layout))
+
+removed : (layout : Layout) (db next : Trees) (row : Row) (id : ℤ) → Places layout db → AreTables db → row_at (db 1) id ≡ row → column row 0 ≡ Int id
+    → Leaves (store_schema layout) Enforced db (edit_of db (placed 1 tenants_table) (id ∷ []) Given 0 []) (Ok next) → RemovedAt layout id db next
+removed layout db next row id before up there is (inl refused) = absurd (let e = refused.2 in cc)
+removed layout db next row id before up there is (inr (inl big)) = absurd big.1
+removed layout db next row id before up there is (inr (inr on)) =
+    let away = apart layout in
+    let none = nothing_after layout 1 in
     let step = on.1 in
     let first = on.0 in
     let same = step.tables.1.1.1 in
     let olds : List Row = row_at (db 1) id ∷ [] in
-    let stack = ap (λ r. works store_schema Enforced 0 1 (r ∷ []) []) there ∙ works_are (row ∷ []) (lost row id is) in
-    let waits = subst (λ works. Leads store_schema Enforced on.2.0 first works (Ok next)) stack on.2.1 in
-    let rr = followed receipts_table row (nothing_after_receipts 1) on.2.0 first next (follow maps_table (row ∷ []) ∷ follow devices_table (row ∷ []) ∷ follow pools_table (row ∷ []) ∷ []) waits in
-    let pp = followed pools_table row (nothing_after_pools 1) rr.left rr.mid next (follow maps_table (row ∷ []) ∷ follow devices_table (row ∷ []) ∷ []) rr.rest in
-    let dd = followed devices_table row (nothing_after_devices 1) pp.left pp.mid next (follow maps_table (row ∷ []) ∷ []) pp.rest in
-    let mm = followed maps_table row (nothing_after_maps 1) dd.left dd.mid next [] dd.rest in
-    let end = settled mm.left mm.mid next mm.rest in
+    let stack = ap (λ r. works (store_schema layout) Enforced 0 1 (r ∷ []) []) there ∙ works_are layout (row ∷ []) (lost row id is) in
+    let waits = subst (λ works. Leads (store_schema layout) Enforced on.2.0 first works (Ok next)) stack on.2.1 in
+    let ee = followed layout (placed (exceptions_tree layout) exceptions_table) row (λ olds. (none olds).4) on.2.0 first next (follow (placed 4 maps_table) (row ∷ []) ∷ follow (placed 6 devices_table) (row ∷ []) ∷ follow (placed (receipts_tree layout) receipts_table) (row ∷ []) ∷ follow (placed (pools_tree layout) pools_table) (row ∷ []) ∷ []) waits in
+    let pp = followed layout (placed (pools_tree layout) pools_table) row (λ olds. (none olds).2) ee.left ee.mid next (follow (placed 4 maps_table) (row ∷ []) ∷ follow (placed 6 devices_table) (row ∷ []) ∷ follow (placed (receipts_tree layout) receipts_table) (row ∷ []) ∷ []) ee.rest in
+    let rr = followed layout (placed (receipts_tree layout) receipts_table) row (λ olds. (none olds).3) pp.left pp.mid next (follow (placed 4 maps_table) (row ∷ []) ∷ follow (placed 6 devices_table) (row ∷ []) ∷ []) pp.rest in
+    let dd = followed layout (placed 6 devices_table) row (λ olds. (none olds).1) rr.left rr.mid next (follow (placed 4 maps_table) (row ∷ []) ∷ []) rr.rest in
+    let mm = followed layout (placed 4 maps_table) row (λ olds. (none olds).0) dd.left dd.mid next [] dd.rest in
+    let end = settled layout mm.left mm.mid next mm.rest in
     let at : (n : ℕ) → next n ≡ mm.mid n = λ n. ap (λ (t : Trees). t n) end in
-    let maps-0 : first 4 ≡ db 4 = same.0 (unlike 4 1 refl) in
-    let devices-0 : first 6 ≡ db 6 = same.1.0 (unlike 6 1 refl) in
-    let pools-0 : first 8 ≡ db 8 = same.1.1.0 (unlike 8 1 refl) in
-    let receipts-0 : first 11 ≡ db 11 = same.1.1.1.0 (unlike 11 1 refl) in
-    let pools-1 : rr.mid 8 ≡ db 8 = rr.others.1.1.1.0 (unlike 8 11 refl) ∙ pools-0 in
-    let devices-1 : pp.mid 6 ≡ db 6 = pp.others.1.1.0 (unlike 6 8 refl) ∙ rr.others.1.1.0 (unlike 6 11 refl) ∙ devices-0 in
-    let maps-1 : dd.mid 4 ≡ db 4 = dd.others.1.0 (unlike 4 6 refl) ∙ pp.others.1.0 (unlike 4 8 refl) ∙ rr.others.1.0 (unlike 4 11 refl) ∙ maps-0 in
+    let exceptions-was : first (exceptions_tree layout) ≡ db (exceptions_tree layout) = same.1.1.1.1.0 (λ same. away.exceptions 1 (omega arith) (sym same)) in
+    let pools-was : ee.mid (pools_tree layout) ≡ db (pools_tree layout) = ee.others.1.1.1.1.0 away.pools-exceptions ∙ same.1.1.1.0 (λ same. away.pools 1 (omega arith) (sym same)) in
+    let receipts-was : pp.mid (receipts_tree layout) ≡ db (receipts_tree layout) = pp.others.1.1.1.0 away.receipts-pools ∙ ee.others.1.1.1.0 away.receipts-exceptions ∙ same.1.1.0 (λ same. away.receipts 1 (omega arith) (sym same)) in
+    let devices-was : rr.mid 6 ≡ db 6 = rr.others.1.1.0 (away.receipts 6 (omega arith)) ∙ pp.others.1.1.0 (away.pools 6 (omega arith)) ∙ ee.others.1.1.0 (away.exceptions 6 (omega arith)) ∙ same.1.0 (unlike 6 1 refl) in
+    let maps-was : dd.mid 4 ≡ db 4 = dd.others.1.0 (unlike 4 6 refl) ∙ rr.others.1.0 (away.receipts 4 (omega arith)) ∙ pp.others.1.0 (away.pools 4 (omega arith)) ∙ ee.others.1.0 (away.exceptions 4 (omega arith)) ∙ same.0 (unlike 4 1 refl) in
     let rows : List Row → List Row = filter (λ r. not (is_of id r)) in
-    let receipts = taken receipts_table row id first next _ is (subst (IsShaped TableShape) (sym receipts-0) up.others.1.1.1.0) rr in
-    let pools = taken pools_table row id rr.mid next _ is (subst (IsShaped TableShape) (sym pools-1) up.others.1.1.0) pp in
-    let devices = taken devices_table row id pp.mid next _ is (subst (IsShaped TableShape) (sym devices-1) up.others.1.0) dd in
-    let maps = taken maps_table row id dd.mid next _ is (subst (IsShaped TableShape) (sym maps-1) up.others.0) mm in
+    let exceptions = taken layout (placed (exceptions_tree layout) exceptions_table) row id first next _ is (subst (IsShaped TableShape) (sym (exceptions-was ∙ ap db (sym before.exceptions))) up.others.1.1.1.1.0) ee in
+    let pools = taken layout (placed (pools_tree layout) pools_table) row id ee.mid next _ is (subst (IsShaped TableShape) (sym (pools-was ∙ ap db (sym before.pools))) up.others.1.1.0) pp in
+    let receipts = taken layout (placed (receipts_tree layout) receipts_table) row id pp.mid next _ is (subst (IsShaped TableShape) (sym (receipts-was ∙ ap db (sym before.receipts))) up.others.1.1.1.0) rr in
+    let devices = taken layout (placed 6 devices_table) row id rr.mid next _ is (subst (IsShaped TableShape) (sym (devices-was ∙ ap db (sym before.devices))) up.others.1.0) dd in
+    let maps = taken layout (placed 4 maps_table) row id dd.mid next _ is (subst (IsShaped TableShape) (sym (maps-was ∙ ap db (sym before.maps))) up.others.0) mm in
     record {
-      tenants = at 1 ∙ mm.others.0 (unlike 1 4 refl) ∙ dd.others.0 (unlike 1 6 refl) ∙ pp.others.0 (unlike 1 8 refl) ∙ rr.others.0 (unlike 1 11 refl) ∙ step.rows;
-      rows = (
-        at 4 ∙ maps.rows ∙ ap rows maps-1,
-        (
-          at 6 ∙ mm.others.1.1.0 (unlike 6 4 refl) ∙ devices.rows ∙ ap rows devices-1,
-          (
-            at 8 ∙ mm.others.1.1.1.0 (unlike 8 4 refl) ∙ dd.others.1.1.1.0 (unlike 8 6 refl) ∙ pools.rows ∙ ap rows pools-1,
-            (
-              at 11 ∙ mm.others.1.1.1.1.0 (unlike 11 4 refl) ∙ dd.others.1.1.1.1.0 (unlike 11 6 refl) ∙ pp.others.1.1.1.1.0 (unlike 11 8 refl) ∙ receipts.rows ∙ ap rows receipts-0,
-              tt,
-            ),
-          ),
-        ),
-      );
+      tenants = at 1 ∙ mm.others.0 (unlike 1 4 refl) ∙ dd.others.0 (unlike 1 6 refl) ∙ rr.others.0 (away.receipts 1 (omega arith)) ∙ pp.others.0 (away.pools 1 (omega arith)) ∙ ee.others.0 (away.exceptions 1 (omega arith)) ∙ step.rows;
+      maps = at 4 ∙ maps.rows ∙ ap rows maps-was;
+      devices = at 6 ∙ mm.others.1.1.0 (unlike 6 4 refl) ∙ devices.rows ∙ ap rows devices-was;
+      receipts = at (receipts_tree layout) ∙ mm.others.1.1.1.0 (λ same. away.receipts 4 (omega arith) (sym same)) ∙ dd.others.1.1.1.0 (λ same. away.receipts 6 (omega arith) (sym same)) ∙ receipts.rows ∙ ap rows receipts-was;
+      pools = at (pools_tree layout) ∙ mm.others.1.1.1.1.0 (λ same. away.pools 4 (omega arith) (sym same)) ∙ dd.others.1.1.1.1.0 (λ same. away.pools 6 (omega arith) (sym same)) ∙ rr.others.1.1.1.1.0 (λ same. away.receipts-pools (sym same)) ∙ pools.rows ∙ ap rows pools-was;
+      exceptions = at (exceptions_tree layout) ∙ mm.others.1.1.1.1.1.0 (λ same. away.exceptions 4 (omega arith) (sym same)) ∙ dd.others.1.1.1.1.1.0 (λ same. away.exceptions 6 (omega arith) (sym same)) ∙ rr.others.1.1.1.1.1.0 (λ same. away.receipts-exceptions (sym same)) ∙ pp.others.1.1.1.1.1.0 (λ same. away.pools-exceptions (sym same)) ∙ exceptions.rows ∙ ap rows exceptions-was;
     }
 
-pub removes : (old new : State) (row : Row) (id : ℤ) (count : ℕ) → old.now.schema ≡ store_schema → AreTables old.now.trees → rows_with 0 (Int id) (old.now.trees 1) ≡ row ∷ [] → row_at (old.now.trees 1) id ≡ row → column row 0 ≡ Int id
+pub removes : (old new : State) (row : Row) (id : ℤ) (count : ℕ) (layout : Layout) → old.now.schema ≡ store_schema layout → IsDatabase old.now → AreTables old.now.trees → rows_with 0 (Int id) (rows_in tenants_table old.now.trees) ≡ row ∷ []
+    → row_at (rows_in tenants_table old.now.trees) id ≡ row → column row 0 ≡ Int id
     → Executes remove_text (Int id ∷ []) old new (Ok count) → Removed id old.now.trees new.now.trees × (new.now.schema ≡ old.now.schema) × IsDatabase new.now
-removes old new row id count has up is there keyed h =
+removes old new row id count layout has sound up is_there there keyed h =
+    let schema = store_schema layout in
+    let before = places layout old.now sound has in
+    let db = old.now.trees in
+    let is : rows_with 0 (Int id) (db 1) ≡ row ∷ [] = subst (λ n. rows_with 0 (Int id) (db n) ≡ row ∷ []) before.tenants is_there in
+    let found_it : row_at (db 1) id ≡ row = subst (λ n. row_at (db n) id ≡ row) before.tenants there in
     let params : Row = Int id ∷ [] in
     let command = DeleteFrom 1 (record { lets = []; body = remove_query }) in
-    let w = runs_as remove_text params old new store_schema has command remove_is.0 remove_is.1 count h in
-    let text = statement_of remove_text (understood store_schema remove_text) in
+    let w = runs_as remove_text params old new schema has command (remove_is layout).0 (remove_is layout).1 count h in
+    let text = statement_of remove_text (understood schema remove_text) in
     let done = went (subst (λ s. Does old.step_limit (mode_of old) params (record old.now { schema = s }) text None command (Ok (w.tally, new.now))) has w.changed) in
     let now = ap (λ (p : Tally × Database). p.1) (same_value (went (went done.2).2).2) in
     let found = went done.1 in
     let left = went found.2 in
     let trees : new.now.trees ≡ left.0 = ap (λ (d : Database). d.trees) now ∙ ap (λ (it : Written). it.trees) (same_value left.2) in
-    let a : IsAnswer remove_query (overlay old.now.trees []) params found.0 = found.1.answer Null in
-    let staged = a.grouped ∙ staged_is params _ (old.now.trees 1) in
+    let a : IsAnswer remove_query (overlay db []) params found.0 = found.1.answer Null in
+    let staged = a.grouped ∙ staged_is params _ (db 1) in
     let one : Output = ([], column row 0 ∷ []) in
     let kept : a.kept ≡ one ∷ [] = a.distinct ∙ ap (map (output remove_query)) (staged ∙ ap (map (λ r. params ∷ r ∷ [])) is) in
     let ordered = one_permutation one a.ordered (subst (λ k. IsPermutation k a.ordered) kept a.same) in
     let rows : found.0 ≡ (column row 0 ∷ []) ∷ [] = a.shown ∙ ap (map (λ (o : Output). o.1)) ordered in
     let ids : map (λ r. id_in (rowid r)) found.0 ≡ id ∷ [] = ap (map (λ r. id_in (rowid r))) rows ∙ ap (λ v. id_in v ∷ []) keyed in
-    let gone = removed old.now.trees left.0 row id up there keyed (subst (λ all. Leaves store_schema Enforced old.now.trees (edit_of old.now.trees tenants_table all Given 0 []) (Ok left.0)) ids left.1) in
-    (subst (Removed id old.now.trees) (sym trees) gone, ap (λ (d : Database). d.schema) now ∙ sym has, w.sound)
+    let at_trees = removed layout db left.0 row id before up found_it keyed (subst (λ all. Leaves schema Enforced db (edit_of db (placed 1 tenants_table) all Given 0 []) (Ok left.0)) ids left.1) in
+    let gone = subst (RemovedAt layout id db) (sym trees) at_trees in
+    let same_schema : new.now.schema ≡ old.now.schema = ap (λ (d : Database). d.schema) now ∙ sym has in
+    let after = places layout new.now w.sound (same_schema ∙ has) in
+    let less : List Row → List Row = filter (λ r. not (is_of id r)) in
+    let named : (table : Table) (tree : ℕ) → tree_of db table.name ≡ tree → tree_of new.now.trees table.name ≡ tree → new.now.trees tree ≡ less (db tree) → rows_in table new.now.trees ≡ less (rows_in table db) =
+    λ table tree was is it. ap new.now.trees is ∙ it ∙ ap (λ n. less (db n)) (sym was) in (
+      record {
+        tenants = ap new.now.trees after.tenants ∙ gone.tenants ∙ ap (λ n. without_rowid id (db n)) (sym before.tenants);
+        rows = (
+          named maps_table 4 before.maps after.maps gone.maps,
+          (
+            named devices_table 6 before.devices after.devices gone.devices,
+            (
+              named pools_table (pools_tree layout) before.pools after.pools gone.pools,
+              (
+                named receipts_table (receipts_tree layout) before.receipts after.receipts gone.receipts,
+                (
+                  named exceptions_table (exceptions_tree layout) before.exceptions after.exceptions gone.exceptions,
+                  tt,
+                ),
+              ),
+            ),
+          ),
+        );
+      },
+      same_schema,
+      w.sound,
+    )

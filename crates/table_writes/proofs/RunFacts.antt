@@ -1,18 +1,21 @@
 -- Several writes in one transaction.
-use Rattle.std.proofs.Common.{append_assoc, ◌≡◌, ℕ, ℤ, ◌+◌, ◌<◌, List, [], ◌∷◌, ◌++◌, take, length, get_or, Ok, IsTrue, refl, sym, subst, ◌∙◌, ap, add-one}
+use Rattle.std.proofs.Common.{append_assoc, ◌≡◌, ℕ, ℤ, ◌+◌, ◌<◌, List, [], ◌∷◌, ◌++◌, take, fold, length, get_or, Ok, IsTrue, refl, sym, subst, ◌∙◌, ap, add-one}
 use Rattle.std.proofs.Math.Seq.{take-suc}
 use Rattle.sqlite.specs.Store.{Ghosts}
 use Rattle.sqlite.specs.Held.{Held, state}
 use Rattle.sqlite.specs.State.{Executes, ExecutesInside}
 use Rattle.table_writes.specs.declared.write.Write.{Write}
 use Rattle.std.specs.List.{AllByRecursion}
+use Rattle.table_schema.specs.declared.values.Exception.{Exception}
+use Rattle.table_schema.specs.declared.values.Pool.{Pool}
 use Rattle.table_schema.specs.declared.values.State.{State}
-use Rattle.table_writes.specs.declared.write.Write.TheVariants.{Raise, ClearState, AddState, AddReceipt}
+use Rattle.table_schema.specs.Values.{pool_row, exception_row}
+use Rattle.table_writes.specs.declared.write.Write.TheVariants.{Raise, ClearState, AddState, AddException, AddReceipt}
 use Rattle.table_schema.specs.declared.values.Receipt.{Receipt}
 use Rattle.sqlite.specs.Effect.{Database}
 use Rattle.table_schema.specs.Holds.{TenantRows, Holds, Turns}
-use Rattle.table_writes.specs.Change.{with_state, with_states, Accepts, IsNumber}
-use Rattle.table_writes.specs.Run.{text_of, params_of, Ran, begun, Inside, state_writes, Makes}
+use Rattle.table_writes.specs.Change.{with_state, with_states, without_key, with_exceptions, Accepts, IsNumber}
+use Rattle.table_writes.specs.Run.{text_of, params_of, Ran, begun, Inside, state_writes, pool_writes, exception_writes, Makes}
 use Rattle.table_schema.specs.Ready.{IsReady}
 use Rattle.table_writes.proofs.Accepting.{does, does_all, IsAbout, accepts, accepted_sound}
 use Rattle.table_writes.proofs.Committing.{AreSound}
@@ -60,6 +63,40 @@ accepts_states g old ready id e states receipt db made =
     let writes = state_writes id states ++ AddReceipt id receipt ∷ [] in
     let about = about_states states id (AddReceipt id receipt) refl in (
       (λ name rows epoch held same is. subst (λ r. Turns name (λ trees. Holds trees name (record r { epoch = epoch })) (state g old).now.trees db.trees) (does_states states id (AddReceipt id receipt) rows)
+          (accepts g old ready id e writes about db made name rows epoch held same is)),
+      (λ there. accepted_sound g old ready id e writes about db made there.0 there.1 there.2),
+    )
+
+-- ---- the writes for exceptions
+
+pub exceptions_more : (id epoch : ℤ) (pool : Pool) (exceptions : List Exception) (i : ℕ) (d : Exception) (before after : List Write) → i < length exceptions → before ≡ (Raise id epoch ∷ pool_writes id pool) ++ exception_writes id (take i exceptions)
+    → after ≡ before ++ AddException id (get_or exceptions i d) ∷ [] → after ≡ (Raise id epoch ∷ pool_writes id pool) ++ exception_writes id (take (i + 1) exceptions)
+exceptions_more id epoch pool exceptions i d before after low first second =
+    let front : List Write = Raise id epoch ∷ pool_writes id pool in
+    second ∙ ap (λ l. l ++ AddException id (get_or exceptions i d) ∷ []) first ∙ append_assoc front (exception_writes id (take i exceptions)) (AddException id (get_or exceptions i d) ∷ [])
+    ∙ ap (λ l. front ++ l) (sym (one_more (take i exceptions) (get_or exceptions i d)) ∙ ap (exception_writes id) (sym (ap (λ n. take n exceptions) (add-one i) ∙ take-suc exceptions i d low)))
+  where
+    one_more : (before : List Exception) (e : Exception) → exception_writes id (before ++ e ∷ []) ≡ exception_writes id before ++ AddException id e ∷ []
+    one_more [] e = refl
+    one_more (x ∷ before) e = ap (λ l. AddException id x ∷ l) (one_more before e)
+
+does_exceptions : (exceptions : List Exception) (id : ℤ) (w : Write) (rows : TenantRows)
+    → does_all rows (exception_writes id exceptions ++ w ∷ []) ≡ does (record rows { exceptions = fold (λ earlier e. exception_row e ∷ earlier) rows.exceptions exceptions }) w
+does_exceptions [] id w rows = refl
+does_exceptions (e ∷ exceptions) id w rows = does_exceptions exceptions id w (record rows { exceptions = exception_row e ∷ rows.exceptions })
+
+about_exceptions : (exceptions : List Exception) (id : ℤ) (w : Write) → IsAbout id w → AllByRecursion (IsAbout id) (exception_writes id exceptions ++ w ∷ [])
+about_exceptions [] id w about = (about, tt)
+about_exceptions (e ∷ exceptions) id w about = (refl, about_exceptions exceptions id w about)
+
+pub accepts_exceptions : {S : Type 0} (g : Ghosts S) (old : Held S) → IsReady (state g old) → (id e : ℤ) (pool : Pool) (exceptions : List Exception) (receipt : Receipt) (db : Database)
+    → Makes g (Raise id e ∷ pool_writes id pool ++ exception_writes id exceptions ++ AddReceipt id receipt ∷ []) old db
+    → Accepts id e receipt (with_exceptions pool exceptions) (state g old).now.trees db.trees × (IsNumber (state g old).now.trees id → AreSound db)
+accepts_exceptions g old ready id e pool exceptions receipt db made =
+    let writes = pool_writes id pool ++ exception_writes id exceptions ++ AddReceipt id receipt ∷ [] in
+    let about : AllByRecursion (IsAbout id) writes = (refl, (refl, (refl, about_exceptions exceptions id (AddReceipt id receipt) refl))) in (
+      (λ name rows epoch held same is. subst (λ r. Turns name (λ trees. Holds trees name (record r { epoch = epoch })) (state g old).now.trees db.trees)
+          (does_exceptions exceptions id (AddReceipt id receipt) (record rows { pools = pool_row pool ∷ without_key pool.id rows.pools; exceptions = without_key pool.id rows.exceptions }))
           (accepts g old ready id e writes about db made name rows epoch held same is)),
       (λ there. accepted_sound g old ready id e writes about db made there.0 there.1 there.2),
     )

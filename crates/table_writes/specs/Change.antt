@@ -7,15 +7,16 @@ use Rattle.sqlite_value.specs.Order.{Row, column}
 use Rattle.sqlite_trees.specs.Tree.{Trees}
 use Rattle.sqlite_schema.specs.Rules.{equal}
 use Rattle.table_schema.specs.Layout.{tables_of_tenants}
-use Rattle.table_schema.specs.Holds.{rows_with, IsTenant, IsAbsent, TenantRows, Holds, Turns}
-use Rattle.table_schema.specs.Values.{version_row, state_row, pool_row, receipt_row}
+use Rattle.table_schema.specs.Holds.{rows_in, rows_with, IsTenant, IsAbsent, TenantRows, Holds, Turns}
+use Rattle.table_schema.specs.Values.{version_row, state_row, pool_row, exception_row, receipt_row}
+use Rattle.table_schema.specs.declared.values.Exception.{Exception}
 use Rattle.table_schema.specs.declared.values.Pool.{Pool}
 use Rattle.table_schema.specs.declared.values.Receipt.{Receipt}
 use Rattle.table_schema.specs.declared.values.State.{State}
 
 -- the rows of a new tenant
 abbrev pub fresh_rows : TenantRows
-fresh_rows = record { epoch = 0; maps = []; devices = []; pools = []; receipts = [] }
+fresh_rows = record { epoch = 0; maps = []; devices = []; pools = []; receipts = []; exceptions = [] }
 
 -- the rows that begin with another number
 abbrev pub without_key : ℤ → List Row → List Row
@@ -35,8 +36,17 @@ with_states states rows = record rows { devices = fold with_state rows.devices s
 abbrev pub with_pool : Pool → TenantRows → TenantRows
 with_pool pool rows = record rows { pools = pool_row pool ∷ rows.pools }
 
+-- the pool's exceptions go with it
 abbrev pub without_pool : ℤ → TenantRows → TenantRows
-without_pool pool rows = record rows { pools = without_key pool rows.pools }
+without_pool pool rows = record rows { pools = without_key pool rows.pools; exceptions = without_key pool rows.exceptions }
+
+-- the pool's row stands in place of the earlier one, and these exceptions in place of its earlier
+-- ones
+abbrev pub with_exceptions : Pool → List Exception → TenantRows → TenantRows
+with_exceptions pool exceptions rows = record rows {
+  pools = pool_row pool ∷ without_key pool.id rows.pools;
+  exceptions = fold (λ earlier e. exception_row e ∷ earlier) (without_key pool.id rows.exceptions) exceptions;
+}
 
 abbrev pub with_receipt : Receipt → TenantRows → TenantRows
 with_receipt receipt rows = record rows { receipts = receipt_row receipt ∷ rows.receipts }
@@ -60,4 +70,4 @@ Creates name = Turns name (λ db. Holds db name fresh_rows)
 abbrev pub Drops : ℤ → Trees → Trees → Type 0
 Drops id old new =
     (name : List ℕ) (epoch : ℕ) → IsTenant old name id epoch
-    → Turns name (λ db. IsAbsent db name × AllByRecursion (λ table. rows_with 1 (Int id) (db table.tree) ≡ []) tables_of_tenants) old new
+    → Turns name (λ db. IsAbsent db name × AllByRecursion (λ table. rows_with 1 (Int id) (rows_in table db) ≡ []) tables_of_tenants) old new

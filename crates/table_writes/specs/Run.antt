@@ -6,9 +6,11 @@ use Rattle.sqlite.specs.Store.{Ghosts}
 use Rattle.sqlite.specs.Effect.{Database}
 use Rattle.sqlite.specs.State.{Executes}
 use Rattle.sqlite.specs.Held.{Held, state}
+use Rattle.table_schema.specs.declared.values.Exception.{Exception}
+use Rattle.table_schema.specs.declared.values.Pool.{Pool}
 use Rattle.table_schema.specs.declared.values.State.{State}
 use Rattle.table_writes.specs.declared.write.Write.{Write}
-use Rattle.table_writes.specs.declared.write.Write.TheVariants.{Plain, Create, Remove, Raise, AddVersion, ClearState, AddState, AddPool, RemovePool, AddReceipt}
+use Rattle.table_writes.specs.declared.write.Write.TheVariants.{Plain, Create, Remove, Raise, AddVersion, ClearState, AddState, AddPool, RemovePool, AddException, ClearExceptions, AddReceipt}
 
 -- the statement
 abbrev pub text_of : Write → List ℕ
@@ -19,8 +21,10 @@ text_of (Raise id epoch) = codes "UPDATE tenants SET epoch = ?2 WHERE id = ?1"
 text_of (AddVersion id version text) = codes "INSERT INTO maps (tenant, version, text) VALUES (?1, ?2, ?3)"
 text_of (ClearState id device) = codes "DELETE FROM devices WHERE tenant = ?1 AND device = ?2"
 text_of (AddState id state) = codes "INSERT INTO devices (tenant, device, reweight, up) VALUES (?1, ?2, ?3, ?4)"
-text_of (AddPool id pool) = codes "INSERT INTO pools VALUES (?1, ?2, ?3, ?4, ?5, ?6, ?7, ?8, ?9)"
-text_of (RemovePool id pool) = codes "DELETE FROM pools WHERE tenant = ?1 AND id = ?2"
+text_of (AddPool id pool) = codes "INSERT INTO pools_2 VALUES (?1, ?2, ?3, ?4, ?5, ?6, ?7, ?8, ?9, ?10)"
+text_of (RemovePool id pool) = codes "DELETE FROM pools_2 WHERE tenant = ?1 AND id = ?2"
+text_of (AddException id exception) = codes "INSERT INTO exceptions VALUES (?1, ?2, ?3, ?4, ?5, ?6)"
+text_of (ClearExceptions id pool) = codes "DELETE FROM exceptions WHERE tenant = ?1 AND pool = ?2"
 text_of (AddReceipt id receipt) = codes "INSERT INTO receipts (tenant, request, path, body, status, reply) VALUES (?1, ?2, ?3, ?4, ?5, ?6)"
 
 -- the values of its parameters
@@ -42,8 +46,11 @@ params_of (AddPool id pool) =
     ∷ Int pool.pg_num
     ∷ Int pool.pgp_num
     ∷ Int pool.hashpspool
+    ∷ Int pool.pairs
     ∷ []
 params_of (RemovePool id pool) = Int id ∷ Int pool ∷ []
+params_of (AddException id e) = Int id ∷ Int e.pool ∷ Int e.place ∷ Int e.group ∷ Int e.from ∷ Int e.to ∷ []
+params_of (ClearExceptions id pool) = Int id ∷ Int pool ∷ []
 params_of (AddReceipt id receipt) =
     Int id ∷ Words receipt.request.now ∷ Words receipt.path.now ∷ Words receipt.body.now ∷ Int receipt.status ∷ Words receipt.reply.now ∷ []
 
@@ -51,6 +58,15 @@ params_of (AddReceipt id receipt) =
 abbrev pub state_writes : ℤ → List State → List Write
 state_writes id [] = []
 state_writes id (state ∷ states) = ClearState id state.device ∷ AddState id state ∷ state_writes id states
+
+-- the writes that set a pool's row, and take its exceptions away
+abbrev pub pool_writes : ℤ → Pool → List Write
+pool_writes id pool = ClearExceptions id pool.id ∷ RemovePool id pool.id ∷ AddPool id pool ∷ []
+
+-- the writes that add exceptions
+abbrev pub exception_writes : ℤ → List Exception → List Write
+exception_writes id [] = []
+exception_writes id (exception ∷ exceptions) = AddException id exception ∷ exception_writes id exceptions
 
 module _ {S : Type 0} (g : Ghosts S) where
   -- each write runs once, in turn

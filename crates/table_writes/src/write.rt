@@ -9,7 +9,7 @@ ghost use Rattle.table_schema.specs.Ready.{Keeps, Commits, IsReady, Refuses};
 use sqlite::types::ValueRef;
 use sqlite::{Alter, Connection, Error, Transaction};
 use table_schema::refuse::{Fault, refusal};
-use table_schema::values::{Pool, Receipt, State};
+use table_schema::values::{Exception, Pool, Receipt, State};
 
 /// A statement that writes, with its values. `id` is the number of a tenant.
 #[derive(Clone, Copy)]
@@ -44,6 +44,14 @@ pub enum Write<'a> {
         pool: Pool<'a>,
     },
     RemovePool {
+        id: i64,
+        pool: i64,
+    },
+    AddException {
+        id: i64,
+        exception: Exception,
+    },
+    ClearExceptions {
         id: i64,
         pool: i64,
     },
@@ -95,7 +103,7 @@ impl Write<'_> {
                 ],
             ),
             Write::AddPool { id, pool } => tx.execute(
-                "INSERT INTO pools VALUES (?1, ?2, ?3, ?4, ?5, ?6, ?7, ?8, ?9)",
+                "INSERT INTO pools_2 VALUES (?1, ?2, ?3, ?4, ?5, ?6, ?7, ?8, ?9, ?10)",
                 &[
                     ValueRef::Int(id),
                     ValueRef::Int(pool.id),
@@ -106,10 +114,26 @@ impl Write<'_> {
                     ValueRef::Int(pool.pg_num),
                     ValueRef::Int(pool.pgp_num),
                     ValueRef::Int(pool.hashpspool),
+                    ValueRef::Int(pool.pairs),
                 ],
             ),
             Write::RemovePool { id, pool } => tx.execute(
-                "DELETE FROM pools WHERE tenant = ?1 AND id = ?2",
+                "DELETE FROM pools_2 WHERE tenant = ?1 AND id = ?2",
+                &[ValueRef::Int(id), ValueRef::Int(pool)],
+            ),
+            Write::AddException { id, exception } => tx.execute(
+                "INSERT INTO exceptions VALUES (?1, ?2, ?3, ?4, ?5, ?6)",
+                &[
+                    ValueRef::Int(id),
+                    ValueRef::Int(exception.pool),
+                    ValueRef::Int(exception.place),
+                    ValueRef::Int(exception.group),
+                    ValueRef::Int(exception.from),
+                    ValueRef::Int(exception.to),
+                ],
+            ),
+            Write::ClearExceptions { id, pool } => tx.execute(
+                "DELETE FROM exceptions WHERE tenant = ?1 AND pool = ?2",
                 &[ValueRef::Int(id), ValueRef::Int(pool)],
             ),
             Write::AddReceipt { id, receipt } => tx.execute(

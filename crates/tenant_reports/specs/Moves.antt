@@ -5,7 +5,6 @@ use Rattle.std.specs.Option.{ok_or}
 use Rattle.serde_json.specs.Data.{Data, object}
 use Rattle.crush_map.specs.Map.{Map}
 use Rattle.crush_pool.specs.Placers.{PoolOnMap}
-use Rattle.crush_pool.specs.declared.pool.PoolParts.{PoolParts}
 use Rattle.crush_report.specs.Moves.{gained_in}
 use Rattle.crush_report.specs.Reports.{moves}
 use Rattle.crush_report.specs.declared.rows.MoveRow.{MoveRow}
@@ -14,7 +13,7 @@ use Rattle.tenant_messages.specs.Reply.{Answer, refused, members_of, natural}
 use Rattle.tenant_messages.specs.Slots.{slot_json, list_json}
 use Rattle.tenant_messages.specs.declared.reply.Problem.{Problem}
 use Rattle.tenant_messages.specs.declared.reply.Problem.TheVariants.{NoVersion, NoPool, NoRule}
-use Rattle.tenant_state.specs.State.{Inventory, version, on_version, pool}
+use Rattle.tenant_state.specs.State.{Inventory, TenantPool, version, on_version, pool}
 
 -- ---- the answer
 
@@ -35,20 +34,20 @@ moves_reply inventory id from to rows =
 abbrev pub on_maps : Result PoolOnMap Problem → Result PoolOnMap Problem → Result (List MoveRow) Problem
 on_maps (Err problem) to = Err problem
 on_maps (Ok from) (Err problem) = Err problem
-on_maps (Ok from) (Ok to) = ok_or (moves from.map to.map from.states from.pool) NoRule
+on_maps (Ok from) (Ok to) = ok_or (moves from.map to.map from.states from.pool from.pairs) NoRule
 
 -- both versions have to be there, and then to have the pool's rule
-abbrev pub on_versions : Inventory → PoolParts → Option Map → Option Map → Result (List MoveRow) Problem
+abbrev pub on_versions : Inventory → TenantPool → Option Map → Option Map → Result (List MoveRow) Problem
 on_versions inventory p None to = Err NoVersion
 on_versions inventory p (Some from) None = Err NoVersion
 on_versions inventory p (Some from) (Some to) = on_maps (on_version inventory p from) (on_version inventory p to)
 
-abbrev pub rows_of : Inventory → PoolParts → ℕ → ℕ → Result (List MoveRow) Problem
+abbrev pub rows_of : Inventory → TenantPool → ℕ → ℕ → Result (List MoveRow) Problem
 rows_of inventory p from to = on_versions inventory p (version from inventory) (version to inventory)
 
-abbrev pub moves_on : Inventory → ℕ → ℕ → Option PoolParts → Answer
+abbrev pub moves_on : Inventory → ℕ → ℕ → Option TenantPool → Answer
 moves_on inventory from to None = refused NoPool
-moves_on inventory from to (Some p) = answer_with (moves_reply inventory p.id from to) (rows_of inventory p from to)
+moves_on inventory from to (Some p) = answer_with (moves_reply inventory p.parts.id from to) (rows_of inventory p from to)
 
 -- the groups of the pool with an id that move from a version to another
 abbrev pub moves_answer : ℕ → ℕ → ℕ → Inventory → Answer

@@ -4,7 +4,6 @@ use Rattle.std.specs.Prelude.{ℕ, List, [], ◌∷◌, map, Option, Some, None,
 use Rattle.std.specs.Option.{ok_or}
 use Rattle.serde_json.specs.Data.{Data, object}
 use Rattle.crush_pool.specs.Placers.{PoolOnMap}
-use Rattle.crush_pool.specs.declared.pool.PoolParts.{PoolParts}
 use Rattle.crush_report.specs.Reports.{usage}
 use Rattle.crush_report.specs.declared.rows.UsageRow.{UsageRow}
 use Rattle.tenant_messages.specs.Refusals.{answer_with}
@@ -12,7 +11,7 @@ use Rattle.tenant_messages.specs.Reply.{Answer, refused, members_of, natural}
 use Rattle.tenant_messages.specs.Slots.{list_json}
 use Rattle.tenant_messages.specs.declared.reply.Problem.{Problem}
 use Rattle.tenant_messages.specs.declared.reply.Problem.TheVariants.{NoPool, NoRule}
-use Rattle.tenant_state.specs.State.{Inventory, newest, on_newest, pool}
+use Rattle.tenant_state.specs.State.{Inventory, TenantPool, newest, on_newest, pool}
 
 -- ---- the answer
 
@@ -31,15 +30,15 @@ usage_reply inventory id rows =
 -- the counts on a map with the pool's rule
 abbrev pub on_map : Result PoolOnMap Problem → Result (List UsageRow) Problem
 on_map (Err problem) = Err problem
-on_map (Ok p) = ok_or (usage p.map p.states p.pool) NoRule
+on_map (Ok p) = ok_or (usage p.map p.states p.pool p.pairs) NoRule
 
 -- the counts on the newest version, or why there are none
-abbrev pub rows_of : Inventory → PoolParts → Result (List UsageRow) Problem
+abbrev pub rows_of : Inventory → TenantPool → Result (List UsageRow) Problem
 rows_of inventory p = on_map (on_newest inventory p)
 
-abbrev pub usage_on : Inventory → Option PoolParts → Answer
+abbrev pub usage_on : Inventory → Option TenantPool → Answer
 usage_on inventory None = refused NoPool
-usage_on inventory (Some p) = answer_with (usage_reply inventory p.id) (rows_of inventory p)
+usage_on inventory (Some p) = answer_with (usage_reply inventory p.parts.id) (rows_of inventory p)
 
 -- the counts of the pool with an id
 abbrev pub usage_answer : ℕ → Inventory → Answer

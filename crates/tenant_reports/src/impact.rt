@@ -1,5 +1,5 @@
 //! Which groups of a pool a device can touch: at `/t/{t}/pools/{p}/impact/{d}` GET reads those in
-//! whose trace it is, on the newest version.
+//! whose trace it is, or which have a pair that leads to it, on the newest version.
 
 ghost use Rattle.std.specs.Prelude.{◌≡◌, IfOk, map};
 ghost use Rattle.serde_json.specs.View.{view};
@@ -9,12 +9,11 @@ ghost use Rattle.tenant_messages.specs.Slots.{list_json};
 ghost use Rattle.tenant_reports.specs.Impact as spec;
 
 use crush_map::{Device, Listed};
-use crush_pool::Pool;
 use crush_report::impact_with;
 use serde_json::{Value, json};
 use std::alloc::{AllocError, Global};
 use tenant_messages::{Problem, Refusal, Reply, ids_json, success};
-use tenant_state::Inventory;
+use tenant_state::{Inventory, TenantPool};
 
 // ---- the groups
 
@@ -35,7 +34,7 @@ fn id_of(devices: &[Device], number: u64) -> Option<u32>
 fn groups_of(
     alloc: Global,
     inventory: &Inventory,
-    pool: &Pool,
+    pool: &TenantPool,
     number: u64,
 ) -> Result<Listed<u32>, Refusal>
     ensures { Gives (λ groups. groups) result (spec.groups_of inventory.now pool.now number) }

@@ -15,12 +15,11 @@ ghost use Rattle.tenant_reports.specs.Moves as spec;
 ghost use Rattle.tenant_reports.specs.Private.Pieces.{head_text};
 
 use crush_map::{Listed, Text};
-use crush_pool::Pool;
 use crush_report::{MoveRow, gained_in, moves_with};
 use serde_json::{Value, json};
 use std::alloc::{AllocError, Global};
 use tenant_messages::{Problem, Refusal, Reply, slots_json};
-use tenant_state::Inventory;
+use tenant_state::{Inventory, TenantPool};
 
 // ---- the groups that move
 
@@ -29,7 +28,7 @@ use tenant_state::Inventory;
 fn rows_of(
     alloc: Global,
     inventory: &Inventory,
-    pool: &Pool,
+    pool: &TenantPool,
     from: u64,
     to: u64,
 ) -> Result<Listed<MoveRow>, Refusal>

@@ -8,18 +8,21 @@ ghost use Rattle.tenant_messages.specs.Slots.{list_json};
 ghost use Rattle.tenant_reports.specs.Usage as spec;
 
 use crush_map::Listed;
-use crush_pool::Pool;
 use crush_report::{UsageRow, usage_with};
 use serde_json::{Value, json};
 use std::alloc::{AllocError, Global};
 use tenant_messages::{Problem, Refusal, Reply, success};
-use tenant_state::Inventory;
+use tenant_state::{Inventory, TenantPool};
 
 // ---- the counts
 
 /// A row for each device, on the newest version. The problem is `NoVersion` where there is no
 /// version, and `NoRule` where the newest lacks the pool's rule.
-fn rows_of(alloc: Global, inventory: &Inventory, pool: &Pool) -> Result<Listed<UsageRow>, Refusal>
+fn rows_of(
+    alloc: Global,
+    inventory: &Inventory,
+    pool: &TenantPool,
+) -> Result<Listed<UsageRow>, Refusal>
     ensures { Gives (λ rows. rows) result (spec.rows_of inventory.now pool.now) }
 {
     let placer = inventory.on_newest(pool)?;

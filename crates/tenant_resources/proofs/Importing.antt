@@ -16,10 +16,10 @@ pub of_fault : (text : List ℕ) (inventory : Inventory) (f : TextFault) → nat
 of_fault text inventory f few is = rw (few, is) refl
 
 pub of_rule_in_use : (text : List ℕ) (inventory : Inventory) (m : Map) → nat_le VERSION_LIMIT (length inventory.versions) ≡ false → map_of_text text ≡ Ok m
-    → list_all (λ p. is_some (rule_numbered m p.rule)) inventory.pools ≡ false → imported text inventory ≡ Err RuleInUse
+    → list_all (λ p. is_some (rule_numbered m p.parts.rule)) inventory.pools ≡ false → imported text inventory ≡ Err RuleInUse
 of_rule_in_use text inventory m few is lacks = rw (few, is, lacks) refl
 
 pub of_map : (text : List ℕ) (inventory : Inventory) (m n : Map) (body : Data) → nat_le VERSION_LIMIT (length inventory.versions) ≡ false → map_of_text text ≡ Ok m
-    → list_all (λ p. is_some (rule_numbered m p.rule)) inventory.pools ≡ true → n ≡ m → body ≡ import_reply inventory
+    → list_all (λ p. is_some (rule_numbered m p.parts.rule)) inventory.pools ≡ true → n ≡ m → body ≡ import_reply inventory
     → imported text inventory ≡ Ok (record { made = NewVersion n; status = Created; body = body })
 of_map text inventory m n body few is has same written = rw (few, is, has, same, written) refl

@@ -8,7 +8,6 @@ use Rattle.crush_pool.specs.Placements.{placement}
 use Rattle.crush_pool.specs.Placers.{PoolOnMap}
 use Rattle.crush_pool.specs.Pools.{group_of}
 use Rattle.crush_pool.specs.declared.placing.Placement.{Placement}
-use Rattle.crush_pool.specs.declared.pool.PoolParts.{PoolParts}
 use Rattle.tenant_messages.specs.Forms.{IsText, HasExactly, IsUnder}
 use Rattle.tenant_messages.specs.Json.{value_of, has_keys, under}
 use Rattle.tenant_messages.specs.Refusals.{answer_with}
@@ -17,7 +16,7 @@ use Rattle.tenant_messages.specs.declared.reply.Problem.{Problem}
 use Rattle.tenant_messages.specs.declared.reply.Problem.TheVariants.{NoPool, NoGroup, NoRule}
 use Rattle.tenant_messages.specs.Slots.{slot_json, list_json}
 use Rattle.tenant_resources.specs.declared.limits.TheConstants.{OBJECT_NAME_LIMIT}
-use Rattle.tenant_state.specs.State.{Inventory, newest, on_newest, pool}
+use Rattle.tenant_state.specs.State.{Inventory, TenantPool, newest, on_newest, pool}
 
 -- ---- the form of the body that asks for an object
 
@@ -56,16 +55,16 @@ object_reply name inventory group p =
     ∷ (codes "primary", slot_json p.primary) ∷ (codes "raw", list_json (map slot_json p.raw)) ∷ (codes "seed", natural p.seed)
     ∷ (codes "up", list_json (map slot_json p.up)) ∷ (codes "version", natural (newest inventory)) ∷ []))
 
--- a group is placed by the rule of its pool
+-- a group is placed by the rule of its pool, and by the pairs of the group
 abbrev pub on_map : ℕ → Result PoolOnMap Problem → Result Placement Problem
 on_map group (Err problem) = Err problem
-on_map group (Ok p) = ok_or (placement p.map p.states p.pool group) NoRule
+on_map group (Ok p) = ok_or (placement p.map p.states p.pool p.pairs group) NoRule
 
 -- the placement of a group on the newest version, or why there is none
-abbrev pub placed : Inventory → PoolParts → ℕ → Result Placement Problem
-placed inventory p group = if nat_lt group p.pg_num then on_map group (on_newest inventory p) else Err NoGroup
+abbrev pub placed : Inventory → TenantPool → ℕ → Result Placement Problem
+placed inventory p group = if nat_lt group p.parts.pg_num then on_map group (on_newest inventory p) else Err NoGroup
 
-abbrev pub group_on : Inventory → ℕ → Option PoolParts → Answer
+abbrev pub group_on : Inventory → ℕ → Option TenantPool → Answer
 group_on inventory group None = refused NoPool
 group_on inventory group (Some p) = answer_with (group_reply inventory group) (placed inventory p group)
 
@@ -73,9 +72,9 @@ group_on inventory group (Some p) = answer_with (group_reply inventory group) (p
 abbrev pub group_answer : ℕ → ℕ → Inventory → Answer
 group_answer id group inventory = group_on inventory group (pool id inventory)
 
-abbrev pub object_on : Inventory → List ℕ → Option PoolParts → Answer
+abbrev pub object_on : Inventory → List ℕ → Option TenantPool → Answer
 object_on inventory name None = refused NoPool
-object_on inventory name (Some p) = let group = group_of p name in answer_with (object_reply name inventory group) (placed inventory p group)
+object_on inventory name (Some p) = let group = group_of p.parts name in answer_with (object_reply name inventory group) (placed inventory p group)
 
 -- the group of the object with a name, of the pool with an id
 abbrev pub object_answer : ℕ → List ℕ → Inventory → Answer

@@ -19,7 +19,7 @@ use Rattle.tenant_messages.specs.declared.reply.Problem.TheVariants.{NoVersion, 
 use Rattle.tenant_messages.specs.declared.reply.SuccessStatus.TheVariants.{Done, Created}
 use Rattle.tenant_resources.specs.Orders.{Accepted}
 use Rattle.tenant_state.specs.declared.limits.TheConstants.{POOL_LIMIT}
-use Rattle.tenant_state.specs.State.{Inventory, NewPool, RemovedPool, is_like, newest, version, pool}
+use Rattle.tenant_state.specs.State.{Inventory, NewPool, RemovedPool, TenantPool, is_like, newest, version, pool}
 
 -- ---- the form of a body, and the pool that it says
 
@@ -146,7 +146,7 @@ created p inventory = on_version p inventory (version (newest inventory) invento
 abbrev pub removal : ℕ → Inventory → Data
 removal id inventory = object (members_of ((codes "epoch", natural (suc inventory.epoch)) ∷ (codes "removed", natural id) ∷ []))
 
-abbrev pub on_pool : ℕ → Inventory → Option PoolParts → Result Accepted Problem
+abbrev pub on_pool : ℕ → Inventory → Option TenantPool → Result Accepted Problem
 on_pool id inventory None = Err NoPool
 on_pool id inventory (Some p) = Ok (record { made = RemovedPool id; status = Done; body = removal id inventory })
 

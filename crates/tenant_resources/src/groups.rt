@@ -13,7 +13,7 @@ use crate::limits::OBJECT_NAME_LIMIT;
 use crush_bucket::Scratch;
 use crush_hash::name_hash;
 use crush_map::Text;
-use crush_pool::{Placement, Pool};
+use crush_pool::Placement;
 use crush_rules::Out;
 use serde_json::{Value, json};
 use std::alloc::{AllocError, Global};
@@ -21,7 +21,7 @@ use std::marker::Model;
 use tenant_messages::{
     Problem, Refusal, Reply, has_keys, read_value, slot_json, slots_json, success, text,
 };
-use tenant_state::Inventory;
+use tenant_state::{Inventory, TenantPool};
 
 /// The name of an object: a text of at most `OBJECT_NAME_LIMIT` bytes.
 #[derive(Drop)]
@@ -86,10 +86,10 @@ pub fn read_name(alloc: Global, body: &str) -> Result<ObjectName, Refusal>
 fn placed(
     alloc: Global,
     inventory: &Inventory,
-    pool: &Pool,
+    pool: &TenantPool,
     group: u32,
 ) -> Result<Placement, Refusal>
-    requires { group < pool.now.pg_num }
+    requires { group < pool.now.parts.pg_num }
     ensures { Gives (λ p. p) result (spec.placed inventory.now pool.now group) }
 {
     let placer = inventory.on_newest(pool)?;
@@ -218,7 +218,7 @@ pub fn object_answer(
     ensures { Answers result (spec.object_answer id name.now inventory.now) }
 {
     let pool = inventory.pools().get(id).ok_or(Problem::NoPool)?;
-    let group = pool.group_of(name.as_str().as_bytes());
+    let group = pool.pool().group_of(name.as_str().as_bytes());
     let placement = placed(alloc, inventory, pool, group)?;
     Ok(placed_object(alloc, name, inventory, group, &placement)?)
 }

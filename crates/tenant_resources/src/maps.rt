@@ -13,7 +13,7 @@ ghost use Rattle.tenant_messages.specs.Refusals.{Answers, Gives};
 
 use crate::accepted::Accepted;
 use crush_map::{CrushMap, Text};
-use crush_pool::{Pool, rule_with_id};
+use crush_pool::rule_with_id;
 use crush_text::{read_map, texts_are_read_as_they_say};
 use serde_json::{Value, json};
 use std::alloc::{AllocError, Global};
@@ -22,7 +22,7 @@ use tenant_messages::{
     Problem, Refusal, Reply, SuccessStatus, has_keys, read_value, request_number, success, text,
 };
 use tenant_state::limits::VERSION_LIMIT;
-use tenant_state::{Inventory, Made, Pools, Version};
+use tenant_state::{Inventory, Made, Pools, TenantPool, Version};
 
 // ---- the body of an import
 
@@ -68,8 +68,8 @@ fn shared_version(alloc: Global, map: CrushMap) -> Result<Rc<Version>, AllocErro
 }
 
 /// Whether a map has the rule of each of some pools.
-fn has_each_rule(map: &CrushMap, pools: &[Rc<Pool>]) -> bool
-    ensures { result ≡ list_all (λ p. is_some (rule_numbered map.now p.value.rule)) pools.now }
+fn has_each_rule(map: &CrushMap, pools: &[Rc<TenantPool>]) -> bool
+    ensures { result ≡ list_all (λ p. is_some (rule_numbered map.now p.value.parts.rule)) pools.now }
 {
     pools
         .iter()
@@ -78,7 +78,7 @@ fn has_each_rule(map: &CrushMap, pools: &[Rc<Pool>]) -> bool
 
 /// Whether a map has the rule of each pool of a tenant.
 fn has_rules_of(map: &CrushMap, pools: &Pools) -> bool
-    ensures { result ≡ list_all (λ p. is_some (rule_numbered map.now p.rule)) pools.now }
+    ensures { result ≡ list_all (λ p. is_some (rule_numbered map.now p.parts.rule)) pools.now }
 {
     has_each_rule(map, pools.as_slice())
 }

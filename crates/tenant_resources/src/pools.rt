@@ -23,7 +23,7 @@ use tenant_messages::{
     Problem, Refusal, SuccessStatus, boolean, has_keys, natural, read_value, request_number, text,
 };
 use tenant_state::limits::POOL_LIMIT;
-use tenant_state::{Inventory, Made, Pools};
+use tenant_state::{Inventory, Made, Pools, TenantPool};
 
 // ---- the body of a creation
 
@@ -138,17 +138,18 @@ pub fn read_removal(alloc: Global, body: &str) -> Result<(Text, u32), Refusal>
 // ---- creating a pool
 
 /// Whether a pool has the id or the name of another.
-fn is_like(parts: &PoolParts, other: &PoolParts) -> bool
+fn is_like(parts: &PoolParts, other: &TenantPool) -> bool
     ensures { result ≡ state.is_like parts.now other.now }
 {
+    let other = other.parts();
     other.id == parts.id || other.name.as_str() == parts.name.as_str()
 }
 
 /// Whether one of some pools has the id or the name of another.
-fn is_any_like(parts: &PoolParts, pools: &[Rc<Pool>]) -> bool
+fn is_any_like(parts: &PoolParts, pools: &[Rc<TenantPool>]) -> bool
     ensures { result ≡ list_any (λ p. state.is_like parts.now p.value) pools.now }
 {
-    pools.iter().any(|pool| is_like(parts, pool.parts()))
+    pools.iter().any(|pool| is_like(parts, pool))
 }
 
 /// Whether one of the pools of a tenant has the id or the name of another.

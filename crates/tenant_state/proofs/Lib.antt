@@ -3,5 +3,6 @@ pub mod Keeping
 pub mod Leaving
 pub mod Naming
 pub mod Ordering
+pub mod Pairing
 pub mod Receiving
 pub mod Staying

@@ -109,7 +109,7 @@ some-in : (b : Bool) (n i : ℕ) → cond b (Some n) None ≡ Some i → b ≡ t
 some-in true n i h = refl
 some-in false n i h = cc
 
-place-in : {B : Type 0} (p : B → Bool) (xs : List B) (i : ℕ) → position p xs ≡ Some i → i < length xs
+pub place-in : {B : Type 0} (p : B → Bool) (xs : List B) (i : ℕ) → position p xs ≡ Some i → i < length xs
 place-in p xs i h =
     let is = place_is p xs i h in
     let within : nat_lt (position_or_len p xs) (length xs) ≡ true = some-in (nat_lt (position_or_len p xs) (length xs)) (position_or_len p xs) i h in

@@ -1,11 +1,12 @@
 -- What a change makes, as the code keeps it.
 use Rattle.tenant_state.specs.State as state
 use Rattle.tenant_state.specs.declared.state.Made.{Made}
-use Rattle.tenant_state.specs.declared.state.Made.TheVariants.{Version, States, Pool, NoPool}
+use Rattle.tenant_state.specs.declared.state.Made.TheVariants.{Version, States, Pool, Exceptions, NoPool}
 
--- a version and a pool are shared; what counts is the map, and the pool
+-- a version, a pool and exceptions are shared; what counts is the map, the pool, and the pairs
 abbrev pub made_of : Made → state.Made
 made_of (Version version) = state.NewVersion version.value
 made_of (States changed) = state.NewStates changed
 made_of (Pool pool) = state.NewPool pool.value
+made_of (Exceptions id pairs) = state.NewExceptions id pairs
 made_of (NoPool id) = state.RemovedPool id

@@ -5,10 +5,11 @@ use Rattle.std.specs.List.{sum_by}
 use Rattle.crush_map.specs.Map.{Map}
 use Rattle.crush_map.specs.declared.draft.Bucket.{Bucket}
 use Rattle.crush_map.specs.declared.draft.Rule.{Rule}
+use Rattle.crush_pool.specs.declared.exceptions.Pair.{Pair}
 use Rattle.crush_pool.specs.declared.states.DeviceState.{DeviceState}
 use Rattle.crush_writing.specs.Canonical.{canonical}
-use Rattle.tenant_state.specs.State.{Inventory}
-use Rattle.tenant_state.specs.declared.size.TheConstants.{INVENTORY_BYTES, VERSION_BYTES, TEXT_BYTES, PART_BYTES, BUCKET_BYTES, ITEM_BYTES, STEP_BYTES, BUCKET_ID_BYTES, STATE_BYTES, DEVICE_ID_BYTES, POOL_BYTES}
+use Rattle.tenant_state.specs.State.{Inventory, TenantPool}
+use Rattle.tenant_state.specs.declared.size.TheConstants.{INVENTORY_BYTES, VERSION_BYTES, TEXT_BYTES, PART_BYTES, BUCKET_BYTES, ITEM_BYTES, STEP_BYTES, BUCKET_ID_BYTES, STATE_BYTES, DEVICE_ID_BYTES, POOL_BYTES, PAIR_BYTES, GROUP_BYTES}
 
 -- how many places a list by bucket has: up to that of the lowest id, -1 being that of the first
 abbrev pub bucket_reach : List Bucket → ℕ
@@ -40,9 +41,18 @@ device_reach states = fold (λ reach s. max reach (s.device + 1)) 0 states
 abbrev pub states_size : List DeviceState → ℕ
 states_size states = STATE_BYTES * length states + DEVICE_ID_BYTES * device_reach states
 
+-- how many places a list by group has: up to that of the greatest group with a pair, 0 being that
+-- of the first
+abbrev pub group_reach : List Pair → ℕ
+group_reach pairs = fold (λ reach p. max reach (p.group + 1)) 0 pairs
+
+-- a pool, with its exceptions and their table
+abbrev pub pool_size : TenantPool → ℕ
+pool_size p = POOL_BYTES + PAIR_BYTES * length p.pairs + GROUP_BYTES * group_reach p.pairs
+
 abbrev pub size : Inventory → ℕ
 size inventory =
     INVENTORY_BYTES
     + sum_by version_size inventory.versions
     + states_size inventory.devices
-    + POOL_BYTES * length inventory.pools
+    + sum_by pool_size inventory.pools

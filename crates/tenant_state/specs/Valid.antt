@@ -5,13 +5,14 @@ use Rattle.std.specs.Str.{bytes_eq, is_utf8}
 use Rattle.crush_choose.specs.declared.weights.TheConstants.{FULL}
 use Rattle.crush_map.specs.Map.{IsMap}
 use Rattle.crush_map.specs.declared.limits.TheConstants.{NUMBER_LIMIT}
+use Rattle.crush_pool.specs.Exceptions.{are_pairs}
 use Rattle.crush_pool.specs.Pools.{is_pool}
-use Rattle.crush_pool.specs.declared.pool.PoolParts.{PoolParts}
+use Rattle.crush_pool.specs.declared.limits.TheConstants.{GROUP_LIMIT}
 use Rattle.crush_pool.specs.declared.states.DeviceState.{DeviceState}
 use Rattle.tenant_messages.specs.Numbers.{has_length}
 use Rattle.tenant_state.specs.Ordered.{is_ascending}
 use Rattle.tenant_state.specs.Receipts.{is_before}
-use Rattle.tenant_state.specs.State.{Change, Inventory, Made, NewPool, NewStates, NewVersion, RemovedPool, TenantState, have_rules, inventory_of, is_lower_device, is_lower_pool}
+use Rattle.tenant_state.specs.State.{Change, Inventory, Made, NewExceptions, NewPool, NewStates, NewVersion, RemovedPool, TenantPool, TenantState, have_rules, inventory_of, is_lower_device, is_lower_pool}
 use Rattle.tenant_state.specs.declared.limits.TheConstants.{POOL_LIMIT, RECEIPT_LIMIT, VERSION_LIMIT}
 use Rattle.tenant_state.specs.declared.receipts.Receipt.{Receipt}
 
@@ -21,10 +22,14 @@ use Rattle.tenant_state.specs.declared.receipts.Receipt.{Receipt}
 abbrev pub is_device_state : DeviceState → Bool
 is_device_state s = nat_le s.device NUMBER_LIMIT && nat_le s.reweight FULL
 
+-- the settings of a pool are in their ranges, and its pairs are exceptions that it can have
+abbrev pub is_tenant_pool : TenantPool → Bool
+is_tenant_pool p = is_pool p.parts && are_pairs p.parts.pg_num p.pairs
+
 -- no two pools have one name
-abbrev pub are_named_once : List PoolParts → Bool
+abbrev pub are_named_once : List TenantPool → Bool
 are_named_once [] = true
-are_named_once (p ∷ ps) = not (list_any (λ q. bytes_eq q.name p.name) ps) && are_named_once ps
+are_named_once (p ∷ ps) = not (list_any (λ q. bytes_eq q.parts.name p.parts.name) ps) && are_named_once ps
 
 -- a request number has its length, and it and what is kept under it are UTF-8
 abbrev pub is_receipt : List ℕ × Receipt → Bool
@@ -38,7 +43,7 @@ pub record IsInventory (i : Inventory) : Type 0 where
   pub maps : All IsMap i.versions
   pub devices : list_all is_device_state i.devices ≡ true
   pub device_order : is_ascending is_lower_device i.devices ≡ true
-  pub pools : list_all is_pool i.pools ≡ true
+  pub pools : list_all is_tenant_pool i.pools ≡ true
   pub pool_order : is_ascending is_lower_pool i.pools ≡ true
 
 -- ---- states
@@ -62,6 +67,7 @@ abbrev pub IsMade : Made → Type 0
 IsMade (NewVersion m) = IsMap m
 IsMade (NewStates changed) = list_all is_device_state changed ≡ true
 IsMade (NewPool p) = is_pool p ≡ true
+IsMade (NewExceptions id pairs) = are_pairs GROUP_LIMIT pairs ≡ true
 IsMade (RemovedPool id) = Unit {0}
 
 -- and so is the receipt

@@ -5,31 +5,33 @@ ghost use Rattle.std.specs.List.{position_or_len};
 ghost use Rattle.tenant_state.specs.Ordered.{is_ascending, is_before_first, with_element};
 ghost use Rattle.tenant_state.specs.State.{is_lower_pool};
 
+use crate::pool::TenantPool;
+use crush_cache::SharedExceptions;
 use crush_pool::Pool;
 use std::alloc::{AllocError, Global};
 use std::marker::Model;
 use std::rc::Rc;
 
-/// Pools, which are shared. Contracts see their parts in the order in which they are kept, that of
-/// their ids.
+/// Pools, which are shared. Contracts see their settings and pairs in the order in which they are
+/// kept, that of their ids.
 #[derive(Drop)]
 pub struct Pools {
-    pools: Vec<Rc<Pool>>,
+    pools: Vec<Rc<TenantPool>>,
 }
 
 impl Model for Pools {
     ghost use Rattle.std.specs.Prelude.{List, map};
-    ghost use Rattle.crush_pool.specs.declared.pool.PoolParts.{PoolParts};
+    ghost use Rattle.tenant_state.specs.State.{TenantPool};
 
-    ghost Value = { List PoolParts };
+    ghost Value = { List TenantPool };
 
     ghost view = { λ a. map (λ p. p.value) a.pools.items };
 }
 
 impl Pools {
-    ghost use Rattle.std.specs.Prelude.{◌≡◌, ◌==◌, [], IfOk, length, find, map, option_map};
+    ghost use Rattle.std.specs.Prelude.{◌≡◌, ◌==◌, [], IfOk, length, find, map, option_map, true};
     ghost use Rattle.tenant_state.specs.Ordered.{if_ascending, with_element, without};
-    ghost use Rattle.tenant_state.specs.State.{is_lower_pool};
+    ghost use Rattle.tenant_state.specs.State.{can_have, is_lower_pool, with_pairs};
 
     /// No pool. Allocates nothing.
     pub fn new(alloc: Global) -> Self
@@ -42,7 +44,7 @@ impl Pools {
 
     /// These pools, which are in the order of their ids. `None`, exactly where an id stands twice
     /// or out of order. Takes time linear in the list. Allocates nothing.
-    pub fn from_list(pools: Vec<Rc<Pool>>) -> Option<Self>
+    pub fn from_list(pools: Vec<Rc<TenantPool>>) -> Option<Self>
         ensures { result ≡ if_ascending is_lower_pool (map (λ p. p.value) pools.items) }
     {
         if are_ascending(&pools) {
@@ -60,15 +62,15 @@ impl Pools {
     }
 
     /// The pools, in the order of their ids.
-    pub fn as_slice(&self) -> &[Rc<Pool>]
+    pub fn as_slice(&self) -> &[Rc<TenantPool>]
         ensures { map (λ p. p.value) result.now ≡ self.now }
     {
         self.pools.as_slice()
     }
 
     /// The pool with an id, to be shared, or `None`.
-    pub fn get_shared(&self, id: u64) -> Option<&Rc<Pool>>
-        ensures { option_map (λ p. p.now.value) result ≡ find (λ p. p.id == id) self.now }
+    pub fn get_shared(&self, id: u64) -> Option<&Rc<TenantPool>>
+        ensures { option_map (λ p. p.now.value) result ≡ find (λ p. p.parts.id == id) self.now }
     {
         match place_with(&self.pools, id) {
             Some(place) => Some(&self.pools[place]),
@@ -77,8 +79,8 @@ impl Pools {
     }
 
     /// The pool with an id, or `None`.
-    pub fn get(&self, id: u64) -> Option<&Pool>
-        ensures { option_map (λ p. p.now) result ≡ find (λ p. p.id == id) self.now }
+    pub fn get(&self, id: u64) -> Option<&TenantPool>
+        ensures { option_map (λ p. p.now) result ≡ find (λ p. p.parts.id == id) self.now }
     {
         match self.get_shared(id) {
             Some(pool) => Some(pool.as_ref()),
@@ -95,20 +97,41 @@ impl Pools {
         })
     }
 
-    /// A copy with one more pool, in place of one with the same id. `Err(AllocError)`: an
-    /// allocation failed; nothing is changed.
-    pub fn with(&self, pool: &Rc<Pool>) -> Result<Self, AllocError>
-        ensures { IfOk result (λ pools. pools ≡ with_element (λ p. p.id) pool.now.value self.now) }
+    /// A copy with one more pool, which has no exceptions, in place of one with the same id.
+    /// `Err(AllocError)`: an allocation failed; nothing is changed.
+    pub fn with(&self, alloc: Global, pool: &Rc<Pool>) -> Result<Self, AllocError>
+        ensures { IfOk result (λ pools. pools ≡ with_element (λ p. p.parts.id) (record { parts = pool.now.value; pairs = [] }) self.now) }
     {
         let mut pools = self.pools.clone()?;
-        insert(&mut pools, pool.clone()?)?;
+        let new = TenantPool::new(alloc, pool.clone()?)?;
+        insert(&mut pools, Rc::new(alloc, new)?)?;
+        Ok(Pools { pools })
+    }
+
+    /// A copy in which the pool with an id has these exceptions, each of which is of a group of
+    /// that pool. `Err(AllocError)`: an allocation failed;
+    /// nothing is changed.
+    pub fn with_exceptions(
+        &self,
+        alloc: Global,
+        id: u32,
+        exceptions: &SharedExceptions,
+    ) -> Result<Self, AllocError>
+        requires { can_have exceptions.now (find (λ p. p.parts.id == id) self.now) ≡ true }
+        ensures { IfOk result (λ pools. pools ≡ with_pairs id exceptions.now self.now) }
+    {
+        let mut pools = self.pools.clone()?;
+        if let Some(place) = place_with(&pools, u64::from(id)) {
+            let pool = pools[place].with_exceptions(exceptions)?;
+            pools[place] = Rc::new(alloc, pool)?;
+        }
         Ok(Pools { pools })
     }
 
     /// A copy without the pool that has an id. `Err(AllocError)`: an allocation failed; nothing is
     /// changed.
     pub fn without(&self, id: u32) -> Result<Self, AllocError>
-        ensures { IfOk result (λ pools. pools ≡ without (λ p. p.id) id self.now) }
+        ensures { IfOk result (λ pools. pools ≡ without (λ p. p.parts.id) id self.now) }
     {
         let mut pools = self.pools.clone()?;
         if let Some(place) = place_with(&pools, u64::from(id)) {
@@ -119,8 +142,8 @@ impl Pools {
 }
 
 /// The place of the first pool with an id.
-fn place_with(pools: &[Rc<Pool>], id: u64) -> Option<usize>
-    ensures { result ≡ position (λ p. p.value.id == id) pools.now }
+fn place_with(pools: &[Rc<TenantPool>], id: u64) -> Option<usize>
+    ensures { result ≡ position (λ p. p.value.parts.id == id) pools.now }
 {
     pools
         .iter()
@@ -128,16 +151,16 @@ fn place_with(pools: &[Rc<Pool>], id: u64) -> Option<usize>
 }
 
 /// The place of the first pool whose id isn't below another.
-fn not_below(pools: &[Rc<Pool>], id: u32) -> Option<usize>
-    ensures { result ≡ position (λ p. nat_le id p.value.id) pools.now }
+fn not_below(pools: &[Rc<TenantPool>], id: u32) -> Option<usize>
+    ensures { result ≡ position (λ p. nat_le id p.value.parts.id) pools.now }
 {
     pools.iter().position(|pool| pool.parts().id >= id)
 }
 
 /// The place of the first pool whose id isn't below another; where there is none, how many pools
 /// there are.
-fn place_of(pools: &[Rc<Pool>], id: u32) -> usize
-    ensures { result ≡ position_or_len (λ p. nat_le id p.value.id) pools.now }
+fn place_of(pools: &[Rc<TenantPool>], id: u32) -> usize
+    ensures { result ≡ position_or_len (λ p. nat_le id p.value.parts.id) pools.now }
 {
     match not_below(pools, id) {
         Some(place) => place,
@@ -146,7 +169,7 @@ fn place_of(pools: &[Rc<Pool>], id: u32) -> usize
 }
 
 /// Whether the ids ascend, so that none stands twice.
-fn are_ascending(pools: &[Rc<Pool>]) -> bool
+fn are_ascending(pools: &[Rc<TenantPool>]) -> bool
     ensures { result ≡ is_ascending is_lower_pool (map (λ p. p.value) pools.now) }
 {
     let mut rest = pools;
@@ -160,7 +183,7 @@ fn are_ascending(pools: &[Rc<Pool>]) -> bool
 }
 
 /// Whether a pool's id is below that of the first of others, if there is one.
-fn is_below_first(pool: &Pool, others: &[Rc<Pool>]) -> bool
+fn is_below_first(pool: &TenantPool, others: &[Rc<TenantPool>]) -> bool
     ensures { result ≡ is_before_first is_lower_pool pool.now (map (λ p. p.value) others.now) }
 {
     match others {
@@ -171,8 +194,8 @@ fn is_below_first(pool: &Pool, others: &[Rc<Pool>]) -> bool
 
 /// Puts a pool at its place in the order of ids, in place of one with the same id.
 /// `Err(AllocError)`: an allocation failed; nothing is changed.
-fn insert(pools: &mut Vec<Rc<Pool>>, new: Rc<Pool>) -> Result<(), AllocError>
-    ensures { OnOk result (map (λ p. p.value) pools.new.items ≡ with_element (λ p. p.id) new.value (map (λ p. p.value) pools.old.items)) }
+fn insert(pools: &mut Vec<Rc<TenantPool>>, new: Rc<TenantPool>) -> Result<(), AllocError>
+    ensures { OnOk result (map (λ p. p.value) pools.new.items ≡ with_element (λ p. p.parts.id) new.value (map (λ p. p.value) pools.old.items)) }
 {
     let id = new.parts().id;
     let place = place_of(pools, id);

@@ -7,14 +7,16 @@
 
 ghost use Rattle.std.specs.Prelude.{◌≡◌, ◌+◌, ◌-◌, ◌*◌, ◌^◌, length, map, min};
 ghost use Rattle.std.specs.List.{sum_by};
+ghost use Rattle.crush_pool.specs.declared.pool.PoolParts.{PoolParts};
 ghost use Rattle.crush_writing.specs.Canonical.{canonical};
 ghost use Rattle.tenant_state.specs.Size as spec;
-ghost use Rattle.tenant_state.specs.Size.{bucket_reach, device_reach, items_in, map_size, states_size, steps_in, version_size};
+ghost use Rattle.tenant_state.specs.Size.{bucket_reach, device_reach, group_reach, items_in, map_size, pool_size, states_size, steps_in, version_size};
 
+use crate::pool::TenantPool;
 use crate::state::Inventory;
 use crate::version::Version;
 use crush_map::{Bucket, CrushMap, Rule};
-use crush_pool::DeviceState;
+use crush_pool::{DeviceState, Pair};
 use std::rc::Rc;
 
 /// What an inventory takes without its parts: itself, and its entry in a table by name, with the
@@ -52,8 +54,15 @@ pub const STATE_BYTES: u64 = 32;
 /// much again for room.
 pub const DEVICE_ID_BYTES: u64 = 16;
 
-/// What a pool takes, with a name of at most 64 bytes, and its place among the pools.
-pub const POOL_BYTES: u64 = 256;
+/// What a pool takes, with a name of at most 64 bytes, its exceptions while there are none, the
+/// allocations of both, and its place among the pools.
+pub const POOL_BYTES: u64 = 512;
+
+/// What a pair of a pool's exceptions takes: 12, and as much again for room.
+pub const PAIR_BYTES: u64 = 32;
+
+/// What the table of groups that have a pair takes for each place: 1, and as much again for room.
+pub const GROUP_BYTES: u64 = 2;
 
 /// A sum.
 fn plus(a: u64, b: u64) -> u64
@@ -159,6 +168,37 @@ fn size_of_states(states: &[DeviceState]) -> u64
     plus(each, tables)
 }
 
+/// How many places a list by group has.
+fn group_reach(pairs: &[Pair]) -> u64
+    ensures { result ≡ group_reach pairs.now }
+{
+    let mut reach = 0;
+    for pair in pairs {
+        reach = reach.max(u64::from(pair.group) + 1);
+    }
+    reach
+}
+
+/// How many bytes a pool takes that has these pairs.
+pub(crate) fn size_of_pool(pairs: &[Pair]) -> u64
+    ensures { (parts : PoolParts) → result ≡ min (pool_size (record { parts = parts; pairs = pairs.now })) (2 ^ 64 - 1) }
+{
+    let each = times(PAIR_BYTES, pairs.len() as u64);
+    let table = times(GROUP_BYTES, group_reach(pairs));
+    plus(plus(POOL_BYTES, each), table)
+}
+
+/// How many bytes pools take.
+fn size_of_pools(pools: &[Rc<TenantPool>]) -> u64
+    ensures { result ≡ min (sum_by pool_size (map (λ p. p.value) pools.now)) (2 ^ 64 - 1) }
+{
+    let mut total = 0;
+    for pool in pools {
+        total = plus(total, pool.size());
+    }
+    total
+}
+
 impl Inventory {
     ghost use Rattle.std.specs.Prelude.{◌≡◌, ◌-◌, ◌^◌, min};
     ghost use Rattle.tenant_state.specs.Size as spec;
@@ -169,7 +209,7 @@ impl Inventory {
     {
         let versions = plus(INVENTORY_BYTES, size_of_versions(self.versions()));
         let states = size_of_states(self.devices().states());
-        let pools = times(POOL_BYTES, self.pools().len() as u64);
+        let pools = size_of_pools(self.pools().as_slice());
         plus(plus(versions, states), pools)
     }
 }

@@ -1,10 +1,11 @@
 //! The state of one tenant, and its changes.
 
 use crate::devices::Devices;
+use crate::pool::TenantPool;
 use crate::pools::Pools;
 use crate::receipts::{Receipt, Receipts};
 use crate::version::Version;
-use crush_cache::Content;
+use crush_cache::{Content, SharedExceptions};
 use crush_map::{Listed, Text};
 use crush_pool::{DeviceState, Placer, Pool};
 use std::alloc::{AllocError, Global};
@@ -21,9 +22,11 @@ pub enum Made {
     Version(Rc<Version>),
     /// These states of devices, whatever was stored of the same devices.
     States(Listed<DeviceState>),
-    /// One more pool.
+    /// One more pool, with no exceptions.
     Pool(Rc<Pool>),
-    /// The pool with this id is removed.
+    /// The pool with this id has these exceptions, and no others.
+    Exceptions(u32, SharedExceptions),
+    /// The pool with this id is removed, with its exceptions.
     NoPool(u32),
 }
 
@@ -50,8 +53,9 @@ impl Model for Change {
 
 // ---- what a tenant has
 
-/// What a tenant has: the versions of its map, the states of devices, the pools, and its epoch. It
-/// is all that its queries are answered from; of the receipts it has the number alone, the epoch.
+/// What a tenant has: the versions of its map, the states of devices, the pools with their
+/// exceptions, and its epoch. It is all that its queries are answered from; of the receipts it has
+/// the number alone, the epoch.
 /// Its parts are in their ranges and orders (`IsInventory`).
 #[derive(Drop)]
 pub struct Inventory {
@@ -74,8 +78,9 @@ impl Model for Inventory {
 }
 
 impl Inventory {
-    ghost use Rattle.std.specs.Prelude.{◌≡◌, ◌<◌, [], IfOk, map, option_map};
+    ghost use Rattle.std.specs.Prelude.{◌≡◌, ◌<◌, [], IfOk, map, option_map, true};
     ghost use Rattle.crush_cache.specs.Contents.{content_of};
+    ghost use Rattle.tenant_state.specs.Made.{made_of};
     ghost use Rattle.tenant_state.specs.State as spec;
     ghost use Rattle.tenant_state.specs.Valid.{IsInventory};
     ghost use Rattle.tenant_state.specs.declared.limits.TheConstants.{RECEIPT_LIMIT};
@@ -161,12 +166,12 @@ impl Inventory {
         &self.pools
     }
 
-    /// A pool on a version, with the states of devices as they are now. The problem is `NoRule`,
-    /// exactly where the version lacks the pool's rule.
+    /// A pool on a version, with its exceptions and the states of devices as they are now. The
+    /// problem is `NoRule`, exactly where the version lacks the pool's rule.
     pub fn on_version<'a>(
         &'a self,
         version: &'a Version,
-        pool: &'a Pool,
+        pool: &'a TenantPool,
     ) -> Result<Placer<'a>, Problem>
         ensures { result ≡ spec.on_version self.now pool.now version.now }
     {
@@ -177,14 +182,15 @@ impl Inventory {
             devices.states(),
             devices.weights(),
             devices.flags(),
-            pool,
+            pool.pool(),
+            pool.exceptions(),
         )
         .ok_or(Problem::NoRule)
     }
 
     /// A pool on the newest version. The problem is `NoVersion` where there is no version, and
     /// `NoRule` where the newest lacks the pool's rule.
-    pub fn on_newest<'a>(&'a self, pool: &'a Pool) -> Result<Placer<'a>, Problem>
+    pub fn on_newest<'a>(&'a self, pool: &'a TenantPool) -> Result<Placer<'a>, Problem>
         ensures { result ≡ spec.on_newest self.now pool.now }
     {
         match self.version(self.newest()) {
@@ -193,14 +199,30 @@ impl Inventory {
         }
     }
 
-    /// What the placements of a pool on a version depend on, with the states of devices as they are
-    /// now. It is shared, and not copied. `Err(AllocError)`: nothing is changed.
-    pub fn content(&self, version: &Version, pool: &Rc<Pool>) -> Result<Content, AllocError>
-        ensures { IfOk result (λ c. c ≡ content_of (record { map = version.now; states = self.now.devices; pool = pool.now.value })) }
+    /// What the placements of a pool on a version depend on, with its exceptions and the states of
+    /// devices as they are now. It is shared, and not copied. `Err(AllocError)`: nothing is changed.
+    pub fn content(&self, version: &Version, pool: &TenantPool) -> Result<Content, AllocError>
+        ensures { IfOk result (λ c. c ≡ content_of (record { map = version.now; states = self.now.devices; pool = pool.now.parts; pairs = pool.now.pairs })) }
     {
         let text = version.shared_text().share()?;
         let states = self.devices().shared_states().share()?;
-        Ok(Content::new(text, states, pool.clone()?))
+        let exceptions = pool.shared_exceptions().share()?;
+        let pool = pool.shared_pool().clone()?;
+        Ok(Content::new(text, states, pool, exceptions))
+    }
+
+    /// Whether what is made suits this: exceptions suit the pool that they are for, which is there,
+    /// and all else does. Takes time linear in the number of exceptions.
+    pub fn suits(&self, made: &Made) -> bool
+        ensures { result ≡ spec.suits (made_of made.now) self.now }
+    {
+        match made {
+            Made::Exceptions(id, exceptions) => match self.pools.get(u64::from(*id)) {
+                Some(pool) => pool.can_have(exceptions),
+                None => false,
+            },
+            _ => true,
+        }
     }
 
     /// A copy that shares what it has. `Err(AllocError)`: an allocation failed; nothing is changed.
@@ -218,7 +240,8 @@ impl Inventory {
     /// What the tenant has after a change. What stays is shared, and not copied.
     /// `Err(AllocError)`: an allocation failed; nothing is changed.
     pub fn after(&self, alloc: Global, change: &Change) -> Result<Inventory, AllocError>
-        requires { self.now.epoch < RECEIPT_LIMIT }
+        requires room { self.now.epoch < RECEIPT_LIMIT }
+        requires suits { spec.suits change.now.made self.now ≡ true }
         ensures { IfOk result (λ i. i ≡ spec.inventory_after change.now self.now) }
     {
         let mut next = self.copy()?;
@@ -234,7 +257,11 @@ impl Inventory {
                 Ok(next)
             }
             Made::Pool(pool) => {
-                next.pools = next.pools.with(pool)?;
+                next.pools = next.pools.with(alloc, pool)?;
+                Ok(next)
+            }
+            Made::Exceptions(id, exceptions) => {
+                next.pools = next.pools.with_exceptions(alloc, *id, exceptions)?;
                 Ok(next)
             }
             Made::NoPool(id) => {

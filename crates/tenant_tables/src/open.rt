@@ -1,19 +1,23 @@
-//! The tables are made where there are none, and else tested for their version.
+//! The tables are made where there are none, and else tested for their version. Those of schema 1
+//! are replaced.
 
-ghost use Rattle.std.specs.Prelude.{pos, [], ◌∷◌, map, ◌≤◌, IsPermutation, ◌≡◌, ◌≢◌, ◌⊎◌, ◌↔◌, false, IfOk, IfErr, OnOk, OnErr, Err, IsTrue};
+ghost use Rattle.std.specs.Prelude.{pos, [], ◌∷◌, map, IsPermutation, ◌≡◌, ◌≢◌, ◌⊎◌, ◌↔◌, false, IfOk, IfErr, OnOk, OnErr, Err, IsTrue};
 ghost use Rattle.sqlite.specs.Held.{state};
 ghost use Rattle.sqlite_value.specs.declared.value.Value.TheVariants.{Int};
 ghost use Rattle.sqlite.specs.State.{HasCleanDisk, IsLive, IsUnchanged, Survives};
-ghost use Rattle.sqlite_trees.specs.View.{doubt};
 ghost use Rattle.sqlite_value.specs.Order.{column};
-ghost use Rattle.table_schema.specs.Layout.{no_schema, store_schema};
-ghost use Rattle.table_schema.specs.Ready.{Commits, IsReady, Rests};
-ghost use Rattle.tenant_tables.specs.Opened.{HasVersion, IsBare, Stays};
+ghost use Rattle.sqlite.specs.Effect.{IsDatabase};
+ghost use Rattle.table_schema.specs.Layout.{no_schema, first_schema, IsStoreSchema, info_table};
+ghost use Rattle.table_schema.specs.Holds.{rows_in};
+ghost use Rattle.table_schema.specs.Ready.{Commits, Rests};
+ghost use Rattle.tenant_tables.specs.Opened.{HasVersion, SaysVersion, IsKnown, IsBare, IsMigrated, IsStrange, SetsUp, Stays};
 
-use sqlite::{Alter, Connection, Error, ErrorCode, Row};
+use sqlite::{Alter, Connection, Error, Row};
 use std::alloc::AllocError;
+use table_reads::rows::int_at;
+use table_schema::first::is_first;
 use table_schema::refuse::{Fault, fault_of, refusal};
-use table_schema::schema::is_ours;
+use table_schema::schema::layout_of;
 use table_writes::write::{Write, run_all};
 
 /// Whether the database has no table, index or view.
@@ -54,12 +58,15 @@ fn make<S: Alter>(conn: &mut Connection<S>) -> Result<(), Fault>
                 "CREATE TABLE devices (tenant INTEGER NOT NULL REFERENCES tenants(id) ON DELETE CASCADE, device INTEGER NOT NULL, reweight INTEGER NOT NULL, up INTEGER NOT NULL, PRIMARY KEY(tenant, device)) STRICT",
             ),
             Write::Plain(
-                "CREATE TABLE pools (tenant INTEGER NOT NULL REFERENCES tenants(id) ON DELETE CASCADE, id INTEGER NOT NULL, name TEXT NOT NULL, erasure INTEGER NOT NULL, size INTEGER NOT NULL, rule INTEGER NOT NULL, pg_num INTEGER NOT NULL, pgp_num INTEGER NOT NULL, hashpspool INTEGER NOT NULL, PRIMARY KEY(tenant, id), UNIQUE(tenant, name)) STRICT",
-            ),
-            Write::Plain(
                 "CREATE TABLE receipts (tenant INTEGER NOT NULL REFERENCES tenants(id) ON DELETE CASCADE, request TEXT NOT NULL, path TEXT NOT NULL, body TEXT NOT NULL, status INTEGER NOT NULL, reply TEXT NOT NULL, PRIMARY KEY(tenant, request)) STRICT",
             ),
-            Write::Plain("INSERT INTO schema_info VALUES (1, 1)"),
+            Write::Plain(
+                "CREATE TABLE pools_2 (tenant INTEGER NOT NULL REFERENCES tenants(id) ON DELETE CASCADE, id INTEGER NOT NULL, name TEXT NOT NULL, erasure INTEGER NOT NULL, size INTEGER NOT NULL, rule INTEGER NOT NULL, pg_num INTEGER NOT NULL, pgp_num INTEGER NOT NULL, hashpspool INTEGER NOT NULL, pairs INTEGER NOT NULL, PRIMARY KEY(tenant, id), UNIQUE(tenant, name)) STRICT",
+            ),
+            Write::Plain(
+                "CREATE TABLE exceptions (tenant INTEGER NOT NULL REFERENCES tenants(id) ON DELETE CASCADE, pool INTEGER NOT NULL, place INTEGER NOT NULL, grp INTEGER NOT NULL, src INTEGER NOT NULL, dst INTEGER NOT NULL, PRIMARY KEY(tenant, pool, place)) STRICT",
+            ),
+            Write::Plain("INSERT INTO schema_info VALUES (1, 2)"),
         ],
     );
     match made {
@@ -68,64 +75,125 @@ fn make<S: Alter>(conn: &mut Connection<S>) -> Result<(), Fault>
     }
 }
 
-/// Whether the rows are one row with the number 1 alone.
+/// Whether the rows are one row, of 1 and the version.
 ///
 /// `Err(AllocError)`: an allocation failed; nothing is changed.
-fn is_version_one(rows: &[Row]) -> Result<bool, AllocError>
-    ensures one { IfOk result (λ b. IsTrue b → rows.now ≡ (Int (pos 1) ∷ []) ∷ []) }
-    ensures other { IfOk result (λ b. b ≡ false → rows.now ≢ (Int (pos 1) ∷ []) ∷ []) }
+fn is_version(rows: &[Row], version: i64) -> Result<bool, AllocError>
+    ensures yes { IfOk result (λ b. IsTrue b → rows.now ≡ (Int (pos 1) ∷ Int version ∷ []) ∷ []) }
+    ensures no { IfOk result (λ b. b ≡ false → rows.now ≢ (Int (pos 1) ∷ Int version ∷ []) ∷ []) }
 {
     let [row] = rows else {
         return Ok(false);
     };
-    if row.column_count() != 1 {
+    if row.column_count() != 2 {
         return Ok(false);
     }
-    let version: Result<i64, Error> = row.get(0);
-    match version {
-        Ok(version) => Ok(version == 1),
-        Err(Error::SqliteFailure(ErrorCode::OutOfMemory)) => Err(AllocError),
-        Err(_) => Ok(false),
-    }
+    let Some(one) = int_at(row, 0)? else {
+        return Ok(false);
+    };
+    let Some(found) = int_at(row, 1)? else {
+        return Ok(false);
+    };
+    Ok(one == 1 && found == version)
 }
 
 /// The versions that the tables say.
 fn versions<S: Alter>(conn: &mut Connection<S>) -> Result<Vec<Row>, Error>
-    ensures found { HasCleanDisk (state S.Store conn.new) → (state S.Store conn.old).now.schema ≡ store_schema → IfOk result (λ rows. IsPermutation (map (λ row. column row 2 ∷ []) ((state S.Store conn.old).now.trees 0)) rows.items) }
-    ensures same { HasCleanDisk (state S.Store conn.new) → (state S.Store conn.old).now.schema ≡ store_schema → OnOk result (IsUnchanged (state S.Store conn.old) (state S.Store conn.new)) }
-    ensures kept { HasCleanDisk (state S.Store conn.new) → (state S.Store conn.old).now.schema ≡ store_schema → OnErr result (Rests (state S.Store conn.old) (state S.Store conn.new)) }
-    ensures survives { (state S.Store conn.old).now.schema ≡ store_schema → Survives (state S.Store conn.old) (state S.Store conn.new) (λ _. ⊥) }
-    ensures clean { doubt (state S.Store conn.old).is_clean ≤ doubt (state S.Store conn.new).is_clean }
+    requires sound { HasCleanDisk (state S.Store conn.old) → IsDatabase (state S.Store conn.old).now }
+    requires known { IsKnown (state S.Store conn.old).now.schema }
+    ensures found { HasCleanDisk (state S.Store conn.new) → IfOk result (λ rows. IsPermutation (map (λ row. column row 0 ∷ column row 2 ∷ []) (rows_in info_table (state S.Store conn.old).now.trees)) rows.items) }
+    ensures same { HasCleanDisk (state S.Store conn.new) → OnOk result (IsUnchanged (state S.Store conn.old) (state S.Store conn.new)) }
+    ensures kept { HasCleanDisk (state S.Store conn.new) → OnErr result (Rests (state S.Store conn.old) (state S.Store conn.new)) }
+    ensures survives { Survives (state S.Store conn.old) (state S.Store conn.new) (λ _. ⊥) }
     ensures ended { conn.old.in_transaction ≡ false → conn.new.in_transaction ≡ false }
 {
-    conn.query_all("SELECT version FROM schema_info", &[])
+    conn.query_all("SELECT one, version FROM schema_info", &[])
 }
 
-/// Tests that the tables are of version 1.
+/// Tests that the tables are of this version.
 ///
-/// `Err(Fault::Damaged)`: they are of another version, or none of this service's.
-fn adopt<S: Alter>(conn: &mut Connection<S>) -> Result<(), Fault>
+/// `Err(Fault::Damaged)`: they are of another.
+fn adopt<S: Alter>(conn: &mut Connection<S>, version: i64) -> Result<(), Fault>
     requires autocommit { conn.old.in_transaction ≡ false }
     requires settled { HasCleanDisk (state S.Store conn.old) → (state S.Store conn.old).now ≡ (state S.Store conn.old).committed }
-    ensures version { HasCleanDisk (state S.Store conn.new) → (state S.Store conn.old).now.schema ≡ store_schema → OnOk result (HasVersion (state S.Store conn.old).now.trees) }
-    ensures damaged { HasCleanDisk (state S.Store conn.new) → (state S.Store conn.old).now.schema ≡ store_schema → result ≡ Err Fault.Damaged → ¬ HasVersion (state S.Store conn.old).now.trees }
-    ensures same { HasCleanDisk (state S.Store conn.new) → (state S.Store conn.old).now.schema ≡ store_schema → result ≢ Err Fault.Failed → Stays (state S.Store conn.old) (state S.Store conn.new) }
-    ensures survives { (state S.Store conn.old).now.schema ≡ store_schema → Survives (state S.Store conn.old) (state S.Store conn.new) (λ _. ⊥) }
-    ensures clean { doubt (state S.Store conn.old).is_clean ≤ doubt (state S.Store conn.new).is_clean }
+    requires sound { HasCleanDisk (state S.Store conn.old) → IsDatabase (state S.Store conn.old).now }
+    requires known { IsKnown (state S.Store conn.old).now.schema }
+    ensures version { HasCleanDisk (state S.Store conn.new) → OnOk result (SaysVersion version (state S.Store conn.old).now.trees) }
+    ensures damaged { HasCleanDisk (state S.Store conn.new) → result ≡ Err Fault.Damaged → ¬ SaysVersion version (state S.Store conn.old).now.trees }
+    ensures same { HasCleanDisk (state S.Store conn.new) → result ≢ Err Fault.Failed → Stays (state S.Store conn.old) (state S.Store conn.new) }
+    ensures survives { Survives (state S.Store conn.old) (state S.Store conn.new) (λ _. ⊥) }
     ensures ended { conn.new.in_transaction ≡ false }
 {
     let rows = match versions(conn) {
         Ok(rows) => rows,
         Err(error) => return Err(refusal(conn, error)),
     };
-    match is_version_one(&rows) {
+    match is_version(&rows, version) {
         Ok(true) => Ok(()),
         Ok(false) => Err(Fault::Damaged),
         Err(AllocError) => Err(Fault::NoMemory),
     }
 }
 
-/// Makes the tables in a database that has none, and else tests that they are this service's.
+/// Puts the tables of schema 2 in the place of those of schema 1, all of them or none.
+///
+/// `Err(Fault::NoMemory)`, `Err(Fault::Full)`: nothing is changed.
+fn replace<S: Alter>(conn: &mut Connection<S>) -> Result<(), Fault>
+    requires autocommit { conn.old.in_transaction ≡ false }
+    requires settled { HasCleanDisk (state S.Store conn.old) → (state S.Store conn.old).now ≡ (state S.Store conn.old).committed }
+    requires sound { HasCleanDisk (state S.Store conn.old) → IsDatabase (state S.Store conn.old).now }
+    requires first { HasCleanDisk (state S.Store conn.old) → (state S.Store conn.old).now.schema ≡ first_schema }
+    requires version { HasCleanDisk (state S.Store conn.old) → HasVersion 1 (state S.Store conn.old).now.trees }
+    ensures done { HasCleanDisk (state S.Store conn.new) → OnOk result ((db : _) × IsMigrated (state S.Store conn.old).now db × Commits (state S.Store conn.old) (state S.Store conn.new) db) }
+    ensures refused { HasCleanDisk (state S.Store conn.new) → result ≢ Err Fault.Failed → OnErr result (Stays (state S.Store conn.old) (state S.Store conn.new)) }
+    ensures rows { result ≢ Err Fault.Damaged }
+    ensures crash { Survives (state S.Store conn.old) (state S.Store conn.new) (λ trees. (db : _) × IsMigrated (state S.Store conn.old).now db × (trees ≡ db.trees)) }
+    ensures ended { conn.new.in_transaction ≡ false }
+{
+    let replaced = run_all(
+        conn,
+        &[
+            Write::Plain(
+                "CREATE TABLE pools_2 (tenant INTEGER NOT NULL REFERENCES tenants(id) ON DELETE CASCADE, id INTEGER NOT NULL, name TEXT NOT NULL, erasure INTEGER NOT NULL, size INTEGER NOT NULL, rule INTEGER NOT NULL, pg_num INTEGER NOT NULL, pgp_num INTEGER NOT NULL, hashpspool INTEGER NOT NULL, pairs INTEGER NOT NULL, PRIMARY KEY(tenant, id), UNIQUE(tenant, name)) STRICT",
+            ),
+            Write::Plain(
+                "CREATE TABLE exceptions (tenant INTEGER NOT NULL REFERENCES tenants(id) ON DELETE CASCADE, pool INTEGER NOT NULL, place INTEGER NOT NULL, grp INTEGER NOT NULL, src INTEGER NOT NULL, dst INTEGER NOT NULL, PRIMARY KEY(tenant, pool, place)) STRICT",
+            ),
+            Write::Plain(
+                "INSERT INTO pools_2 SELECT tenant, id, name, erasure, size, rule, pg_num, pgp_num, hashpspool, 0 FROM pools",
+            ),
+            Write::Plain("DROP TABLE pools"),
+            Write::Plain("UPDATE schema_info SET version = 2"),
+        ],
+    );
+    match replaced {
+        Ok(()) => Ok(()),
+        Err(error) => Err(refusal(conn, error)),
+    }
+}
+
+/// Tests that the tables are of version 1, and replaces them.
+///
+/// `Err(Fault::Damaged)`: they are of another version. Nothing is changed.
+/// `Err(Fault::NoMemory)`, `Err(Fault::Full)`: nothing is changed.
+fn migrate<S: Alter>(conn: &mut Connection<S>) -> Result<(), Fault>
+    requires autocommit { conn.old.in_transaction ≡ false }
+    requires open { HasCleanDisk (state S.Store conn.old) → IsTrue (state S.Store conn.old).is_open }
+    requires settled { HasCleanDisk (state S.Store conn.old) → (state S.Store conn.old).now ≡ (state S.Store conn.old).committed }
+    requires sound { HasCleanDisk (state S.Store conn.old) → IsDatabase (state S.Store conn.old).now }
+    requires first { (state S.Store conn.old).now.schema ≡ first_schema }
+    ensures done { HasCleanDisk (state S.Store conn.new) → OnOk result ((db : _) × IsMigrated (state S.Store conn.old).now db × Commits (state S.Store conn.old) (state S.Store conn.new) db) }
+    ensures damaged { HasCleanDisk (state S.Store conn.new) → result ≡ Err Fault.Damaged → ¬ HasVersion 1 (state S.Store conn.old).now.trees }
+    ensures refused { HasCleanDisk (state S.Store conn.new) → result ≢ Err Fault.Failed → OnErr result (Stays (state S.Store conn.old) (state S.Store conn.new)) }
+    ensures crash { Survives (state S.Store conn.old) (state S.Store conn.new) (λ trees. (db : _) × IsMigrated (state S.Store conn.old).now db × (trees ≡ db.trees)) }
+    ensures ended { conn.new.in_transaction ≡ false }
+{
+    adopt(conn, 1)?;
+    replace(conn)
+}
+
+/// Makes the tables in a database that has none, replaces those of schema 1, and else tests that
+/// they are schema 2.
 ///
 /// `Err(Fault::Damaged)`: they are another's, or of another version. Nothing is changed.
 /// `Err(Fault::NoMemory)`, `Err(Fault::Full)`: nothing is changed.
@@ -133,17 +201,21 @@ pub fn set_up<S: Alter>(conn: &mut Connection<S>) -> Result<(), Fault>
     requires autocommit { conn.old.in_transaction ≡ false }
     requires open { HasCleanDisk (state S.Store conn.old) → IsTrue (state S.Store conn.old).is_open }
     requires settled { HasCleanDisk (state S.Store conn.old) → (state S.Store conn.old).now ≡ (state S.Store conn.old).committed }
-    ensures made { HasCleanDisk (state S.Store conn.new) → (state S.Store conn.old).now.schema ≡ no_schema → OnOk result (IsReady (state S.Store conn.new) × IsBare (state S.Store conn.new).now) }
-    ensures adopted { HasCleanDisk (state S.Store conn.new) → (state S.Store conn.old).now.schema ≢ no_schema → OnOk result (Stays (state S.Store conn.old) (state S.Store conn.new) × ((state S.Store conn.old).now.schema ≡ store_schema) × HasVersion (state S.Store conn.old).now.trees) }
-    ensures damaged { HasCleanDisk (state S.Store conn.new) → result ≡ Err Fault.Damaged → ((state S.Store conn.old).now.schema ≢ no_schema) × ((state S.Store conn.old).now.schema ≡ store_schema → ¬ HasVersion (state S.Store conn.old).now.trees) }
+    ensures made { HasCleanDisk (state S.Store conn.new) → (state S.Store conn.old).now.schema ≡ no_schema → OnOk result ((db : _) × IsBare db × Commits (state S.Store conn.old) (state S.Store conn.new) db) }
+    ensures adopted { HasCleanDisk (state S.Store conn.new) → IsStoreSchema (state S.Store conn.old).now.schema → OnOk result (Stays (state S.Store conn.old) (state S.Store conn.new) × HasVersion 2 (state S.Store conn.old).now.trees) }
+    ensures migrated { HasCleanDisk (state S.Store conn.new) → (state S.Store conn.old).now.schema ≡ first_schema → OnOk result ((db : _) × IsMigrated (state S.Store conn.old).now db × Commits (state S.Store conn.old) (state S.Store conn.new) db) }
+    ensures known { OnOk result (((state S.Store conn.old).now.schema ≡ no_schema) ⊎ IsKnown (state S.Store conn.old).now.schema) }
+    ensures damaged { HasCleanDisk (state S.Store conn.new) → result ≡ Err Fault.Damaged → IsStrange (state S.Store conn.old).now }
     ensures refused { HasCleanDisk (state S.Store conn.new) → result ≢ Err Fault.Failed → OnErr result (Stays (state S.Store conn.old) (state S.Store conn.new)) }
-    ensures crash { Survives (state S.Store conn.old) (state S.Store conn.new) (λ trees. ((state S.Store conn.old).now.schema ≡ no_schema) × ((db : _) × IsBare db × (trees ≡ db.trees))) }
+    ensures crash { Survives (state S.Store conn.old) (state S.Store conn.new) (SetsUp (state S.Store conn.old).now) }
     ensures ended { conn.new.in_transaction ≡ false }
 {
     if is_empty(conn) {
         make(conn)
-    } else if is_ours(conn.schema()) {
-        adopt(conn)
+    } else if layout_of(conn.schema()).is_some() {
+        adopt(conn, 2)
+    } else if is_first(conn.schema()) {
+        migrate(conn)
     } else {
         Err(Fault::Damaged)
     }

@@ -7,26 +7,27 @@ ghost use Rattle.std.specs.Prelude.{◌≡◌, ◌⊎◌, false, IfOk, IfErr, Is
 ghost use Rattle.sqlite.specs.Held.{state};
 ghost use Rattle.sqlite.specs.State.{HasCleanDisk};
 ghost use Rattle.sqlite_trees.specs.View.{IsClean};
-ghost use Rattle.table_schema.specs.Holds.{AreTables};
+ghost use Rattle.tenant_tables.specs.Opened.{AreTablesAt};
 ghost use Rattle.table_schema.specs.Ready.{IsReady};
 
 use sqlite::{Alter, Connection};
 use sqlite_trees::store::Shape;
 use std::alloc::Global;
 use table_schema::refuse::{Fault, fault_of};
-use table_schema::schema::is_ours;
+use table_schema::schema::{Layout, is_laid_out, layout_of};
 
 /// Whether the trees of the tables hold rows by rowids.
-fn are_rows<S: Alter>(store: &S) -> bool
+fn are_rows<S: Alter>(store: &S, layout: Layout) -> bool
     ensures sound { IsTrue result → IsClean (S.Store.view store.now) → (S.Store.view store.now).is_broken ≡ false }
-    ensures tables { IsTrue result → IsClean (S.Store.view store.now) → AreTables (S.Store.view store.now).trees }
+    ensures tables { IsTrue result → IsClean (S.Store.view store.now) → AreTablesAt layout (S.Store.view store.now).trees }
 {
     !store.is_broken()
         && store.shape(1) == Shape::Table
         && store.shape(4) == Shape::Table
         && store.shape(6) == Shape::Table
-        && store.shape(8) == Shape::Table
-        && store.shape(11) == Shape::Table
+        && store.shape(layout.pools_tree()) == Shape::Table
+        && store.shape(layout.receipts_tree()) == Shape::Table
+        && store.shape(layout.exceptions_tree()) == Shape::Table
 }
 
 /// Opens a connection again, with this service's tables as they were committed.
@@ -45,13 +46,16 @@ pub fn reopen<S: Alter + Drop>(
     ensures crash { IfErr result (λ e. IsClean (S.Store.view e.1) → (db : _) → S.Store.recovers e.1 db → (state S.Store conn).may_leave db) }
     ensures was_clean { IfErr result (λ e. IsClean (S.Store.view e.1) → HasCleanDisk (state S.Store conn)) }
 {
+    let Some(layout) = layout_of(conn.schema()) else {
+        return Err((Fault::Failed, conn.into_store()));
+    };
     let store = conn.into_store();
-    if !are_rows(&store) {
+    if !are_rows(&store, layout) {
         return Err((Fault::Failed, store));
     }
     match Connection::over(alloc, store) {
         Ok(conn) => {
-            if is_ours(conn.schema()) {
+            if is_laid_out(conn.schema(), layout) {
                 Ok(conn)
             } else {
                 Err((Fault::Failed, conn.into_store()))

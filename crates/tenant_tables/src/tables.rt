@@ -5,26 +5,29 @@ ghost use Rattle.sqlite.specs.Held.{state};
 ghost use Rattle.sqlite.specs.State.{HasCleanDisk, Survives};
 ghost use Rattle.std.specs.List.{AllByRecursion};
 ghost use Rattle.sqlite_trees.specs.View.{IsClean};
-ghost use Rattle.table_schema.specs.Layout.{no_schema, store_schema, maps_table, devices_table, pools_table, receipts_table};
-ghost use Rattle.tenant_tables.specs.Opened.{HasVersion, IsBare};
+ghost use Rattle.table_schema.specs.Layout.{no_schema, first_schema, IsStoreSchema, maps_table, devices_table, pools_table, receipts_table, exceptions_table};
+ghost use Rattle.tenant_tables.specs.Opened.{HasVersion, IsKnown, IsBare, IsMigrated, IsStrange, SetsUp};
 ghost use Rattle.table_schema.specs.Ready.{IsReady};
 ghost use Rattle.table_schema.specs.Holds.{IsAbsent, of_tenant};
-ghost use Rattle.table_reads.specs.Found.{Names, Lists, Begins, rows_above, receipt_values, receipts_with, AreReceipt, IsReceiptRow, version_values, pool_values, IsVersionRow, IsStateRow, IsPoolRow};
-ghost use Rattle.table_writes.specs.Change.{Accepts, Creates, Drops, IsNumber, with_version, with_states, with_pool, without_pool};
-ghost use Rattle.table_schema.specs.Values.{state_row};
+ghost use Rattle.table_reads.specs.Found.{Names, Lists, ListsBy, Precedes, IsExceptionRow, Begins, rows_above, receipt_values, receipts_with, AreReceipt, IsReceiptRow, version_values, pool_values, IsVersionRow, IsStateRow, IsPoolRow};
+ghost use Rattle.table_writes.specs.Change.{Accepts, Creates, Drops, IsNumber, with_version, with_states, with_pool, without_pool, with_exceptions};
+ghost use Rattle.table_schema.specs.Values.{state_row, exception_row};
 
 use crate::open::{get_ready, set_up};
 use crate::reopen::reopen;
 use sqlite::{Alter, Connection};
 use std::alloc::Global;
 use std::marker::Model;
+use table_reads::exceptions::exceptions_of;
 use table_reads::find::{Tenant, find};
 use table_reads::lists::{devices_of, pools_of, receipt_of, versions_of};
 use table_reads::pages::{first_receipts, receipts_after};
 use table_reads::rows::{PoolRow, ReceiptRow, VersionRow};
 use table_schema::refuse::Fault;
-use table_schema::values::{Pool, Receipt, State};
-use table_writes::commit::{commit_no_pool, commit_pool, commit_states, commit_version};
+use table_schema::values::{Exception, Pool, Receipt, State};
+use table_writes::commit::{
+    commit_exceptions, commit_no_pool, commit_pool, commit_states, commit_version,
+};
 use table_writes::create::create;
 use table_writes::remove::remove;
 
@@ -62,26 +65,29 @@ fn latches<T>(answer: &Result<T, Fault>) -> bool
 }
 
 impl<S: Alter + Drop> Tables<S> {
-    /// The tables of a connection. They are made where the database has none, and else tested: the
-    /// whole schema, its version, and that rows stand by their rowids. So what the other calls
-    /// rest on holds of each file that this opens, and no caller has to know where it came from.
+    /// The tables of a connection. They are made where the database has none, those of schema 1 are
+    /// replaced, and else they are tested: the whole schema, its version, and that rows stand by
+    /// their rowids. So what the other calls rest on holds of each file that this opens, and no
+    /// caller has to know where it came from.
     ///
     /// `Err((Fault::Damaged, store))`: the tables are another's, or of another version. Nothing is
     /// changed. `Err((Fault::NoMemory, store))`, `Err((Fault::Full, store))`,
-    /// `Err((Fault::Failed, store))`: no row is changed, and the tables may have been made.
+    /// `Err((Fault::Failed, store))`: the tables may have been made, or those of schema 1 replaced,
+    /// and no row of a tenant is lost.
     pub fn open(alloc: Global, conn: Connection<S>) -> Result<Tables<S>, (Fault, S)>
         requires autocommit { conn.in_transaction ≡ false }
         requires open { HasCleanDisk (state S.Store conn) → IsTrue (state S.Store conn).is_open }
         requires settled { HasCleanDisk (state S.Store conn) → (state S.Store conn).now ≡ (state S.Store conn).committed }
         ensures live { IfOk result (λ tables. tables.1 ≡ false) }
         ensures clean { IfOk result (λ tables. HasCleanDisk (state S.Store tables.0) → HasCleanDisk (state S.Store conn)) }
+        ensures known { IfOk result (λ tables. ((state S.Store conn).now.schema ≡ no_schema) ⊎ IsKnown (state S.Store conn).now.schema) }
         ensures made { IfOk result (λ tables. HasCleanDisk (state S.Store tables.0) → (state S.Store conn).now.schema ≡ no_schema → IsBare (state S.Store tables.0).now) }
-        ensures adopted { IfOk result (λ tables. HasCleanDisk (state S.Store tables.0) → (state S.Store conn).now.schema ≢ no_schema
-            → ((state S.Store conn).now.schema ≡ store_schema) × ((state S.Store tables.0).now.trees ≡ (state S.Store conn).now.trees) × HasVersion (state S.Store conn).now.trees) }
+        ensures adopted { IfOk result (λ tables. HasCleanDisk (state S.Store tables.0) → IsStoreSchema (state S.Store conn).now.schema
+            → ((state S.Store tables.0).now.trees ≡ (state S.Store conn).now.trees) × HasVersion 2 (state S.Store conn).now.trees) }
+        ensures migrated { IfOk result (λ tables. HasCleanDisk (state S.Store tables.0) → (state S.Store conn).now.schema ≡ first_schema → IsMigrated (state S.Store conn).now (state S.Store tables.0).now) }
         ensures alone { IfOk result (λ tables. HasCleanDisk (state S.Store tables.0) → (db : _) → (state S.Store tables.0).may_leave db → db ≡ (state S.Store tables.0).now.trees) }
-        ensures damaged { IfErr result (λ e. IsClean (S.Store.view e.1) → e.0 ≡ Fault.Damaged → ((state S.Store conn).now.schema ≢ no_schema) × ((state S.Store conn).now.schema ≡ store_schema → ¬ HasVersion (state S.Store conn).now.trees)) }
-        ensures crash { IfErr result (λ e. IsClean (S.Store.view e.1) → (trees : _) → S.Store.recovers e.1 trees
-            → (state S.Store conn).may_leave trees ⊎ (((state S.Store conn).now.schema ≡ no_schema) × ((db : _) × IsBare db × (trees ≡ db.trees)))) }
+        ensures damaged { IfErr result (λ e. IsClean (S.Store.view e.1) → e.0 ≡ Fault.Damaged → IsStrange (state S.Store conn).now) }
+        ensures crash { IfErr result (λ e. IsClean (S.Store.view e.1) → (trees : _) → S.Store.recovers e.1 trees → (state S.Store conn).may_leave trees ⊎ SetsUp (state S.Store conn).now trees) }
     {
         let mut conn = conn;
         if let Err(fault) = set_up(&mut conn) {
@@ -234,7 +240,43 @@ impl<S: Alter> Tables<S> {
         written
     }
 
-    /// Removes the pool with the id. `id` is the tenant's number, and `epoch` the new one.
+    /// Sets the row of a pool and its exceptions, in place of the earlier ones. `id` is the
+    /// tenant's number, and `epoch` the new one. `pool.pairs` is to be the number of the
+    /// exceptions, each of which names the pool.
+    ///
+    /// `Err(Fault::NoMemory)`, `Err(Fault::Full)`: nothing is changed. `Err(Fault::Failed)`: the
+    /// tables are latched.
+    pub fn commit_exceptions<'a>(
+        &mut self,
+        id: i64,
+        epoch: i64,
+        pool: &Pool<'a>,
+        exceptions: &[Exception],
+        receipt: &Receipt<'a>,
+    ) -> Result<(), Fault>
+        requires live { self.old.1 ≡ false }
+        requires there { HasCleanDisk (state S.Store self.old.0) → IsNumber (state S.Store self.old.0).now.trees id }
+        ensures done { HasCleanDisk (state S.Store self.new.0) → OnOk result (Accepts id epoch receipt.now (with_exceptions pool.now exceptions.now) (state S.Store self.old.0).now.trees (state S.Store self.new.0).now.trees) }
+        ensures kept { HasCleanDisk (state S.Store self.new.0) → self.new.1 ≡ false → OnErr result ((state S.Store self.new.0).now ≡ (state S.Store self.old.0).now) }
+        ensures latches { self.new.1 ≡ true ↔ result ≡ Err Fault.Failed }
+        ensures rows { result ≢ Err Fault.Damaged }
+        ensures crash { Survives (state S.Store self.old.0) (state S.Store self.new.0) (Accepts id epoch receipt.now (with_exceptions pool.now exceptions.now) (state S.Store self.old.0).now.trees) }
+    {
+        let written = commit_exceptions(
+            self.alloc,
+            &mut self.conn,
+            id,
+            epoch,
+            pool,
+            exceptions,
+            receipt,
+        );
+        self.is_latched = latches(&written);
+        written
+    }
+
+    /// Removes the pool with the id, and its exceptions. `id` is the tenant's number, and `epoch`
+    /// the new one.
     ///
     /// `Err(Fault::NoMemory)`, `Err(Fault::Full)`: nothing is changed. `Err(Fault::Failed)`: the
     /// tables are latched.
@@ -326,6 +368,24 @@ impl<S: Alter> Tables<S> {
         ensures crash { Survives (state S.Store self.old.0) (state S.Store self.new.0) (λ _. ⊥) }
     {
         let found = pools_of(self.alloc, &mut self.conn, id);
+        self.is_latched = latches(&found);
+        found
+    }
+
+    /// The exceptions of the pools of the tenant with the number, by pool and place, none twice.
+    ///
+    /// No row is changed. `Err(Fault::Damaged)`: a place of a pool stands twice, or a row is none
+    /// of this service's. `Err(Fault::Failed)`: the tables are latched.
+    pub fn exceptions_of(&mut self, id: i64) -> Result<Vec<Exception>, Fault>
+        requires live { self.old.1 ≡ false }
+        ensures found { HasCleanDisk (state S.Store self.new.0) → IfOk result (λ exceptions. ListsBy Precedes (of_tenant exceptions_table id (state S.Store self.old.0).now.trees) (map exception_row exceptions.items)) }
+        ensures damaged { HasCleanDisk (state S.Store self.new.0) → result ≡ Err Fault.Damaged → (list : _) → AllByRecursion IsExceptionRow list → ¬ ListsBy Precedes (of_tenant exceptions_table id (state S.Store self.old.0).now.trees) list }
+        ensures full { result ≢ Err Fault.Full }
+        ensures kept { HasCleanDisk (state S.Store self.new.0) → self.new.1 ≡ false → (state S.Store self.new.0).now ≡ (state S.Store self.old.0).now }
+        ensures latches { self.new.1 ≡ true ↔ result ≡ Err Fault.Failed }
+        ensures crash { Survives (state S.Store self.old.0) (state S.Store self.new.0) (λ _. ⊥) }
+    {
+        let found = exceptions_of(self.alloc, &mut self.conn, id);
         self.is_latched = latches(&found);
         found
     }

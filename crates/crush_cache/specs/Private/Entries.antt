@@ -16,7 +16,7 @@ pub record AreNumbered (k : Numbered) : Type 0 where
 
 -- the placement of a group: by each map that has the content's text
 abbrev pub IsPlacementOf : Content → ℕ → Placement → Type 0
-IsPlacementOf c group p = (m : Map) → IsMap m → c.text ≡ canonical m → placement m c.states c.pool group ≡ Some p
+IsPlacementOf c group p = (m : Map) → IsMap m → c.text ≡ canonical m → placement m c.states c.pool c.pairs group ≡ Some p
 
 -- that of a group of the content with a number, which is there
 abbrev pub IsPlacementIn : Numbered → ℕ → ℕ → Placement → Type 0

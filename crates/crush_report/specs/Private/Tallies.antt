@@ -4,7 +4,8 @@ use Rattle.crush_map.specs.declared.draft.Device.{Device}
 use Rattle.crush_choose.specs.Firstn.{has, slot_has}
 use Rattle.crush_choose.specs.Marks.{Slot}
 use Rattle.crush_pool.specs.Placements.{primary_of, up_of}
-use Rattle.crush_report.specs.Usage.{device_item, entries_of, groups_of, primaries_of, entry_count, permille}
+use Rattle.crush_pool.specs.Exceptions.{device_item}
+use Rattle.crush_report.specs.Usage.{entries_of, groups_of, primaries_of, entry_count, permille}
 use Rattle.crush_report.specs.declared.rows.UsageRow.{UsageRow}
 
 -- the count of a device; 0 past the end

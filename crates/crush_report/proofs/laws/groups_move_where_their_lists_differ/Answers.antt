@@ -8,4 +8,4 @@ pub returns-clause-rows : goal.returns-clause-rows
 returns-clause-rows c old new p group lt = row_where_moved old new p.pg_num group lt
 
 pub returns-clause-itself : goal.returns-clause-itself
-returns-clause-itself c m states p rows e = no_moves m states p rows e
+returns-clause-itself c m states p pairs rows e = no_moves m states p pairs rows e

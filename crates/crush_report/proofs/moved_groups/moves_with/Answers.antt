@@ -35,7 +35,7 @@ returns-clause-rows c =
     let above : c.args.from.now.pool.pg_num ≤ n = rw (c.parts.ensures.same ∙ c.pool.ensures) at c.loop-group-test.false in
     let all : n ≡ c.args.from.now.pool.pg_num = omega (arith, end, above) in
     let rows = rw all at (c.new.ensures ∙ c.loop-group.invariant.rows) in
-    rw rows (moves_on c.args.from.now c.args.to.now c.requires.states c.requires.pool c.map-first.ensures.rule c.map-second.ensures.rule)
+    rw rows (moves_on c.args.from.now c.args.to.now c.requires.states c.requires.pool c.requires.exceptions c.map-first.ensures.rule c.map-second.ensures.rule)
 
 pub returns-clause-gained : goal.returns-clause-gained
 returns-clause-gained c =

@@ -1,12 +1,11 @@
 use Rattle.std.proofs.Common.{rules, arith, ◌≡◌, ◌≤◌, sym, ◌∙◌, true, false}
 use Rattle.crush_bucket.specs.Tables.{tables_of}
 use Rattle.crush_choose.specs.Weights.{weights_of}
-use Rattle.crush_map.specs.Faults.{has_number}
 use Rattle.crush_pool.specs.Placers.{steps_of}
 use Rattle.crush_pool.specs.States.{reweights}
 use Rattle.crush_report.proofs.Groups.{touched_more}
 use Rattle.crush_report.proofs.OnMaps.{impact_on}
-use Rattle.crush_report.specs.Private.OnMaps.{trace_on}
+use Rattle.crush_report.specs.Private.OnMaps.{touches_on}
 use Rattle.crush_report.proofs.touched_groups.impact_with.Goals as goal
 use Rattle.crush_report.proofs.touched_groups.impact_with.Goals.{then-is_touched+in_ok-push, else-is_touched}
 
@@ -14,8 +13,8 @@ pub loop-group-preserved : goal.loop-group-preserved
 loop-group-preserved c =
     let p = c.args.placer.now in
     let n = c.loop-group.group in
-    let test = has_number (trace_on p n) c.args.device in
-    let more = touched_more (tables_of p.map) (weights_of (reweights p.states)) (steps_of p) p.pool c.args.device n in
+    let test = touches_on p c.args.device n in
+    let more = touched_more (tables_of p.map) (weights_of (reweights p.states)) (steps_of p) p.pool p.pairs c.args.device n in
     elim c.if-is_touched.branch [
       | then-is_touched+in_ok-push w ↦
           (let hit : test ≡ true = sym c.is_touched.ensures.touched ∙ w.if-is_touched.true in

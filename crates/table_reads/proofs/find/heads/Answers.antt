@@ -5,11 +5,11 @@ use Rattle.table_reads.proofs.Asking.{find_is, finds}
 use Rattle.table_reads.proofs.find.heads.Goals as goal
 
 pub ask-requires-clause-plain : goal.ask-requires-clause-plain
-ask-requires-clause-plain g c = find_is.2
+ask-requires-clause-plain g c = λ layout. (find_is layout).2
 
 pub returns-clause-found : goal.returns-clause-found
 returns-clause-found g c clean =
     let old = state g.S.Store c.args.conn.now in
     let new = state g.S.Store c.ask.new.conn in
     let ready = c.requires.ready (omega (arith, clean, c.ask.ensures.survives.clean)) in
-    IfOk-weaker c.ask.result _ _ (λ rows. finds old new c.args.name.now rows.items ready.schema) (rw c.as_bytes.ensures.value at (c.ask.ensures.shown clean))
+    IfOk-weaker c.ask.result _ _ (λ rows. finds old new c.args.name.now rows.items ready) (rw c.as_bytes.ensures.value at (c.ask.ensures.shown clean))

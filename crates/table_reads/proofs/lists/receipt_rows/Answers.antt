@@ -8,7 +8,7 @@ use Rattle.table_reads.proofs.Listing.{receipt_is, reads_receipt}
 use Rattle.table_reads.proofs.lists.receipt_rows.Goals as goal
 
 pub ask-requires-clause-plain : goal.ask-requires-clause-plain
-ask-requires-clause-plain g c = receipt_is.2
+ask-requires-clause-plain g c = λ layout. (receipt_is layout).2
 
 pub returns-clause-found : goal.returns-clause-found
 returns-clause-found g c clean =
@@ -16,4 +16,4 @@ returns-clause-found g c clean =
     let new = state g.S.Store c.ask.new.conn in
     let fits : SFits w64 c.args.id = search rules in
     let ready = c.requires.ready (omega (arith, clean, c.ask.ensures.survives.clean)) in
-    IfOk-weaker c.ask.result _ _ (λ rows. reads_receipt c.args.id c.args.request.now old new rows.items ready.schema) (simp to_z-of_z at (rw c.as_bytes.ensures.value at (c.ask.ensures.shown clean)))
+    IfOk-weaker c.ask.result _ _ (λ rows. reads_receipt c.args.id c.args.request.now old new rows.items ready) (simp to_z-of_z at (rw c.as_bytes.ensures.value at (c.ask.ensures.shown clean)))

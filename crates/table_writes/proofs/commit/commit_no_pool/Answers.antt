@@ -8,7 +8,7 @@ use Rattle.sqlite.specs.Held.{state}
 use Rattle.sqlite.specs.State.{HasCleanDisk}
 use Rattle.sqlite.proofs.StateLemmas.{survives_weaker}
 use Rattle.table_writes.specs.Change.{Accepts, without_pool}
-use Rattle.table_writes.specs.declared.write.Write.TheVariants.{RemovePool, AddReceipt}
+use Rattle.table_writes.specs.declared.write.Write.TheVariants.{ClearExceptions, RemovePool, AddReceipt}
 use Rattle.table_writes.proofs.Committing.{ready_after}
 use Rattle.table_writes.proofs.Accepting.{accepts, accepted_sound}
 use Rattle.table_writes.proofs.commit.commit_no_pool.Goals as goal
@@ -23,7 +23,7 @@ returns-clause-done g c clean =
     let early : HasCleanDisk old = omega (arith, clean, c.write_all.ensures.crash.clean) in
     on_ok_weaker c.write_all.result (λ done.
     subst (λ (d : Database). Accepts a.id a.epoch a.receipt.now (without_pool a.pool) old.now.trees d.trees) (sym done.2.now)
-    (accepts g.S.Store a.conn.now (c.requires.ready early) a.id a.epoch (RemovePool a.id a.pool ∷ AddReceipt a.id a.receipt.now ∷ []) (refl, (refl, tt)) done.0 (simp to_z-of_z at done.1)))
+    (accepts g.S.Store a.conn.now (c.requires.ready early) a.id a.epoch (ClearExceptions a.id a.pool ∷ RemovePool a.id a.pool ∷ AddReceipt a.id a.receipt.now ∷ []) (refl, (refl, (refl, tt))) done.0 (simp to_z-of_z at done.1)))
     (c.write_all.ensures.done clean)
 
 pub returns-clause-ready : goal.returns-clause-ready
@@ -37,7 +37,7 @@ returns-clause-ready g c clean =
     let there = c.requires.there early in
     on_ok_weaker c.write_all.result (λ done.
     ready_after old (state g.S.Store c.write_all.new.conn) done.0 done.2
-    (accepted_sound g.S.Store a.conn.now (c.requires.ready early) a.id a.epoch (RemovePool a.id a.pool ∷ AddReceipt a.id a.receipt.now ∷ []) (refl, (refl, tt)) done.0 (simp to_z-of_z at done.1) there.0 there.1 there.2))
+    (accepted_sound g.S.Store a.conn.now (c.requires.ready early) a.id a.epoch (ClearExceptions a.id a.pool ∷ RemovePool a.id a.pool ∷ AddReceipt a.id a.receipt.now ∷ []) (refl, (refl, (refl, tt))) done.0 (simp to_z-of_z at done.1) there.0 there.1 there.2))
     (c.write_all.ensures.done clean)
 
 pub returns-clause-crash : goal.returns-clause-crash
@@ -50,5 +50,5 @@ returns-clause-crash g c =
     survives_weaker old (state g.S.Store c.write_all.new.conn) _ _ (λ clean trees left.
     let early : HasCleanDisk old = omega (arith, clean, c.write_all.ensures.crash.clean) in
     subst (Accepts a.id a.epoch a.receipt.now (without_pool a.pool) old.now.trees) (sym left.2)
-    (accepts g.S.Store a.conn.now (c.requires.ready early) a.id a.epoch (RemovePool a.id a.pool ∷ AddReceipt a.id a.receipt.now ∷ []) (refl, (refl, tt)) left.0 (simp to_z-of_z at left.1)))
+    (accepts g.S.Store a.conn.now (c.requires.ready early) a.id a.epoch (ClearExceptions a.id a.pool ∷ RemovePool a.id a.pool ∷ AddReceipt a.id a.receipt.now ∷ []) (refl, (refl, (refl, tt))) left.0 (simp to_z-of_z at left.1)))
     c.write_all.ensures.crash

@@ -6,4 +6,4 @@ use Rattle.tenant_resources.proofs.maps.has_rules_of.Goals as goal
 pub returns : goal.returns
 returns c =
     c.has_each_rule.ensures
-    ∙ sym (all-of (λ p. is_some (rule_numbered c.args.map.now p.rule)) (λ p. p.value) c.as_slice.result.now c.args.pools.now c.as_slice.ensures)
+    ∙ sym (all-of (λ p. is_some (rule_numbered c.args.map.now p.parts.rule)) (λ p. p.value) c.as_slice.result.now c.args.pools.now c.as_slice.ensures)

@@ -2,9 +2,9 @@ use Rattle.std.proofs.Common.{◌≡◌, ◌∙◌, length, true, false, nat_le,
 use Rattle.std.specs.List.{list_all}
 use Rattle.std.proofs.lemmas.Bool.Decides.{nat_tests}
 use Rattle.crush_pool.specs.Placements.{rule_numbered}
-use Rattle.crush_pool.specs.declared.pool.PoolParts.{PoolParts}
 use Rattle.crush_text.specs.MapText.{IsRefusedFor, IsShort, IsTextOf}
 use Rattle.tenant_resources.proofs.Importing.{of_fault, of_map, of_rule_in_use}
+use Rattle.tenant_state.specs.State.{TenantPool}
 use Rattle.tenant_state.specs.declared.limits.TheConstants.{VERSION_LIMIT}
 use Rattle.tenant_resources.proofs.maps.import.Goals as goal
 
@@ -24,9 +24,9 @@ returns-then-not-has_rules_of-clause-given c =
     let is = c.in-Ok.is in
     let read = rw is at h in
     let own = subst (λ t. IsShort t × IsTextOf t c.in-Ok.map) c.as_bytes.ensures.value read in
-    let asked : c.has_rules_of.result ≡ list_all (λ (p : PoolParts). is_some (rule_numbered c.in-Ok.map p.rule)) c.args.inventory.now.pools =
-    c.has_rules_of.ensures ∙ ap (list_all (λ (p : PoolParts). is_some (rule_numbered c.in-Ok.map p.rule))) c.pools.ensures in
-    let lacks : list_all (λ (p : PoolParts). is_some (rule_numbered c.in-Ok.map p.rule)) c.args.inventory.now.pools ≡ false = grind (arith, asked, c.if-not-has_rules_of.true) in
+    let asked : c.has_rules_of.result ≡ list_all (λ (p : TenantPool). is_some (rule_numbered c.in-Ok.map p.parts.rule)) c.args.inventory.now.pools =
+    c.has_rules_of.ensures ∙ ap (list_all (λ (p : TenantPool). is_some (rule_numbered c.in-Ok.map p.parts.rule))) c.pools.ensures in
+    let lacks : list_all (λ (p : TenantPool). is_some (rule_numbered c.in-Ok.map p.parts.rule)) c.args.inventory.now.pools ≡ false = grind (arith, asked, c.if-not-has_rules_of.true) in
     of_rule_in_use c.args.text.now c.args.inventory.now c.in-Ok.map few ((c.texts_are_read_as_they_say.ensures.map c.args.text.now c.in-Ok.map).1 own) lacks
 
 pub returns-in_ok-import_reply-in-Ok-clause-given : goal.returns-in_ok-import_reply-in-Ok-clause-given
@@ -36,8 +36,8 @@ returns-in_ok-import_reply-in-Ok-clause-given c =
     let is = c.in-Ok.is in
     let read = rw is at h in
     let own = subst (λ t. IsShort t × IsTextOf t c.in-Ok.map) c.as_bytes.ensures.value read in
-    let asked : c.has_rules_of.result ≡ list_all (λ (p : PoolParts). is_some (rule_numbered c.in-Ok.map p.rule)) c.args.inventory.now.pools =
-    c.has_rules_of.ensures ∙ ap (list_all (λ (p : PoolParts). is_some (rule_numbered c.in-Ok.map p.rule))) c.pools.ensures in
-    let has : list_all (λ (p : PoolParts). is_some (rule_numbered c.in-Ok.map p.rule)) c.args.inventory.now.pools ≡ true = grind (arith, asked, c.if-not-has_rules_of.false) in
+    let asked : c.has_rules_of.result ≡ list_all (λ (p : TenantPool). is_some (rule_numbered c.in-Ok.map p.parts.rule)) c.args.inventory.now.pools =
+    c.has_rules_of.ensures ∙ ap (list_all (λ (p : TenantPool). is_some (rule_numbered c.in-Ok.map p.parts.rule))) c.pools.ensures in
+    let has : list_all (λ (p : TenantPool). is_some (rule_numbered c.in-Ok.map p.parts.rule)) c.args.inventory.now.pools ≡ true = grind (arith, asked, c.if-not-has_rules_of.false) in
     of_map c.args.text.now c.args.inventory.now c.in-Ok.map c.in_ok-version-in-Ok.version.value _ few ((c.texts_are_read_as_they_say.ensures.map c.args.text.now c.in-Ok.map).1 own) has
     c.in_ok-version-in-Ok.ensures c.in_ok-import_reply-in-Ok.ensures

@@ -6,29 +6,29 @@ use Rattle.tenant_state.proofs.pools.insert.Goals.{else-place-len-via-then-place
 
 pub insert-requires : goal.insert-requires
 insert-requires c =
-    let few = place-few (λ p. nat_le c.parts.result.now.id p.value.id) c.deref-2.result.now in
+    let few = place-few (λ p. nat_le c.parts.result.now.id p.value.parts.id) c.deref-2.result.now in
     let is = c.place_of-place.ensures in let len = c.deref-2.ensures.len in omega (arith, few, is, len)
 
 pub returns-then-parts-id : goal.returns-then-parts-id
 returns-then-parts-id c =
-    let own : c.parts.result.now.id ≡ c.args.new.value.id = ap (λ p. p.id) (c.parts.ensures.same ∙ c.deref.ensures) in
+    let own : c.parts.result.now.id ≡ c.args.new.value.parts.id = ap (λ p. p.id) (c.parts.ensures ∙ ap (λ p. p.parts) c.deref.ensures) in
     let is = c.place_of-place.ensures in let value = c.deref-2.ensures.value in let len = c.deref-2.ensures.len in
-    let at : c.place_of-place.result ≡ position_or_len (λ p. nat_le c.args.new.value.id p.value.id) c.args.pools.now.items = rw (← value, ← own) is in
+    let at : c.place_of-place.result ≡ position_or_len (λ p. nat_le c.args.new.value.parts.id p.value.parts.id) c.args.pools.now.items = rw (← value, ← own) is in
     let within : c.place_of-place.result < length c.args.pools.now.items =
     (let lower = c.if-place-len.true in let counted = c.len.ensures in let long : length c.deref-2.result.now ≡ length c.args.pools.now.items = ap length value in omega (arith, lower, counted, len, long)) in
-    replaced (λ p. p.value) (λ p. p.id) c.args.new c.index.result.now c.place_of-place.result c.args.pools.now.items at within
-    (ap (λ p. p.value.id) (sym c.index.ensures) ∙ (ap (λ p. p.id) (sym (c.parts-then-place-len.ensures.same ∙ c.deref-then-place-len.ensures)) ∙ (c.if-parts-id.true ∙ own)))
+    replaced (λ p. p.value) (λ p. p.parts.id) c.args.new c.index.result.now c.place_of-place.result c.args.pools.now.items at within
+    (ap (λ p. p.value.parts.id) (sym c.index.ensures) ∙ (ap (λ p. p.id) (sym (c.parts-then-place-len.ensures ∙ ap (λ p. p.parts) c.deref-then-place-len.ensures)) ∙ (c.if-parts-id.true ∙ own)))
 
 pub returns-in_ok-insert : goal.returns-in_ok-insert
 returns-in_ok-insert c =
-    let own : c.parts.result.now.id ≡ c.args.new.value.id = ap (λ p. p.id) (c.parts.ensures.same ∙ c.deref.ensures) in
+    let own : c.parts.result.now.id ≡ c.args.new.value.parts.id = ap (λ p. p.id) (c.parts.ensures ∙ ap (λ p. p.parts) c.deref.ensures) in
     let is = c.place_of-place.ensures in let value = c.deref-2.ensures.value in let len = c.deref-2.ensures.len in let counted = c.len.ensures in
     let long : length c.deref-2.result.now ≡ length c.args.pools.now.items = ap length value in
-    let at : c.place_of-place.result ≡ position_or_len (λ p. nat_le c.args.new.value.id p.value.id) c.args.pools.now.items = rw (← value, ← own) is in
+    let at : c.place_of-place.result ≡ position_or_len (λ p. nat_le c.args.new.value.parts.id p.value.parts.id) c.args.pools.now.items = rw (← value, ← own) is in
     ap (map (λ p. p.value)) c.in_ok-insert.ensures.items
     ∙ elim c.else-place-len.branch [
-      | else-place-len-via-then-place-len+else-parts-id w ↦ inserted (λ p. p.value) (λ p. p.id) c.args.new w.index.result.now c.place_of-place.result c.args.pools.now.items at
-          (λ _ same. w.if-parts-id.false (ap (λ p. p.id) (w.parts-then-place-len.ensures.same ∙ w.deref-then-place-len.ensures) ∙ (ap (λ p. p.value.id) w.index.ensures ∙ (same ∙ sym own))))
-      | else-place-len-via-else-place-len w ↦ inserted (λ p. p.value) (λ p. p.id) c.args.new c.args.new c.place_of-place.result c.args.pools.now.items at
+      | else-place-len-via-then-place-len+else-parts-id w ↦ inserted (λ p. p.value) (λ p. p.parts.id) c.args.new w.index.result.now c.place_of-place.result c.args.pools.now.items at
+          (λ _ same. w.if-parts-id.false (ap (λ p. p.id) (w.parts-then-place-len.ensures ∙ ap (λ p. p.parts) w.deref-then-place-len.ensures) ∙ (ap (λ p. p.value.parts.id) w.index.ensures ∙ (same ∙ sym own))))
+      | else-place-len-via-else-place-len w ↦ inserted (λ p. p.value) (λ p. p.parts.id) c.args.new c.args.new c.place_of-place.result c.args.pools.now.items at
           (λ lower _. let past = w.if-place-len.false in absurd (omega (arith, lower, past, counted, len, long)))
     ]

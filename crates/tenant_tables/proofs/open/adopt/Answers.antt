@@ -1,12 +1,24 @@
-use Rattle.std.proofs.Common.{sym, ◌∙◌}
+use mir.Val.{SFits}
+use mir.Syntax.{w64}
+use Rattle.std.proofs.Common.{rules, ◌≡◌, [], ◌∷◌, map, pos, sym, subst, ◌∙◌}
+use Rattle.std.proofs.lemmas.Int.{to_z-of_z}
+use Rattle.sqlite_value.specs.declared.value.Value.TheVariants.{Int}
 use Rattle.sqlite.specs.Held.{state}
-use Rattle.tenant_tables.proofs.Versions.{says_version, has_version}
+use Rattle.table_schema.specs.Layout.{info_table}
+use Rattle.table_schema.specs.Holds.{rows_in}
+use Rattle.tenant_tables.proofs.Versions.{pair, says_version, has_version}
 use Rattle.tenant_tables.proofs.open.adopt.Goals as goal
 
 pub returns-in-Ok-true-clause-version : goal.returns-in-Ok-true-clause-version
-returns-in-Ok-true-clause-version g c clean has =
-    says_version (state g.S.Store c.args.conn.now).now.trees c.in-Ok.rows.items (c.in-Ok.ensures.found clean has) (sym c.deref.ensures.value ∙ c.in-Ok-true.ensures.one c.in-Ok-true.field-0-test)
+returns-in-Ok-true-clause-version g c clean =
+    let all = rows_in info_table (state g.S.Store c.args.conn.now).now.trees in
+    let fits : SFits w64 c.args.version = search rules in
+    subst (λ n. map pair all ≡ (Int (pos 1) ∷ Int n ∷ []) ∷ []) (to_z-of_z w64 c.args.version fits)
+    (says_version _ all c.in-Ok.rows.items (c.in-Ok.ensures.found clean) (sym c.deref.ensures.value ∙ c.in-Ok-true.ensures.yes c.in-Ok-true.field-0-test))
 
 pub returns-in-Ok-false-clause-damaged : goal.returns-in-Ok-false-clause-damaged
-returns-in-Ok-false-clause-damaged g c clean has _ version =
-    c.in-Ok-false.ensures.other c.in-Ok-false.field-0-test (c.deref.ensures.value ∙ has_version (state g.S.Store c.args.conn.now).now.trees c.in-Ok.rows.items (c.in-Ok.ensures.found clean has) version)
+returns-in-Ok-false-clause-damaged g c clean _ version =
+    let all = rows_in info_table (state g.S.Store c.args.conn.now).now.trees in
+    let fits : SFits w64 c.args.version = search rules in
+    let said = subst (λ n. map pair all ≡ (Int (pos 1) ∷ Int n ∷ []) ∷ []) (sym (to_z-of_z w64 c.args.version fits)) version in
+    c.in-Ok-false.ensures.no c.in-Ok-false.field-0-test (c.deref.ensures.value ∙ has_version _ all c.in-Ok.rows.items (c.in-Ok.ensures.found clean) said)

@@ -5,13 +5,13 @@ use Rattle.std.proofs.lemmas.Int.{to_z-of_z}
 use Rattle.sqlite_value.specs.declared.value.Value.TheVariants.{Int, Text as Words}
 use Rattle.std.specs.Prelude.{string_bytes}
 use Rattle.sqlite_value.specs.Order.{column}
-use Rattle.table_reads.proofs.Columns.{eight}
+use Rattle.table_reads.proofs.Columns.{nine}
 use Rattle.table_reads.proofs.rows.PoolRowTenantRow.from_values.Goals as goal
 
 pub returns-clause-some : goal.returns-clause-some
 returns-clause-some c =
     let row = c.args.row.now in
-    let long : length row ≡ 8 = search rules in
+    let long : length row ≡ 9 = search rules in
     let fits-0 : SFits w64 c.in-Some.id = search rules in
     let at-0 : column row 0 ≡ Int c.in-Some.id = let it = rw c.in-Some.is at c.in_ok-id.ensures.some in it.1 in
     let at-1 : column row 1 ≡ Words (string_bytes c.in-Some-2.name) = let it = rw c.in-Some-2.is at c.in_ok-name.ensures.some in it.1 in
@@ -27,4 +27,6 @@ returns-clause-some c =
     let at-6 : column row 6 ≡ Int c.in-Some-7.pgp_num = let it = rw c.in-Some-7.is at c.in_ok-pgp_num.ensures.some in it.1 in
     let fits-7 : SFits w64 c.in-Some-8.hashpspool = search rules in
     let at-7 : column row 7 ≡ Int c.in-Some-8.hashpspool = let it = rw c.in-Some-8.is at c.in_ok-hashpspool.ensures.some in it.1 in
-    simp to_z-of_z (eight row long ∙ rw (at-0, at-1, at-2, at-3, at-4, at-5, at-6, at-7))
+    let fits-8 : SFits w64 c.in-Some-9.pairs = search rules in
+    let at-8 : column row 8 ≡ Int c.in-Some-9.pairs = let it = rw c.in-Some-9.is at c.in_ok-pairs.ensures.some in it.1 in
+    simp to_z-of_z (nine row long ∙ rw (at-0, at-1, at-2, at-3, at-4, at-5, at-6, at-7, at-8))

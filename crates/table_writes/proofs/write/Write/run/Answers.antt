@@ -40,6 +40,7 @@ returns-in-AddPool-clause-runs g c clean mode =
     let fits-pool-pg_num : SFits w64 c.in-AddPool.pool.pg_num = search rules in
     let fits-pool-pgp_num : SFits w64 c.in-AddPool.pool.pgp_num = search rules in
     let fits-pool-hashpspool : SFits w64 c.in-AddPool.pool.hashpspool = search rules in
+    let fits-pool-pairs : SFits w64 c.in-AddPool.pool.pairs = search rules in
     rw (c.in-AddPool.is, sym c.as_bytes-in-AddPool.ensures.value) (simp to_z-of_z at (c.execute-in-AddPool.ensures.runs clean mode))
 
 pub returns-in-RemovePool-clause-runs : goal.returns-in-RemovePool-clause-runs
@@ -53,3 +54,19 @@ returns-in-AddReceipt-clause-runs g c clean mode =
     let fits-id : SFits w64 c.in-AddReceipt.id = search rules in
     let fits-receipt-status : SFits w64 c.in-AddReceipt.receipt.status = search rules in
     rw (c.in-AddReceipt.is, sym c.as_bytes-in-AddReceipt.ensures.value, sym c.as_bytes-in-AddReceipt-2.ensures.value, sym c.as_bytes-in-AddReceipt-3.ensures.value, sym c.as_bytes-in-AddReceipt-4.ensures.value) (simp to_z-of_z at (c.execute-in-AddReceipt.ensures.runs clean mode))
+
+pub returns-in-AddException-clause-runs : goal.returns-in-AddException-clause-runs
+returns-in-AddException-clause-runs g c clean mode =
+    let fits-id : SFits w64 c.in-AddException.id = search rules in
+    let fits-pool : SFits w64 c.in-AddException.exception.pool = search rules in
+    let fits-place : SFits w64 c.in-AddException.exception.place = search rules in
+    let fits-group : SFits w64 c.in-AddException.exception.group = search rules in
+    let fits-from : SFits w64 c.in-AddException.exception.from = search rules in
+    let fits-to : SFits w64 c.in-AddException.exception.to = search rules in
+    rw c.in-AddException.is (simp to_z-of_z at (c.execute-in-AddException.ensures.runs clean mode))
+
+pub returns-in-ClearExceptions-clause-runs : goal.returns-in-ClearExceptions-clause-runs
+returns-in-ClearExceptions-clause-runs g c clean mode =
+    let fits-id : SFits w64 c.in-ClearExceptions.id = search rules in
+    let fits-pool : SFits w64 c.in-ClearExceptions.pool = search rules in
+    rw c.in-ClearExceptions.is (simp to_z-of_z at (c.execute-in-ClearExceptions.ensures.runs clean mode))

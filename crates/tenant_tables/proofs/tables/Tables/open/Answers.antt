@@ -4,6 +4,7 @@ use Rattle.sqlite.specs.Effect.{Database}
 use Rattle.sqlite.specs.Held.{state}
 use Rattle.sqlite.specs.State.{HasCleanDisk}
 use Rattle.table_reads.proofs.Asking.{remains}
+use Rattle.tenant_tables.proofs.Opening.{bare_again, migrated_again}
 use Rattle.tenant_tables.proofs.tables.Tables.open.Goals as goal
 
 pub invariant_of-result : goal.invariant_of-result
@@ -44,3 +45,23 @@ returns-in-Err-get_ready-clause-crash g c clean trees left =
 
 pub returns-in-Err-reopen-clause-crash : goal.returns-in-Err-reopen-clause-crash
 returns-in-Err-reopen-clause-crash g c clean trees left = c.set_up.ensures.crash.crash (c.in-Err-reopen.ensures.was_clean clean) trees (c.in-Err-reopen.ensures.crash clean trees left)
+
+pub returns-in-Ok-get_ready-clause-made : goal.returns-in-Ok-get_ready-clause-made
+returns-in-Ok-get_ready-clause-made g c clean has =
+    let mid = state g.S.Store c.in-Ok.conn in
+    let last = state g.S.Store c.get_ready.new.conn in
+    let early : HasCleanDisk mid = omega (arith, clean, c.get_ready.ensures.survives.clean) in
+    let done = c.in_default.ensures.made (c.in-Ok.ensures.clean early) has in
+    let it = remains mid last (c.in-Ok.ensures.ready early) (c.in-Ok-get_ready.ensures.ok clean) in
+    let same = ap (λ (d : Database). d.trees) it.same ∙ c.in-Ok.ensures.same early ∙ ap (λ (d : Database). d.trees) done.2.committed in
+    bare_again done.0 last.now done.1 same it.ready.schema it.ready.sound
+
+pub returns-in-Ok-get_ready-clause-migrated : goal.returns-in-Ok-get_ready-clause-migrated
+returns-in-Ok-get_ready-clause-migrated g c clean has =
+    let mid = state g.S.Store c.in-Ok.conn in
+    let last = state g.S.Store c.get_ready.new.conn in
+    let early : HasCleanDisk mid = omega (arith, clean, c.get_ready.ensures.survives.clean) in
+    let done = c.in_default.ensures.migrated (c.in-Ok.ensures.clean early) has in
+    let it = remains mid last (c.in-Ok.ensures.ready early) (c.in-Ok-get_ready.ensures.ok clean) in
+    let same = ap (λ (d : Database). d.trees) it.same ∙ c.in-Ok.ensures.same early ∙ ap (λ (d : Database). d.trees) done.2.committed in
+    migrated_again (state g.S.Store c.args.conn).now done.0 last.now done.1 same it.ready.schema it.ready.sound

@@ -1,0 +1,275 @@
+//! Placement exceptions: pairs of devices, by which a group has another device than its rule
+//! answered.
+
+ghost use Rattle.std.specs.Prelude.{◌≡◌, ◌≤◌, IfOk, IfErr, is_ok, [], length, position, true, false};
+ghost use Rattle.std.specs.List.{list_all, list_any};
+ghost use Rattle.crush_map.specs.Faults.{has_number};
+ghost use Rattle.crush_map.specs.declared.limits.TheConstants.{NUMBER_LIMIT};
+ghost use Rattle.crush_choose.specs.Firstn.{slot_has};
+ghost use Rattle.crush_choose.specs.declared.limits.TheConstants.{SIZE_LIMIT};
+ghost use Rattle.crush_values.specs.DeviceValues.{values_of};
+ghost use Rattle.crush_pool.specs.Exceptions as spec;
+ghost use Rattle.crush_pool.specs.Private.Pairs.{leads_to, marks};
+ghost use Rattle.crush_pool.specs.declared.limits.TheConstants.{GROUP_LIMIT};
+
+use crate::limits::{GROUP_LIMIT, PAIR_LIMIT};
+use crate::pool::{Pool, PoolFault};
+use arrayvec::ArrayVec;
+use crush_bucket::Tables;
+use crush_choose::limits::SIZE_LIMIT;
+use crush_choose::{Slot, Weights, has, slot_has};
+use crush_map::limits::NUMBER_LIMIT;
+use crush_map::{ByDevice, ItemId};
+use std::alloc::{AllocError, Global};
+use std::marker::Model;
+
+/// An exception: in a group, a device takes the place of another one.
+#[derive(Clone, Copy, Debug, PartialEq, Eq)]
+pub struct Pair {
+    /// The group, which is below `pg_num` of its pool.
+    pub group: u32,
+    /// The id of the device that is replaced, 0..`NUMBER_LIMIT`.
+    pub from: u32,
+    /// The id of the device that takes its place, 0..`NUMBER_LIMIT`: another one than `from`.
+    pub to: u32,
+}
+
+/// Whether a pair is of one of so many groups, with two different ids that devices can have.
+fn is_pair(groups: u32, pair: &Pair) -> bool
+    ensures { result ≡ spec.is_pair groups pair.now }
+{
+    pair.group < groups
+        && pair.from <= NUMBER_LIMIT
+        && pair.to <= NUMBER_LIMIT
+        && pair.from != pair.to
+}
+
+/// Whether each pair is of one of so many groups, with two different ids that devices can have.
+fn are_all_pairs(groups: u32, pairs: &[Pair]) -> bool
+    ensures { result ≡ list_all (spec.is_pair groups) pairs.now }
+{
+    pairs.iter().all(|pair| is_pair(groups, pair))
+}
+
+/// Whether there are at most `PAIR_LIMIT` pairs, each of one of so many groups, with two different
+/// ids that devices can have.
+fn are_pairs(groups: u32, pairs: &[Pair]) -> bool
+    ensures { result ≡ spec.are_pairs groups pairs.now }
+{
+    pairs.len() <= PAIR_LIMIT && are_all_pairs(groups, pairs)
+}
+
+/// A table of flags by group: whether one of the pairs is of it.
+fn groups_of(alloc: Global, pairs: &[Pair]) -> Result<ByDevice<bool>, AllocError>
+    ensures { IfOk result (λ table. table ≡ values_of false (marks pairs.now)) }
+{
+    let mut table = ByDevice::new(alloc, false, 0)?;
+    for place in (0..pairs.len()).rev() {
+        table.set(pairs[place].group, true)?;
+    }
+    Ok(table)
+}
+
+/// Whether a pair is of a group and leads to a device.
+fn leads_to(pair: &Pair, group: u32, device: u32) -> bool
+    ensures { result ≡ leads_to group device pair.now }
+{
+    pair.group == group && pair.to == device
+}
+
+/// Whether one of the pairs is of a group and leads to a device.
+fn lead_to(pairs: &[Pair], group: u32, device: u32) -> bool
+    ensures { result ≡ list_any (leads_to group device) pairs.now }
+{
+    pairs.iter().any(|pair| leads_to(pair, group, device))
+}
+
+/// The exceptions of a pool: at most `PAIR_LIMIT` pairs, in an order that counts. Contracts see the
+/// list of them.
+#[derive(Drop)]
+pub struct Exceptions {
+    pairs: Vec<Pair>,
+    /// Whether a group has a pair, so that for most groups no pair is looked at. A group has a
+    /// number that a device can have.
+    groups: ByDevice<bool>,
+}
+
+impl Model for Exceptions {
+    ghost use Rattle.std.specs.Prelude.{◌≡◌, List, true, false};
+    ghost use Rattle.crush_values.specs.DeviceValues.{values_of};
+    ghost use Rattle.crush_pool.specs.Exceptions.{are_pairs};
+    ghost use Rattle.crush_pool.specs.Private.Pairs.{marks};
+    ghost use Rattle.crush_pool.specs.declared.exceptions.Pair.{Pair};
+    ghost use Rattle.crush_pool.specs.declared.limits.TheConstants.{GROUP_LIMIT};
+
+    ghost Value = { List Pair };
+
+    ghost view = { λ a. a.pairs.items };
+
+    ghost invariant = { λ a. record {
+      valid : are_pairs GROUP_LIMIT a.pairs.items ≡ true;
+      table : a.groups ≡ values_of false (marks a.pairs.items);
+    } };
+}
+
+impl Exceptions {
+    /// No exceptions, which any pool can have. `Err(AllocError)`: an allocation failed.
+    pub fn none(alloc: Global) -> Result<Exceptions, AllocError>
+        ensures { IfOk result (λ exceptions. exceptions ≡ []) }
+    {
+        let pairs = Vec::new(alloc);
+        let groups = groups_of(alloc, &pairs)?;
+        Ok(Exceptions { pairs, groups })
+    }
+
+    /// These pairs as the exceptions of a pool, or `P3` where they are more than `PAIR_LIMIT`, or
+    /// one of them has no group of the pool, an id above `NUMBER_LIMIT`, or one id twice.
+    /// `Err(AllocError)`: an allocation failed; the pairs are dropped.
+    pub fn new(
+        alloc: Global,
+        pool: &Pool,
+        pairs: Vec<Pair>,
+    ) -> Result<Result<Exceptions, PoolFault>, AllocError>
+        ensures there { IfOk result (λ answer. is_ok answer ≡ spec.are_pairs pool.now.pg_num pairs.items) }
+        ensures pairs { IfOk result (λ answer. IfOk answer (λ exceptions. exceptions ≡ pairs.items)) }
+        ensures fault { IfOk result (λ answer. IfErr answer (λ fault. fault ≡ PoolFault.P3)) }
+    {
+        if !are_pairs(pool.parts().pg_num, pairs.as_slice()) {
+            return Ok(Err(PoolFault::P3));
+        }
+        let groups = groups_of(alloc, pairs.as_slice())?;
+        Ok(Ok(Exceptions { pairs, groups }))
+    }
+
+    /// The pairs, in their order.
+    pub fn pairs(&self) -> &[Pair]
+        ensures same { result.now ≡ self.now }
+        ensures valid { spec.are_pairs GROUP_LIMIT self.now ≡ true }
+    {
+        self.pairs.as_slice()
+    }
+
+    /// Whether one of the pairs is of this group.
+    pub fn concern(&self, group: u32) -> bool
+        ensures { result ≡ list_any (spec.is_of_group group) self.now }
+    {
+        self.groups.get(group)
+    }
+
+    /// Whether a pair of a group leads to a device.
+    #[tactic(auto, using(crate::proofs::Pairs::none_lead, crate::proofs::Pairs::targets_have))]
+    pub fn lead_to(&self, group: u32, device: u32) -> bool
+        ensures { result ≡ has_number (spec.targets_of self.now group) device }
+    {
+        self.concern(group) && lead_to(self.pairs.as_slice(), group, device)
+    }
+}
+
+/// The item that is the device with an id.
+fn device_item(device: u32) -> ItemId
+    requires { device ≤ NUMBER_LIMIT }
+    ensures { result ≡ spec.device_item device }
+{
+    ItemId(device as i32)
+}
+
+/// Whether a pair takes effect on a list of slots.
+fn takes_effect(tables: &Tables, weights: &Weights, pair: Pair, slots: &[Slot]) -> bool
+    requires { spec.is_pair GROUP_LIMIT pair ≡ true }
+    ensures { result ≡ spec.takes_effect tables.now weights.now pair slots.now }
+{
+    has(slots, device_item(pair.from))
+        && !has(slots, device_item(pair.to))
+        && weights.get(pair.to) > 0
+        && tables.has_device(pair.to)
+}
+
+/// The place of the first slot that has an item.
+fn place_of(slots: &[Slot], item: ItemId) -> Option<usize>
+    ensures { result ≡ position (slot_has item) slots.now }
+{
+    slots.iter().position(|slot| slot_has(*slot, item))
+}
+
+/// Puts another item into the first slot that has an item.
+#[tactic(auto, using(crate::proofs::Pairs::exchanged_at))]
+fn exchange(slots: &mut [Slot], from: ItemId, to: ItemId)
+    ensures { slots.new ≡ spec.exchanged from to slots.old }
+{
+    if let Some(place) = place_of(slots, from) {
+        slots[place] = Some(to);
+    }
+}
+
+/// Changes a list of slots by a pair, if that takes effect.
+fn apply(tables: &Tables, weights: &Weights, pair: Pair, slots: &mut [Slot])
+    requires { spec.is_pair GROUP_LIMIT pair ≡ true }
+    ensures { slots.new ≡ spec.after_pair tables.now weights.now pair slots.old }
+{
+    if takes_effect(tables, weights, pair, slots) {
+        exchange(slots, device_item(pair.from), device_item(pair.to));
+    }
+}
+
+/// Changes what a rule answered for a group by the pairs of that group, one after the other.
+fn apply_all(tables: &Tables, weights: &Weights, pairs: &[Pair], group: u32, slots: &mut [Slot])
+    requires { spec.are_pairs GROUP_LIMIT pairs.now ≡ true }
+    ensures { slots.new ≡ spec.excepted tables.now weights.now pairs.now group slots.old }
+{
+    for pair in pairs {
+        if pair.group == group {
+            apply(tables, weights, *pair, slots);
+        }
+    }
+}
+
+/// What a rule answered for a group, with the exceptions of that group: at most `SIZE_LIMIT` slots,
+/// in an array of its own. Contracts see the list of them.
+#[derive(Drop)]
+pub struct Excepted {
+    slots: ArrayVec<Slot, SIZE_LIMIT>,
+}
+
+impl Model for Excepted {
+    ghost use Rattle.std.specs.Prelude.{List};
+    ghost use Rattle.crush_choose.specs.Marks.{Slot};
+
+    ghost Value = { List Slot };
+
+    ghost view = { λ a. a.slots.items };
+}
+
+impl Excepted {
+    /// A rule's answer for a group, with the pairs of that group. Allocates nothing.
+    pub(crate) fn new(
+        tables: &Tables,
+        weights: &Weights,
+        exceptions: &Exceptions,
+        group: u32,
+        raw: &[Slot],
+    ) -> Excepted
+        requires { length raw.now ≤ SIZE_LIMIT }
+        ensures { result ≡ spec.excepted tables.now weights.now exceptions.now group raw.now }
+    {
+        let mut slots = ArrayVec::new();
+        for slot in raw {
+            slots.push(*slot);
+        }
+        apply_all(
+            tables,
+            weights,
+            exceptions.pairs(),
+            group,
+            slots.as_mut_slice(),
+        );
+        Excepted { slots }
+    }
+
+    /// The slots, in order.
+    pub fn items(&self) -> &[Slot]
+        ensures value { result.now ≡ self.now }
+        ensures fits { length result.now ≤ SIZE_LIMIT }
+    {
+        self.slots.as_slice()
+    }
+}

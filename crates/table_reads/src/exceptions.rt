@@ -1,0 +1,104 @@
+//! The exceptions of a tenant's pools.
+
+ghost use Rattle.std.specs.Prelude.{◌≡◌, ◌≢◌, ◌⊎◌, ◌↔◌, map, false, IsTrue, IfOk, IfErr, Err};
+ghost use Rattle.std.specs.List.{AllByRecursion};
+ghost use Rattle.sqlite.specs.Held.{state};
+ghost use Rattle.sqlite.specs.State.{HasCleanDisk, Survives};
+ghost use Rattle.sqlite_trees.specs.Tree.{IsAscending};
+ghost use Rattle.table_schema.specs.Layout.{exceptions_table};
+ghost use Rattle.table_schema.specs.Holds.{of_tenant};
+ghost use Rattle.table_schema.specs.Values.{exception_row};
+ghost use Rattle.table_reads.specs.Found.{AreOrderedBy, ListsBy, Precedes, IsExceptionRow};
+ghost use Rattle.table_schema.specs.Ready.{IsReady, Remains};
+
+use crate::ask::ask;
+use crate::read::all_in;
+use sqlite::types::ValueRef;
+use sqlite::{Alter, Connection, Row};
+use std::alloc::{AllocError, Global};
+use table_schema::refuse::Fault;
+use table_schema::values::Exception;
+
+/// The exceptions of the tenant's pools, by pool and place.
+fn exception_rows<S: Alter>(conn: &mut Connection<S>, id: i64) -> Result<Vec<Row>, Fault>
+    requires autocommit { conn.old.in_transaction ≡ false }
+    requires ready { HasCleanDisk (state S.Store conn.old) → IsReady (state S.Store conn.old) }
+    ensures found { HasCleanDisk (state S.Store conn.new) → IfOk result (λ rows. AreOrderedBy Precedes (of_tenant exceptions_table id (state S.Store conn.old).now.trees) rows.items) }
+    ensures remains { HasCleanDisk (state S.Store conn.new) → result ≢ Err Fault.Failed → Remains (state S.Store conn.old) (state S.Store conn.new) }
+    ensures faults { IfErr result (λ fault. (fault ≡ Fault.NoMemory) ⊎ (fault ≡ Fault.Failed)) }
+    ensures survives { Survives (state S.Store conn.old) (state S.Store conn.new) (λ _. ⊥) }
+    ensures ended { conn.new.in_transaction ≡ false }
+{
+    ask(
+        conn,
+        "SELECT pool, place, grp, src, dst FROM exceptions WHERE tenant = ?1 ORDER BY pool, place",
+        &[ValueRef::Int(id)],
+    )
+}
+
+/// Whether an exception comes before another, by its pool and its place there.
+fn comes_before(first: &Exception, second: &Exception) -> bool
+    ensures { IsTrue result ↔ Precedes (exception_row first.now) (exception_row second.now) }
+{
+    if first.pool == second.pool {
+        first.place < second.place
+    } else {
+        first.pool < second.pool
+    }
+}
+
+/// Whether the exceptions stand by pool and place, none twice.
+fn are_placed(list: &[Exception]) -> bool
+    ensures { IsTrue result ↔ IsAscending Precedes (map exception_row list.now) }
+{
+    for place in 1..list.len() {
+        if !comes_before(&list[place - 1], &list[place]) {
+            return false;
+        }
+    }
+    true
+}
+
+/// The exceptions in the rows.
+///
+/// `Err(Fault::Damaged)`: a place of a pool stands twice, or a row is none of this service's.
+fn exceptions_in(alloc: Global, rows: &[Row]) -> Result<Vec<Exception>, Fault>
+    ensures list { IfOk result (λ list. (rows.now ≡ map exception_row list.items) × IsAscending Precedes rows.now) }
+    ensures damaged { result ≡ Err Fault.Damaged → AllByRecursion IsExceptionRow rows.now → ¬ IsAscending Precedes rows.now }
+    ensures faults { IfErr result (λ fault. (fault ≡ Fault.NoMemory) ⊎ (fault ≡ Fault.Damaged)) }
+{
+    let list: Result<Option<Vec<Exception>>, AllocError> = all_in(alloc, rows);
+    match list {
+        Ok(Some(list)) => {
+            if are_placed(&list) {
+                Ok(list)
+            } else {
+                Err(Fault::Damaged)
+            }
+        }
+        Ok(None) => Err(Fault::Damaged),
+        Err(AllocError) => Err(Fault::NoMemory),
+    }
+}
+
+/// The exceptions of the tenant's pools, by pool and place, none twice.
+///
+/// `Err(Fault::Damaged)`: a place of a pool stands twice, or a row is none of this service's.
+/// `Err(Fault::NoMemory)`: nothing is changed.
+pub fn exceptions_of<S: Alter>(
+    alloc: Global,
+    conn: &mut Connection<S>,
+    id: i64,
+) -> Result<Vec<Exception>, Fault>
+    requires autocommit { conn.old.in_transaction ≡ false }
+    requires ready { HasCleanDisk (state S.Store conn.old) → IsReady (state S.Store conn.old) }
+    ensures found { HasCleanDisk (state S.Store conn.new) → IfOk result (λ exceptions. ListsBy Precedes (of_tenant exceptions_table id (state S.Store conn.old).now.trees) (map exception_row exceptions.items)) }
+    ensures damaged { HasCleanDisk (state S.Store conn.new) → result ≡ Err Fault.Damaged → (list : _) → AllByRecursion IsExceptionRow list → ¬ ListsBy Precedes (of_tenant exceptions_table id (state S.Store conn.old).now.trees) list }
+    ensures full { result ≢ Err Fault.Full }
+    ensures remains { HasCleanDisk (state S.Store conn.new) → result ≢ Err Fault.Failed → Remains (state S.Store conn.old) (state S.Store conn.new) }
+    ensures survives { Survives (state S.Store conn.old) (state S.Store conn.new) (λ _. ⊥) }
+    ensures ended { conn.new.in_transaction ≡ false }
+{
+    let rows = exception_rows(conn, id)?;
+    exceptions_in(alloc, &rows)
+}
