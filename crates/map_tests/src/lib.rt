@@ -1,5 +1,5 @@
-//! Tests of `crush_map`, and the builder of drafts, which `kernel_tests` and `text_tests` use too.
-//! They stand apart, so that `crush_map` is proved once.
+//! Tests of `crush_map`, and the builder of drafts, which `kernel_tests`, `choosing_tests` and
+//! `text_tests` use too. They stand apart, so that `crush_map` is proved once.
 #![tactic(auto)]
 
 #[cfg(test)]

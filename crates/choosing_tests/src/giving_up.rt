@@ -3,7 +3,8 @@
 //! which makes every try.
 
 use crate::drafts::{ONE, SOUND, Short, choose, draft, generated};
-use crate::rules::{Example, MAPS, NOTHING, SEVEN, TAKE, ask, three_levels};
+use crate::examples::{Example, NOTHING, SEVEN};
+use crate::rules::{MAPS, TAKE, ask, three_levels};
 use Kind::{List, Tree, Uniform};
 use crush_map::{ItemId, Kind, Step};
 use std::test::Fail;

@@ -1,0 +1,17 @@
+//! Tests of `crush_choose` and `crush_rules`, on maps of drafts. They stand apart, so that these
+//! crates are proved once.
+#![tactic(auto)]
+
+#[cfg(test)]
+mod examples;
+#[cfg(test)]
+mod giving_up;
+#[cfg(test)]
+mod limits;
+#[cfg(test)]
+mod rules;
+#[cfg(test)]
+mod stability;
+
+#[cfg(test)]
+use map_tests::drafts;
