@@ -7,6 +7,8 @@
 #[cfg(test)]
 mod damaged;
 #[cfg(test)]
+mod exceptions;
+#[cfg(test)]
 mod faults;
 #[cfg(test)]
 mod fixed;

@@ -11,7 +11,7 @@ use tenant_messages::Reply;
 use tenant_service::SessionEnd;
 
 /// More calls than a session makes on a disk.
-const MANY: u64 = 2_000;
+pub(crate) const MANY: u64 = 2_000;
 
 const FIRST: &[Row] = &[CREATION_OF_A, IMPORT_BY_A];
 
@@ -33,7 +33,7 @@ const AGAIN_THERE: &[Row] = &[EXISTS, IMPORT_BY_A, SUMMARY];
 const DROP: &[Row] = &[("DELETE", "/t/a", "", 200, "{\"dropped\":\"a\"}")];
 
 /// Whether the replies are those of the rows.
-fn are_of_rows(replies: &[Reply], rows: &[Row]) -> bool {
+pub(crate) fn are_of_rows(replies: &[Reply], rows: &[Row]) -> bool {
     replies.len() == rows.len()
         && replies
             .iter()

@@ -1,0 +1,426 @@
+//! Files of schema 1, whose opening replaces the tables, stopped at each call on the log and on the
+//! database file. Afterwards each tenant's replies are those of before.
+
+use crate::disks::{Disks, Stop, copies_with, crashed, new_files};
+use crate::session::{SALT, closed, left, session};
+use crate::stops::{MANY, are_of_rows};
+use common_tests::imports::{FIRST, import};
+use common_tests::rows::{Row, calls_of, pool};
+use sqlite::{Connection, FileStore, Options};
+use sqlite_disk::{Fuse, Memory};
+use sqlite_value::value::ValueRef;
+use std::alloc::{AllocError, Global};
+use std::process::Abort;
+use std::test::Fail;
+
+type Conn = Connection<FileStore<Fuse<Memory>>>;
+
+// ---- what an earlier program wrote
+
+/// The tables of schema 1, in the order in which they were made.
+const TABLES: [&str; 6] = [
+    "CREATE TABLE schema_info (one INTEGER NOT NULL PRIMARY KEY CHECK (one = 1), version INTEGER NOT NULL) STRICT",
+    "CREATE TABLE tenants (id INTEGER NOT NULL PRIMARY KEY AUTOINCREMENT, name TEXT NOT NULL UNIQUE, epoch INTEGER NOT NULL) STRICT",
+    "CREATE TABLE maps (tenant INTEGER NOT NULL REFERENCES tenants(id) ON DELETE CASCADE, version INTEGER NOT NULL, text TEXT NOT NULL, PRIMARY KEY(tenant, version)) STRICT",
+    "CREATE TABLE devices (tenant INTEGER NOT NULL REFERENCES tenants(id) ON DELETE CASCADE, device INTEGER NOT NULL, reweight INTEGER NOT NULL, up INTEGER NOT NULL, PRIMARY KEY(tenant, device)) STRICT",
+    "CREATE TABLE pools (tenant INTEGER NOT NULL REFERENCES tenants(id) ON DELETE CASCADE, id INTEGER NOT NULL, name TEXT NOT NULL, erasure INTEGER NOT NULL, size INTEGER NOT NULL, rule INTEGER NOT NULL, pg_num INTEGER NOT NULL, pgp_num INTEGER NOT NULL, hashpspool INTEGER NOT NULL, PRIMARY KEY(tenant, id), UNIQUE(tenant, name)) STRICT",
+    "CREATE TABLE receipts (tenant INTEGER NOT NULL REFERENCES tenants(id) ON DELETE CASCADE, request TEXT NOT NULL, path TEXT NOT NULL, body TEXT NOT NULL, status INTEGER NOT NULL, reply TEXT NOT NULL, PRIMARY KEY(tenant, request)) STRICT",
+];
+
+/// Rows with short texts. The tenant a was dropped and made again; d has nothing.
+const SHORT: [&str; 12] = [
+    "INSERT INTO schema_info VALUES (1, 1)",
+    "INSERT INTO tenants (name, epoch) VALUES ('a', 2)",
+    "DELETE FROM tenants WHERE id = 1",
+    "INSERT INTO tenants (name, epoch) VALUES ('b', 2)",
+    "INSERT INTO tenants (name, epoch) VALUES ('a', 2)",
+    "INSERT INTO tenants (name, epoch) VALUES ('c', 4)",
+    "INSERT INTO tenants (name, epoch) VALUES ('d', 0)",
+    // the device 1 of tenant c is down
+    "INSERT INTO devices VALUES (4, 1, 65536, 0)",
+    "INSERT INTO pools VALUES (2, 1, 'p', 0, 1, 0, 8, 8, 1)",
+    "INSERT INTO pools VALUES (3, 1, 'p', 0, 1, 0, 8, 8, 1)",
+    "INSERT INTO pools VALUES (4, 1, 'p', 0, 3, 0, 8, 8, 1)",
+    // and one that is erasure coded
+    "INSERT INTO pools VALUES (4, 2, 'q', 1, 3, 0, 8, 8, 0)",
+];
+
+/// The text of a map in its one form: the device of its bucket and further ones that are in no
+/// bucket, and the steps of its rule.
+macro_rules! text {
+    ($device:literal $($other:literal)*, $($step:literal),*) => {
+        concat!(
+            "# begin crush map\ntunable choose_local_tries 0\ntunable choose_local_fallback_tries 0\ntunable choose_total_tries 50\ntunable chooseleaf_descend_once 1\ntunable chooseleaf_vary_r 1\ntunable chooseleaf_stable 1\n\n# devices\ndevice ",
+            $device,
+            " osd.",
+            $device,
+            "\n",
+            $("device ", $other, " osd.", $other, "\n",)*
+            "\n# types\ntype 0 osd\ntype 1 host\ntype 10 root\n\n# buckets\nroot default {\n\tid -1\n\talg uniform\n\thash 0\n\titem osd.",
+            $device,
+            " weight 1.00000\n}\n\n# rules\nrule all {\n\tid 0\n\ttype replicated\n",
+            $("\tstep ", $step, "\n",)*
+            "}\n\n# end crush map\n"
+        )
+    };
+}
+
+/// The tenants' numbers, and the first version of each.
+const MAPS: [(i64, &str); 3] = [
+    (
+        2,
+        text!(0, "take default", "choose firstn 0 type osd", "emit"),
+    ),
+    (
+        3,
+        text!(7, "take default", "choose firstn 0 type osd", "emit"),
+    ),
+    (
+        4,
+        text!(0 1 2, "take osd.0", "emit", "take osd.1", "emit", "take osd.2", "emit"),
+    ),
+];
+
+/// The import of tenant a.
+const SEVENTH: &str = import!(
+    "m1",
+    7,
+    "uniform",
+    "take default",
+    "choose firstn 0 type osd",
+    "emit"
+);
+
+/// The import of tenant c.
+const THREE: &str = import!(
+    "m1",
+    0 1 2,
+    "uniform",
+    "take osd.0",
+    "emit",
+    "take osd.1",
+    "emit",
+    "take osd.2",
+    "emit"
+);
+
+/// Takes the device 1 down.
+const DOWN: &str = "{\"request\":\"d1\",\"devices\":[{\"id\":1,\"up\":false}]}";
+
+/// A pool that is erasure coded.
+const CODED: &str =
+    "{\"request\":\"p2\",\"id\":2,\"name\":\"q\",\"kind\":\"erasure\",\"size\":3,\"rule\":0,\"pg_num\":8,\"pgp_num\":8,\"hashpspool\":false}";
+
+/// A receipt: the tenant's number, the request's, its path and its body, and the reply.
+type Receipt = (i64, &'static str, &'static str, &'static str, i64, &'static str);
+
+const RECEIPTS: [Receipt; 8] = [
+    (
+        2,
+        "m1",
+        "/t/b/maps",
+        FIRST,
+        201,
+        "{\"epoch\":1,\"version\":1}",
+    ),
+    (
+        2,
+        "p1",
+        "/t/b/pools",
+        pool!(1, 8),
+        201,
+        "{\"epoch\":2,\"pool\":1}",
+    ),
+    (
+        3,
+        "m1",
+        "/t/a/maps",
+        SEVENTH,
+        201,
+        "{\"epoch\":1,\"version\":1}",
+    ),
+    (
+        3,
+        "p1",
+        "/t/a/pools",
+        pool!(1, 8),
+        201,
+        "{\"epoch\":2,\"pool\":1}",
+    ),
+    (
+        4,
+        "m1",
+        "/t/c/maps",
+        THREE,
+        201,
+        "{\"epoch\":1,\"version\":1}",
+    ),
+    (
+        4,
+        "d1",
+        "/t/c/devices",
+        DOWN,
+        200,
+        "{\"devices\":1,\"epoch\":2}",
+    ),
+    (
+        4,
+        "p1",
+        "/t/c/pools",
+        pool!(3, 8),
+        201,
+        "{\"epoch\":3,\"pool\":1}",
+    ),
+    (
+        4,
+        "p2",
+        "/t/c/pools",
+        CODED,
+        201,
+        "{\"epoch\":4,\"pool\":2}",
+    ),
+];
+
+/// Runs a statement.
+fn run(conn: &mut Conn, sql: &str, values: &[ValueRef<'_>]) -> Result<(), Fail> {
+    conn.execute(sql, values)?;
+    Ok(())
+}
+
+/// Makes the tables, and writes the rows.
+fn fill(conn: &mut Conn) -> Result<(), Fail> {
+    for sql in TABLES {
+        run(conn, sql, &[])?;
+    }
+    for sql in SHORT {
+        run(conn, sql, &[])?;
+    }
+    for (tenant, text) in MAPS {
+        let values = [ValueRef::Int(tenant), ValueRef::Text(text.as_bytes())];
+        run(conn, "INSERT INTO maps VALUES (?1, 1, ?2)", &values)?;
+    }
+    for (tenant, request, path, body, status, reply) in RECEIPTS {
+        let values = [
+            ValueRef::Int(tenant),
+            ValueRef::Text(request.as_bytes()),
+            ValueRef::Text(path.as_bytes()),
+            ValueRef::Text(body.as_bytes()),
+            ValueRef::Int(status),
+            ValueRef::Text(reply.as_bytes()),
+        ];
+        run(
+            conn,
+            "INSERT INTO receipts VALUES (?1, ?2, ?3, ?4, ?5, ?6)",
+            &values,
+        )?;
+    }
+    Ok(())
+}
+
+/// A connection to files that can be opened.
+fn connected(alloc: Global, files: Disks) -> Result<Conn, Fail> {
+    if !files.may_be_used() {
+        return Err(Fail::new("a file can't be used"));
+    }
+    match Connection::open_files(alloc, files, Options::new(SALT)) {
+        Ok(conn) => Ok(conn),
+        Err(_) => Err(Fail::new("the files aren't opened")),
+    }
+}
+
+/// Files of schema 1, closed or with all rows in the log.
+fn first_files(alloc: Global, closes: bool) -> Result<Disks, Fail> {
+    let mut conn = connected(alloc, new_files(alloc, Stop::Log(u64::MAX)))?;
+    fill(&mut conn)?;
+    Ok(if closes {
+        closed(conn)
+    } else {
+        left(conn.into_store())
+    })
+}
+
+// ---- what is asked afterwards
+
+/// Requests with the replies that they had before, and then some that change what is stored.
+const REPLIES: [Row; 15] = [
+    (
+        "GET",
+        "/t/b",
+        "",
+        200,
+        "{\"devices\":0,\"epoch\":2,\"pools\":1,\"tenant\":\"b\",\"versions\":1}",
+    ),
+    (
+        "GET",
+        "/t/b/pools/1/groups/0",
+        "",
+        200,
+        "{\"epoch\":2,\"group\":0,\"primary\":0,\"raw\":[0],\"seed\":91478055,\"up\":[0],\"version\":1}",
+    ),
+    (
+        "GET",
+        "/t/b/pools/1/usage",
+        "",
+        200,
+        "{\"epoch\":2,\"pool\":1,\"rows\":[{\"device\":0,\"entries\":8,\"groups\":8,\"permille\":1000,\"primaries\":8}],\"version\":1}",
+    ),
+    (
+        "POST",
+        "/t/b/maps",
+        FIRST,
+        201,
+        "{\"epoch\":1,\"version\":1}",
+    ),
+    (
+        "GET",
+        "/t/a/pools/1/groups/0",
+        "",
+        200,
+        "{\"epoch\":2,\"group\":0,\"primary\":7,\"raw\":[7],\"seed\":91478055,\"up\":[7],\"version\":1}",
+    ),
+    (
+        "POST",
+        "/t/a/maps",
+        FIRST,
+        409,
+        "{\"error\":\"request_reused\"}",
+    ),
+    (
+        "POST",
+        "/t/a/pools",
+        pool!(1, 8),
+        201,
+        "{\"epoch\":2,\"pool\":1}",
+    ),
+    (
+        "GET",
+        "/t/c/pools/1/groups/0",
+        "",
+        200,
+        "{\"epoch\":4,\"group\":0,\"primary\":0,\"raw\":[0,1,2],\"seed\":91478055,\"up\":[0,2],\"version\":1}",
+    ),
+    (
+        "GET",
+        "/t/c/pools/2/groups/0",
+        "",
+        200,
+        "{\"epoch\":4,\"group\":0,\"primary\":0,\"raw\":[0,1,2],\"seed\":2,\"up\":[0,null,2],\"version\":1}",
+    ),
+    (
+        "POST",
+        "/t/c/devices",
+        DOWN,
+        200,
+        "{\"devices\":1,\"epoch\":2}",
+    ),
+    (
+        "GET",
+        "/t/c",
+        "",
+        200,
+        "{\"devices\":1,\"epoch\":4,\"pools\":2,\"tenant\":\"c\",\"versions\":1}",
+    ),
+    (
+        "GET",
+        "/t/d",
+        "",
+        200,
+        "{\"devices\":0,\"epoch\":0,\"pools\":0,\"tenant\":\"d\",\"versions\":0}",
+    ),
+    ("GET", "/t/e", "", 404, "{\"error\":\"no_tenant\"}"),
+    (
+        "POST",
+        "/t/c/pools/remove",
+        "{\"request\":\"r1\",\"id\":1}",
+        200,
+        "{\"epoch\":5,\"removed\":1}",
+    ),
+    (
+        "PUT",
+        "/t/e",
+        "",
+        201,
+        "{\"epoch\":0,\"tenant\":\"e\"}",
+    ),
+];
+
+/// Whether a session without a stop over the files has these replies.
+fn are_as_before(alloc: Global, files: Disks) -> Result<bool, AllocError> {
+    let (end, _) = session(alloc, files, &calls_of(alloc, &REPLIES)?, false)?;
+    Ok(end.is_some_and(|end| are_of_rows(&end.replies, &REPLIES)))
+}
+
+/// The version of the tables in copies of the files.
+fn version_in(alloc: Global, files: &Disks) -> Result<i64, Fail> {
+    let copies = copies_with(alloc, files, Stop::Log(u64::MAX))?;
+    let mut conn = connected(alloc, copies)?;
+    Ok(conn
+        .query_row("SELECT version FROM schema_info", &[])?
+        .get(0)?)
+}
+
+/// An opening of copies of the files with this stop: whether it met none, and the version of the
+/// tables that a crash then leaves.
+fn opening(
+    rt: &impl Abort,
+    alloc: Global,
+    first: &Disks,
+    stop: Stop,
+) -> Result<(bool, i64), Fail> {
+    let files = copies_with(alloc, first, stop)?;
+    let (end, files) = session(alloc, files, &[], false)?;
+    let files = crashed(files);
+    let version = version_in(alloc, &files)?;
+    assert!(rt; are_as_before(alloc, files)?);
+    Ok((end.is_some(), version))
+}
+
+/// Stops an opening of copies of the files at each call on the log, until one meets none: the
+/// tables are replaced at some call, and before it they are those of schema 1.
+fn stop_at_calls_on_the_log(rt: &impl Abort, alloc: Global, first: &Disks) -> Result<(), Fail> {
+    let (mut before, mut after) = (0u64, 0u64);
+    for calls in 0..MANY {
+        let (is_whole, version) = opening(rt, alloc, first, Stop::Log(calls))?;
+        if is_whole {
+            assert!(rt; version == 2 && before > 0 && after > 0, "{before} {after}");
+            return Ok(());
+        }
+        match version {
+            1 => {
+                assert_eq!(rt; after, 0, "schema 1 again after {calls} calls");
+                before += 1;
+            }
+            _ => after += 1,
+        }
+    }
+    Err("each opening met a stop")?
+}
+
+/// The same at each call on the database file.
+fn stop_at_calls_on_the_file(rt: &impl Abort, alloc: Global, first: &Disks) -> Result<(), Fail> {
+    for calls in 0..MANY {
+        let (is_whole, version) = opening(rt, alloc, first, Stop::Database(calls))?;
+        if is_whole {
+            assert_eq!(rt; version, 2);
+            return Ok(());
+        }
+    }
+    Err("each opening met a stop")?
+}
+
+#[test]
+fn a_file_of_schema_1_is_replaced_whole_or_stays(rt: HostRuntime) -> Result<(), Fail> {
+    let first = first_files(rt.alloc(), true)?;
+    assert_eq!(rt; version_in(rt.alloc(), &first)?, 1);
+    stop_at_calls_on_the_log(&rt, rt.alloc(), &first)?;
+    stop_at_calls_on_the_file(&rt, rt.alloc(), &first)
+}
+
+/// The same where all that was written is in the log.
+#[test]
+fn a_log_of_schema_1_is_replaced_whole_or_stays(rt: HostRuntime) -> Result<(), Fail> {
+    let first = first_files(rt.alloc(), false)?;
+    assert_eq!(rt; version_in(rt.alloc(), &first)?, 1);
+    stop_at_calls_on_the_log(&rt, rt.alloc(), &first)?;
+    stop_at_calls_on_the_file(&rt, rt.alloc(), &first)
+}
