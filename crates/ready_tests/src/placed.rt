@@ -15,6 +15,17 @@ use tenant_service::{MemoryStore, Service};
 
 type Store = ReadyStore<MemoryStore>;
 
+/// The body of an import of a map with two devices, of which the first alone is in its bucket.
+const IMPORT_OF_TWO: &str =
+    "{\"request\":\"m1\",\"text\":\"tunable choose_local_tries 0\\ntunable choose_local_fallback_tries 0\\ntunable choose_total_tries 50\\ntunable chooseleaf_descend_once 1\\ntunable chooseleaf_vary_r 1\\ntunable chooseleaf_stable 1\\ndevice 0 osd.0\\ndevice 1 osd.1\\ntype 0 osd\\ntype 1 host\\ntype 10 root\\nroot default {\\n id -1\\n alg uniform\\n hash 0\\n item osd.0 weight 1.0\\n}\\nrule all {\\n id 0\\n type replicated\\n step take default\\n step choose firstn 0 type osd\\n step emit\\n}\\n\"}";
+
+/// The body that gives group 3 of the pool device 1 in place of device 0, and no other exception.
+const EXCEPTED: &str =
+    "{\"request\":\"e1\",\"id\":1,\"exceptions\":[{\"from\":0,\"group\":3,\"to\":1}]}";
+
+/// The body that leaves the pool no exception.
+const NOT_EXCEPTED: &str = "{\"request\":\"e2\",\"id\":1,\"exceptions\":[]}";
+
 /// A store that keeps all tenants ready, and so many placements.
 fn store_for(rt: &impl Abort, alloc: Global, placements: usize) -> Result<Store, AllocError> {
     ReadyStore::over(
@@ -115,6 +126,66 @@ fn after_a_change_of_states_groups_are_placed_anew(rt: HostRuntime) -> Result<()
     assert_on(&rt, &placed(&rt, &mut store, "a", 3), 0, true);
     let mut store = after(&rt, alloc, store, "POST", "/t/a/devices", DOWN)?;
     assert_on(&rt, &placed(&rt, &mut store, "a", 3), 0, false);
+    Ok(())
+}
+
+/// The placement that the store has at hand of a group of a tenant's pool, which is asked for three
+/// times: the first two requests place the group, and the third finds what the second kept.
+fn kept(rt: &impl Abort, store: &mut Store, tenant: &str, group: u64) -> Rc<Placement> {
+    let first = placed(rt, store, tenant, group);
+    let second = placed(rt, store, tenant, group);
+    let third = placed(rt, store, tenant, group);
+    assert_eq!(rt; first.up.as_slice(), third.up.as_slice());
+    assert!(rt; Rc::ptr_eq(&second, &third));
+    third
+}
+
+/// Asserts that a placement has this device in place of device 0, which the rule answers.
+fn assert_led_to(rt: &impl Abort, placement: &Placement, device: i32) {
+    let own: Slot = Some(ItemId(0));
+    let slot: Slot = Some(ItemId(device));
+    assert_eq!(rt; placement.raw.as_slice(), [own].as_slice());
+    assert_eq!(rt; placement.up.as_slice(), [slot].as_slice());
+    assert_eq!(rt; placement.primary, slot);
+}
+
+/// A store, which keeps what tenants have or shares it with the one below, with two tenants that
+/// have the same map and the same pool.
+fn store_of_two(rt: &impl Abort, alloc: Global, shares: bool) -> Result<Store, AllocError> {
+    let mut store = if shares {
+        ReadyStore::over_memory(alloc, MemoryStore::new(alloc), room_for(rt, 1_024))?
+    } else {
+        store_for(rt, alloc, 1_024)?
+    };
+    for tenant in ["a", "b"] {
+        let path = format!(in alloc; "/t/{tenant}")?;
+        let maps = format!(in alloc; "/t/{tenant}/maps")?;
+        let pools = format!(in alloc; "/t/{tenant}/pools")?;
+        store = after(rt, alloc, store, "PUT", path.as_str(), "")?;
+        store = after(rt, alloc, store, "POST", maps.as_str(), IMPORT_OF_TWO)?;
+        store = after(rt, alloc, store, "POST", pools.as_str(), POOL)?;
+    }
+    Ok(store)
+}
+
+/// Other groups, and the same pool of another tenant, keep their placements; with no exception left
+/// the placement that was kept before is found again.
+#[test]
+fn after_a_change_of_exceptions_groups_are_placed_anew(rt: HostRuntime) -> Result<(), Fail> {
+    let alloc = rt.alloc();
+    for shares in [false, true] {
+        let mut store = store_of_two(&rt, alloc, shares)?;
+        let before = kept(&rt, &mut store, "a", 3);
+        assert_led_to(&rt, &before, 0);
+        let mut store = after(&rt, alloc, store, "POST", "/t/a/pools/exceptions", EXCEPTED)?;
+        assert_led_to(&rt, &kept(&rt, &mut store, "a", 3), 1);
+        assert_led_to(&rt, &kept(&rt, &mut store, "a", 4), 0);
+        assert!(rt; Rc::ptr_eq(&before, &placed(&rt, &mut store, "b", 3)));
+        let mut store = after(&rt, alloc, store, "POST", "/t/a/pools/exceptions", NOT_EXCEPTED)?;
+        let again = kept(&rt, &mut store, "a", 3);
+        assert_led_to(&rt, &again, 0);
+        assert!(rt; Rc::ptr_eq(&before, &again));
+    }
     Ok(())
 }
 

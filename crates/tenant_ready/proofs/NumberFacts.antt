@@ -7,12 +7,11 @@ use Rattle.crush_map.specs.declared.draft.Rule.{Rule}
 use Rattle.crush_pool.specs.Placements.{placement, rule_numbered}
 use Rattle.crush_pool.specs.Placers.{PoolOnMap}
 use Rattle.crush_pool.specs.declared.placing.Placement.{Placement}
-use Rattle.crush_pool.specs.declared.pool.PoolParts.{PoolParts}
 use Rattle.crush_cache.specs.Caches.{KeepsNumbers, Numbered}
 use Rattle.crush_cache.specs.Contents.{content_of}
 use Rattle.tenant_messages.specs.declared.reply.Problem.TheVariants.{NoRule}
 use Rattle.tenant_resources.specs.Groups.{on_map}
-use Rattle.tenant_state.specs.State.{Inventory, TenantState, if_there, newest, on_newest, pool, version}
+use Rattle.tenant_state.specs.State.{Inventory, TenantPool, TenantState, if_there, newest, on_newest, pool, version}
 use Rattle.tenant_core.specs.Queries.{AsksFor, IsPlacedFor}
 use Rattle.tenant_core.specs.States.{HasInventory, Same, States}
 use Rattle.tenant_core.specs.declared.queries.Query.{Query}
@@ -30,11 +29,11 @@ found-passes test (y ∷ ys) x h = at (test y) refl (found-passes test ys x) h
     at true is rest h = let same : y ≡ x = cc in subst (λ z. test z ≡ true) same is
     at false is rest h = rest h
 
-own : (id : ℕ) (i : Inventory) (p : PoolParts) → pool id i ≡ Some p → pool p.id i ≡ Some p
-own id i p h = subst (λ n. pool n i ≡ Some p) (sym (eqb-true p.id id (found-passes (λ q. q.id == id) i.pools p h))) h
+own : (id : ℕ) (i : Inventory) (p : TenantPool) → pool id i ≡ Some p → pool p.parts.id i ≡ Some p
+own id i p h = subst (λ n. pool n i ≡ Some p) (sym (eqb-true p.parts.id id (found-passes (λ q. q.parts.id == id) i.pools p h))) h
 
 -- it is the one with its id
-pub asked_pool : (query : Query) (i : Inventory) (p : PoolParts) (group : ℕ) → AsksFor query i p group → pool p.id i ≡ Some p
+pub asked_pool : (query : Query) (i : Inventory) (p : TenantPool) (group : ℕ) → AsksFor query i p group → pool p.parts.id i ≡ Some p
 asked_pool (Group id g) i p group asks = own id i p asks.0
 asked_pool (Object id name) i p group asks = own id i p asks.0
 asked_pool (Version v) i p group asks = absurd asks
@@ -46,21 +45,21 @@ asked_pool (Test test) i p group asks = absurd asks
 
 -- ---- a pool on the newest version
 
-ruled : (m : Map) (i : Inventory) (q : PoolParts) (p : PoolOnMap) (o : Option Rule)
-    → ok_or (option_map (λ rule. record { map = m; states = i.devices; pool = q }) o) NoRule ≡ Ok p → p ≡ record { map = m; states = i.devices; pool = q }
+ruled : (m : Map) (i : Inventory) (q : TenantPool) (p : PoolOnMap) (o : Option Rule)
+    → ok_or (option_map (λ rule. record { map = m; states = i.devices; pool = q.parts; pairs = q.pairs }) o) NoRule ≡ Ok p → p ≡ record { map = m; states = i.devices; pool = q.parts; pairs = q.pairs }
 ruled m i q p None h = cc
-ruled m i q p (Some r) h = let same : Ok p ≡ Ok (record { map = m; states = i.devices; pool = q }) = sym h in cc
+ruled m i q p (Some r) h = let same : Ok p ≡ Ok (record { map = m; states = i.devices; pool = q.parts; pairs = q.pairs }) = sym h in cc
 
-pub on_newest_is : (i : Inventory) (q : PoolParts) (m : Map) (p : PoolOnMap) → version (newest i) i ≡ Some m → on_newest i q ≡ Ok p → p ≡ record { map = m; states = i.devices; pool = q }
-on_newest_is i q m p there h = ruled m i q p (rule_numbered m q.rule) (sym (ap (if_there i q) there) ∙ h)
+pub on_newest_is : (i : Inventory) (q : TenantPool) (m : Map) (p : PoolOnMap) → version (newest i) i ≡ Some m → on_newest i q ≡ Ok p → p ≡ record { map = m; states = i.devices; pool = q.parts; pairs = q.pairs }
+on_newest_is i q m p there h = ruled m i q p (rule_numbered m q.parts.rule) (sym (ap (if_there i q) there) ∙ h)
 
 -- the placement of a group by its rule is the one that the query asks for
-pub is_placed : (query : Query) (i : Inventory) (q : PoolParts) (p : PoolOnMap) (group : ℕ) (answer : Placement) → on_newest i q ≡ Ok p → placement p.map p.states p.pool group ≡ Some answer
-    → group < q.pg_num → AsksFor query i q group → IsPlacedFor query i group answer
+pub is_placed : (query : Query) (i : Inventory) (q : TenantPool) (p : PoolOnMap) (group : ℕ) (answer : Placement) → on_newest i q ≡ Ok p → placement p.map p.states p.pool p.pairs group ≡ Some answer
+    → group < q.parts.pg_num → AsksFor query i q group → IsPlacedFor query i group answer
 is_placed query i q p group answer on by_rule below asks = (
   q,
   asks,
-  let inside : nat_lt group q.pg_num ≡ true = grind (arith, nat_tests, below) in rw inside (ap (on_map group) on ∙ ap (λ o. ok_or o NoRule) by_rule),
+  let inside : nat_lt group q.parts.pg_num ≡ true = grind (arith, nat_tests, below) in rw inside (ap (on_map group) on ∙ ap (λ o. ok_or o NoRule) by_rule),
 )
 
 -- ---- numbers stay known
@@ -72,7 +71,7 @@ known_later old new kept keeps known name r at id n q here found p is = keeps n 
 pub no_numbers : (cache : Numbered) (r : Ready) → r.numbers ≡ [] → AreNumbersOf cache r
 no_numbers cache r none id n q here found = absurd (Contains-nil (id, n) (subst (λ es. Contains es (id, n)) none here))
 
-pub with_number : (cache : Numbered) (r next : Ready) (p : PoolParts) (n : ℕ) → AreNumbersOf cache r → pool p.id r.inventory ≡ Some p → HasNumber cache r.inventory p n → IsWithNumber r p.id n next
+pub with_number : (cache : Numbered) (r next : Ready) (p : TenantPool) (n : ℕ) → AreNumbersOf cache r → pool p.parts.id r.inventory ≡ Some p → HasNumber cache r.inventory p n → IsWithNumber r p.parts.id n next
     → AreNumbersOf cache next
 with_number cache r next p n known there given is id m q here found =
     let was : pool id r.inventory ≡ Some q = subst (λ i. pool id i ≡ Some q) is.inventory found in
@@ -142,13 +141,13 @@ true_renumbered states cache old new name r true_before has renumbers u s at = e
   | inr mine ↦ subst (λ i. HasInventory states u (Some i)) (sym mine.1) (subst (λ t. HasInventory states t (Some r.inventory)) (sym mine.0) has)
 ]
 
-pub renumbered : (was cache : Numbered) (old new : Kept) (name : List ℕ) (r : Ready) (q p : PoolParts) (n : ℕ) → q ≡ p → KeepsNumbers was cache → AreNumbersOf was r → pool p.id r.inventory ≡ Some p → HasNumber cache r.inventory p n
-    → ((u : List ℕ) (s : Ready) → kept_at new u ≡ Some s → (kept_at old u ≡ Some s) ⊎ ((u ≡ name) × IsWithNumber r q.id n s)) → Renumbers name r cache old new
-renumbered was cache old new name r q p n same keeps known there given beside u s at = elim (beside u s at) [
+pub renumbered : (was cache : Numbered) (old new : Kept) (name : List ℕ) (r : Ready) (p : TenantPool) (n : ℕ) → KeepsNumbers was cache → AreNumbersOf was r → pool p.parts.id r.inventory ≡ Some p → HasNumber cache r.inventory p n
+    → ((u : List ℕ) (s : Ready) → kept_at new u ≡ Some s → (kept_at old u ≡ Some s) ⊎ ((u ≡ name) × IsWithNumber r p.parts.id n s)) → Renumbers name r cache old new
+renumbered was cache old new name r p n keeps known there given beside u s at = elim (beside u s at) [
   | inl before ↦ inl before
   | inr mine ↦ inr (
     mine.0,
     mine.1.inventory,
-    with_number cache r s p n (λ id m q here found o is. keeps m (content_of o) (known id m q here found o is)) there given (subst (λ (z : PoolParts). IsWithNumber r z.id n s) same mine.1),
+    with_number cache r s p n (λ id m q here found o is. keeps m (content_of o) (known id m q here found o is)) there given mine.1,
   )
 ]

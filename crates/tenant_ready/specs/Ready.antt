@@ -3,9 +3,8 @@ use Rattle.std.specs.Prelude.{◌≡◌, ◌⊎◌, ℕ, List, Contains, Ok, Som
 use Rattle.crush_cache.specs.Caches.{Numbered, WasNumberOf}
 use Rattle.crush_cache.specs.Contents.{content_of}
 use Rattle.crush_pool.specs.Placers.{PoolOnMap}
-use Rattle.crush_pool.specs.declared.pool.PoolParts.{PoolParts}
 use Rattle.tenant_ready.specs.Kept.{Kept, Ready, kept_at}
-use Rattle.tenant_state.specs.State.{Inventory, on_newest, pool}
+use Rattle.tenant_state.specs.State.{Inventory, TenantPool, on_newest, pool}
 use Rattle.tenant_core.specs.States.{HasInventory, States}
 
 -- each inventory that is kept is that of its name
@@ -13,13 +12,13 @@ abbrev pub AreTrue : States → Kept → Type 0
 AreTrue states kept = (name : List ℕ) (r : Ready) → kept_at kept name ≡ Some r → HasInventory states name (Some r.inventory)
 
 -- a cache gave this number to the content of this pool on the newest version, if there is one
-abbrev pub HasNumber : Numbered → Inventory → PoolParts → ℕ → Type 0
+abbrev pub HasNumber : Numbered → Inventory → TenantPool → ℕ → Type 0
 HasNumber cache inventory q n = (p : PoolOnMap) → on_newest inventory q ≡ Ok p → WasNumberOf cache n (content_of p)
 
 -- each number that is kept beside what a tenant has is that of its pool
 abbrev pub AreNumbersOf : Numbered → Ready → Type 0
 AreNumbersOf cache r =
-    (id n : ℕ) (q : PoolParts) → Contains r.numbers (id, n) → pool id r.inventory ≡ Some q → HasNumber cache r.inventory q n
+    (id n : ℕ) (q : TenantPool) → Contains r.numbers (id, n) → pool id r.inventory ≡ Some q → HasNumber cache r.inventory q n
 
 abbrev pub AreKnown : Numbered → Kept → Type 0
 AreKnown cache kept = (name : List ℕ) (r : Ready) → kept_at kept name ≡ Some r → AreNumbersOf cache r

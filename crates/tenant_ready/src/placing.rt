@@ -10,16 +10,15 @@ ghost use Rattle.tenant_state.specs.State.{pool as pool_at};
 use crate::kept::Kept;
 use crate::ready::Ready;
 use crush_cache::PlacementCache;
-use crush_pool::Pool;
 use std::alloc::Global;
 use std::rc::Rc;
 use tenant_core::{Placed, Query};
-use tenant_state::Inventory;
+use tenant_state::{Inventory, TenantPool};
 
 /// The number that is kept beside what a tenant has for the content of a pool, while that content
 /// is still in the cache.
-fn number_beside(cache: &PlacementCache, ready: &Ready, pool: &Pool) -> Option<u64>
-    ensures number { IfSome result (λ n. Contains ready.now.numbers (pool.now.id, n)) }
+fn number_beside(cache: &PlacementCache, ready: &Ready, pool: &TenantPool) -> Option<u64>
+    ensures number { IfSome result (λ n. Contains ready.now.numbers (pool.now.parts.id, n)) }
     ensures there { IfSome result (λ n. cache.now.first ≤ n) }
 {
     let number = ready.number_of(pool.parts().id)?;
@@ -31,8 +30,12 @@ fn number_beside(cache: &PlacementCache, ready: &Ready, pool: &Pool) -> Option<u
 }
 
 /// A number for the content of a pool of what a tenant has, on the newest version.
-fn give_number(cache: &mut PlacementCache, inventory: &Inventory, pool: &Rc<Pool>) -> Option<u64>
-    ensures number { IfSome result (λ n. HasNumber cache.new inventory.now pool.now.value n) }
+fn give_number(
+    cache: &mut PlacementCache,
+    inventory: &Inventory,
+    pool: &TenantPool,
+) -> Option<u64>
+    ensures number { IfSome result (λ n. HasNumber cache.new inventory.now pool.now n) }
     ensures there { IfSome result (λ n. cache.new.first ≤ n) }
     ensures kept { KeepsNumbers cache.old cache.new }
 {
@@ -44,8 +47,15 @@ fn give_number(cache: &mut PlacementCache, inventory: &Inventory, pool: &Rc<Pool
 }
 
 /// Keeps a number for the content of a pool beside what a tenant has, where there is memory for it.
-fn keep_number(alloc: Global, kept: &mut Kept, name: &str, ready: &Ready, pool: &Pool, number: u64)
-    ensures { (u : List ℕ) (r : _) → kept_at kept.new u ≡ Some r → (kept_at kept.old u ≡ Some r) ⊎ ((u ≡ name.now) × IsWithNumber ready.now pool.now.id number r) }
+fn keep_number(
+    alloc: Global,
+    kept: &mut Kept,
+    name: &str,
+    ready: &Ready,
+    pool: &TenantPool,
+    number: u64,
+)
+    ensures { (u : List ℕ) (r : _) → kept_at kept.new u ≡ Some r → (kept_at kept.old u ≡ Some r) ⊎ ((u ≡ name.now) × IsWithNumber ready.now pool.now.parts.id number r) }
 {
     let Ok(next) = ready.with_number(alloc, pool.parts().id, number) else {
         return;
@@ -67,11 +77,11 @@ pub(crate) fn number_for(
     kept: &mut Kept,
     name: &str,
     ready: &Ready,
-    pool: &Rc<Pool>,
+    pool: &TenantPool,
 ) -> Option<u64>
     requires known { AreNumbersOf cache.old ready.now }
-    requires there { pool_at pool.now.value.id ready.now.inventory ≡ Some pool.now.value }
-    ensures number { IfSome result (λ n. HasNumber cache.new ready.now.inventory pool.now.value n) }
+    requires there { pool_at pool.now.parts.id ready.now.inventory ≡ Some pool.now }
+    ensures number { IfSome result (λ n. HasNumber cache.new ready.now.inventory pool.now n) }
     ensures live { IfSome result (λ n. cache.new.first ≤ n) }
     ensures keeps { KeepsNumbers cache.old cache.new }
     ensures beside { Renumbers name.now ready.now cache.new kept.old kept.new }
@@ -89,12 +99,12 @@ pub(crate) fn place(
     cache: &mut PlacementCache,
     number: u64,
     inventory: &Rc<Inventory>,
-    pool: &Pool,
+    pool: &TenantPool,
     group: u32,
 ) -> Option<Placed>
     requires number { HasNumber cache.old inventory.now.value pool.now number }
     requires live { cache.old.first ≤ number }
-    requires there { group < pool.now.pg_num }
+    requires there { group < pool.now.parts.pg_num }
     ensures inventory { IfSome result (λ r. r.inventory.value ≡ inventory.now.value) }
     ensures placed { IfSome result (λ r. (query : _) → AsksFor query inventory.now.value pool.now group → IsPlacedFor query r.inventory.value r.group r.placement.value) }
     ensures same { cache.new ≡ cache.old }

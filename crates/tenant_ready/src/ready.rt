@@ -5,6 +5,7 @@ ghost use Rattle.std.specs.Prelude.{◌≡◌};
 use std::alloc::{AllocError, Global};
 use std::marker::Model;
 use std::rc::Rc;
+use tenant_state::limits::RECEIPT_LIMIT;
 use tenant_state::{Change, Inventory};
 
 /// The most numbers that are kept beside what a tenant has. They take 16 bytes each, which the
@@ -29,10 +30,10 @@ impl Model for Ready {
 }
 
 impl Ready {
-    ghost use Rattle.std.specs.Prelude.{◌≡◌, ◌<◌, ◌-◌, ◌^◌, [], Contains, IfOk, IfSome, min};
+    ghost use Rattle.std.specs.Prelude.{◌≡◌, ◌<◌, ◌-◌, ◌^◌, ◌&&◌, [], Contains, IfOk, IfSome, min, nat_lt, true};
     ghost use Rattle.tenant_ready.specs.Ready.{IsWithNumber};
     ghost use Rattle.tenant_state.specs.Size.{size};
-    ghost use Rattle.tenant_state.specs.State.{inventory_after};
+    ghost use Rattle.tenant_state.specs.State.{inventory_after, suits};
     ghost use Rattle.tenant_state.specs.declared.limits.TheConstants.{RECEIPT_LIMIT};
 
     /// What a tenant has, with no number. Allocates nothing.
@@ -83,10 +84,19 @@ impl Ready {
         })
     }
 
-    /// What the tenant has after a change, with no number: its contents are others.
-    /// `Err(AllocError)`: an allocation failed; nothing is changed.
+    /// Whether what the tenant has can take a change: there is room for one more receipt, and what
+    /// is made suits what is there. Takes time linear in the number of exceptions of the change.
+    pub fn can_take(&self, change: &Change) -> bool
+        ensures { result ≡ (nat_lt self.now.inventory.epoch RECEIPT_LIMIT && suits change.now.made self.now.inventory) }
+    {
+        self.inventory.epoch() < RECEIPT_LIMIT as u64 && self.inventory.suits(&change.made)
+    }
+
+    /// What the tenant has after a change that it can take, with no number: its contents are
+    /// others. `Err(AllocError)`: an allocation failed; nothing is changed.
     pub fn after(&self, alloc: Global, change: &Change) -> Result<Rc<Ready>, AllocError>
-        requires { self.now.inventory.epoch < RECEIPT_LIMIT }
+        requires room { self.now.inventory.epoch < RECEIPT_LIMIT }
+        requires suits { suits change.now.made self.now.inventory ≡ true }
         ensures { IfOk result (λ r. r.value ≡ record { inventory = inventory_after change.now self.now.inventory; numbers = [] }) }
     {
         let inventory = Rc::new(alloc, self.inventory.after(alloc, change)?)?;

@@ -15,7 +15,6 @@ use std::marker::Model;
 use std::num::NonZeroUsize;
 use std::rc::Rc;
 use tenant_core::{Placed, Query, StoreFault, TenantStore};
-use tenant_state::limits::RECEIPT_LIMIT;
 use tenant_state::{Change, Inventory, Receipt};
 
 /// A store over another one, which keeps in memory what the tenants that were used last have, and
@@ -204,7 +203,7 @@ impl<T: TenantStore> TenantStore for ReadyStore<T> {
             return self.commit_shared(name, change);
         }
         match self.kept.get(name)? {
-            Some(ready) if ready.inventory().epoch() < RECEIPT_LIMIT as u64 => {
+            Some(ready) if ready.can_take(change) => {
                 // all that needs memory is made before the change
                 let next = ready.after(self.alloc, change)?;
                 let key = String::from_str(self.alloc, name)?;

@@ -14,7 +14,7 @@ returns c u r at = elim (c.put.ensures.only u r at) [
       let same : c.in-Ok.next ≡ r = sym c.in-Ok-new.ensures.ok ∙ some_is c.in-Ok-new.next.value r mine.1 in
       inr (
         mine.0 ∙ c.in-Ok-from_str.ensures.ok,
-        subst (IsWithNumber c.args.ready.now c.args.pool.now.id c.args.number) same (subst (λ (p : PoolParts). IsWithNumber c.args.ready.now p.id c.args.number c.in-Ok.next) c.parts.ensures.same c.in-Ok.ensures),
+        subst (IsWithNumber c.args.ready.now c.args.pool.now.parts.id c.args.number) same (subst (λ (p : PoolParts). IsWithNumber c.args.ready.now p.id c.args.number c.in-Ok.next) c.parts.ensures c.in-Ok.ensures),
       )
   | inr others ↦ inl others.1
 ]

@@ -30,8 +30,8 @@ number_for-requires-clause-known g c =
 pub number_for-requires-clause-there : goal.number_for-requires-clause-there
 number_for-requires-clause-there g c =
     let inventory = c.deref-2.ensures ∙ c.inventory.ensures ∙ ap (λ (r : Ready). r.inventory) (c.deref.ensures ∙ sym c.deref-3.ensures) in
-    subst (λ i. pool c.in_ok-pool.pool.now.value.id i ≡ Some c.in_ok-pool.pool.now.value) inventory
-    (asked_pool c.args.query.now c.deref-2.result.now c.in_ok-pool.pool.now.value c.in_ok-pool.group c.in_ok-pool.ensures.asked)
+    subst (λ i. pool c.in_ok-pool.pool.now.parts.id i ≡ Some c.in_ok-pool.pool.now) inventory
+    (asked_pool c.args.query.now c.deref-2.result.now c.in_ok-pool.pool.now c.in_ok-pool.group c.in_ok-pool.ensures.asked)
 
 -- beside the name there may be other numbers, which are known too
 pub invariant_of-self-in_err-number : goal.invariant_of-self-in_err-number
@@ -50,8 +50,7 @@ invariant_of-self-in_err-number g c =
 pub place-requires-clause-number : goal.place-requires-clause-number
 place-requires-clause-number g c =
     let inventory = ap (λ (r : Ready). r.inventory) (c.deref-3.ensures ∙ sym c.deref-4.ensures) ∙ sym c.inventory-2.ensures in
-    subst (λ q. HasNumber c.number_for.new.cache c.inventory-2.result.now.value q c.in_ok-number.number) (sym c.deref-5.ensures)
-    (subst (λ i. HasNumber c.number_for.new.cache i c.in_ok-pool.pool.now.value c.in_ok-number.number) inventory c.in_ok-number.ensures.number)
+    subst (λ i. HasNumber c.number_for.new.cache i c.in_ok-pool.pool.now c.in_ok-number.number) inventory c.in_ok-number.ensures.number
 
 pub invariant_of-self-2 : goal.invariant_of-self-2
 invariant_of-self-2 g c =
