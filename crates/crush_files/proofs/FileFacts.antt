@@ -9,13 +9,12 @@ use Rattle.sqlite.specs.Effect.{Database}
 use Rattle.sqlite.specs.Files.{file_state}
 use Rattle.sqlite.specs.Held.{Held}
 use Rattle.tenant_core.specs.States.{States, Same}
-use Rattle.tenant_rows.specs.Rows.{StandsFor}
+use Rattle.tenant_rows.specs.Rows.{StandsFor, StatesIn}
 use Rattle.table_schema.specs.Ready.{IsReady}
 use Rattle.crush_app.specs.Play.{Plays, PlaysUpTo, WritesHeadline}
 use Rattle.crush_app.specs.Script.{OfScript, messages}
 use Rattle.crush_app.proofs.Inputs.{of_script}
 use Rattle.tenant_files.specs.Opened.{IsFound, IsPlayed}
-use Rattle.tenant_files.specs.Stored.{StatesIn}
 use Rattle.tenant_files.proofs.StoredFacts.{left_states}
 use Rattle.crush_files.proofs.PlayFacts.{plays_same, cut_weaker, headline_same}
 

@@ -13,8 +13,7 @@ ghost use Rattle.sqlite.specs.Held.{Held};
 ghost use Rattle.sqlite.specs.State.{HasCleanDisk};
 ghost use Rattle.sqlite_store.specs.declared.store.FileStore.{FileStore};
 ghost use Rattle.sqlite_wal.specs.Reads.{AreClean};
-ghost use Rattle.tenant_rows.specs.Rows.{StandsFor};
-ghost use Rattle.tenant_files.specs.Stored.{StatesIn};
+ghost use Rattle.tenant_rows.specs.Rows.{StandsFor, StatesIn};
 
 use crate::on_tables::script_on_tables;
 use crush_app::ScriptEnd;

@@ -9,11 +9,10 @@ use Rattle.sqlite.specs.Effect.{Database}
 use Rattle.sqlite.specs.Files.{file_state, over_files}
 use Rattle.sqlite.specs.Held.{Held}
 use Rattle.tenant_core.specs.States.{States, Same}
-use Rattle.tenant_rows.specs.Rows.{StandsFor}
+use Rattle.tenant_rows.specs.Rows.{StandsFor, StatesIn}
 use Rattle.tenant_store.specs.Shown.{IsHonest, HasState}
 use Rattle.table_schema.specs.Ready.{IsReady}
 use Rattle.tenant_files.specs.Opened.{IsFound, IsPlayed}
-use Rattle.tenant_files.specs.Stored.{StatesIn}
 use Rattle.tenant_files.proofs.StoredFacts.{left_states}
 use Rattle.tenant_files.proofs.TableFacts.{of_rows}
 use Rattle.crush_server.specs.Served.{ServesCalls}

@@ -7,8 +7,7 @@ ghost use Rattle.sqlite.specs.Held.{Held};
 ghost use Rattle.sqlite.specs.State.{HasCleanDisk};
 ghost use Rattle.sqlite_store.specs.declared.store.FileStore.{FileStore};
 ghost use Rattle.sqlite_wal.specs.Reads.{AreClean};
-ghost use Rattle.tenant_rows.specs.Rows.{StandsFor};
-ghost use Rattle.tenant_files.specs.Stored.{StatesIn};
+ghost use Rattle.tenant_rows.specs.Rows.{StandsFor, StatesIn};
 ghost use Rattle.crush_server.specs.Served.{ServesCalls};
 
 use crate::connections::serve_connections;

@@ -8,7 +8,7 @@ use Rattle.sqlite.specs.Files.{file_state, IsOpened}
 use Rattle.sqlite.specs.Held.{Held}
 use Rattle.sqlite.specs.Start.{FindsIn}
 use Rattle.tenant_core.specs.States.{States, Same}
-use Rattle.tenant_files.specs.Stored.{StatesIn}
+use Rattle.tenant_rows.specs.Rows.{StatesIn}
 
 -- an opening found the database that the two files held, and its tenants have these states
 pub record IsFound {D : Type 0} (g : disk.Ghosts D) (image : Image) (states : States) : Type 0 where

@@ -14,7 +14,6 @@ use sqlite_disk::{Disk, Files, Start};
 use sqlite_std_file::FileFrom;
 use std::rt::HostRuntime;
 use tenant_core::StoreFault;
-use tenant_rows::laws::names_stand_for_one_state;
 use tenant_store::Store;
 
 /// How many bytes of what tenants have are kept in memory: 256 MiB. That is hundreds of tenants
@@ -38,12 +37,13 @@ fn let_go<S: Start>(rt: &HostRuntime, before: &Option<LogBefore>, files: Files<F
     drop(files);
 }
 
-/// Opens the tables in the file at a path. A file that is missing or empty becomes a new database.
-/// `S` stands for what the file and its log hold; no clause ties them to the path.
+/// Opens the tables in the file at a path. A file that is missing or empty becomes a new database,
+/// and tables of schema 1 are replaced by those of schema 2, for the same states. `S` stands for
+/// what the file and its log hold; no clause ties them to the path.
 ///
 /// `Err(FileFault::Store)`: the file can't be opened, or isn't a database with the tables of this
-/// service; it is then as it was. `Err(FileFault::NoMemory)`: an allocation failed; no row is
-/// changed, and the tables may have been made.
+/// service; it is then as it was. `Err(FileFault::NoMemory)`: an allocation failed; the tables may
+/// have been made, or those of schema 1 replaced, whole, for the same states.
 pub fn open_store<S: Start>(
     rt: &HostRuntime,
     path: &str,
@@ -54,7 +54,6 @@ pub fn open_store<S: Start>(
     // The rows stand for the states that the files held.
     ensures found { IfOk result (λ store. HasCleanDisk (file_state store.0) → IsFound ⟦<FileFrom<S> as Disk>⟧ (image_at S.Start) (StandsFor (file_state store.0).now.trees)) }
 {
-    names_stand_for_one_state();
     let before = log_before(rt, path);
     let conn = match Connection::open_from(rt, path, false, start) {
         Ok(conn) => conn,

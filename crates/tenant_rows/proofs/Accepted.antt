@@ -4,13 +4,13 @@ use Rattle.std.proofs.lemmas.Int.{to_z-of_z}
 use mir.Val.{SFits}
 use mir.Syntax.{w64}
 use Rattle.sqlite_trees.specs.Tree.{Trees}
-use Rattle.tenant_state.specs.State.{Change}
+use Rattle.tenant_state.specs.State.{Change, Made}
 use Rattle.tenant_state.specs.declared.receipts.Receipt as state
 use Rattle.table_writes.specs.Change.{Accepts, IsNumber}
 use Rattle.table_schema.specs.Values.{receipt_row}
 use Rattle.table_schema.specs.Holds.{TenantRows}
 use Rattle.table_schema.specs.declared.values.Receipt.{Receipt}
-use Rattle.tenant_rows.specs.Commits.{rows_with_made}
+use Rattle.tenant_rows.specs.Commits.{HasPoolsFor, rows_with_made}
 use Rattle.tenant_rows.specs.Rows.{row_of_receipt}
 
 abbrev pub word : ℤ → ℤ
@@ -21,6 +21,9 @@ word_is = to_z-of_z w64
 
 pub number_of : (db : Trees) (id : ℤ) → SFits w64 id → IsNumber db id → IsNumber db (word id)
 number_of db id fits is = subst (IsNumber db) (sym (word_is id fits)) is
+
+pub pools_of : (db : Trees) (id : ℤ) (made : Made) → SFits w64 id → HasPoolsFor db id made → HasPoolsFor db (word id) made
+pools_of db id made fits has = subst (λ n. HasPoolsFor db n made) (sym (word_is id fits)) has
 
 -- what follows of an accepted write, with the words of the numbers, follows with the numbers
 pub accepted : (F : (Trees → Type 0) → Type 0) (id epoch : ℤ) (receipt : Receipt) (old : Trees) (made write : TenantRows → TenantRows) → SFits w64 id → SFits w64 epoch → made ≡ write

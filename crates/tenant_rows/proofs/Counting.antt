@@ -6,8 +6,7 @@ use Rattle.std.proofs.lemmas.List.{length-map}
 use Rattle.sqlite_value.specs.Order.{Row}
 use Rattle.crush_map.specs.Map.{Map}
 use Rattle.crush_pool.specs.Placements.{rule_numbered}
-use Rattle.crush_pool.specs.declared.pool.PoolParts.{PoolParts}
-use Rattle.tenant_state.specs.State.{Inventory, have_rules, newest, version}
+use Rattle.tenant_state.specs.State.{Inventory, TenantPool, have_rules, newest, version}
 
 pub any_map : {X Y : Type 0} (test : X → Bool) (of : Y → X) (ys : List Y) → list_any test (map of ys) ≡ list_any (λ y. test (of y)) ys
 any_map test of [] = refl
@@ -19,14 +18,14 @@ all_map test of (y ∷ ys) = ap (λ b. test (of y) && b) (all_map test of ys)
 
 -- ---- the rules of pools in the newest version
 
-rules_in : List PoolParts → Option Map → Bool
-rules_in pools found = list_all (λ p. is_some (option_and_then (λ m. rule_numbered m p.rule) found)) pools
+rules_in : List TenantPool → Option Map → Bool
+rules_in pools found = list_all (λ p. is_some (option_and_then (λ m. rule_numbered m p.parts.rule) found)) pools
 
-pub rules_on_some : (i : Inventory) (m : Map) → Some m ≡ version (newest i) i → list_all (λ p. is_some (rule_numbered m p.rule)) i.pools ≡ have_rules i
+pub rules_on_some : (i : Inventory) (m : Map) → Some m ≡ version (newest i) i → list_all (λ p. is_some (rule_numbered m p.parts.rule)) i.pools ≡ have_rules i
 unfolding rules_in
 rules_on_some i m is = ap (rules_in i.pools) is
 
-none_of : (pools : List PoolParts) → (length pools == 0) ≡ list_all (λ p. false) pools
+none_of : (pools : List TenantPool) → (length pools == 0) ≡ list_all (λ p. false) pools
 none_of [] = refl
 none_of (p ∷ pools) = differs (length (p ∷ pools)) (omega arith)
   where

@@ -1,9 +1,14 @@
 pub mod Accepted
 pub mod Counting
+pub mod Keyed
 pub mod Listed
+pub mod Migrated
 pub mod OneState
 pub mod Orders
 pub mod Pages
+pub mod PairCommits
+pub mod PairRows
+pub mod PairWrites
 pub mod Reading
 pub mod Turns
 pub mod Whole

@@ -6,19 +6,20 @@ use Rattle.sqlite_trees.specs.Tree.{Trees}
 use Rattle.crush_map.specs.Map.{Map, IsMap}
 use Rattle.crush_writing.specs.Canonical.{canonical}
 use Rattle.tenant_state.specs.State.{Inventory}
-use Rattle.table_schema.specs.Values.{state_row}
-use Rattle.table_reads.specs.Found.{Lists, IsVersionRow, IsStateRow, IsPoolRow, version_values, pool_values}
+use Rattle.table_schema.specs.Values.{state_row, exception_row}
+use Rattle.table_reads.specs.Found.{Lists, ListsBy, Precedes, IsVersionRow, IsStateRow, IsPoolRow, IsExceptionRow, version_values, pool_values}
 use Rattle.table_schema.specs.Holds.{of_tenant}
-use Rattle.table_schema.specs.Layout.{maps_table, devices_table, pools_table}
+use Rattle.table_schema.specs.Layout.{maps_table, devices_table, pools_table, exceptions_table}
 use Rattle.table_schema.specs.declared.refuse.Fault.{Fault}
 use Rattle.table_schema.specs.declared.refuse.Fault.TheVariants.{Failed}
 use Rattle.table_reads.specs.declared.rows.PoolRow.{PoolRow}
 use Rattle.table_reads.specs.declared.rows.VersionRow.{VersionRow}
+use Rattle.table_schema.specs.declared.values.Exception.{Exception}
 use Rattle.table_schema.specs.declared.values.State.{State}
 use Rattle.tenant_rows.specs.Changes.{HasRows}
 use Rattle.tenant_rows.specs.Lists.{IsOfState, AreRowsOf}
-use Rattle.tenant_rows.specs.Rows.{rows_of_versions, row_of_state, row_of_pool}
-use Rattle.tenant_rows.proofs.Orders.{one_order, versions_rise, states_rise, pools_rise, are_versions, are_states, are_pools}
+use Rattle.tenant_rows.specs.Rows.{rows_of_versions, row_of_state, row_of_pool, rows_of_exceptions}
+use Rattle.tenant_rows.proofs.Orders.{one_order, one_placed, versions_rise, states_rise, pools_rise, exceptions_rise, are_versions, are_states, are_pools, are_exceptions}
 
 -- ---- calls that change no row
 
@@ -48,6 +49,9 @@ module _ (db : Trees) (id epoch : ℤ) (i : Inventory) (is : IsOfState i) (has :
   pools_listed : Lists (of_tenant pools_table id db) (map row_of_pool i.pools)
   pools_listed = record { same = has.pools; rising = pools_rise i.pools is.has.pool_order }
 
+  exceptions_listed : ListsBy Precedes (of_tenant exceptions_table id db) (rows_of_exceptions i.pools)
+  exceptions_listed = record { same = has.exceptions; rising = exceptions_rise i.pools is.has.pool_order }
+
   -- so no query of its tables is refused
   pub not_versions : ((m : Map) → IsMap m → IsUtf8 (canonical m)) → ((list : _) → AllByRecursion IsVersionRow list → ¬ Lists (of_tenant maps_table id db) list) → ⊥
   not_versions utf8 none = none (rows_of_versions 1 i.versions) (are_versions utf8 1 i.versions is.has.maps) versions_listed
@@ -58,23 +62,30 @@ module _ (db : Trees) (id epoch : ℤ) (i : Inventory) (is : IsOfState i) (has :
   pub not_pools : ((list : _) → AllByRecursion IsPoolRow list → ¬ Lists (of_tenant pools_table id db) list) → ⊥
   not_pools none = none (map row_of_pool i.pools) (are_pools i.pools is.has.pools) pools_listed
 
+  pub not_exceptions : ((list : _) → AllByRecursion IsExceptionRow list → ¬ ListsBy Precedes (of_tenant exceptions_table id db) list) → ⊥
+  not_exceptions none = none (rows_of_exceptions i.pools) (are_exceptions i.pools) exceptions_listed
+
   -- and what the queries list are its rows
-  pub are_its_rows : (versions : List VersionRow) (states : List State) (pools : List PoolRow) → Lists (of_tenant maps_table id db) (map version_values versions)
-      → Lists (of_tenant devices_table id db) (map state_row states) → Lists (of_tenant pools_table id db) (map pool_values pools) → AreRowsOf i epoch versions states pools
-  are_its_rows versions states pools v d p = record {
+  pub are_its_rows : (versions : List VersionRow) (states : List State) (pools : List PoolRow) (exceptions : List Exception) → Lists (of_tenant maps_table id db) (map version_values versions)
+      → Lists (of_tenant devices_table id db) (map state_row states) → Lists (of_tenant pools_table id db) (map pool_values pools)
+      → ListsBy Precedes (of_tenant exceptions_table id db) (map exception_row exceptions) → AreRowsOf i epoch versions states pools exceptions
+  are_its_rows versions states pools exceptions v d p e = record {
     epoch_is = has.epoch_is;
     versions_are = one_order _ _ _ v.rising versions_listed.rising v.same versions_listed.same;
     states_are = one_order _ _ _ d.rising states_listed.rising d.same states_listed.same;
     pools_are = one_order _ _ _ p.rising pools_listed.rising p.same pools_listed.same;
+    exceptions_are = one_placed _ _ _ e.rising exceptions_listed.rising e.same exceptions_listed.same;
   }
 
 -- ---- what has the listed rows is the tenant's
 
-pub has_rows_listed : (db : Trees) (id epoch : ℤ) (i : Inventory) (versions : List VersionRow) (states : List State) (pools : List PoolRow) → Lists (of_tenant maps_table id db) (map version_values versions)
-    → Lists (of_tenant devices_table id db) (map state_row states) → Lists (of_tenant pools_table id db) (map pool_values pools) → AreRowsOf i epoch versions states pools → HasRows db id epoch i
-has_rows_listed db id epoch i versions states pools v d p are = record {
+pub has_rows_listed : (db : Trees) (id epoch : ℤ) (i : Inventory) (versions : List VersionRow) (states : List State) (pools : List PoolRow) (exceptions : List Exception) → Lists (of_tenant maps_table id db) (map version_values versions)
+    → Lists (of_tenant devices_table id db) (map state_row states) → Lists (of_tenant pools_table id db) (map pool_values pools)
+    → ListsBy Precedes (of_tenant exceptions_table id db) (map exception_row exceptions) → AreRowsOf i epoch versions states pools exceptions → HasRows db id epoch i
+has_rows_listed db id epoch i versions states pools exceptions v d p e are = record {
   epoch_is = are.epoch_is;
   versions = subst (IsPermutation (of_tenant maps_table id db)) are.versions_are v.same;
   devices = subst (IsPermutation (of_tenant devices_table id db)) are.states_are d.same;
   pools = subst (IsPermutation (of_tenant pools_table id db)) are.pools_are p.same;
+  exceptions = subst (IsPermutation (of_tenant exceptions_table id db)) are.exceptions_are e.same;
 }

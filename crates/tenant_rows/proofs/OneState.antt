@@ -10,14 +10,16 @@ use Rattle.crush_text.specs.Reading.{map_of_stored_text}
 use Rattle.tenant_state.specs.State.{Inventory, TenantState}
 use Rattle.tenant_state.specs.Valid.{IsInventory}
 use Rattle.table_schema.specs.Holds.{IsTenant, of_tenant}
-use Rattle.table_schema.specs.Layout.{maps_table, devices_table, pools_table, receipts_table}
+use Rattle.table_schema.specs.Layout.{maps_table, devices_table, pools_table, receipts_table, exceptions_table}
 use Rattle.table_reads.specs.declared.rows.VersionRow.{VersionRow}
 use Rattle.table_reads.specs.declared.rows.PoolRow.{PoolRow}
+use Rattle.table_schema.specs.declared.values.Exception.{Exception}
 use Rattle.table_schema.specs.declared.values.State.{State}
 use Rattle.tenant_rows.specs.Lists.{AreRowsOf}
-use Rattle.tenant_rows.specs.Rows.{rows_of_versions, row_of_state, row_of_pool, row_of_receipt, StandsFor}
-use Rattle.tenant_rows.proofs.Orders.{one_order, versions_rise, states_rise, pools_rise, receipts_rise}
-use Rattle.tenant_rows.proofs.Reading.{same_list, same_state, same_pool, same_receipt, same_versions}
+use Rattle.tenant_rows.specs.Rows.{rows_of_versions, row_of_state, row_of_pool, rows_of_exceptions, row_of_receipt, StandsFor}
+use Rattle.tenant_rows.proofs.Orders.{one_order, one_placed, versions_rise, states_rise, pools_rise, exceptions_rise, receipts_rise}
+use Rattle.tenant_rows.proofs.Reading.{same_list, same_state, same_receipt, same_versions}
+use Rattle.tenant_rows.proofs.PairRows.{same_pools_alone}
 
 -- a map is read back from its canonical text, so each has its own
 pub own_text : ((m : Map) → IsMap m → map_of_stored_text (canonical m) ≡ Ok m) → (m n : Map) → IsMap m → IsMap n → canonical m ≡ canonical n → m ≡ n
@@ -28,12 +30,12 @@ own_text back m n is other same = inside m n (sym (back m is) ∙ (ap map_of_sto
 
 -- ---- what a tenant has
 
-pub one_inventory : ((m : Map) → IsMap m → map_of_stored_text (canonical m) ≡ Ok m) → (i j : Inventory) (epoch : ℤ) (versions : List VersionRow) (states : List State) (pools : List PoolRow) → IsInventory i → IsInventory j
-    → AreRowsOf i epoch versions states pools → AreRowsOf j epoch versions states pools → i ≡ j
-one_inventory back i j epoch versions states pools is other these those =
+pub one_inventory : ((m : Map) → IsMap m → map_of_stored_text (canonical m) ≡ Ok m) → (i j : Inventory) (epoch : ℤ) (versions : List VersionRow) (states : List State) (pools : List PoolRow) (exceptions : List Exception) → IsInventory i → IsInventory j
+    → AreRowsOf i epoch versions states pools exceptions → AreRowsOf j epoch versions states pools exceptions → i ≡ j
+one_inventory back i j epoch versions states pools exceptions is other these those =
     let maps = same_versions (own_text back) 1 i.versions j.versions is.maps other.maps (sym these.versions_are ∙ those.versions_are) in
     let devices = same_list row_of_state same_state i.devices j.devices (sym these.states_are ∙ those.states_are) in
-    let others = same_list row_of_pool same_pool i.pools j.pools (sym these.pools_are ∙ those.pools_are) in
+    let others = same_pools_alone i.pools j.pools (sym these.pools_are ∙ those.pools_are) (sym these.exceptions_are ∙ those.exceptions_are) in
     let both : pos i.epoch ≡ pos j.epoch = sym these.epoch_is ∙ those.epoch_is in
     let number : i.epoch ≡ j.epoch = cc in
     λ k. record { versions = maps k; devices = devices k; pools = others k; epoch = number k }
@@ -68,10 +70,12 @@ one_state back db name (Some s) (Some t) this that =
     (subst (λ n. IsPermutation (of_tenant devices_table n db) (map row_of_state s.devices)) id this.1.devices) that.1.devices in
     let rows_p = one_order (of_tenant pools_table that.1.id db) (map row_of_pool s.pools) (map row_of_pool t.pools) (pools_rise s.pools is.has.pool_order) (pools_rise t.pools other.has.pool_order)
     (subst (λ n. IsPermutation (of_tenant pools_table n db) (map row_of_pool s.pools)) id this.1.pools) that.1.pools in
+    let rows_e = one_placed (of_tenant exceptions_table that.1.id db) (rows_of_exceptions s.pools) (rows_of_exceptions t.pools) (exceptions_rise s.pools is.has.pool_order) (exceptions_rise t.pools other.has.pool_order)
+    (subst (λ n. IsPermutation (of_tenant exceptions_table n db) (rows_of_exceptions s.pools)) id this.1.exceptions) that.1.exceptions in
     let rows_r = one_order (of_tenant receipts_table that.1.id db) (map row_of_receipt s.receipts) (map row_of_receipt t.receipts) (receipts_rise s.receipts is.receipt_order) (receipts_rise t.receipts other.receipt_order)
     (subst (λ n. IsPermutation (of_tenant receipts_table n db) (map row_of_receipt s.receipts)) id this.1.receipts) that.1.receipts in
     let versions = same_versions (own_text back) 1 s.versions t.versions is.has.maps other.has.maps rows_v in
     let devices = same_list row_of_state same_state s.devices t.devices rows_d in
-    let pools = same_list row_of_pool same_pool s.pools t.pools rows_p in
+    let pools = same_pools_alone s.pools t.pools rows_p rows_e in
     let receipts = same_list row_of_receipt same_receipt s.receipts t.receipts rows_r in
     λ k. Some (record { versions = versions k; devices = devices k; pools = pools k; receipts = receipts k })

@@ -1,5 +1,5 @@
 -- Which lists of parts have given rows.
-use Rattle.std.proofs.Common.{◌≡◌, ◌≢◌, if◌then◌else◌, ℕ, suc, ◌+◌, List, [], ◌∷◌, ◌++◌, length, map, Bool, true, false, ◌&&◌, arith, refl, sym, ap, ap₂, ◌∙◌}
+use Rattle.std.proofs.Common.{◌≡◌, ◌≢◌, if◌then◌else◌, ℕ, ℤ, suc, ◌+◌, List, [], ◌∷◌, ◌++◌, length, map, Bool, true, false, ◌&&◌, arith, refl, sym, ap, ap₂, ◌∙◌}
 use Rattle.std.specs.List.{All, list_all}
 use Rattle.std.specs.Prelude.{Option, Some, None}
 use Rattle.std.proofs.lemmas.List.{map_push}
@@ -16,7 +16,7 @@ use Rattle.tenant_state.specs.Ordered.{is_ascending, if_ascending}
 use Rattle.tenant_state.specs.declared.receipts.Receipt.{Receipt}
 use Rattle.table_reads.specs.Found.{version_values}
 use Rattle.table_reads.specs.declared.rows.VersionRow.{VersionRow}
-use Rattle.tenant_rows.specs.Rows.{flag, row_of_version, rows_of_versions, row_of_state, row_of_pool, row_of_receipt}
+use Rattle.tenant_rows.specs.Rows.{flag, row_of_version, rows_of_versions, row_of_state, row_with_count, row_of_receipt}
 
 -- ---- lists
 
@@ -28,10 +28,10 @@ pub second : (a b : Bool) → (a && b) ≡ true → b ≡ true
 second true b h = h
 second false b h = cc
 
-heads : {A : Type 0} (x y : A) (xs ys : List A) → x ∷ xs ≡ y ∷ ys → x ≡ y
+pub heads : {A : Type 0} (x y : A) (xs ys : List A) → x ∷ xs ≡ y ∷ ys → x ≡ y
 heads x y xs ys h = cc
 
-tails : {A : Type 0} (x y : A) (xs ys : List A) → x ∷ xs ≡ y ∷ ys → xs ≡ ys
+pub tails : {A : Type 0} (x y : A) (xs ys : List A) → x ∷ xs ≡ y ∷ ys → xs ≡ ys
 tails x y xs ys h = cc
 
 pub push_front : {A : Type 0} (xs : List A) (x : A) (ys : List A) → (xs ++ x ∷ []) ++ ys ≡ xs ++ x ∷ ys
@@ -96,8 +96,8 @@ same_state s t h =
     let up = same_flag s.up t.up cc in
     λ i. record { device = device i; reweight = reweight i; up = up i }
 
-pub same_pool : (p q : PoolParts) → row_of_pool p ≡ row_of_pool q → p ≡ q
-same_pool p q h =
+pub same_settings : (p q : PoolParts) (m n : ℤ) → row_with_count p m ≡ row_with_count q n → p ≡ q
+same_settings p q m n h =
     let id : p.id ≡ q.id = cc in
     let name : p.name ≡ q.name = cc in
     let erasure = same_flag p.erasure q.erasure cc in

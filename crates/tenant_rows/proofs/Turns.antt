@@ -12,7 +12,7 @@ use Rattle.tenant_state.proofs.Leaving.{fresh_is_state}
 use Rattle.tenant_state.specs.State.{TenantState, epoch, fresh}
 use Rattle.table_writes.specs.Change.{Creates, Drops}
 use Rattle.table_schema.specs.Holds as tables
-use Rattle.table_schema.specs.Layout.{maps_table, devices_table, pools_table, receipts_table, tables_of_tenants}
+use Rattle.table_schema.specs.Layout.{maps_table, devices_table, pools_table, receipts_table, exceptions_table, tables_of_tenants}
 use Rattle.tenant_rows.specs.Changes.{Turns}
 use Rattle.tenant_rows.specs.Rows.{StandsFor}
 
@@ -22,8 +22,8 @@ use Rattle.tenant_rows.specs.Rows.{StandsFor}
 back : (name : List ℕ) (old new : Trees) → tables.KeepsRowsOf name old new → tables.KeepsRowsOf name new old
 back name old new kept = record {
   tenants = sym kept.tenants;
-  tables = λ row there. all_weaker (λ (t : Table). tables.rows_with 1 (column row 0) (new t.tree) ≡ tables.rows_with 1 (column row 0) (old t.tree))
-      (λ (t : Table). tables.rows_with 1 (column row 0) (old t.tree) ≡ tables.rows_with 1 (column row 0) (new t.tree)) (λ t same. sym same) tables_of_tenants
+  tables = λ row there. all_weaker (λ (t : Table). tables.rows_with 1 (column row 0) (tables.rows_in t new) ≡ tables.rows_with 1 (column row 0) (tables.rows_in t old))
+      (λ (t : Table). tables.rows_with 1 (column row 0) (tables.rows_in t old) ≡ tables.rows_with 1 (column row 0) (tables.rows_in t new)) (λ t same. sym same) tables_of_tenants
       (kept.tables row (subst (λ l. Has l row) kept.tenants there));
 }
 
@@ -31,7 +31,7 @@ held : (name : List ℕ) (rows : tables.TenantRows) (old new : Trees) → tables
 held name rows old new kept had =
     let row = had.tenant.row in
     let there : Has (tables.tenants_of old name) row = subst (λ l. Has l row) (sym had.tenant.one) (inl refl) in
-    let same = subst (λ v. AllByRecursion (λ (t : Table). tables.rows_with 1 v (new t.tree) ≡ tables.rows_with 1 v (old t.tree)) tables_of_tenants) had.tenant.number (kept.tables row there) in
+    let same = subst (λ v. AllByRecursion (λ (t : Table). tables.rows_with 1 v (tables.rows_in t new) ≡ tables.rows_with 1 v (tables.rows_in t old)) tables_of_tenants) had.tenant.number (kept.tables row there) in
     record {
       id = had.id;
       tenant = record { row = row; one = kept.tenants ∙ had.tenant.one; number = had.tenant.number; epoch_is = had.tenant.epoch_is };
@@ -39,9 +39,10 @@ held name rows old new kept had =
       devices = moved devices_table had.id old new rows.devices same.1.0 had.devices;
       pools = moved pools_table had.id old new rows.pools same.1.1.0 had.pools;
       receipts = moved receipts_table had.id old new rows.receipts same.1.1.1.0 had.receipts;
+      exceptions = moved exceptions_table had.id old new rows.exceptions same.1.1.1.1.0 had.exceptions;
     }
   where
-    moved : (table : Table) (id : ℤ) (old new : Trees) (list : List Row) → tables.rows_with 1 (Int id) (new table.tree) ≡ tables.rows_with 1 (Int id) (old table.tree)
+    moved : (table : Table) (id : ℤ) (old new : Trees) (list : List Row) → tables.rows_with 1 (Int id) (tables.rows_in table new) ≡ tables.rows_with 1 (Int id) (tables.rows_in table old)
         → IsPermutation (tables.of_tenant table id old) list → IsPermutation (tables.of_tenant table id new) list
     moved table id old new list same perm = subst (λ all. IsPermutation (map (tables.values_of table) all) list) (sym same) perm
 

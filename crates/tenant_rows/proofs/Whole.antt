@@ -12,15 +12,16 @@ use Rattle.tenant_state.specs.Valid.{IsState, is_receipt}
 use Rattle.tenant_state.specs.declared.limits.TheConstants.{RECEIPT_LIMIT}
 use Rattle.table_reads.specs.Found.{Names, receipt_values}
 use Rattle.table_schema.specs.Holds.{IsTenant, of_tenant}
-use Rattle.table_schema.specs.Layout.{maps_table, devices_table, pools_table, receipts_table}
+use Rattle.table_schema.specs.Layout.{maps_table, devices_table, pools_table, receipts_table, exceptions_table}
 use Rattle.table_reads.specs.declared.find.Tenant.{Tenant}
 use Rattle.table_reads.specs.declared.rows.PoolRow.{PoolRow}
 use Rattle.table_reads.specs.declared.rows.ReceiptRow.{ReceiptRow}
 use Rattle.table_reads.specs.declared.rows.VersionRow.{VersionRow}
+use Rattle.table_schema.specs.declared.values.Exception.{Exception}
 use Rattle.table_schema.specs.declared.values.State.{State}
 use Rattle.tenant_rows.specs.Changes.{HasRows, HasReceipts}
 use Rattle.tenant_rows.specs.Lists.{IsOfState, AreRowsOf, AreRowsOfState}
-use Rattle.tenant_rows.specs.Rows.{rows_of_versions, row_of_state, row_of_pool, row_of_receipt, StandsFor}
+use Rattle.tenant_rows.specs.Rows.{rows_of_versions, row_of_state, row_of_pool, rows_of_exceptions, row_of_receipt, StandsFor}
 use Rattle.tenant_rows.proofs.OneState.{one_row, some_row, int_is}
 
 -- ---- states and what they have
@@ -57,14 +58,15 @@ is_state_of i receipts is count ranges order = record {
 }
 
 -- the lists of rows of the whole state
-pub are_rows_of_state : (i : Inventory) (receipts : Receipts) (epoch : ℤ) (versions : List VersionRow) (states : List State) (pools : List PoolRow) (rows : List ReceiptRow) → i.epoch ≡ length receipts
-    → AreRowsOf i epoch versions states pools → map receipt_values rows ≡ map row_of_receipt receipts → AreRowsOfState (with_receipts i receipts) epoch versions states pools rows
-are_rows_of_state i receipts epoch versions states pools rows count are read = record {
+pub are_rows_of_state : (i : Inventory) (receipts : Receipts) (epoch : ℤ) (versions : List VersionRow) (states : List State) (pools : List PoolRow) (exceptions : List Exception) (rows : List ReceiptRow) → i.epoch ≡ length receipts
+    → AreRowsOf i epoch versions states pools exceptions → map receipt_values rows ≡ map row_of_receipt receipts → AreRowsOfState (with_receipts i receipts) epoch versions states pools exceptions rows
+are_rows_of_state i receipts epoch versions states pools exceptions rows count are read = record {
   has = record {
     epoch_is = are.epoch_is ∙ ap pos count;
     versions_are = are.versions_are;
     states_are = are.states_are;
     pools_are = are.pools_are;
+    exceptions_are = are.exceptions_are;
   };
   receipts_are = read;
 }
@@ -84,6 +86,7 @@ stands db name id i receipts tenant is rows those =
         devices = rows.devices;
         pools = rows.pools;
         receipts = those.rows;
+        exceptions = rows.exceptions;
       },
     )
 
@@ -119,6 +122,7 @@ has_rows db name tenant s named those =
       versions = subst (λ n. IsPermutation (of_tenant maps_table n db) (rows_of_versions 1 s.versions)) id those.1.maps;
       devices = subst (λ n. IsPermutation (of_tenant devices_table n db) (map row_of_state s.devices)) id those.1.devices;
       pools = subst (λ n. IsPermutation (of_tenant pools_table n db) (map row_of_pool s.pools)) id those.1.pools;
+      exceptions = subst (λ n. IsPermutation (of_tenant exceptions_table n db) (rows_of_exceptions s.pools)) id those.1.exceptions;
     }
 
 pub has_receipts : (db : Trees) (name : List ℕ) (tenant : Tenant) (s : TenantState) → Names db name (Some tenant) → StandsFor db name (Some s) → HasReceipts db tenant.id tenant.epoch s.receipts

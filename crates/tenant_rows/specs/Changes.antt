@@ -6,11 +6,11 @@ use Rattle.tenant_state.specs.Ordered.{is_ascending}
 use Rattle.tenant_state.specs.Receipts.{Receipts, is_before}
 use Rattle.tenant_state.specs.State.{CanMake, Change, Inventory, TenantState}
 use Rattle.tenant_state.specs.Valid.{is_receipt}
-use Rattle.table_schema.specs.Layout.{maps_table, devices_table, pools_table, receipts_table}
+use Rattle.table_schema.specs.Layout.{maps_table, devices_table, pools_table, receipts_table, exceptions_table}
 use Rattle.table_reads.specs.Found.{Names}
 use Rattle.table_schema.specs.Holds.{of_tenant}
 use Rattle.table_reads.specs.declared.find.Tenant.{Tenant}
-use Rattle.tenant_rows.specs.Rows.{rows_of_versions, row_of_state, row_of_pool, row_of_receipt, StandsFor}
+use Rattle.tenant_rows.specs.Rows.{rows_of_versions, row_of_state, row_of_pool, rows_of_exceptions, row_of_receipt, StandsFor}
 
 -- the name stands for this state, and each other name for what it stood for
 pub record Turns (name : List ℕ) (s : Option TenantState) (old new : Trees) : Type 0 where
@@ -23,6 +23,7 @@ pub record HasRows (db : Trees) (id epoch : ℤ) (i : Inventory) : Type 0 where
   pub versions : IsPermutation (of_tenant maps_table id db) (rows_of_versions 1 i.versions)
   pub devices : IsPermutation (of_tenant devices_table id db) (map row_of_state i.devices)
   pub pools : IsPermutation (of_tenant pools_table id db) (map row_of_pool i.pools)
+  pub exceptions : IsPermutation (of_tenant exceptions_table id db) (rows_of_exceptions i.pools)
 
 -- the tenant with the number has these receipts, and its epoch is their number
 pub record HasReceipts (db : Trees) (id epoch : ℤ) (receipts : Receipts) : Type 0 where

@@ -3,13 +3,14 @@ use Rattle.std.specs.Prelude.{ℤ, pos, ◌≡◌, ◌≤◌, List, length, map,
 use Rattle.tenant_state.specs.State.{Inventory, TenantState, have_rules, inventory_of}
 use Rattle.tenant_state.specs.Valid.{IsInventory, are_named_once}
 use Rattle.tenant_state.specs.declared.limits.TheConstants.{POOL_LIMIT, RECEIPT_LIMIT, VERSION_LIMIT}
-use Rattle.table_schema.specs.Values.{state_row}
+use Rattle.table_schema.specs.Values.{state_row, exception_row}
 use Rattle.table_reads.specs.Found.{version_values, pool_values, receipt_values}
 use Rattle.table_reads.specs.declared.rows.VersionRow.{VersionRow}
 use Rattle.table_reads.specs.declared.rows.PoolRow.{PoolRow}
 use Rattle.table_reads.specs.declared.rows.ReceiptRow.{ReceiptRow}
+use Rattle.table_schema.specs.declared.values.Exception.{Exception}
 use Rattle.table_schema.specs.declared.values.State.{State}
-use Rattle.tenant_rows.specs.Rows.{rows_of_versions, row_of_state, row_of_pool, row_of_receipt}
+use Rattle.tenant_rows.specs.Rows.{rows_of_versions, row_of_state, row_of_pool, rows_of_exceptions, row_of_receipt}
 
 -- it is what some state has: in its ranges and orders, within the limits, with a name for each pool
 -- and with each pool's rule in the newest version
@@ -22,13 +23,14 @@ pub record IsOfState (i : Inventory) : Type 0 where
   pub rules : have_rules i ≡ true
 
 -- the epoch and the rows are those of what a tenant has, in its order
-pub record AreRowsOf (i : Inventory) (epoch : ℤ) (versions : List VersionRow) (states : List State) (pools : List PoolRow) : Type 0 where
+pub record AreRowsOf (i : Inventory) (epoch : ℤ) (versions : List VersionRow) (states : List State) (pools : List PoolRow) (exceptions : List Exception) : Type 0 where
   pub epoch_is : epoch ≡ pos i.epoch
   pub versions_are : map version_values versions ≡ rows_of_versions 1 i.versions
   pub states_are : map state_row states ≡ map row_of_state i.devices
   pub pools_are : map pool_values pools ≡ map row_of_pool i.pools
+  pub exceptions_are : map exception_row exceptions ≡ rows_of_exceptions i.pools
 
 -- the epoch and the rows are those of a state, in its order
-pub record AreRowsOfState (s : TenantState) (epoch : ℤ) (versions : List VersionRow) (states : List State) (pools : List PoolRow) (receipts : List ReceiptRow) : Type 0 where
-  pub has : AreRowsOf (inventory_of s) epoch versions states pools
+pub record AreRowsOfState (s : TenantState) (epoch : ℤ) (versions : List VersionRow) (states : List State) (pools : List PoolRow) (exceptions : List Exception) (receipts : List ReceiptRow) : Type 0 where
+  pub has : AreRowsOf (inventory_of s) epoch versions states pools exceptions
   pub receipts_are : map receipt_values receipts ≡ map row_of_receipt s.receipts

@@ -1,25 +1,31 @@
 //! Accepted changes of tenants, written to the tables.
 
-ghost use Rattle.std.specs.Prelude.{◌≡◌, ◌≢◌, ◌↔◌, ◌+◌, ◌<◌, ◌≤◌, ◌^◌, ℕ, pos, List, Some, None, map, true, false, IfOk, IfSome, OnOk, OnErr, Err};
+ghost use Rattle.std.specs.Prelude.{◌≡◌, ◌≢◌, ◌↔◌, ◌+◌, ◌<◌, ◌≤◌, ◌^◌, ◌++◌, ℕ, pos, List, [], ◌∷◌, take, length, Some, None, map, true, false, IfOk, IfSome, OnOk, OnErr, Err};
 ghost use Rattle.sqlite.specs.Held.{state};
+ghost use Rattle.sqlite_rules.specs.Lists.{Has};
+ghost use Rattle.sqlite_value.specs.Order.{Row, column};
+ghost use Rattle.sqlite_value.specs.declared.value.Value.TheVariants.{Int};
 ghost use Rattle.sqlite.specs.State.{HasCleanDisk, Survives};
 ghost use Rattle.tenant_messages.specs.Reply.{success_status};
 ghost use Rattle.tenant_state.specs.Made.{made_of};
-ghost use Rattle.tenant_state.specs.State.{TenantState, after};
+ghost use Rattle.tenant_state.specs.State.{NewExceptions, TenantState, after};
+ghost use Rattle.crush_pool.specs.declared.limits.TheConstants.{PAIR_LIMIT};
+ghost use Rattle.table_reads.specs.Found as read;
 ghost use Rattle.table_writes.specs.Change as writes;
 ghost use Rattle.table_schema.specs.Values as rows;
 ghost use Rattle.table_writes.specs.Change.{Accepts, IsNumber};
 ghost use Rattle.tenant_rows.specs.Rows as spec;
 ghost use Rattle.tenant_rows.specs.Changes.{IsChangeable, Turns};
-ghost use Rattle.tenant_rows.specs.Commits.{numbers_of, rows_with_made};
+ghost use Rattle.tenant_rows.specs.Commits.{HasPoolsFor, numbers_of, rows_with_made, with_new_pairs};
 
 use crush_map::Text;
-use crush_pool::{DeviceState, Pool};
+use crush_pool::{DeviceState, Exceptions, Pair, Pool};
 use sqlite::Alter;
 use std::alloc::{AllocError, Global};
 use table_reads::find::Tenant;
+use table_reads::rows::PoolRow;
 use table_schema::refuse::Fault;
-use table_schema::values::{Pool as PoolValues, Receipt as ReceiptValues, State};
+use table_schema::values::{Exception, Pool as PoolValues, Receipt as ReceiptValues, State};
 use tenant_messages::SuccessStatus;
 use tenant_state::{Change, Made, Receipt};
 use tenant_tables::tables::Tables;
@@ -80,9 +86,9 @@ fn all_state_values(alloc: Global, states: &[DeviceState]) -> Result<Vec<State>,
     states.iter().map(state_values).collect(alloc)
 }
 
-/// The values of the row of a pool.
+/// The values of the row of a pool that has no exceptions.
 fn pool_values(pool: &Pool) -> PoolValues<'_>
-    ensures { rows.pool_row result ≡ spec.row_of_pool pool.now }
+    ensures { rows.pool_row result ≡ spec.row_with_count pool.now (pos 0) }
 {
     let parts = pool.parts();
     PoolValues {
@@ -94,7 +100,64 @@ fn pool_values(pool: &Pool) -> PoolValues<'_>
         pg_num: i64::from(parts.pg_num),
         pgp_num: i64::from(parts.pgp_num),
         hashpspool: flag(parts.hashpspool),
+        pairs: 0,
     }
+}
+
+/// The values of a row of a pool that was read, with another number of exceptions.
+fn values_with(row: &PoolRow, pairs: i64) -> PoolValues<'_>
+    ensures { rows.pool_row result ≡ take 8 (read.pool_values row.now) ++ Int pairs ∷ [] }
+{
+    PoolValues {
+        id: row.id,
+        name: row.name.as_str(),
+        erasure: row.erasure,
+        size: row.size,
+        rule: row.rule,
+        pg_num: row.pg_num,
+        pgp_num: row.pgp_num,
+        hashpspool: row.hashpspool,
+        pairs,
+    }
+}
+
+/// The row of the pool with an id. `None`, where there is none.
+fn row_with(rows: Vec<PoolRow>, id: u32) -> Option<PoolRow>
+    ensures some { IfSome result (λ row. Has (map read.pool_values rows.items) (read.pool_values row) × (row.id ≡ pos id)) }
+    ensures none { result ≡ None → (row : Row) → Has (map read.pool_values rows.items) row → column row 0 ≢ Int (pos id) }
+{
+    for row in rows {
+        if row.id == i64::from(id) {
+            return Some(row);
+        }
+    }
+    None
+}
+
+/// The values of the row of a pair of a pool, at its place.
+fn pair_values(pool: u32, place: u32, pair: &Pair) -> Exception
+    ensures { rows.exception_row result ≡ spec.row_of_pair pool place pair.now }
+{
+    Exception {
+        pool: i64::from(pool),
+        place: i64::from(place),
+        group: i64::from(pair.group),
+        from: i64::from(pair.from),
+        to: i64::from(pair.to),
+    }
+}
+
+/// The values of the rows of the pairs of a pool, which have the places 0, 1, .. `Err(AllocError)`:
+/// an allocation failed.
+fn all_pair_values(alloc: Global, pool: u32, pairs: &[Pair]) -> Result<Vec<Exception>, AllocError>
+    requires { length pairs.now ≤ PAIR_LIMIT }
+    ensures { IfOk result (λ values. map rows.exception_row values.items ≡ spec.rows_of_pairs pool 0 pairs.now) }
+{
+    let mut values = Vec::with_capacity(alloc, pairs.len())?;
+    for place in 0..pairs.len() {
+        values.push(pair_values(pool, place as u32, &pairs[place]))?;
+    }
+    Ok(values)
 }
 
 /// The values of the row of a receipt.
@@ -135,6 +198,40 @@ fn write_states<'a, S: Alter>(
     }
 }
 
+/// Writes exceptions of the pool with an id, in place of the earlier ones, with the epoch and the
+/// receipt. The pool is there.
+fn write_exceptions<'a, S: Alter>(
+    alloc: Global,
+    tables: &mut Tables<S>,
+    id: i64,
+    epoch: i64,
+    pool: u32,
+    exceptions: &Exceptions,
+    receipt: ReceiptValues<'a>,
+) -> Result<(), Fault>
+    requires live { tables.old.1 ≡ false }
+    requires there { HasCleanDisk (state S.Store tables.old.0) → IsNumber (state S.Store tables.old.0).now.trees id }
+    requires suits { HasCleanDisk (state S.Store tables.old.0) → HasPoolsFor (state S.Store tables.old.0).now.trees id (NewExceptions pool exceptions.now) }
+    ensures done { HasCleanDisk (state S.Store tables.new.0) → OnOk result (Accepts id epoch receipt (with_new_pairs pool exceptions.now) (state S.Store tables.old.0).now.trees (state S.Store tables.new.0).now.trees) }
+    ensures kept { HasCleanDisk (state S.Store tables.new.0) → tables.new.1 ≡ false → OnErr result ((state S.Store tables.new.0).now ≡ (state S.Store tables.old.0).now) }
+    ensures latches { tables.new.1 ≡ true ↔ result ≡ Err Fault.Failed }
+    ensures rows { HasCleanDisk (state S.Store tables.new.0) → result ≢ Err Fault.Damaged }
+    ensures crash { Survives (state S.Store tables.old.0) (state S.Store tables.new.0) (Accepts id epoch receipt (with_new_pairs pool exceptions.now) (state S.Store tables.old.0).now.trees) }
+{
+    let rows = tables.pools_of(id)?;
+    let Some(row) = row_with(rows, pool) else {
+        return Err(Fault::Damaged);
+    };
+    let pairs = exceptions.pairs();
+    match all_pair_values(alloc, pool, pairs) {
+        Ok(values) => {
+            let pool = values_with(&row, values.len() as i64);
+            tables.commit_exceptions(id, epoch, &pool, &values, &receipt)
+        }
+        Err(AllocError) => Err(Fault::NoMemory),
+    }
+}
+
 /// Writes what a change makes, with the epoch and the receipt. A version gets the number.
 fn write_made<'a, S: Alter>(
     alloc: Global,
@@ -147,10 +244,11 @@ fn write_made<'a, S: Alter>(
 ) -> Result<(), Fault>
     requires live { tables.old.1 ≡ false }
     requires there { HasCleanDisk (state S.Store tables.old.0) → IsNumber (state S.Store tables.old.0).now.trees id }
+    requires suits { HasCleanDisk (state S.Store tables.old.0) → HasPoolsFor (state S.Store tables.old.0).now.trees id (made_of made.now) }
     ensures done { HasCleanDisk (state S.Store tables.new.0) → OnOk result (Accepts id epoch receipt.now (rows_with_made number (made_of made.now)) (state S.Store tables.old.0).now.trees (state S.Store tables.new.0).now.trees) }
     ensures kept { HasCleanDisk (state S.Store tables.new.0) → tables.new.1 ≡ false → OnErr result ((state S.Store tables.new.0).now ≡ (state S.Store tables.old.0).now) }
     ensures latches { tables.new.1 ≡ true ↔ result ≡ Err Fault.Failed }
-    ensures rows { result ≢ Err Fault.Damaged }
+    ensures rows { HasCleanDisk (state S.Store tables.new.0) → result ≢ Err Fault.Damaged }
     ensures crash { Survives (state S.Store tables.old.0) (state S.Store tables.new.0) (Accepts id epoch receipt.now (rows_with_made number (made_of made.now)) (state S.Store tables.old.0).now.trees) }
 {
     match made {
@@ -161,6 +259,10 @@ fn write_made<'a, S: Alter>(
         Made::Pool(pool) => {
             let values = pool_values(pool.as_ref());
             tables.commit_pool(id, epoch, &values, receipt)
+        }
+        Made::Exceptions(pool, exceptions) => {
+            let exceptions = exceptions.exceptions();
+            write_exceptions(alloc, tables, id, epoch, *pool, exceptions, *receipt)
         }
         Made::NoPool(pool) => tables.commit_no_pool(id, epoch, i64::from(*pool), receipt),
     }

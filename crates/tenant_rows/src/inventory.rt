@@ -8,33 +8,34 @@ ghost use Rattle.tenant_state.specs.State.{Inventory as Has, have_rules};
 ghost use Rattle.tenant_state.specs.Valid.{are_named_once};
 ghost use Rattle.tenant_rows.specs.Lists.{IsOfState, AreRowsOf};
 
-use crate::parts::{pools_from, states_from, versions_from};
+use crate::parts::{states_from, versions_from};
+use crate::pools::pools_from;
 use crush_map::CrushMap;
-use crush_pool::{Pool, rule_with_id};
+use crush_pool::rule_with_id;
 use crush_text::written_maps_are_read_back;
 use std::alloc::{AllocError, Global};
 use std::rc::Rc;
 use table_reads::rows::{PoolRow, VersionRow};
-use table_schema::values::State;
-use tenant_state::Inventory;
+use table_schema::values::{Exception, State};
 use tenant_state::limits::{POOL_LIMIT, RECEIPT_LIMIT, VERSION_LIMIT};
+use tenant_state::{Inventory, TenantPool};
 
 /// Whether one of some pools has a name.
-fn is_one_named(name: &str, pools: &[Rc<Pool>]) -> bool
-    ensures { result ≡ list_any (λ p. bytes_eq p.value.name name.now) pools.now }
+fn is_one_named(name: &str, pools: &[Rc<TenantPool>]) -> bool
+    ensures { result ≡ list_any (λ p. bytes_eq p.value.parts.name name.now) pools.now }
 {
     pools.iter().any(|pool| pool.parts().name.as_str() == name)
 }
 
 /// The same of the pools' parts.
-fn is_named(name: &str, pools: &[Rc<Pool>]) -> bool
-    ensures { result ≡ list_any (λ p. bytes_eq p.name name.now) (map (λ p. p.value) pools.now) }
+fn is_named(name: &str, pools: &[Rc<TenantPool>]) -> bool
+    ensures { result ≡ list_any (λ p. bytes_eq p.parts.name name.now) (map (λ p. p.value) pools.now) }
 {
     is_one_named(name, pools)
 }
 
 /// Whether no two pools have one name.
-fn are_named_once(pools: &[Rc<Pool>]) -> bool
+fn are_named_once(pools: &[Rc<TenantPool>]) -> bool
     ensures { result ≡ are_named_once (map (λ p. p.value) pools.now) }
 {
     let mut rest = pools;
@@ -48,8 +49,8 @@ fn are_named_once(pools: &[Rc<Pool>]) -> bool
 }
 
 /// Whether a map has the rule of each of some pools.
-fn has_each_rule(map: &CrushMap, pools: &[Rc<Pool>]) -> bool
-    ensures { result ≡ list_all (λ p. is_some (rule_numbered map.now p.value.rule)) pools.now }
+fn has_each_rule(map: &CrushMap, pools: &[Rc<TenantPool>]) -> bool
+    ensures { result ≡ list_all (λ p. is_some (rule_numbered map.now p.value.parts.rule)) pools.now }
 {
     pools
         .iter()
@@ -86,9 +87,10 @@ pub fn inventory_from(
     versions: Vec<VersionRow>,
     states: Vec<State>,
     pools: Vec<PoolRow>,
+    exceptions: &[Exception],
 ) -> Result<Option<Rc<Inventory>>, AllocError>
-    ensures some { IfOk result (λ o. IfSome o (λ i. IsOfState i.value × AreRowsOf i.value epoch versions.items states.items pools.items)) }
-    ensures none { IfOk result (λ o. o ≡ None → (i : Has) → IsOfState i → ¬ AreRowsOf i epoch versions.items states.items pools.items) }
+    ensures some { IfOk result (λ o. IfSome o (λ i. IsOfState i.value × AreRowsOf i.value epoch versions.items states.items pools.items exceptions.now)) }
+    ensures none { IfOk result (λ o. o ≡ None → (i : Has) → IsOfState i → ¬ AreRowsOf i epoch versions.items states.items pools.items exceptions.now) }
 {
     written_maps_are_read_back();
     let Ok(epoch) = u64::try_from(epoch) else {
@@ -100,7 +102,7 @@ pub fn inventory_from(
     let Some(devices) = states_from(alloc, states)? else {
         return Ok(None);
     };
-    let Some(pools) = pools_from(alloc, pools)? else {
+    let Some(pools) = pools_from(alloc, pools, exceptions)? else {
         return Ok(None);
     };
     let inventory = Inventory::of(versions, devices, pools, epoch);

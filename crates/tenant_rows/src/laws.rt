@@ -1,9 +1,12 @@
 //! Laws of the definitions: each contract holds of the definitions alone.
 
-ghost use Rattle.std.specs.Prelude.{◌≡◌, ℕ, List, Option};
+ghost use Rattle.std.specs.Prelude.{◌≡◌, ◌↔◌, ℕ, List, Option};
+ghost use Rattle.sqlite.specs.Effect.{Database};
 ghost use Rattle.sqlite_trees.specs.Tree.{Trees};
 ghost use Rattle.tenant_state.specs.State.{TenantState};
-ghost use Rattle.tenant_rows.specs.Rows.{StandsFor};
+ghost use Rattle.table_schema.specs.Layout.{IsStoreSchema};
+ghost use Rattle.tenant_tables.specs.Opened.{SetsUp};
+ghost use Rattle.tenant_rows.specs.Rows.{StandsFor, StatesIn};
 
 use crush_text::written_maps_are_read_back;
 
@@ -12,4 +15,13 @@ pub fn names_stand_for_one_state()
     ensures { (db : Trees) (name : List ℕ) (s t : Option TenantState) → StandsFor db name s → StandsFor db name t → s ≡ t }
 {
     written_maps_are_read_back();
+}
+
+/// Rows that an opening has made, or put in the place of those of schema 1, stand for the states
+/// that the database had; and so do those of a database that has this service's tables already.
+#[tactic(auto, using(crate::proofs::Migrated::set_up_states, crate::proofs::Migrated::found_states))]
+pub fn openings_keep_states()
+    ensures set_up { (old : Database) (trees : Trees) → SetsUp old trees → (t : List ℕ) (s : Option TenantState) → StatesIn old t s ↔ StandsFor trees t s }
+    ensures found { (db : Database) → IsStoreSchema db.schema → (t : List ℕ) (s : Option TenantState) → StatesIn db t s ↔ StandsFor db.trees t s }
+{
 }

@@ -3,35 +3,33 @@
 ghost use Rattle.std.specs.Prelude.{◌≡◌, ◌≢◌, ◌<◌, ◌^◌, ℕ, pos, List, Bool, true, map, ◌↔◌, None, IfOk, IfSome, IsTrue, string_bytes};
 ghost use Rattle.std.specs.List.{All, list_all};
 ghost use Rattle.crush_map.specs.Map.{Map, IsMap};
-ghost use Rattle.crush_pool.specs.Pools.{is_pool};
-ghost use Rattle.crush_pool.specs.declared.pool.PoolParts.{PoolParts as PartsOfPool};
 ghost use Rattle.crush_pool.specs.declared.states.DeviceState.{DeviceState as StateOfDevice};
 ghost use Rattle.tenant_messages.specs.Reply.{success_status};
 ghost use Rattle.tenant_messages.specs.declared.reply.SuccessStatus.{SuccessStatus as Status};
 ghost use Rattle.tenant_state.specs.Ordered.{is_ascending};
-ghost use Rattle.tenant_state.specs.State.{is_lower_device, is_lower_pool};
+ghost use Rattle.tenant_state.specs.State.{is_lower_device};
 ghost use Rattle.tenant_state.specs.Valid.{is_device_state, is_receipt};
 ghost use Rattle.table_schema.specs.Values.{state_row};
-ghost use Rattle.table_reads.specs.Found.{version_values, pool_values, receipt_values};
+ghost use Rattle.table_reads.specs.Found.{version_values, receipt_values};
 ghost use Rattle.tenant_rows.specs.Pages.{IsOfReceipt};
 ghost use Rattle.tenant_rows.specs.Rows as spec;
 
 use crush_choose::FULL;
 use crush_map::Text;
 use crush_map::limits::NUMBER_LIMIT;
-use crush_pool::{DeviceState, Pool, PoolParts};
+use crush_pool::DeviceState;
 use std::alloc::{AllocError, Global};
 use std::rc::Rc;
-use table_reads::rows::{PoolRow, ReceiptRow, VersionRow};
+use table_reads::rows::{ReceiptRow, VersionRow};
 use table_schema::values::State;
 use tenant_messages::SuccessStatus;
 use tenant_messages::limits::REQUEST_NUMBER_LIMIT;
-use tenant_state::{Devices, Pools, Receipt, Version};
+use tenant_state::{Devices, Receipt, Version};
 
 // ---- numbers
 
 /// The number, where it is one of 32 bits.
-fn natural(number: i64) -> Option<u32>
+pub fn natural(number: i64) -> Option<u32>
     ensures some { IfSome result (λ n. number ≡ pos n) }
     ensures none { result ≡ None → (n : ℕ) → n < 2 ^ 32 → number ≢ pos n }
 {
@@ -39,7 +37,7 @@ fn natural(number: i64) -> Option<u32>
 }
 
 /// The flag, where it is 0 or 1.
-fn flag(number: i64) -> Option<bool>
+pub fn flag(number: i64) -> Option<bool>
     ensures some { IfSome result (λ b. number ≡ spec.flag b) }
     ensures none { result ≡ None → (b : Bool) → number ≢ spec.flag b }
 {
@@ -139,49 +137,6 @@ pub fn states_from(alloc: Global, rows: Vec<State>) -> Result<Option<Rc<Devices>
         Some(devices) => Ok(Some(Rc::new(alloc, devices)?)),
         None => Ok(None),
     }
-}
-
-// ---- pools
-
-/// The pool of a row. `None`, exactly where there is none.
-fn pool_from(row: PoolRow) -> Option<Pool>
-    ensures some { IfSome result (λ p. (is_pool p ≡ true) × (pool_values row ≡ spec.row_of_pool p)) }
-    ensures none { result ≡ None → (p : PartsOfPool) → is_pool p ≡ true → pool_values row ≢ spec.row_of_pool p }
-{
-    let id = natural(row.id)?;
-    let erasure = flag(row.erasure)?;
-    let size = natural(row.size)?;
-    let rule = natural(row.rule)?;
-    let pg_num = natural(row.pg_num)?;
-    let pgp_num = natural(row.pgp_num)?;
-    let hashpspool = flag(row.hashpspool)?;
-    Pool::new(PoolParts {
-        id,
-        name: Text::new(row.name),
-        erasure,
-        size,
-        rule,
-        pg_num,
-        pgp_num,
-        hashpspool,
-    })
-    .ok()
-}
-
-/// The pools of these rows, in the order of their ids. `None`, exactly where they are the rows of
-/// none. `Err(AllocError)`: an allocation failed.
-pub fn pools_from(alloc: Global, rows: Vec<PoolRow>) -> Result<Option<Pools>, AllocError>
-    ensures some { IfOk result (λ o. IfSome o (λ pools. (list_all is_pool pools ≡ true) × (is_ascending is_lower_pool pools ≡ true) × (map pool_values rows.items ≡ map spec.row_of_pool pools))) }
-    ensures none { IfOk result (λ o. o ≡ None → (pools : List PartsOfPool) → list_all is_pool pools ≡ true → is_ascending is_lower_pool pools ≡ true → map pool_values rows.items ≢ map spec.row_of_pool pools) }
-{
-    let mut pools = Vec::with_capacity(alloc, rows.len())?;
-    for row in rows {
-        match pool_from(row) {
-            Some(pool) => pools.push(Rc::new(alloc, pool)?)?,
-            None => return Ok(None),
-        }
-    }
-    Ok(Pools::from_list(pools))
 }
 
 // ---- receipts

@@ -38,7 +38,8 @@ pub fn read_inventory<S: Alter>(
     let versions = tables.versions_of(id)?;
     let devices = tables.devices_of(id)?;
     let pools = tables.pools_of(id)?;
-    match inventory_from(alloc, epoch, versions, devices, pools) {
+    let exceptions = tables.exceptions_of(id)?;
+    match inventory_from(alloc, epoch, versions, devices, pools, &exceptions) {
         Ok(Some(inventory)) => Ok(inventory),
         Ok(None) => Err(Fault::Damaged),
         Err(AllocError) => Err(Fault::NoMemory),

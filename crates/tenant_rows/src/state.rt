@@ -14,7 +14,7 @@ use crate::inventory::inventory_from;
 use crate::parts::receipt_from;
 use std::alloc::{AllocError, Global};
 use table_reads::rows::{PoolRow, ReceiptRow, VersionRow};
-use table_schema::values::State;
+use table_schema::values::{Exception, State};
 use tenant_state::{Receipts, TenantState};
 
 /// The receipts of these rows, in the order of their request numbers. `None`, exactly where they
@@ -41,13 +41,14 @@ pub fn from_rows(
     versions: Vec<VersionRow>,
     states: Vec<State>,
     pools: Vec<PoolRow>,
+    exceptions: &[Exception],
     receipts: Vec<ReceiptRow>,
 ) -> Result<Option<TenantState>, AllocError>
-    ensures some { IfOk result (λ o. IfSome o (λ s. IsState s × AreRowsOfState s epoch versions.items states.items pools.items receipts.items)) }
-    ensures none { IfOk result (λ o. o ≡ None → (s : StateOfTenant) → IsState s → ¬ AreRowsOfState s epoch versions.items states.items pools.items receipts.items) }
+    ensures some { IfOk result (λ o. IfSome o (λ s. IsState s × AreRowsOfState s epoch versions.items states.items pools.items exceptions.now receipts.items)) }
+    ensures none { IfOk result (λ o. o ≡ None → (s : StateOfTenant) → IsState s → ¬ AreRowsOfState s epoch versions.items states.items pools.items exceptions.now receipts.items) }
 {
     let count = receipts.len() as u64;
-    let Some(inventory) = inventory_from(alloc, epoch, versions, states, pools)? else {
+    let Some(inventory) = inventory_from(alloc, epoch, versions, states, pools, exceptions)? else {
         return Ok(None);
     };
     let Some(receipts) = receipts_from(alloc, receipts)? else {

@@ -1,6 +1,7 @@
 pub mod Changing
 pub mod Counts
 pub mod Judging
+pub mod Opening
 pub mod Receipts
 pub mod Refusing
 pub mod Stopping

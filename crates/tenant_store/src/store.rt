@@ -1,13 +1,15 @@
 //! A store of tenants' states in the tables of a database.
 
-ghost use Rattle.std.specs.Prelude.{◌≡◌, ◌≢◌, ◌⊎◌, ℕ, List, false, IfOk, IfErr, IsTrue};
+ghost use Rattle.std.specs.Prelude.{◌≡◌, ◌⊎◌, false, IfOk, IfErr, IsTrue};
 ghost use Rattle.sqlite.specs.Held.{state};
 ghost use Rattle.sqlite.specs.State.{HasCleanDisk};
 ghost use Rattle.sqlite_trees.specs.Tree.{Trees};
 ghost use Rattle.sqlite_trees.specs.View.{IsClean};
-ghost use Rattle.table_schema.specs.Layout.{no_schema, store_schema};
-ghost use Rattle.tenant_tables.specs.Opened.{HasVersion};
-ghost use Rattle.tenant_rows.specs.Rows.{StandsFor};
+ghost use Rattle.table_schema.specs.Layout.{no_schema, first_schema, IsStoreSchema};
+ghost use Rattle.tenant_core.specs.States.{Same};
+ghost use Rattle.tenant_tables.specs.Opened.{HasVersion, IsKnown, IsStrange};
+ghost use Rattle.tenant_rows.specs.Rows.{StandsFor, StatesIn};
+ghost use Rattle.tenant_store.specs.Replaced.{Replaces};
 ghost use Rattle.tenant_store.specs.Shown.{IsHonest};
 
 use crate::faults::fault_of;
@@ -55,12 +57,14 @@ impl<S: Alter> Model for Store<S> {
 }
 
 impl<S: Alter + Drop> Store<S> {
-    /// The store of a connection. The tables are made where the database has none, and else tested:
-    /// that they are this service's, and of its version.
+    /// The store of a connection. The tables are made where the database has none, those of schema
+    /// 1 are replaced by those of schema 2, and else they are tested: that they are this service's,
+    /// and of its version. The rows of before and after stand for the same states.
     ///
-    /// `Err((StoreFault::Damaged, store))`: they aren't. Nothing is changed.
-    /// `Err((StoreFault::NoMemory, store))`, `Err((StoreFault::Full, store))`,
-    /// `Err((StoreFault::Failed, store))`: no row is changed, and the tables may have been made.
+    /// `Err((StoreFault::Damaged, store))`: the tables are another's, or of another version. Nothing
+    /// is changed. `Err((StoreFault::NoMemory, store))`, `Err((StoreFault::Full, store))`,
+    /// `Err((StoreFault::Failed, store))`: the tables may have been made, or those of schema 1
+    /// replaced, whole, for the same states.
     pub fn open(alloc: Global, conn: Connection<S>) -> Result<Store<S>, (StoreFault, S)>
         requires autocommit { conn.in_transaction ≡ false }
         requires open { HasCleanDisk (state S.Store conn) → IsTrue (state S.Store conn).is_open }
@@ -68,12 +72,15 @@ impl<S: Alter + Drop> Store<S> {
         ensures live { IfOk result (λ store. store.1 ≡ false) }
         ensures clean { IfOk result (λ store. HasCleanDisk (state S.Store store.0) → HasCleanDisk (state S.Store conn)) }
         ensures honest { IfOk result (λ store. HasCleanDisk (state S.Store store.0) → IsHonest S.Store store) }
-        ensures made { IfOk result (λ store. HasCleanDisk (state S.Store store.0) → (state S.Store conn).now.schema ≡ no_schema → (t : List ℕ) → StandsFor (state S.Store store.0).now.trees t None) }
-        ensures adopted { IfOk result (λ store. HasCleanDisk (state S.Store store.0) → (state S.Store conn).now.schema ≢ no_schema
-            → ((state S.Store conn).now.schema ≡ store_schema) × ((state S.Store store.0).now.trees ≡ (state S.Store conn).now.trees) × HasVersion (state S.Store conn).now.trees) }
-        ensures damaged { IfErr result (λ e. IsClean (S.Store.view e.1) → e.0 ≡ StoreFault.Damaged → ((state S.Store conn).now.schema ≢ no_schema) × ((state S.Store conn).now.schema ≡ store_schema → ¬ HasVersion (state S.Store conn).now.trees)) }
+        ensures same { IfOk result (λ store. HasCleanDisk (state S.Store store.0) → Same (StatesIn (state S.Store conn).now) (StandsFor (state S.Store store.0).now.trees)) }
+        ensures known { IfOk result (λ store. ((state S.Store conn).now.schema ≡ no_schema) ⊎ IsKnown (state S.Store conn).now.schema) }
+        ensures adopted { IfOk result (λ store. HasCleanDisk (state S.Store store.0) → IsStoreSchema (state S.Store conn).now.schema
+            → ((state S.Store store.0).now.trees ≡ (state S.Store conn).now.trees) × HasVersion 2 (state S.Store conn).now.trees) }
+        ensures migrated { IfOk result (λ store. HasCleanDisk (state S.Store store.0) → (state S.Store conn).now.schema ≡ first_schema
+            → HasVersion 1 (state S.Store conn).now.trees × HasVersion 2 (state S.Store store.0).now.trees) }
+        ensures damaged { IfErr result (λ e. IsClean (S.Store.view e.1) → e.0 ≡ StoreFault.Damaged → IsStrange (state S.Store conn).now) }
         ensures crash { IfErr result (λ e. IsClean (S.Store.view e.1) → (trees : Trees) → S.Store.recovers e.1 trees
-            → (state S.Store conn).may_leave trees ⊎ (((state S.Store conn).now.schema ≡ no_schema) × ((t : List ℕ) → StandsFor trees t None))) }
+            → (state S.Store conn).may_leave trees ⊎ Replaces (state S.Store conn).now trees) }
     {
         names_stand_for_one_state();
         match Tables::open(alloc, conn) {

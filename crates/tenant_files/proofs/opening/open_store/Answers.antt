@@ -4,9 +4,8 @@ use Rattle.sqlite.specs.Effect.{Database}
 use Rattle.sqlite.specs.Files.{file_state}
 use Rattle.sqlite.specs.State.{HasCleanDisk}
 use Rattle.tenant_core.specs.States.{Same}
-use Rattle.tenant_rows.specs.Rows.{StandsFor}
-use Rattle.tenant_files.specs.Stored.{StatesIn}
-use Rattle.tenant_files.proofs.StoredFacts.{found_states}
+use Rattle.tenant_rows.specs.Rows.{StandsFor, StatesIn}
+use Rattle.tenant_files.proofs.StoredFacts.{turned}
 use Rattle.tenant_files.proofs.opening.open_store.Goals as goal
 
 pub returns-in-Ok-open-clause-found : goal.returns-in-Ok-open-clause-found
@@ -16,8 +15,7 @@ returns-in-Ok-open-clause-found g c clean =
     let early : HasCleanDisk (file_state was) = c.in-Ok-open.ensures.clean clean in
     let opened = c.in-Ok.ensures.opened early in
     let rows = (file_state store.0).now.trees in
-    let same : Same (StandsFor rows) (StatesIn (file_state was).now) = found_states (file_state was).now rows (λ t s u is also. c.names_stand_for_one_state.ensures rows t s u is also)
-    (c.in-Ok-open.ensures.made clean) (λ some. let own = c.in-Ok-open.ensures.adopted clean some in (own.0, own.1)) in
+    let same : Same (StandsFor rows) (StatesIn (file_state was).now) = turned (StatesIn (file_state was).now) (StandsFor rows) (c.in-Ok-open.ensures.same clean) in
     record {
       was = was;
       opened = opened;

@@ -1,4 +1,4 @@
-use Rattle.std.proofs.Common.{ℕ, List, Some, subst, rules}
+use Rattle.std.proofs.Common.{ℕ, List, Some, subst, sym, rules}
 use Rattle.std.proofs.lemmas.Result.{on_ok_weaker}
 use mir.Val.{SFits}
 use mir.Syntax.{w64}
@@ -6,13 +6,13 @@ use Rattle.sqlite.proofs.StateLemmas.{survives_weaker}
 use Rattle.sqlite.specs.Held.{state}
 use Rattle.sqlite_trees.specs.Tree.{Trees}
 use Rattle.tenant_state.specs.Made.{made_of}
-use Rattle.tenant_state.specs.State.{TenantState, after, epoch}
+use Rattle.tenant_state.specs.State.{Change, TenantState, after, epoch}
 use Rattle.tenant_state.specs.Valid.{IsChange}
 use Rattle.table_writes.specs.Change.{Accepts}
 use Rattle.tenant_rows.specs.Changes.{IsChangeable, Turns}
-use Rattle.tenant_rows.specs.Commits.{rows_with_made}
-use Rattle.tenant_rows.proofs.Accepted.{accepted, made_is, number_of, receipt_is, word}
-use Rattle.tenant_rows.proofs.Writes.{epoch_is, is_number, turned}
+use Rattle.tenant_rows.specs.Commits.{HasPoolsFor, rows_with_made}
+use Rattle.tenant_rows.proofs.Accepted.{accepted, made_is, number_of, pools_of, receipt_is, word}
+use Rattle.tenant_rows.proofs.Writes.{epoch_is, is_number, pools_for, turned}
 use Rattle.tenant_rows.proofs.change.write_change.Given as given
 use Rattle.tenant_rows.proofs.change.write_change.Goals as goal
 
@@ -21,6 +21,14 @@ write_made-requires-clause-there g c clean =
     let fits : SFits w64 c.args.tenant.now.id = search rules in
     let may = c.requires.there clean in
     number_of (state g.S.Store c.args.tables.now.0).now.trees c.args.tenant.now.id fits (is_number _ may.0 may.1 c.args.tenant.now c.args.versions c.args.change.now may.2)
+
+pub write_made-requires-clause-suits : goal.write_made-requires-clause-suits
+write_made-requires-clause-suits g c clean =
+    let fits : SFits w64 c.args.tenant.now.id = search rules in
+    let may = c.requires.there clean in
+    let has = pools_for (state g.S.Store c.args.tables.now.0).now.trees may.0 may.1 c.args.tenant.now c.args.versions c.args.change.now may.2 in
+    pools_of (state g.S.Store c.args.tables.now.0).now.trees c.args.tenant.now.id (made_of c.change.inside.made) fits
+    (subst (λ (x : Change). HasPoolsFor (state g.S.Store c.args.tables.now.0).now.trees c.args.tenant.now.id x.made) (sym c.change.view_is) has)
 
 -- what is written stands for the state after the change
 turn : (g : given.Over) (c : goal.After-write_made g) (name : List ℕ) (s : TenantState) (db : Trees)

@@ -1,4 +1,4 @@
-use Rattle.std.proofs.Common.{◌≡◌, map, ◌∷◌, OnOk, sym, ap, ◌∙◌, rules}
+use Rattle.std.proofs.Common.{◌≡◌, map, ◌∷◌, OnOk, pos, sym, ap, subst, ◌∙◌, rules}
 use mir.Val.{SFits}
 use mir.Syntax.{w64}
 use Rattle.sqlite.specs.Held.{state}
@@ -8,9 +8,9 @@ use Rattle.crush_writing.specs.Canonical.{canonical}
 use Rattle.tenant_state.specs.Made.{made_of}
 use Rattle.table_writes.specs.Change.{with_pool, with_states, with_version, without_pool}
 use Rattle.table_schema.specs.Holds.{TenantRows}
-use Rattle.tenant_rows.specs.Commits.{numbers_of, rows_with_made}
-use Rattle.tenant_rows.specs.Rows.{row_of_pool}
-use Rattle.tenant_rows.proofs.Accepted.{accepted, number_of, word, word_is}
+use Rattle.tenant_rows.specs.Commits.{HasPoolsFor, numbers_of, rows_with_made, with_new_pairs}
+use Rattle.tenant_rows.specs.Rows.{row_with_count}
+use Rattle.tenant_rows.proofs.Accepted.{accepted, number_of, pools_of, word, word_is}
 use Rattle.tenant_rows.proofs.change.write_made.Given as given
 use Rattle.tenant_rows.proofs.change.write_made.Goals as goal
 
@@ -62,7 +62,7 @@ commit_pool-requires-clause-there g c clean = number_of (state g.S.Store c.args.
 
 pool_is : (g : given.Over) (c : goal.After-commit_pool g) → with_pool c.pool_values-values.result ≡ rows_with_made c.args.number (made_of c.args.made.now)
 pool_is g c =
-    ap (λ row (rows : TenantRows). record rows { pools = row ∷ rows.pools }) (c.pool_values-values.ensures ∙ ap row_of_pool c.as_ref.ensures)
+    ap (λ row (rows : TenantRows). record rows { pools = row ∷ rows.pools }) (c.pool_values-values.ensures ∙ ap (λ p. row_with_count p (pos 0)) c.as_ref.ensures)
     ∙ ap (λ made. rows_with_made c.args.number (made_of made)) (sym c.in-Pool.is)
 
 pub returns-in-Pool-clause-done : goal.returns-in-Pool-clause-done
@@ -74,6 +74,31 @@ pub returns-in-Pool-clause-crash : goal.returns-in-Pool-clause-crash
 returns-in-Pool-clause-crash g c =
     accepted (Survives (state g.S.Store c.args.tables.now.0) (state g.S.Store c.commit_pool.new.self.0)) c.args.id c.args.epoch c.args.receipt.now (state g.S.Store c.args.tables.now.0).now.trees _ _
     c.ranges.id c.ranges.epoch (pool_is g c) c.commit_pool.ensures.crash
+
+-- ---- exceptions of a pool
+
+pub write_exceptions-requires-clause-there : goal.write_exceptions-requires-clause-there
+write_exceptions-requires-clause-there g c clean = number_of (state g.S.Store c.args.tables.now.0).now.trees c.args.id c.ranges.id (c.requires.there clean)
+
+pub write_exceptions-requires-clause-suits : goal.write_exceptions-requires-clause-suits
+write_exceptions-requires-clause-suits g c clean =
+    subst (HasPoolsFor (state g.S.Store c.args.tables.now.0).now.trees (word c.args.id)) (made_exceptions g c)
+    (pools_of (state g.S.Store c.args.tables.now.0).now.trees c.args.id (made_of c.args.made.now) c.ranges.id (c.requires.suits clean))
+
+exceptions_is : (g : given.Over) (c : goal.After-write_exceptions g) → with_new_pairs c.in-Exceptions.pool.now c.exceptions.result.now ≡ rows_with_made c.args.number (made_of c.args.made.now)
+exceptions_is g c =
+    ap (with_new_pairs c.in-Exceptions.pool.now) c.exceptions.ensures
+    ∙ ap (λ made. rows_with_made c.args.number (made_of made)) (sym c.in-Exceptions.is)
+
+pub returns-in-Exceptions-clause-done : goal.returns-in-Exceptions-clause-done
+returns-in-Exceptions-clause-done g c clean =
+    accepted (λ (A : Trees → Type 0). OnOk c.write_exceptions.result (A (state g.S.Store c.write_exceptions.new.tables.0).now.trees)) c.args.id c.args.epoch c.args.receipt.now (state g.S.Store c.args.tables.now.0).now.trees _ _
+    c.ranges.id c.ranges.epoch (exceptions_is g c) (c.write_exceptions.ensures.done clean)
+
+pub returns-in-Exceptions-clause-crash : goal.returns-in-Exceptions-clause-crash
+returns-in-Exceptions-clause-crash g c =
+    accepted (Survives (state g.S.Store c.args.tables.now.0) (state g.S.Store c.write_exceptions.new.tables.0)) c.args.id c.args.epoch c.args.receipt.now (state g.S.Store c.args.tables.now.0).now.trees _ _
+    c.ranges.id c.ranges.epoch (exceptions_is g c) c.write_exceptions.ensures.crash
 
 -- ---- no pool
 

@@ -12,8 +12,8 @@ returns-in-Some c =
     let m = c.map.result.now in
     let is : Some m ≡ version c.newest.result i = ap Some c.map.ensures ∙ c.in-Some.ensures in
     c.has_each_rule.ensures
-    ∙ (sym (all_map (λ p. is_some (rule_numbered m p.rule)) (λ p. p.value) c.as_slice.result.now)
-    ∙ (ap (list_all (λ p. is_some (rule_numbered m p.rule))) (c.as_slice.ensures ∙ c.pools.ensures)
+    ∙ (sym (all_map (λ p. is_some (rule_numbered m p.parts.rule)) (λ p. p.value) c.as_slice.result.now)
+    ∙ (ap (list_all (λ p. is_some (rule_numbered m p.parts.rule))) (c.as_slice.ensures ∙ c.pools.ensures)
     ∙ rules_on_some i m (is ∙ ap (λ n. version n i) c.newest.ensures)))
 
 pub returns-in-None : goal.returns-in-None

@@ -19,7 +19,7 @@ returns-else-is_of_state-clause-none c = λ _ i is rows.
     let p = rw c.in-Some-3.is at c.in_ok-pools.ensures.some in
     let number : c.args.epoch ≡ pos c.in-Ok.epoch = search rules in
     let valid : IsInventory made = record { maps = v.0; devices = d.0; device_order = d.1; pools = p.0; pool_order = p.1 } in
-    let its : AreRowsOf made c.args.epoch c.args.versions.items c.args.states.items c.args.pools.items =
-    record { epoch_is = number; versions_are = v.1; states_are = d.2; pools_are = p.2 } in
-    let same = one_inventory c.written_maps_are_read_back.ensures.stored i made c.args.epoch c.args.versions.items c.args.states.items c.args.pools.items is.has valid rows its in
+    let its : AreRowsOf made c.args.epoch c.args.versions.items c.args.states.items c.args.pools.items c.args.exceptions.now =
+    record { epoch_is = number; versions_are = v.1; states_are = d.2; pools_are = p.2; exceptions_are = p.3 } in
+    let same = one_inventory c.written_maps_are_read_back.ensures.stored i made c.args.epoch c.args.versions.items c.args.states.items c.args.pools.items c.args.exceptions.now is.has valid rows its in
     let so = c.is_of_state.ensures.1 (subst IsOfState (same ∙ sym c.of-inventory.ensures) is) in true≢false (sym so ∙ c.if-is_of_state.false)

@@ -3,4 +3,4 @@ use Rattle.tenant_rows.proofs.Counting.{any_map}
 use Rattle.tenant_rows.proofs.inventory.is_named.Goals as goal
 
 pub returns : goal.returns
-returns c = c.is_one_named.ensures ∙ sym (any_map (λ p. bytes_eq p.name c.args.name.now) (λ p. p.value) c.args.pools.now)
+returns c = c.is_one_named.ensures ∙ sym (any_map (λ p. bytes_eq p.parts.name c.args.name.now) (λ p. p.value) c.args.pools.now)

@@ -5,13 +5,13 @@ use Rattle.std.proofs.lemmas.Int.{to_z-of_z}
 use Rattle.std.proofs.lemmas.Result.{err_from_is_err_and}
 use Rattle.sqlite.specs.Held.{state}
 use Rattle.sqlite.specs.State.{HasCleanDisk}
-use Rattle.table_schema.specs.Values.{state_row}
-use Rattle.table_reads.specs.Found.{Lists, version_values, pool_values}
+use Rattle.table_schema.specs.Values.{state_row, exception_row}
+use Rattle.table_reads.specs.Found.{Lists, ListsBy, Precedes, version_values, pool_values}
 use Rattle.table_schema.specs.Holds.{of_tenant}
-use Rattle.table_schema.specs.Layout.{maps_table, devices_table, pools_table}
+use Rattle.table_schema.specs.Layout.{maps_table, devices_table, pools_table, exceptions_table}
 use Rattle.tenant_rows.specs.Changes.{HasRows}
 use Rattle.tenant_rows.specs.Lists.{AreRowsOf}
-use Rattle.tenant_rows.proofs.Listed.{moved, is_live, same_fault, not_versions, not_states, not_pools, are_its_rows}
+use Rattle.tenant_rows.proofs.Listed.{moved, is_live, same_fault, not_versions, not_states, not_pools, not_exceptions, are_its_rows}
 use Rattle.tenant_rows.proofs.read.read_inventory.Goals as goal
 
 pub returns-in_err-versions-clause-damaged : goal.returns-in_err-versions-clause-damaged
@@ -41,20 +41,37 @@ returns-in_err-pools-clause-damaged g c = λ clean damaged i is has.
     let its = moved (λ db n. HasRows db n c.args.epoch i) _ _ c.args.id _ (sym (still ∙ kept)) (sym (to_z-of_z w64 c.args.id fits)) has in
     not_pools _ _ c.args.epoch i is its (c.in_err-pools.ensures.damaged clean (same_fault c.from_residual-in_err-pools.result _ _ _ p.1 p.2 damaged))
 
+pub returns-in_err-exceptions-clause-damaged : goal.returns-in_err-exceptions-clause-damaged
+returns-in_err-exceptions-clause-damaged g c = λ clean damaged i is has.
+    let fits : SFits w64 c.args.id = search rules in
+    let last : HasCleanDisk (state g.S.Store c.pools_of.new.self.0) = omega (arith, clean, c.in_err-exceptions.ensures.crash.clean) in
+    let later : HasCleanDisk (state g.S.Store c.devices_of.new.self.0) = omega (arith, last, c.in_ok-pools.ensures.crash.clean) in
+    let early : HasCleanDisk (state g.S.Store c.versions_of.new.self.0) = omega (arith, later, c.in_ok-devices.ensures.crash.clean) in
+    let kept = c.in_ok-versions.ensures.kept early (is_live c.versions_of.new.self.1 c.in_ok-versions.versions c.in_ok-versions.ensures.latches.0) in
+    let still = c.in_ok-devices.ensures.kept later (is_live c.devices_of.new.self.1 c.in_ok-devices.devices c.in_ok-devices.ensures.latches.0) in
+    let yet = c.in_ok-pools.ensures.kept last (is_live c.pools_of.new.self.1 c.in_ok-pools.pools c.in_ok-pools.ensures.latches.0) in
+    let p = err_from_is_err_and c.from_residual-in_err-exceptions.result c.from_residual-in_err-exceptions.ensures.1 in
+    let its = moved (λ db n. HasRows db n c.args.epoch i) _ _ c.args.id _ (sym (yet ∙ (still ∙ kept))) (sym (to_z-of_z w64 c.args.id fits)) has in
+    not_exceptions _ _ c.args.epoch i is its (c.in_err-exceptions.ensures.damaged clean (same_fault c.from_residual-in_err-exceptions.result _ _ _ p.1 p.2 damaged))
+
 pub returns-in-Ok-None-clause-damaged : goal.returns-in-Ok-None-clause-damaged
 returns-in-Ok-None-clause-damaged g c = λ clean damaged i is has.
     let versions = c.in_ok-versions.versions.items in
     let devices = c.in_ok-devices.devices.items in
     let pools = c.in_ok-pools.pools.items in
+    let exceptions = c.in_ok-exceptions.exceptions.items in
     let fits : SFits w64 c.args.id = search rules in
     let fits-epoch : SFits w64 c.args.epoch = search rules in
     let number = to_z-of_z w64 c.args.id fits in
-    let later : HasCleanDisk (state g.S.Store c.devices_of.new.self.0) = omega (arith, clean, c.in_ok-pools.ensures.crash.clean) in
+    let last : HasCleanDisk (state g.S.Store c.pools_of.new.self.0) = omega (arith, clean, c.in_ok-exceptions.ensures.crash.clean) in
+    let later : HasCleanDisk (state g.S.Store c.devices_of.new.self.0) = omega (arith, last, c.in_ok-pools.ensures.crash.clean) in
     let early : HasCleanDisk (state g.S.Store c.versions_of.new.self.0) = omega (arith, later, c.in_ok-devices.ensures.crash.clean) in
     let kept = c.in_ok-versions.ensures.kept early (is_live c.versions_of.new.self.1 c.in_ok-versions.versions c.in_ok-versions.ensures.latches.0) in
     let still = c.in_ok-devices.ensures.kept later (is_live c.devices_of.new.self.1 c.in_ok-devices.devices c.in_ok-devices.ensures.latches.0) in
+    let yet = c.in_ok-pools.ensures.kept last (is_live c.pools_of.new.self.1 c.in_ok-pools.pools c.in_ok-pools.ensures.latches.0) in
     let v = moved (λ db n. Lists (of_tenant maps_table n db) (map version_values versions)) (state g.S.Store c.args.tables.now.0).now _ _ _ refl number (c.in_ok-versions.ensures.found early) in
     let d = moved (λ db n. Lists (of_tenant devices_table n db) (map state_row devices)) _ _ _ _ kept number (c.in_ok-devices.ensures.found later) in
-    let p = moved (λ db n. Lists (of_tenant pools_table n db) (map pool_values pools)) _ _ _ _ (still ∙ kept) number (c.in_ok-pools.ensures.found clean) in
-    let rows = are_its_rows _ c.args.id c.args.epoch i is has versions devices pools v d p in
-    c.in-Ok-None.ensures.none c.in-Ok-None.field-0-is i is (subst (λ e. AreRowsOf i e versions devices pools) (sym (to_z-of_z w64 c.args.epoch fits-epoch)) rows)
+    let p = moved (λ db n. Lists (of_tenant pools_table n db) (map pool_values pools)) _ _ _ _ (still ∙ kept) number (c.in_ok-pools.ensures.found last) in
+    let e = moved (λ db n. ListsBy Precedes (of_tenant exceptions_table n db) (map exception_row exceptions)) _ _ _ _ (yet ∙ (still ∙ kept)) number (c.in_ok-exceptions.ensures.found clean) in
+    let rows = are_its_rows _ c.args.id c.args.epoch i is has versions devices pools exceptions v d p e in
+    c.in-Ok-None.ensures.none c.in-Ok-None.field-0-is i is (subst (λ e. AreRowsOf i e versions devices pools _) (sym (to_z-of_z w64 c.args.epoch fits-epoch)) rows)

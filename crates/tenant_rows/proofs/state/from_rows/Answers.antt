@@ -17,7 +17,7 @@ pub returns-in_default-clause-none : goal.returns-in_default-clause-none
 returns-in_default-clause-none c = λ _ s is rows.
     let fits : SFits w64 c.args.epoch = search rules in
     c.in_ok-inventory.ensures.none c.in_default.is (inventory_of s) (has_of_state s is)
-    (subst (λ e. AreRowsOf (inventory_of s) e c.args.versions.items c.args.states.items c.args.pools.items) (sym (to_z-of_z w64 c.args.epoch fits)) rows.has)
+    (subst (λ e. AreRowsOf (inventory_of s) e c.args.versions.items c.args.states.items c.args.pools.items c.args.exceptions.now) (sym (to_z-of_z w64 c.args.epoch fits)) rows.has)
 
 -- the epoch is the number of the rows, and so of the receipts
 count_is : (i now : Inventory) (rows : List ReceiptRow) (receipts : Receipts) (epoch count : ℕ) → now ≡ i → epoch ≡ now.epoch → epoch ≡ count → count ≡ length rows
@@ -52,6 +52,6 @@ returns-clause-some c =
     let long : c.len-count.result ≡ length c.args.receipts.items = search rules in
     let even : c.epoch.result ≡ c.len-count.result = omega (arith, c.if-epoch-count.false) in
     let count = count_is c.in-Some.inventory.value c.deref.result.now c.args.receipts.items c.in-Some-2.receipts c.epoch.result c.len-count.result c.deref.ensures c.epoch.ensures.same even long them.2 in
-    let rows = subst (λ e. AreRowsOf i e a.versions.items a.states.items a.pools.items) (to_z-of_z w64 c.args.epoch fits) it.1 in
-    subst (λ s. IsState s × AreRowsOfState s a.epoch a.versions.items a.states.items a.pools.items a.receipts.items) (sym c.of.ensures)
-    (is_state_of i receipts it.0 count them.0 them.1, are_rows_of_state i receipts a.epoch a.versions.items a.states.items a.pools.items a.receipts.items count rows them.2)
+    let rows = subst (λ e. AreRowsOf i e a.versions.items a.states.items a.pools.items a.exceptions.now) (to_z-of_z w64 c.args.epoch fits) it.1 in
+    subst (λ s. IsState s × AreRowsOfState s a.epoch a.versions.items a.states.items a.pools.items a.exceptions.now a.receipts.items) (sym c.of.ensures)
+    (is_state_of i receipts it.0 count them.0 them.1, are_rows_of_state i receipts a.epoch a.versions.items a.states.items a.pools.items a.exceptions.now a.receipts.items count rows them.2)
