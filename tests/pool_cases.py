@@ -50,9 +50,9 @@ rule all {
 """ + steps.format("") + "rule more {\n id 1\n" + steps.format(" step set_chooseleaf_tries 2\n")
 
 
-def with_devices(count):
-    """The map of one device with more devices, which no bucket holds."""
-    return with_line(tiny(), 7, "\n".join(f"device {it} osd.{it}" for it in range(count)))
+def with_devices(count, device=0):
+    """The map of one device with more devices, which no bucket holds: so many from 0 on."""
+    return with_line(tiny(device), 7, "\n".join(f"device {it} osd.{it}" for it in range(count)))
 
 
 def with_long_text(count):
