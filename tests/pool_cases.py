@@ -498,6 +498,7 @@ def receipt_limit():
         (devices_of("more", state(1, up=True)), LIMIT),
         (pool_of("more"), LIMIT),
         (removal_of("more"), LIMIT),
+        (post("pools/exceptions", {"exceptions": [], "id": 1, "request": "more"}), LIMIT),  # before no pool
         (import_of("", "more"), LIMIT),
         (devices_of("more"), BAD),
         (down[0], accepted(1, 2)),

@@ -6,6 +6,8 @@ import sqlite3
 import subprocess
 
 SECONDS = 600
+# a file of schema 1 that an earlier program wrote; beside it are its script and the replies to that
+SCHEMA_1 = pathlib.Path(__file__).resolve().parent / "data" / "schema_1.db"
 STORE_FAULT = b"crushcalc: store fault\n"
 BESIDE = ("", "-wal", "-journal", "-shm")
 POOL = ("id", "name", "erasure", "size", "rule", "pg_num", "pgp_num", "hashpspool")
