@@ -5,9 +5,9 @@ import pathlib
 import random
 
 import crush
-from map_cases import LIMIT, NO_VERSION, REUSED, START, hosts, import_of, imported, of_b, post, test_of, tested, tiny
+from map_cases import REUSED, START, hosts, import_of, imported, of_b, post, test_of, tested, tiny
 from placed import Placed
-from pool_cases import NO_DEVICE, NO_GROUP, NO_POOL, POOL, SEED, accepted, created, devices_of, group_of, lies, object_of, one_host, pool_of, removal_of, removed, state, summary, three, with_devices, without, words
+from pool_cases import NO_DEVICE, NO_GROUP, NO_POOL, SEED, accepted, created, devices_of, group_of, lies, object_of, pool_of, removal_of, removed, state, summary, with_devices, without, words
 from replies import BAD, METHOD, NO_PATH, NO_TENANT, dropped, made
 from report_cases import SECOND, TWO, impact_of, moved, moves_of, taking, touched, usage_of, used
 
