@@ -505,7 +505,9 @@ def clusters():
         epoch += 1
         rows.append((devices_of(f"d{epoch}", *entries), accepted(12, epoch)))
         for pool in (1, 2):
-            raw = Placed(CLUSTER, pool=pool, size=size, pg_num=groups, reweights=reweights).raw
+            how = dict(pool=pool, size=size, pg_num=groups, reweights=reweights, down=down, erasure=pool == 2)
+            plain = Placed(CLUSTER, **how)
+            raw = plain.raw
             pairs = []
             for _ in range(80):
                 group = drawn.randrange(groups)
@@ -513,8 +515,8 @@ def clusters():
                 pairs.append((group, old, drawn.choice([it for it in range(12) if it != old])))
             epoch += 1
             rows.append((exceptions_of(f"x{epoch}", *pairs, pool=pool), excepted(epoch, len(pairs), pool)))
-            with_pairs = Placed(CLUSTER, pool=pool, size=size, pg_num=groups, reweights=reweights, down=down, pairs=pairs, erasure=pool == 2)
-            assert any(with_pairs.up[it] != Placed(CLUSTER, pool=pool, size=size, pg_num=groups, reweights=reweights, down=down, erasure=pool == 2).up[it] for it in range(groups))
+            with_pairs = Placed(CLUSTER, pairs=pairs, **how)
+            assert with_pairs.up != plain.up
             rows += [(group_of(it, pool), lies(epoch, it, with_pairs.seeds[it], with_pairs.up[it], raw[it])) for it in range(groups)]
             rows.append((usage_of(pool), used(epoch, *((device, *row) for device, row in with_pairs.entries().items()), pool=pool)))
             rows += [(impact_of(it, pool), touched(epoch, it, with_pairs.impact(it), pool=pool)) for it in range(12)]
