@@ -428,7 +428,7 @@ def empty_places_of_an_erasure_pool(page):
     page.pool("coded", pg_num=16)
     page.browser.tab("Compare")
     page.browser.has("#groups tbody tr")
-    before, after = (Placed(it, pool=1, size=4, pg_num=16, rule=1) for it in (old, new))
+    before, after = (Placed(it, pool=1, size=4, pg_num=16, rule=1, erasure=True) for it in (old, new))
     moves = before.moves(after)
     names = lambda devices: " ".join("none" if it is None else f"osd.{it}" for it in devices)
     text = page.saved("#moves-csv").splitlines()[1:]
