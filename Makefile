@@ -29,7 +29,7 @@ help:
 	@echo 'make form      formats the sources of each crate; make test refuses what is not in this form'
 	@echo 'make install   builds, and installs PREFIX/bin/crushcalc (PREFIX=/usr/local)'
 	@echo 'make ceph-check   compares 176,000 mappings by requests, 154,000 with reweights and 93 name hashes with those of Ceph'"'"'s own library,'
-	@echo '               74,592 placements of groups with those of its osdmaptool, impacts with what its crushtool moves, and map texts with its crushtool'
+	@echo '               74,592 placements of groups, and 21,660 with exceptions, with those of its osdmaptool, impacts with what its crushtool moves, and map texts with its crushtool'
 	@echo 'make sqlite-check   compares database files with those of the tool sqlite3, both ways'
 	@echo 'make refused-check   refuses each allocation in turn, in memory, over a file and in a server: some 110,000 runs'
 	@echo 'make fuzz      1,000,000 damaged inputs of the seed SEED=S (the time): lines, texts, bodies and streams; INPUTS=N for another number'
@@ -132,6 +132,7 @@ ceph-check: build build/crush_bench bench-deps
 	@python3 tests/ceph/check_names
 	@python3 tests/ceph/check ./crushcalc build/crush_bench
 	@python3 tests/ceph/check_pools ./crushcalc
+	@python3 tests/ceph/check_exceptions ./crushcalc
 	@python3 tests/ceph/check_impacts ./crushcalc
 	@python3 tests/ceph/check_texts ./crushcalc build/crush_bench
 

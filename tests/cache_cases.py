@@ -2,9 +2,10 @@
 nothing, and the room for placements that each is played with."""
 import random
 
+import exception_cases
 import map_cases
 import pool_cases
-from definition import played
+from definition import declaring, played
 
 CALLS, TENANTS, CONTENTS = 60, 300, 256
 LEAST, USUAL, MOST = (("--cache", count) for count in ("1", "1024", "65536"))
@@ -68,6 +69,22 @@ def maps_by_the_hundreds():
     return lines + [of(name, pool_cases.group_of(0)) for _ in range(2) for name in names]
 
 
+def exceptions_between():
+    """A group and an object, twice each before and after changes of the pool's exceptions, of the
+    state of a device that they lead to, and of its being declared. Another pool has its own."""
+    both = lambda pool: [pool_cases.group_of(0, pool), pool_cases.object_of("a", pool)]  # the object's group is 0
+    asked = [it for _ in range(3) for pool in (1, 2) for it in both(pool)]
+    lists = [((0, 0, 1),), ((0, 0, 2),), ((0, 0, 1), (0, 1, 2)), ((0, 1, 2), (0, 0, 1)), ((1, 0, 1),), (), ((0, 0, 1),)]
+    lines = [b"PUT /t/a", map_cases.import_of(declaring(0)), pool_cases.pool_of("p1"), pool_cases.pool_of("p2", id=2, name="q"), exception_cases.exceptions_of("q1", (0, 0, 2), pool=2), *asked]
+    for place, pairs in enumerate(lists):
+        lines += [exception_cases.exceptions_of(f"x{place}", *pairs), *asked]
+    for place, entry in enumerate(({"reweight": 0}, {"reweight": 1}, {"up": False}, {"up": True})):
+        lines += [pool_cases.devices_of(f"d{place}", pool_cases.state(1, **entry)), *asked]
+    for place, text in enumerate((map_cases.tiny(0), declaring(0), declaring(1))):
+        lines += [map_cases.import_of(text, f"again {place}"), *asked]
+    return lines + [pool_cases.removal_of("e1"), pool_cases.pool_of("p3"), *asked]
+
+
 def one_content_too_many():
     """The groups of 256 tenants with maps of their own, those of one more, and the first ones'
     again, after a change of states as well."""
@@ -98,6 +115,7 @@ def cases():
         yield f"sixty_calls_after_those_of_others_{kept}", room, others + sixty
         yield f"sixty_calls_with_those_of_others_{kept}", room, [it for both in zip(others, sixty) for it in both]
         yield f"states_between_{kept}", room, states_between()
+        yield f"exceptions_between_{kept}", room, exceptions_between()
     yield "three_hundred_maps", USUAL, maps_by_the_hundreds()
     yield "one_content_too_many", USUAL, one_content_too_many()
     yield "one_content_too_many_kept_1", LEAST, one_content_too_many()

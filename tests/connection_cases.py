@@ -5,8 +5,8 @@ import socket
 import threading
 import time
 
-from hostile_cases import BODIES, HEADS
-from replies import EXISTS, made, short, there
+from hostile_cases import BODIES, HEADS, exceptions
+from replies import EXISTS, dropped, made, short, there
 from served import Server, asked, message, replies_on, reset
 
 HERE = pathlib.Path(__file__).resolve().parent
@@ -84,7 +84,11 @@ def bodies(program, db):
         lines = [b"PUT /t/a", *(b"POST /t/a/pick " + sent for _, sent, _ in BODIES), b"GET /t/a"]
         found, wanted = asked(server, lines), [made(b"a"), *(reply for _, _, reply in BODIES), there(b"a")]
         wrong = next((name for (name, _, reply), it in zip(BODIES, found[1:]) if it != reply), None)
-        return f"{wrong}: the reply isn't as it has to be" if wrong else unlike(found, wanted)
+        if wrong or found != wanted:
+            return f"{wrong}: the reply isn't as it has to be" if wrong else unlike(found, wanted)
+        lines = [(b"DELETE /t/a", dropped(b"a")), *exceptions()]
+        found = asked(server, [it for it, _ in lines])
+        return next((f"{short(line)}: {short(it)}, not {short(reply)}" for (line, reply), it in zip(lines, found) if it != reply), None)
 
 
 def last_messages(program, db):

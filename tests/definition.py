@@ -1,41 +1,58 @@
 """The definition's reply to a request, and what its tenant has afterwards, for requests on the few
-maps that are named here: those of one device, with the rule 0 or 1, and one that crushtool wrote.
-Written from the rules of requests; hashes are those of crush.py."""
+maps that are named here: those of one device in one bucket, with the rule 0 or 1, of which some
+declare two devices more, and one that crushtool wrote. Written from the rules of requests; hashes
+are those of crush.py."""
 import collections
 import json
 import pathlib
 
 import crush
+import exception_cases
 import map_cases
 import map_text
+import placed
 import pool_cases
 import report_cases
 from replies import BAD, EXISTS, NO_TENANT, dropped, item, made
 
 # a tenant: the map of each version, the line and the reply of each accepted change by its request
-# number, the reweight and whether it is up of each device with a state, and the rule of each pool
-# by its id; no two of these pools have a name in common
+# number, the reweight and whether it is up of each device with a state, and the pools by their ids;
+# no two of these pools have a name in common
 Tenant = collections.namedtuple("Tenant", "versions receipts states pools")
+# a pool: the id of its rule, whether it is erasure coded, and its exceptions (group, from, to)
+Pool = collections.namedtuple("Pool", "rule erasure pairs")
 GROUPS = pool_cases.POOL["pg_num"]  # of each pool
-# a map: its one device, its one rule, and its canonical text
-Map = collections.namedtuple("Map", "device rule text")
+# a map: the one device that its bucket holds, its one rule, its canonical text, and the devices
+# that it declares
+Map = collections.namedtuple("Map", "device rule text devices")
 JEWEL = (pathlib.Path(__file__).resolve().parent / "cases" / "jewel.map").read_text()
+DECLARED = 3  # devices of a map that declares more than one
 
 
 def canonical_of(device, rule):
     return map_cases.canonical_tiny(device).replace("\tid 0\n", f"\tid {rule}\n")
 
 
+def canonical(text):
+    return map_text.write(map_text.read(text.encode())).decode()
+
+
+def declaring(device, rule=0):
+    """The map of one device that declares three."""
+    return pool_cases.with_devices(DECLARED, device).replace("\n id 0\n", f"\n id {rule}\n")
+
+
 # the texts that are imported, each with its map
-TEXTS = {pool_cases.with_rule(rule, map_cases.tiny(device)): Map(device, rule, canonical_of(device, rule)) for device in range(300) for rule in range(2)}
-TEXTS[JEWEL] = Map(0, 0, map_text.write(map_text.read(JEWEL.encode())).decode())
+TEXTS = {pool_cases.with_rule(rule, map_cases.tiny(device)): Map(device, rule, canonical_of(device, rule), (device,)) for device in range(300) for rule in range(2)}
+TEXTS |= {declaring(device, rule): Map(device, rule, canonical(declaring(device, rule)), tuple(range(DECLARED))) for device in range(DECLARED) for rule in range(2)}
+TEXTS[JEWEL] = Map(0, 0, canonical(JEWEL), (0,))
 
 
 def import_into(tenant, asked, epoch):
     if asked["text"] == "":
         return map_cases.refused("M4", 1), None
     map = TEXTS[asked["text"]]
-    if any(it != map.rule for it in tenant.pools.values()):
+    if any(it.rule != map.rule for it in tenant.pools.values()):
         return pool_cases.IN_USE, None
     versions = (*tenant.versions, map)
     return map_cases.imported(epoch, len(versions)), tenant._replace(versions=versions)
@@ -44,7 +61,7 @@ def import_into(tenant, asked, epoch):
 def change_devices(tenant, asked, epoch):
     if not tenant.versions:
         return map_cases.NO_VERSION, None
-    if any(it["id"] != tenant.versions[-1].device for it in asked["devices"]):
+    if any(it["id"] not in tenant.versions[-1].devices for it in asked["devices"]):
         return pool_cases.NO_DEVICE, None
     states = dict(tenant.states)
     for it in asked["devices"]:
@@ -73,16 +90,32 @@ def create_pool(tenant, asked, epoch):
         return map_cases.NO_RULE, None
     if asked["id"] in tenant.pools:
         return EXISTS, None
-    return pool_cases.created(epoch, asked["id"]), tenant._replace(pools={**tenant.pools, asked["id"]: asked["rule"]})
+    pool = Pool(asked["rule"], asked["kind"] == "erasure", ())
+    return pool_cases.created(epoch, asked["id"]), tenant._replace(pools={**tenant.pools, asked["id"]: pool})
 
 
 def remove_pool(tenant, asked, epoch):
     if asked["id"] not in tenant.pools:
         return pool_cases.NO_POOL, None
-    return pool_cases.removed(epoch, asked["id"]), tenant._replace(pools={it: rule for it, rule in tenant.pools.items() if it != asked["id"]})
+    return pool_cases.removed(epoch, asked["id"]), tenant._replace(pools={it: pool for it, pool in tenant.pools.items() if it != asked["id"]})
 
 
-CHANGES = {("maps",): import_into, ("devices",): change_devices, ("devices", "csv"): change_by_csv, ("pools",): create_pool, ("pools", "remove"): remove_pool}
+def except_groups(tenant, asked, epoch):
+    if asked["id"] not in tenant.pools:
+        return pool_cases.NO_POOL, None
+    pairs = tuple((it["group"], it["from"], it["to"]) for it in asked["exceptions"])
+    if any(group >= GROUPS for group, _, _ in pairs):
+        return pool_cases.NO_GROUP, None
+    if any(it not in tenant.versions[-1].devices for _, *both in pairs for it in both):
+        return pool_cases.NO_DEVICE, None
+    pool = tenant.pools[asked["id"]]._replace(pairs=pairs)
+    return exception_cases.excepted(epoch, len(pairs), asked["id"]), tenant._replace(pools={**tenant.pools, asked["id"]: pool})
+
+
+CHANGES = {
+    ("maps",): import_into, ("devices",): change_devices, ("devices", "csv"): change_by_csv, ("pools",): create_pool, ("pools", "remove"): remove_pool,
+    ("pools", "exceptions"): except_groups,
+}
 
 
 def change(tenant, line, asked, act):
@@ -94,21 +127,33 @@ def change(tenant, line, asked, act):
     return reply, changed._replace(receipts={**tenant.receipts, asked["request"]: (line, reply)}) if changed else tenant
 
 
+def state_of(tenant, device):
+    return tenant.states.get(device, (65536, True))
+
+
 def items_of(tenant, device, x):
     """What the rule of a version's map answers for an input: its device, unless that is out by its
     reweight. Every try then comes to the same."""
-    weight = tenant.states.get(device, (65536, True))[0]
+    weight, _ = state_of(tenant, device)
     is_out = weight < 65536 and (weight == 0 or crush.hash2(x, device) & 0xFFFF >= weight)
     return [] if is_out else [device]
 
 
-def up_of(tenant, device, x):
-    """The devices of that answer that are up."""
-    return [it for it in items_of(tenant, device, x) if tenant.states.get(it, (65536, True))[1]]
+def raw_of(tenant, map, pool, group):
+    return items_of(tenant, map.device, seed_of(pool, group))
+
+
+def up_of(tenant, map, pool, group):
+    """The list that the pool's pairs make of that answer, without the devices that aren't up."""
+    _, is_erasure, pairs = tenant.pools[pool]
+    own = [(old, new) for of, old, new in pairs if of == group]
+    items = placed.excepted(raw_of(tenant, map, pool, group), own, lambda it: it in map.devices and state_of(tenant, it)[0] > 0)
+    slots = [it if state_of(tenant, it)[1] else None for it in items]
+    return slots if is_erasure else [it for it in slots if it is not None]
 
 
 def test_on(tenant, asked):
-    """The definition's reply to a rule test: the map of a version has one device."""
+    """The definition's reply to a rule test: the bucket of a version's map has one device."""
     number = asked.get("version", len(tenant.versions))
     if not 1 <= number <= len(tenant.versions):
         return map_cases.NO_VERSION
@@ -129,42 +174,51 @@ def group_in(tenant, pool, group, **more):
         return pool_cases.NO_POOL
     if group >= GROUPS:
         return pool_cases.NO_GROUP
-    device, seed = tenant.versions[-1].device, seed_of(pool, group)
-    return pool_cases.lies(len(tenant.receipts), group, seed, up_of(tenant, device, seed), items_of(tenant, device, seed), len(tenant.versions), **more)
+    map = tenant.versions[-1]
+    return pool_cases.lies(len(tenant.receipts), group, seed_of(pool, group), up_of(tenant, map, pool, group), raw_of(tenant, map, pool, group), len(tenant.versions), **more)
 
 
 def usage_in(tenant, pool):
-    """The definition's counts: each group is on the device of the newest version, or on none."""
+    """The definition's counts: each group is on one device, or on none."""
     if pool not in tenant.pools:
         return pool_cases.NO_POOL
-    device = tenant.versions[-1].device
-    count = sum(len(up_of(tenant, device, seed_of(pool, it))) for it in range(GROUPS))
-    return report_cases.used(len(tenant.receipts), (device, count, count, count, 1000 if count else 0), version=len(tenant.versions), pool=pool)
+    map = tenant.versions[-1]
+    entries = [it for group in range(GROUPS) for it in up_of(tenant, map, pool, group) if it is not None]
+    counts = {device: entries.count(device) for device in sorted(map.devices)}
+    rows = [(device, count, count, count, 1000 * count // len(entries) if entries else 0) for device, count in counts.items()]
+    return report_cases.used(len(tenant.receipts), *rows, version=len(tenant.versions), pool=pool)
 
 
 def moves_in(tenant, pool, first, second):
-    """The definition's moves: each group is on the one device of a version, or on none."""
+    """The definition's moves: each group is on one device by a version, or on none."""
     if pool not in tenant.pools:
         return pool_cases.NO_POOL
     if not (1 <= first <= len(tenant.versions) and 1 <= second <= len(tenant.versions)):
         return map_cases.NO_VERSION
     old, new = tenant.versions[first - 1], tenant.versions[second - 1]
-    if not old.rule == new.rule == tenant.pools[pool]:
+    if not old.rule == new.rule == tenant.pools[pool].rule:
         return map_cases.NO_RULE
-    lists = [(group, *(up_of(tenant, it.device, seed_of(pool, group)) for it in (old, new))) for group in range(GROUPS)]
-    rows = [(group, len(set(after) - set(before)), before, after) for group, before, after in lists if before != after]
+    lists = [(group, *(up_of(tenant, it, pool, group) for it in (old, new))) for group in range(GROUPS)]
+    rows = [(group, len(set(after) - {*before, None}), before, after) for group, before, after in lists if before != after]
     return report_cases.moved(len(tenant.receipts), first, second, *rows, pool=pool)
 
 
 def impact_in(tenant, pool, device):
-    """The definition's groups: the device of the newest version is in each trace where it isn't out
-    by its reweight."""
+    """The definition's groups: those whose trace has the device, as it does where the newest map's
+    bucket holds it and it isn't out by its reweight, and those with a pair that leads to it."""
     if pool not in tenant.pools:
         return pool_cases.NO_POOL
-    if device != tenant.versions[-1].device:
+    map = tenant.versions[-1]
+    if device not in map.devices:
         return pool_cases.NO_DEVICE
-    groups = [it for it in range(GROUPS) if items_of(tenant, device, seed_of(pool, it))]
+    led = {group for group, _, new in tenant.pools[pool].pairs if new == device}
+    groups = [it for it in range(GROUPS) if it in led or device in raw_of(tenant, map, pool, it)]
     return report_cases.touched(len(tenant.receipts), device, groups, len(tenant.versions), pool)
+
+
+def exceptions_in(tenant, pool):
+    """The definition's reply with the exceptions of a pool."""
+    return exception_cases.shown(len(tenant.receipts), *tenant.pools[pool].pairs, pool=pool) if pool in tenant.pools else pool_cases.NO_POOL
 
 
 def version_of(tenant, number):
@@ -172,7 +226,7 @@ def version_of(tenant, number):
     return map_cases.version_of(tenant.versions[number - 1].text, number) if 1 <= number <= len(tenant.versions) else map_cases.NO_VERSION
 
 
-REPORTS = {"groups": group_in, "usage": usage_in, "moves": moves_in, "impact": impact_in}
+REPORTS = {"groups": group_in, "usage": usage_in, "moves": moves_in, "impact": impact_in, "exceptions": exceptions_in}
 
 
 def ask(tenant, rest, asked):
@@ -186,6 +240,13 @@ def ask(tenant, rest, asked):
     return group_in(tenant, int(rest[1]), crush.stable_mod(hash, GROUPS), hash=hash)
 
 
+def is_malformed(rest, sent):
+    """Whether a body isn't of its form: of the scripts some CSV, and pairs of one device."""
+    if rest == ("devices", "csv"):
+        return entries_of(json.loads(sent)["csv"]) is None
+    return rest == ("pools", "exceptions") and any(it["from"] == it["to"] for it in json.loads(sent)["exceptions"])
+
+
 def step(tenant, line):
     """The definition's reply to a line, and its tenant after it. tenant: its tenant before it; None
     where it is absent."""
@@ -194,7 +255,7 @@ def step(tenant, line):
     rest = tuple(rest)
     if method == b"PUT":
         return (EXISTS, tenant) if tenant else (made(name.encode()), Tenant((), {}, {}, {}))
-    if rest == ("devices", "csv") and entries_of(json.loads(sent)["csv"]) is None:
+    if is_malformed(rest, sent):
         return BAD, tenant
     if tenant is None:
         return NO_TENANT, None
@@ -231,12 +292,14 @@ def receipt_of(request, line, reply):
 
 def rows_of(tenant):
     """The epoch and the rows of a tenant, behind its number and in the order of their keys."""
-    pools = pools_of(tenant).values()
+    pools = sorted(pools_of(tenant).values(), key=lambda it: it["id"])
+    pairs = {it["id"]: tenant.pools[it["id"]].pairs for it in pools}
     return {
         "epoch": len(tenant.receipts),
         "maps": [(place, it.text) for place, it in enumerate(tenant.versions, 1)],
         "devices": sorted((device, reweight, int(up)) for device, (reweight, up) in tenant.states.items()),
-        "pools": sorted((it["id"], it["name"], int(it["kind"] == "erasure"), it["size"], it["rule"], it["pg_num"], it["pgp_num"], int(it["hashpspool"])) for it in pools),
+        "pools_2": [(it["id"], it["name"], int(it["kind"] == "erasure"), it["size"], it["rule"], it["pg_num"], it["pgp_num"], int(it["hashpspool"]), len(pairs[it["id"]])) for it in pools],
+        "exceptions": [(pool, place, *pair) for pool, list in pairs.items() for place, pair in enumerate(list)],
         "receipts": sorted((receipt_of(request, *it) for request, it in tenant.receipts.items()), key=lambda row: row[0].encode()),
     }
 

@@ -6,8 +6,9 @@ import pathlib
 import subprocess
 
 import map_cases
+from definition import played
 from served import Server, asked, run_to_end
-from stored import STORE_FAULT
+from stored import SCHEMA_1, STORE_FAULT, files_at
 
 FULL = b'503 {"error":"store_failed"}'
 SIZE = "2m"
@@ -81,6 +82,24 @@ def at_full_disk(program, folder):
     return None if found == [map_cases.summary(more, more), map_cases.imported(more + 1, more + 1)] else f"after a start: {found}"
 
 
+def schema_1_at_full_disk(program, folder):
+    """A file of schema 1 isn't taken over where there is no room for that, and stays as it is; and
+    it is when there is room."""
+    db, rest = folder / "first.db", folder / "rest"
+    db.write_bytes(SCHEMA_1.read_bytes())
+    take_the_rest(rest)
+    found = run_to_end(program, "script", "--db", str(db), data=b"GET /t/a\n")
+    left = files_at(db)
+    if found != (1, b"", STORE_FAULT) or left[""] != SCHEMA_1.read_bytes() or any(left[it] for it in left if it):
+        return f"on a full disk: {found}, and the files have {[len(it) for it in left.values()]} bytes"
+    rest.unlink()
+    live = played(SCHEMA_1.with_suffix(".script").read_bytes().splitlines())[1]
+    summary, = played([b"GET /t/a"], live)[0]
+    found = run_to_end(program, "script", "--db", str(db), data=b"GET /t/a\n")
+    db.unlink()
+    return None if found == (0, summary + b"\n", b"") else f"with room again: {found}"
+
+
 def mounted(folder):
     """Whether a small file system is mounted there."""
     if os.geteuid() != 0:
@@ -97,6 +116,9 @@ def checks(program, folder):
     if not mounted(at):
         return
     try:
+        yield "a file of schema 1 on a full disk", schema_1_at_full_disk(program, at)
+        for it in at.iterdir():
+            it.unlink()
         yield "a full disk", at_full_disk(program, at)
     finally:
         subprocess.run(["umount", str(at)], check=True)

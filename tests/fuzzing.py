@@ -4,6 +4,7 @@ import json
 import pathlib
 import re
 
+import exception_cases
 import hostile_cases
 import map_cases
 import pool_cases
@@ -18,7 +19,7 @@ NUMBERS = (b"0", b"1", b"-1", b"-0", b"2", b"7", b"8", b"32", b"33", b"64", b"65
            b"2147483647", b"2147483648", b"9223372036854775808", b"18446744073709551616", b"00", b"", b"0.00001")
 WORDS = (b"osd.0", b"host", b"root", b"{", b"}", b"item", b"weight", b"pos", b"id", b"alg", b"list", b"tree", b"uniform", b"straw2", b"hash", b"class", b"ssd", b"step", b"take", b"emit",
          b"choose", b"chooseleaf", b"firstn", b"indep", b"type", b"rule", b"device", b"tunable", b"default", b"@", b"#", b"choose_args", b"set_choose_tries", b"min_size", b"1.0", b"0.5")
-KEYWORDS = frozenset(it for it in WORDS if it.isalpha() or b"_" in it) - {b"osd.0", b"host", b"root", b"default"} | {b"text", b"request", b"bucket", b"items", b"kind", b"x", b"r"}
+KEYWORDS = frozenset(it for it in WORDS if it.isalpha() or b"_" in it) - {b"osd.0", b"host", b"root", b"default"} | {b"text", b"request", b"bucket", b"items", b"kind", b"x", b"r", b"exceptions", b"group", b"from", b"to"}
 BYTES = (0, 9, 10, 13, 32, 34, 35, 44, 45, 46, 47, 48, 57, 58, 91, 92, 93, 123, 125, 127, 128, 192, 195, 237, 255)
 
 
@@ -48,9 +49,21 @@ def sessions():
     """The scripts of the cases and of the examples, as lists of lines of the tenant a; long lines
     and long scripts are left out."""
     found = [path.read_bytes().splitlines() for path in sorted((HERE.parent / "examples").glob("*.script"))]
-    found += [[line for line, _ in pairs] for module in (map_cases, pool_cases, report_cases) for _, pairs in module.cases()]
-    found += [[b"PUT /t/a", *(b"POST /t/a/pick " + sent for _, sent, _ in hostile_cases.BODIES)]]
+    found += [[line for line, _ in pairs] for module in (map_cases, pool_cases, report_cases, exception_cases) for _, pairs in module.cases()]
+    found += [[b"PUT /t/a", *(b"POST /t/a/pick " + sent for _, sent, _ in hostile_cases.BODIES)], exceptions(), [line for line, _ in hostile_cases.exceptions()]]
     return [lines for lines in ([it for it in lines if 0 < len(it) <= LONGEST] for lines in found) if 0 < len(lines) <= 120]
+
+
+def exceptions():
+    """A session of exceptions alone, most of which are accepted, with the groups that they
+    change."""
+    lines = [b"PUT /t/a", map_cases.import_of(CLUSTER), pool_cases.pool_of("p1", size=3), pool_cases.pool_of("p2", id=2, name="q", size=2, kind="erasure")]
+    for place in range(20):
+        pool, group, old, new = 1 + place % 2, place % 8, place % 12, (place * 5 + 1) % 12
+        pairs = [(group, old, new), *((it % 8, it % 12, (it + 1 + place) % 12) for it in range(1 + place % 5) if place % 12 != 11)]
+        pairs = [it for it in pairs if it[1] != it[2]]
+        lines += [exception_cases.exceptions_of(f"x{place}", *pairs, pool=pool), pool_cases.group_of(group, pool), exception_cases.shown_of(pool), report_cases.impact_of(new, pool)]
+    return lines
 
 
 def is_number(word):

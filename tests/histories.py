@@ -3,10 +3,11 @@ be, which tenants a stop after it may leave, and whether one list of kept calls 
 history. And calls of several tenants, drawn by chance."""
 import collections
 
+import exception_cases
 import map_cases
 import pool_cases
 import report_cases
-from definition import played, step
+from definition import DECLARED, declaring, played, step
 from replies import body, short
 
 MAPS, POOLS, DEVICES = 4, 3, 2  # that the calls of a tenant name
@@ -92,9 +93,12 @@ def of(tenant, line):
 def changing(drawn, number):
     """A changing request of tenant a under this number."""
     device, pool = drawn.randrange(DEVICES), 1 + drawn.randrange(POOLS)
-    kind = drawn.randrange(9)
+    kind = drawn.randrange(11)
     if kind < 2:
-        return map_cases.import_of(map_cases.tiny(device), number)
+        return map_cases.import_of(drawn.choice((map_cases.tiny, declaring, declaring))(device), number)
+    if kind > 8:
+        pairs = ((drawn.randrange(3), *drawn.sample(range(DECLARED), 2)) for _ in range(drawn.choice((0, 1, 2, 5, 40))))
+        return exception_cases.exceptions_of(number, *pairs, pool=pool)
     if kind == 2:
         return map_cases.import_of("", number)
     if kind < 5:
@@ -110,7 +114,7 @@ def asking(drawn):
     first, second = (1 + drawn.randrange(MAPS) for _ in range(2))
     return drawn.choice((
         b"GET /t/a", b"GET /t/a/maps/%d" % first, pool_cases.group_of(drawn.randrange(9), pool), pool_cases.object_of("cat.jpg", pool), map_cases.test_of(x=drawn.getrandbits(32)),
-        map_cases.test_of(x=1, version=first), report_cases.usage_of(pool), report_cases.moves_of(first, second, pool), report_cases.impact_of(device, pool),
+        map_cases.test_of(x=1, version=first), report_cases.usage_of(pool), report_cases.moves_of(first, second, pool), report_cases.impact_of(device, pool), exception_cases.shown_of(pool),
         b"POST /t/a/pick " + body([(4, 65536), (9, drawn.getrandbits(16))], x=drawn.getrandbits(32)),
     ))
 

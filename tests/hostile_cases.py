@@ -4,6 +4,7 @@ import map_cases
 from replies import BAD, TOO_LARGE, body, dropped, item, made, there
 
 LENGTH = b'501 {"error":"length"}'
+REUSED = map_cases.REUSED
 BODY_LIMIT, TEXT_LIMIT, HEAD_LIMIT, HEADER_LIMIT = 1_048_576, 524_288, 8_192, 32
 OK = "ok devices 1 buckets 1 rules 1"
 
@@ -192,3 +193,58 @@ BODIES = [
     ("no object", b"null", BAD),
     ("of the limit", PICK + b" " * (BODY_LIMIT - len(PICK)), SEVEN),
 ]
+
+# ---- bodies of exceptions of a pool, behind one that was accepted under the same number: another
+# body of the form has reused that number, and any other is refused before
+
+PAIR = b'{"from":0,"group":0,"to":1}'
+ACCEPTED = b'{"exceptions":[' + PAIR + b'],"id":1,"request":"x"}'
+
+
+def pairs(*them):
+    return b'{"exceptions":[' + b",".join(them) + b'],"id":1,"request":"x"}'
+
+
+def pair_with(member):
+    """The pair with a member behind the others, which counts in place of an earlier one of its
+    key."""
+    return PAIR[:-1] + b"," + member + b"}"
+
+
+EXCEPTIONS = [
+    ("a blank more", ACCEPTED + b" ", REUSED),
+    ("no pairs", pairs(), REUSED),
+    ("1,024 pairs", pairs(*[PAIR] * 1024), REUSED),
+    ("1,025 pairs", pairs(*[PAIR] * 1025), BAD),
+    ("30,000 pairs", pairs(*[PAIR] * 30_000), BAD),
+    ("1,024 pairs, the last of one device", pairs(*[PAIR] * 1023, pair_with(b'"to":0')), BAD),
+    *((f"{key} is {value.decode()}", pairs(pair_with(b'"%s":%s' % (key.encode(), value))), reply) for key in ("group", "from", "to") for value, reply in (
+        (b"65535", REUSED), (b"65536", BAD), (b"4294967296", BAD), (b"18446744073709551616", BAD), (b"-1", BAD), (b"-0", BAD), (b"7.0", BAD), (b"7e0", BAD), (b"07", BAD), (b"1e999", BAD),
+        (b'"7"', BAD), (b"null", BAD), (b"true", BAD), (b"[7]", BAD), (b"{}", BAD), (b"", BAD))),
+    *((f"id is {value.decode()}", ACCEPTED.replace(b'"id":1', b'"id":' + value), reply) for value, reply in (
+        (b"2", REUSED), (b"2147483647", REUSED), (b"0", BAD), (b"2147483648", BAD), (b"4294967297", BAD), (b"1.0", BAD), (b'"1"', BAD))),
+    ("a key more", ACCEPTED[:-1] + b',"more":0}', BAD),
+    ("a key more in a pair", pairs(pair_with(b'"more":0')), BAD),
+    ("a key less in a pair", pairs(b'{"from":0,"group":0}'), BAD),
+    ("a pair that is a list", pairs(b"[0,0,1]"), BAD),
+    ("a pair that is none", pairs(b"null"), BAD),
+    ("a list in a list", pairs(b"[" + PAIR + b"]"), BAD),
+    ("a pair in place of the list", b'{"exceptions":' + PAIR + b',"id":1,"request":"x"}', BAD),
+    ("the list twice, the last one good", b'{"exceptions":7,' + ACCEPTED[1:], REUSED),
+    ("the list twice, the first one good", ACCEPTED[:-1] + b',"exceptions":7}', BAD),
+    ("escaped keys", pairs(b'{"fr\\u006fm":0,"group":0,"\\u0074o":1}'), REUSED),
+    ("nested 127 deep", pairs(pair_with(b'"to":' + b"[" * 124 + b"]" * 124 + b',"to":1')), REUSED),
+    ("nested 128 deep", pairs(pair_with(b'"to":' + b"[" * 125 + b"]" * 125 + b',"to":1')), BAD),
+    ("without its end", ACCEPTED[:-1], BAD),
+    ("a comma at the end of the list", pairs(PAIR + b","), BAD),
+    ("of the limit", ACCEPTED + b" " * (BODY_LIMIT - len(ACCEPTED)), REUSED),
+]
+
+
+def exceptions():
+    """Lines with these bodies, of a tenant that has accepted one, with their replies."""
+    start = [(b"PUT /t/a", made(b"a")), (map_cases.import_of(map_cases.tiny().replace("type 0 osd", "device 1 osd.1\ntype 0 osd")), map_cases.imported(1, 1))]
+    pool = map_cases.post("pools", {"hashpspool": True, "id": 1, "kind": "replicated", "name": "p", "pg_num": 8, "pgp_num": 8, "request": "p", "rule": 0, "size": 1})
+    path, shown = b"POST /t/a/pools/exceptions ", b'200 {"epoch":3,"exceptions":[' + PAIR + b'],"pool":1}'
+    rows = [*start, (pool, b'201 {"epoch":2,"pool":1}'), (path + ACCEPTED, b'200 {"epoch":3,"exceptions":1,"pool":1}'), *((path + sent, reply) for _, sent, reply in EXCEPTIONS)]
+    return rows + [(path + ACCEPTED, b'200 {"epoch":3,"exceptions":1,"pool":1}'), (b"GET /t/a/pools/1/exceptions", shown), (b"DELETE /t/a", dropped(b"a"))]

@@ -50,9 +50,9 @@ rule all {
 """ + steps.format("") + "rule more {\n id 1\n" + steps.format(" step set_chooseleaf_tries 2\n")
 
 
-def with_devices(count):
-    """The map of one device with more devices, which no bucket holds."""
-    return with_line(tiny(), 7, "\n".join(f"device {it} osd.{it}" for it in range(count)))
+def with_devices(count, device=0):
+    """The map of one device with more devices, which no bucket holds: so many from 0 on."""
+    return with_line(tiny(device), 7, "\n".join(f"device {it} osd.{it}" for it in range(count)))
 
 
 def with_long_text(count):
@@ -498,6 +498,7 @@ def receipt_limit():
         (devices_of("more", state(1, up=True)), LIMIT),
         (pool_of("more"), LIMIT),
         (removal_of("more"), LIMIT),
+        (post("pools/exceptions", {"exceptions": [], "id": 1, "request": "more"}), LIMIT),  # before no pool
         (import_of("", "more"), LIMIT),
         (devices_of("more"), BAD),
         (down[0], accepted(1, 2)),

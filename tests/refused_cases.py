@@ -6,7 +6,8 @@ import cache_cases
 import map_cases
 import pool_cases
 import report_cases
-from definition import JEWEL, played
+from definition import JEWEL, declaring, played
+from exception_cases import exceptions_of, shown_of
 from replies import NO_MEMORY, body, short, stored_run
 from stored import run_over
 
@@ -74,6 +75,21 @@ def reports():
     return script_of(calls)
 
 
+def exceptions():
+    """Exceptions, accepted, refused, repeated, replaced and shown, with the groups and reports that
+    they change; and again for a tenant of the same name."""
+    first, usage, impact, group = exceptions_of("x1", (0, 0, 1), (3, 0, 2)), report_cases.usage_of(), report_cases.impact_of(1), pool_cases.group_of(0)
+    calls = [
+        b"PUT /t/a", first, shown_of(), map_cases.import_of(declaring(0)), pool_cases.pool_of("p1"), shown_of(), group, first, first, shown_of(), group, pool_cases.object_of("a"), usage, impact,
+        exceptions_of("x2", (8, 0, 1)), exceptions_of("x2", (0, 0, 9)), exceptions_of("x2", (0, 0, 0)), exceptions_of("x1", (0, 0, 2)),
+        exceptions_of("x2", *((it % 8, *((0, 1), (1, 2), (2, 0))[it % 3]) for it in range(30))), shown_of(), group, usage, impact, first, pool_cases.devices_of("d1", pool_cases.state(1, reweight=0)),
+        group, impact, map_cases.import_of(map_cases.tiny(0), "m2"), group, shown_of(), report_cases.moves_of(1, 2), exceptions_of("x3"), shown_of(), group, pool_cases.pool_of("p2", id=2, name="q"),
+        exceptions_of("x4", pool=2), pool_cases.removal_of("e1"), shown_of(), shown_of(2), b"GET /t/a", b"DELETE /t/a", shown_of(), b"PUT /t/a", map_cases.import_of(declaring(0)), pool_cases.pool_of("p1"),
+        first, group, shown_of(), b"GET /t/a",
+    ]
+    return script_of(calls)
+
+
 def same_placements():
     """Two tenants with the same map and pool, whose groups lie alike; one of them is dropped, and
     comes again with another map."""
@@ -99,10 +115,12 @@ def every_route():
     """Each route, and refusals: what a client sends over one connection."""
     again = pool_cases.pool_of("p1")
     usage, moves, impact = report_cases.usage_of(), report_cases.moves_of(1, 2), report_cases.impact_of(3)
+    pairs = exceptions_of("x1", (0, 1, 0), (1, 1, 2))
     return script_of([
         b"PUT /t/a", map_cases.import_of(JEWEL), map_cases.import_of(map_cases.tiny(3), "m2"), b"GET /t/a/maps/1", b"GET /t/a/maps/9", again, again,
         pool_cases.devices_of("d1", pool_cases.state(3, up=False)), pool_cases.group_of(1), report_cases.csv_of("c1", report_cases.lines_of("3,65536,1")), pool_cases.object_of("cat.jpg"),
         usage, moves, impact, b"POST /t/a/pick " + body([(4, 65536), (9, 131072)]), map_cases.test_of(x=4294967295), map_cases.import_of("", "m3"), map_cases.import_of(map_cases.tiny(5), "m2"),
+        map_cases.import_of(declaring(1), "m4"), pairs, shown_of(), pool_cases.group_of(0), pairs, exceptions_of("x2", (0, 1, 3)),
         b"PUT /t/a", b"PUT /t/b", map_cases.of_b(map_cases.import_of(map_cases.tiny(3), "m1")), map_cases.of_b(again), map_cases.of_b(usage), pool_cases.removal_of("e1"), b"GET /t/b", b"DELETE /t/b", b"GET /t/b", b"GET /t/a",
     ])
 
@@ -114,7 +132,7 @@ def kept():
 
 SCRIPTS = {
     "two tenants": two_tenants, "same placements": same_placements, "repeats": repeats, "a map of crushtool's": jewel, "maps and rule tests": maps, "devices and pools": pools,
-    "reports": reports, "every route": every_route, "groups that are kept": kept,
+    "exceptions": exceptions, "reports": reports, "every route": every_route, "groups that are kept": kept,
 }
 
 

@@ -36,19 +36,28 @@ export async function dropLeft() {
     for (const record of kept().filter((it) => it.note?.copy && !localStorage.getItem(COPY + it.tenant))) forget(record);
 }
 
-// Makes a copy of the tenant's newest map, the known states of its devices and a pool, and lets
-// `act` work with it, by its name. Gives what `act` gives, and keeps the copy until `gone` is
-// settled; where `act` fails the copy is dropped first.
-export function withCopy({ tenant, text, states, pool }, step, act, gone) {
+// The exceptions of the tenant's pool, without those that name a device which the newest map lacks:
+// these have no effect, and the service takes none of them anew.
+async function exceptionsOf(tenant, map, pool) {
+    const reply = await ask(`Exceptions of ${pool.name}`, "GET", `/t/${tenant}/pools/${pool.id}/exceptions`);
+    return good(reply, "The pool's exceptions").exceptions.filter((it) => map.byId.has(it.from) && map.byId.has(it.to));
+}
+
+// Makes a copy of the tenant's newest map, the known states of its devices and a pool with its
+// exceptions, and lets `act` work with it, by its name. Gives what `act` gives, and keeps the copy
+// until `gone` is settled; where `act` fails the copy is dropped first.
+export function withCopy({ tenant, map, text, states, pool }, step, act, gone) {
     const name = `${tenant}.copy-${hex(6)}`;
     async function made() {
         step("Making a copy of the cluster");
+        const pairs = await exceptionsOf(tenant, map, pool);
         const there = await ask(`Make the copy ${name}`, "PUT", `/t/${name}`);
         if (there.error !== "exists") good(there, "The copy");
         const set = (what, route, fields) => change(what, name, route, fields, { copy: true }).then((it) => good(it, what));
         await set("Import the map into the copy", "maps", { text });
         for (const part of parts(states)) await set("Set states of devices in the copy", "devices", { devices: part });
         await set("Make the pool in the copy", "pools", pool);
+        if (pairs.length) await set("Set the pool's exceptions in the copy", "pools/exceptions", { id: pool.id, exceptions: pairs });
         return act(name, set);
     }
     return new Promise((done, failed) => {

@@ -57,8 +57,8 @@ function statesOf(cluster) {
 // The drain on a copy that first has to lie as the tenant does: the usage before and after, and the
 // copy's name, which is kept until the drain is let go.
 function onCopy(cluster, pool, chosen, step, drain) {
-    const { tenant, text } = cluster;
-    return withCopy({ tenant, text, states: statesOf(cluster), pool }, step, async (name, set) => {
+    const { tenant, map, text } = cluster;
+    return withCopy({ tenant, map, text, states: statesOf(cluster), pool }, step, async (name, set) => {
         step("Comparing the copy with the cluster");
         const [own, before] = [good(await usageOf(tenant, pool.id), "Usage"), good(await usageOf(name, pool.id), "Usage of the copy")];
         if (JSON.stringify(own.rows) !== JSON.stringify(before.rows)) {

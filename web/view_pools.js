@@ -1,7 +1,8 @@
 // Pools: made by a form, with what Ceph takes where nothing else is said.
 import { ask, change } from "./service.js";
 import { meaning } from "./codes.js";
-import { button, counted, csv, el, fault, labelled, options, save, sayDone } from "./dom.js";
+import { button, counted, csv, cut, el, fault, labelled, options, save, sayDone } from "./dom.js";
+import { idOf } from "./groups.js";
 import { learn, note } from "./known.js";
 
 // Ceph's defaults: osd_pool_default_size and _pg_num, and k=2 m=2 of the erasure code profile
@@ -41,16 +42,41 @@ export function showPools(cluster, message, refresh) {
     return section;
 }
 
+// The placement exceptions of a pool, in their order, each with its group and its two devices.
+function exceptionsOf(cluster, pool, pairs) {
+    const body = el("tbody"), foot = el("div");
+    const row = ({ group, from, to }) => el("tr", { "data-group": group }, el("th", { scope: "row", class: "number" }, group), el("td", {}, idOf(pool, group)), el("td", {}, cluster.name(from)), el("td", {}, cluster.name(to)));
+    const fill = () => it.open && !body.firstChild && foot.replaceChildren(cut(body, pairs.length, (place) => row(pairs[place])));
+    const head = el("tr", {}, ["group", "in Ceph", "from", "to"].map((text) => el("th", { scope: "col" }, text)));
+    const it = el("details", { class: "card", "data-pool": pool.id, on: { toggle: fill } }, el("summary", {}, counted(`Exceptions of ${pool.name}`, pairs)),
+        el("p", { class: "hint" }, "One after the other: in the group, the device to takes the place of from, unless it is in the group's list, is out, or isn't in the newest map."),
+        el("div", { class: "scroll", tabindex: "0", role: "region", "aria-label": `Exceptions of ${pool.name}` }, el("table", { class: "plain" }, el("thead", {}, head), body)), foot);
+    return it;
+}
+
+// Asks for the exceptions of one pool after the other: how many it has goes into its cell, and a
+// list of them, where it has some, under the table.
+async function fillExceptions(cluster, cells, under) {
+    for (const [pool, cell] of cells) {
+        const reply = await ask(`Exceptions of ${pool.name}`, "GET", `/t/${cluster.tenant}/pools/${pool.id}/exceptions`);
+        if (!under.isConnected) return;
+        cell.textContent = reply.status === 200 ? reply.exceptions.length : meaning(reply.status, reply.error);
+        if (reply.exceptions?.length) under.append(exceptionsOf(cluster, pool, reply.exceptions));
+    }
+}
+
 function list(cluster) {
-    const { pools } = cluster.known, rows = pools.map((it) => el("tr", {}, el("td", { class: "number" }, it.id), el("th", { scope: "row" }, it.name), el("td", {}, it.kind),
-        ...[it.size, it.rule, it.pg_num, it.pgp_num].map((value) => el("td", { class: "number" }, value)), el("td", {}, it.hashpspool ? "yes" : "no")));
+    const { pools } = cluster.known, under = el("div", { id: "exceptions" }), cells = new Map(pools.map((it) => [it, el("td", { class: "number" })]));
+    const rows = pools.map((it) => el("tr", {}, el("td", { class: "number" }, it.id), el("th", { scope: "row" }, it.name), el("td", {}, it.kind),
+        ...[it.size, it.rule, it.pg_num, it.pgp_num].map((value) => el("td", { class: "number" }, value)), el("td", {}, it.hashpspool ? "yes" : "no"), cells.get(it)));
     const heads = ["id", "name", "kind", "size", "rule", "pg_num", "pgp_num", "hashpspool"];
     const others = cluster.summary.pools !== pools.length && el("p", { class: "note" }, `The service keeps ${cluster.summary.pools} pools of this cluster, and this browser knows `
         + `${pools.length}: the others were made elsewhere, and no request lists them. Fill in the form as such a pool was made; then you can say that it is there.`);
-    const numbers = new Set(["id", "size", "rule", "pg_num", "pgp_num"]), head = heads.map((it) => el("th", { scope: "col", class: numbers.has(it) && "number" }, it));
+    const numbers = new Set(["id", "size", "rule", "pg_num", "pgp_num", "exceptions"]), head = [...heads, "exceptions"].map((it) => el("th", { scope: "col", class: numbers.has(it) && "number" }, it));
     const table = el("table", { class: "plain" }, el("caption", {}, counted("Pools", pools)), el("thead", {}, el("tr", {}, head)), el("tbody", {}, rows));
     const file = button("Save as CSV", () => save(`pools-${cluster.tenant}.csv`, csv(heads, pools.map((it) => heads.map((head) => it[head])))), { id: "pools-csv" });
-    return el("div", {}, others, rows.length ? [el("div", { class: "card scroll", tabindex: "0", role: "region", "aria-label": "Pools" }, table), file] : el("p", { class: "empty" }, "No pool yet."));
+    fillExceptions(cluster, cells, under);
+    return el("div", {}, others, rows.length ? [el("div", { class: "card scroll", tabindex: "0", role: "region", "aria-label": "Pools" }, table), file, under] : el("p", { class: "empty" }, "No pool yet."));
 }
 
 function form(cluster, said, refresh) {

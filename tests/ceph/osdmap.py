@@ -3,8 +3,9 @@
 osdmaptool makes pools of one form alone (`--createsimple --with-default-pool`: replicated, size 3),
 and none of its options keeps a device down or gives it a reweight. So its own map is changed here
 in its encoded form (`OSDMap::encode` and `pg_pool_t::encode` of Ceph's osd/, release 16): the
-pools, their names, and the states and reweights of devices. osdmaptool then has to read the changed
-map, and to say by `--dump json` that each pool and each device is as it was wanted.
+pools, their names, the states and reweights of devices, and the upmap items of groups. osdmaptool
+then has to read the changed map, and to say by `--dump json` that each pool, each device and each
+upmap item is as it was wanted.
 """
 import json
 import pathlib
@@ -19,6 +20,7 @@ TYPES = {"replicated": 1, "erasure": 3}
 # places in the body of an encoded pool
 TYPE, SIZE, RULE, PG_NUM, PGP_NUM, FLAGS, MIN_SIZE = 0, 1, 2, 4, 8, 52, 64
 NONE = 2_147_483_647  # CRUSH_ITEM_NONE
+UPMAP_FORM = 9  # of the section of an encoded map for clients
 
 
 def checksums():
@@ -102,6 +104,30 @@ def changed(data, pools, states):
     return whole + struct.pack("<I", checksum(whole))
 
 
+def of_upmaps(upmaps):
+    """Encoded upmap items: of each group, by its pool and its number, pairs of devices."""
+    found = struct.pack("<I", len(upmaps))
+    for (pool, group), pairs in sorted(upmaps.items()):
+        # a group's form, its pool, its number, and the device that it once could prefer
+        found += struct.pack("<BQIiI", 1, pool, group, -1, len(pairs))
+        found += b"".join(struct.pack("<ii", *it) for it in pairs)
+    return found
+
+
+def with_upmaps(data, upmaps):
+    """The encoded map, which has no upmap items, with these."""
+    client_end = section_end(data, 6)
+    client = data[12:client_end]
+    # behind the upmap items are the version of the CRUSH map, two lists of removed snapshots, and
+    # two times; before them the whole lists of upmap
+    place = len(client) - (4 + 4 + 4 + 8 + 8) - 4
+    if data[6] != UPMAP_FORM or client[place - 4 : place + 4] != bytes(8) or client[place + 8 : place + 16] != bytes(8):
+        raise library.Failed("osdmaptool's map is of another form, or has upmap items or removed snapshots")
+    client = client[:place] + of_upmaps(upmaps) + client[place + 4 :]
+    whole = section(data[:2], section(data[6:8], client) + data[client_end:])[:-4]
+    return whole + struct.pack("<I", checksum(whole))
+
+
 class OsdMap:
     """A file in a folder with the OSD map of a CRUSH map's text, of pools and of states."""
 
@@ -119,6 +145,14 @@ class OsdMap:
             raise library.Failed(f"osdmaptool reads other pools than {pools}")
         if [self.state_said(of) for of in said["osds"]] != [(of, *it) for of, it in enumerate(states)]:
             raise library.Failed(f"osdmaptool reads other states than {states}")
+
+    def set_upmaps(self, upmaps):
+        """Sets the upmap items of a map that has none: of each group, by its pool and its number,
+        pairs of devices."""
+        self.path.write_bytes(with_upmaps(self.path.read_bytes(), upmaps))
+        said = {it["pgid"]: [(of["from"], of["to"]) for of in it["mappings"]] for it in json.loads(self.ask("--dump", "json"))["pg_upmap_items"]}
+        if said != {f"{pool}.{group:x}": list(pairs) for (pool, group), pairs in upmaps.items()}:
+            raise library.Failed("osdmaptool reads other upmap items than were set")
 
     def ask(self, *words):
         return library.run(["osdmaptool", self.path, *words])[0]

@@ -7,6 +7,7 @@ import sys
 
 TOP = pathlib.Path(__file__).resolve().parent.parent.parent
 sys.path.insert(0, str(TOP / "tests"))
+import exception_cases  # noqa: E402
 import map_cases  # noqa: E402
 import pool_cases  # noqa: E402
 import report_cases  # noqa: E402
@@ -23,6 +24,7 @@ def session(tenant="a"):
         pool_cases.devices_of("d1", pool_cases.state(1, reweight=40000, up=False)), report_cases.csv_of("d2", report_cases.lines_of("0,30000,1", end="\r\n")),
         pool_cases.pool_of("p1", pg_num=64, pgp_num=64), pool_cases.pool_of("p2", id=2, name="q"), pool_cases.removal_of("p3", 2), b"GET /t/a/pools/1/groups/5",
         b"POST /t/a/pools/1/locate " + json.dumps({"name": "Äpfel.jpg"}, ensure_ascii=False).encode(), report_cases.usage_of(), report_cases.moves_of(1, 2), report_cases.impact_of(0),
+        exception_cases.exceptions_of("x1", (5, 4, 3), (63, 0, 1)), exception_cases.shown_of(), b"GET /t/a/pools/1/groups/5", exception_cases.exceptions_of("x2", (64, 0, 1)),
         b"POST /t/a/pick " + body([(4, 65536), (9, 131072)]), map_cases.test_of(x=4294967295, size=2), b"GET /t/a",
         # an import again, and refusals
         map_cases.import_of(pool_cases.duo(), "m1"), b"PUT /t/a", b"GET /t/a/maps/3", b"GET /", b"GET /t/a?all=1", b"GET /t/%61", b"PATCH /t/a", b"OPTIONS /t/a", b"POST /t/a/test {}",

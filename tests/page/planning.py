@@ -239,12 +239,14 @@ def a_pool_has_the_defaults_of_ceph(page):
     text = page.saved("#pools-csv")
     wanted = Placed(example("cluster.txt"), pool=1, size=3, pg_num=32).up
     found = [page.ask("GET", f"/t/{tenant}/pools/1/groups/{it}") for it in range(33)]
-    row = [it.text for it in page.browser.all("main tbody tr")[0].find_elements("css selector", "th, td")]
+    cells = lambda: [it.text for it in page.browser.all("main tbody tr")[0].find_elements("css selector", "th, td")]
+    page.browser.until(lambda: cells()[-1] == "0", "the number of its exceptions isn't shown")
+    row = cells()
     page.browser.click("#kind option[value='erasure']")
     size = page.browser.one("#size").get_property("value")
     return first(
         clicks, unlike([it["up"] for _, it in found[:32]], wanted), unlike(found[32], (404, {"error": "no_group"})),
-        unlike(row, ["1", "photos", "replicated", "3", "0", "32", "32", "yes"]), unlike(size, "4", "the size of an erasure pool is"), unlike(focus, "said", "the focus is on"),
+        unlike(row, ["1", "photos", "replicated", "3", "0", "32", "32", "yes", "0"]), unlike(size, "4", "the size of an erasure pool is"), unlike(focus, "said", "the focus is on"),
         unlike(text, "id,name,kind,size,rule,pg_num,pgp_num,hashpspool\n1,photos,replicated,3,0,32,32,true\n"),
     )
 
@@ -272,6 +274,37 @@ def a_pool_that_was_made_elsewhere(page):
     page.browser.one("#cards tr[data-device]")
     wanted = Placed(example("three_hosts.txt"), pool=7, size=2, pg_num=16).usage()
     return first(None if "keeps 1 pools" in note else note, unlike(entries(page), {it: row[0] for it, row in wanted.items()}))
+
+
+def excepted(page, tenant, number, pairs):
+    """Sets the exceptions of the tenant's pool 1 beside the page: (group, from, to) each."""
+    said = page.ask("POST", f"/t/{tenant}/pools/exceptions", {"request": number, "id": 1, "exceptions": [{"group": group, "from": old, "to": new} for group, old, new in pairs]})
+    return None if (said[0], said[1].get("exceptions")) == (200, len(pairs)) else f"the exceptions are answered {said}"
+
+
+def exceptions_are_listed(page):
+    """How many a pool has, and in their order which, with a device that the newest map lacks by its
+    id."""
+    tenant = page.planned()
+    page.browser.tab("Map")
+    page.drop(example("four_hosts.txt"), "four_hosts.txt", "version 2")
+    page.pool("others", size=2, pg_num=8)
+    pairs = [(9, 4, 3), (9, 3, 6), (0, 0, 4), *((it % 16, it % 6, (it + 1) % 6) for it in range(200))]
+    why = excepted(page, tenant, "x", pairs)
+    page.browser.tab("Map")
+    page.drop(example("three_hosts.txt"), "three_hosts.txt", "version 3")
+    page.browser.tab("Pools")
+    count = lambda: [it.text.split()[-1] for it in page.browser.all("main tbody tr")[:2]]
+    page.browser.until(lambda: count() == [str(len(pairs)), "0"], "the numbers of the pools' exceptions aren't shown")
+    titles = [it.text for it in page.browser.all("#exceptions summary")]
+    page.browser.click("#exceptions summary")
+    rows = lambda: [[it.text for it in row.find_elements("css selector", "th, td")] for row in page.browser.all("#exceptions tbody tr")]
+    page.browser.until(lambda: len(rows()) == 100, "the first hundred aren't listed")
+    name = lambda it: f"osd.{it}" if it < 6 else f"device {it}"
+    return first(
+        why, unlike(titles, [f"Exceptions of photos ({len(pairs)})"]), unlike(rows(), [[str(group), f"1.{group:x}", name(old), name(new)] for group, old, new in pairs[:100]]),
+        unlike(page.browser.text("#exceptions .cut").split(".")[0], f"The first 100 of {len(pairs)} lines"),
+    )
 
 
 def entries(page, column=2):
@@ -395,7 +428,7 @@ def empty_places_of_an_erasure_pool(page):
     page.pool("coded", pg_num=16)
     page.browser.tab("Compare")
     page.browser.has("#groups tbody tr")
-    before, after = (Placed(it, pool=1, size=4, pg_num=16, rule=1) for it in (old, new))
+    before, after = (Placed(it, pool=1, size=4, pg_num=16, rule=1, erasure=True) for it in (old, new))
     moves = before.moves(after)
     names = lambda devices: " ".join("none" if it is None else f"osd.{it}" for it in devices)
     text = page.saved("#moves-csv").splitlines()[1:]
@@ -583,6 +616,38 @@ def devices_are_drained_beside_states_that_are_there(page):
     )
 
 
+def exceptions_are_copied_into_a_drain(page):
+    """The copy has the pool's exceptions, in their order, but for those of a device that the newest
+    map lacks: these have no effect. A pair that leads to a drained device has none afterwards."""
+    tenant = page.imported(example("four_hosts.txt"), "four_hosts.txt")
+    page.pool(size=2, pg_num=16)
+    pairs = [(9, 4, 3), (11, 2, 6), (9, 3, 2), (1, 5, 1), (15, 0, 7), (13, 3, 0), (13, 0, 1)]
+    why = excepted(page, tenant, "x", pairs)
+    page.browser.tab("Map")
+    page.drop(example("three_hosts.txt"), "three_hosts.txt", "version 2")
+    summary, shown_ones = page.summary(tenant), page.ask("GET", f"/t/{tenant}/pools/1/exceptions")
+    page.browser.tab("Drain")
+    page.browser.named("label.host", "host0").click()
+    page.browser.click("#drain")
+    found = drained(page)
+    page.browser.has(DRAINED)
+    plain, before, after = (Placed(example("three_hosts.txt"), pool=1, size=2, pg_num=16, **it) for it in ({}, {"pairs": pairs}, {"pairs": pairs, "reweights": {0: 0, 1: 0}}))
+    assert before.up != plain.up and before.up[1] != after.up[1] == plain.up[1]
+    lists = lists_of_impact(page)
+    page.browser.press(page.browser.named("#all-groups button.group", "1 1.1"))
+    page.browser.has("#goes tr[data-group]")
+    text = page.saved("#goes-csv")
+    page.faults()
+    copied = page.ask("GET", f"/t/{next(it for it in page.copies if it.startswith(tenant))}/pools/1/exceptions")
+    kept = [{"from": old, "group": group, "to": new} for group, old, new in pairs if max(old, new) < 6]
+    joined = lambda devices: " ".join(map(str, devices))
+    return first(
+        why, unlike([it[key] for it in shown_ones[1]["exceptions"] for key in ("group", "from", "to")], [it for pair in pairs for it in pair]), unlike(copied[1].get("exceptions"), kept, "the copy has"),
+        unlike(found, {it: (before.usage()[it][0], after.usage()[it][0]) for it in range(6)}), unlike(lists, {it: before.impact(it) for it in (0, 1)}),
+        unlike(text, f"group,id,old,new\n1,1.1,{joined(before.up[1])},{joined(after.up[1])}\n"), no_copy_is_left(page, tenant, summary),
+    )
+
+
 def a_copy_that_lies_elsewhere_is_not_drained(page):
     """A device's state was set elsewhere, which no request lists: the page says so."""
     tenant = page.planned()
@@ -634,7 +699,7 @@ def cases():
     return (
         a_dropped_map_is_imported_and_its_tree_is_shown, a_file_is_chosen_and_states_of_devices_are_shown, names_that_no_tenant_may_have, the_first_view_says_what_to_do, a_name_that_is_taken,
         one_that_is_there_is_opened, a_refused_first_map_leaves_nothing, a_cluster_is_deleted, devices_are_saved_as_csv, a_tree_can_be_searched, every_code_is_shown_at_its_line, a_text_is_never_markup,
-        a_pool_has_the_defaults_of_ceph, a_pool_that_is_refused, a_pool_that_was_made_elsewhere, usage_is_drawn_by_device_and_host, the_even_share_follows_weights_and_reweights,
+        a_pool_has_the_defaults_of_ceph, a_pool_that_is_refused, a_pool_that_was_made_elsewhere, exceptions_are_listed, usage_is_drawn_by_device_and_host, the_even_share_follows_weights_and_reweights,
         usage_is_saved_as_csv, usage_is_searched_and_ordered, usage_is_ordered_by_the_even_share, two_versions_are_compared, empty_places_of_an_erasure_pool, a_host_is_drained_on_a_copy, groups_that_can_move_are_one_list, before_and_after_are_one_bar, where_a_group_goes, a_result_goes_with_the_choice, devices_are_drained_beside_states_that_are_there,
-        a_copy_that_lies_elsewhere_is_not_drained, an_object_is_found,
+        exceptions_are_copied_into_a_drain, a_copy_that_lies_elsewhere_is_not_drained, an_object_is_found,
     )
