@@ -26,7 +26,7 @@ use Rattle.tenant_resources.specs.Orders.{Accepted, accepted_of}
 use Rattle.tenant_resources.specs.Pools as pools
 use Rattle.tenant_resources.specs.declared.accepted.Accepted as accepted
 use Rattle.tenant_state.specs.Made.{made_of}
-use Rattle.tenant_state.specs.State.{CanTake, Inventory, Made, NewPool, NewStates, NewVersion, RemovedPool, has_rules_of, is_like, newest, pool, rule_of, version}
+use Rattle.tenant_state.specs.State.{CanTake, Inventory, Made, NewPool, NewStates, NewVersion, RemovedPool, TenantPool, has_rules_of, is_like, newest, pool, rule_of, version}
 use Rattle.tenant_state.specs.Valid.{IsInventory, IsMade}
 use Rattle.tenant_state.specs.declared.limits.TheConstants.{POOL_LIMIT, VERSION_LIMIT}
 
@@ -108,7 +108,7 @@ pool_on : (valid : Type 0) (p : PoolParts) (s : Inventory) (a : Accepted) (o : O
 pool_on valid p s a None is ranged h = cc
 pool_on valid p s a (Some m) is ranged h = pool_rule valid p s a (rule_numbered m p.rule) (ap (λ v. option_and_then (λ m. rule_numbered m p.rule) v) is) ranged h
 
-removal_on : (valid : Type 0) (id : ℕ) (s : Inventory) (a : Accepted) (o : Option PoolParts) → pool id s ≡ o → pools.on_pool id s o ≡ Ok a → Makes valid a.made s
+removal_on : (valid : Type 0) (id : ℕ) (s : Inventory) (a : Accepted) (o : Option TenantPool) → pool id s ≡ o → pools.on_pool id s o ≡ Ok a → Makes valid a.made s
 removal_on valid id s a None is h = cc
 removal_on valid id s a (Some p) is h =
     let made : RemovedPool id ≡ a.made = cc in subst (λ x. Makes valid x s) made (record { can = ap is_some is; ranged = λ _. tt })

@@ -5,13 +5,12 @@ ghost use Rattle.tenant_core.specs.Queries as spec;
 ghost use Rattle.tenant_messages.specs.Refusals.{Answers};
 ghost use Rattle.tenant_messages.specs.Reply.{reply};
 
-use crush_pool::{Placement, Pool};
+use crush_pool::Placement;
 use std::alloc::{AllocError, Global};
-use std::rc::Rc;
 use tenant_messages::{Refusal, Reply, or_refused};
 use tenant_reports::{impact, moves, usage};
 use tenant_resources::{ObjectName, PickRequest, RuleTest, groups, maps, picks, rule_tests};
-use tenant_state::Inventory;
+use tenant_state::{Inventory, TenantPool};
 
 /// What is asked of a tenant's state.
 #[derive(Drop)]
@@ -41,13 +40,13 @@ impl Query {
 
     /// The pool and the group that it asks for; `None` where it asks for none, or where what its
     /// tenant has lacks the pool or the group.
-    pub fn group_in<'a>(&self, inventory: &'a Inventory) -> Option<(&'a Rc<Pool>, u32)>
-        ensures asked { IfSome result (λ r. AsksFor self.now inventory.now r.0.now.value r.1) }
-        ensures there { IfSome result (λ r. r.1 < r.0.now.value.pg_num) }
+    pub fn group_in<'a>(&self, inventory: &'a Inventory) -> Option<(&'a TenantPool, u32)>
+        ensures asked { IfSome result (λ r. AsksFor self.now inventory.now r.0.now r.1) }
+        ensures there { IfSome result (λ r. r.1 < r.0.now.parts.pg_num) }
     {
         match self {
             Query::Group(id, group) => {
-                let pool = inventory.pools().get_shared(*id)?;
+                let pool = inventory.pools().get(*id)?;
                 if *group < u64::from(pool.parts().pg_num) {
                     Some((pool, *group as u32))
                 } else {
@@ -55,8 +54,8 @@ impl Query {
                 }
             }
             Query::Object(id, name) => {
-                let pool = inventory.pools().get_shared(*id)?;
-                Some((pool, pool.group_of(name.as_str().as_bytes())))
+                let pool = inventory.pools().get(*id)?;
+                Some((pool, pool.pool().group_of(name.as_str().as_bytes())))
             }
             _ => None,
         }

@@ -10,4 +10,5 @@ pub mod PlainReplies
 pub mod GroupAnswers
 pub mod Mapped
 pub mod PoolForms
+pub mod ExceptionForms
 mod Seen

@@ -1,17 +1,20 @@
 -- The bodies of replies with items have no number with a point or an exponent.
-use Rattle.std.proofs.Common.{◌≡◌, ℕ, List, false, refl}
-use Rattle.serde_json.specs.Written.{has_float}
+use Rattle.std.proofs.Common.{◌≡◌, ℕ, List, [], ◌∷◌, map, false, refl}
+use Rattle.serde_json.specs.View.{items_of}
+use Rattle.serde_json.specs.Written.{has_float, items_have_float}
 use Rattle.crush_bucket.specs.Tables.{tables_of}
 use Rattle.crush_choose.specs.Marks.{Slot}
 use Rattle.crush_rules.specs.Rules.{rule_answer}
 use Rattle.crush_rules.specs.Trace.{rule_trace}
 use Rattle.crush_map.specs.Map.{Map}
 use Rattle.crush_map.specs.declared.draft.Rule.{Rule}
+use Rattle.crush_pool.specs.declared.exceptions.Pair.{Pair}
 use Rattle.crush_pool.specs.declared.placing.Placement.{Placement}
 use Rattle.tenant_messages.proofs.PlainSlots.{slot_plain, slots_plain, ids_plain}
+use Rattle.tenant_resources.specs.Exceptions.{exceptions_reply, pair_json}
 use Rattle.tenant_resources.specs.Groups.{group_reply, object_reply}
 use Rattle.tenant_resources.specs.RuleTests.{outcome, tested}
-use Rattle.tenant_state.specs.State.{Inventory}
+use Rattle.tenant_state.specs.State.{Inventory, TenantPool}
 
 -- ---- placements
 
@@ -20,6 +23,15 @@ group_plain inventory group p = rw (slot_plain p.primary, slots_plain p.raw, slo
 
 pub object_plain : (name : List ℕ) (inventory : Inventory) (group : ℕ) (p : Placement) → has_float (object_reply name inventory group p) ≡ false
 object_plain name inventory group p = rw (slot_plain p.primary, slots_plain p.raw, slots_plain p.up) refl
+
+-- ---- exceptions
+
+pairs_plain : (pairs : List Pair) → items_have_float (items_of (map pair_json pairs)) ≡ false
+pairs_plain [] = refl
+pairs_plain (p ∷ pairs) = pairs_plain pairs
+
+pub exceptions_plain : (inventory : Inventory) (p : TenantPool) → has_float (exceptions_reply inventory p) ≡ false
+exceptions_plain inventory p = rw (pairs_plain p.pairs) refl
 
 -- ---- rule tests
 

@@ -1,6 +1,6 @@
 -- Placement exceptions of pools: at `/t/{t}/pools/exceptions` POST sets those of a pool, and at
 -- `/t/{t}/pools/{p}/exceptions` GET reads them.
-use Rattle.std.specs.Prelude.{◌≡◌, ℕ, suc, ◌≤◌, ◌&&◌, List, [], ◌∷◌, length, map, Bool, true, nat_le, nat_lt, if◌then◌else◌, Option, Some, None, option_and_then, Result, Ok, Err, codes}
+use Rattle.std.specs.Prelude.{◌≡◌, ℕ, suc, ◌≤◌, ◌&&◌, List, [], ◌∷◌, length, map, Bool, true, nat_le, if◌then◌else◌, Option, Some, None, option_and_then, Result, Ok, Err, codes}
 use Rattle.std.specs.List.{list_all}
 use Rattle.serde_json.specs.Data.{Data, object}
 use Rattle.crush_map.specs.Map.{Map}
@@ -70,9 +70,6 @@ exceptions_request_of body = option_and_then exceptions_of (value_of body)
 
 -- ---- setting the pairs of a pool
 
-abbrev pub has_groups : TenantPool → List Pair → Bool
-has_groups p pairs = list_all (λ q. nat_lt q.group p.parts.pg_num) pairs
-
 abbrev pub has_devices : Map → List Pair → Bool
 has_devices m pairs = list_all (λ q. has_device m q.from && has_device m q.to) pairs
 
@@ -87,10 +84,12 @@ on_version id pairs inventory None = Err NoVersion
 on_version id pairs inventory (Some m) =
     if has_devices m pairs then Ok (record { made = NewExceptions id pairs; status = Done; body = setting id pairs inventory }) else Err NoDevice
 
--- and before that, each group has to be one of the pool
+-- and before that, the pool has to be one that can have the pairs: since those of a body are in
+-- their ranges, what it may lack is the group of a pair (law `pools_may_lack_groups`)
 abbrev pub on_pool : ℕ → List Pair → Inventory → Option TenantPool → Result Accepted Problem
 on_pool id pairs inventory None = Err NoPool
-on_pool id pairs inventory (Some p) = if has_groups p pairs then on_version id pairs inventory (version (newest inventory) inventory) else Err NoGroup
+on_pool id pairs inventory (Some p) =
+    if are_pairs p.parts.pg_num pairs then on_version id pairs inventory (version (newest inventory) inventory) else Err NoGroup
 
 abbrev pub exceptions_set : ℕ → List Pair → Inventory → Result Accepted Problem
 exceptions_set id pairs inventory = on_pool id pairs inventory (pool id inventory)

@@ -5,4 +5,5 @@ pub mod Maps
 pub mod RuleTests
 pub mod Devices
 pub mod Pools
+pub mod Exceptions
 pub mod Groups

@@ -152,7 +152,7 @@ fn all_changed(
 }
 
 /// Whether a version has a device.
-fn has_device(version: &Version, device: u32) -> bool
+pub(crate) fn has_device(version: &Version, device: u32) -> bool
     ensures { result ≡ spec.has_device version.now device }
 {
     version.tables().has_device(device)

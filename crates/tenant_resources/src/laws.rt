@@ -1,7 +1,13 @@
 //! Laws of the forms of bodies: each contract holds of the definitions alone.
 
+ghost use Rattle.std.specs.Prelude.{◌≡◌, List, nat_lt, true, ℕ};
+ghost use Rattle.std.specs.List.{list_all};
+ghost use Rattle.crush_pool.specs.Exceptions.{are_pairs};
+ghost use Rattle.crush_pool.specs.declared.exceptions.Pair.{Pair};
+ghost use Rattle.crush_pool.specs.declared.limits.TheConstants.{GROUP_LIMIT};
 ghost use Rattle.tenant_messages.specs.Forms.{FindsExactly, ReadsExactly, RefusesOthers};
 ghost use Rattle.tenant_resources.specs.Devices.{IsDevicesBody, changes_of, devices_request_of};
+ghost use Rattle.tenant_resources.specs.Exceptions.{IsExceptionsBody, exceptions_of, exceptions_request_of};
 ghost use Rattle.tenant_resources.specs.Groups.{IsLocateBody, name_of, locate_request_of};
 ghost use Rattle.tenant_resources.specs.Maps.{IsImportBody, import_of, import_request_of};
 ghost use Rattle.tenant_resources.specs.Picks.{IsPickBody, pick_of, pick_request_of};
@@ -62,4 +68,18 @@ pub fn removals_are_of_the_form()
     ensures value { FindsExactly removal_of IsRemovalBody }
     ensures body { ReadsExactly removal_request_of IsRemovalBody }
     ensures refused { RefusesOthers removal_request_of IsRemovalBody }
+{}
+
+/// The exceptions of a pool are read from a body exactly where the body has their form and says
+/// them; any other body is refused.
+pub fn exceptions_are_of_the_form()
+    ensures value { FindsExactly exceptions_of IsExceptionsBody }
+    ensures body { ReadsExactly exceptions_request_of IsExceptionsBody }
+    ensures refused { RefusesOthers exceptions_request_of IsExceptionsBody }
+{}
+
+/// Pairs that some pool can have, as those of a body are, are ones that a pool with so many groups
+/// can have exactly where it has the group of each.
+pub fn pools_may_lack_groups()
+    ensures { (groups : ℕ) (pairs : List Pair) → are_pairs GROUP_LIMIT pairs ≡ true → are_pairs groups pairs ≡ list_all (λ p. nat_lt p.group groups) pairs }
 {}

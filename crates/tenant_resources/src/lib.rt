@@ -4,6 +4,7 @@
 
 mod accepted;
 pub mod devices;
+pub mod exceptions;
 pub mod groups;
 pub mod laws;
 pub mod limits;

@@ -1,0 +1,234 @@
+//! Placement exceptions of pools: at `/t/{t}/pools/exceptions` POST sets those of a pool, and at
+//! `/t/{t}/pools/{p}/exceptions` GET reads them.
+
+ghost use Rattle.std.specs.Prelude.{◌≡◌, ◌<◌, ◌^◌, false, IfOk, Ok, Err, if◌then◌else◌, map};
+ghost use Rattle.std.specs.List.{list_all};
+ghost use Rattle.serde_json.specs.View.{view, items_view};
+ghost use Rattle.serde_json.specs.Written.{has_float};
+ghost use Rattle.crush_pool.specs.Exceptions.{are_pairs, is_pair};
+ghost use Rattle.crush_pool.specs.declared.limits.TheConstants.{GROUP_LIMIT};
+ghost use Rattle.tenant_messages.specs.Json as json;
+ghost use Rattle.tenant_messages.specs.Reading.{Reads};
+ghost use Rattle.tenant_messages.specs.Refusals.{Answers, Gives};
+ghost use Rattle.tenant_messages.specs.Slots.{list_json};
+ghost use Rattle.tenant_resources.specs.Exceptions as spec;
+ghost use Rattle.tenant_resources.specs.Orders.{accepted_of};
+
+use crate::accepted::Accepted;
+use crate::devices::has_device;
+use crush_cache::SharedExceptions;
+use crush_map::limits::NUMBER_LIMIT;
+use crush_map::{Listed, Text};
+use crush_pool::limits::{GROUP_LIMIT, PAIR_LIMIT, POOL_ID_LIMIT};
+use crush_pool::{Exceptions, Pair};
+use serde_json::{Value, json};
+use std::alloc::{AllocError, Global};
+use tenant_messages::{
+    Problem, Refusal, Reply, SuccessStatus, has_keys, natural, read_value, request_number, success,
+};
+use tenant_state::{Inventory, Made, TenantPool, Version};
+
+// ---- the body
+
+/// The pair that a value of the list says, not yet tested for its ranges; `None` where it isn't of
+/// the form of one.
+fn pair(value: &Value) -> Option<Pair>
+    ensures { result ≡ spec.pair_of (view value.now) }
+{
+    if !has_keys(value, 3) {
+        return None;
+    }
+    let group = natural(value, "group", 4_294_967_295)?;
+    let from = natural(value, "from", 4_294_967_295)?;
+    let to = natural(value, "to", 4_294_967_295)?;
+    Some(Pair { group, from, to })
+}
+
+/// The pairs that the values say, in their order. The problem is `BadRequest`, exactly where a
+/// value isn't of the form of a pair.
+fn pairs(alloc: Global, values: &[Value]) -> Result<Vec<Pair>, Refusal>
+    ensures { Reads (λ v. v.items) result (json.each_of spec.pair_of (items_view values.now)) }
+{
+    let mut found = Vec::new(alloc);
+    for value in values {
+        let next = pair(value).ok_or(Problem::BadRequest)?;
+        if found.push(next).is_err() {
+            return Err(Refusal::NoMemory);
+        }
+    }
+    Ok(found)
+}
+
+/// Whether some pool can have a pair: its group is one that a pool can have, and its ids are two
+/// different ones that devices can have.
+fn is_pair(pair: &Pair) -> bool
+    ensures { result ≡ is_pair GROUP_LIMIT pair.now }
+{
+    pair.group < GROUP_LIMIT
+        && pair.from <= NUMBER_LIMIT
+        && pair.to <= NUMBER_LIMIT
+        && pair.from != pair.to
+}
+
+/// Whether some pool can have each of the pairs.
+fn are_all_pairs(pairs: &[Pair]) -> bool
+    ensures { result ≡ list_all (is_pair GROUP_LIMIT) pairs.now }
+{
+    pairs.iter().all(|pair| is_pair(pair))
+}
+
+/// Whether some pool can have these pairs, of which there are then at most `PAIR_LIMIT`.
+fn are_pairs(pairs: &[Pair]) -> bool
+    ensures { result ≡ are_pairs GROUP_LIMIT pairs.now }
+{
+    pairs.len() <= PAIR_LIMIT && are_all_pairs(pairs)
+}
+
+/// The request number, the id of the pool and the pairs that a body's value says. The problem is
+/// `BadRequest`, exactly where the value isn't of the form of such a body.
+fn exceptions_in(alloc: Global, value: &Value) -> Result<(Text, (u32, Listed<Pair>)), Refusal>
+    ensures { Reads (λ asked. asked) result (spec.exceptions_of (view value.now)) }
+{
+    if !has_keys(value, 3) {
+        return Err(Refusal::Problem(Problem::BadRequest));
+    }
+    let number = request_number(value).ok_or(Problem::BadRequest)?;
+    let id = natural(value, "id", POOL_ID_LIMIT).ok_or(Problem::BadRequest)?;
+    let values = value
+        .get("exceptions")
+        .and_then(Value::as_array)
+        .ok_or(Problem::BadRequest)?;
+    let found = pairs(alloc, values)?;
+    if id >= 1 && are_pairs(&found) {
+        Ok((Text::copy(alloc, number)?, (id, Listed::new(found))))
+    } else {
+        Err(Refusal::Problem(Problem::BadRequest))
+    }
+}
+
+/// The request number, the id of the pool and the pairs that a body asks for. The problem is
+/// `BadRequest`, exactly where the body isn't of the form (`IsExceptionsBody`).
+pub fn read_exceptions(
+    alloc: Global,
+    body: &str,
+) -> Result<(Text, (u32, Listed<Pair>)), Refusal>
+    ensures { Reads (λ asked. asked) result (spec.exceptions_request_of body.now) }
+{
+    exceptions_in(alloc, &read_value(alloc, body)?)
+}
+
+// ---- setting the pairs of a pool
+
+/// Whether a version has both devices of each pair.
+fn has_devices(version: &Version, pairs: &[Pair]) -> bool
+    ensures { result ≡ spec.has_devices version.now pairs.now }
+{
+    pairs
+        .iter()
+        .all(|pair| has_device(version, pair.from) && has_device(version, pair.to))
+}
+
+/// A copy of pairs as the exceptions of a pool, to be shared. The problem is `NoGroup`, exactly
+/// where the pool can't have them: of pairs that some pool can have it lacks the group of one.
+fn shared(alloc: Global, pool: &TenantPool, pairs: &[Pair]) -> Result<SharedExceptions, Refusal>
+    ensures { Gives (λ e. e) result (if are_pairs pool.now.parts.pg_num pairs.now then Ok pairs.now else Err Problem.NoGroup) }
+{
+    let mut copy = Vec::with_capacity(alloc, pairs.len())?;
+    copy.extend_from_slice(pairs)?;
+    match Exceptions::new(alloc, pool.pool(), copy)? {
+        Ok(exceptions) => Ok(SharedExceptions::new(alloc, exceptions)?),
+        Err(_) => Err(Refusal::Problem(Problem::NoGroup)),
+    }
+}
+
+/// The body of the reply: the epoch after the change, how many pairs there are, and the pool's id.
+fn setting(
+    alloc: Global,
+    id: u32,
+    pairs: &[Pair],
+    inventory: &Inventory,
+) -> Result<Value, AllocError>
+    requires receipts { inventory.now.epoch < 2 ^ 32 }
+    ensures { IfOk result (λ v. view v ≡ spec.setting id pairs.now inventory.now) }
+{
+    json!(in alloc; {
+        "epoch": inventory.epoch() + 1,
+        "exceptions": pairs.len() as u64,
+        "pool": id
+    })
+}
+
+/// These pairs as all the exceptions of the pool with an id, with the reply. The problem is, in
+/// this order, `NoPool`, `NoGroup` where the pool lacks the group of one of the pairs (`shared`),
+/// `NoVersion`, or `NoDevice` where the newest version lacks a device of one of them.
+pub fn set(
+    alloc: Global,
+    id: u32,
+    pairs: &[Pair],
+    inventory: &Inventory,
+) -> Result<Accepted, Refusal>
+    requires { inventory.now.epoch < 2 ^ 32 }
+    ensures given { Gives accepted_of result (spec.exceptions_set id pairs.now inventory.now) }
+    ensures plain { IfOk result (λ a. has_float (view a.body) ≡ false) }
+{
+    let pool = inventory
+        .pools()
+        .get(u64::from(id))
+        .ok_or(Problem::NoPool)?;
+    let exceptions = shared(alloc, pool, pairs)?;
+    let Some(version) = inventory.version(inventory.newest()) else {
+        return Err(Refusal::Problem(Problem::NoVersion));
+    };
+    if !has_devices(version, pairs) {
+        return Err(Refusal::Problem(Problem::NoDevice));
+    }
+    Ok(Accepted {
+        made: Made::Exceptions(id, exceptions),
+        status: SuccessStatus::Done,
+        body: setting(alloc, id, pairs, inventory)?,
+    })
+}
+
+// ---- the answer
+
+/// A pair as JSON.
+fn pair_json(alloc: Global, pair: &Pair) -> Result<Value, AllocError>
+    ensures { IfOk result (λ v. view v ≡ spec.pair_json pair.now) }
+{
+    json!(in alloc; {"from": pair.from, "group": pair.group, "to": pair.to})
+}
+
+fn pairs_json(alloc: Global, pairs: &[Pair]) -> Result<Value, AllocError>
+    ensures { IfOk result (λ v. view v ≡ list_json (map spec.pair_json pairs.now)) }
+{
+    let mut values = Vec::with_capacity(alloc, pairs.len())?;
+    for pair in pairs {
+        values.push(pair_json(alloc, pair)?)?;
+    }
+    Ok(Value::Array(values))
+}
+
+/// The body of the reply with the pairs of a pool.
+fn exceptions_reply(
+    alloc: Global,
+    inventory: &Inventory,
+    pool: &TenantPool,
+) -> Result<Value, AllocError>
+    ensures { IfOk result (λ v. view v ≡ spec.exceptions_reply inventory.now pool.now) }
+{
+    let pairs = pairs_json(alloc, pool.exceptions().pairs())?;
+    json!(in alloc; {
+        "epoch": inventory.epoch(),
+        "exceptions": pairs,
+        "pool": pool.parts().id
+    })
+}
+
+/// The reply with the pairs of the pool with an id, in their order. The problem is `NoPool`.
+pub fn answer(alloc: Global, id: u64, inventory: &Inventory) -> Result<Reply, Refusal>
+    ensures { Answers result (spec.exceptions_answer id inventory.now) }
+{
+    let pool = inventory.pools().get(id).ok_or(Problem::NoPool)?;
+    let body = exceptions_reply(alloc, inventory, pool)?;
+    Ok(success(alloc, &body)?)
+}
