@@ -5,7 +5,6 @@ use Rattle.std.specs.List.{list_all}
 use Rattle.crush_map.specs.Map.{Map}
 use Rattle.crush_map.specs.declared.draft.Rule.{Rule}
 use Rattle.crush_pool.specs.Placements.{rule_numbered}
-use Rattle.crush_pool.specs.declared.pool.PoolParts.{PoolParts}
 use Rattle.tenant_core.proofs.Once.{decided_fits, only_commands_change}
 use Rattle.tenant_core.specs.Commands.{decision, Command}
 use Rattle.tenant_core.specs.Step.{decision_on}
@@ -15,7 +14,7 @@ use Rattle.tenant_resources.specs.Groups as groups
 use Rattle.tenant_state.proofs.Leaving.{rules_stay}
 use Rattle.tenant_state.proofs.Staying.{both_true}
 use Rattle.tenant_state.specs.Receipts.{Receipts, with_receipt}
-use Rattle.tenant_state.specs.State.{Inventory, TenantState, Change, after, have_rules, inventory_of, with_made, with_receipts, version, newest, on_version, if_there, pool, rule_of}
+use Rattle.tenant_state.specs.State.{Inventory, TenantPool, TenantState, Change, after, have_rules, inventory_of, with_made, with_receipts, version, newest, on_version, if_there, pool, rule_of}
 
 -- ---- each change leaves the rules of pools in the newest version
 
@@ -42,15 +41,15 @@ found-passes t test (y ∷ ys) x all h =
     at true one rest is = let same : y ≡ x = cc in subst (λ z. t z ≡ true) same one
     at false one rest is = rest is
 
-ruled : (m : Map) (s : Inventory) (p : PoolParts) (group : ℕ) (o : Option Rule) → rule_numbered m p.rule ≡ o → is_some o ≡ true → is_ok (groups.on_map group (on_version s p m)) ≡ true
+ruled : (m : Map) (s : Inventory) (p : TenantPool) (group : ℕ) (o : Option Rule) → rule_numbered m p.parts.rule ≡ o → is_some o ≡ true → is_ok (groups.on_map group (on_version s p m)) ≡ true
 ruled m s p group None is h = cc
 ruled m s p group (Some r) is h = rw is (rw is refl)
 
-placed_on : (s : Inventory) (p : PoolParts) (group : ℕ) (o : Option Map) → is_some (option_and_then (λ m. rule_numbered m p.rule) o) ≡ true → is_ok (groups.on_map group (if_there s p o)) ≡ true
+placed_on : (s : Inventory) (p : TenantPool) (group : ℕ) (o : Option Map) → is_some (option_and_then (λ m. rule_numbered m p.parts.rule) o) ≡ true → is_ok (groups.on_map group (if_there s p o)) ≡ true
 placed_on s p group None h = cc
-placed_on s p group (Some m) h = ruled m s p group (rule_numbered m p.rule) refl h
+placed_on s p group (Some m) h = ruled m s p group (rule_numbered m p.parts.rule) refl h
 
-pub groups_are_placed : (s : Inventory) (id group : ℕ) (p : PoolParts) → have_rules s ≡ true → pool id s ≡ Some p → group < p.pg_num → is_ok (groups.placed s p group) ≡ true
+pub groups_are_placed : (s : Inventory) (id group : ℕ) (p : TenantPool) → have_rules s ≡ true → pool id s ≡ Some p → group < p.parts.pg_num → is_ok (groups.placed s p group) ≡ true
 groups_are_placed s id group p had is below =
-    let inside : nat_lt group p.pg_num ≡ true = grind (arith, nat_tests, below) in
-    rw inside (placed_on s p group (version (newest s) s) (found-passes (λ q. is_some (rule_of s q)) (λ q. q.id == id) s.pools p had is))
+    let inside : nat_lt group p.parts.pg_num ≡ true = grind (arith, nat_tests, below) in
+    rw inside (placed_on s p group (version (newest s) s) (found-passes (λ q. is_some (rule_of s q.parts)) (λ q. q.parts.id == id) s.pools p had is))

@@ -2,7 +2,6 @@
 
 ghost use Rattle.std.specs.Prelude.{◌≡◌, ◌≢◌, ◌<◌, ℕ, suc, true, is_ok, List, Option, Some, None};
 ghost use Rattle.std.specs.Str.{is_utf8};
-ghost use Rattle.crush_pool.specs.declared.pool.PoolParts.{PoolParts};
 ghost use Rattle.tenant_core.specs.Commands.{decision, Command};
 ghost use Rattle.tenant_resources.specs.Groups.{placed};
 ghost use Rattle.tenant_state.specs.Receipts.{receipt_of};
@@ -14,7 +13,7 @@ ghost use Rattle.tenant_core.specs.declared.request.Action.{Action};
 ghost use Rattle.tenant_core.specs.declared.decision.Effect.{Effect};
 ghost use Rattle.tenant_core.specs.Effects.{Fits};
 ghost use Rattle.tenant_core.specs.Request.{IsAction};
-ghost use Rattle.tenant_state.specs.State.{Inventory, TenantState, Change, epoch, fresh, after, have_rules, inventory_of, pool};
+ghost use Rattle.tenant_state.specs.State.{Inventory, TenantPool, TenantState, Change, epoch, fresh, after, have_rules, inventory_of, pool};
 ghost use Rattle.tenant_state.specs.Valid.{IsState};
 
 use crush_text::texts_are_read_as_they_say;
@@ -72,5 +71,5 @@ pub fn pools_have_their_rules()
     ensures fresh { have_rules (inventory_of fresh) ≡ true }
     ensures stays { (tenant : List ℕ) (action : Action) (s : TenantState) (c : Change) → (decision_on tenant action (Some s)).effect ≡ Effect.Change c
         → have_rules (inventory_of s) ≡ true → have_rules (inventory_of (after c s)) ≡ true }
-    ensures placed { (i : Inventory) (id group : ℕ) (p : PoolParts) → have_rules i ≡ true → pool id i ≡ Some p → group < p.pg_num → is_ok (placed i p group) ≡ true }
+    ensures placed { (i : Inventory) (id group : ℕ) (p : TenantPool) → have_rules i ≡ true → pool id i ≡ Some p → group < p.parts.pg_num → is_ok (placed i p group) ≡ true }
 {}

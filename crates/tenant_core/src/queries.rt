@@ -5,19 +5,22 @@ ghost use Rattle.tenant_core.specs.Queries as spec;
 ghost use Rattle.tenant_messages.specs.Refusals.{Answers};
 ghost use Rattle.tenant_messages.specs.Reply.{reply};
 
-use crush_pool::{Placement, Pool};
+use crush_pool::Placement;
 use std::alloc::{AllocError, Global};
-use std::rc::Rc;
 use tenant_messages::{Refusal, Reply, or_refused};
 use tenant_reports::{impact, moves, usage};
-use tenant_resources::{ObjectName, PickRequest, RuleTest, groups, maps, picks, rule_tests};
-use tenant_state::Inventory;
+use tenant_resources::{
+    ObjectName, PickRequest, RuleTest, exceptions, groups, maps, picks, rule_tests,
+};
+use tenant_state::{Inventory, TenantPool};
 
 /// What is asked of a tenant's state.
 #[derive(Drop)]
 pub enum Query {
     /// The text of the version with this number.
     Version(u64),
+    /// The exceptions of the pool with this number.
+    Exceptions(u64),
     /// Where a group lies: in the pool with the first number, the group with the second.
     Group(u64, u64),
     /// Where the object with this name lies in the pool with this number.
@@ -41,13 +44,13 @@ impl Query {
 
     /// The pool and the group that it asks for; `None` where it asks for none, or where what its
     /// tenant has lacks the pool or the group.
-    pub fn group_in<'a>(&self, inventory: &'a Inventory) -> Option<(&'a Rc<Pool>, u32)>
-        ensures asked { IfSome result (λ r. AsksFor self.now inventory.now r.0.now.value r.1) }
-        ensures there { IfSome result (λ r. r.1 < r.0.now.value.pg_num) }
+    pub fn group_in<'a>(&self, inventory: &'a Inventory) -> Option<(&'a TenantPool, u32)>
+        ensures asked { IfSome result (λ r. AsksFor self.now inventory.now r.0.now r.1) }
+        ensures there { IfSome result (λ r. r.1 < r.0.now.parts.pg_num) }
     {
         match self {
             Query::Group(id, group) => {
-                let pool = inventory.pools().get_shared(*id)?;
+                let pool = inventory.pools().get(*id)?;
                 if *group < u64::from(pool.parts().pg_num) {
                     Some((pool, *group as u32))
                 } else {
@@ -55,8 +58,8 @@ impl Query {
                 }
             }
             Query::Object(id, name) => {
-                let pool = inventory.pools().get_shared(*id)?;
-                Some((pool, pool.group_of(name.as_str().as_bytes())))
+                let pool = inventory.pools().get(*id)?;
+                Some((pool, pool.pool().group_of(name.as_str().as_bytes())))
             }
             _ => None,
         }
@@ -69,6 +72,7 @@ fn reply_or_refusal(alloc: Global, inventory: &Inventory, query: &Query) -> Resu
 {
     match query {
         Query::Version(number) => maps::answer(alloc, *number, inventory),
+        Query::Exceptions(pool) => exceptions::answer(alloc, *pool, inventory),
         Query::Group(pool, group) => groups::group_answer(alloc, *pool, *group, inventory),
         Query::Object(pool, name) => groups::object_answer(alloc, *pool, name, inventory),
         Query::Usage(pool) => usage::answer(alloc, *pool, inventory),
