@@ -1,5 +1,5 @@
 -- Tables that were made, or that took the place of those of schema 1, stand for the same states.
-use Rattle.std.proofs.Common.{◌≡◌, ◌⊎◌, ◌↔◌, inl, inr, ℕ, ℤ, pos, ◌+◌, List, [], ◌∷◌, ◌++◌, length, map, filter, drop, take, Option, Some, None, arith, refl, sym, ap, subst, ◌∙◌}
+use Rattle.std.proofs.Common.{◌≡◌, ◌⊎◌, ◌↔◌, inl, inr, ℕ, ℤ, pos, ◌+◌, List, [], ◌∷◌, ◌++◌, length, map, filter, drop, take, Bool, Option, Some, None, arith, refl, sym, ap, subst, ◌∙◌}
 use Rattle.std.specs.List.{AllByRecursion}
 use Rattle.std.specs.List.Sorted.{IsPermutation}
 use Rattle.std.proofs.lemmas.List.Sorted.{IsPermutation-map, IsPermutation-refl, IsPermutation-sym, IsPermutation-trans, length_permutation}
@@ -19,7 +19,7 @@ use Rattle.table_schema.specs.Layout.{IsStoreSchema, no_schema, first_schema, st
 use Rattle.tenant_tables.specs.Opened.{IsBare, IsMigrated, Migrates, SetsUp}
 use Rattle.tenant_rows.proofs.OneState.{some_row}
 use Rattle.tenant_rows.proofs.PairRows.{as_many}
-use Rattle.tenant_rows.specs.Rows.{FirstStandsFor, HoldsFirst, StandsFor, StatesIn, first_row_of_pool, row_of_pool, rows_of_exceptions, rows_of_pairs}
+use Rattle.tenant_rows.specs.Rows.{FirstStandsFor, HoldsFirst, StandsFor, StatesIn, first_row_of_pool, row_of_pool, row_of_receipt, row_of_state, rows_of_exceptions, rows_of_pairs, rows_of_versions}
 
 -- ---- schemas
 
@@ -64,7 +64,7 @@ more row = row ++ Int (pos 0) ∷ []
 abbrev less : Row → Row
 less row = take 8 row
 
-abbrev is_of : ℤ → Row → _
+abbrev is_of : ℤ → Row → Bool
 is_of id row = equal Binary (column row 0) (Int id)
 
 -- where no pool has pairs its row is that of schema 1, and 0
@@ -116,9 +116,9 @@ module _ (old new : Trees) (migrated : Migrates old new) where
     record {
       id = held.id;
       tenant = record { row = held.tenant.row; one = tenants_are name ∙ held.tenant.one; number = held.tenant.number; epoch_is = held.tenant.epoch_is };
-      maps = subst (λ rows. IsPermutation (map (values_of maps_table) (rows_with 1 (Int held.id) rows)) _) (sym migrated.tables.1.1.0) held.maps;
-      devices = subst (λ rows. IsPermutation (map (values_of devices_table) (rows_with 1 (Int held.id) rows)) _) (sym migrated.tables.1.1.1.0) held.devices;
-      receipts = subst (λ rows. IsPermutation (map (values_of receipts_table) (rows_with 1 (Int held.id) rows)) _) (sym migrated.tables.1.1.1.1.0) held.receipts;
+      maps = subst (λ rows. IsPermutation (map (values_of maps_table) (rows_with 1 (Int held.id) rows)) (rows_of_versions 1 s.versions)) (sym migrated.tables.1.1.0) held.maps;
+      devices = subst (λ rows. IsPermutation (map (values_of devices_table) (rows_with 1 (Int held.id) rows)) (map row_of_state s.devices)) (sym migrated.tables.1.1.1.0) held.devices;
+      receipts = subst (λ rows. IsPermutation (map (values_of receipts_table) (rows_with 1 (Int held.id) rows)) (map row_of_receipt s.receipts)) (sym migrated.tables.1.1.1.1.0) held.receipts;
       pools = subst (IsPermutation (of_tenant pools_table held.id new)) (rows_more s.pools held.no_pairs)
           (IsPermutation-trans _ _ _ (pools_are held.id) (IsPermutation-map more _ _ held.pools));
       exceptions = subst (λ l. IsPermutation l (rows_of_exceptions s.pools)) (no_rows s.pools held.no_pairs ∙ sym (exceptions_are held.id)) (IsPermutation-refl _);
@@ -136,10 +136,11 @@ module _ (old new : Trees) (migrated : Migrates old new) where
         record {
           id = held.id;
           tenant = record { row = held.tenant.row; one = sym (tenants_are name) ∙ held.tenant.one; number = held.tenant.number; epoch_is = held.tenant.epoch_is };
-          maps = subst (λ rows. IsPermutation (map (values_of maps_table) (rows_with 1 (Int held.id) rows)) _) migrated.tables.1.1.0 held.maps;
-          devices = subst (λ rows. IsPermutation (map (values_of devices_table) (rows_with 1 (Int held.id) rows)) _) migrated.tables.1.1.1.0 held.devices;
-          receipts = subst (λ rows. IsPermutation (map (values_of receipts_table) (rows_with 1 (Int held.id) rows)) _) migrated.tables.1.1.1.1.0 held.receipts;
-          pools = subst (λ l. IsPermutation l _) (less_more held.id old) (subst (IsPermutation _) (rows_less s.pools) (IsPermutation-map less _ _ back));
+          maps = subst (λ rows. IsPermutation (map (values_of maps_table) (rows_with 1 (Int held.id) rows)) (rows_of_versions 1 s.versions)) migrated.tables.1.1.0 held.maps;
+          devices = subst (λ rows. IsPermutation (map (values_of devices_table) (rows_with 1 (Int held.id) rows)) (map row_of_state s.devices)) migrated.tables.1.1.1.0 held.devices;
+          receipts = subst (λ rows. IsPermutation (map (values_of receipts_table) (rows_with 1 (Int held.id) rows)) (map row_of_receipt s.receipts)) migrated.tables.1.1.1.1.0 held.receipts;
+          pools = subst (λ l. IsPermutation l (map (λ (p : TenantPool). first_row_of_pool p.parts) s.pools)) (less_more held.id old)
+              (subst (IsPermutation (map less (map more (of_tenant first_pools_table held.id old)))) (rows_less s.pools) (IsPermutation-map less _ _ back));
           no_pairs = none;
         },
       )

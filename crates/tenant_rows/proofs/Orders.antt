@@ -93,7 +93,7 @@ pub all_pairs : (P : Row → Type 0) (pool place : ℕ) (pairs : List Pair) → 
 all_pairs P pool place [] each = tt
 all_pairs P pool place (p ∷ pairs) each = (each place p, all_pairs P pool (place + 1) pairs each)
 
-tail_up : (p : TenantPool) (ps : List TenantPool) → is_ascending is_lower_pool (p ∷ ps) ≡ true → is_ascending is_lower_pool ps ≡ true
+pub tail_up : (p : TenantPool) (ps : List TenantPool) → is_ascending is_lower_pool (p ∷ ps) ≡ true → is_ascending is_lower_pool ps ≡ true
 tail_up p [] up = refl
 tail_up p (q ∷ qs) up = second (is_lower_pool p q) (is_ascending is_lower_pool (q ∷ qs)) up
 

@@ -3,17 +3,17 @@ use Rattle.std.proofs.Common.{◌≡◌, ◌≢◌, ℕ, ℤ, pos, ◌+◌, ◌<
 use Rattle.std.specs.List.{list_all}
 use Rattle.std.proofs.lemmas.List.{append-nil, length-map, map-append}
 use Rattle.sqlite_value.specs.Order.{Row}
-use Rattle.sqlite_value.specs.declared.value.Value.TheVariants.{Int}
 use Rattle.crush_pool.specs.Exceptions.{is_pair}
 use Rattle.crush_pool.specs.declared.exceptions.Pair.{Pair}
 use Rattle.crush_pool.specs.declared.limits.TheConstants.{GROUP_LIMIT}
+use Rattle.crush_pool.specs.declared.pool.PoolParts.{PoolParts}
 use Rattle.tenant_state.specs.State.{TenantPool}
 use Rattle.tenant_state.specs.Valid.{is_tenant_pool}
 use Rattle.table_schema.specs.Values.{exception_row}
 use Rattle.table_schema.specs.declared.values.Exception.{Exception}
 use Rattle.table_reads.specs.Found.{pool_values}
 use Rattle.table_reads.specs.declared.rows.PoolRow.{PoolRow}
-use Rattle.tenant_rows.specs.Rows.{row_of_pool, row_of_pair, rows_of_pairs, rows_of_exceptions}
+use Rattle.tenant_rows.specs.Rows.{row_of_pool, row_of_pair, row_with_count, rows_of_pairs, rows_of_exceptions}
 use Rattle.tenant_rows.proofs.Reading.{first, second, heads, tails, same_settings}
 
 -- ---- lists
@@ -71,13 +71,14 @@ more_pairs pool start place (q ∷ pairs) p at = ap (λ l. row_of_pair pool star
 
 -- ---- pools with their pairs
 
+same_count : (p q : PoolParts) (m n : ℤ) → row_with_count p m ≡ row_with_count q n → m ≡ n
+same_count p q m n h = cc
+
 -- pools with the same row, and rows that begin with their pairs
 one_pool : (p q : TenantPool) (us vs : List Row) → row_of_pool p ≡ row_of_pool q → rows_of_pairs p.parts.id 0 p.pairs ++ us ≡ rows_of_pairs q.parts.id 0 q.pairs ++ vs → (p ≡ q) × (us ≡ vs)
 one_pool p q us vs row rows =
     let parts = same_settings p.parts q.parts (pos (length p.pairs)) (pos (length q.pairs)) row in
-    let count : Int (pos (length p.pairs)) ≡ Int (pos (length q.pairs)) = cc in
-    let number : pos (length p.pairs) ≡ pos (length q.pairs) = cc in
-    let many = same_number (length p.pairs) (length q.pairs) number in
+    let many = same_number (length p.pairs) (length q.pairs) (same_count p.parts q.parts (pos (length p.pairs)) (pos (length q.pairs)) row) in
     let its : rows_of_pairs p.parts.id 0 p.pairs ++ us ≡ rows_of_pairs p.parts.id 0 q.pairs ++ vs =
     subst (λ n. rows_of_pairs p.parts.id 0 p.pairs ++ us ≡ rows_of_pairs n 0 q.pairs ++ vs) (ap (λ x. x.id) (sym parts)) rows in
     let both = same_front (rows_of_pairs p.parts.id 0 p.pairs) (rows_of_pairs p.parts.id 0 q.pairs) us vs (as_many p.parts.id 0 p.pairs ∙ (many ∙ sym (as_many p.parts.id 0 q.pairs))) its in

@@ -16,7 +16,8 @@ use Rattle.table_writes.proofs.RowFacts.{equal_itself}
 use Rattle.table_writes.specs.Change.{without_key}
 use Rattle.table_schema.specs.Values.{exception_row}
 use Rattle.table_schema.specs.declared.values.Exception.{Exception}
-use Rattle.tenant_rows.proofs.Keyed.{all_above, below, differs, equals, goes, is_other, is_own, other_number, stays, swap, tail_up}
+use Rattle.tenant_rows.proofs.Keyed.{all_above, below, differs, equals, goes, is_other, is_own, other_number, stays, swap}
+use Rattle.tenant_rows.proofs.Orders.{tail_up}
 use Rattle.tenant_rows.proofs.Reading.{first, second}
 use Rattle.tenant_rows.specs.Commits.{with_count}
 use Rattle.tenant_rows.specs.Rows.{row_of_pool, row_of_pair, rows_of_pairs, rows_of_exceptions}
@@ -61,12 +62,12 @@ exceptions_above n p [] low up = refl
 exceptions_above n p (q ∷ qs) low up =
     let next = next_id p q qs up in
     parted n q qs (rows_of_pairs q.parts.id 0 q.pairs) (rows_of_exceptions qs) (pairs_stay n q.parts.id 0 q.pairs (λ same. absurd (omega (arith, low, next, same))))
-    (exceptions_above n q qs (omega (arith, low, next)) (tail_up id_of p (q ∷ qs) up))
+    (exceptions_above n q qs (omega (arith, low, next)) (tail_up p (q ∷ qs) up))
 
 -- without those of the pool that has a number
 pub exceptions_taken : (n : ℕ) (ps : List TenantPool) → is_ascending is_lower_pool ps ≡ true → without_key (pos n) (rows_of_exceptions ps) ≡ rows_of_exceptions (without id_of n ps)
 exceptions_taken n [] up = refl
-exceptions_taken n (p ∷ ps) up = left (p.parts.id == n) refl (exceptions_taken n ps (tail_up id_of p ps up))
+exceptions_taken n (p ∷ ps) up = left (p.parts.id == n) refl (exceptions_taken n ps (tail_up p ps up))
   where
     left : (b : Bool) → (p.parts.id == n) ≡ b → without_key (pos n) (rows_of_exceptions ps) ≡ rows_of_exceptions (without id_of n ps)
         → without_key (pos n) (rows_of_exceptions (p ∷ ps)) ≡ rows_of_exceptions (if b then ps else p ∷ without id_of n ps)
@@ -106,7 +107,7 @@ exchanged new own others rest same =
 pub exceptions_put : (n : ℕ) (pairs : List Pair) (ps : List TenantPool) → is_ascending is_lower_pool ps ≡ true → can_have pairs (find (λ p. p.parts.id == n) ps) ≡ true
     → IsPermutation (rows_of_pairs n 0 pairs ++ without_key (pos n) (rows_of_exceptions ps)) (rows_of_exceptions (with_pairs n pairs ps))
 exceptions_put n pairs [] up can = absurd cc
-exceptions_put n pairs (p ∷ ps) up can = placed (p.parts.id == n) refl (λ later. exceptions_put n pairs ps (tail_up id_of p ps up) later)
+exceptions_put n pairs (p ∷ ps) up can = placed (p.parts.id == n) refl (λ later. exceptions_put n pairs ps (tail_up p ps up) later)
   where
     placed : (b : Bool) → (p.parts.id == n) ≡ b
         → (can_have pairs (find (λ p. p.parts.id == n) ps) ≡ true → IsPermutation (rows_of_pairs n 0 pairs ++ without_key (pos n) (rows_of_exceptions ps)) (rows_of_exceptions (with_pairs n pairs ps)))
@@ -136,7 +137,7 @@ counts_above n count p [] low up = refl
 counts_above n count p (q ∷ qs) low up =
     let next = next_id p q qs up in
     ap (λ r. r ∷ map (with_count (pos n) count) (map row_of_pool qs)) (leaves (pos n) count (row_of_pool q) (other_number q.parts.id n (λ same. absurd (omega (arith, low, next, same)))))
-    ∙ ap (λ l. row_of_pool q ∷ l) (counts_above n count q qs (omega (arith, low, next)) (tail_up id_of p (q ∷ qs) up))
+    ∙ ap (λ l. row_of_pool q ∷ l) (counts_above n count q qs (omega (arith, low, next)) (tail_up p (q ∷ qs) up))
 
 own_key : (n : ℕ) (p : TenantPool) → p.parts.id ≡ n → equal Binary (Int (pos p.parts.id)) (Int (pos n)) ≡ true
 own_key n p is = ap (λ k. equal Binary (Int (pos k)) (Int (pos n))) is ∙ equal_itself (pos n)
@@ -144,7 +145,7 @@ own_key n p is = ap (λ k. equal Binary (Int (pos k)) (Int (pos n))) is ∙ equa
 -- the pool that has a number has another number of pairs
 pub pools_put : (n : ℕ) (pairs : List Pair) (ps : List TenantPool) → is_ascending is_lower_pool ps ≡ true → map (with_count (pos n) (pos (length pairs))) (map row_of_pool ps) ≡ map row_of_pool (with_pairs n pairs ps)
 pools_put n pairs [] up = refl
-pools_put n pairs (p ∷ ps) up = placed (p.parts.id == n) refl (pools_put n pairs ps (tail_up id_of p ps up))
+pools_put n pairs (p ∷ ps) up = placed (p.parts.id == n) refl (pools_put n pairs ps (tail_up p ps up))
   where
     placed : (b : Bool) → (p.parts.id == n) ≡ b → map (with_count (pos n) (pos (length pairs))) (map row_of_pool ps) ≡ map row_of_pool (with_pairs n pairs ps)
         → map (with_count (pos n) (pos (length pairs))) (map row_of_pool (p ∷ ps)) ≡ map row_of_pool (if b then record p { pairs = pairs } ∷ ps else p ∷ with_pairs n pairs ps)
@@ -166,7 +167,7 @@ above_it n p (q ∷ qs) row low up (inl is) key =
     let same = int_number q.parts.id n (sym (ap (λ r. column r 0) is) ∙ key) in
     let next = next_id p q qs up in absurd (omega (arith, low, next, same))
 above_it n p (q ∷ qs) row low up (inr has) key =
-    let next = next_id p q qs up in above_it n q qs row (omega (arith, low, next)) (tail_up id_of p (q ∷ qs) up) has key
+    let next = next_id p q qs up in above_it n q qs row (omega (arith, low, next)) (tail_up p (q ∷ qs) up) has key
 
 -- the row that is written in place of the one with a number
 pub row_put : (n : ℕ) (count : ℤ) (ps : List TenantPool) (row : Row) → is_ascending is_lower_pool ps ≡ true → Has (map row_of_pool ps) row → column row 0 ≡ Int (pos n)
@@ -181,7 +182,7 @@ row_put n count (p ∷ ps) row up (inl is) key =
     ap (λ l. (take 8 row ++ Int count ∷ []) ∷ l) (left ∙ sym (counts_above n count p ps (omega (arith, same)) up)) ∙ ap (λ r. r ∷ map (with_count (pos n) count) (map row_of_pool ps)) (ap (λ r. take 8 r ++ Int count ∷ []) is ∙ sym new) in
     subst (IsPermutation ((take 8 row ++ Int count ∷ []) ∷ without_key (pos n) (map row_of_pool (p ∷ ps)))) all (IsPermutation-refl _)
 row_put n count (p ∷ ps) row up (inr has) key =
-    placed (p.parts.id == n) refl (row_put n count ps row (tail_up id_of p ps up) has key)
+    placed (p.parts.id == n) refl (row_put n count ps row (tail_up p ps up) has key)
   where
     new : Row
     new = take 8 row ++ Int count ∷ []

@@ -35,7 +35,7 @@ use Rattle.tenant_rows.proofs.PairWrites.{exceptions_new, exceptions_put, except
 use Rattle.tenant_rows.proofs.Reading.{more_versions}
 use Rattle.tenant_rows.proofs.Turns.{keeps}
 use Rattle.tenant_rows.specs.Changes.{IsChangeable, Turns}
-use Rattle.tenant_rows.specs.Commits.{HasPoolsFor, numbers_of, rows_with_made}
+use Rattle.tenant_rows.specs.Commits.{HasPoolsFor, numbers_of, rows_with_made, with_count}
 use Rattle.tenant_rows.specs.Rows.{row_of_version, rows_of_versions, row_of_state, row_of_pool, rows_of_exceptions, row_of_receipt, rows_of}
 
 -- ---- versions
@@ -114,7 +114,7 @@ made_rows (NewExceptions id pairs) s is can =
     record {
       maps = IsPermutation-refl _;
       devices = IsPermutation-refl _;
-      pools = subst (IsPermutation _) (pools_put id pairs s.pools is.pool_order) (IsPermutation-refl _);
+      pools = subst (IsPermutation (map (with_count (pos id) (pos (length pairs))) (map row_of_pool s.pools))) (pools_put id pairs s.pools is.pool_order) (IsPermutation-refl _);
       receipts_are = refl;
       exceptions = exceptions_put id pairs s.pools is.pool_order can;
     }

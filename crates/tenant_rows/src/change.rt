@@ -200,23 +200,23 @@ fn write_states<'a, S: Alter>(
 
 /// Writes exceptions of the pool with an id, in place of the earlier ones, with the epoch and the
 /// receipt. The pool is there.
-fn write_exceptions<'a, S: Alter>(
+fn write_exceptions<S: Alter>(
     alloc: Global,
     tables: &mut Tables<S>,
     id: i64,
     epoch: i64,
     pool: u32,
     exceptions: &Exceptions,
-    receipt: ReceiptValues<'a>,
+    receipt: ReceiptValues<'_>,
 ) -> Result<(), Fault>
     requires live { tables.old.1 ≡ false }
     requires there { HasCleanDisk (state S.Store tables.old.0) → IsNumber (state S.Store tables.old.0).now.trees id }
     requires suits { HasCleanDisk (state S.Store tables.old.0) → HasPoolsFor (state S.Store tables.old.0).now.trees id (NewExceptions pool exceptions.now) }
-    ensures done { HasCleanDisk (state S.Store tables.new.0) → OnOk result (Accepts id epoch receipt (with_new_pairs pool exceptions.now) (state S.Store tables.old.0).now.trees (state S.Store tables.new.0).now.trees) }
+    ensures done { HasCleanDisk (state S.Store tables.new.0) → OnOk result (Accepts id epoch receipt.entry (with_new_pairs pool exceptions.now) (state S.Store tables.old.0).now.trees (state S.Store tables.new.0).now.trees) }
     ensures kept { HasCleanDisk (state S.Store tables.new.0) → tables.new.1 ≡ false → OnErr result ((state S.Store tables.new.0).now ≡ (state S.Store tables.old.0).now) }
     ensures latches { tables.new.1 ≡ true ↔ result ≡ Err Fault.Failed }
     ensures rows { HasCleanDisk (state S.Store tables.new.0) → result ≢ Err Fault.Damaged }
-    ensures crash { Survives (state S.Store tables.old.0) (state S.Store tables.new.0) (Accepts id epoch receipt (with_new_pairs pool exceptions.now) (state S.Store tables.old.0).now.trees) }
+    ensures crash { Survives (state S.Store tables.old.0) (state S.Store tables.new.0) (Accepts id epoch receipt.entry (with_new_pairs pool exceptions.now) (state S.Store tables.old.0).now.trees) }
 {
     let rows = tables.pools_of(id)?;
     let Some(row) = row_with(rows, pool) else {
