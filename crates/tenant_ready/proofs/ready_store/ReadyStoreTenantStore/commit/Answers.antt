@@ -44,8 +44,8 @@ pub returns-in_err-commit-in-Some-clause-crash : goal.returns-in_err-commit-in-S
 returns-in_err-commit-in-Some-clause-crash g c = rw (← c.self.view_is) c.commit.ensures.crash
 
 -- what is kept of the name is what the state has after the change, with no number
-pub invariant_of-self-then-epoch : goal.invariant_of-self-then-epoch
-invariant_of-self-then-epoch g c =
+pub invariant_of-self-then-can_take : goal.invariant_of-self-then-can_take
+invariant_of-self-then-can_take g c =
     let open' = rw (← c.self.view_is) at c.requires.open in
     let next = c.in_ok-next-in-Some.next.value in
     let updates = subst (λ n. Updates n (Some next) c.get.new.self c.put.new.self) c.in_ok-key-in-Some.ensures.ok c.put.ensures.only in
