@@ -15,6 +15,9 @@ pub(crate) enum Stop {
 }
 
 impl Stop {
+    /// Neither fails.
+    pub(crate) const NONE: Stop = Stop::Log(u64::MAX);
+
     /// After how many calls the log and the database file fail.
     fn calls(self) -> (u64, u64) {
         match self {

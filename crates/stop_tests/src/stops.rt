@@ -85,7 +85,7 @@ fn first_session(rt: &impl Abort, alloc: Global, stop: Stop) -> Result<bool, All
 
 /// Files that a session without a stop has left, with what it wrote in the log.
 fn files_of_a(alloc: Global) -> Result<Disks, AllocError> {
-    let files = new_files(alloc, Stop::Log(u64::MAX));
+    let files = new_files(alloc, Stop::NONE);
     let (_, files) = session(alloc, files, &calls_of(alloc, FIRST)?, false)?;
     Ok(files)
 }
