@@ -49,8 +49,8 @@ pub fn a_changing_request_acts_once()
 {}
 
 /// Only an absent tenant is created, and only one that exists is removed or changed, by a change
-/// that its state can make: whose request number is new, for which there is room, and whose pool or
-/// version goes with what the tenant has.
+/// that its state can make: whose request number is new, for which there is room, and whose
+/// version, pool or exceptions go with what the tenant has.
 pub fn each_decision_fits_its_state()
     ensures { (tenant : List ℕ) (action : Action) (s : Option TenantState) → Fits (decision_on tenant action s).effect s }
 {}

@@ -108,10 +108,7 @@ fn exceptions_in(alloc: Global, value: &Value) -> Result<(Text, (u32, Listed<Pai
 
 /// The request number, the id of the pool and the pairs that a body asks for. The problem is
 /// `BadRequest`, exactly where the body isn't of the form (`IsExceptionsBody`).
-pub fn read_exceptions(
-    alloc: Global,
-    body: &str,
-) -> Result<(Text, (u32, Listed<Pair>)), Refusal>
+pub fn read_exceptions(alloc: Global, body: &str) -> Result<(Text, (u32, Listed<Pair>)), Refusal>
     ensures { Reads (λ asked. asked) result (spec.exceptions_request_of body.now) }
 {
     exceptions_in(alloc, &read_value(alloc, body)?)
@@ -123,9 +120,7 @@ pub fn read_exceptions(
 fn has_devices(version: &Version, pairs: &[Pair]) -> bool
     ensures { result ≡ spec.has_devices version.now pairs.now }
 {
-    pairs
-        .iter()
-        .all(|pair| has_device(version, pair.from) && has_device(version, pair.to))
+    pairs.iter().all(|pair| has_device(version, pair.from) && has_device(version, pair.to))
 }
 
 /// A copy of pairs as the exceptions of a pool, to be shared. The problem is `NoGroup`, exactly
@@ -171,10 +166,7 @@ pub fn set(
     ensures given { Gives accepted_of result (spec.exceptions_set id pairs.now inventory.now) }
     ensures plain { IfOk result (λ a. has_float (view a.body) ≡ false) }
 {
-    let pool = inventory
-        .pools()
-        .get(u64::from(id))
-        .ok_or(Problem::NoPool)?;
+    let pool = inventory.pools().get(u64::from(id)).ok_or(Problem::NoPool)?;
     let exceptions = shared(alloc, pool, pairs)?;
     let Some(version) = inventory.version(inventory.newest()) else {
         return Err(Refusal::Problem(Problem::NoVersion));
