@@ -1,5 +1,5 @@
 -- The group that a query asks for, and the answer by its placement.
-use Rattle.std.proofs.Common.{◌≡◌, ◌∙◌, ◌==◌, ℕ, List, Ok, Some, ap, refl, subst, sym}
+use Rattle.std.proofs.Common.{◌≡◌, ◌∙◌, ◌==◌, ℕ, List, Some, ap, refl, subst, sym}
 use Rattle.std.specs.Prelude.{find}
 use Rattle.crush_pool.specs.Pools.{group_of}
 use Rattle.crush_pool.specs.declared.placing.Placement.{Placement}

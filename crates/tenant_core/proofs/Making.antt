@@ -1,32 +1,35 @@
 -- What an accepted order makes: what the tenant has can take it, and it is in its ranges where the
 -- order is.
-use Rattle.std.proofs.Common.{◌≡◌, ◌↔◌, ℕ, ◌<◌, List, length, map, Bool, true, false, nat_le, if◌then◌else◌, Option, Some, None, is_some, option_and_then, Result, Ok, Err, IfOk, refl, ap, subst, arith}
+use Rattle.std.proofs.Common.{◌≡◌, ◌↔◌, ◌∙◌, ℕ, ◌<◌, List, length, map, Bool, true, false, nat_le, if◌then◌else◌, Option, Some, None, is_some, option_and_then, Result, Ok, Err, IfOk, refl, ap, subst, arith}
 use Rattle.std.proofs.lemmas.Bool.Decides.{nat_tests}
 use Rattle.std.specs.List.{list_all, list_any}
 use Rattle.crush_grammar.specs.declared.code.TextFault.{TextFault}
 use Rattle.crush_map.specs.Map.{Map, IsMap}
 use Rattle.crush_map.specs.declared.draft.Rule.{Rule}
+use Rattle.crush_pool.specs.Exceptions.{are_pairs}
 use Rattle.crush_pool.specs.Placements.{rule_numbered}
 use Rattle.crush_pool.specs.declared.changes.DeviceChange.{DeviceChange}
+use Rattle.crush_pool.specs.declared.exceptions.Pair.{Pair}
+use Rattle.crush_pool.specs.declared.limits.TheConstants.{GROUP_LIMIT}
 use Rattle.crush_pool.specs.declared.pool.PoolParts.{PoolParts}
 use Rattle.crush_text.specs.MapText.{IsShort, IsTextOf}
 use Rattle.crush_text.specs.Reading.{map_of_text}
 use Rattle.tenant_core.specs.Commands.{IsOrder, order_on}
 use Rattle.tenant_core.specs.declared.commands.Order.{Order}
-use Rattle.tenant_core.specs.declared.commands.Order.TheVariants.{ImportMap, ChangeDevices, CreatePool, RemovePool}
+use Rattle.tenant_core.specs.declared.commands.Order.TheVariants.{ImportMap, ChangeDevices, CreatePool, SetExceptions, RemovePool}
 use Rattle.tenant_messages.specs.Refusals.{Gives}
-use Rattle.tenant_messages.specs.declared.reply.Problem.{Problem}
-use Rattle.tenant_messages.specs.declared.reply.Problem.TheVariants.{TenantLimit, RuleInUse, NoDevice, Exists}
+use Rattle.tenant_messages.specs.declared.reply.Problem.TheVariants.{TenantLimit, RuleInUse, NoDevice, NoGroup, Exists}
 use Rattle.tenant_messages.specs.declared.reply.Refusal.{Refusal}
 use Rattle.tenant_messages.specs.declared.reply.SuccessStatus.TheVariants.{Created, Done}
 use Rattle.tenant_resources.proofs.DeviceRanges.{all_changed_in_range}
 use Rattle.tenant_resources.specs.Devices as devices
+use Rattle.tenant_resources.specs.Exceptions as exceptions
 use Rattle.tenant_resources.specs.Maps as maps
 use Rattle.tenant_resources.specs.Orders.{Accepted, accepted_of}
 use Rattle.tenant_resources.specs.Pools as pools
 use Rattle.tenant_resources.specs.declared.accepted.Accepted as accepted
 use Rattle.tenant_state.specs.Made.{made_of}
-use Rattle.tenant_state.specs.State.{CanTake, Inventory, Made, NewPool, NewStates, NewVersion, RemovedPool, TenantPool, has_rules_of, is_like, newest, pool, rule_of, version}
+use Rattle.tenant_state.specs.State.{CanTake, Inventory, Made, NewExceptions, NewPool, NewStates, NewVersion, RemovedPool, TenantPool, can_have, has_rules_of, is_like, newest, pool, rule_of, version}
 use Rattle.tenant_state.specs.Valid.{IsInventory, IsMade}
 use Rattle.tenant_state.specs.declared.limits.TheConstants.{POOL_LIMIT, VERSION_LIMIT}
 
@@ -113,18 +116,45 @@ removal_on valid id s a None is h = cc
 removal_on valid id s a (Some p) is h =
     let made : RemovedPool id ≡ a.made = cc in subst (λ x. Makes valid x s) made (record { can = ap is_some is; ranged = λ _. tt })
 
+-- ---- exceptions
+
+exceptions_at : (id : ℕ) (pairs : List Pair) (s : Inventory) (a : Accepted) (known : Bool) → can_have pairs (pool id s) ≡ true
+    → (if known then Ok (record { made = NewExceptions id pairs; status = Done; body = exceptions.setting id pairs s }) else Err NoDevice) ≡ Ok a
+    → Makes (are_pairs GROUP_LIMIT pairs ≡ true) a.made s
+exceptions_at id pairs s a false can h = cc
+exceptions_at id pairs s a true can h =
+    let made : NewExceptions id pairs ≡ a.made = cc in
+    subst (λ x. Makes (are_pairs GROUP_LIMIT pairs ≡ true) x s) made (record { can = can; ranged = λ valid. valid })
+
+exceptions_on : (id : ℕ) (pairs : List Pair) (s : Inventory) (a : Accepted) (o : Option Map) → can_have pairs (pool id s) ≡ true
+    → exceptions.on_version id pairs s o ≡ Ok a → Makes (are_pairs GROUP_LIMIT pairs ≡ true) a.made s
+exceptions_on id pairs s a None can h = cc
+exceptions_on id pairs s a (Some m) can h = exceptions_at id pairs s a (exceptions.has_devices m pairs) can h
+
+exceptions_fit : (id : ℕ) (pairs : List Pair) (s : Inventory) (a : Accepted) (p : TenantPool) (fit : Bool) → pool id s ≡ Some p → are_pairs p.parts.pg_num pairs ≡ fit
+    → (if fit then exceptions.on_version id pairs s (version (newest s) s) else Err NoGroup) ≡ Ok a → Makes (are_pairs GROUP_LIMIT pairs ≡ true) a.made s
+exceptions_fit id pairs s a p false is fits h = cc
+exceptions_fit id pairs s a p true is fits h = exceptions_on id pairs s a (version (newest s) s) (ap (can_have pairs) is ∙ fits) h
+
+exceptions_of : (id : ℕ) (pairs : List Pair) (s : Inventory) (a : Accepted) (o : Option TenantPool) → pool id s ≡ o → exceptions.on_pool id pairs s o ≡ Ok a
+    → Makes (are_pairs GROUP_LIMIT pairs ≡ true) a.made s
+exceptions_of id pairs s a None is h = cc
+exceptions_of id pairs s a (Some p) is h = exceptions_fit id pairs s a p (are_pairs p.parts.pg_num pairs) is refl h
+
 -- ---- all orders
 
 pub can_take : (o : Order) (s : Inventory) (a : Accepted) → order_on o s ≡ Ok a → CanTake a.made s
 can_take (ImportMap text) s a h = (import_at text s a (nat_le VERSION_LIMIT (length s.versions)) refl h).can
 can_take (ChangeDevices cs) s a h = (devices_on cs s a (version (newest s) s) h).can
 can_take (CreatePool p) s a h = (pool_on ⊥ p s a (version (newest s) s) refl absurd h).can
+can_take (SetExceptions id pairs) s a h = (exceptions_of id pairs s a (pool id s) refl h).can
 can_take (RemovePool id) s a h = (removal_on ⊥ id s a (pool id s) refl h).can
 
 pub in_range : (o : Order) (s : Inventory) (a : Accepted) → order_on o s ≡ Ok a → ReadsMaps → IsOrder o → IsInventory s → IsMade a.made
 in_range (ImportMap text) s a h reads is has = (import_at text s a (nat_le VERSION_LIMIT (length s.versions)) refl h).ranged reads
 in_range (ChangeDevices cs) s a h reads is has = (devices_on cs s a (version (newest s) s) h).ranged (is, has)
 in_range (CreatePool p) s a h reads is has = (pool_on (IsMade (NewPool p)) p s a (version (newest s) s) refl (λ valid. valid) h).ranged is
+in_range (SetExceptions id pairs) s a h reads is has = (exceptions_of id pairs s a (pool id s) refl h).ranged is
 in_range (RemovePool id) s a h reads is has = (removal_on (Unit {0}) id s a (pool id s) refl h).ranged tt
 
 -- what the code makes of an order

@@ -1,5 +1,5 @@
 -- Reading a changing request whose body is text.
-use Rattle.std.proofs.Common.{◌≡◌, ◌∙◌, ℕ, List, Bool, true, false, Option, Some, None, option_map, if◌then◌else◌, sym, ap}
+use Rattle.std.proofs.Common.{◌≡◌, ◌∙◌, ℕ, List, Bool, true, false, Some, None, option_map, if◌then◌else◌, sym, ap}
 use Rattle.std.specs.Str.{is_utf8}
 use Rattle.crush_pool.specs.declared.pool.PoolParts.{PoolParts}
 use Rattle.tenant_core.specs.Route.{command_of, read}

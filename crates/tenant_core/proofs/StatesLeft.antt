@@ -1,5 +1,5 @@
 -- The change that a decision makes leaves a state.
-use Rattle.std.proofs.Common.{◌≡◌, List, ℕ, Bool, true, false, ◌&&◌, nat_le, if◌then◌else◌, Option, Some, None, Result, Ok, Err, refl, sym, subst}
+use Rattle.std.proofs.Common.{◌≡◌, List, ℕ, Bool, true, false, nat_le, if◌then◌else◌, Option, Some, None, Result, Ok, Err, refl, sym}
 use Rattle.std.specs.Str.{is_utf8}
 use Rattle.tenant_core.proofs.Making.{ReadsMaps, in_range}
 use Rattle.tenant_core.proofs.Once.{Accepts, accepts, decided_fits}

@@ -3,10 +3,13 @@ use Rattle.std.specs.Prelude.{ℕ, ◌≡◌, List, true, nat_le, if◌then◌el
 use Rattle.std.specs.List.{list_all}
 use Rattle.std.specs.Str.{is_utf8}
 use Rattle.serde_json.specs.Written.{compact_text}
+use Rattle.crush_pool.specs.Exceptions.{are_pairs}
 use Rattle.crush_pool.specs.Pools.{is_pool}
+use Rattle.crush_pool.specs.declared.limits.TheConstants.{GROUP_LIMIT}
 use Rattle.tenant_core.specs.Effects.{Decided, decided}
 use Rattle.tenant_resources.specs.Orders.{Accepted}
 use Rattle.tenant_resources.specs.Devices as devices
+use Rattle.tenant_resources.specs.Exceptions as exceptions
 use Rattle.tenant_resources.specs.Maps as maps
 use Rattle.tenant_resources.specs.Pools as pools
 use Rattle.tenant_state.specs.Receipts.{receipt_of, is_repeat}
@@ -15,7 +18,7 @@ use Rattle.tenant_messages.specs.Reply.{Answer, refused, answered, repeated}
 use Rattle.tenant_state.specs.declared.limits.TheConstants.{RECEIPT_LIMIT}
 use Rattle.tenant_state.specs.State.{Inventory, TenantState, inventory_of}
 use Rattle.tenant_core.specs.declared.commands.Order.{Order}
-use Rattle.tenant_core.specs.declared.commands.Order.TheVariants.{ImportMap, ChangeDevices, CreatePool, RemovePool}
+use Rattle.tenant_core.specs.declared.commands.Order.TheVariants.{ImportMap, ChangeDevices, CreatePool, SetExceptions, RemovePool}
 use Rattle.tenant_state.specs.declared.receipts.Receipt.{Receipt}
 use Rattle.tenant_messages.specs.declared.reply.Problem.{Problem}
 use Rattle.tenant_messages.specs.declared.reply.Problem.TheVariants.{RequestReused, TenantLimit}
@@ -33,6 +36,7 @@ abbrev pub IsOrder : Order → Type 0
 IsOrder (ImportMap text) = Unit {0}
 IsOrder (ChangeDevices changes) = list_all devices.is_in_range changes ≡ true
 IsOrder (CreatePool pool) = is_pool pool ≡ true
+IsOrder (SetExceptions id pairs) = are_pairs GROUP_LIMIT pairs ≡ true
 IsOrder (RemovePool id) = Unit {0}
 
 -- a changing request as it is read: its number has its length, and its texts are UTF-8
@@ -48,6 +52,7 @@ abbrev pub order_on : Order → Inventory → Result Accepted Problem
 order_on (ImportMap text) inventory = maps.imported text inventory
 order_on (ChangeDevices changes) inventory = devices.devices_changed changes inventory
 order_on (CreatePool pool) inventory = pools.created pool inventory
+order_on (SetExceptions id pairs) inventory = exceptions.exceptions_set id pairs inventory
 order_on (RemovePool id) inventory = pools.removed id inventory
 
 -- ---- once

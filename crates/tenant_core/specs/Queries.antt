@@ -1,11 +1,12 @@
 -- Queries: what is asked of a tenant's state, which stays as it is.
-use Rattle.std.specs.Prelude.{◌≡◌, ◌<◌, ℕ, Ok, Some}
+use Rattle.std.specs.Prelude.{◌≡◌, ℕ, Ok, Some}
 use Rattle.crush_pool.specs.Pools.{group_of}
 use Rattle.crush_pool.specs.declared.placing.Placement.{Placement}
 use Rattle.tenant_messages.specs.Reply.{Answer}
 use Rattle.tenant_reports.specs.Impact as impact
 use Rattle.tenant_reports.specs.Moves as moves
 use Rattle.tenant_reports.specs.Usage as usage
+use Rattle.tenant_resources.specs.Exceptions as exceptions
 use Rattle.tenant_resources.specs.Groups as groups
 use Rattle.tenant_resources.specs.Maps as maps
 use Rattle.tenant_resources.specs.Picks as picks
@@ -17,6 +18,7 @@ use Rattle.tenant_state.specs.State.{Inventory, TenantPool, pool}
 -- the answer to a query: the table of all queries
 abbrev pub answer : Query → Inventory → Answer
 answer (query.Version v) inventory = maps.answer v inventory
+answer (query.Exceptions p) inventory = exceptions.exceptions_answer p inventory
 answer (query.Group p g) inventory = groups.group_answer p g inventory
 answer (query.Object p name) inventory = groups.object_answer p name inventory
 answer (query.Usage p) inventory = usage.usage_answer p inventory
@@ -32,6 +34,7 @@ abbrev pub AsksFor : Query → Inventory → TenantPool → ℕ → Type 0
 AsksFor (query.Group id g) inventory p group = (pool id inventory ≡ Some p) × (g ≡ group)
 AsksFor (query.Object id name) inventory p group = (pool id inventory ≡ Some p) × (group ≡ group_of p.parts name)
 AsksFor (query.Version v) inventory p group = ⊥
+AsksFor (query.Exceptions q) inventory p group = ⊥
 AsksFor (query.Usage q) inventory p group = ⊥
 AsksFor (query.Moves q v w) inventory p group = ⊥
 AsksFor (query.Impact q d) inventory p group = ⊥

@@ -4,6 +4,7 @@ use Rattle.std.specs.Prelude.{ℕ, ◌==◌, List, [], ◌∷◌, length, if◌t
 use Rattle.std.specs.Str.{bytes_eq}
 use Rattle.tenant_reports.specs.DeviceCsv as device_csv
 use Rattle.tenant_resources.specs.Devices as devices
+use Rattle.tenant_resources.specs.Exceptions as exceptions
 use Rattle.tenant_resources.specs.Groups as groups
 use Rattle.tenant_resources.specs.Maps as maps
 use Rattle.tenant_resources.specs.Picks as picks
@@ -11,7 +12,7 @@ use Rattle.tenant_resources.specs.Pools as pools
 use Rattle.tenant_resources.specs.RuleTests as rule_tests
 use Rattle.tenant_core.specs.Target.{Target, path_number}
 use Rattle.tenant_core.specs.declared.commands.Order.{Order}
-use Rattle.tenant_core.specs.declared.commands.Order.TheVariants.{ImportMap, ChangeDevices, CreatePool, RemovePool}
+use Rattle.tenant_core.specs.declared.commands.Order.TheVariants.{ImportMap, ChangeDevices, CreatePool, SetExceptions, RemovePool}
 use Rattle.tenant_core.specs.declared.queries.Query.TheVariants as query
 use Rattle.tenant_core.specs.declared.request.Action.{Action}
 use Rattle.tenant_core.specs.declared.request.Action.TheVariants.{CreateTenant, ShowTenant, DropTenant, Command, Query as Asked}
@@ -37,7 +38,9 @@ routes =
     ∷ (codes "/t/{t}/devices", post route.ChangeDevices)
     ∷ (codes "/t/{t}/devices/csv", post route.ChangeDevicesByCsv)
     ∷ (codes "/t/{t}/pools", post route.CreatePool)
+    ∷ (codes "/t/{t}/pools/exceptions", post route.SetExceptions)
     ∷ (codes "/t/{t}/pools/remove", post route.RemovePool)
+    ∷ (codes "/t/{t}/pools/{p}/exceptions", get route.Exceptions)
     ∷ (codes "/t/{t}/pools/{p}/groups/{g}", get route.Group)
     ∷ (codes "/t/{t}/pools/{p}/locate", post route.Object)
     ∷ (codes "/t/{t}/pools/{p}/usage", get route.Usage)
@@ -79,7 +82,10 @@ read route.Version target body = with_number (codes "v") target (λ v. if_empty 
 read route.ChangeDevices target body = option_map (λ asked. command_of target body asked.0 (ChangeDevices asked.1)) (devices.devices_request_of body)
 read route.ChangeDevicesByCsv target body = option_map (λ asked. command_of target body asked.0 (ChangeDevices asked.1)) (device_csv.device_csv_request_of body)
 read route.CreatePool target body = option_map (λ asked. command_of target body asked.0 (CreatePool asked.1)) (pools.pool_request_of body)
+read route.SetExceptions target body =
+    option_map (λ asked. command_of target body asked.0 (SetExceptions asked.1.0 asked.1.1)) (exceptions.exceptions_request_of body)
 read route.RemovePool target body = option_map (λ asked. command_of target body asked.0 (RemovePool asked.1)) (pools.removal_request_of body)
+read route.Exceptions target body = with_number (codes "p") target (λ p. if_empty body (Asked (query.Exceptions p)))
 read route.Group target body = with_number (codes "p") target (λ p. with_number (codes "g") target (λ g. if_empty body (Asked (query.Group p g))))
 read route.Object target body = with_number (codes "p") target (λ p. option_map (λ name. Asked (query.Object p name)) (groups.locate_request_of body))
 read route.Usage target body = with_number (codes "p") target (λ p. if_empty body (Asked (query.Usage p)))

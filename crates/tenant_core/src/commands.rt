@@ -13,13 +13,13 @@ ghost use Rattle.tenant_state.specs.State.{TenantState};
 ghost use Rattle.tenant_state.specs.Valid.{IsInventory, IsMade};
 
 use crush_map::{Listed, Text};
-use crush_pool::{DeviceChange, Pool};
+use crush_pool::{DeviceChange, Pair, Pool};
 use crush_text::texts_are_read_as_they_say;
 use std::alloc::{AllocError, Global};
 use std::marker::Model;
 use std::rc::Rc;
 use tenant_messages::{Problem, Refusal, Reply, answered, or_problem, refused, repeated};
-use tenant_resources::{Accepted, devices, maps, pools};
+use tenant_resources::{Accepted, devices, exceptions, maps, pools};
 use tenant_state::limits::RECEIPT_LIMIT;
 use tenant_state::{Change, Inventory, Receipt, TenantState, is_repeat};
 
@@ -32,7 +32,9 @@ pub enum Order {
     ChangeDevices(Listed<DeviceChange>),
     /// This pool.
     CreatePool(Pool),
-    /// The removal of the pool with this id.
+    /// These pairs as all the exceptions of the pool with this id.
+    SetExceptions(u32, Listed<Pair>),
+    /// The removal of the pool with this id, with its exceptions.
     RemovePool(u32),
 }
 
@@ -75,6 +77,9 @@ fn accept(alloc: Global, order: &Order, inventory: &Inventory) -> Result<Accepte
             inventory,
         ),
         Order::CreatePool(pool) => pools::create(alloc, pool, inventory),
+        Order::SetExceptions(id, pairs) => {
+            exceptions::set(alloc, *id, pairs.as_slice(), inventory)
+        }
         Order::RemovePool(id) => pools::remove(alloc, *id, inventory),
     }
 }

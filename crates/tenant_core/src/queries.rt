@@ -9,7 +9,9 @@ use crush_pool::Placement;
 use std::alloc::{AllocError, Global};
 use tenant_messages::{Refusal, Reply, or_refused};
 use tenant_reports::{impact, moves, usage};
-use tenant_resources::{ObjectName, PickRequest, RuleTest, groups, maps, picks, rule_tests};
+use tenant_resources::{
+    ObjectName, PickRequest, RuleTest, exceptions, groups, maps, picks, rule_tests,
+};
 use tenant_state::{Inventory, TenantPool};
 
 /// What is asked of a tenant's state.
@@ -17,6 +19,8 @@ use tenant_state::{Inventory, TenantPool};
 pub enum Query {
     /// The text of the version with this number.
     Version(u64),
+    /// The exceptions of the pool with this number.
+    Exceptions(u64),
     /// Where a group lies: in the pool with the first number, the group with the second.
     Group(u64, u64),
     /// Where the object with this name lies in the pool with this number.
@@ -68,6 +72,7 @@ fn reply_or_refusal(alloc: Global, inventory: &Inventory, query: &Query) -> Resu
 {
     match query {
         Query::Version(number) => maps::answer(alloc, *number, inventory),
+        Query::Exceptions(pool) => exceptions::answer(alloc, *pool, inventory),
         Query::Group(pool, group) => groups::group_answer(alloc, *pool, *group, inventory),
         Query::Object(pool, name) => groups::object_answer(alloc, *pool, name, inventory),
         Query::Usage(pool) => usage::answer(alloc, *pool, inventory),

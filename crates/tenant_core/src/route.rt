@@ -16,7 +16,7 @@ use crush_words::number_from_text;
 use std::alloc::Global;
 use tenant_messages::{Problem, Refusal, text_of};
 use tenant_reports::device_csv;
-use tenant_resources::{devices, groups, maps, picks, pools, rule_tests};
+use tenant_resources::{devices, exceptions, groups, maps, picks, pools, rule_tests};
 
 /// The routes: what a method asks for at a path.
 #[derive(Clone, Copy, Debug, PartialEq, Eq)]
@@ -29,7 +29,9 @@ pub enum Route {
     ChangeDevices,
     ChangeDevicesByCsv,
     CreatePool,
+    SetExceptions,
     RemovePool,
+    Exceptions,
     Group,
     Object,
     Usage,
@@ -64,7 +66,7 @@ const NONE: Methods = Methods {
 };
 
 /// The table of all routes.
-pub(crate) const ROUTES: [(&str, Methods); 14] = [
+pub(crate) const ROUTES: [(&str, Methods); 16] = [
     (
         "/t/{t}",
         methods!(delete DropTenant, get ShowTenant, put CreateTenant),
@@ -74,7 +76,9 @@ pub(crate) const ROUTES: [(&str, Methods); 14] = [
     ("/t/{t}/devices", methods!(post ChangeDevices)),
     ("/t/{t}/devices/csv", methods!(post ChangeDevicesByCsv)),
     ("/t/{t}/pools", methods!(post CreatePool)),
+    ("/t/{t}/pools/exceptions", methods!(post SetExceptions)),
     ("/t/{t}/pools/remove", methods!(post RemovePool)),
+    ("/t/{t}/pools/{p}/exceptions", methods!(get Exceptions)),
     ("/t/{t}/pools/{p}/groups/{g}", methods!(get Group)),
     ("/t/{t}/pools/{p}/locate", methods!(post Object)),
     ("/t/{t}/pools/{p}/usage", methods!(get Usage)),
@@ -174,10 +178,20 @@ pub(crate) fn read<'p>(
             let (number, pool) = pools::read_pool(alloc, body)?;
             Ok(command(target, body, number, Order::CreatePool(pool)))
         }
+        Route::SetExceptions => {
+            let body = text_of(body)?;
+            let (number, (id, pairs)) = exceptions::read_exceptions(alloc, body)?;
+            let order = Order::SetExceptions(id, pairs);
+            Ok(command(target, body, number, order))
+        }
         Route::RemovePool => {
             let body = text_of(body)?;
             let (number, id) = pools::read_removal(alloc, body)?;
             Ok(command(target, body, number, Order::RemovePool(id)))
+        }
+        Route::Exceptions => {
+            let pool = number(target, "p")?;
+            if_empty(body, Action::Query(Query::Exceptions(pool)))
         }
         Route::Group => {
             let (pool, group) = (number(target, "p")?, number(target, "g")?);

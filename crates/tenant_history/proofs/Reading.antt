@@ -9,7 +9,7 @@ use Rattle.tenant_core.specs.Route.{read, route_of}
 use Rattle.tenant_core.specs.Router.{table, target_of}
 use Rattle.tenant_core.specs.Target.{Target, methods_in, path_number}
 use Rattle.tenant_core.specs.declared.commands.Order.{Order}
-use Rattle.tenant_core.specs.declared.commands.Order.TheVariants.{ImportMap, ChangeDevices, CreatePool, RemovePool}
+use Rattle.tenant_core.specs.declared.commands.Order.TheVariants.{ImportMap, ChangeDevices, CreatePool, SetExceptions, RemovePool}
 use Rattle.tenant_core.specs.declared.limits.TheConstants.{BODY_LIMIT}
 use Rattle.tenant_core.specs.declared.request.Action.{Action}
 use Rattle.tenant_core.specs.declared.request.Action.TheVariants as action
@@ -21,6 +21,7 @@ use Rattle.tenant_messages.specs.declared.call.Call.{Call}
 use Rattle.tenant_messages.specs.declared.reply.Problem.TheVariants.{BadRequest, TooLarge}
 use Rattle.tenant_reports.specs.DeviceCsv as device_csv
 use Rattle.tenant_resources.specs.Devices as devices
+use Rattle.tenant_resources.specs.Exceptions as exceptions
 use Rattle.tenant_resources.specs.Groups as groups
 use Rattle.tenant_resources.specs.Maps as maps
 use Rattle.tenant_resources.specs.Picks as picks
@@ -83,7 +84,10 @@ read_from route.Version t body a k h is = out t body _ a k (no_then _ (path_numb
 read_from route.ChangeDevices t body a k h is = mapped t body (λ asked. asked.0) (λ asked. ChangeDevices asked.1) (devices.devices_request_of body) a k h is
 read_from route.ChangeDevicesByCsv t body a k h is = mapped t body (λ asked. asked.0) (λ asked. ChangeDevices asked.1) (device_csv.device_csv_request_of body) a k h is
 read_from route.CreatePool t body a k h is = mapped t body (λ asked. asked.0) (λ asked. CreatePool asked.1) (pools.pool_request_of body) a k h is
+read_from route.SetExceptions t body a k h is =
+    mapped t body (λ asked. asked.0) (λ asked. SetExceptions asked.1.0 asked.1.1) (exceptions.exceptions_request_of body) a k h is
 read_from route.RemovePool t body a k h is = mapped t body (λ asked. asked.0) (λ asked. RemovePool asked.1) (pools.removal_request_of body) a k h is
+read_from route.Exceptions t body a k h is = out t body _ a k (no_then _ (path_number (codes "p") t) (λ p. no_if (length body == 0) _ refl)) h is
 read_from route.Group t body a k h is =
     out t body _ a k (no_then _ (path_number (codes "p") t) (λ p. no_then _ (path_number (codes "g") t) (λ g. no_if (length body == 0) _ refl))) h is
 read_from route.Object t body a k h is = out t body _ a k (no_then _ (path_number (codes "p") t) (λ p. no_map _ (groups.locate_request_of body) (λ name. refl))) h is
