@@ -181,7 +181,14 @@ fn after_a_change_of_exceptions_groups_are_placed_anew(rt: HostRuntime) -> Resul
         assert_led_to(&rt, &kept(&rt, &mut store, "a", 3), 1);
         assert_led_to(&rt, &kept(&rt, &mut store, "a", 4), 0);
         assert!(rt; Rc::ptr_eq(&before, &placed(&rt, &mut store, "b", 3)));
-        let mut store = after(&rt, alloc, store, "POST", "/t/a/pools/exceptions", NOT_EXCEPTED)?;
+        let mut store = after(
+            &rt,
+            alloc,
+            store,
+            "POST",
+            "/t/a/pools/exceptions",
+            NOT_EXCEPTED,
+        )?;
         let again = kept(&rt, &mut store, "a", 3);
         assert_led_to(&rt, &again, 0);
         assert!(rt; Rc::ptr_eq(&before, &again));

@@ -15,7 +15,7 @@ use Rattle.tenant_state.specs.State.{Inventory, TenantPool, TenantState, if_ther
 use Rattle.tenant_core.specs.Queries.{AsksFor, IsPlacedFor}
 use Rattle.tenant_core.specs.States.{HasInventory, Same, States}
 use Rattle.tenant_core.specs.declared.queries.Query.{Query}
-use Rattle.tenant_core.specs.declared.queries.Query.TheVariants.{Group, Impact, Moves, Object, Pick, Test, Usage, Version}
+use Rattle.tenant_core.specs.declared.queries.Query.TheVariants.{Exceptions, Group, Impact, Moves, Object, Pick, Test, Usage, Version}
 use Rattle.tenant_ready.specs.Kept.{Kept, Ready, Updates, kept_at}
 use Rattle.tenant_ready.specs.Ready.{AreKnown, AreNumbersOf, AreTrue, HasNumber, IsWithNumber, Renumbers}
 
@@ -37,6 +37,7 @@ pub asked_pool : (query : Query) (i : Inventory) (p : TenantPool) (group : ℕ) 
 asked_pool (Group id g) i p group asks = own id i p asks.0
 asked_pool (Object id name) i p group asks = own id i p asks.0
 asked_pool (Version v) i p group asks = absurd asks
+asked_pool (Exceptions q) i p group asks = absurd asks
 asked_pool (Usage q) i p group asks = absurd asks
 asked_pool (Moves q v w) i p group asks = absurd asks
 asked_pool (Impact q d) i p group asks = absurd asks

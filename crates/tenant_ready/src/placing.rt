@@ -30,11 +30,7 @@ fn number_beside(cache: &PlacementCache, ready: &Ready, pool: &TenantPool) -> Op
 }
 
 /// A number for the content of a pool of what a tenant has, on the newest version.
-fn give_number(
-    cache: &mut PlacementCache,
-    inventory: &Inventory,
-    pool: &TenantPool,
-) -> Option<u64>
+fn give_number(cache: &mut PlacementCache, inventory: &Inventory, pool: &TenantPool) -> Option<u64>
     ensures number { IfSome result (λ n. HasNumber cache.new inventory.now pool.now n) }
     ensures there { IfSome result (λ n. cache.new.first ≤ n) }
     ensures kept { KeepsNumbers cache.old cache.new }
