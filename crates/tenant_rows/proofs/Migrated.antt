@@ -169,7 +169,7 @@ found_states db (layout, own) name s = (
 
 -- and of tables that an opening has made, or put in the place of others
 pub set_up_states : (old : Database) (trees : Trees) → SetsUp old trees → (name : List ℕ) (s : Option TenantState) → StatesIn old name s ↔ StandsFor trees name s
-set_up_states old trees (inl (none, (db, (bare, is)))) name s = (
+set_up_states old trees (inl (none, (db, bare, is))) name s = (
   λ said. elim said [
     | inl e ↦ subst (StandsFor trees name) (sym e.1) (ap (λ (d : Trees). tenants_of d name) is ∙ ap (rows_with 2 (Words name)) bare.tenants)
     | inr (inl e) ↦ absurd (first_is_some (sym e.0 ∙ none))
@@ -177,7 +177,7 @@ set_up_states old trees (inl (none, (db, (bare, is)))) name s = (
   ],
   λ has. inl (none, bare_states db name s bare (subst (λ (d : Trees). StandsFor d name s) is has)),
 )
-set_up_states old trees (inr (first, (db, (it, is)))) name s =
+set_up_states old trees (inr (first, (db, it, is))) name s =
     let same = same_states old.trees db.trees it.rows name s in (
       λ said. elim said [
         | inl e ↦ absurd (first_is_some (sym first ∙ e.0))
