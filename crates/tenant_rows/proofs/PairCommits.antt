@@ -1,5 +1,5 @@
 -- What the commit of pairs makes of the rows of the tenant.
-use Rattle.std.proofs.Common.{◌≡◌, ◌<◌, ◌≤◌, arith, to_z, ℕ, ℤ, pos, true, nat_le, List, [], ◌∷◌, ◌++◌, length, map, filter, fold, not, take, Result, Ok, Err, refl, sym, ap, subst, ◌∙◌}
+use Rattle.std.proofs.Common.{◌≡◌, ◌<◌, ◌≤◌, arith, to_z, ℕ, ℤ, pos, true, nat_le, List, [], ◌∷◌, ◌++◌, length, map, fold, not, take, sym, ap, subst, ◌∙◌}
 use Rattle.std.specs.List.{AllByRecursion, list_all}
 use Rattle.std.specs.List.Sorted.{IsPermutation}
 use Rattle.std.proofs.lemmas.List.Sorted.{IsPermutation-cons, IsPermutation-map, IsPermutation-sym, IsPermutation-trans}
@@ -19,7 +19,7 @@ use Rattle.crush_pool.specs.declared.limits.TheConstants.{GROUP_LIMIT, PAIR_LIMI
 use Rattle.tenant_state.specs.State.{Made, NewExceptions}
 use Rattle.table_reads.specs.Found.{IsPoolRow, Lists, pool_values}
 use Rattle.table_reads.specs.declared.rows.PoolRow.{PoolRow}
-use Rattle.table_schema.specs.Holds.{Holds, TenantRows, of_tenant}
+use Rattle.table_schema.specs.Holds.{Holds, of_tenant}
 use Rattle.table_schema.specs.Layout.{pools_table}
 use Rattle.table_schema.specs.Values.{exception_row, pool_row}
 use Rattle.table_schema.specs.declared.values.Exception.{Exception}

@@ -1,5 +1,5 @@
 -- What a change writes are the rows of the state after it.
-use Rattle.std.proofs.Common.{◌≡◌, ℕ, ℤ, pos, suc, ◌+◌, ◌<◌, ◌≤◌, ◌==◌, ◌||◌, List, [], ◌∷◌, ◌++◌, length, map, filter, fold, Bool, true, false, not, nat_le, nat_lt, if◌then◌else◌, Some, None, Ordering, Less, Equal, Greater, nat_cmp, is_eq, bytes_eq, arith, refl, sym, ap, subst, ◌∙◌, ◌<ℤ◌}
+use Rattle.std.proofs.Common.{◌≡◌, ℕ, ℤ, pos, suc, ◌+◌, ◌==◌, ◌||◌, List, [], ◌∷◌, ◌++◌, length, map, fold, Bool, true, false, not, Some, None, Ordering, Less, Equal, Greater, nat_cmp, is_eq, bytes_eq, arith, refl, sym, ap, subst, ◌∙◌}
 use Rattle.std.specs.Cmp.Lexicographic.{slice_cmp}
 use Rattle.std.specs.List.{list_any}
 use Rattle.std.specs.List.Sorted.{IsPermutation}

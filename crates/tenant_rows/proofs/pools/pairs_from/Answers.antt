@@ -2,7 +2,7 @@ use Rattle.std.proofs.Common.{◌≡◌, ◌<◌, ◌+◌, ◌++◌, ◌∷◌, 
 use Rattle.std.proofs.lemmas.List.{length-take-le, map_push}
 use Rattle.table_schema.specs.Values.{exception_row}
 use Rattle.table_schema.specs.declared.values.Exception.{Exception}
-use Rattle.tenant_rows.specs.Rows.{row_of_pair, rows_of_pairs}
+use Rattle.tenant_rows.specs.Rows.{rows_of_pairs}
 use Rattle.tenant_rows.proofs.PairRows.{all_of, item_is, more_pairs, no_pairs, one_more}
 use Rattle.tenant_rows.proofs.pools.pairs_from.Goals as goal
 
