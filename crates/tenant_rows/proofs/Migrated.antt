@@ -1,5 +1,5 @@
 -- Tables that were made, or that took the place of those of schema 1, stand for the same states.
-use Rattle.std.proofs.Common.{◌≡◌, ◌⊎◌, ◌↔◌, inl, inr, ℕ, ℤ, pos, ◌+◌, List, [], ◌∷◌, ◌++◌, length, map, filter, drop, take, Bool, Option, Some, None, arith, refl, sym, ap, subst, ◌∙◌}
+use Rattle.std.proofs.Common.{◌≡◌, ◌↔◌, inl, inr, ℕ, ℤ, pos, List, [], ◌∷◌, ◌++◌, length, map, filter, drop, take, Bool, Option, Some, None, arith, refl, sym, ap, subst, ◌∙◌}
 use Rattle.std.specs.List.{AllByRecursion}
 use Rattle.std.specs.List.Sorted.{IsPermutation}
 use Rattle.std.proofs.lemmas.List.Sorted.{IsPermutation-map, IsPermutation-refl, IsPermutation-sym, IsPermutation-trans, length_permutation}
@@ -7,19 +7,18 @@ use Rattle.sqlite_value.specs.declared.value.Value.TheVariants.{Int, Text as Wor
 use Rattle.sqlite_value.specs.declared.keys.Collation.TheVariants.{Binary}
 use Rattle.sqlite_value.specs.Order.{Row, column}
 use Rattle.sqlite_trees.specs.Tree.{Trees}
-use Rattle.sqlite_keyed.proofs.ListLemmas.{IsPermutation-filter, filter-map, map-map, map_same}
+use Rattle.sqlite_keyed.proofs.ListLemmas.{IsPermutation-filter, filter-map, map-map}
 use Rattle.sqlite_schema.specs.Rules.{equal}
 use Rattle.sqlite.specs.Effect.{Database}
 use Rattle.sqlite.specs.Schema.{Schema}
-use Rattle.tenant_state.specs.State.{TenantPool, TenantState, epoch}
+use Rattle.tenant_state.specs.State.{TenantPool, TenantState}
 use Rattle.table_schema.specs.declared.schema.Layout.{Layout}
-use Rattle.table_schema.specs.declared.schema.Layout.TheVariants.{Compact, Gapped}
-use Rattle.table_schema.specs.Holds.{IsTenant, of_tenant, rows_in, rows_with, tenants_of, values_from, values_of}
-use Rattle.table_schema.specs.Layout.{IsStoreSchema, no_schema, first_schema, store_schema, devices_table, exceptions_table, first_pools_table, maps_table, pools_table, receipts_table, tenants_table}
-use Rattle.tenant_tables.specs.Opened.{IsBare, IsMigrated, Migrates, SetsUp}
+use Rattle.table_schema.specs.Holds.{of_tenant, rows_in, rows_with, tenants_of, values_from, values_of}
+use Rattle.table_schema.specs.Layout.{IsStoreSchema, no_schema, first_schema, store_schema, devices_table, exceptions_table, first_pools_table, maps_table, pools_table, receipts_table}
+use Rattle.tenant_tables.specs.Opened.{IsBare, Migrates, SetsUp}
 use Rattle.tenant_rows.proofs.OneState.{some_row}
 use Rattle.tenant_rows.proofs.PairRows.{as_many}
-use Rattle.tenant_rows.specs.Rows.{FirstStandsFor, HoldsFirst, StandsFor, StatesIn, first_row_of_pool, row_of_pool, row_of_receipt, row_of_state, rows_of_exceptions, rows_of_pairs, rows_of_versions}
+use Rattle.tenant_rows.specs.Rows.{FirstStandsFor, StandsFor, StatesIn, first_row_of_pool, row_of_pool, row_of_receipt, row_of_state, rows_of_exceptions, rows_of_pairs, rows_of_versions}
 
 -- ---- schemas
 
@@ -169,7 +168,7 @@ found_states db (layout, own) name s = (
 
 -- and of tables that an opening has made, or put in the place of others
 pub set_up_states : (old : Database) (trees : Trees) → SetsUp old trees → (name : List ℕ) (s : Option TenantState) → StatesIn old name s ↔ StandsFor trees name s
-set_up_states old trees (inl (none, db, bare, is)) name s = (
+set_up_states old trees (inl (none, (db, bare, is))) name s = (
   λ said. elim said [
     | inl e ↦ subst (StandsFor trees name) (sym e.1) (ap (λ (d : Trees). tenants_of d name) is ∙ ap (rows_with 2 (Words name)) bare.tenants)
     | inr (inl e) ↦ absurd (first_is_some (sym e.0 ∙ none))
@@ -177,7 +176,7 @@ set_up_states old trees (inl (none, db, bare, is)) name s = (
   ],
   λ has. inl (none, bare_states db name s bare (subst (λ (d : Trees). StandsFor d name s) is has)),
 )
-set_up_states old trees (inr (first, db, it, is)) name s =
+set_up_states old trees (inr (first, (db, it, is))) name s =
     let same = same_states old.trees db.trees it.rows name s in (
       λ said. elim said [
         | inl e ↦ absurd (first_is_some (sym first ∙ e.0))

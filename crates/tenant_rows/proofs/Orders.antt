@@ -1,5 +1,5 @@
 -- The rows of a state's parts: each is one of its table, and their keys rise, in one order alone.
-use Rattle.std.proofs.Common.{◌≡◌, ℕ, pos, suc, ◌+◌, ◌<◌, add-one, List, [], ◌∷◌, ◌++◌, length, map, get_or, Bool, true, false, nat_lt, Ordering, Less, is_lt, arith, refl, ap, ◌∙◌, IsPermutation, IsSorted, IsUtf8}
+use Rattle.std.proofs.Common.{◌≡◌, ℕ, pos, suc, ◌+◌, ◌<◌, add-one, List, [], ◌∷◌, length, map, get_or, Bool, true, false, nat_lt, Ordering, Less, is_lt, arith, refl, ap, ◌∙◌, IsPermutation, IsSorted, IsUtf8}
 use Rattle.std.specs.Cmp.{IsTotalOrder}
 use Rattle.std.specs.List.{All, AllByRecursion, list_all}
 use Rattle.std.specs.Ordering.{ordering_reverse, ordering_then}

@@ -1,7 +1,11 @@
 -- What the commit of pairs makes of the rows of the tenant.
-use Rattle.std.proofs.Common.{◌≡◌, ℕ, ℤ, pos, List, [], ◌∷◌, ◌++◌, length, map, filter, fold, not, take, Result, Ok, Err, refl, sym, ap, subst, ◌∙◌}
+use Rattle.std.proofs.Common.{◌≡◌, ◌<◌, ◌≤◌, arith, to_z, ℕ, ℤ, pos, true, nat_le, List, [], ◌∷◌, ◌++◌, length, map, fold, not, take, sym, ap, subst, ◌∙◌}
+use Rattle.std.specs.List.{AllByRecursion, list_all}
 use Rattle.std.specs.List.Sorted.{IsPermutation}
 use Rattle.std.proofs.lemmas.List.Sorted.{IsPermutation-cons, IsPermutation-map, IsPermutation-sym, IsPermutation-trans}
+use Rattle.std.proofs.lemmas.Int.{to_z_pos}
+use Rattle.std.proofs.lemmas.List.{length-map}
+use mir.Syntax.{w64}
 use Rattle.sqlite_value.specs.declared.value.Value.TheVariants.{Int}
 use Rattle.sqlite_value.specs.declared.keys.Collation.TheVariants.{Binary}
 use Rattle.sqlite_value.specs.Order.{Row, column}
@@ -9,21 +13,44 @@ use Rattle.sqlite_schema.specs.Rules.{equal}
 use Rattle.sqlite_rules.specs.Lists.{Has}
 use Rattle.sqlite_trees.specs.Tree.{Trees}
 use Rattle.sqlite_trees.proofs.ListLemmas.{IsPermutation-filter}
+use Rattle.crush_pool.specs.Exceptions.{are_pairs, is_pair}
 use Rattle.crush_pool.specs.declared.exceptions.Pair.{Pair}
-use Rattle.tenant_state.specs.State.{NewExceptions}
-use Rattle.table_reads.specs.Found.{Lists, pool_values}
+use Rattle.crush_pool.specs.declared.limits.TheConstants.{GROUP_LIMIT, PAIR_LIMIT}
+use Rattle.tenant_state.specs.State.{Made, NewExceptions}
+use Rattle.table_reads.specs.Found.{IsPoolRow, Lists, pool_values}
 use Rattle.table_reads.specs.declared.rows.PoolRow.{PoolRow}
-use Rattle.table_schema.specs.Holds.{Holds, TenantRows, of_tenant}
+use Rattle.table_schema.specs.Holds.{Holds, of_tenant}
 use Rattle.table_schema.specs.Layout.{pools_table}
 use Rattle.table_schema.specs.Values.{exception_row, pool_row}
 use Rattle.table_schema.specs.declared.values.Exception.{Exception}
 use Rattle.table_schema.specs.declared.values.Pool.{Pool}
 use Rattle.table_schema.specs.declared.values.Receipt.{Receipt}
 use Rattle.table_writes.specs.Change.{Accepts, with_exceptions, with_receipt, without_key}
-use Rattle.tenant_rows.proofs.Orders.{one_order, pools_rise}
+use Rattle.tenant_rows.proofs.Orders.{are_pools, one_order, pools_rise}
+use Rattle.tenant_rows.proofs.Keyed.{at_least}
+use Rattle.tenant_rows.proofs.Reading.{first}
+use Rattle.tenant_rows.proofs.PairRows.{as_many}
 use Rattle.tenant_rows.proofs.PairWrites.{row_put, row_there, rows_added}
 use Rattle.tenant_rows.specs.Commits.{HasPoolsFor, with_count, with_new_pairs}
 use Rattle.tenant_rows.specs.Rows.{row_of_pool, rows_of_pairs}
+
+-- the query of the pools is not refused
+pub not_refused : (old : Trees) (id : ℤ) (m : Made) → HasPoolsFor old id m → ((list : _) → AllByRecursion IsPoolRow list → ¬ Lists (of_tenant pools_table id old) list) → ⊥
+not_refused old id m made none = none (map row_of_pool made.i.pools) (are_pools made.i.pools made.has.pools) (record { same = made.rows; rising = pools_rise made.i.pools made.has.pool_order })
+
+-- pairs are not too many
+pub few_pairs : (pairs shown : List Pair) → shown ≡ pairs → are_pairs GROUP_LIMIT pairs ≡ true → length shown ≤ PAIR_LIMIT
+few_pairs pairs shown same h =
+    subst (λ l. length l ≤ PAIR_LIMIT) (sym same) (at_least (length pairs) PAIR_LIMIT (first (nat_le (length pairs) PAIR_LIMIT) (list_all (is_pair GROUP_LIMIT) pairs) h))
+
+-- their number as a machine word
+pub count_word : (n pool : ℕ) (es : List Exception) (pairs shown : List Pair) → n ≡ length es → map exception_row es ≡ rows_of_pairs pool 0 shown → shown ≡ pairs → length shown ≤ PAIR_LIMIT → to_z w64 n ≡ pos (length pairs)
+count_word n pool es pairs shown long rows same few =
+    let many : n ≡ length shown = long ∙ (sym (length-map es exception_row) ∙ (ap length rows ∙ as_many pool 0 shown)) in
+    let low : n < 9223372036854775808 = omega (arith, many, few) in to_z_pos w64 n low ∙ ap pos (many ∙ ap length same)
+
+pub number_is : (row : PoolRow) (values : Pool) (count : ℤ) → pool_row values ≡ take 8 (pool_values row) ++ Int count ∷ [] → values.id ≡ row.id
+number_is row values count is = cc
 
 module _ (old : Trees) (id : ℤ) (pool : ℕ) (pairs : List Pair) (made : HasPoolsFor old id (NewExceptions pool pairs)) (list : List Row) (listed : Lists (of_tenant pools_table id old) list) where
   -- the rows that were read are those of the pools

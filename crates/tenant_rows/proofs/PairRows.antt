@@ -1,11 +1,16 @@
 -- The rows of pools and of their pairs are those of one list of pools at most.
-use Rattle.std.proofs.Common.{◌≡◌, ◌≢◌, ℕ, ℤ, pos, ◌+◌, ◌<◌, List, [], ◌∷◌, ◌++◌, length, map, true, arith, refl, sym, ap, ap₂, subst, ◌∙◌, append_assoc, length-append}
+use Rattle.std.proofs.Common.{◌≡◌, ◌≢◌, inl, inr, ℕ, ℤ, pos, suc, add-one, ◌+◌, ◌<◌, ◌≤◌, ◌==◌, ◌&&◌, Bool, false, not, nat_le, nat_lt, get_or, drop, take, slice_index_or, List, [], ◌∷◌, ◌++◌, length, map, true, arith, refl, sym, ap, ap₂, subst, ◌∙◌, append_assoc, length-append}
 use Rattle.std.specs.List.{list_all}
-use Rattle.std.proofs.lemmas.List.{append-nil, length-map, map-append}
+use Rattle.std.proofs.Math.Seq.{take-suc}
+use Rattle.std.proofs.lemmas.Bool.Decides.{nat_tests}
+use Rattle.std.proofs.lemmas.List.{append-nil, get_or_default, length-map, map-append, take-append-drop}
 use Rattle.sqlite_value.specs.Order.{Row}
-use Rattle.crush_pool.specs.Exceptions.{is_pair}
+use Rattle.sqlite_rules.specs.Lists.{Has}
+use Rattle.crush_map.specs.declared.limits.TheConstants.{NUMBER_LIMIT}
+use Rattle.crush_pool.specs.Exceptions.{are_pairs, is_pair}
+use Rattle.crush_pool.specs.Pools.{is_pool}
 use Rattle.crush_pool.specs.declared.exceptions.Pair.{Pair}
-use Rattle.crush_pool.specs.declared.limits.TheConstants.{GROUP_LIMIT}
+use Rattle.crush_pool.specs.declared.limits.TheConstants.{GROUP_LIMIT, PAIR_LIMIT}
 use Rattle.crush_pool.specs.declared.pool.PoolParts.{PoolParts}
 use Rattle.tenant_state.specs.State.{TenantPool}
 use Rattle.tenant_state.specs.Valid.{is_tenant_pool}
@@ -29,11 +34,22 @@ same_front (x ∷ xs) (y ∷ ys) us vs long same =
 same_number : (m n : ℕ) → pos m ≡ pos n → m ≡ n
 same_number m n h = cc
 
+-- one more element, and all of them
+pub one_more : {A : Type 0} (xs : List A) (i : ℕ) (x : A) → i < length xs → x ≡ get_or xs i x → take (i + 1) xs ≡ take i xs ++ x ∷ []
+one_more xs i x low at = rw add-one (take-suc xs i x low ∙ ap (λ y. take i xs ++ y ∷ []) (sym at))
+
+-- the element that a loop has come to
+pub item_is : {A : Type 0} (xs : List A) (i : ℕ) (d : A) → i < length xs → slice_index_or xs i d ≡ get_or xs i (slice_index_or xs i d)
+item_is xs i d low = get_or_default xs i d (slice_index_or xs i d) low
+
+pub all_of : {A : Type 0} (xs : List A) (i : ℕ) (x : A) → i < length xs → x ≡ get_or xs i x → xs ≡ take i xs ++ x ∷ drop (i + 1) xs
+all_of xs i x low at = sym (take-append-drop (i + 1) xs) ∙ (ap (λ l. l ++ drop (i + 1) xs) (one_more xs i x low at) ∙ append_assoc (take i xs) (x ∷ []) (drop (i + 1) xs))
+
 -- ---- pairs
 
 pub as_many : (pool place : ℕ) (pairs : List Pair) → length (rows_of_pairs pool place pairs) ≡ length pairs
 as_many pool place [] = refl
-as_many pool place (p ∷ pairs) = ap (λ n. n + 1) (as_many pool (place + 1) pairs)
+as_many pool place (p ∷ pairs) = ap suc (as_many pool (place + 1) pairs)
 
 same_pair : (pool place : ℕ) (p q : Pair) → row_of_pair pool place p ≡ row_of_pair pool place q → p ≡ q
 same_pair pool place p q h =
@@ -174,3 +190,73 @@ pairs_read qs new p every rest own behind pairs parts read grown =
     ∙ (ap (λ l. rows_of_exceptions qs ++ l) split
     ∙ (sym (append_assoc (rows_of_exceptions qs) (rows_of_pairs p.parts.id 0 p.pairs) (map exception_row behind))
     ∙ (ap (λ l. l ++ map exception_row behind) (sym (more_pools qs p)) ∙ ap (λ l. rows_of_exceptions l ++ map exception_row behind) (sym grown))))
+
+-- ---- the row with an id
+
+pub has_it : (done : List PoolRow) (row : PoolRow) (rest : List PoolRow) → Has (map pool_values (done ++ row ∷ rest)) (pool_values row)
+has_it [] row rest = inl refl
+has_it (d ∷ done) row rest = inr (has_it done row rest)
+
+-- none of the rows so far, and not the next one
+pub none_more : (P : Row → Type 0) (done : List PoolRow) (row : PoolRow) → ((v : Row) → Has (map pool_values done) v → P v) → P (pool_values row) → (v : Row) → Has (map pool_values (done ++ row ∷ [])) v → P v
+none_more P [] row all one v (inl is) = subst P (sym is) one
+none_more P [] row all one v (inr none) = absurd none
+none_more P (d ∷ done) row all one v (inl is) = all v (inl is)
+none_more P (d ∷ done) row all one v (inr has) = none_more P done row (λ w there. all w (inr there)) one v has
+
+-- ---- a pool of a row and its pairs
+
+wider_test : (x y a b c : Bool) → (x ≡ true → y ≡ true) → (x && a && b && c) ≡ true → (y && a && b && c) ≡ true
+wider_test false y a b c up h = absurd cc
+wider_test true y a b c up h = rw (up refl) h
+
+wider_pair : (n : ℕ) (p : Pair) → n ≤ GROUP_LIMIT → is_pair n p ≡ true → is_pair GROUP_LIMIT p ≡ true
+wider_pair n p low h =
+    wider_test (nat_lt p.group n) (nat_lt p.group GROUP_LIMIT) (nat_le p.from NUMBER_LIMIT) (nat_le p.to NUMBER_LIMIT) (not (p.from == p.to)) (λ below. below_too below) h
+  where
+    below_too : nat_lt p.group n ≡ true → nat_lt p.group GROUP_LIMIT ≡ true
+    below_too below = grind (arith, nat_tests, below, low)
+
+wider_pairs : (n : ℕ) (pairs : List Pair) → n ≤ GROUP_LIMIT → list_all (is_pair n) pairs ≡ true → list_all (is_pair GROUP_LIMIT) pairs ≡ true
+wider_pairs n [] low h = refl
+wider_pairs n (p ∷ pairs) low h = both (is_pair GROUP_LIMIT p) (list_all (is_pair GROUP_LIMIT) pairs) (wider_pair n p low (first (is_pair n p) (list_all (is_pair n) pairs) h)) (wider_pairs n pairs low (second (is_pair n p) (list_all (is_pair n) pairs) h))
+  where
+    both : (a b : Bool) → a ≡ true → b ≡ true → (a && b) ≡ true
+    both a b h g = rw (h, g) refl
+
+pool_groups : (p : PoolParts) → is_pool p ≡ true → p.pg_num ≤ GROUP_LIMIT
+pool_groups p h = grind (arith, nat_tests)
+
+-- the pairs of a pool are pairs of some pool
+pub pairs_in : (p : TenantPool) → is_tenant_pool p ≡ true → list_all (is_pair GROUP_LIMIT) p.pairs ≡ true
+pairs_in p h =
+    let pool = first (is_pool p.parts) (are_pairs p.parts.pg_num p.pairs) h in
+    let pairs = second (is_pool p.parts) (are_pairs p.parts.pg_num p.pairs) h in
+    wider_pairs p.parts.pg_num p.pairs (pool_groups p.parts pool) (second (nat_le (length p.pairs) PAIR_LIMIT) (list_all (is_pair p.parts.pg_num) p.pairs) pairs)
+
+module _ (row : PoolRow) (q : PoolParts) (settings : pool_values row ≡ row_with_count q row.pairs) (exceptions : List Exception) where
+  -- what was made of the rows
+  pub is_made : (pairs : List Pair) (t : TenantPool) → row.pairs ≡ pos (length exceptions) → is_pool q ≡ true → are_pairs q.pg_num pairs ≡ true → map exception_row exceptions ≡ rows_of_pairs q.id 0 pairs → t ≡ record { parts = q; pairs = pairs }
+      → (is_tenant_pool t ≡ true) × (pool_values row ≡ row_of_pool t) × (map exception_row exceptions ≡ rows_of_pairs t.parts.id 0 t.pairs)
+  is_made pairs t count valid are rows is =
+      let many : length exceptions ≡ length pairs = sym (length-map exceptions exception_row) ∙ (ap length rows ∙ as_many q.id 0 pairs) in
+      subst (λ u. (is_tenant_pool u ≡ true) × (pool_values row ≡ row_of_pool u) × (map exception_row exceptions ≡ rows_of_pairs u.parts.id 0 u.pairs)) (sym is)
+      (both_true, settings ∙ ap (row_with_count q) (count ∙ ap pos many), rows)
+    where
+      both_true : (is_pool q && are_pairs q.pg_num pairs) ≡ true
+      both_true = rw (valid, are) refl
+
+  module _ (p : TenantPool) (is : pool_values row ≡ row_of_pool p) where
+    same_parts : q ≡ p.parts
+    same_parts = same_settings q p.parts row.pairs (pos (length p.pairs)) (sym settings ∙ is)
+
+    -- the rows are those of its pairs
+    pub its_rows : (id : ℕ) → id ≡ q.id → map exception_row exceptions ≡ rows_of_pairs p.parts.id 0 p.pairs → map exception_row exceptions ≡ rows_of_pairs id 0 p.pairs
+    its_rows id at rows = rows ∙ ap (λ n. rows_of_pairs n 0 p.pairs) (ap (λ x. x.id) (sym same_parts) ∙ sym at)
+
+    -- pairs that the pool can not have are not its own
+    pub not_refused : (id : ℕ) (pairs : List Pair) → is_tenant_pool p ≡ true → id ≡ q.id → map exception_row exceptions ≡ rows_of_pairs id 0 pairs → false ≡ are_pairs q.pg_num pairs → map exception_row exceptions ≡ rows_of_pairs p.parts.id 0 p.pairs → ⊥
+    not_refused id pairs valid at read refused rows =
+        let same = same_pairs id 0 pairs p.pairs (sym read ∙ its_rows id at rows) in
+        let are = second (is_pool p.parts) (are_pairs p.parts.pg_num p.pairs) valid in
+        let never : false ≡ true = refused ∙ (ap (are_pairs q.pg_num) same ∙ (ap (λ x. are_pairs x.pg_num p.pairs) same_parts ∙ are)) in absurd cc

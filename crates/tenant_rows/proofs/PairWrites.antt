@@ -1,5 +1,5 @@
 -- What a change of pools writes of their pairs.
-use Rattle.std.proofs.Common.{◌≡◌, inl, inr, ℕ, ℤ, pos, ◌+◌, ◌<◌, ◌≤◌, ◌==◌, ◌||◌, List, [], ◌∷◌, ◌++◌, length, map, filter, find, fold, take, Bool, true, false, not, nat_le, nat_lt, if◌then◌else◌, Some, None, arith, refl, sym, ap, subst, ◌∙◌, append_assoc}
+use Rattle.std.proofs.Common.{◌≡◌, inl, inr, ℕ, ℤ, pos, ◌+◌, ◌<◌, ◌≤◌, ◌==◌, ◌||◌, List, [], ◌∷◌, ◌++◌, length, map, find, fold, take, Bool, true, false, not, nat_le, if◌then◌else◌, arith, refl, sym, ap, subst, ◌∙◌, append_assoc}
 use Rattle.std.specs.List.{list_any}
 use Rattle.std.specs.List.Sorted.{IsPermutation}
 use Rattle.std.proofs.lemmas.List.Elements.{filter-append}
@@ -16,9 +16,9 @@ use Rattle.table_writes.proofs.RowFacts.{equal_itself}
 use Rattle.table_writes.specs.Change.{without_key}
 use Rattle.table_schema.specs.Values.{exception_row}
 use Rattle.table_schema.specs.declared.values.Exception.{Exception}
-use Rattle.tenant_rows.proofs.Keyed.{all_above, below, differs, equals, goes, is_other, is_own, other_number, stays, swap}
+use Rattle.tenant_rows.proofs.Keyed.{all_above, below, differs, equals, goes, is_own, other_number, stays, swap}
 use Rattle.tenant_rows.proofs.Orders.{tail_up}
-use Rattle.tenant_rows.proofs.Reading.{first, second}
+use Rattle.tenant_rows.proofs.Reading.{first}
 use Rattle.tenant_rows.specs.Commits.{with_count}
 use Rattle.tenant_rows.specs.Rows.{row_of_pool, row_of_pair, rows_of_pairs, rows_of_exceptions}
 

@@ -1,5 +1,5 @@
 -- What a change writes are the rows of the state after it.
-use Rattle.std.proofs.Common.{◌≡◌, ℕ, ℤ, pos, suc, ◌+◌, ◌<◌, ◌≤◌, ◌==◌, ◌||◌, List, [], ◌∷◌, ◌++◌, length, map, filter, fold, Bool, true, false, not, nat_le, nat_lt, if◌then◌else◌, Some, None, Ordering, Less, Equal, Greater, nat_cmp, is_eq, bytes_eq, arith, refl, sym, ap, subst, ◌∙◌, ◌<ℤ◌}
+use Rattle.std.proofs.Common.{◌≡◌, ℕ, ℤ, pos, suc, ◌+◌, ◌==◌, ◌||◌, List, [], ◌∷◌, ◌++◌, length, map, fold, Bool, true, false, not, Some, None, Ordering, Less, Equal, Greater, nat_cmp, is_eq, bytes_eq, arith, refl, sym, ap, subst, ◌∙◌}
 use Rattle.std.specs.Cmp.Lexicographic.{slice_cmp}
 use Rattle.std.specs.List.{list_any}
 use Rattle.std.specs.List.Sorted.{IsPermutation}
@@ -61,7 +61,7 @@ other_id p q apart = differs q.parts.id p.id (left (q.parts.id == p.id) (bytes_e
   where
     left : (a b : Bool) → (a || b) ≡ false → a ≡ false
     left true b h = cc
-    left false b h = h
+    left false b h = refl
 
 new_pool : (p : TenantPool) (pools : List TenantPool) → is_ascending is_lower_pool pools ≡ true → list_any (is_like p.parts) pools ≡ false
     → IsPermutation (row_of_pool p ∷ map row_of_pool pools) (map row_of_pool (with_element (λ q. q.parts.id) p pools))

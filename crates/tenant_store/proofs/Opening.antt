@@ -18,7 +18,7 @@ opened old now known made adopted migrated = elim known [
 ]
 
 pub replaced : (old : Database) (trees : Trees) → SetsUp old trees → Replaces old trees
-replaced old trees (inl (none, db, bare, is)) =
+replaced old trees (inl (none, (db, bare, is))) =
     record { first = inl none; version = subst (HasVersion 2) (sym is) bare.version; same = set_up_states old trees (inl (none, db, bare, is)) }
-replaced old trees (inr (first, db, it, is)) =
+replaced old trees (inr (first, (db, it, is))) =
     record { first = inr (first, it.first); version = subst (HasVersion 2) (sym is) it.rows.version; same = set_up_states old trees (inr (first, db, it, is)) }

@@ -6,6 +6,7 @@ use Rattle.sqlite.specs.State.{Survives}
 use Rattle.sqlite_trees.specs.Tree.{Trees}
 use Rattle.crush_writing.specs.Canonical.{canonical}
 use Rattle.tenant_state.specs.Made.{made_of}
+use Rattle.tenant_state.specs.State.{NewExceptions}
 use Rattle.table_writes.specs.Change.{with_pool, with_states, with_version, without_pool}
 use Rattle.table_schema.specs.Holds.{TenantRows}
 use Rattle.tenant_rows.specs.Commits.{HasPoolsFor, numbers_of, rows_with_made, with_new_pairs}
@@ -82,12 +83,12 @@ write_exceptions-requires-clause-there g c clean = number_of (state g.S.Store c.
 
 pub write_exceptions-requires-clause-suits : goal.write_exceptions-requires-clause-suits
 write_exceptions-requires-clause-suits g c clean =
-    subst (HasPoolsFor (state g.S.Store c.args.tables.now.0).now.trees (word c.args.id)) (made_exceptions g c)
+    subst (HasPoolsFor (state g.S.Store c.args.tables.now.0).now.trees (word c.args.id)) (ap made_of c.in-Exceptions.is ∙ ap (NewExceptions c.in-Exceptions.pool) (sym c.exceptions-exceptions.ensures))
     (pools_of (state g.S.Store c.args.tables.now.0).now.trees c.args.id (made_of c.args.made.now) c.ranges.id (c.requires.suits clean))
 
-exceptions_is : (g : given.Over) (c : goal.After-write_exceptions g) → with_new_pairs c.in-Exceptions.pool.now c.exceptions.result.now ≡ rows_with_made c.args.number (made_of c.args.made.now)
+exceptions_is : (g : given.Over) (c : goal.After-write_exceptions g) → with_new_pairs c.in-Exceptions.pool c.exceptions-exceptions.result.now ≡ rows_with_made c.args.number (made_of c.args.made.now)
 exceptions_is g c =
-    ap (with_new_pairs c.in-Exceptions.pool.now) c.exceptions.ensures
+    ap (with_new_pairs c.in-Exceptions.pool) c.exceptions-exceptions.ensures
     ∙ ap (λ made. rows_with_made c.args.number (made_of made)) (sym c.in-Exceptions.is)
 
 pub returns-in-Exceptions-clause-done : goal.returns-in-Exceptions-clause-done

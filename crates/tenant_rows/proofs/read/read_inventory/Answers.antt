@@ -1,6 +1,6 @@
 use mir.Val.{SFits}
 use mir.Syntax.{w64}
-use Rattle.std.proofs.Common.{◌∙◌, map, rules, arith, refl, sym, subst}
+use Rattle.std.proofs.Common.{◌∙◌, map, of_z, to_z, rules, arith, refl, sym, subst}
 use Rattle.std.proofs.lemmas.Int.{to_z-of_z}
 use Rattle.std.proofs.lemmas.Result.{err_from_is_err_and}
 use Rattle.sqlite.specs.Held.{state}
@@ -11,7 +11,7 @@ use Rattle.table_schema.specs.Holds.{of_tenant}
 use Rattle.table_schema.specs.Layout.{maps_table, devices_table, pools_table, exceptions_table}
 use Rattle.tenant_rows.specs.Changes.{HasRows}
 use Rattle.tenant_rows.specs.Lists.{AreRowsOf}
-use Rattle.tenant_rows.proofs.Listed.{moved, is_live, same_fault, not_versions, not_states, not_pools, not_exceptions, are_its_rows}
+use Rattle.tenant_rows.proofs.Listed.{moved, is_live, same_fault, not_versions, not_states, not_pools, not_exceptions, are_its_rows, has_rows_listed}
 use Rattle.tenant_rows.proofs.read.read_inventory.Goals as goal
 
 pub returns-in_err-versions-clause-damaged : goal.returns-in_err-versions-clause-damaged
@@ -59,7 +59,7 @@ returns-in-Ok-None-clause-damaged g c = λ clean damaged i is has.
     let versions = c.in_ok-versions.versions.items in
     let devices = c.in_ok-devices.devices.items in
     let pools = c.in_ok-pools.pools.items in
-    let exceptions = c.in_ok-exceptions.exceptions.items in
+    let exceptions = c.deref.result.now in
     let fits : SFits w64 c.args.id = search rules in
     let fits-epoch : SFits w64 c.args.epoch = search rules in
     let number = to_z-of_z w64 c.args.id fits in
@@ -72,6 +72,32 @@ returns-in-Ok-None-clause-damaged g c = λ clean damaged i is has.
     let v = moved (λ db n. Lists (of_tenant maps_table n db) (map version_values versions)) (state g.S.Store c.args.tables.now.0).now _ _ _ refl number (c.in_ok-versions.ensures.found early) in
     let d = moved (λ db n. Lists (of_tenant devices_table n db) (map state_row devices)) _ _ _ _ kept number (c.in_ok-devices.ensures.found later) in
     let p = moved (λ db n. Lists (of_tenant pools_table n db) (map pool_values pools)) _ _ _ _ (still ∙ kept) number (c.in_ok-pools.ensures.found last) in
-    let e = moved (λ db n. ListsBy Precedes (of_tenant exceptions_table n db) (map exception_row exceptions)) _ _ _ _ (yet ∙ (still ∙ kept)) number (c.in_ok-exceptions.ensures.found clean) in
+    let e = moved (λ db n. ListsBy Precedes (of_tenant exceptions_table n db) (map exception_row exceptions)) _ _ _ _ (yet ∙ (still ∙ kept)) number
+    (subst (λ l. ListsBy Precedes (of_tenant exceptions_table (to_z w64 (of_z w64 c.args.id)) (state g.S.Store c.pools_of.new.self.0).now.trees) (map exception_row l)) (sym c.deref.ensures.value) (c.in_ok-exceptions.ensures.found clean)) in
     let rows = are_its_rows _ c.args.id c.args.epoch i is has versions devices pools exceptions v d p e in
-    c.in-Ok-None.ensures.none c.in-Ok-None.field-0-is i is (subst (λ e. AreRowsOf i e versions devices pools _) (sym (to_z-of_z w64 c.args.epoch fits-epoch)) rows)
+    c.in-Ok-None.ensures.none c.in-Ok-None.field-0-is i is (subst (λ e. AreRowsOf i e versions devices pools exceptions) (sym (to_z-of_z w64 c.args.epoch fits-epoch)) rows)
+
+pub returns-in-Ok-Some-clause-found : goal.returns-in-Ok-Some-clause-found
+returns-in-Ok-Some-clause-found g c = λ clean.
+    let versions = c.in_ok-versions.versions.items in
+    let devices = c.in_ok-devices.devices.items in
+    let pools = c.in_ok-pools.pools.items in
+    let exceptions = c.deref.result.now in
+    let fits : SFits w64 c.args.id = search rules in
+    let fits-epoch : SFits w64 c.args.epoch = search rules in
+    let number = to_z-of_z w64 c.args.id fits in
+    let last : HasCleanDisk (state g.S.Store c.pools_of.new.self.0) = omega (arith, clean, c.in_ok-exceptions.ensures.crash.clean) in
+    let later : HasCleanDisk (state g.S.Store c.devices_of.new.self.0) = omega (arith, last, c.in_ok-pools.ensures.crash.clean) in
+    let early : HasCleanDisk (state g.S.Store c.versions_of.new.self.0) = omega (arith, later, c.in_ok-devices.ensures.crash.clean) in
+    let kept = c.in_ok-versions.ensures.kept early (is_live c.versions_of.new.self.1 c.in_ok-versions.versions c.in_ok-versions.ensures.latches.0) in
+    let still = c.in_ok-devices.ensures.kept later (is_live c.devices_of.new.self.1 c.in_ok-devices.devices c.in_ok-devices.ensures.latches.0) in
+    let yet = c.in_ok-pools.ensures.kept last (is_live c.pools_of.new.self.1 c.in_ok-pools.pools c.in_ok-pools.ensures.latches.0) in
+    let v = moved (λ db n. Lists (of_tenant maps_table n db) (map version_values versions)) (state g.S.Store c.args.tables.now.0).now _ _ _ refl number (c.in_ok-versions.ensures.found early) in
+    let d = moved (λ db n. Lists (of_tenant devices_table n db) (map state_row devices)) _ _ _ _ kept number (c.in_ok-devices.ensures.found later) in
+    let p = moved (λ db n. Lists (of_tenant pools_table n db) (map pool_values pools)) _ _ _ _ (still ∙ kept) number (c.in_ok-pools.ensures.found last) in
+    let e = moved (λ db n. ListsBy Precedes (of_tenant exceptions_table n db) (map exception_row exceptions)) _ _ _ _ (yet ∙ (still ∙ kept)) number
+    (subst (λ l. ListsBy Precedes (of_tenant exceptions_table (to_z w64 (of_z w64 c.args.id)) (state g.S.Store c.pools_of.new.self.0).now.trees) (map exception_row l)) (sym c.deref.ensures.value) (c.in_ok-exceptions.ensures.found clean)) in
+    let i = c.in-Ok-Some.inventory.value in
+    let it = rw c.in-Ok-Some.field-0-is at c.in-Ok-Some.ensures.some in
+    let are = subst (λ n. AreRowsOf i n versions devices pools exceptions) (to_z-of_z w64 c.args.epoch fits-epoch) it.1 in
+    (it.0, has_rows_listed (state g.S.Store c.args.tables.now.0).now.trees c.args.id c.args.epoch i versions devices pools exceptions v d p e are)
