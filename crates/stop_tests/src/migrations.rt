@@ -1,6 +1,8 @@
 //! Files of schema 1, whose opening replaces the tables, stopped at each call on the log and on the
 //! database file. Afterwards each tenant's replies are those of before.
 
+ghost use Rattle.std.specs.Prelude.{◌≡◌, false, IfOk};
+
 use crate::disks::{Disks, Stop, copies_with, crashed, new_files};
 use crate::session::{SALT, closed, left, session};
 use crate::stops::{MANY, are_of_rows};
@@ -8,42 +10,15 @@ use common_tests::imports::{FIRST, import};
 use common_tests::rows::{Row, calls_of, pool};
 use sqlite::{Connection, FileStore, Options};
 use sqlite_disk::{Fuse, Memory};
-use sqlite_value::value::ValueRef;
 use std::alloc::{AllocError, Global};
 use std::process::Abort;
 use std::test::Fail;
+use table_schema::values::Receipt;
+use table_writes::write::{Write, run_all};
 
 type Conn = Connection<FileStore<Fuse<Memory>>>;
 
 // ---- what an earlier program wrote
-
-/// The tables of schema 1, in the order in which they were made.
-const TABLES: [&str; 6] = [
-    "CREATE TABLE schema_info (one INTEGER NOT NULL PRIMARY KEY CHECK (one = 1), version INTEGER NOT NULL) STRICT",
-    "CREATE TABLE tenants (id INTEGER NOT NULL PRIMARY KEY AUTOINCREMENT, name TEXT NOT NULL UNIQUE, epoch INTEGER NOT NULL) STRICT",
-    "CREATE TABLE maps (tenant INTEGER NOT NULL REFERENCES tenants(id) ON DELETE CASCADE, version INTEGER NOT NULL, text TEXT NOT NULL, PRIMARY KEY(tenant, version)) STRICT",
-    "CREATE TABLE devices (tenant INTEGER NOT NULL REFERENCES tenants(id) ON DELETE CASCADE, device INTEGER NOT NULL, reweight INTEGER NOT NULL, up INTEGER NOT NULL, PRIMARY KEY(tenant, device)) STRICT",
-    "CREATE TABLE pools (tenant INTEGER NOT NULL REFERENCES tenants(id) ON DELETE CASCADE, id INTEGER NOT NULL, name TEXT NOT NULL, erasure INTEGER NOT NULL, size INTEGER NOT NULL, rule INTEGER NOT NULL, pg_num INTEGER NOT NULL, pgp_num INTEGER NOT NULL, hashpspool INTEGER NOT NULL, PRIMARY KEY(tenant, id), UNIQUE(tenant, name)) STRICT",
-    "CREATE TABLE receipts (tenant INTEGER NOT NULL REFERENCES tenants(id) ON DELETE CASCADE, request TEXT NOT NULL, path TEXT NOT NULL, body TEXT NOT NULL, status INTEGER NOT NULL, reply TEXT NOT NULL, PRIMARY KEY(tenant, request)) STRICT",
-];
-
-/// Rows with short texts. The tenant a was dropped and made again; d has nothing.
-const SHORT: [&str; 12] = [
-    "INSERT INTO schema_info VALUES (1, 1)",
-    "INSERT INTO tenants (name, epoch) VALUES ('a', 2)",
-    "DELETE FROM tenants WHERE id = 1",
-    "INSERT INTO tenants (name, epoch) VALUES ('b', 2)",
-    "INSERT INTO tenants (name, epoch) VALUES ('a', 2)",
-    "INSERT INTO tenants (name, epoch) VALUES ('c', 4)",
-    "INSERT INTO tenants (name, epoch) VALUES ('d', 0)",
-    // the device 1 of tenant c is down
-    "INSERT INTO devices VALUES (4, 1, 65536, 0)",
-    "INSERT INTO pools VALUES (2, 1, 'p', 0, 1, 0, 8, 8, 1)",
-    "INSERT INTO pools VALUES (3, 1, 'p', 0, 1, 0, 8, 8, 1)",
-    "INSERT INTO pools VALUES (4, 1, 'p', 0, 3, 0, 8, 8, 1)",
-    // and one that is erasure coded
-    "INSERT INTO pools VALUES (4, 2, 'q', 1, 3, 0, 8, 8, 0)",
-];
 
 /// The text of a map in its one form: the device of its bucket and further ones that are in no
 /// bucket, and the steps of its rule.
@@ -64,22 +39,6 @@ macro_rules! text {
         )
     };
 }
-
-/// The tenants' numbers, and the first version of each.
-const MAPS: [(i64, &str); 3] = [
-    (
-        2,
-        text!(0, "take default", "choose firstn 0 type osd", "emit"),
-    ),
-    (
-        3,
-        text!(7, "take default", "choose firstn 0 type osd", "emit"),
-    ),
-    (
-        4,
-        text!(0 1 2, "take osd.0", "emit", "take osd.1", "emit", "take osd.2", "emit"),
-    ),
-];
 
 /// The import of tenant a.
 const SEVENTH: &str = import!(
@@ -111,114 +70,142 @@ const DOWN: &str = "{\"request\":\"d1\",\"devices\":[{\"id\":1,\"up\":false}]}";
 const CODED: &str =
     "{\"request\":\"p2\",\"id\":2,\"name\":\"q\",\"kind\":\"erasure\",\"size\":3,\"rule\":0,\"pg_num\":8,\"pgp_num\":8,\"hashpspool\":false}";
 
-/// A receipt: the tenant's number, the request's, its path and its body, and the reply.
-type Receipt = (i64, &'static str, &'static str, &'static str, i64, &'static str);
-
-const RECEIPTS: [Receipt; 8] = [
-    (
-        2,
-        "m1",
-        "/t/b/maps",
-        FIRST,
-        201,
-        "{\"epoch\":1,\"version\":1}",
+/// The tables of schema 1, in the order in which they were made, and rows of four tenants: a was
+/// dropped and made again, and d has nothing.
+const WRITTEN: [Write<'static>; 29] = [
+    Write::Plain(
+        "CREATE TABLE schema_info (one INTEGER NOT NULL PRIMARY KEY CHECK (one = 1), version INTEGER NOT NULL) STRICT",
     ),
-    (
-        2,
-        "p1",
-        "/t/b/pools",
-        pool!(1, 8),
-        201,
-        "{\"epoch\":2,\"pool\":1}",
+    Write::Plain(
+        "CREATE TABLE tenants (id INTEGER NOT NULL PRIMARY KEY AUTOINCREMENT, name TEXT NOT NULL UNIQUE, epoch INTEGER NOT NULL) STRICT",
     ),
-    (
-        3,
-        "m1",
-        "/t/a/maps",
-        SEVENTH,
-        201,
-        "{\"epoch\":1,\"version\":1}",
+    Write::Plain(
+        "CREATE TABLE maps (tenant INTEGER NOT NULL REFERENCES tenants(id) ON DELETE CASCADE, version INTEGER NOT NULL, text TEXT NOT NULL, PRIMARY KEY(tenant, version)) STRICT",
     ),
-    (
-        3,
-        "p1",
-        "/t/a/pools",
-        pool!(1, 8),
-        201,
-        "{\"epoch\":2,\"pool\":1}",
+    Write::Plain(
+        "CREATE TABLE devices (tenant INTEGER NOT NULL REFERENCES tenants(id) ON DELETE CASCADE, device INTEGER NOT NULL, reweight INTEGER NOT NULL, up INTEGER NOT NULL, PRIMARY KEY(tenant, device)) STRICT",
     ),
-    (
-        4,
-        "m1",
-        "/t/c/maps",
-        THREE,
-        201,
-        "{\"epoch\":1,\"version\":1}",
+    Write::Plain(
+        "CREATE TABLE pools (tenant INTEGER NOT NULL REFERENCES tenants(id) ON DELETE CASCADE, id INTEGER NOT NULL, name TEXT NOT NULL, erasure INTEGER NOT NULL, size INTEGER NOT NULL, rule INTEGER NOT NULL, pg_num INTEGER NOT NULL, pgp_num INTEGER NOT NULL, hashpspool INTEGER NOT NULL, PRIMARY KEY(tenant, id), UNIQUE(tenant, name)) STRICT",
     ),
-    (
-        4,
-        "d1",
-        "/t/c/devices",
-        DOWN,
-        200,
-        "{\"devices\":1,\"epoch\":2}",
+    Write::Plain(
+        "CREATE TABLE receipts (tenant INTEGER NOT NULL REFERENCES tenants(id) ON DELETE CASCADE, request TEXT NOT NULL, path TEXT NOT NULL, body TEXT NOT NULL, status INTEGER NOT NULL, reply TEXT NOT NULL, PRIMARY KEY(tenant, request)) STRICT",
     ),
-    (
-        4,
-        "p1",
-        "/t/c/pools",
-        pool!(3, 8),
-        201,
-        "{\"epoch\":3,\"pool\":1}",
-    ),
-    (
-        4,
-        "p2",
-        "/t/c/pools",
-        CODED,
-        201,
-        "{\"epoch\":4,\"pool\":2}",
-    ),
+    Write::Plain("INSERT INTO schema_info VALUES (1, 1)"),
+    Write::Plain("INSERT INTO tenants (name, epoch) VALUES ('a', 2)"),
+    Write::Plain("DELETE FROM tenants WHERE id = 1"),
+    Write::Plain("INSERT INTO tenants (name, epoch) VALUES ('b', 2)"),
+    Write::Plain("INSERT INTO tenants (name, epoch) VALUES ('a', 2)"),
+    Write::Plain("INSERT INTO tenants (name, epoch) VALUES ('c', 4)"),
+    Write::Plain("INSERT INTO tenants (name, epoch) VALUES ('d', 0)"),
+    // the device 1 of tenant c is down
+    Write::Plain("INSERT INTO devices VALUES (4, 1, 65536, 0)"),
+    Write::Plain("INSERT INTO pools VALUES (2, 1, 'p', 0, 1, 0, 8, 8, 1)"),
+    Write::Plain("INSERT INTO pools VALUES (3, 1, 'p', 0, 1, 0, 8, 8, 1)"),
+    Write::Plain("INSERT INTO pools VALUES (4, 1, 'p', 0, 3, 0, 8, 8, 1)"),
+    // and one that is erasure coded
+    Write::Plain("INSERT INTO pools VALUES (4, 2, 'q', 1, 3, 0, 8, 8, 0)"),
+    Write::AddVersion {
+        id: 2,
+        version: 1,
+        text: text!(0, "take default", "choose firstn 0 type osd", "emit"),
+    },
+    Write::AddVersion {
+        id: 3,
+        version: 1,
+        text: text!(7, "take default", "choose firstn 0 type osd", "emit"),
+    },
+    Write::AddVersion {
+        id: 4,
+        version: 1,
+        text: text!(0 1 2, "take osd.0", "emit", "take osd.1", "emit", "take osd.2", "emit"),
+    },
+    Write::AddReceipt {
+        id: 2,
+        receipt: Receipt {
+            request: "m1",
+            path: "/t/b/maps",
+            body: FIRST,
+            status: 201,
+            reply: "{\"epoch\":1,\"version\":1}",
+        },
+    },
+    Write::AddReceipt {
+        id: 2,
+        receipt: Receipt {
+            request: "p1",
+            path: "/t/b/pools",
+            body: pool!(1, 8),
+            status: 201,
+            reply: "{\"epoch\":2,\"pool\":1}",
+        },
+    },
+    Write::AddReceipt {
+        id: 3,
+        receipt: Receipt {
+            request: "m1",
+            path: "/t/a/maps",
+            body: SEVENTH,
+            status: 201,
+            reply: "{\"epoch\":1,\"version\":1}",
+        },
+    },
+    Write::AddReceipt {
+        id: 3,
+        receipt: Receipt {
+            request: "p1",
+            path: "/t/a/pools",
+            body: pool!(1, 8),
+            status: 201,
+            reply: "{\"epoch\":2,\"pool\":1}",
+        },
+    },
+    Write::AddReceipt {
+        id: 4,
+        receipt: Receipt {
+            request: "m1",
+            path: "/t/c/maps",
+            body: THREE,
+            status: 201,
+            reply: "{\"epoch\":1,\"version\":1}",
+        },
+    },
+    Write::AddReceipt {
+        id: 4,
+        receipt: Receipt {
+            request: "d1",
+            path: "/t/c/devices",
+            body: DOWN,
+            status: 200,
+            reply: "{\"devices\":1,\"epoch\":2}",
+        },
+    },
+    Write::AddReceipt {
+        id: 4,
+        receipt: Receipt {
+            request: "p1",
+            path: "/t/c/pools",
+            body: pool!(3, 8),
+            status: 201,
+            reply: "{\"epoch\":3,\"pool\":1}",
+        },
+    },
+    Write::AddReceipt {
+        id: 4,
+        receipt: Receipt {
+            request: "p2",
+            path: "/t/c/pools",
+            body: CODED,
+            status: 201,
+            reply: "{\"epoch\":4,\"pool\":2}",
+        },
+    },
 ];
 
-/// Runs a statement.
-fn run(conn: &mut Conn, sql: &str, values: &[ValueRef<'_>]) -> Result<(), Fail> {
-    conn.execute(sql, values)?;
-    Ok(())
-}
-
-/// Makes the tables, and writes the rows.
-fn fill(conn: &mut Conn) -> Result<(), Fail> {
-    for sql in TABLES {
-        run(conn, sql, &[])?;
-    }
-    for sql in SHORT {
-        run(conn, sql, &[])?;
-    }
-    for (tenant, text) in MAPS {
-        let values = [ValueRef::Int(tenant), ValueRef::Text(text.as_bytes())];
-        run(conn, "INSERT INTO maps VALUES (?1, 1, ?2)", &values)?;
-    }
-    for (tenant, request, path, body, status, reply) in RECEIPTS {
-        let values = [
-            ValueRef::Int(tenant),
-            ValueRef::Text(request.as_bytes()),
-            ValueRef::Text(path.as_bytes()),
-            ValueRef::Text(body.as_bytes()),
-            ValueRef::Int(status),
-            ValueRef::Text(reply.as_bytes()),
-        ];
-        run(
-            conn,
-            "INSERT INTO receipts VALUES (?1, ?2, ?3, ?4, ?5, ?6)",
-            &values,
-        )?;
-    }
-    Ok(())
-}
-
 /// A connection to files that can be opened.
-fn connected(alloc: Global, files: Disks) -> Result<Conn, Fail> {
+fn connected(alloc: Global, files: Disks) -> Result<Conn, Fail>
+    ensures { IfOk result (λ conn. conn.in_transaction ≡ false) }
+{
     if !files.may_be_used() {
         return Err(Fail::new("a file can't be used"));
     }
@@ -228,10 +215,10 @@ fn connected(alloc: Global, files: Disks) -> Result<Conn, Fail> {
     }
 }
 
-/// Files of schema 1, closed or with all rows in the log.
+/// Files of schema 1, closed or with all that was written in the log.
 fn first_files(alloc: Global, closes: bool) -> Result<Disks, Fail> {
     let mut conn = connected(alloc, new_files(alloc, Stop::NONE))?;
-    fill(&mut conn)?;
+    run_all(&mut conn, &WRITTEN)?;
     Ok(if closes {
         closed(conn)
     } else {
@@ -402,10 +389,10 @@ fn stop_at_calls_on_the_log(rt: &impl Abort, alloc: Global, first: &Disks) -> Re
             return Ok(());
         }
         if version == 2 {
-            after += 1;
+            after = after.saturating_add(1);
         } else {
             assert_eq!(rt; after, 0, "schema 1 again after {calls} calls");
-            before += 1;
+            before = before.saturating_add(1);
         }
     }
     Err("each opening met a stop")?
