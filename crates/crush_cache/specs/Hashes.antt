@@ -1,5 +1,5 @@
--- The hashes that are kept beside texts, states of devices, exceptions of pools and contents, so that
--- each is made once.
+-- The hashes that are kept beside texts, states of devices, exceptions of pools and contents, so
+-- that each is made once.
 use Rattle.std.specs.Prelude.{ℕ, List, ◌++◌, flat_map, fold}
 use Rattle.std.specs.Hash as fed
 use Rattle.std.specs.Hash.FoldHasher as folding

@@ -329,13 +329,7 @@ const REPLIES: [Row; 16] = [
         200,
         "{\"epoch\":5,\"removed\":1}",
     ),
-    (
-        "PUT",
-        "/t/e",
-        "",
-        201,
-        "{\"epoch\":0,\"tenant\":\"e\"}",
-    ),
+    ("PUT", "/t/e", "", 201, "{\"epoch\":0,\"tenant\":\"e\"}"),
 ];
 
 /// Whether a session without a stop over the files has these replies.
@@ -347,9 +341,10 @@ fn are_as_before(alloc: Global, files: Disks) -> Result<bool, AllocError> {
 /// The version of the tables in copies of the files.
 fn version_in(alloc: Global, files: &Disks) -> Result<i64, Fail> {
     let mut conn = connected(alloc, copies_with(alloc, files, Stop::NONE)?)?;
-    Ok(conn
-        .query_row("SELECT version FROM schema_info", &[])?
-        .get(0)?)
+    Ok(
+        conn.query_row("SELECT version FROM schema_info", &[])?
+            .get(0)?,
+    )
 }
 
 /// Whether the files have the same bytes.
@@ -361,12 +356,7 @@ fn are_same(files: &Disks, others: &Disks) -> bool {
 /// An opening of copies of the files with this stop: whether it met none, and the version of the
 /// tables that a crash then leaves, 1 or 2. Where it leaves the files as they were, what they hold
 /// isn't looked at again.
-fn opening(
-    rt: &impl Abort,
-    alloc: Global,
-    first: &Disks,
-    stop: Stop,
-) -> Result<(bool, i64), Fail> {
+fn opening(rt: &impl Abort, alloc: Global, first: &Disks, stop: Stop) -> Result<(bool, i64), Fail> {
     let (end, files) = session(alloc, copies_with(alloc, first, stop)?, &[], false)?;
     let files = crashed(files);
     let is_whole = end.is_some();

@@ -23,5 +23,4 @@ pub fn names_stand_for_one_state()
 pub fn openings_keep_states()
     ensures set_up { (old : Database) (trees : Trees) → SetsUp old trees → (t : List ℕ) (s : Option TenantState) → StatesIn old t s ↔ StandsFor trees t s }
     ensures found { (db : Database) → IsStoreSchema db.schema → (t : List ℕ) (s : Option TenantState) → StatesIn db t s ↔ StandsFor db.trees t s }
-{
-}
+{}

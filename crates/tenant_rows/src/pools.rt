@@ -42,11 +42,7 @@ fn pair_from(row: &Exception, pool: u32, place: u64) -> Option<Pair>
 
 /// The pairs of a pool from the rows of its exceptions, which have the places 0, 1, .. `None`,
 /// exactly where they are the rows of none. `Err(AllocError)`: an allocation failed.
-fn pairs_from(
-    alloc: Global,
-    rows: &[Exception],
-    pool: u32,
-) -> Result<Option<Vec<Pair>>, AllocError>
+fn pairs_from(alloc: Global, rows: &[Exception], pool: u32) -> Result<Option<Vec<Pair>>, AllocError>
     ensures some { IfOk result (λ o. IfSome o (λ pairs. map exception_row rows.now ≡ spec.rows_of_pairs pool 0 pairs.items)) }
     ensures none { IfOk result (λ o. o ≡ None → (pairs : List PairOfPool) → list_all (is_pair GROUP_LIMIT) pairs ≡ true → map exception_row rows.now ≢ spec.rows_of_pairs pool 0 pairs) }
 {

@@ -200,7 +200,8 @@ impl Inventory {
     }
 
     /// What the placements of a pool on a version depend on, with its exceptions and the states of
-    /// devices as they are now. It is shared, and not copied. `Err(AllocError)`: nothing is changed.
+    /// devices as they are now. It is shared, and not copied. `Err(AllocError)`: nothing is
+    /// changed.
     pub fn content(&self, version: &Version, pool: &TenantPool) -> Result<Content, AllocError>
         ensures { IfOk result (λ c. c ≡ content_of (record { map = version.now; states = self.now.devices; pool = pool.now.parts; pairs = pool.now.pairs })) }
     {
