@@ -70,8 +70,8 @@ const GONE: &str = "{\"request\":\"e1\",\"id\":1}";
 const AGAIN: &str =
     "{\"request\":\"p2\",\"id\":1,\"name\":\"p\",\"kind\":\"replicated\",\"size\":1,\"rule\":0,\"pg_num\":2,\"pgp_num\":2,\"hashpspool\":true}";
 
-/// Calls of two tenants in turn. The seeds of the groups 0 and 1 of pool 1 are the hashes of 0 and 1
-/// and of 1 and 1.
+/// Calls of two tenants in turn. The seeds of the groups 0 and 1 of pool 1 are the hashes of 0 and
+/// 1, and of 1 and 1.
 const ROWS: [Row; 44] = [
     CREATION_OF_A,
     CREATION_OF_B,
