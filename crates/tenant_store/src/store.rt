@@ -61,8 +61,8 @@ impl<S: Alter + Drop> Store<S> {
     /// 1 are replaced by those of schema 2, and else they are tested: that they are this service's,
     /// and of its version. The rows of before and after stand for the same states.
     ///
-    /// `Err((StoreFault::Damaged, store))`: the tables are another's, or of another version. Nothing
-    /// is changed. `Err((StoreFault::NoMemory, store))`, `Err((StoreFault::Full, store))`,
+    /// `Err((StoreFault::Damaged, store))`: the tables are another's, or of another version.
+    /// Nothing is changed. `Err((StoreFault::NoMemory, store))`, `Err((StoreFault::Full, store))`,
     /// `Err((StoreFault::Failed, store))`: the tables may have been made, or those of schema 1
     /// replaced, whole, for the same states.
     pub fn open(alloc: Global, conn: Connection<S>) -> Result<Store<S>, (StoreFault, S)>
