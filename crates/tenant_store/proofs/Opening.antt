@@ -12,13 +12,13 @@ use Rattle.tenant_store.specs.Replaced.{Replaces}
 pub opened : (old now : Database) → (old.schema ≡ no_schema) ⊎ IsKnown old.schema → (old.schema ≡ no_schema → IsBare now) → (IsStoreSchema old.schema → (now.trees ≡ old.trees) × HasVersion 2 old.trees)
     → (old.schema ≡ first_schema → IsMigrated old now) → Same (StatesIn old) (StandsFor now.trees)
 opened old now known made adopted migrated = elim known [
-  | inl none ↦ set_up_states old now.trees (inl (none, now, made none, refl))
-  | inr (inl first) ↦ set_up_states old now.trees (inr (first, now, migrated first, refl))
+  | inl none ↦ set_up_states old now.trees (inl (none, (now, made none, refl)))
+  | inr (inl first) ↦ set_up_states old now.trees (inr (first, (now, migrated first, refl)))
   | inr (inr own) ↦ subst (λ (db : Trees). Same (StatesIn old) (StandsFor db)) (sym (adopted own).0) (found_states old own)
 ]
 
 pub replaced : (old : Database) (trees : Trees) → SetsUp old trees → Replaces old trees
 replaced old trees (inl (none, (db, bare, is))) =
-    record { first = inl none; version = subst (HasVersion 2) (sym is) bare.version; same = set_up_states old trees (inl (none, db, bare, is)) }
+    record { first = inl none; version = subst (HasVersion 2) (sym is) bare.version; same = set_up_states old trees (inl (none, (db, bare, is))) }
 replaced old trees (inr (first, (db, it, is))) =
-    record { first = inr (first, it.first); version = subst (HasVersion 2) (sym is) it.rows.version; same = set_up_states old trees (inr (first, db, it, is)) }
+    record { first = inr (first, it.first); version = subst (HasVersion 2) (sym is) it.rows.version; same = set_up_states old trees (inr (first, (db, it, is))) }
