@@ -6,8 +6,6 @@
 mod chains;
 #[cfg(test)]
 mod disks;
-#[cfg(test)]
-mod migrations;
 pub mod session;
 #[cfg(test)]
 mod stops;
