@@ -1,5 +1,5 @@
--- How the pairs of a group are found: by the place of the first one, and for each pair by that of the
--- next one of its group.
+-- How the pairs of a group are found: by the place of the first one, and for each one by the place
+-- of the next.
 use Rattle.std.specs.Prelude.{◌≡◌, ◌<◌, ◌+◌, ℕ, List, drop, length, slice_index_or}
 use Rattle.std.specs.List.{position_or_len}
 use Rattle.crush_values.specs.DeviceValues.{Values, value_at}
