@@ -1,15 +1,14 @@
 //! Placement exceptions: pairs of devices, by which a group has another device than its rule
 //! answered.
 
-ghost use Rattle.std.specs.Prelude.{◌≡◌, ◌≤◌, IfOk, IfErr, is_ok, [], length, position, true, false};
+ghost use Rattle.std.specs.Prelude.{◌≡◌, ◌<◌, ◌≤◌, ◌+◌, IfOk, IfErr, is_ok, [], fold, length, max, position, slice_index_or, true};
 ghost use Rattle.std.specs.List.{list_all, list_any};
 ghost use Rattle.crush_map.specs.Faults.{has_number};
 ghost use Rattle.crush_map.specs.declared.limits.TheConstants.{NUMBER_LIMIT};
 ghost use Rattle.crush_choose.specs.Firstn.{slot_has};
 ghost use Rattle.crush_choose.specs.declared.limits.TheConstants.{SIZE_LIMIT};
-ghost use Rattle.crush_values.specs.DeviceValues.{values_of};
 ghost use Rattle.crush_pool.specs.Exceptions as spec;
-ghost use Rattle.crush_pool.specs.Private.Pairs.{leads_to, marks};
+ghost use Rattle.crush_pool.specs.Private.Pairs.{HasFirst, HasNext, first_from, no_pair};
 ghost use Rattle.crush_pool.specs.declared.limits.TheConstants.{GROUP_LIMIT};
 
 use crate::limits::{GROUP_LIMIT, PAIR_LIMIT};
@@ -59,29 +58,34 @@ fn are_pairs(groups: u32, pairs: &[Pair]) -> bool
     pairs.len() <= PAIR_LIMIT && are_all_pairs(groups, pairs)
 }
 
-/// A table of flags by group: whether one of the pairs is of it.
-fn groups_of(alloc: Global, pairs: &[Pair]) -> Result<ByDevice<bool>, AllocError>
-    ensures { IfOk result (λ table. table ≡ values_of false (marks pairs.now)) }
+/// How many places a table by group has that reaches to the greatest group of the pairs.
+fn reach_of(pairs: &[Pair]) -> usize
+    ensures { result ≡ fold (λ reach p. max reach (p.group + 1)) 0 pairs.now }
 {
-    let mut table = ByDevice::new(alloc, false, 0)?;
-    for place in (0..pairs.len()).rev() {
-        table.set(pairs[place].group, true)?;
+    let mut reach = 0;
+    for pair in pairs {
+        reach = reach.max(pair.group as usize + 1);
     }
-    Ok(table)
+    reach
 }
 
-/// Whether a pair is of a group and leads to a device.
-fn leads_to(pair: &Pair, group: u32, device: u32) -> bool
-    ensures { result ≡ leads_to group device pair.now }
+/// For each group the place of its first pair, and for each pair the place of the next one of its
+/// group. Where there is none, the number of pairs stands.
+fn places_of(alloc: Global, pairs: &[Pair]) -> Result<(ByDevice<u16>, Vec<u16>), AllocError>
+    requires { spec.are_pairs GROUP_LIMIT pairs.now ≡ true }
+    ensures first { IfOk result (λ places. HasFirst places.0 pairs.now) }
+    ensures next { IfOk result (λ places. HasNext places.1.items pairs.now) }
+    ensures each { IfOk result (λ places. length places.1.items ≡ length pairs.now) }
 {
-    pair.group == group && pair.to == device
-}
-
-/// Whether one of the pairs is of a group and leads to a device.
-fn lead_to(pairs: &[Pair], group: u32, device: u32) -> bool
-    ensures { result ≡ list_any (leads_to group device) pairs.now }
-{
-    pairs.iter().any(|pair| leads_to(pair, group, device))
+    let none = pairs.len() as u16;
+    let mut first = ByDevice::new(alloc, none, reach_of(pairs))?;
+    let mut next = vec![in alloc; none; pairs.len()]?;
+    for place in (0..pairs.len()).rev() {
+        let group = pairs[place].group;
+        next[place] = first.get(group);
+        first.set(group, place as u16)?;
+    }
+    Ok((first, next))
 }
 
 /// The exceptions of a pool: at most `PAIR_LIMIT` pairs, in an order that counts. Contracts see the
@@ -89,16 +93,17 @@ fn lead_to(pairs: &[Pair], group: u32, device: u32) -> bool
 #[derive(Drop)]
 pub struct Exceptions {
     pairs: Vec<Pair>,
-    /// Whether a group has a pair, so that for most groups no pair is looked at. A group has a
-    /// number that a device can have.
-    groups: ByDevice<bool>,
+    /// The place of each group's first pair, so that only the pairs of a group are looked at. A
+    /// group has a number that a device can have.
+    first: ByDevice<u16>,
+    /// For each pair the place of the next one of its group.
+    next: Vec<u16>,
 }
 
 impl Model for Exceptions {
-    ghost use Rattle.std.specs.Prelude.{◌≡◌, List, true, false};
-    ghost use Rattle.crush_values.specs.DeviceValues.{values_of};
+    ghost use Rattle.std.specs.Prelude.{◌≡◌, List, length, true};
     ghost use Rattle.crush_pool.specs.Exceptions.{are_pairs};
-    ghost use Rattle.crush_pool.specs.Private.Pairs.{marks};
+    ghost use Rattle.crush_pool.specs.Private.Pairs.{HasFirst, HasNext};
     ghost use Rattle.crush_pool.specs.declared.exceptions.Pair.{Pair};
     ghost use Rattle.crush_pool.specs.declared.limits.TheConstants.{GROUP_LIMIT};
 
@@ -108,7 +113,9 @@ impl Model for Exceptions {
 
     ghost invariant = { λ a. record {
       valid : are_pairs GROUP_LIMIT a.pairs.items ≡ true;
-      table : a.groups ≡ values_of false (marks a.pairs.items);
+      first : HasFirst a.first a.pairs.items;
+      next : HasNext a.next.items a.pairs.items;
+      each : length a.next.items ≡ length a.pairs.items;
     } };
 }
 
@@ -118,8 +125,8 @@ impl Exceptions {
         ensures { IfOk result (λ exceptions. exceptions ≡ []) }
     {
         let pairs = Vec::new(alloc);
-        let groups = groups_of(alloc, &pairs)?;
-        Ok(Exceptions { pairs, groups })
+        let (first, next) = places_of(alloc, &pairs)?;
+        Ok(Exceptions { pairs, first, next })
     }
 
     /// These pairs as the exceptions of a pool, or `P3` where they are more than `PAIR_LIMIT`, or
@@ -137,8 +144,8 @@ impl Exceptions {
         if !are_pairs(pool.parts().pg_num, pairs.as_slice()) {
             return Ok(Err(PoolFault::P3));
         }
-        let groups = groups_of(alloc, pairs.as_slice())?;
-        Ok(Ok(Exceptions { pairs, groups }))
+        let (first, next) = places_of(alloc, pairs.as_slice())?;
+        Ok(Ok(Exceptions { pairs, first, next }))
     }
 
     /// The pairs, in their order.
@@ -153,15 +160,48 @@ impl Exceptions {
     pub fn concern(&self, group: u32) -> bool
         ensures { result ≡ list_any (spec.is_of_group group) self.now }
     {
-        self.groups.get(group)
+        self.first_of(group) < self.pairs.len()
     }
 
     /// Whether a pair of a group leads to a device.
-    #[tactic(auto, using(crate::proofs::Pairs::none_lead, crate::proofs::Pairs::targets_have))]
     pub fn lead_to(&self, group: u32, device: u32) -> bool
         ensures { result ≡ has_number (spec.targets_of self.now group) device }
     {
-        self.concern(group) && lead_to(self.pairs.as_slice(), group, device)
+        let mut place = self.first_of(group);
+        while place < self.pairs.len() {
+            if self.pairs[place].to == device {
+                return true;
+            }
+            place = self.next_of(place);
+        }
+        false
+    }
+
+    /// The place of the first pair of a group, or the number of pairs where there is none.
+    fn first_of(&self, group: u32) -> usize
+        ensures { result ≡ first_from self.now group 0 }
+    {
+        self.first.get(group) as usize
+    }
+
+    /// The place of the next pair of the group of the one at a place, or the number of pairs where
+    /// there is none.
+    fn next_of(&self, place: usize) -> usize
+        requires { place < length self.now }
+        ensures { result ≡ first_from self.now (slice_index_or self.now place no_pair).group (place + 1) }
+    {
+        self.next[place] as usize
+    }
+
+    /// Changes what a rule answered for a group by the pairs of that group, one after the other.
+    fn apply_all(&self, tables: &Tables, weights: &Weights, group: u32, slots: &mut [Slot])
+        ensures { slots.new ≡ spec.excepted tables.now weights.now self.now group slots.old }
+    {
+        let mut place = self.first_of(group);
+        while place < self.pairs.len() {
+            apply(tables, weights, self.pairs[place], slots);
+            place = self.next_of(place);
+        }
     }
 }
 
@@ -211,18 +251,6 @@ fn apply(tables: &Tables, weights: &Weights, pair: Pair, slots: &mut [Slot])
     }
 }
 
-/// Changes what a rule answered for a group by the pairs of that group, one after the other.
-fn apply_all(tables: &Tables, weights: &Weights, pairs: &[Pair], group: u32, slots: &mut [Slot])
-    requires { spec.are_pairs GROUP_LIMIT pairs.now ≡ true }
-    ensures { slots.new ≡ spec.excepted tables.now weights.now pairs.now group slots.old }
-{
-    for pair in pairs {
-        if pair.group == group {
-            apply(tables, weights, *pair, slots);
-        }
-    }
-}
-
 /// What a rule answered for a group, with the exceptions of that group: at most `SIZE_LIMIT` slots,
 /// in an array of its own. Contracts see the list of them.
 #[derive(Drop)]
@@ -255,13 +283,7 @@ impl Excepted {
         for slot in raw {
             slots.push(*slot);
         }
-        apply_all(
-            tables,
-            weights,
-            exceptions.pairs(),
-            group,
-            slots.as_mut_slice(),
-        );
+        exceptions.apply_all(tables, weights, group, slots.as_mut_slice());
         Excepted { slots }
     }
 

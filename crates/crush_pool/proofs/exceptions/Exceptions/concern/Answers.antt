@@ -1,6 +1,9 @@
-use Rattle.std.proofs.Common.{◌∙◌}
-use Rattle.crush_pool.proofs.Pairs.{is_marked}
+use Rattle.std.proofs.Common.{◌≡◌, List, length, ap, ◌∙◌}
+use Rattle.crush_pool.specs.declared.exceptions.Pair.{Pair}
+use Rattle.crush_pool.proofs.Pairs.{first_within}
 use Rattle.crush_pool.proofs.exceptions.Exceptions.concern.Goals as goal
 
 pub returns : goal.returns
-returns c = rw (← c.self.view_is) (c.get.ensures ∙ is_marked c.self.inside.pairs.items c.self.inside.groups c.args.group c.self.invariant.valid c.self.invariant.table)
+returns c =
+    let count : c.len.result ≡ length c.args.self.now = c.len.ensures ∙ (c.self.inside.pairs.ok.0 ∙ ap (λ (pairs : List Pair). length pairs) c.self.view_is) in
+    rw (c.first_of.ensures, count) (first_within c.args.self.now c.args.group)
