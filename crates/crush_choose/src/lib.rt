@@ -2,7 +2,7 @@
 //!
 //! Sources: Weil et al., 'CRUSH: Controlled, Scalable, Decentralized Placement of Replicated Data'
 //! (SC 2006), and Ceph's `src/crush/mapper.c`. Choosing allocates nothing and can't fail. The tests
-//! are in the crate `kernel_tests`.
+//! are in the crate `choosing_tests`.
 #![tactic(auto)]
 
 mod effort;

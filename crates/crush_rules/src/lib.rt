@@ -2,7 +2,7 @@
 //!
 //! Sources: Weil et al., 'CRUSH: Controlled, Scalable, Decentralized Placement of Replicated Data'
 //! (SC 2006), and `crush_do_rule` of Ceph's `src/crush/mapper.c`. A rule that runs allocates
-//! nothing and can't fail. The tests are in the crate `kernel_tests`.
+//! nothing and can't fail. The tests are in the crate `choosing_tests`.
 #![tactic(auto)]
 
 pub mod laws;
