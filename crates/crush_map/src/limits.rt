@@ -10,13 +10,13 @@ pub use crush_values::limits::ID_COUNT;
 pub const TYPE_LIMIT: usize = 32;
 
 /// The most devices of a map.
-pub const DEVICE_LIMIT: usize = 1_024;
+pub const DEVICE_LIMIT: usize = 10_000;
 
 /// The most buckets of a map.
 pub const BUCKET_LIMIT: usize = 1_024;
 
 /// The most items of a bucket.
-pub const ITEM_LIMIT: usize = 1_024;
+pub const ITEM_LIMIT: usize = 4_096;
 
 /// The greatest sum of a bucket's weights, in 16.16 fixed point.
 pub const TOTAL_WEIGHT_LIMIT: u64 = 4_294_967_295;
