@@ -52,7 +52,7 @@ fn are_all_pairs(groups: u32, pairs: &[Pair]) -> bool
 
 /// Whether there are at most `PAIR_LIMIT` pairs, each of one of so many groups, with two different
 /// ids that devices can have.
-fn are_pairs(groups: u32, pairs: &[Pair]) -> bool
+pub fn are_pairs(groups: u32, pairs: &[Pair]) -> bool
     ensures { result ≡ spec.are_pairs groups pairs.now }
 {
     pairs.len() <= PAIR_LIMIT && are_all_pairs(groups, pairs)

@@ -2,11 +2,9 @@
 //! `/t/{t}/pools/{p}/exceptions` GET reads them.
 
 ghost use Rattle.std.specs.Prelude.{◌≡◌, ◌<◌, ◌^◌, false, IfOk, Ok, Err, if◌then◌else◌, map};
-ghost use Rattle.std.specs.List.{list_all};
 ghost use Rattle.serde_json.specs.View.{view, items_view};
 ghost use Rattle.serde_json.specs.Written.{has_float};
-ghost use Rattle.crush_pool.specs.Exceptions.{are_pairs, is_pair};
-ghost use Rattle.crush_pool.specs.declared.limits.TheConstants.{GROUP_LIMIT};
+ghost use Rattle.crush_pool.specs.Exceptions.{are_pairs};
 ghost use Rattle.tenant_messages.specs.Json as json;
 ghost use Rattle.tenant_messages.specs.Reading.{Reads};
 ghost use Rattle.tenant_messages.specs.Refusals.{Answers, Gives};
@@ -17,10 +15,9 @@ ghost use Rattle.tenant_resources.specs.Orders.{accepted_of};
 use crate::accepted::Accepted;
 use crate::devices::has_device;
 use crush_cache::SharedExceptions;
-use crush_map::limits::NUMBER_LIMIT;
 use crush_map::{Listed, Text};
-use crush_pool::limits::{GROUP_LIMIT, PAIR_LIMIT, POOL_ID_LIMIT};
-use crush_pool::{Exceptions, Pair};
+use crush_pool::limits::{GROUP_LIMIT, POOL_ID_LIMIT};
+use crush_pool::{Exceptions, Pair, are_pairs};
 use serde_json::{Value, json};
 use std::alloc::{AllocError, Global};
 use tenant_messages::{
@@ -59,31 +56,6 @@ fn pairs(alloc: Global, values: &[Value]) -> Result<Vec<Pair>, Refusal>
     Ok(found)
 }
 
-/// Whether some pool can have a pair: its group is one that a pool can have, and its ids are two
-/// different ones that devices can have.
-fn is_pair(pair: &Pair) -> bool
-    ensures { result ≡ is_pair GROUP_LIMIT pair.now }
-{
-    pair.group < GROUP_LIMIT
-        && pair.from <= NUMBER_LIMIT
-        && pair.to <= NUMBER_LIMIT
-        && pair.from != pair.to
-}
-
-/// Whether some pool can have each of the pairs.
-fn are_all_pairs(pairs: &[Pair]) -> bool
-    ensures { result ≡ list_all (is_pair GROUP_LIMIT) pairs.now }
-{
-    pairs.iter().all(|pair| is_pair(pair))
-}
-
-/// Whether some pool can have these pairs, of which there are then at most `PAIR_LIMIT`.
-fn are_pairs(pairs: &[Pair]) -> bool
-    ensures { result ≡ are_pairs GROUP_LIMIT pairs.now }
-{
-    pairs.len() <= PAIR_LIMIT && are_all_pairs(pairs)
-}
-
 /// The request number, the id of the pool and the pairs that a body's value says. The problem is
 /// `BadRequest`, exactly where the value isn't of the form of such a body.
 fn exceptions_in(alloc: Global, value: &Value) -> Result<(Text, (u32, Listed<Pair>)), Refusal>
@@ -99,7 +71,7 @@ fn exceptions_in(alloc: Global, value: &Value) -> Result<(Text, (u32, Listed<Pai
         .and_then(Value::as_array)
         .ok_or(Problem::BadRequest)?;
     let found = pairs(alloc, values)?;
-    if id >= 1 && are_pairs(&found) {
+    if id >= 1 && are_pairs(GROUP_LIMIT, &found) {
         Ok((Text::copy(alloc, number)?, (id, Listed::new(found))))
     } else {
         Err(Refusal::Problem(Problem::BadRequest))
