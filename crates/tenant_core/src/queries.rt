@@ -9,9 +9,8 @@ use crush_pool::Placement;
 use std::alloc::{AllocError, Global};
 use tenant_messages::{Refusal, Reply, or_refused};
 use tenant_reports::{impact, moves, usage};
-use tenant_resources::{
-    ObjectName, PickRequest, RuleTest, exceptions, groups, maps, picks, rule_tests,
-};
+use tenant_picks::{PickRequest, picks};
+use tenant_resources::{ObjectName, RuleTest, exceptions, groups, maps, rule_tests};
 use tenant_state::{Inventory, TenantPool};
 
 /// What is asked of a tenant's state.

@@ -16,7 +16,8 @@ use crush_words::number_from_text;
 use std::alloc::Global;
 use tenant_messages::{Problem, Refusal, text_of};
 use tenant_reports::device_csv;
-use tenant_resources::{devices, exceptions, groups, maps, picks, pools, rule_tests};
+use tenant_picks::picks;
+use tenant_resources::{devices, exceptions, groups, maps, pools, rule_tests};
 
 /// The routes: what a method asks for at a path.
 #[derive(Clone, Copy, Debug, PartialEq, Eq)]

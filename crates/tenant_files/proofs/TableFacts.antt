@@ -1,5 +1,5 @@
 -- What is said of a store over tables is said of its rows.
-use Rattle.std.proofs.Common.{◌≡◌, List, ℕ, Bool, Option, subst}
+use Rattle.std.proofs.Common.{◌≡◌, Bool, subst}
 use Rattle.sqlite.specs.Held.{Held, state}
 use Rattle.sqlite.specs.Store.{Ghosts}
 use Rattle.tenant_core.specs.States.{Outcomes, States}

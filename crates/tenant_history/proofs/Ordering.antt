@@ -1,7 +1,7 @@
 -- What is kept of a session is in the order of its calls.
-use Rattle.std.proofs.Common.{◌≡◌, ◌⊎◌, inl, inr, ◌<◌, ◌&&◌, ℕ, zero, suc, List, [], ◌∷◌, ◌++◌, map, filter, zip, length, take, drop, Bool, true, false, cond, Option, Some, None, refl, sym, ap, subst, ◌∙◌, arith}
+use Rattle.std.proofs.Common.{◌≡◌, ◌⊎◌, inl, inr, ◌<◌, ◌&&◌, ℕ, zero, suc, List, [], ◌∷◌, ◌++◌, map, filter, take, drop, Bool, true, false, cond, Option, Some, None, refl, sym, ap, subst, ◌∙◌, arith}
 use Rattle.std.proofs.lemmas.List.{append-nil, map-append}
-use Rattle.std.specs.List.{All, AllZip}
+use Rattle.std.specs.List.{All}
 use Rattle.tenant_core.specs.Alone.{answered, is_answered}
 use Rattle.tenant_core.specs.Step.{is_of}
 use Rattle.tenant_history.specs.History.{AreInOrder, IsKeptOf, IsSilentFrom, IsSoundFor, Kept, KeepsOrder, Session, acknowledged, at_doubt, calls_of, in_doubt, kept_acknowledged, kept_in_doubt}

@@ -1,5 +1,5 @@
 -- The path and the body of a command are those of its call.
-use Rattle.std.proofs.Common.{◌≡◌, ◌∙◌, ℕ, ◌==◌, List, length, Bool, true, false, nat_lt, if◌then◌else◌, Option, Some, None, option_map, option_and_then, Result, Ok, Err, codes, refl, sym, ap}
+use Rattle.std.proofs.Common.{◌≡◌, ◌∙◌, ℕ, ◌==◌, List, length, Bool, true, false, nat_lt, if◌then◌else◌, Option, Some, None, option_map, option_and_then, Err, codes, refl, sym, ap}
 use Rattle.std.specs.Option.{ok_or}
 use Rattle.matchit.specs.Router.{RouteOf}
 use Rattle.matchit.specs.Seek.{first}
@@ -24,7 +24,7 @@ use Rattle.tenant_resources.specs.Devices as devices
 use Rattle.tenant_resources.specs.Exceptions as exceptions
 use Rattle.tenant_resources.specs.Groups as groups
 use Rattle.tenant_resources.specs.Maps as maps
-use Rattle.tenant_resources.specs.Picks as picks
+use Rattle.tenant_picks.specs.Picks as picks
 use Rattle.tenant_resources.specs.Pools as pools
 use Rattle.tenant_resources.specs.RuleTests as rule_tests
 

@@ -1,10 +1,10 @@
 -- A numbered call that is repeated acts once.
-use Rattle.std.proofs.Common.{◌≡◌, ◌≢◌, ◌⊎◌, inl, inr, ◌<◌, ◌≤◌, ◌==◌, ℕ, zero, suc, List, [], ◌∷◌, Bool, true, false, map, take, slice_get, Option, Some, None, IsSome, refl, sym, ap, subst, ◌∙◌, arith}
+use Rattle.std.proofs.Common.{◌≡◌, ◌≢◌, ◌⊎◌, inl, inr, ◌<◌, ◌≤◌, ◌==◌, ℕ, zero, suc, List, [], ◌∷◌, Bool, true, false, slice_get, Option, Some, None, IsSome, refl, sym, ap, subst, ◌∙◌, arith}
 use Rattle.std.proofs.lemmas.Bool.{cases_Bool, eqb-true, eqb-false}
 use Rattle.std.specs.List.{AllZip}
 use Rattle.tenant_core.specs.Alone.{alone}
 use Rattle.tenant_history.specs.History.{Kept, calls_of, IsReplyTo}
-use Rattle.tenant_history.specs.Repeats.{ActsOnce, AreAlike, Exists, IsAccepted, Repeats, number_of, state_before}
+use Rattle.tenant_history.specs.Repeats.{ActsOnce, Exists, IsAccepted, number_of, state_before}
 use Rattle.tenant_history.proofs.Receipted.{HasReceipt, accepted, changes_nothing, same_again, stays}
 use Rattle.tenant_core.specs.Step.{step}
 use Rattle.tenant_messages.specs.declared.call.Call.{Call}

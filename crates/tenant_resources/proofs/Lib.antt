@@ -1,5 +1,3 @@
-pub mod Deciding
-pub mod PickForms
 pub mod TestForms
 pub mod Importing
 pub mod Testing
@@ -11,4 +9,3 @@ pub mod GroupAnswers
 pub mod Mapped
 pub mod PoolForms
 pub mod ExceptionForms
-mod Seen

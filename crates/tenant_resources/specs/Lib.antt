@@ -1,6 +1,4 @@
-pub mod Private
 pub mod Orders
-pub mod Picks
 pub mod Maps
 pub mod RuleTests
 pub mod Devices

@@ -10,17 +10,8 @@ ghost use Rattle.tenant_resources.specs.Devices.{IsDevicesBody, changes_of, devi
 ghost use Rattle.tenant_resources.specs.Exceptions.{IsExceptionsBody, exceptions_of, exceptions_request_of};
 ghost use Rattle.tenant_resources.specs.Groups.{IsLocateBody, name_of, locate_request_of};
 ghost use Rattle.tenant_resources.specs.Maps.{IsImportBody, import_of, import_request_of};
-ghost use Rattle.tenant_resources.specs.Picks.{IsPickBody, pick_of, pick_request_of};
 ghost use Rattle.tenant_resources.specs.Pools.{IsPoolBody, IsRemovalBody, pool_of, pool_request_of, removal_of, removal_request_of};
 ghost use Rattle.tenant_resources.specs.RuleTests.{IsTestBody, test_of, test_request_of};
-
-/// A pick is read from a body exactly where the body has its form and says that pick; any other
-/// body is refused.
-pub fn picks_are_of_the_form()
-    ensures value { FindsExactly pick_of IsPickBody }
-    ensures body { ReadsExactly pick_request_of IsPickBody }
-    ensures refused { RefusesOthers pick_request_of IsPickBody }
-{}
 
 /// An import is read from a body exactly where the body has its form and says that import; any
 /// other body is refused.

@@ -9,11 +9,9 @@ pub mod groups;
 pub mod laws;
 pub mod limits;
 pub mod maps;
-pub mod picks;
 pub mod pools;
 pub mod rule_tests;
 
 pub use accepted::Accepted;
 pub use groups::ObjectName;
-pub use picks::{AskedBucket, PickRequest};
 pub use rule_tests::RuleTest;

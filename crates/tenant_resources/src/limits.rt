@@ -2,6 +2,3 @@
 
 /// The longest name of an object, in bytes.
 pub const OBJECT_NAME_LIMIT: usize = 1_024;
-
-/// The greatest attempt `r` of a pick.
-pub const ATTEMPT_LIMIT: u32 = 2_147_483_647;

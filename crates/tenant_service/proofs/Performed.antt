@@ -1,5 +1,5 @@
 -- A request that is decided and carried out, for a store's relations.
-use Rattle.std.proofs.Common.{◌≡◌, ◌≢◌, ◌⊎◌, inl, inr, ◌↔◌, ◌∙◌, ℕ, List, Bool, Option, Some, None, is_some, option_map, Result, Ok, Err, IfOk, OnErr, refl, ap, sym, subst}
+use Rattle.std.proofs.Common.{◌≡◌, ◌≢◌, ◌⊎◌, inl, inr, ◌↔◌, ◌∙◌, ℕ, List, Option, Some, None, is_some, option_map, Result, Ok, Err, IfOk, OnErr, refl, ap, sym, subst}
 use Rattle.tenant_core.specs.Effects.{after_effect}
 use Rattle.tenant_core.specs.Private.Performing.{Decides, LeavesRequest, Performs}
 use Rattle.tenant_core.specs.Request.{Request}

@@ -1,5 +1,4 @@
-use Rattle.std.proofs.Common.{◌≡◌, ◌∙◌, is_some, option_map}
-use Rattle.tenant_core.specs.States.{Same}
+use Rattle.std.proofs.Common.{◌≡◌, ◌∙◌, is_some}
 use Rattle.tenant_state.specs.State.{inventory_of}
 use Rattle.tenant_service.proofs.Kept.{deref_of}
 use Rattle.tenant_service.proofs.Performed.{is_there, leaves_before}

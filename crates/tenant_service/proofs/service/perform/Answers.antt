@@ -1,4 +1,4 @@
-use Rattle.std.proofs.Common.{◌≡◌, ◌∙◌, ap, subst, sym}
+use Rattle.std.proofs.Common.{◌≡◌, ◌∙◌, subst, sym}
 use Rattle.tenant_core.specs.Effects.{Fits}
 use Rattle.tenant_service.proofs.Performed.{leaves_decided, leaves_undecided, of_any, performed}
 use Rattle.tenant_service.proofs.service.perform.Goals as goal

@@ -1,12 +1,10 @@
-use Rattle.std.proofs.Common.{◌≡◌, ◌+◌, ℕ, List, Option, [], ◌∷◌, ◌++◌, true, false, Bool, is_some, length, length-append, take, refl, sym, ap, subst, ◌∙◌, arith}
+use Rattle.std.proofs.Common.{◌≡◌, ◌+◌, ℕ, List, [], ◌∷◌, ◌++◌, true, Bool, is_some, length, length-append, take, sym, ap, subst, ◌∙◌, arith}
 use Rattle.std.proofs.lemmas.List.{take_more}
 use Rattle.tenant_core.proofs.Running.{run_on}
 use Rattle.tenant_core.specs.States.{LeavesStep, MeetsDefinition}
 use Rattle.tenant_history.proofs.Served.{OneMore, latch_after, leaves_more, silent_after}
-use Rattle.tenant_history.specs.History.{IsSilentFrom}
 use Rattle.tenant_history.specs.Private.{LeavesSoFar, doubt_after}
 use Rattle.tenant_messages.specs.declared.call.Call.{Call}
-use Rattle.tenant_messages.specs.declared.reply.Reply.{Reply}
 use Rattle.tenant_service.proofs.service.Service.serve_session.Goals as goal
 
 -- one call more was served, its reply added to the others, and the doubt set if it latched the

@@ -1,6 +1,6 @@
 use Rattle.std.proofs.Common.{◌≡◌, length}
-use Rattle.tenant_resources.specs.Picks.{are_distinct}
-use Rattle.tenant_resources.proofs.picks.are_few_distinct.Given as goal
+use Rattle.tenant_picks.specs.Picks.{are_distinct}
+use Rattle.tenant_picks.proofs.picks.are_few_distinct.Given as goal
 
 -- what is left decides
 abbrev pub invariant-loop-rest : goal.invariant-loop-rest
