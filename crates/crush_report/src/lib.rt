@@ -1,7 +1,7 @@
 //! Reports on a pool: how much of it lies on each device, which groups' up lists differ on another
 //! map, and which groups a device can touch. Reports as CSV, and changes of devices from CSV.
 //!
-//! The tests are in the crate `pool_tests`.
+//! The tests are in the crates `pool_tests` and `csv_tests`.
 #![tactic(auto)]
 
 mod counts;

@@ -3,8 +3,6 @@
 #![tactic(auto)]
 
 #[cfg(test)]
-mod csvs;
-#[cfg(test)]
 mod exceptions;
 #[cfg(test)]
 mod groups;

@@ -7,8 +7,6 @@
 #[cfg(test)]
 mod damaged;
 #[cfg(test)]
-mod exceptions;
-#[cfg(test)]
 mod faults;
 #[cfg(test)]
 mod fixed;
