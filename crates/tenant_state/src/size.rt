@@ -58,10 +58,12 @@ pub const DEVICE_ID_BYTES: u64 = 16;
 /// allocations of both, and its place among the pools.
 pub const POOL_BYTES: u64 = 512;
 
-/// What a pair of a pool's exceptions takes: 12, and as much again for room.
+/// What a pair of a pool's exceptions takes: 12, and 2 for the place of the next one of its group, in
+/// lists that have no further room. The rest, and what is left of a pool's, is for their
+/// allocations.
 pub const PAIR_BYTES: u64 = 32;
 
-/// What the table of groups that have a pair takes for each place: 1, and as much again for room.
+/// What the table of the first pair of each group takes for each place: 2. It has no further room.
 pub const GROUP_BYTES: u64 = 2;
 
 /// A sum.
