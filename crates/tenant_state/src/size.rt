@@ -58,8 +58,8 @@ pub const DEVICE_ID_BYTES: u64 = 16;
 /// allocations of both, and its place among the pools.
 pub const POOL_BYTES: u64 = 512;
 
-/// What a pair of a pool's exceptions takes: 12, and 2 for the place of the next one of its group, in
-/// lists that have no further room. The rest, and what is left of a pool's, is for their
+/// What a pair of a pool's exceptions takes: 12, and 2 for the place of the next one of its group,
+/// in lists that have no further room. The rest, and what is left of a pool's, is for their
 /// allocations.
 pub const PAIR_BYTES: u64 = 32;
 
