@@ -58,8 +58,8 @@ def change_of(tenant, number, up):
     return post(tenant, "devices", request=number, devices=[{"id": 0, "up": up}])
 
 
-def pool_of(tenant, groups=65536):
-    return post(tenant, "pools", request="pool", id=1, name="pool", kind="replicated", size=1, rule=0, pg_num=groups, pgp_num=groups, hashpspool=True)
+def pool_of(tenant, groups=65536, size=1):
+    return post(tenant, "pools", request="pool", id=1, name="pool", kind="replicated", size=size, rule=0, pg_num=groups, pgp_num=groups, hashpspool=True)
 
 
 # ---- runs
