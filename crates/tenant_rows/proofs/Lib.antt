@@ -1,5 +1,6 @@
 pub mod Accepted
 pub mod Counting
+pub mod FirstState
 pub mod Keyed
 pub mod Listed
 pub mod Migrated

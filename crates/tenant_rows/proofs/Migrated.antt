@@ -36,7 +36,7 @@ store_is_second layout e = let same : 8 ≡ 7 = ap tables_in e in absurd (omega 
 
 -- ---- no pairs
 
-no_rows : (ps : List TenantPool) → AllByRecursion (λ (p : TenantPool). p.pairs ≡ []) ps → rows_of_exceptions ps ≡ []
+pub no_rows : (ps : List TenantPool) → AllByRecursion (λ (p : TenantPool). p.pairs ≡ []) ps → rows_of_exceptions ps ≡ []
 no_rows [] none = refl
 no_rows (p ∷ ps) none = ap (λ l. rows_of_pairs p.parts.id 0 l ++ rows_of_exceptions ps) none.0 ∙ no_rows ps none.1
 
@@ -57,7 +57,7 @@ without_pairs (p ∷ ps) none =
 -- ---- the rows of pools
 
 -- one more value, 0, and without it
-abbrev more : Row → Row
+abbrev pub more : Row → Row
 more row = row ++ Int (pos 0) ∷ []
 
 abbrev less : Row → Row
@@ -67,7 +67,7 @@ abbrev is_of : ℤ → Row → Bool
 is_of id row = equal Binary (column row 0) (Int id)
 
 -- where no pool has pairs its row is that of schema 1, and 0
-rows_more : (ps : List TenantPool) → AllByRecursion (λ (p : TenantPool). p.pairs ≡ []) ps → map more (map (λ (p : TenantPool). first_row_of_pool p.parts) ps) ≡ map row_of_pool ps
+pub rows_more : (ps : List TenantPool) → AllByRecursion (λ (p : TenantPool). p.pairs ≡ []) ps → map more (map (λ (p : TenantPool). first_row_of_pool p.parts) ps) ≡ map row_of_pool ps
 rows_more [] none = refl
 rows_more (p ∷ ps) none =
     ap (λ l. row_of_pool (record p { pairs = l }) ∷ map more (map (λ (q : TenantPool). first_row_of_pool q.parts) ps)) (sym none.0) ∙ ap (λ l. row_of_pool p ∷ l) (rows_more ps none.1)

@@ -6,13 +6,20 @@ ghost use Rattle.sqlite_trees.specs.Tree.{Trees};
 ghost use Rattle.tenant_state.specs.State.{TenantState};
 ghost use Rattle.table_schema.specs.Layout.{IsStoreSchema};
 ghost use Rattle.tenant_tables.specs.Opened.{SetsUp};
-ghost use Rattle.tenant_rows.specs.Rows.{StandsFor, StatesIn};
+ghost use Rattle.tenant_rows.specs.Rows.{FirstStandsFor, StandsFor, StatesIn};
 
 use crush_text::written_maps_are_read_back;
 
 /// The rows of a name stand for one state at most, or for no tenant.
 pub fn names_stand_for_one_state()
     ensures { (db : Trees) (name : List ℕ) (s t : Option TenantState) → StandsFor db name s → StandsFor db name t → s ≡ t }
+{
+    written_maps_are_read_back();
+}
+
+/// So do rows of schema 1.
+pub fn names_of_schema_1_stand_for_one_state()
+    ensures { (db : Trees) (name : List ℕ) (s t : Option TenantState) → FirstStandsFor db name s → FirstStandsFor db name t → s ≡ t }
 {
     written_maps_are_read_back();
 }
