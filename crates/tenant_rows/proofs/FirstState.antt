@@ -1,15 +1,15 @@
 -- The rows of a name of schema 1 are those of one state at most: with a 0 behind each row of a pool
 -- they are rows of schema 2.
-use Rattle.std.proofs.Common.{◌≡◌, ℕ, ℤ, List, map, Option, Some, None, Ok, refl, sym, ap, ◌∙◌, subst, IsPermutation}
+use Rattle.std.proofs.Common.{◌≡◌, ℕ, List, map, Option, Some, None, Ok, refl, sym, ap, ◌∙◌, subst, IsPermutation}
 use Rattle.std.proofs.lemmas.List.Sorted.{IsPermutation-map}
 use Rattle.sqlite_trees.specs.Tree.{Trees}
 use Rattle.crush_map.specs.Map.{Map, IsMap}
 use Rattle.crush_writing.specs.Canonical.{canonical}
 use Rattle.crush_text.specs.Reading.{map_of_stored_text}
-use Rattle.tenant_state.specs.State.{TenantPool, TenantState}
+use Rattle.tenant_state.specs.State.{TenantState}
 use Rattle.table_schema.specs.Holds.{of_tenant}
 use Rattle.table_schema.specs.Layout.{first_pools_table}
-use Rattle.tenant_rows.specs.Rows.{FirstStandsFor, HoldsFirst, first_row_of_pool, row_of_pool}
+use Rattle.tenant_rows.specs.Rows.{FirstStandsFor, HoldsFirst, row_of_pool}
 use Rattle.tenant_rows.proofs.Migrated.{more, no_rows, rows_more}
 use Rattle.tenant_rows.proofs.OneState.{HoldsRest, one_of_pools, one_tenant, some_row}
 use Rattle.tenant_rows.proofs.Orders.{one_order, pools_rise}
