@@ -8,7 +8,7 @@ use Rattle.crush_map.specs.Map.{Map, IsMap}
 use Rattle.crush_writing.specs.Canonical.{canonical}
 use Rattle.crush_text.specs.Reading.{map_of_stored_text}
 use Rattle.tenant_state.specs.State.{Inventory, TenantState}
-use Rattle.tenant_state.specs.Valid.{IsInventory}
+use Rattle.tenant_state.specs.Valid.{IsInventory, IsState}
 use Rattle.table_schema.specs.Holds.{IsTenant, of_tenant}
 use Rattle.table_schema.specs.Layout.{maps_table, devices_table, pools_table, receipts_table, exceptions_table}
 use Rattle.table_reads.specs.declared.rows.VersionRow.{VersionRow}
