@@ -5,7 +5,7 @@ import socket
 import threading
 import time
 
-from hostile_cases import BODIES, HEADS, exceptions
+from hostile_cases import BODIES, BODY_LIMIT, HEADS, exceptions
 from replies import EXISTS, dropped, made, short, there
 from served import Server, asked, message, replies_on, reset
 
@@ -13,6 +13,7 @@ HERE = pathlib.Path(__file__).resolve().parent
 
 WAIT = 5
 MESSAGES = 10_000
+LITTLE = 1 << 20  # bytes that may come and go without a body
 
 
 def unlike(got, want):
@@ -108,12 +109,18 @@ def last_messages(program, db):
         return unlike(asked(server, [b"GET /t/a"]), [there(b"a")])
 
 
-def silent_client(program, db):
-    """A client that says nothing is let go after five seconds, and then the next is served."""
-    with Server(program, db) as server, server.connect() as silent:
-        start = time.monotonic()
-        why, spent = goes_on(server), time.monotonic() - start
-        return why or unlike(silent.recv(1), b"") or (None if WAIT - 1 < spent < WAIT + 5 else f"the next waited {spent:.1f} seconds")
+def silent_clients(program, db):
+    """A client that says nothing, or nothing more of a body of the limit, is let go after five
+    seconds, and then the next is served. No memory is taken for the body."""
+    with Server(program, db) as one, Server(program, db.with_name("u.db")) as other:
+        peak = asked(other, [b"PUT /t/a"]) and other.peak()
+        with one.connect() as silent, other.connect() as silent_in_a_body:
+            silent_in_a_body.sendall(b"POST /t/a/maps HTTP/1.1\r\nContent-Length: %d\r\n\r\n{\"r" % BODY_LIMIT)
+            start = time.monotonic()
+            why, spent = goes_on(one) or goes_on(other), time.monotonic() - start
+            why = why or unlike(silent.recv(1), b"") or unlike(silent_in_a_body.recv(1), b"")
+        more = other.peak() - peak
+        return why or (None if WAIT - 1 < spent < WAIT + 5 else f"the next waited {spent:.1f} seconds") or (None if more < LITTLE else f"it took {more:,} bytes")
 
 
 def resets(program, db):
@@ -145,4 +152,4 @@ def half_closes(program, db):
 
 
 def cases():
-    return (two_messages, byte_by_byte, examples, heads, bodies, last_messages, silent_client, resets, half_closes)
+    return (two_messages, byte_by_byte, examples, heads, bodies, last_messages, silent_clients, resets, half_closes)

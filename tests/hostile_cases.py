@@ -5,7 +5,7 @@ from replies import BAD, TOO_LARGE, body, dropped, item, made, there
 
 LENGTH = b'501 {"error":"length"}'
 REUSED = map_cases.REUSED
-BODY_LIMIT, TEXT_LIMIT, HEAD_LIMIT, HEADER_LIMIT = 1_048_576, 524_288, 8_192, 32
+BODY_LIMIT, TEXT_LIMIT, HEAD_LIMIT, HEADER_LIMIT = 5_242_880, 4_194_304, 8_192, 32
 OK = "ok devices 1 buckets 1 rules 1"
 
 # ---- texts, each with what 'crushcalc check' says of it
@@ -34,10 +34,10 @@ def rule(steps, number=0):
 
 
 def items_of(count):
-    """A bucket on the line 1030 of 1,024 devices that weigh nothing, as many as are wanted, and an
+    """A bucket on the line 4102 of 4,096 devices that weigh nothing, as many as are wanted, and an
     empty bucket."""
-    places = [f"item osd.{it} weight 0" for it in range(min(count, 1024))] + ["item e"] * (count > 1024)
-    return TYPES + devices(1024) + "host e { id -1 alg list }\n\n" + f"host h {{ id -2 alg list {' '.join(places)} }}\n"
+    places = [f"item osd.{it} weight 0" for it in range(min(count, 4096))] + ["item e"] * (count > 4096)
+    return TYPES + devices(4096) + "host e { id -1 alg list }\n\n" + f"host h {{ id -2 alg list {' '.join(places)} }}\n"
 
 
 # what it is, a text that has as much as there may be and what is said of it, and one that has more
@@ -73,10 +73,10 @@ TEXT_LIMITS = [
     ("digits before a weight's point", tiny(15, " item osd.0 weight 0000000001.5"), OK, tiny(15, " item osd.0 weight 00000000001.5"), "line 15 code X6"),
     ("digits behind a weight's point", tiny(15, f" item osd.0 weight 0.{'9' * 20}"), OK, tiny(15, f" item osd.0 weight 0.{'9' * 21}"), "line 15 code X6"),
     ("types", LOCAL + "".join(f"type {it} t{it}\n" for it in range(32)), "ok devices 0 buckets 0 rules 0", LOCAL + "".join(f"type {it} t{it}\n" for it in range(33)), "line 35 code M1"),
-    ("devices", TYPES + devices(1024), "ok devices 1024 buckets 0 rules 0", TYPES + devices(1025), "line 1028 code M1"),
+    ("devices", TYPES + devices(10_000), "ok devices 10000 buckets 0 rules 0", TYPES + devices(10_001), "line 10004 code M1"),
     ("buckets", *(part for count, answer in ((1024, "ok devices 0 buckets 1024 rules 0"), (1025, "line 1028 code M1"))
                   for part in (TYPES + "".join(f"host h{it} {{ id -{it + 1} alg list }}\n" for it in range(count)), answer))),
-    ("items of a bucket", items_of(1024), "ok devices 1024 buckets 2 rules 0", items_of(1025), "line 1030 code M1"),
+    ("items of a bucket", items_of(4096), "ok devices 4096 buckets 2 rules 0", items_of(4097), "line 4102 code M1"),
     ("a bucket's weight", *(part for more, answer in (("0", "ok devices 2 buckets 1 rules 0"), ("0.00002", "line 6 code M7"))
                             for part in (TYPES + devices(2) + f"host h {{ id -1 alg list item osd.0 weight 65535.99999 item osd.1 weight {more} }}", answer))),
     ("rules", *(part for count, answer in ((64, "ok devices 0 buckets 0 rules 64"), (65, "line 68 code M1"))
@@ -125,14 +125,14 @@ HEADS = [
     ("a length below 0", GET + b"Content-Length: -1\r\n\r\n", BAD, True),
     ("an empty length", GET + b"Content-Length:\r\n\r\n", BAD, True),
     ("two lengths in one", GET + b"Content-Length: 0, 0\r\n\r\n", BAD, True),
-    ("a body of the limit", POST + b"Content-Length: 1048576\r\n\r\n" + JUNK, BAD, False),
-    ("a body past the limit", POST + b"Content-Length: 1048577\r\n\r\n", TOO_LARGE, True),
+    ("a body of the limit", POST + b"Content-Length: 5242880\r\n\r\n" + JUNK, BAD, False),
+    ("a body past the limit", POST + b"Content-Length: 5242881\r\n\r\n", TOO_LARGE, True),
     ("a body of ten digits", POST + b"Content-Length: 9999999999\r\n\r\n", TOO_LARGE, True),
     ("a header that is almost Transfer-Encoding", GET + b"Transfer-Encodings: chunked\r\n\r\n", HERE_IS_A, False),
     ("chunks", POST + b"Transfer-Encoding: chunked\r\n\r\n", LENGTH, True),
     ("any coding", POST + b"transfer-ENCODING: identity\r\n\r\n", LENGTH, True),
     ("chunks before two lengths", POST + b"Content-Length: 1\r\nContent-Length: 1\r\nTransfer-Encoding: chunked\r\n\r\n", LENGTH, True),
-    ("chunks before a long body", POST + b"Content-Length: 2097152\r\nTransfer-Encoding: chunked\r\n\r\n", LENGTH, True),
+    ("chunks before a long body", POST + b"Content-Length: 5242881\r\nTransfer-Encoding: chunked\r\n\r\n", LENGTH, True),
     ("a target of ASCII", b"GET /t/a! HTTP/1.1\r\n\r\n", BAD, False),
     ("a target that is no UTF-8", b"GET /t/\xff HTTP/1.1\r\n\r\n", BAD, True),
     ("HTTP/1.0", b"GET /t/a HTTP/1.0\r\n\r\n", HERE_IS_A, True),

@@ -7,7 +7,7 @@ the program.
 import collections
 import re
 
-LENGTH = 524_288
+LENGTH = 4_194_304
 NAME = re.compile(rb"[A-Za-z0-9._-]+")
 TUNABLES = {b"choose_local_tries": (2, 0, None), b"choose_local_fallback_tries": (5, 0, None), b"choose_total_tries": (19, 0, 999), b"chooseleaf_descend_once": (0, 0, 1),
             b"chooseleaf_vary_r": (0, 0, 8), b"chooseleaf_stable": (0, 0, 1), b"straw_calc_version": (0, 0, None), b"allowed_bucket_algs": (0, 0, None)}
@@ -129,7 +129,7 @@ def device(m, reader):
     number, name = reader.value(number_of), reader.name()
     if reader.has(b"class"):
         reader.name()
-    yield first(((len(m.devices) >= 1024, "M1"), (number > 65535, "M12"), (number in m.devices, "M2"), (not is_good(name), "M15"), (name in m.ids, "M3")))
+    yield first(((len(m.devices) >= 10_000, "M1"), (number > 65535, "M12"), (number in m.devices, "M2"), (not is_good(name), "M15"), (name in m.ids, "M3")))
     m.devices[number], m.ids[name], m.weights[name] = name, number, 65536
 
 
@@ -197,7 +197,7 @@ def bucket(m, reader, kind):
     items = in_place(items)
     yield first((
         (len(m.buckets) >= 1024, "M1"), (not -65536 <= plain <= -1, "M12"), (plain in (it[0] for it in m.buckets), "M2"), (not is_good(name), "M15"), (name in m.ids, "M3"),
-        (kind not in m.numbers, "M4"), (m.numbers.get(kind) == 0, "M9"), (len(items) > 1024, "M1"),
+        (kind not in m.numbers, "M4"), (m.numbers.get(kind) == 0, "M9"), (len(items) > 4096, "M1"),
     ))
     seen, placed = set(), []
     for it in items:

@@ -95,7 +95,7 @@ def pick_of(sent):
     has_exactly(asked, "bucket", "r", "x")
     bucket = asked["bucket"]
     has_exactly(bucket, "id", "items", "kind")
-    if not isinstance(bucket["items"], list) or not 1 <= len(bucket["items"]) <= 1024:
+    if not isinstance(bucket["items"], list) or not 1 <= len(bucket["items"]) <= 4096:
         raise Refused("items")
     for it in bucket["items"]:
         has_exactly(it, "item", "weight")

@@ -367,7 +367,7 @@ def forms_of_csv():
 def many_lines():
     """As many lines as a CSV may have, and one more; and the greatest body."""
     every = [f"{it},65536,1" for it in range(1024)]
-    far = lines_of(*("0,0,1" for _ in range(140_000)))
+    far = lines_of(*("0,0,1" for _ in range(740_000)))
     return START + [
         (import_of(with_devices(1024)), imported(1, 1)),
         (csv_of("c1", lines_of(*every)), accepted(1024, 2)),
@@ -377,7 +377,7 @@ def many_lines():
         (csv_of("c2", lines_of(*every[:5], "3,0,0")), BAD),
         (csv_of("c2", far), BAD),
         (csv_of("c2", far + far), TOO_LARGE),
-        (csv_of("c2", "\n" * 400_000 + lines_of(*reversed(every), "")), accepted(1024, 3)),
+        (csv_of("c2", "\n" * 2_500_000 + lines_of(*reversed(every), "")), accepted(1024, 3)),
         (b"GET /t/a", summary(3, 1, 1024)),
     ]
 

@@ -1,5 +1,6 @@
 """The program as a server, for tests: messages made of lines of a script, and replies as the lines
 that a script writes."""
+import pathlib
 import re
 import signal
 import socket
@@ -60,6 +61,11 @@ class Server:
         it.connect(("127.0.0.1", self.port))
         it.setsockopt(socket.IPPROTO_TCP, socket.TCP_NODELAY, 1)
         return it
+
+    def peak(self):
+        """The most bytes of memory that it has had."""
+        said = pathlib.Path("/proc", str(self.run.pid), "status").read_text()
+        return int(re.search(r"^VmHWM:\s+(\d+) kB$", said, re.MULTILINE)[1]) * 1024
 
     def stop(self, with_signal=signal.SIGTERM):
         """Ends it by a signal, and returns the status, and what it wrote to standard output after

@@ -8,7 +8,7 @@ export const FAULTS = {
     X4: "choose_args, the weight sets of a balancer. They aren't computed; leave them out of a copy.",
     X5: "a pos that isn't below the number of the bucket's items, or that an earlier item of the bucket has.",
     X6: "a word that is no weight where one is expected: it isn't of the form of a weight, or is 65536 or more. Where the weight was left out after weight, the line is that of the next word.",
-    X7: "more bytes than a map text may have, which is 524,288.",
+    X7: "more bytes than a map text may have, which is 4,194,304.",
     M1: "more devices, types, buckets, items, rules or steps than the limit, or a rule whose steps are all dropped.",
     M2: "an id or number that an earlier device, type, bucket or rule has.",
     M3: "a name that is taken (devices and buckets share their names), or a tunable that was named before.",

@@ -6,7 +6,7 @@ import { button, csv, cut, el, fault, labelled, options, save, say, sayDone } fr
 import { removal } from "./removing.js";
 import { pathOf, readMap } from "./map.js";
 
-const AROUND = 8, LONGEST_FILE = 1048576, LONGEST_LINE = 300;
+const AROUND = 8, LONGEST_FILE = 5242880, LONGEST_LINE = 300;
 // writes the states of a cluster's devices as the service takes them
 const STATES = 'ceph osd dump -f json | jq -r \'"id,reweight,up", (.osds[] | "\\(.osd),\\(.weight * 65536 | round),\\(.up)")\' >states.csv';
 const WHOLE = { reweight: 65536, up: true };
@@ -32,7 +32,7 @@ async function textOf(file) {
 
 // Imports a map, or changes states of devices, and says what came of it, as an element.
 export async function takeFile(cluster, file) {
-    if (file.size > LONGEST_FILE) return fault(`${file.name} isn't sent: it is longer than the 1,048,576 bytes that a request may have.`);
+    if (file.size > LONGEST_FILE) return fault(`${file.name} isn't sent: it is longer than the 5,242,880 bytes that a request may have.`);
     const text = await textOf(file);
     say(`Sending ${file.name}`);
     if (/^\ufeff?"?id"?,/.test(text)) return takeStates(cluster, file.name, text);

@@ -7,6 +7,8 @@ import time
 
 import map_cases
 import pool_cases
+from connection_cases import LITTLE
+from hostile_cases import BODY_LIMIT
 from replies import BAD, made, there
 from served import Server, asked, message, replies_on, reset
 
@@ -39,11 +41,12 @@ def silent_after_a_message(server):
         return goes_on(server, WAIT + SLACK)
 
 
-def a_byte_a_second(server):
-    """The client is let go 30 seconds after its first byte, though each byte comes in time."""
+def dripped(server, front, rest):
+    """Sends these bytes at once, and of the others one a second: the client is let go 30 seconds
+    after its first byte, though each byte comes in time."""
     def drip():
         try:
-            for byte in message(b"GET /t/a", *(b"A: b" for _ in range(20))):
+            for byte in rest:
                 connection.send(bytes([byte]))
                 if ends.wait(1):
                     break
@@ -51,6 +54,7 @@ def a_byte_a_second(server):
             pass  # let go
 
     ends, connection = threading.Event(), server.connect()
+    connection.sendall(front)
     slow = threading.Thread(target=drip)
     slow.start()
     time.sleep(0.5)
@@ -60,6 +64,18 @@ def a_byte_a_second(server):
         ends.set()
         slow.join()
         connection.close()
+
+
+def a_byte_a_second(server):
+    return dripped(server, b"", message(b"GET /t/a", *(b"A: b" for _ in range(20))))
+
+
+def a_byte_of_a_body_a_second(server):
+    """No memory is taken for a body of the limit while it comes."""
+    peak = asked(server, [b"PUT /t/a"]) and server.peak()
+    why = dripped(server, b"POST /t/a/maps HTTP/1.1\r\nContent-Length: %d\r\n\r\n" % BODY_LIMIT, b" " * 100)
+    more = server.peak() - peak
+    return why or (None if more < LITTLE else f"it took {more:,} bytes")
 
 
 def never_reads(server):
@@ -148,7 +164,7 @@ def other_protocols(server):
     return goes_on(server)
 
 
-CASES = (nothing_is_said, silent_after_a_message, a_byte_a_second, never_reads, reads_a_little, many_resets, many_at_once, half_closes, other_protocols)
+CASES = (nothing_is_said, silent_after_a_message, a_byte_a_second, a_byte_of_a_body_a_second, never_reads, reads_a_little, many_resets, many_at_once, half_closes, other_protocols)
 
 
 def checks(program, folder):

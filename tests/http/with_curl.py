@@ -10,7 +10,7 @@ from expected import expected, unlike
 from replies import TOO_LARGE, made, there
 from served import Server, asked
 
-LONG = 2 << 20
+LONG = 6 << 20
 STATUS = "\n%{http_code} %{num_connects}\n"
 
 

@@ -104,7 +104,7 @@ def load(port, folder):
 
 
 def too_long(port, folder):
-    found = Client(port, folder, "anna").ask(b"POST /t/shop/maps " + b"x" * 1_048_577)
+    found = Client(port, folder, "anna").ask(b"POST /t/shop/maps " + b"x" * 5_242_881)
     return None if found.startswith(b"413 ") else f"it is {found[:100]!r}"
 
 

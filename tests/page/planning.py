@@ -186,7 +186,7 @@ def smallest_texts():
         code = re.match(r"\*\*([XM]\d+)\*\*", section)[1]
         meaning = re.sub(r"\[([^\]]*)\]\([^)]*\)", r"\1", " ".join(section.split("\n\n")[0].split("**: ")[1].split())).replace("`", "")
         pairs = re.findall(r"^```\n((?:.*\n)*?)```\n`refused line (\d+) code [XM]\d+`$", section, flags=re.MULTILINE)
-        for text, line in pairs or [("#" * 524_289, 1)]:
+        for text, line in pairs or [("#" * 4_194_305, 1)]:
             yield code, text, int(line), re.split(r"[;.:]( |$)| \(", meaning)[0]
 
 

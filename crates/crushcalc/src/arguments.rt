@@ -20,7 +20,7 @@ rule that is wrong, perhaps further down, or the line of the last word where onl
   X4   choose_args
   X5   a pos that isn't below the number of items, or that an earlier item has
   X6   no weight where one is wanted
-  X7   more than 524,288 bytes
+  X7   more than 4,194,304 bytes
   M1   more devices, types, buckets, items, rules or steps than the limit; a rule whose steps are all dropped
   M2   an id or number that an earlier element has
   M3   a name that an earlier element has, or a tunable that was named before
