@@ -8,8 +8,8 @@ ghost use Rattle.tenant_messages.specs.Reply.{reply};
 use crush_pool::Placement;
 use std::alloc::{AllocError, Global};
 use tenant_messages::{Refusal, Reply, or_refused};
-use tenant_reports::{impact, moves, usage};
 use tenant_picks::{PickRequest, picks};
+use tenant_reports::{impact, moves, usage};
 use tenant_resources::{ObjectName, RuleTest, exceptions, groups, maps, rule_tests};
 use tenant_state::{Inventory, TenantPool};
 

@@ -11,7 +11,7 @@ loop-place-preserved c =
     record {
       first = mark_put pairs c.loop-place.first c.set.new.self place some c.loop-place.auto.place c.loop-place.invariant.first (c.in_ok-set.ensures {u = tt}).ok;
       next = next_put c.loop-place.next.items pairs place c.get.result some c.loop-place.invariant.each c.loop-place.invariant.next
-      (c.get.ensures ∙ is_marked pairs c.loop-place.first place (slice_index_or pairs (place - 1) no_pair).group c.requires c.loop-place.auto.place c.loop-place.invariant.first);
+          (c.get.ensures ∙ is_marked pairs c.loop-place.first place (slice_index_or pairs (place - 1) no_pair).group c.requires c.loop-place.auto.place c.loop-place.invariant.first);
       each = length-set c.loop-place.next.items (place - 1) c.get.result ∙ c.loop-place.invariant.each;
     }
 
