@@ -6,6 +6,7 @@ pub mod DeviceRanges
 pub mod NameForms
 pub mod PlainReplies
 pub mod GroupAnswers
+mod GroupTexts
 pub mod Mapped
 pub mod PoolForms
 pub mod ExceptionForms

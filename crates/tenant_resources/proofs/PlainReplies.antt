@@ -9,20 +9,10 @@ use Rattle.crush_rules.specs.Trace.{rule_trace}
 use Rattle.crush_map.specs.Map.{Map}
 use Rattle.crush_map.specs.declared.draft.Rule.{Rule}
 use Rattle.crush_pool.specs.declared.exceptions.Pair.{Pair}
-use Rattle.crush_pool.specs.declared.placing.Placement.{Placement}
-use Rattle.tenant_messages.proofs.PlainSlots.{slot_plain, slots_plain, ids_plain}
+use Rattle.tenant_messages.proofs.PlainSlots.{slots_plain, ids_plain}
 use Rattle.tenant_resources.specs.Exceptions.{exceptions_reply, pair_json}
-use Rattle.tenant_resources.specs.Groups.{group_reply, object_reply}
 use Rattle.tenant_resources.specs.RuleTests.{outcome, tested}
 use Rattle.tenant_state.specs.State.{Inventory, TenantPool}
-
--- ---- placements
-
-pub group_plain : (inventory : Inventory) (group : ℕ) (p : Placement) → has_float (group_reply inventory group p) ≡ false
-group_plain inventory group p = rw (slot_plain p.primary, slots_plain p.raw, slots_plain p.up) refl
-
-pub object_plain : (name : List ℕ) (inventory : Inventory) (group : ℕ) (p : Placement) → has_float (object_reply name inventory group p) ≡ false
-object_plain name inventory group p = rw (slot_plain p.primary, slots_plain p.raw, slots_plain p.up) refl
 
 -- ---- exceptions
 

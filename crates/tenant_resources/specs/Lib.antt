@@ -1,3 +1,4 @@
+pub mod Private
 pub mod Orders
 pub mod Maps
 pub mod RuleTests

@@ -1,13 +1,14 @@
 //! Groups of pools: at `/t/{t}/pools/{p}/groups/{g}` GET reads where a group lies, and at
 //! `/t/{t}/pools/{p}/locate` POST asks where an object lies.
 
-ghost use Rattle.std.specs.Prelude.{◌≡◌, ◌<◌, ◌^◌, IfOk, length, map};
+ghost use Rattle.std.specs.Prelude.{◌≡◌, ◌<◌, ◌^◌, ◌++◌, true, IfOk, OnOk, length, string_bytes};
 ghost use Rattle.serde_json.specs.View.{view};
+ghost use Rattle.serde_json.specs.Written.{compact_text, members_text};
 ghost use Rattle.tenant_messages.specs.Reading.{Reads};
 ghost use Rattle.tenant_messages.specs.Refusals.{Answers, Gives};
 ghost use Rattle.tenant_messages.specs.Reply as replies;
 ghost use Rattle.tenant_resources.specs.Groups as spec;
-ghost use Rattle.tenant_messages.specs.Slots.{slot_json, list_json};
+ghost use Rattle.tenant_resources.specs.Private.Members.{placement_members};
 
 use crate::limits::OBJECT_NAME_LIMIT;
 use crush_bucket::Scratch;
@@ -15,12 +16,11 @@ use crush_hash::name_hash;
 use crush_map::Text;
 use crush_pool::Placement;
 use crush_rules::Out;
-use serde_json::{Value, json};
+use reply_texts::{done, push_number, push_slot, push_slots};
+use serde_json::Value;
 use std::alloc::{AllocError, Global};
 use std::marker::Model;
-use tenant_messages::{
-    Problem, Refusal, Reply, has_keys, read_value, slot_json, slots_json, success, text,
-};
+use tenant_messages::{Problem, Refusal, Reply, has_keys, read_value, text};
 use tenant_state::{Inventory, TenantPool};
 
 /// The name of an object: a text of at most `OBJECT_NAME_LIMIT` bytes.
@@ -101,62 +101,63 @@ fn placed(
 
 // ---- the answers
 
-/// The devices of a placement as JSON: the primary, what the rule answered (`raw`), and what of it
-/// is up. `Err(AllocError)`: an allocation failed; nothing is changed.
-fn placement_json(alloc: Global, placement: &Placement) -> Result<(Value, Value, Value), AllocError>
-    ensures primary { IfOk result (λ parts. view parts.0 ≡ slot_json placement.now.primary) }
-    ensures raw { IfOk result (λ parts. view parts.1 ≡ list_json (map slot_json placement.now.raw)) }
-    ensures up { IfOk result (λ parts. view parts.2 ≡ list_json (map slot_json placement.now.up)) }
+/// The room for a reply's text: at most 913 bytes, since a list has at most `SIZE_LIMIT` items.
+const REPLY_ROOM: usize = 1_024;
+
+/// Puts the rest of a reply at the end of its text: the primary, what the rule answered (`raw`),
+/// the seed, what of it is up, and the version. `Err(AllocError)`: an allocation failed.
+fn push_placement(
+    text: &mut String,
+    placement: &Placement,
+    version: u64,
+) -> Result<(), AllocError>
+    ensures { OnOk result (string_bytes text.new ≡ string_bytes text.old ++ members_text true (placement_members placement.now version)) }
 {
-    let raw = slots_json(alloc, placement.raw.as_slice())?;
-    let up = slots_json(alloc, placement.up.as_slice())?;
-    Ok((slot_json(&placement.primary), raw, up))
+    push_slot(text, ",\"primary\":", &placement.primary)?;
+    push_slots(text, ",\"raw\":", placement.raw.as_slice())?;
+    push_number(text, ",\"seed\":", u64::from(placement.seed))?;
+    push_slots(text, ",\"up\":", placement.up.as_slice())?;
+    push_number(text, ",\"version\":", version)?;
+    text.push_str("}")?;
+    Ok(())
 }
 
-/// The body of the reply for a group.
-fn group_reply(
+/// The text of the reply for a group.
+#[tactic(auto, using(crate::proofs::GroupTexts::group_by_pieces))]
+fn group_text(
     alloc: Global,
     inventory: &Inventory,
     group: u32,
     placement: &Placement,
-) -> Result<Value, AllocError>
-    ensures { IfOk result (λ v. view v ≡ spec.group_reply inventory.now group placement.now) }
+) -> Result<String, AllocError>
+    ensures { IfOk result (λ text. string_bytes text ≡ compact_text (spec.group_reply inventory.now group placement.now)) }
 {
-    let (primary, raw, up) = placement_json(alloc, placement)?;
-    json!(in alloc; {
-        "epoch": inventory.epoch(),
-        "group": group,
-        "primary": primary,
-        "raw": raw,
-        "seed": placement.seed,
-        "up": up,
-        "version": inventory.newest()
-    })
+    let mut text = String::with_capacity(alloc, REPLY_ROOM)?;
+    push_number(&mut text, "{\"epoch\":", inventory.epoch())?;
+    push_number(&mut text, ",\"group\":", u64::from(group))?;
+    push_placement(&mut text, placement, inventory.newest())?;
+    Ok(text)
 }
 
-/// The body of the reply for an object: that of its group, with the hash of the object's name.
-fn object_reply(
+/// The text of the reply for an object: that of its group, with the hash of the object's name.
+#[tactic(auto, using(crate::proofs::GroupTexts::object_by_pieces))]
+fn object_text(
     alloc: Global,
     name: &str,
     inventory: &Inventory,
     group: u32,
     placement: &Placement,
-) -> Result<Value, AllocError>
+) -> Result<String, AllocError>
     requires { length name.now < 2 ^ 32 }
-    ensures { IfOk result (λ v. view v ≡ spec.object_reply name.now inventory.now group placement.now) }
+    ensures { IfOk result (λ text. string_bytes text ≡ compact_text (spec.object_reply name.now inventory.now group placement.now)) }
 {
     let hash = name_hash(name.as_bytes());
-    let (primary, raw, up) = placement_json(alloc, placement)?;
-    json!(in alloc; {
-        "epoch": inventory.epoch(),
-        "group": group,
-        "hash": hash,
-        "primary": primary,
-        "raw": raw,
-        "seed": placement.seed,
-        "up": up,
-        "version": inventory.newest()
-    })
+    let mut text = String::with_capacity(alloc, REPLY_ROOM)?;
+    push_number(&mut text, "{\"epoch\":", inventory.epoch())?;
+    push_number(&mut text, ",\"group\":", u64::from(group))?;
+    push_number(&mut text, ",\"hash\":", u64::from(hash))?;
+    push_placement(&mut text, placement, inventory.newest())?;
+    Ok(text)
 }
 
 /// The reply for a group that was placed. `Err(AllocError)`: an allocation failed; nothing is
@@ -169,8 +170,8 @@ pub fn placed_group(
 ) -> Result<Reply, AllocError>
     ensures { IfOk result (λ r. r ≡ replies.reply (replies.success (spec.group_reply inventory.now group placement.now))) }
 {
-    let body = group_reply(alloc, inventory, group, placement)?;
-    success(alloc, &body)
+    let text = group_text(alloc, inventory, group, placement)?;
+    Ok(done(text))
 }
 
 /// The reply for an object whose group was placed. `Err(AllocError)`: an allocation failed; nothing
@@ -184,8 +185,8 @@ pub fn placed_object(
 ) -> Result<Reply, AllocError>
     ensures { IfOk result (λ r. r ≡ replies.reply (replies.success (spec.object_reply name.now inventory.now group placement.now))) }
 {
-    let body = object_reply(alloc, name.as_str(), inventory, group, placement)?;
-    success(alloc, &body)
+    let text = object_text(alloc, name.as_str(), inventory, group, placement)?;
+    Ok(done(text))
 }
 
 /// The reply with the placement of a group of the pool with an id. The problem is, in this order,

@@ -1,0 +1,2 @@
+-- What private clauses alone cite: how the code goes about it. No public clause rests on it.
+pub mod Members
