@@ -1,6 +1,8 @@
 //! Timing the check of the greatest draft: one that reaches every limit.
 
-use crush_map::limits::{BUCKET_LIMIT, DEVICE_LIMIT, RULE_LIMIT, STEP_LIMIT, TYPE_LIMIT};
+use crush_map::limits::{
+    BUCKET_LIMIT, DEVICE_LIMIT, ITEM_LIMIT, RULE_LIMIT, STEP_LIMIT, TYPE_LIMIT,
+};
 use crush_map::{
     Bucket, CrushMap, Device, ItemId, Kind, Listed, MapDraft, MapFault, Rule, Step, Text, Tunables,
     TypeName, Weight,
@@ -18,8 +20,8 @@ const BUCKETS: u32 = BUCKET_LIMIT as u32;
 
 const RULES: u32 = RULE_LIMIT as u32;
 
-/// The greatest weight of which 1,024 items fit into a bucket: their sum is below 2^32.
-const HEAVIEST: u32 = 4_194_303;
+/// The greatest weight that all items of a bucket can have: their sum is below 2^32.
+const HEAVIEST: u32 = 1_048_575;
 
 /// A draft's first fault, and how long the check took.
 #[derive(Clone, Copy)]
@@ -39,8 +41,8 @@ pub(crate) fn check<R: AllocGlobal + Clock>(rt: &R) -> io::Result<Checked> {
     Ok(Checked { fault, took })
 }
 
-/// The greatest number of types, of devices, of buckets that have all devices as items, and of
-/// rules with all steps, each with a name of 64 bytes.
+/// The greatest number of types, of devices, of buckets with as many devices as they may have, and
+/// of rules with all steps, each with a name of 64 bytes.
 fn fullest(alloc: Global) -> Result<MapDraft, AllocError> {
     Ok(MapDraft {
         types: types(alloc)?,
@@ -81,10 +83,10 @@ fn devices(alloc: Global) -> Result<Listed<Device>, AllocError> {
     Ok(Listed::new(devices))
 }
 
-/// All devices, each with the same weight.
+/// As many devices as a bucket may have, each with the same weight.
 fn items(alloc: Global) -> Result<Listed<(ItemId, Weight)>, AllocError> {
     let mut items = Vec::new(alloc);
-    for id in 0..DEVICES {
+    for id in 0..ITEM_LIMIT as u32 {
         items.push((ItemId(id as i32), Weight(HEAVIEST)))?;
     }
     Ok(Listed::new(items))

@@ -52,7 +52,7 @@ fn a_transfer_encoding_is_refused_before_a_length(rt: HostRuntime) -> Result<(),
     assert_replies(
         &rt,
         rt.alloc(),
-        b"GET /x HTTP/1.1\r\nTransfer-Encoding: chunked\r\nContent-Length: 2097152\r\n\r\n",
+        b"GET /x HTTP/1.1\r\nTransfer-Encoding: chunked\r\nContent-Length: 5242881\r\n\r\n",
         Ended::Bad,
         LENGTH,
     )?;

@@ -157,17 +157,17 @@ fn random_size(seed: &mut u64, round: u32) -> u16 {
     }
 }
 
-/// Items of random weights, whose sum is below 2^32, or of one weight.
+/// So many items of random weights, whose sum is below 2^32, or of one weight.
 fn random_entries(
     alloc: Global,
     seed: &mut u64,
-    round: u32,
+    size: u16,
     even: bool,
 ) -> Result<Vec<(ItemId, Weight)>, AllocError> {
-    let size = random_size(seed, round);
+    let past = if size <= 200 { 16_777_216 } else { 1_048_576 };
     let mut entries = Vec::new(alloc);
     for place in 0..size {
-        let weight = if even { ONE } else { next(seed) % 16_777_216 };
+        let weight = if even { ONE } else { next(seed) % past };
         entries.push((ItemId(i32::from(place)), Weight(weight)))?;
     }
     Ok(entries)
@@ -185,7 +185,8 @@ fn buckets_pick_as_their_plain_forms(rt: HostRuntime) -> Result<(), AllocError> 
     for round in 0..200 {
         for kind in [Uniform, List, Tree] {
             let id = random_id(&mut seed);
-            let entries = random_entries(alloc, &mut seed, round, kind == Uniform)?;
+            let size = random_size(&mut seed, round);
+            let entries = random_entries(alloc, &mut seed, size, kind == Uniform)?;
             let mut questions = Vec::new(alloc);
             for _ in 0..10 {
                 questions.push((next(&mut seed) % 3, next(&mut seed)))?;
@@ -198,6 +199,35 @@ fn buckets_pick_as_their_plain_forms(rt: HostRuntime) -> Result<(), AllocError> 
         }
     }
     Ok(())
+}
+
+/// A bucket of as many items as there may be, asked 200 times for few inputs.
+fn assert_most(
+    rt: &impl Abort,
+    alloc: Global,
+    seed: &mut u64,
+    kind: Kind,
+) -> Result<(), AllocError> {
+    let id = random_id(seed);
+    let entries = random_entries(alloc, seed, 4_096, kind == Uniform)?;
+    let mut questions = Vec::new(alloc);
+    for _ in 0..200 {
+        questions.push((next(seed) % 20, next(seed)))?;
+    }
+    let picks = picked(rt, alloc, kind, id, &entries, &questions)?;
+    for ((x, r), pick) in questions.iter().zip(picks) {
+        let want = plain::pick(alloc, kind, id, &entries, *x, *r)?;
+        assert_eq!(rt; pick, want, "{x} {r}");
+    }
+    Ok(())
+}
+
+#[test]
+fn buckets_of_the_most_items_pick_as_their_plain_forms(rt: HostRuntime) -> Result<(), AllocError> {
+    let alloc = rt.alloc();
+    let mut seed = 2_028;
+    assert_most(&rt, alloc, &mut seed, Uniform)?;
+    assert_most(&rt, alloc, &mut seed, Tree)
 }
 
 /// Devices 0 to 2 in buckets -2 and -3, which are in -1; -4 is empty.

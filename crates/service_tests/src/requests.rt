@@ -101,6 +101,29 @@ fn buckets_pick_as_worked_out_by_hand(rt: HostRuntime) -> Result<(), Fail> {
     Ok(())
 }
 
+/// So many items of weight 0 in JSON, down to item 0.
+fn light_items(alloc: Global, count: u32) -> Result<String, AllocError> {
+    let mut items = String::new(alloc);
+    for item in (0..count).rev() {
+        let comma = if items.is_empty() { "" } else { "," };
+        items.push_str(&format!(in alloc; "{comma}{{\"item\":{item},\"weight\":0}}")?)?;
+    }
+    Ok(items)
+}
+
+/// Of a list of items without weight the first is picked.
+#[test]
+fn a_pick_is_of_at_most_4096_items(rt: HostRuntime) -> Result<(), Fail> {
+    let alloc = rt.alloc();
+    let most = pick_body(alloc, -1, &light_items(alloc, 4_096)?, "list", 0, 0)?;
+    assert_picked(&rt, alloc, &most, 4_095)?;
+    let more = pick_body(alloc, -1, &light_items(alloc, 4_097)?, "list", 0, 0)?;
+    let (status, text) = pick_reply(alloc, &more)?;
+    assert_eq!(rt; status, 400);
+    assert_eq!(rt; text.as_str(), "{\"error\":\"bad_request\"}");
+    Ok(())
+}
+
 /// Returns whether a decision changes what is stored, and its reply.
 fn taken_apart(decision: Decision) -> (bool, Reply) {
     let Decision { effect, reply } = decision;

@@ -5,7 +5,6 @@ use crate::lines::{lines_within, with_line};
 use FaultCode::{M1, M2, M3, M4, M5, M6, M7, M8, M9, M10, M11, M12, M13, M14, M15};
 use TextCode::{Map, X1, X2, X3, X4, X5, X6, X7};
 use crush_map::FaultCode;
-use crush_text::limits::TEXT_LIMIT;
 use crush_text::{TextCode, read_map, read_stored};
 use std::alloc::Global;
 use std::process::Abort;
@@ -248,8 +247,8 @@ fn remark(alloc: Global, length: usize) -> Result<Vec<u8>, Fail> {
 #[test]
 fn a_text_has_at_most_the_limit_of_bytes(rt: HostRuntime) -> Result<(), Fail> {
     let alloc = rt.alloc();
-    let short = remark(alloc, TEXT_LIMIT)?;
-    let long = remark(alloc, TEXT_LIMIT + 1)?;
+    let short = remark(alloc, 4_194_304)?;
+    let long = remark(alloc, 4_194_305)?;
     assert_eq!(rt; fault(alloc, short.as_slice())?, Some((1, Map(M4))));
     assert_eq!(rt; fault(alloc, long.as_slice())?, Some((1, X7)));
     Ok(())
@@ -258,11 +257,32 @@ fn a_text_has_at_most_the_limit_of_bytes(rt: HostRuntime) -> Result<(), Fail> {
 #[test]
 fn a_stored_text_may_be_longer(rt: HostRuntime) -> Result<(), Fail> {
     let alloc = rt.alloc();
-    let mut text = remark(alloc, TEXT_LIMIT)?;
+    let mut text = remark(alloc, 4_194_304)?;
     text.push(b'\n')?;
     text.extend_from_slice(CANONICAL.as_bytes())?;
     assert_eq!(rt; fault(alloc, text.as_slice())?, Some((1, X7)));
     assert!(rt; read_stored(alloc, text.as_slice())?.is_ok());
+    Ok(())
+}
+
+/// A text of so many devices, whose last one stands on the line 3 further, and of no bucket.
+fn devices_alone(alloc: Global, count: u32) -> Result<String, Fail> {
+    let mut text = String::new(alloc);
+    text.push_str("tunable choose_local_tries 0\ntunable choose_local_fallback_tries 0\n")?;
+    text.push_str("type 0 osd\n")?;
+    for id in 0..count {
+        text.push_str(&format!(in alloc; "device {id} osd.{id}\n")?)?;
+    }
+    Ok(text)
+}
+
+#[test]
+fn a_map_has_at_most_10000_devices(rt: HostRuntime) -> Result<(), Fail> {
+    let alloc = rt.alloc();
+    let most = devices_alone(alloc, 10_000)?;
+    let more = devices_alone(alloc, 10_001)?;
+    assert_eq!(rt; fault(alloc, most.as_bytes())?, None);
+    assert_eq!(rt; fault(alloc, more.as_bytes())?, Some((10_004, Map(M1))));
     Ok(())
 }
 
