@@ -11,8 +11,9 @@ import ssl
 
 import map_cases
 from expected import expected, unlike
+from hostile_cases import BODY_LIMIT
 from proxy import nginx, processes, run
-from replies import NO_TENANT, made
+from replies import BAD, NO_TENANT, made
 from served import Server, asked
 
 CLIENTS, TENANTS, SECONDS = 64, 64, 5
@@ -103,9 +104,14 @@ def load(port, folder):
     return None
 
 
-def too_long(port, folder):
-    found = Client(port, folder, "anna").ask(b"POST /t/shop/maps " + b"x" * 5_242_881)
-    return None if found.startswith(b"413 ") else f"it is {found[:100]!r}"
+def limit(port, folder):
+    """A body of the limit comes to the program, and nginx refuses a longer one."""
+    client = Client(port, folder, "anna")
+    for size, wanted in ((BODY_LIMIT, BAD), (BODY_LIMIT + 1, b"413 ")):
+        found = client.ask(b"POST /t/shop/maps " + b"x" * size)
+        if not found.startswith(wanted):
+            return f"{size} bytes: it is {found[:100]!r}"
+    return None
 
 
 def a_process_is_down(port, folder, servers, program):
@@ -145,7 +151,7 @@ def checks(program, top):
         yield "64 clients at once", clients_at_once(port, folder)
         yield "a tenant has one process", one_process_each(servers, folder)
         yield "64 clients, again and again", load(port, folder)
-        yield "a body over the limit", too_long(port, folder)
+        yield "bodies of the limit and over it", limit(port, folder)
         yield "a process that is down", a_process_is_down(port, folder, servers, program)
         for it in servers[1:]:
             it.stop()
