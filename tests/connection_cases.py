@@ -6,7 +6,7 @@ import threading
 import time
 
 from hostile_cases import BODIES, BODY_LIMIT, HEADS, exceptions
-from replies import EXISTS, dropped, made, short, there
+from replies import EXISTS, TOO_LARGE, dropped, made, short, there
 from served import Server, asked, message, replies_on, reset
 
 HERE = pathlib.Path(__file__).resolve().parent
@@ -92,6 +92,22 @@ def bodies(program, db):
         return next((f"{short(line)}: {short(it)}, not {short(reply)}" for (line, reply), it in zip(lines, found) if it != reply), None)
 
 
+def third_messages(program, db):
+    """Of a third message whose body isn't whole there is no reply, unless its length is past the
+    limit."""
+    two = message(b"PUT /t/a") + message(b"GET /t/a")
+    with Server(program, db) as server:
+        for size, more in ((30, []), (BODY_LIMIT, []), (BODY_LIMIT + 1, [TOO_LARGE])):
+            with server.connect() as connection:
+                connection.sendall(two + b'POST /t/a/test HTTP/1.1\r\nContent-Length: %d\r\n\r\n{"ru' % size)
+                connection.shutdown(socket.SHUT_WR)
+                found = replies_on(connection)
+            asked(server, [b"DELETE /t/a"])
+            if found != ([made(b"a"), there(b"a"), *more], bool(more)):
+                return f"a body of {size} bytes: {found}"
+    return None
+
+
 def last_messages(program, db):
     """Connection: close, HTTP/1.0 and the last message that a connection may have end it; what
     follows is not served."""
@@ -152,4 +168,4 @@ def half_closes(program, db):
 
 
 def cases():
-    return (two_messages, byte_by_byte, examples, heads, bodies, last_messages, silent_clients, resets, half_closes)
+    return (two_messages, byte_by_byte, examples, heads, bodies, third_messages, last_messages, silent_clients, resets, half_closes)
