@@ -8,7 +8,7 @@ use Rattle.serde_json.specs.Written.{comma_if, compact_text, items_text}
 use Rattle.json.specs.Print.{escape_byte}
 use Rattle.crush_report.specs.Moves.{gained_in}
 use Rattle.crush_report.specs.declared.rows.MoveRow.{MoveRow}
-use Rattle.tenant_messages.specs.Slots.{list_json}
+use Rattle.tenant_messages.specs.Slots.{slot_json, list_json}
 use Rattle.tenant_reports.specs.Moves.{moves_reply, row_json}
 use Rattle.tenant_reports.specs.Private.Pieces.{head_text}
 use Rattle.tenant_state.specs.State.{Inventory}
@@ -17,6 +17,23 @@ pub row_more : (old : List ℕ) (later : Bool) (d : Data) (ds : Items) → (old 
 row_more old later d ds =
     append_assoc old (comma_if later ++ compact_text d) (items_text true ds)
     ∙ ap (λ (rest : List ℕ). old ++ rest) (append_assoc (comma_if later) (compact_text d) (items_text true ds))
+
+-- what is put at the end, piece by piece, is the rest
+behind : (old a b c d : List ℕ) → old ++ a ++ b ++ c ++ d ≡ old ++ (a ++ (b ++ (c ++ d)))
+behind old a b c d = append_assoc (old ++ a ++ b) c d ∙ append_assoc (old ++ a) b (c ++ d) ∙ append_assoc old a (b ++ (c ++ d))
+
+-- what is put at the end of a text, piece by piece, is a row
+pub row_by_pieces : (old : List ℕ) (row : MoveRow)
+    → old ++ (codes "{\"gained\":" ++ decimal row.gained) ++ (codes ",\"group\":" ++ decimal row.group) ++ (codes ",\"new\":" ++ compact_text (list_json (map slot_json row.new)))
+    ++ (codes ",\"old\":" ++ compact_text (list_json (map slot_json row.old))) ++ codes "}"
+    ≡ old ++ compact_text (row_json row)
+unfolding escape_byte
+row_by_pieces old row =
+    let gained = codes "{\"gained\":" ++ decimal row.gained in
+    let group = codes ",\"group\":" ++ decimal row.group in
+    let new = codes ",\"new\":" ++ compact_text (list_json (map slot_json row.new)) in
+    let before = codes ",\"old\":" ++ compact_text (list_json (map slot_json row.old)) in
+    append_assoc (old ++ gained ++ group ++ new) before (codes "}") ∙ behind old gained group new (before ++ codes "}")
 
 -- ---- the body of a reply with moves
 
@@ -27,10 +44,6 @@ joined epoch from gained moved id list to =
 
 five : (a b c d e rest : List ℕ) → (a ++ b ++ c ++ d ++ e) ++ rest ≡ a ++ (b ++ (c ++ (d ++ (e ++ rest))))
 five a b c d e rest = append_assoc (a ++ b ++ c ++ d) e rest ∙ append_assoc (a ++ b ++ c) d (e ++ rest) ∙ append_assoc (a ++ b) c (d ++ (e ++ rest)) ∙ append_assoc a b (c ++ (d ++ (e ++ rest)))
-
--- what is put at the end of the first part is the rest
-behind : (old a b c d : List ℕ) → old ++ a ++ b ++ c ++ d ≡ old ++ (a ++ (b ++ (c ++ d)))
-behind old a b c d = append_assoc (old ++ a ++ b) c d ∙ append_assoc (old ++ a) b (c ++ d) ∙ append_assoc old a (b ++ (c ++ d))
 
 two : (a b rest : List ℕ) → (a ++ b) ++ rest ≡ a ++ (b ++ rest)
 two a b rest = append_assoc a b rest

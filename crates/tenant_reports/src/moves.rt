@@ -2,8 +2,6 @@
 //! those whose up lists differ.
 
 ghost use Rattle.std.specs.Prelude.{◌≡◌, ◌≤◌, ◌++◌, ◌*◌, IfOk, OnOk, map, string_bytes};
-ghost use Rattle.std.specs.Fmt.{decimal};
-ghost use Rattle.serde_json.specs.View.{view};
 ghost use Rattle.serde_json.specs.Written.{comma_if, compact_text};
 ghost use Rattle.crush_choose.specs.declared.limits.TheConstants.{SIZE_LIMIT};
 ghost use Rattle.crush_pool.specs.declared.limits.TheConstants.{GROUP_LIMIT};
@@ -14,11 +12,11 @@ ghost use Rattle.tenant_messages.specs.Slots.{list_json};
 ghost use Rattle.tenant_reports.specs.Moves as spec;
 ghost use Rattle.tenant_reports.specs.Private.Pieces.{head_text};
 
-use crush_map::{Listed, Text};
+use crush_map::Listed;
 use crush_report::{MoveRow, gained_in, moves_with};
-use serde_json::{Value, json};
+use reply_texts::{done, push_number, push_slots};
 use std::alloc::{AllocError, Global};
-use tenant_messages::{Problem, Refusal, Reply, slots_json};
+use tenant_messages::{Problem, Refusal, Reply};
 use tenant_state::{Inventory, TenantPool};
 
 // ---- the groups that move
@@ -45,40 +43,30 @@ fn rows_of(
 
 // ---- the answer
 
-fn row_json(alloc: Global, row: &MoveRow) -> Result<Value, AllocError>
-    ensures { IfOk result (λ v. view v ≡ spec.row_json row.now) }
+/// Puts a row at the end of a text.
+fn push_row(text: &mut String, row: &MoveRow) -> Result<(), AllocError>
+    ensures { OnOk result (string_bytes text.new ≡ string_bytes text.old ++ compact_text (spec.row_json row.now)) }
 {
-    let new = slots_json(alloc, row.new.as_slice())?;
-    let old = slots_json(alloc, row.old.as_slice())?;
-    json!(in alloc; {
-        "gained": row.gained as u64,
-        "group": row.group,
-        "new": new,
-        "old": old
-    })
-}
-
-#[tactic(auto, using(crate::proofs::PlainReplies::move_plain))]
-fn row_text(alloc: Global, row: &MoveRow) -> Result<String, AllocError>
-    ensures { IfOk result (λ text. string_bytes text ≡ compact_text (spec.row_json row.now)) }
-{
-    let value = row_json(alloc, row)?;
-    value.to_string(alloc)
+    push_number(text, "{\"gained\":", row.gained as u64)?;
+    push_number(text, ",\"group\":", u64::from(row.group))?;
+    push_slots(text, ",\"new\":", row.new.as_slice())?;
+    push_slots(text, ",\"old\":", row.old.as_slice())?;
+    text.push_str("}")?;
+    Ok(())
 }
 
 /// Puts a row at the end of a text, behind a comma if another is before it.
-fn push_row(alloc: Global, text: &mut String, later: bool, row: &MoveRow) -> Result<(), AllocError>
+fn push_next(text: &mut String, later: bool, row: &MoveRow) -> Result<(), AllocError>
     ensures { OnOk result (string_bytes text.new ≡ string_bytes text.old ++ (comma_if later ++ compact_text (spec.row_json row.now))) }
 {
     if later {
         text.push_str(",")?;
     }
-    text.push_str(row_text(alloc, row)?.as_str())?;
+    push_row(text, row)?;
     Ok(())
 }
 
-/// The rows as a JSON list. Each row's value is gone before the next is made: a tree of all of them
-/// would take many times the memory of their text.
+/// The rows as a JSON list.
 #[tactic(auto, using(crate::proofs::Texts::row_more))]
 fn rows_text(alloc: Global, rows: &[MoveRow]) -> Result<String, AllocError>
     ensures { IfOk result (λ text. string_bytes text ≡ compact_text (list_json (map spec.row_json rows.now))) }
@@ -88,27 +76,12 @@ fn rows_text(alloc: Global, rows: &[MoveRow]) -> Result<String, AllocError>
     let mut later = false;
     let mut rest = rows;
     while let [row, others @ ..] = rest {
-        push_row(alloc, &mut text, later, row)?;
+        push_next(&mut text, later, row)?;
         later = true;
         rest = others;
     }
     text.push_str("]")?;
     Ok(text)
-}
-
-/// Puts a text and a number at the end of a text.
-fn push_number(
-    alloc: Global,
-    text: &mut String,
-    before: &str,
-    number: u64,
-) -> Result<(), AllocError>
-    ensures { OnOk result (string_bytes text.new ≡ string_bytes text.old ++ (before.now ++ decimal number)) }
-{
-    let digits = format!(in alloc; "{}", number)?;
-    text.push_str(before)?;
-    text.push_str(digits.as_str())?;
-    Ok(())
 }
 
 /// The body of the reply, up to the list of rows.
@@ -123,11 +96,11 @@ fn head_text(
     ensures { IfOk result (λ text. string_bytes text ≡ head_text epoch from gained moved id) }
 {
     let mut text = String::new(alloc);
-    push_number(alloc, &mut text, "{\"epoch\":", epoch)?;
-    push_number(alloc, &mut text, ",\"from\":", from)?;
-    push_number(alloc, &mut text, ",\"gained\":", gained)?;
-    push_number(alloc, &mut text, ",\"moved\":", moved as u64)?;
-    push_number(alloc, &mut text, ",\"pool\":", u64::from(id))?;
+    push_number(&mut text, "{\"epoch\":", epoch)?;
+    push_number(&mut text, ",\"from\":", from)?;
+    push_number(&mut text, ",\"gained\":", gained)?;
+    push_number(&mut text, ",\"moved\":", moved as u64)?;
+    push_number(&mut text, ",\"pool\":", u64::from(id))?;
     Ok(text)
 }
 
@@ -149,13 +122,12 @@ fn moves_text(
     let list = rows_text(alloc, rows)?;
     text.push_str(",\"rows\":")?;
     text.push_str(list.as_str())?;
-    push_number(alloc, &mut text, ",\"to\":", to)?;
+    push_number(&mut text, ",\"to\":", to)?;
     text.push_str("}")?;
     Ok(text)
 }
 
 /// The reply with rows.
-#[tactic(auto, unfolding(tenant_messages::specs::Reply::reply))]
 fn moves_reply(
     alloc: Global,
     inventory: &Inventory,
@@ -168,10 +140,7 @@ fn moves_reply(
     ensures { IfOk result (λ r. r ≡ reply (success (spec.moves_reply inventory.now id from to rows.now))) }
 {
     let text = moves_text(alloc, inventory, id, from, to, rows)?;
-    Ok(Reply {
-        status: 200,
-        body: Text::new(text),
-    })
+    Ok(done(text))
 }
 
 /// The reply with the groups, of the pool with an id, that move between the versions with two
