@@ -38,6 +38,7 @@ impl Routes {
         Some(Target {
             methods: *found.value,
             path,
+            ascii: is_ascii_text(path),
             params: found.params,
         })
     }
@@ -48,6 +49,8 @@ impl Routes {
 pub struct Target<'r, 'p> {
     methods: Methods,
     path: &'p str,
+    /// Whether each byte of the path is ASCII.
+    ascii: bool,
     params: Params<'r, 'p>,
 }
 
@@ -66,6 +69,7 @@ impl<'r, 'p> Model for Target<'r, 'p> {
 
     ghost invariant = { λ a. record {
       path : a.params.path.now ≡ a.path.now;
+      ascii : a.ascii ≡ list_all is_ascii a.path.now;
       text : list_all is_ascii a.params.text.now ≡ true;
     } };
 }
@@ -94,7 +98,7 @@ impl<'r, 'p> Target<'r, 'p> {
     pub fn parameter(&self, key: &str) -> Option<&'p str>
         ensures { option_map (λ text. text.now) result ≡ parameter key.now self.now }
     {
-        if is_ascii_text(self.path) {
+        if self.ascii {
             self.params.get(key)
         } else {
             None

@@ -11,5 +11,6 @@ invariant_of-result c =
     let a = c.ok.ensures.value in let b = c.in_ok-found.ensures.value in let d = c.in_ok-found.is in let e = c.in_ok-found.found-is in cc in
     record {
       path = from_ok c.at.result _ found c.at.ensures.path given;
+      ascii = c.is_ascii_text.ensures;
       text = text_ascii c.args.self.now.router c.args.path.now _ c.args.self.now.whole (from_ok c.at.result _ found c.at.ensures.found given);
     }
