@@ -51,7 +51,11 @@ fn buckets(alloc: Global, counts: Counts) -> Result<Listed<Bucket>, AllocError> 
     let mut buckets = Vec::new(alloc);
     for (number, name) in numbered(alloc, 'b', counts.buckets, counts.wrong)? {
         let mut items = Vec::new(alloc);
-        let size = if number.wrapping_add(1) == counts.buckets { counts.devices } else { 0 };
+        let size = if number.wrapping_add(1) == counts.buckets {
+            counts.devices
+        } else {
+            0
+        };
         for id in 0..size.min(ITEM_LIMIT as u32) {
             items.push((ItemId(id.min(OUT_OF_RANGE) as i32), Weight(ONE)))?;
         }
@@ -107,7 +111,10 @@ fn a_draft_at_every_limit_is_a_map(rt: HostRuntime) -> Result<(), Fail> {
     assert_eq!(rt; map.types().len(), TYPE_LIMIT);
     assert_eq!(rt; map.devices().len(), DEVICE_LIMIT);
     assert_eq!(rt; map.buckets().len(), BUCKET_LIMIT);
-    assert_eq!(rt; map.buckets()[BUCKET_LIMIT - 1].items.as_slice().len(), ITEM_LIMIT);
+    assert_eq!(rt;
+        map.buckets()[BUCKET_LIMIT - 1].items.as_slice().len(),
+        ITEM_LIMIT
+    );
     assert_eq!(rt; map.rules().len(), RULE_LIMIT);
     Ok(())
 }

@@ -106,11 +106,7 @@ const REPLY_ROOM: usize = 1_024;
 
 /// Puts the rest of a reply at the end of its text: the primary, what the rule answered (`raw`),
 /// the seed, what of it is up, and the version. `Err(AllocError)`: an allocation failed.
-fn push_placement(
-    text: &mut String,
-    placement: &Placement,
-    version: u64,
-) -> Result<(), AllocError>
+fn push_placement(text: &mut String, placement: &Placement, version: u64) -> Result<(), AllocError>
     ensures { OnOk result (string_bytes text.new ≡ string_bytes text.old ++ members_text true (placement_members placement.now version)) }
 {
     push_slot(text, ",\"primary\":", &placement.primary)?;
