@@ -201,33 +201,51 @@ fn buckets_pick_as_their_plain_forms(rt: HostRuntime) -> Result<(), AllocError> 
     Ok(())
 }
 
-/// A bucket of as many items as there may be, asked 200 times for few inputs.
-fn assert_most(
-    rt: &impl Abort,
-    alloc: Global,
-    seed: &mut u64,
-    kind: Kind,
+/// The most items of a bucket.
+const MOST: u16 = 4_096;
+
+/// 8 inputs, each asked 25 times.
+#[test]
+fn a_uniform_bucket_of_the_most_items_picks_as_its_plain_form(
+    rt: HostRuntime,
 ) -> Result<(), AllocError> {
-    let id = random_id(seed);
-    let entries = random_entries(alloc, seed, 4_096, kind == Uniform)?;
+    let alloc = rt.alloc();
+    let mut seed = 2_028;
+    let id = random_id(&mut seed);
+    let entries = random_entries(alloc, &mut seed, MOST, true)?;
     let mut questions = Vec::new(alloc);
-    for _ in 0..200 {
-        questions.push((next(seed) % 20, next(seed)))?;
+    let mut wanted = Vec::new(alloc);
+    for x in 0..8 {
+        let size = entries.len();
+        let places = plain::exchanged(alloc, id, size, x, size)?;
+        for _ in 0..25 {
+            let r = next(&mut seed);
+            questions.push((x, r))?;
+            wanted.push(plain::placed(&entries, &places, r))?;
+        }
     }
-    let picks = picked(rt, alloc, kind, id, &entries, &questions)?;
-    for ((x, r), pick) in questions.iter().zip(picks) {
-        let want = plain::pick(alloc, kind, id, &entries, *x, *r)?;
-        assert_eq!(rt; pick, want, "{x} {r}");
-    }
+    let picks = picked(&rt, alloc, Uniform, id, &entries, &questions)?;
+    assert_eq!(rt; picks.as_slice(), wanted.as_slice());
     Ok(())
 }
 
+/// 200 questions of any inputs.
 #[test]
-fn buckets_of_the_most_items_pick_as_their_plain_forms(rt: HostRuntime) -> Result<(), AllocError> {
+fn a_tree_of_the_most_items_picks_as_its_plain_form(rt: HostRuntime) -> Result<(), AllocError> {
     let alloc = rt.alloc();
-    let mut seed = 2_028;
-    assert_most(&rt, alloc, &mut seed, Uniform)?;
-    assert_most(&rt, alloc, &mut seed, Tree)
+    let mut seed = 2_029;
+    let id = random_id(&mut seed);
+    let entries = random_entries(alloc, &mut seed, MOST, false)?;
+    let mut questions = Vec::new(alloc);
+    let mut wanted = Vec::new(alloc);
+    for _ in 0..200 {
+        let (x, r) = (next(&mut seed), next(&mut seed));
+        questions.push((x, r))?;
+        wanted.push(plain::pick(alloc, Tree, id, &entries, x, r)?)?;
+    }
+    let picks = picked(&rt, alloc, Tree, id, &entries, &questions)?;
+    assert_eq!(rt; picks.as_slice(), wanted.as_slice());
+    Ok(())
 }
 
 /// Devices 0 to 2 in buckets -2 and -3, which are in -1; -4 is empty.

@@ -16,11 +16,10 @@ fn item_at(entries: &[(ItemId, Weight)], place: usize) -> ItemId {
 }
 
 fn weight_within(entries: &[(ItemId, Weight)], from: usize, to: usize) -> u64 {
+    let to = to.min(entries.len());
     let mut sum = 0u64;
-    for (place, entry) in entries.iter().enumerate() {
-        if from <= place && place < to {
-            sum = sum.wrapping_add(u64::from(entry.1.0));
-        }
+    for entry in &entries[from.min(to)..to] {
+        sum = sum.wrapping_add(u64::from(entry.1.0));
     }
     sum
 }
@@ -75,14 +74,16 @@ pub(crate) fn uniform(
     r: u32,
 ) -> Result<ItemId, AllocError> {
     let size = entries.len();
-    if size == 0 {
-        return Ok(NOTHING);
-    }
     let places = exchanged(alloc, id, size, x, size)?;
-    Ok(match places.get(r as usize % size) {
+    Ok(placed(entries, &places, r))
+}
+
+/// The item that a permutation has for an attempt.
+pub(crate) fn placed(entries: &[(ItemId, Weight)], places: &[usize], r: u32) -> ItemId {
+    match places.get(r as usize % places.len().max(1)) {
         Some(place) => item_at(entries, *place),
         None => NOTHING,
-    })
+    }
 }
 
 /// Each place is tried from the first on, and the last that passes stays.
