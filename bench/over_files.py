@@ -29,8 +29,9 @@ def cluster(hosts, devices):
     return it.rule("take -1", f"chooseleaf firstn 3 {HOST}", "emit").text()
 
 
-def of_length(length):
-    """A map with names of 64 bytes whose canonical text has about this many bytes."""
+def of_length(length, kind="list"):
+    """A map with names of 64 bytes whose canonical text has about this many bytes, and whose
+    buckets are of this kind."""
     head = ["tunable choose_local_tries 0", "tunable choose_local_fallback_tries 0", "type 0 osd", "type 1 host", "type 2 root"]
     # a device with its line and its item takes some 178 bytes
     count = min(1024, length // 178)
@@ -40,9 +41,9 @@ def of_length(length):
     more, hosts = max(0, length - 178 * count), []
     while more > 0:
         hosts.append(len(hosts) + 2)
-        lines += [f"host host-{len(hosts):059} {{", f"\tid -{hosts[-1]}", "\talg list", *items[: min(count, more // 90 + 1)], "}"]
+        lines += [f"host host-{len(hosts):059} {{", f"\tid -{hosts[-1]}", f"\talg {kind}", *items[: min(count, more // 90 + 1)], "}"]
         more -= 90 * min(count, more // 90 + 1)
-    lines += ["root default {", "\tid -1", "\talg list", *items, "}", "rule all {", "\tid 0", "\ttype replicated", "\tstep take default", "\tstep choose firstn 0 type osd", "\tstep emit", "}", ""]
+    lines += ["root default {", "\tid -1", f"\talg {kind}", *items, "}", "rule all {", "\tid 0", "\ttype replicated", "\tstep take default", "\tstep choose firstn 0 type osd", "\tstep emit", "}", ""]
     return "\n".join(lines)
 
 

@@ -6,6 +6,7 @@ mod kept;
 mod placing;
 mod ready;
 mod ready_store;
+mod trial;
 
 pub use kept::Kept;
 pub use ready::Ready;

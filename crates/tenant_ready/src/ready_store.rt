@@ -9,6 +9,7 @@ ghost use Rattle.tenant_core.specs.StoreReply.{is_failed};
 use crate::kept::Kept;
 use crate::placing::{number_for, place};
 use crate::ready::Ready;
+use crate::trial::Trial;
 use crush_cache::PlacementCache;
 use std::alloc::{AllocError, Global};
 use std::marker::Model;
@@ -25,6 +26,7 @@ pub struct ReadyStore<T: TenantStore> {
     below: T,
     kept: Kept,
     cache: PlacementCache,
+    trial: Trial,
     /// Whether the store below has what tenants have in memory, and makes none of it for a load.
     shares: bool,
 }
@@ -63,6 +65,7 @@ impl<T: TenantStore + Drop> ReadyStore<T> {
             alloc,
             kept: Kept::new(alloc, bound)?,
             cache: PlacementCache::new(alloc, placements)?,
+            trial: Trial::new(alloc, placements)?,
             below,
             shares: false,
         })
@@ -82,6 +85,7 @@ impl<T: TenantStore + Drop> ReadyStore<T> {
             alloc,
             kept: Kept::new(alloc, u64::MAX)?,
             cache: PlacementCache::new(alloc, placements)?,
+            trial: Trial::new(alloc, placements)?,
             below,
             shares: true,
         })
@@ -178,6 +182,9 @@ impl<T: TenantStore> TenantStore for ReadyStore<T> {
     }
 
     fn placed(&mut self, name: &str, query: &Query) -> Option<Placed> {
+        if !self.trial.is_on() {
+            return None;
+        }
         let Ok(Some(ready)) = self.kept.get(name) else {
             return None;
         };
@@ -190,7 +197,14 @@ impl<T: TenantStore> TenantStore for ReadyStore<T> {
             &ready,
             pool,
         )?;
-        place(&mut self.cache, number, ready.inventory(), pool, group)
+        place(
+            &mut self.cache,
+            &mut self.trial,
+            number,
+            ready.inventory(),
+            pool,
+            group,
+        )
     }
 
     fn create(&mut self, name: &str) -> Result<(), StoreFault> {
