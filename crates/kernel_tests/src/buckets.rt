@@ -204,7 +204,8 @@ fn buckets_pick_as_their_plain_forms(rt: HostRuntime) -> Result<(), AllocError> 
 /// The most items of a bucket.
 const MOST: u16 = 4_096;
 
-/// 8 inputs, each asked 25 times.
+/// 20 inputs, each asked ten times: the first at places all over the bucket, and the others at its
+/// front, since an exchange takes the longer the more were made before.
 #[test]
 fn a_uniform_bucket_of_the_most_items_picks_as_its_plain_form(
     rt: HostRuntime,
@@ -215,11 +216,13 @@ fn a_uniform_bucket_of_the_most_items_picks_as_its_plain_form(
     let entries = random_entries(alloc, &mut seed, MOST, true)?;
     let mut questions = Vec::new(alloc);
     let mut wanted = Vec::new(alloc);
-    for x in 0..8 {
+    for x in 0..20 {
         let size = entries.len();
         let places = plain::exchanged(alloc, id, size, x, size)?;
-        for _ in 0..25 {
-            let r = next(&mut seed);
+        let reach = if x == 0 { u32::from(MOST) } else { 200 };
+        for _ in 0..10 {
+            let rounds = (next(&mut seed) / 8_192).wrapping_mul(u32::from(MOST));
+            let r = rounds.wrapping_add(next(&mut seed) % reach);
             questions.push((x, r))?;
             wanted.push(plain::placed(&entries, &places, r))?;
         }
