@@ -204,7 +204,7 @@ fn what_each_session_acknowledges_is_found_by_the_later_ones(rt: HostRuntime) ->
     let mut seed = 1;
     let mut alone = Service::in_memory(alloc)?;
     let mut course = Course {
-        files: new_files(alloc, Stop::Log(u64::MAX)),
+        files: new_files(alloc, Stop::NONE),
         doubt: None,
         opened: 0,
         stopped: 0,

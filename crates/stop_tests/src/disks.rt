@@ -15,6 +15,9 @@ pub(crate) enum Stop {
 }
 
 impl Stop {
+    /// Neither fails.
+    pub(crate) const NONE: Stop = Stop::Log(u64::MAX);
+
     /// After how many calls the log and the database file fail.
     fn calls(self) -> (u64, u64) {
         match self {
@@ -48,12 +51,16 @@ fn copied(alloc: Global, disk: &Fuse<Memory>, calls: u64) -> io::Result<Fuse<Mem
     Ok(Fuse::new(copy, calls))
 }
 
-/// What a crash leaves of the files; one of them then fails again.
-pub(crate) fn crashed_with(alloc: Global, files: Disks, stop: Stop) -> io::Result<Disks> {
-    let files = crashed(files);
+/// Files with the same bytes, all of them synced, of which one fails.
+pub(crate) fn copies_with(alloc: Global, files: &Disks, stop: Stop) -> io::Result<Disks> {
     let (log, db) = stop.calls();
     Ok(Files {
         log: copied(alloc, &files.log, log)?,
         db: copied(alloc, &files.db, db)?,
     })
+}
+
+/// What a crash leaves of the files; one of them then fails again.
+pub(crate) fn crashed_with(alloc: Global, files: Disks, stop: Stop) -> io::Result<Disks> {
+    copies_with(alloc, &crashed(files), stop)
 }

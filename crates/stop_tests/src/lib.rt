@@ -6,6 +6,8 @@
 mod chains;
 #[cfg(test)]
 mod disks;
+#[cfg(test)]
+mod migrations;
 pub mod session;
 #[cfg(test)]
 mod stops;

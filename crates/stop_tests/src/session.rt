@@ -13,7 +13,7 @@ use tenant_service::{Service, SessionEnd};
 use tenant_store::Store;
 
 /// What the checksums of a new log begin with.
-const SALT: u64 = 7;
+pub const SALT: u64 = 7;
 
 /// The bytes of what tenants have that are kept ready.
 const READY: u64 = 1_000_000;
@@ -33,12 +33,12 @@ fn serve<T: TenantStore + Drop>(
 }
 
 /// The files of a store that is let go of as it stands: nothing is copied from the log.
-fn left<D: Disk>(store: FileStore<D>) -> Files<D> {
+pub fn left<D: Disk>(store: FileStore<D>) -> Files<D> {
     store.close()
 }
 
 /// The files of a connection whose log is copied into the database file, if that succeeds.
-fn closed<D: Disk + Drop>(conn: Connection<FileStore<D>>) -> Files<D> {
+pub fn closed<D: Disk + Drop>(conn: Connection<FileStore<D>>) -> Files<D> {
     match conn.close_files() {
         Ok(files) => files,
         Err((_, store)) => left(store),

@@ -11,7 +11,7 @@ use tenant_messages::Reply;
 use tenant_service::SessionEnd;
 
 /// More calls than a session makes on a disk.
-const MANY: u64 = 2_000;
+pub(crate) const MANY: u64 = 2_000;
 
 const FIRST: &[Row] = &[CREATION_OF_A, IMPORT_BY_A];
 
@@ -33,7 +33,7 @@ const AGAIN_THERE: &[Row] = &[EXISTS, IMPORT_BY_A, SUMMARY];
 const DROP: &[Row] = &[("DELETE", "/t/a", "", 200, "{\"dropped\":\"a\"}")];
 
 /// Whether the replies are those of the rows.
-fn are_of_rows(replies: &[Reply], rows: &[Row]) -> bool {
+pub(crate) fn are_of_rows(replies: &[Reply], rows: &[Row]) -> bool {
     replies.len() == rows.len()
         && replies
             .iter()
@@ -85,7 +85,7 @@ fn first_session(rt: &impl Abort, alloc: Global, stop: Stop) -> Result<bool, All
 
 /// Files that a session without a stop has left, with what it wrote in the log.
 fn files_of_a(alloc: Global) -> Result<Disks, AllocError> {
-    let files = new_files(alloc, Stop::Log(u64::MAX));
+    let files = new_files(alloc, Stop::NONE);
     let (_, files) = session(alloc, files, &calls_of(alloc, FIRST)?, false)?;
     Ok(files)
 }
