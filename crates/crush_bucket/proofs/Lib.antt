@@ -1,4 +1,3 @@
-pub mod Eight
 pub mod Greatest
 pub mod Appended
 pub mod Heights
@@ -6,6 +5,5 @@ pub mod Lanes
 pub mod Nodes
 pub mod Numbered
 pub mod Picking
-pub mod Slots
 pub mod Validity
 pub mod Weights

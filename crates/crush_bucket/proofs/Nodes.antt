@@ -10,6 +10,7 @@ use Rattle.crush_map.specs.declared.ItemId.{ItemId}
 use Rattle.crush_bucket.specs.Bucket.{WeightedItem, word, weight_within}
 use Rattle.crush_bucket.specs.Kinds.{label, tree_draw, place_within}
 use Rattle.crush_bucket.specs.Private.Kept.{HasNodes, node_weights}
+pub use Rattle.crush_bucket.specs.Private.Kept.{AtNode}
 use Rattle.crush_bucket.specs.Private.Descent.{is_left, child, down_by}
 
 pub length-node_weights : (items : List WeightedItem) (from h : ℕ) → length (node_weights items from h) + 1 ≡ 2 ^ suc h
@@ -43,14 +44,6 @@ nodes_within items from (suc h) nodes before after e len =
 pub node_weight : (items : List WeightedItem) (nodes : List ℕ) (from h : ℕ) → HasNodes items nodes from h → slice_index nodes (label from h) ≡ weight_within items from (2 ^ h)
 node_weight items nodes from zero has = has
 node_weight items nodes from (suc h) has = has.0
-
--- a walk that has come to the node of a range of 2^h places
-pub record AtNode (id : ItemId) (items : List WeightedItem) (nodes : List ℕ) (x r height h node : ℕ) : Type 0 where
-  pub from : ℕ
-  pub labelled : node ≡ 2 * from + 2 ^ h
-  pub within : from + 2 ^ h ≤ 2 ^ height
-  pub weighed : HasNodes items nodes from h
-  pub rest : place_within id items x r 0 height ≡ place_within id items x r from h
 
 pub at_root : (id : ItemId) (items : List WeightedItem) (nodes : List ℕ) (x r height : ℕ) → HasNodes items nodes 0 height → AtNode id items nodes x r height height (2 ^ height)
 at_root id items nodes x r height has = record { from = 0; labelled = omega arith; within = omega arith; weighed = has; rest = refl }

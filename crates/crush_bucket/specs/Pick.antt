@@ -1,5 +1,5 @@
 -- The pick of a bucket.
-use Rattle.std.specs.Prelude.{ℕ, ◌%◌, length, Option, None, Some}
+use Rattle.std.specs.Prelude.{ℕ, ◌%◌, length}
 use Rattle.crush_map.specs.declared.ItemId.{ItemId}
 use Rattle.crush_map.specs.declared.Kind.{Kind}
 use Rattle.crush_map.specs.declared.Kind.TheVariants.{Uniform, List, Tree}
@@ -30,14 +30,3 @@ after_pick_as Tree b m x r = m
 -- what it remembers after a bucket's pick for an input x and an attempt r
 abbrev pub after_pick : BucketView → Remembered → ℕ → ℕ → Remembered
 after_pick b m x r = after_pick_as b.kind b m x r
-
--- ---- the scratch of a bucket among others
-
-abbrev pub perm_as : Kind → BucketView → Option PermView
-perm_as Uniform b = Some (perm_of b)
-perm_as List b = None
-perm_as Tree b = None
-
--- the permutation that a bucket needs: none where it isn't uniform
-abbrev pub perm_for : BucketView → Option PermView
-perm_for b = perm_as b.kind b

@@ -4,3 +4,5 @@ pub mod Kept
 pub mod Laid
 pub mod ByKind
 pub mod TableRows
+pub mod Walks
+pub mod Ahead

@@ -1,6 +1,6 @@
 -- The buckets and devices of a map, as choosing walks over them.
 use Rattle.std.specs.Prelude.{◌≡◌, ℕ, pos, ◌<◌, ◌==◌, Bool, true, List, [], length, map, slice_index_or, Option, MatchOption}
-use Rattle.std.specs.List.{list_any, position_from, filter_map}
+use Rattle.std.specs.List.{list_any, position_from}
 use Rattle.std.specs.Ordering.{int_eq}
 use Rattle.crush_map.specs.declared.word.ItemId.{ItemId}
 use Rattle.crush_map.specs.declared.word.Kind.{Kind}
@@ -9,8 +9,7 @@ use Rattle.crush_map.specs.declared.draft.Bucket.{Bucket}
 use Rattle.crush_map.specs.declared.draft.Tunables.{Tunables}
 use Rattle.crush_map.specs.Map.{Map}
 use Rattle.crush_bucket.specs.Bucket.{BucketView, item_at}
-use Rattle.crush_permutation.specs.Permutation.{PermView}
-use Rattle.crush_bucket.specs.Pick.{pick, perm_for}
+use Rattle.crush_bucket.specs.Pick.{pick}
 
 -- a bucket and the number of its type
 pub record TypedBucket : Type 0 where
@@ -78,9 +77,7 @@ HasItemsBelow t = (number place : ℕ) → number < length t.buckets → place <
 
 -- ---- the scratch
 
--- the permutations that these buckets need, in order of number: one for each uniform bucket
-abbrev pub perms_in : List TypedBucket → List PermView
-perms_in buckets = filter_map (λ b. perm_for b.bucket) buckets
-
-abbrev pub perms_of : TablesView → List PermView
-perms_of t = perms_in t.buckets
+-- what contracts see of a scratch of these tables: it has permutations, and picks that were made
+-- ahead, of no other buckets
+abbrev pub perms_of : TablesView → TablesView
+perms_of t = t

@@ -125,4 +125,12 @@ impl Picker for AnyBucket {
             ByKind::Tree(bucket) => bucket.pick(perm, x, r),
         }
     }
+
+    fn pick_eight(&self, perm: &mut Perm, xs: &[u32; 8], r: u32) -> [ItemId; 8] {
+        match &self.by_kind {
+            ByKind::Uniform(bucket) => bucket.pick_eight(perm, xs, r),
+            ByKind::List(bucket) => bucket.pick_eight(perm, xs, r),
+            ByKind::Tree(bucket) => bucket.pick_eight(perm, xs, r),
+        }
+    }
 }

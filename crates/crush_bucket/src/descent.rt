@@ -36,6 +36,23 @@ fn labels(node: usize, quarter: usize) -> [u32; 8]
     ]
 }
 
+/// Returns the child to which a node's hash leads.
+#[inline]
+pub(crate) fn child(nodes: &[u32], hash: u32, node: usize, half: usize) -> usize
+    requires left { half ≤ node }
+    requires right { node + half < 2 ^ 32 }
+    requires inside { node < length nodes.now }
+    ensures { result ≡ child nodes.now hash node half }
+{
+    let draw = u64::from(hash) * u64::from(nodes[node]) >> 32;
+    let left = u64::from(nodes[node - half]);
+    if draw < left {
+        node - half
+    } else {
+        node + half
+    }
+}
+
 /// Returns the child to which a node's hash leads, and its lane.
 #[inline]
 fn step(hashes: &[u32; 8], nodes: &[u32], node: usize, half: usize, lane: usize) -> (usize, usize)

@@ -19,13 +19,15 @@ mod table_row;
 mod tables;
 mod tree;
 mod uniform;
+mod uniform_lanes;
+mod walks;
 
 pub use any::AnyBucket;
 pub use crush_permutation::Perm;
 pub use list::ListBucket;
 pub use number::BucketNo;
 pub use picker::Picker;
-pub use scratch::Scratch;
+pub use scratch::{LANES, Scratch};
 pub use sums::can_be_asked;
 pub use tables::Tables;
 pub use tree::TreeBucket;

@@ -1,83 +1,240 @@
 //! The scratch of all buckets of a map.
 
-ghost use Rattle.std.specs.Prelude.{◌≡◌, IfOk, length, map};
-ghost use Rattle.crush_permutation.specs.Permutation.{perm_view};
-ghost use Rattle.crush_bucket.specs.Bucket.{IsItemOf};
-ghost use Rattle.crush_bucket.specs.Pick.{pick};
-ghost use Rattle.crush_bucket.specs.Tables.{perms_in, perms_of};
-ghost use Rattle.crush_bucket.specs.Private.Laid.{IsSlotOf};
+ghost use Rattle.std.specs.Prelude.{◌≡◌, ◌<◌, IfOk, IfSome, length, slice_index, slice_index_or};
+ghost use Rattle.crush_bucket.specs.Private.Ahead.{HasPick};
+ghost use Rattle.crush_bucket.specs.declared.scratch.Step.{Step};
 
-use crate::table_row::TableRow;
+use crate::number::BucketNo;
 use crate::tables::Tables;
 use crate::uniform::UniformBucket;
-use crush_map::{ItemId, Kind};
+use crush_map::ItemId;
 use crush_permutation::Perms;
 use std::alloc::{AllocError, Global};
 use std::marker::Model;
 
-/// A permutation for each uniform bucket of tables, in order of number. Contracts see each bucket's
-/// id and size, never which input was asked last.
+/// How many inputs are picked for at once.
+pub const LANES: usize = 8;
+
+/// How many permutations a scratch for few inputs has at most, and how many pairs these have room
+/// for together, unless `LEAST_SLOTS` need more: to make more would take longer than it saves.
+const FEW_SLOTS: usize = 32;
+
+const FEW_PAIRS: usize = 8_192;
+
+/// How many pairs the permutations of a scratch for many inputs have room for: 2 MiB.
+const MANY_PAIRS: usize = 262_144;
+
+/// How many permutations a scratch has at least, where there are as many buckets.
+const LEAST_SLOTS: usize = 4;
+
+/// The most picks of an input that are kept.
+const STEP_LIMIT: usize = 64;
+
+/// A pick that was made for eight inputs at once: for each of them a bucket, and the item that it
+/// picks.
+#[derive(Clone, Copy)]
+pub(crate) struct Step {
+    pub(crate) buckets: [BucketNo; LANES],
+    pub(crate) r: u32,
+    pub(crate) items: [ItemId; LANES],
+}
+
+impl Step {
+    /// Returns what a lane's bucket picked, where it is this one and this attempt.
+    #[inline]
+    fn item(&self, lane: usize, bucket: BucketNo, r: u32) -> Option<ItemId>
+        requires { lane < 8 }
+        ensures { IfSome result (λ item. HasPick lane bucket r item self.now) }
+    {
+        if self.buckets[lane] == bucket && self.r == r {
+            Some(self.items[lane])
+        } else {
+            None
+        }
+    }
+}
+
+/// What the buckets of tables need to pick, and remember: permutations of the uniform buckets that
+/// were asked last, and what was picked ahead for eight inputs. Contracts see the tables alone.
 #[derive(Drop)]
-pub struct Scratch {
+pub struct Scratch<'a> {
+    tables: &'a Tables,
     perms: Perms,
+    /// The inputs for which picks are made ahead, and these picks.
+    xs: [u32; LANES],
+    steps: Vec<Step>,
+    /// The lane of the input that was asked last, and the step behind the one that was found for
+    /// it.
+    lane: usize,
+    next: usize,
 }
 
-impl Model for Scratch {
-    ghost use Rattle.std.specs.Prelude.{List};
-    ghost use Rattle.crush_permutation.specs.Permutation.{PermView};
+impl<'a> Model for Scratch<'a> {
+    ghost use Rattle.std.specs.Prelude.{◌<◌, All};
+    ghost use Rattle.crush_bucket.specs.Tables.{TablesView};
+    ghost use Rattle.crush_bucket.specs.Private.Ahead.{IsStep, IsWidest};
 
-    ghost Value = { List PermView };
+    ghost Value = { TablesView };
 
-    ghost view = { λ a. a.perms };
+    ghost view = { λ a. a.tables.now };
+
+    ghost invariant = { λ a. record {
+      room : IsWidest a.tables.now.buckets a.perms;
+      steps : All (λ step. IsStep a.tables.now a.xs step) a.steps.items;
+      lane : a.lane < 8;
+    } };
 }
 
-impl Scratch {
-    /// Returns the scratch of tables. Its memory is that of the permutations of uniform buckets.
+impl<'a> Scratch<'a> {
+    ghost use Rattle.std.specs.Prelude.{◌≡◌, IfOk, IfSome};
+    ghost use Rattle.crush_bucket.specs.Bucket.{IsItemOf};
+    ghost use Rattle.crush_bucket.specs.Pick.{pick};
+    ghost use Rattle.crush_bucket.specs.Tables.{perms_of};
+    ghost use Rattle.crush_bucket.specs.Private.Ahead.{IsPick, IsUniformOf};
+
+    /// Returns the scratch of tables, with few permutations of uniform buckets, for a few inputs.
     ///
     /// `Err(AllocError)`: an allocation failed; nothing is changed.
-    pub fn build(alloc: Global, tables: &Tables) -> Result<Self, AllocError>
+    pub fn build(alloc: Global, tables: &'a Tables) -> Result<Scratch<'a>, AllocError>
         ensures { IfOk result (λ s. s ≡ perms_of tables.now) }
     {
-        let uniform = uniform_of(alloc, tables.rows())?;
+        Scratch::with_slots(alloc, tables, FEW_SLOTS, FEW_PAIRS)
+    }
+
+    /// Returns the scratch of tables for many inputs: each uniform bucket has a permutation for
+    /// itself, where the memory for that isn't more than 2 MiB.
+    ///
+    /// `Err(AllocError)`: an allocation failed; nothing is changed.
+    pub fn for_many(alloc: Global, tables: &'a Tables) -> Result<Scratch<'a>, AllocError>
+        ensures { IfOk result (λ s. s ≡ perms_of tables.now) }
+    {
+        Scratch::with_slots(alloc, tables, tables.len(), MANY_PAIRS)
+    }
+
+    /// Returns the scratch of tables with at most so many permutations, and room for so many pairs.
+    fn with_slots(
+        alloc: Global,
+        tables: &'a Tables,
+        most: usize,
+        pairs: usize,
+    ) -> Result<Scratch<'a>, AllocError>
+        ensures { IfOk result (λ s. s ≡ perms_of tables.now) }
+    {
+        let widest = tables.widest();
+        let slots = (pairs / widest.max(1)).max(LEAST_SLOTS).min(most);
         Ok(Scratch {
-            perms: Perms::build(alloc, &uniform)?,
+            tables,
+            perms: Perms::build(alloc, slots.min(tables.len()), widest)?,
+            xs: [0; LANES],
+            steps: Vec::new(alloc),
+            lane: 0,
+            next: 0,
         })
     }
 
-    /// Returns the item that a uniform bucket picks with the permutation of its slot.
-    pub(crate) fn pick(&mut self, bucket: &UniformBucket, slot: usize, x: u32, r: u32) -> ItemId
-        requires fits { IsSlotOf self.old slot bucket.now }
+    /// Returns the item that a uniform bucket with a number picks.
+    pub(crate) fn pick(&mut self, bucket: &UniformBucket, number: usize, x: u32, r: u32) -> ItemId
+        requires fits { IsUniformOf self.old bucket.now }
         ensures picked { result ≡ pick bucket.now x r }
         ensures item { IsItemOf bucket.now.items result }
         ensures same { self.new ≡ self.old }
     {
-        let asked = bucket.asked_place(r);
-        bucket.item(self.perms.member(slot, x, asked))
+        let place = bucket.asked_place(r);
+        bucket.item(
+            self.perms
+                .member(number, bucket.id(), bucket.size(), x, place),
+        )
+    }
+
+    /// Forgets what was picked ahead. What will be is for these inputs.
+    pub fn turn_to(&mut self, xs: [u32; LANES])
+        ensures { self.new ≡ self.old }
+    {
+        self.steps.clear();
+        self.xs = xs;
+        self.lane = 0;
+        self.next = 0;
+    }
+
+    /// Picks ahead from a bucket for each of the eight inputs, side by side, where all are tree
+    /// buckets that have items, or all are uniform ones that are asked for the same of their first
+    /// four places; keeps what is picked, so that it isn't picked again, and returns it. `None`:
+    /// they aren't, or there is no room or no memory for more.
+    pub fn pick_ahead(&mut self, buckets: [BucketNo; LANES], r: u32) -> Option<[ItemId; LANES]>
+        ensures { self.new ≡ self.old }
+    {
+        if self.steps.len() >= STEP_LIMIT {
+            return None;
+        }
+        let items = self.tables.pick_eight(&buckets, &self.xs, r)?;
+        match self.steps.push(Step { buckets, r, items }) {
+            Ok(()) => Some(items),
+            Err(_) => None,
+        }
+    }
+
+    /// Returns what a bucket picks for an input and an attempt, where that was picked ahead.
+    #[inline]
+    pub(crate) fn found(&mut self, bucket: BucketNo, x: u32, r: u32) -> Option<ItemId>
+        ensures found { IfSome result (IsPick self.old bucket x r) }
+        ensures same { self.new ≡ self.old }
+    {
+        if self.steps.is_empty() {
+            return None;
+        }
+        self.found_in_steps(bucket, x, r)
+    }
+
+    /// Returns the same, where something was picked ahead.
+    fn found_in_steps(&mut self, bucket: BucketNo, x: u32, r: u32) -> Option<ItemId>
+        ensures found { IfSome result (IsPick self.old bucket x r) }
+        ensures same { self.new ≡ self.old }
+    {
+        if self.xs[self.lane] != x {
+            self.lane = lane_of(&self.xs, x)?;
+            self.next = 0;
+        }
+        let (n, item) = find(&self.steps, self.next, self.lane, bucket, r)?;
+        self.next = n + 1;
+        Some(item)
     }
 }
 
-/// Returns the id and the size of each uniform bucket.
-fn uniform_of(alloc: Global, rows: &[TableRow]) -> Result<Vec<(ItemId, u32)>, AllocError>
-    ensures { IfOk result (λ uniform. map perm_view uniform.items ≡ perms_in rows.now) }
+/// Returns the place of a step at which a lane's bucket was picked from at this attempt, and the
+/// item. What is asked for next mostly stands at `next`.
+fn find(
+    steps: &[Step],
+    next: usize,
+    lane: usize,
+    bucket: BucketNo,
+    r: u32,
+) -> Option<(usize, ItemId)>
+    requires { lane < 8 }
+    ensures within { IfSome result (λ found. found.0 < length steps.now) }
+    ensures has { IfSome result (λ found. (d : Step) → HasPick lane bucket r found.1 (slice_index_or steps.now found.0 d)) }
 {
-    let mut uniform = Vec::with_capacity(alloc, perm_count(rows))?;
-    for row in rows {
-        if row.kind() == Kind::Uniform {
-            uniform.push((row.id(), row.size() as u32))?;
+    if let Some(step) = steps.get(next) {
+        if let Some(item) = step.item(lane, bucket, r) {
+            return Some((next, item));
         }
     }
-    Ok(uniform)
+    for (n, step) in steps.iter().enumerate() {
+        if let Some(item) = step.item(lane, bucket, r) {
+            return Some((n, item));
+        }
+    }
+    None
 }
 
-/// Returns how many of these buckets are uniform.
-fn perm_count(rows: &[TableRow]) -> usize
-    ensures { result ≡ length (perms_in rows.now) }
+/// Returns the lane of an input, if it has one.
+fn lane_of(xs: &[u32; LANES], x: u32) -> Option<usize>
+    ensures within { IfSome result (λ lane. lane < 8) }
+    ensures value { IfSome result (λ lane. slice_index xs.now lane ≡ x) }
 {
-    let mut count = 0;
-    for row in rows {
-        if row.kind() == Kind::Uniform {
-            count += 1;
+    for lane in 0..LANES {
+        if xs[lane] == x {
+            return Some(lane);
         }
     }
-    count
+    None
 }

@@ -2,14 +2,19 @@
 
 ghost use Rattle.std.specs.Prelude.{◌≡◌, ◌<◌, ◌<ℤ◌, ◌==◌, ◌^◌, pos, IfOk, IfSome, OnSome, All, length, map};
 ghost use Rattle.crush_bucket.specs.Bucket.{IsItemOf};
-ghost use Rattle.crush_bucket.specs.Private.Laid.{IsFit, AreSlots};
+ghost use Rattle.crush_bucket.specs.Private.Ahead.{ArePicks, IsWidest};
+ghost use Rattle.crush_bucket.specs.Private.Laid.{IsFit};
 ghost use Rattle.crush_bucket.specs.Tables.{tables_of, typed_bucket, bucket_numbered, bucket_at, type_at, kind_at, size_at, pick_at, has_device, perms_of, IsBelow, HasItemsBelow};
 
-use crate::any::ByKind;
+use crate::any::{AnyBucket, ByKind};
 use crate::index::index_of;
 use crate::number::{BucketNo, index_place};
 use crate::scratch::Scratch;
 use crate::table_row::{Content, TableRow};
+use crate::tree::TreeBucket;
+use crate::uniform::UniformBucket;
+use crate::uniform_lanes::eight_picks;
+use crate::walks::eight_items;
 use crush_map::{Bucket, CrushMap, Device, ItemId, Kind, Tunables, Weight, buckets_are_sound};
 use std::alloc::{AllocError, Global};
 use std::marker::Model;
@@ -19,7 +24,8 @@ use std::marker::Model;
 #[derive(Drop)]
 pub struct Tables {
     rows: Vec<TableRow>,
-    slots: Vec<usize>,
+    /// The most items that a uniform bucket has.
+    widest: usize,
     index: Vec<Option<BucketNo>>,
     devices: Vec<u32>,
     tunables: Tunables,
@@ -27,7 +33,8 @@ pub struct Tables {
 
 impl Model for Tables {
     ghost use Rattle.crush_bucket.specs.Tables.{TablesView};
-    ghost use Rattle.crush_bucket.specs.Private.Laid.{IsLaid, AreSlots, IsIndexOf};
+    ghost use Rattle.crush_bucket.specs.Private.Ahead.{IsWidest};
+    ghost use Rattle.crush_bucket.specs.Private.Laid.{IsLaid, IsIndexOf};
     ghost use Rattle.std.specs.List.Sorted.{IsStrictlyIncreasing};
 
     ghost Value = { TablesView };
@@ -36,7 +43,7 @@ impl Model for Tables {
 
     ghost invariant = { λ a. record {
       laid : IsLaid (record { buckets = a.rows.items; devices = a.devices.items; tunables = a.tunables });
-      slots : AreSlots a.rows.items a.slots.items;
+      widest : IsWidest a.rows.items a.widest;
       index : IsIndexOf a.rows.items a.index.items;
       order : IsStrictlyIncreasing a.devices.items;
     } };
@@ -51,23 +58,118 @@ impl Tables {
     {
         buckets_are_sound();
         let rows = rows_of(alloc, map.buckets())?;
-        let slots = slots_of(alloc, &rows)?;
         let index = index_of(alloc, &rows)?;
         let devices = ids_of(alloc, map.devices())?;
         Ok(Tables {
+            widest: widest_of(&rows),
             rows,
-            slots,
             index,
             devices,
             tunables: map.tunables(),
         })
     }
 
-    /// Returns the rows, by number.
-    pub(crate) fn rows(&self) -> &[TableRow]
-        ensures { result.now ≡ self.now.buckets }
+    /// Returns the most items that a uniform bucket has; 0 where there is none.
+    pub(crate) fn widest(&self) -> usize
+        ensures { IsWidest self.now.buckets result }
     {
-        self.rows.as_slice()
+        self.widest
+    }
+
+    /// Returns the bucket with a number, if there is one and it has items.
+    fn with_items(&self, bucket: BucketNo) -> Option<&AnyBucket>
+        ensures { IfSome result (λ any. any.now ≡ bucket_at self.now bucket) }
+    {
+        let row = self.rows.get(bucket.place())?;
+        match row.content() {
+            Content::Bucket(any) => Some(any),
+            Content::Empty { id: _, kind: _ } => None,
+        }
+    }
+
+    /// Returns the same where it is a tree bucket.
+    fn tree(&self, bucket: BucketNo) -> Option<&TreeBucket>
+        ensures { IfSome result (λ tree. tree.now ≡ bucket_at self.now bucket) }
+    {
+        match self.with_items(bucket)?.by_kind() {
+            ByKind::Tree(tree) => Some(tree),
+            _ => None,
+        }
+    }
+
+    /// Returns the same where it is a uniform bucket.
+    fn uniform(&self, bucket: BucketNo) -> Option<&UniformBucket>
+        ensures { IfSome result (λ uniform. uniform.now ≡ bucket_at self.now bucket) }
+    {
+        match self.with_items(bucket)?.by_kind() {
+            ByKind::Uniform(uniform) => Some(uniform),
+            _ => None,
+        }
+    }
+
+    /// Returns the items that eight buckets pick for eight inputs and one attempt, side by side,
+    /// where all eight are trees, or all are uniform and asked for the same early place.
+    pub(crate) fn pick_eight(
+        &self,
+        buckets: &[BucketNo; 8],
+        xs: &[u32; 8],
+        r: u32,
+    ) -> Option<[ItemId; 8]>
+        ensures { IfSome result (λ items. ArePicks self.now buckets.now xs.now r items) }
+    {
+        match self.pick_trees(buckets, xs, r) {
+            Some(items) => Some(items),
+            None => self.pick_uniforms(buckets, xs, r),
+        }
+    }
+
+    /// Returns the same where all eight are uniform and asked for the same early place.
+    fn pick_uniforms(&self, buckets: &[BucketNo; 8], xs: &[u32; 8], r: u32) -> Option<[ItemId; 8]>
+        ensures { IfSome result (λ items. ArePicks self.now buckets.now xs.now r items) }
+    {
+        let first = self.uniform(buckets[0])?;
+        let second = self.uniform(buckets[1])?;
+        let third = self.uniform(buckets[2])?;
+        let fourth = self.uniform(buckets[3])?;
+        let fifth = self.uniform(buckets[4])?;
+        let sixth = self.uniform(buckets[5])?;
+        let seventh = self.uniform(buckets[6])?;
+        let eighth = self.uniform(buckets[7])?;
+        eight_picks(
+            first, second, third, fourth, fifth, sixth, seventh, eighth, xs, r,
+        )
+    }
+
+    /// Returns the same where all eight are trees: the lanes of one vector hash a level of each.
+    #[tactic(auto, unfolding(crate::specs::Tables::pick_at, crate::specs::Pick::pick))]
+    fn pick_trees(&self, buckets: &[BucketNo; 8], xs: &[u32; 8], r: u32) -> Option<[ItemId; 8]>
+        ensures { IfSome result (λ items. ArePicks self.now buckets.now xs.now r items) }
+    {
+        let first = self.tree(buckets[0])?;
+        let second = self.tree(buckets[1])?;
+        let third = self.tree(buckets[2])?;
+        let fourth = self.tree(buckets[3])?;
+        let fifth = self.tree(buckets[4])?;
+        let sixth = self.tree(buckets[5])?;
+        let seventh = self.tree(buckets[6])?;
+        let eighth = self.tree(buckets[7])?;
+        Some(eight_items(
+            first.walk(xs[0], r),
+            second.walk(xs[1], r),
+            third.walk(xs[2], r),
+            fourth.walk(xs[3], r),
+            fifth.walk(xs[4], r),
+            sixth.walk(xs[5], r),
+            seventh.walk(xs[6], r),
+            eighth.walk(xs[7], r),
+        ))
+    }
+
+    /// Returns how many buckets there are.
+    pub fn len(&self) -> usize
+        ensures { result ≡ length self.now.buckets }
+    {
+        self.rows.len()
     }
 
     /// Returns the number of the bucket with an id, if there is one.
@@ -147,7 +249,7 @@ impl Tables {
     }
 
     /// Returns the item that a bucket picks for an input and an attempt, whatever the scratch was
-    /// asked before. Allocates nothing.
+    /// asked before and whatever was picked ahead. Allocates nothing.
     #[tactic(auto, unfolding(crate::specs::Tables::pick_at))]
     pub fn pick(&self, bucket: BucketNo, scratch: &mut Scratch, x: u32, r: u32) -> ItemId
         requires within { bucket < length self.now.buckets }
@@ -159,10 +261,14 @@ impl Tables {
         ensures same { scratch.new ≡ scratch.old }
     {
         let place = bucket.place();
-        match self.rows[place].content() {
+        let row = &self.rows[place];
+        if let Some(item) = scratch.found(bucket, x, r) {
+            return item;
+        }
+        match row.content() {
             Content::Empty { id: _, kind: _ } => unreachable!(),
             Content::Bucket(any) => match any.by_kind() {
-                ByKind::Uniform(bucket) => scratch.pick(bucket, self.slots[place], x, r),
+                ByKind::Uniform(bucket) => scratch.pick(bucket, place, x, r),
                 ByKind::List(bucket) => bucket.item_for(x, r),
                 ByKind::Tree(bucket) => bucket.item_for(x, r),
             },
@@ -182,20 +288,17 @@ fn rows_of(alloc: Global, buckets: &[Bucket]) -> Result<Vec<TableRow>, AllocErro
     Ok(rows)
 }
 
-/// Returns, for each bucket, how many uniform ones come before it. For a uniform bucket this is the
-/// place of its permutation in a scratch; for other buckets the number is unused.
-fn slots_of(alloc: Global, rows: &[TableRow]) -> Result<Vec<usize>, AllocError>
-    ensures { IfOk result (λ slots. AreSlots rows.now slots.items) }
+/// Returns the most items that a uniform bucket has.
+fn widest_of(rows: &[TableRow]) -> usize
+    ensures { IsWidest rows.now result }
 {
-    let mut slots = Vec::with_capacity(alloc, rows.len())?;
-    let mut next = 0;
+    let mut most = 0;
     for row in rows {
-        slots.push(next)?;
-        if row.kind() == Kind::Uniform {
-            next += 1;
+        if row.kind() == Kind::Uniform && row.size() > most {
+            most = row.size();
         }
     }
-    Ok(slots)
+    most
 }
 
 /// Returns the ids of devices.

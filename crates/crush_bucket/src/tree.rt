@@ -4,11 +4,13 @@ ghost use Rattle.std.specs.Prelude.{◌≡◌, ◌<◌, ◌≤◌, ◌+◌, ◌*
 ghost use Rattle.crush_bucket.specs.Bucket.{CanBeAsked, IsItemOf, total_weight};
 ghost use Rattle.crush_bucket.specs.Pick.{pick};
 ghost use Rattle.crush_bucket.specs.Kinds.{height_of, place_within};
+ghost use Rattle.crush_bucket.specs.Private.Walks.{IsWalk};
 ghost use Rattle.crush_bucket.specs.Private.Kept.{AreNodes, HasNodes, node_weights};
 
 use crate::descent::{down, last_down, places};
 use crate::picker::Picker;
 use crate::sums::weight_within;
+use crate::walks::{Walk, eight_items};
 use crush_map::{ItemId, Kind, Weight};
 use crush_permutation::Perm;
 use std::alloc::{AllocError, Global};
@@ -90,6 +92,14 @@ impl TreeBucket {
         self.items.as_slice()
     }
 
+    /// Returns the walk down the tree for x and r, at the root.
+    pub(crate) fn walk(&self, x: u32, r: u32) -> Walk<'_>
+        ensures walk { IsWalk self.now.id self.now.items x r result }
+        ensures kind { self.now.kind ≡ Kind.Tree }
+    {
+        Walk::new(self.id, &self.items, &self.nodes, self.height, x, r)
+    }
+
     /// Returns the item that is picked.
     #[tactic(auto, unfolding(crate::specs::Kinds::tree_pick, crate::specs::Pick::pick))]
     pub(crate) fn item_for(&self, x: u32, r: u32) -> ItemId
@@ -107,6 +117,20 @@ impl Picker for TreeBucket {
     fn pick(&self, _perm: &mut Perm, x: u32, r: u32) -> ItemId {
         let _id = self.id;
         self.item_for(x, r)
+    }
+
+    #[tactic(auto, unfolding(crate::specs::Kinds::tree_pick, crate::specs::Pick::pick))]
+    fn pick_eight(&self, _perm: &mut Perm, xs: &[u32; 8], r: u32) -> [ItemId; 8] {
+        eight_items(
+            self.walk(xs[0], r),
+            self.walk(xs[1], r),
+            self.walk(xs[2], r),
+            self.walk(xs[3], r),
+            self.walk(xs[4], r),
+            self.walk(xs[5], r),
+            self.walk(xs[6], r),
+            self.walk(xs[7], r),
+        )
     }
 }
 

@@ -5,6 +5,7 @@ ghost use Rattle.crush_bucket.specs.Bucket.{HasEqualWeights, IsItemOf, item_at, 
 ghost use Rattle.crush_bucket.specs.Pick.{pick};
 
 use crate::picker::Picker;
+use crate::uniform_lanes::eight_picks;
 use crush_map::{ItemId, Kind, Weight};
 use crush_permutation::Perm;
 use std::alloc::{AllocError, Global};
@@ -105,6 +106,22 @@ impl Picker for UniformBucket {
     #[tactic(auto, unfolding(crate::specs::Kinds::uniform_pick, crate::specs::Pick::pick))]
     fn pick(&self, perm: &mut Perm, x: u32, r: u32) -> ItemId {
         self.item(perm.member(x, self.asked_place(r)))
+    }
+
+    fn pick_eight(&self, perm: &mut Perm, xs: &[u32; 8], r: u32) -> [ItemId; 8] {
+        if let Some(items) = eight_picks(self, self, self, self, self, self, self, self, xs, r) {
+            return items;
+        }
+        [
+            self.pick(perm, xs[0], r),
+            self.pick(perm, xs[1], r),
+            self.pick(perm, xs[2], r),
+            self.pick(perm, xs[3], r),
+            self.pick(perm, xs[4], r),
+            self.pick(perm, xs[5], r),
+            self.pick(perm, xs[6], r),
+            self.pick(perm, xs[7], r),
+        ]
     }
 }
 

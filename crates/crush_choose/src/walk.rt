@@ -36,6 +36,10 @@ fn attempt_at(tables: &Tables, attempts: Attempts, bucket: BucketNo) -> u32
     ensures value { result ≡ attempts.start + step tables.now attempts.numrep attempts.round bucket }
     ensures low { result ≤ attempts.start + (COUNT_LIMIT + 1) * attempts.round }
 {
+    // most walks are of round 0, in which nothing is divided
+    if attempts.round == 0 {
+        return attempts.start;
+    }
     let uniform = matches!(tables.kind(bucket), Kind::Uniform);
     let extra = if uniform && tables.size(bucket) % attempts.numrep as usize == 0 {
         1

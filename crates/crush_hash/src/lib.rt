@@ -210,7 +210,7 @@ mod four_lanes;
 mod lanes;
 
 pub use four_lanes::hash3_lanes;
-pub use lanes::hash4_lanes;
+pub use lanes::{hash3_each, hash4_each, hash4_lanes};
 
 #[cfg(test)]
 mod tests;

@@ -1,14 +1,13 @@
 -- Parts of a row that permutations share.
-use Rattle.std.proofs.Common.{◌≡◌, ℕ, ◌+◌, ◌-◌, ◌<◌, ◌≤◌, List, [], ◌∷◌, ◌++◌, length, take, drop, slice_range, map, slice_index_or, slice_set, refl, ap, sym, subst, ◌∙◌, arith, ◌⊎◌, inl, inr}
-use Rattle.std.proofs.lemmas.List.{take-take, drop-drop, drop-take, length-drop, length-take-le, get_or-set_same, get_or-set_other, get_or_default, length-set, length-map, get_or-map, get_or_past, append-nil, drop_all}
+use Rattle.std.proofs.Common.{◌≡◌, ℕ, ◌+◌, ◌-◌, ◌<◌, ◌≤◌, List, [], ◌∷◌, ◌++◌, length, take, drop, slice_range, slice_index_or, slice_set, refl, ap, sym, subst, ◌∙◌, arith, ◌⊎◌, inl, inr}
+use Rattle.std.proofs.lemmas.List.{take-take, drop-drop, drop-take, length-drop, length-take-le, get_or-set_same, get_or-set_other, get_or_default, length-set, append-nil, drop_all}
 use Rattle.std.proofs.lemmas.List.Elements.{All-push}
 use Rattle.std.proofs.lemmas.List.Quantifiers.{all_pairs_push}
 use Rattle.std.proofs.Math.Seq.{take-length}
 use Rattle.crush_permutation.specs.declared.perms.Slot.{Slot}
-use Rattle.crush_permutation.specs.Permutation.{perm_at, no_perm}
 use Rattle.crush_permutation.specs.Private.Pairs.{Pair}
-use Rattle.crush_permutation.specs.Private.Parts.{IsPart, AreParts, AreNew, IsNew, end_of, of_slot}
-use Rattle.crush_permutation.specs.Private.Reached.{IsReached}
+use Rattle.crush_permutation.specs.Private.Parts.{IsPart, AreParts, AreNew, IsNew, HaveRoom}
+use Rattle.crush_permutation.specs.Private.Reached.{IsReached, room_of}
 use Rattle.crush_permutation.proofs.Differing.{either_way}
 use Rattle.crush_permutation.proofs.Reaching.{new_is}
 
@@ -31,15 +30,15 @@ range_behind xs ys a b e high same =
 -- ---- a slot that has made exchanges
 
 -- it has the same part, and so has each other slot
-same_part : (slots : List Slot) (p i : ℕ) (t d : Slot) → p < length slots → t.start ≡ (slice_index_or slots p d).start → end_of t ≡ end_of (slice_index_or slots p d)
-    → ((slice_index_or (slice_set slots p t) i d).start ≡ (slice_index_or slots i d).start) × (end_of (slice_index_or (slice_set slots p t) i d) ≡ end_of (slice_index_or slots i d))
+same_part : (slots : List Slot) (p i : ℕ) (t d : Slot) → p < length slots → t.start ≡ (slice_index_or slots p d).start → t.end ≡ (slice_index_or slots p d).end
+    → ((slice_index_or (slice_set slots p t) i d).start ≡ (slice_index_or slots i d).start) × ((slice_index_or (slice_set slots p t) i d).end ≡ (slice_index_or slots i d).end)
 same_part slots p i t d low start end = elim (either_way i p) [
   | inl same ↦ rw (same, get_or-set_same slots p t d low) (start, end)
   | inr other ↦ rw (get_or-set_other slots p i t d other) (refl, refl)
 ]
 
-pub parts_after : (slots : List Slot) (row after : List Pair) (p : ℕ) (s t : Slot) → AreParts slots row → p < length slots → slice_index_or slots p s ≡ s → t.start ≡ s.start → end_of t ≡ end_of s → IsPart t after → length after ≡ length row
-    → take s.start after ≡ take s.start row → drop (end_of s) after ≡ drop (end_of s) row → AreParts (slice_set slots p t) after
+pub parts_after : (slots : List Slot) (row after : List Pair) (p : ℕ) (s t : Slot) → AreParts slots row → p < length slots → slice_index_or slots p s ≡ s → t.start ≡ s.start → t.end ≡ s.end → IsPart t after → length after ≡ length row
+    → take s.start after ≡ take s.start row → drop s.end after ≡ drop s.end row → AreParts (slice_set slots p t) after
 parts_after slots row after p s t parts low has start end part len before behind =
     let there : (d : Slot) → slice_index_or slots p d ≡ s = λ d. get_or_default slots p d s low ∙ has in
     record {
@@ -50,15 +49,15 @@ parts_after slots row after p s t parts low has start end part len before behind
             let old_low : i < length slots = omega (arith, within, length-set slots p t) in
             let old = parts.each i d old_low in
             let either : (i < p) ⊎ (p < i) = grind (arith, other) in
-            let same : slice_range after u.start (end_of u) ≡ slice_range row u.start (end_of u) = elim either [
-              | inl less ↦ (let apart : end_of u ≤ s.start = rw (there d) at (parts.apart i p d less low) in range_before row after u.start (end_of u) s.start (omega arith) apart before)
-              | inr more ↦ (let apart : end_of s ≤ u.start = rw (there d) at (parts.apart p i d more old_low) in range_behind row after u.start (end_of u) (end_of s) apart behind)
+            let same : slice_range after u.start u.end ≡ slice_range row u.start u.end = elim either [
+              | inl less ↦ (let apart : u.end ≤ s.start = rw (there d) at (parts.apart i p d less low) in range_before row after u.start u.end s.start old.rises apart before)
+              | inr more ↦ (let apart : s.end ≤ u.start = rw (there d) at (parts.apart p i d more old_low) in range_behind row after u.start u.end s.end apart behind)
             ] in
-            rw (get_or-set_other slots p i t d other) (record { within = omega (arith, old.within, len); reached = subst (λ (r : List Pair). IsReached u.reached r) (sym same) old.reached })
+            rw (get_or-set_other slots p i t d other) (record { rises = old.rises; within = omega (arith, old.within, len); reached = subst (λ (r : List Pair). IsReached u.reached r) (sym same) old.reached })
       ]);
       apart = λ i j d less below.
           (let starts : t.start ≡ (slice_index_or slots p d).start = rw (there d) start in
-          let ends : end_of t ≡ end_of (slice_index_or slots p d) = rw (there d) end in
+          let ends : t.end ≡ (slice_index_or slots p d).end = rw (there d) end in
           let first = same_part slots p i t d low starts ends in
           let second = same_part slots p j t d low starts ends in
           let apart = parts.apart i j d less (omega (arith, below, length-set slots p t)) in
@@ -72,8 +71,8 @@ no_slots = record { each = λ i d within. absurd (omega (arith, within)); apart 
 
 pub new_more : (slots : List Slot) (last : Slot) (end next : ℕ) → AreNew slots end → IsNew next last → last.start ≡ end → AreNew (slots ++ last ∷ []) next
 new_more slots last end next new is start = record {
-  each = All-push (IsNew next) slots last (λ i d within. (let old = new.each i d within in record { empty = old.empty; small = old.small; within = omega (arith, old.within, is.within, start) })) is;
-  apart = all_pairs_push (λ (s t : Slot). end_of s ≤ t.start) slots last new.apart (λ i d within. (let old = new.each i d within in omega (arith, old.within, start)));
+  each = All-push (IsNew next) slots last (λ i d within. (let old = new.each i d within in record { empty = old.empty; small = old.small; room = old.room; within = omega (arith, old.within, is.within, is.room, start) })) is;
+  apart = all_pairs_push (λ (s t : Slot). s.end ≤ t.start) slots last new.apart (λ i d within. (let old = new.each i d within in omega (arith, old.within, start)));
 }
 
 -- new slots have their parts in any row that is long enough
@@ -83,27 +82,26 @@ new_parts slots row new = record {
       (let s = slice_index_or slots i d in
       let is = new.each i d within in
       let rest = length-drop s.start row in
-      let part : length (slice_range row s.start (end_of s)) ≡ end_of s - s.start = length-take-le (end_of s - s.start) (drop s.start row) (omega (arith, rest, is.within)) in
-      record { within = is.within; reached = new_is s.reached (slice_range row s.start (end_of s)) is.empty is.small (omega (arith, part)) });
+      let part : length (slice_range row s.start s.end) ≡ s.end - s.start = length-take-le (s.end - s.start) (drop s.start row) (omega (arith, rest, is.within)) in
+      record { rises = omega (arith, is.room); within = is.within; reached = new_is s.reached (slice_range row s.start s.end) is.empty is.small (omega (arith, part, is.room)) });
   apart = new.apart;
 }
 
--- ---- what a look-up finds
+-- ---- the room of a part
 
--- where a permutation has a place there is a slot
-pub slot_low : (slots : List Slot) (at place : ℕ) → place < (perm_at (map of_slot slots) at).size → at < length slots
-slot_low slots at place within =
-    let either : (at < length slots) ⊎ (length slots ≤ at) = grind arith in
-    elim either [
-      | inl low ↦ low
-      | inr past ↦
-          let none : perm_at (map of_slot slots) at ≡ no_perm = get_or_past (map of_slot slots) at no_perm (omega (arith, past, length-map slots of_slot)) in
-          let bad : place < 0 = rw none at within in absurd (omega (arith, bad))
-    ]
+-- one slot more
+pub room_more : (size : ℕ) (slots : List Slot) (last : Slot) → HaveRoom size slots → last.start + room_of size ≤ last.end → HaveRoom size (slots ++ last ∷ [])
+room_more size slots last have has = All-push (λ (s : Slot). s.start + room_of size ≤ s.end) slots last have has
 
--- and it is of that permutation
-pub slot_of : (slots : List Slot) (at : ℕ) (now : Slot) → at < length slots → now ≡ slice_index_or slots at now → of_slot now ≡ perm_at (map of_slot slots) at
-slot_of slots at now low is = ap of_slot is ∙ sym (get_or-map of_slot slots at now no_perm low)
+-- a slot that has the same part as before
+pub room_after : (size : ℕ) (slots : List Slot) (p : ℕ) (s t : Slot) → HaveRoom size slots → p < length slots → slice_index_or slots p s ≡ s → t.start ≡ s.start → t.end ≡ s.end → HaveRoom size (slice_set slots p t)
+room_after size slots p s t have low has start end i d within =
+    let there : slice_index_or slots p d ≡ s = get_or_default slots p d s low ∙ has in
+    let same = same_part slots p i t d low (rw there start) (rw there end) in
+    let old = have i d (omega (arith, within, length-set slots p t)) in
+    omega (arith, old, same.0, same.1)
+
+-- ---- what is written back
 
 -- a row that is written back as a whole
 pub whole : (row after : List Pair) (len : ℕ) → len ≡ length row → length after ≡ length row → take len (after ++ drop (length after) row) ≡ after

@@ -1,5 +1,5 @@
 -- The permutation of a uniform bucket's places (`bucket_perm_choose` of Ceph's `mapper.c`).
-use Rattle.std.specs.Prelude.{ℕ, zero, suc, ◌+◌, ◌-◌, ◌%◌, ◌==◌, if◌then◌else◌, min, max, List, [], ◌∷◌, length, slice_index_or, pos}
+use Rattle.std.specs.Prelude.{ℕ, pos, zero, suc, ◌+◌, ◌-◌, ◌%◌, ◌==◌, if◌then◌else◌, min, max, List, [], ◌∷◌, length}
 use Rattle.std.specs.Int.{cast_unsigned, w32}
 use Rattle.std.specs.List.{range_with_len, swap}
 use Rattle.crush_hash.specs.Hash.{hash3}
@@ -8,6 +8,10 @@ use Rattle.crush_map.specs.declared.ItemId.{ItemId}
 -- the word by which an id enters a hash: its two's complement
 abbrev pub word : ItemId → ℕ
 word item = cast_unsigned w32 item.0
+
+-- what stands where there is no id
+abbrev pub no_id : ItemId
+no_id = record { 0 = pos 0 }
 
 -- what a permutation is of: the id of a bucket and its number of items
 pub record PermView : Type 0 where
@@ -51,17 +55,3 @@ differing place (member ∷ rest) =
 -- at how many places the list of what is remembered differs from 0, 1, ..
 abbrev pub kept : Remembered → ℕ
 kept m = length (differing 0 (after_swaps m.of.id m.of.size m.x m.swaps))
-
--- ---- several permutations
-
--- what the permutation of a bucket with this id and so many items is of
-abbrev pub perm_view : ItemId × ℕ → PermView
-perm_view bucket = record { id = bucket.0; size = bucket.1 }
-
--- what stands where there is no permutation
-abbrev pub no_perm : PermView
-no_perm = record { id = record { 0 = pos 0 }; size = 0 }
-
--- what the permutation at an index is of
-abbrev pub perm_at : List PermView → ℕ → PermView
-perm_at perms at = slice_index_or perms at no_perm

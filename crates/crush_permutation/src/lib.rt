@@ -5,6 +5,7 @@
 //! `kernel_tests`.
 #![tactic(auto)]
 
+mod eight;
 pub mod laws;
 mod pairs;
 mod perm;
@@ -12,5 +13,6 @@ mod perms;
 mod place_hashes;
 mod reached;
 
+pub use eight::eight_members;
 pub use perm::Perm;
 pub use perms::Perms;

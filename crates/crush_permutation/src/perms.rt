@@ -1,9 +1,9 @@
 //! Permutations of several buckets, whose pairs stand in one row.
 
-ghost use Rattle.std.specs.Prelude.{◌≡◌, ◌<◌, IfOk, length, map, slice_index, take, drop};
-ghost use Rattle.crush_permutation.specs.Permutation.{permutation, perm_view, perm_at};
-ghost use Rattle.crush_permutation.specs.Private.Reached.{IsEmpty, remembered_by};
-ghost use Rattle.crush_permutation.specs.Private.Parts.{IsPart, IsNew, of_slot, end_of};
+ghost use Rattle.std.specs.Prelude.{◌≡◌, ◌<◌, ◌≤◌, ◌+◌, ◌^◌, IfOk, length, slice_index, take, drop};
+ghost use Rattle.crush_permutation.specs.Permutation.{permutation};
+ghost use Rattle.crush_permutation.specs.Private.Reached.{room_of};
+ghost use Rattle.crush_permutation.specs.Private.Parts.{IsNew, IsPart};
 
 use crate::pairs::Pair;
 use crate::reached::{Reached, room_of};
@@ -11,110 +11,123 @@ use crush_map::ItemId;
 use std::alloc::{AllocError, Global};
 use std::marker::Model;
 
-/// Permutations, each for the input that it was asked last; one row has the pairs of all of them.
-/// Contracts see the id and the size of each one's bucket, never which input it was asked last.
+/// Permutations of buckets, as many as there are slots, each for the bucket and the input that its
+/// slot was asked last; one row has the pairs of all of them. Contracts see how many items a bucket
+/// may have, never what was asked last.
 #[derive(Drop)]
 pub struct Perms {
     slots: Vec<Slot>,
     row: Vec<Pair>,
+    size: usize,
 }
 
 impl Model for Perms {
-    ghost use Rattle.std.specs.Prelude.{List, map};
-    ghost use Rattle.crush_permutation.specs.Permutation.{PermView};
-    ghost use Rattle.crush_permutation.specs.Private.Parts.{of_slot, AreParts};
+    ghost use Rattle.std.specs.Prelude.{◌<◌, ◌^◌, ℕ, length};
+    ghost use Rattle.crush_permutation.specs.Private.Parts.{AreParts, HaveRoom};
 
-    ghost Value = { List PermView };
+    ghost Value = { ℕ };
 
-    ghost view = { λ a. map of_slot a.slots.items };
+    ghost view = { λ a. a.size };
 
-    ghost invariant = { λ a. AreParts a.slots.items a.row.items };
+    ghost invariant = { λ a. record {
+      parts : AreParts a.slots.items a.row.items;
+      room : HaveRoom a.size a.slots.items;
+      some : 0 < a.size → 0 < length a.slots.items;
+      small : a.size < 2 ^ 32;
+    } };
 }
 
 impl Perms {
-    /// Returns the permutations of buckets with these ids and sizes, in this order. It makes two
-    /// allocations, however many buckets there are.
+    /// Returns so many permutations, at least one, of buckets with at most `size` items each; none
+    /// where `size` is 0. It makes two allocations at most.
     ///
     /// `Err(AllocError)`: an allocation failed; nothing is changed.
-    pub fn build(alloc: Global, buckets: &[(ItemId, u32)]) -> Result<Self, AllocError>
-        ensures { IfOk result (λ p. p ≡ map perm_view buckets.now) }
+    pub fn build(alloc: Global, slots: usize, size: usize) -> Result<Self, AllocError>
+        requires { size < 2 ^ 32 }
+        ensures { IfOk result (λ p. p ≡ size) }
     {
-        let mut slots = Vec::with_capacity(alloc, buckets.len())?;
-        let mut end = 0;
-        for bucket in buckets {
-            let (slot, next) = slot_for(bucket.0, bucket.1, end)?;
-            slots.push(slot)?;
+        let count = if size == 0 { 0 } else { slots.max(1) };
+        let room = room_of(size);
+        let mut made = Vec::with_capacity(alloc, count)?;
+        let mut end: usize = 0;
+        'slots: while made.len() < count {
+            let next = end.checked_add(room).ok_or(AllocError)?;
+            made.push(Slot::new(end, next))?;
             end = next;
         }
         let row = vec![in alloc; (0, 0); end]?;
-        Ok(Perms { slots, row })
+        Ok(Perms {
+            slots: made,
+            row,
+            size,
+        })
     }
 
-    /// Returns the member at a place of the permutation that is at an index, for x. Allocates
-    /// nothing.
+    /// Returns the member at a place of the permutation of a bucket with this id and so many items,
+    /// for x. Buckets with numbers below that of the slots are kept apart. Allocates nothing.
     #[inline]
-    pub fn member(&mut self, at: usize, x: u32, place: usize) -> usize
-        requires { place < (perm_at self.old at).size }
-        ensures member { result ≡ slice_index (permutation (perm_at self.old at).id (perm_at self.old at).size x) place }
-        ensures within { result < (perm_at self.old at).size }
+    pub fn member(&mut self, number: usize, id: ItemId, size: usize, x: u32, place: usize) -> usize
+        requires within { place < size }
+        requires fits { size ≤ self.old }
+        ensures member { result ≡ slice_index (permutation id size x) place }
+        ensures within { result < size }
         ensures same { self.new ≡ self.old }
     {
+        let count = self.slots.len();
+        let at = if number < count {
+            number
+        } else {
+            number % count
+        };
         let slot = &mut self.slots[at];
-        slot.member(self.row.as_mut_slice(), x, place) as usize
+        slot.member(self.row.as_mut_slice(), id, size, x, place) as usize
     }
 }
 
-/// Returns the slot of a bucket whose part of the row begins here, and where that part ends.
-///
-/// `Err(AllocError)`: the row would be too long for a `usize`.
-fn slot_for(id: ItemId, size: u32, start: usize) -> Result<(Slot, usize), AllocError>
-    ensures of { IfOk result (λ s. of_slot s.0 ≡ perm_view (id, size)) }
-    ensures new { IfOk result (λ s. IsNew s.1 s.0) }
-    ensures start { IfOk result (λ s. s.0.start ≡ start) }
-{
-    let size = size as usize;
-    let end = start.checked_add(room_of(size)).ok_or(AllocError)?;
-    Ok((Slot::new(id, size, start), end))
-}
-
-/// How far a permutation is made whose row is a part of another, and where that part begins.
+/// How far a permutation is made, and the part of the row that its pairs may take.
 #[derive(Drop)]
 struct Slot {
     reached: Reached,
     start: usize,
+    end: usize,
 }
 
 impl Slot {
-    /// Returns the slot of a permutation of which no exchange is made.
-    fn new(id: ItemId, size: usize, start: usize) -> Self
-        ensures remembered { remembered_by result.reached ≡ record { of = record { id = id; size = size }; x = 0; swaps = 0 } }
-        ensures empty { IsEmpty result.reached }
+    /// Returns a slot with this part of the row, of which no exchange is made.
+    fn new(start: usize, end: usize) -> Self
+        requires { start + 2 ≤ end }
+        ensures new { IsNew end result }
         ensures start { result.start ≡ start }
+        ensures end { result.end ≡ end }
     {
         Slot {
-            reached: Reached::new(id, size),
+            reached: Reached::new(ItemId(0), 0),
             start,
+            end,
         }
     }
 
-    /// Returns the member of the permutation for x at a place.
+    /// Returns the member at a place of a bucket's permutation for x.
     #[inline]
-    fn member(&mut self, row: &mut [Pair], x: u32, place: usize) -> u32
-        requires within { place < self.old.reached.size }
+    fn member(&mut self, row: &mut [Pair], id: ItemId, size: usize, x: u32, place: usize) -> u32
+        requires within { place < size }
+        requires small { size < 2 ^ 32 }
+        requires room { self.old.start + room_of size ≤ self.old.end }
         requires part { IsPart self.old row.old }
-        ensures member { result ≡ slice_index (permutation self.old.reached.hashes self.old.reached.size x) place }
-        ensures within { result < self.old.reached.size }
-        ensures same { (remembered_by self.new.reached).of ≡ (remembered_by self.old.reached).of }
+        ensures member { result ≡ slice_index (permutation id size x) place }
+        ensures within { result < size }
         ensures start { self.new.start ≡ self.old.start }
+        ensures end { self.new.end ≡ self.old.end }
         ensures part { IsPart self.new row.new }
-        ensures room { length row.new ≡ length row.old }
+        ensures length { length row.new ≡ length row.old }
         ensures before { take self.old.start row.new ≡ take self.old.start row.old }
-        ensures behind { drop (end_of self.old) row.new ≡ drop (end_of self.old) row.old }
+        ensures behind { drop self.old.end row.new ≡ drop self.old.end row.old }
     {
+        self.reached.turn_to(id, size);
         if !self.reached.needs_row(x, place) {
             return self.reached.first(x);
         }
-        let end = self.start + room_of(self.reached.size);
-        self.reached.member(&mut row[self.start..end], x, place)
+        self.reached
+            .member(&mut row[self.start..self.end], x, place)
     }
 }

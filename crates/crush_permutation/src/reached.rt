@@ -45,6 +45,19 @@ impl Reached {
         }
     }
 
+    /// Makes this the permutation of a bucket with this id and size. Where it is another's no
+    /// exchange is made then.
+    #[inline]
+    pub(crate) fn turn_to(&mut self, id: ItemId, size: usize)
+        requires { size < 2 ^ 32 }
+        ensures of { (remembered_by self.new).of ≡ record { id = id; size = size } }
+        ensures reached { (row : List Pair) → room_of size ≤ length row → IsReached self.old row → IsReached self.new row }
+    {
+        if self.size != size || self.hashes.id() != id {
+            *self = Reached::new(id, size);
+        }
+    }
+
     /// Returns at how many places the permutation, as far as it is made, differs from the identity.
     pub(crate) fn len(&self) -> usize
         ensures { result ≡ len_by self.now }
@@ -81,7 +94,7 @@ impl Reached {
         ensures reached { (row : List Pair) → IsReached self.old row → IsReached self.new row }
     {
         if x != self.x {
-            return self.begin(x, self.written);
+            return self.begin(x, self.written && self.swaps > 0);
         }
         self.first
     }
@@ -203,7 +216,7 @@ pub(crate) fn room_of(size: usize) -> usize
 
 /// Returns the place with which a place changes contents, by its hash.
 #[inline]
-fn partner(hash: u32, size: usize, place: usize) -> usize
+pub(crate) fn partner(hash: u32, size: usize, place: usize) -> usize
     requires within { place < size }
     requires small { size < 2 ^ 32 }
     ensures value { result ≡ place + hash % (size - place) }

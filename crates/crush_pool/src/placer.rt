@@ -11,10 +11,10 @@ use crate::exceptions::{Excepted, Exceptions};
 use crate::placing::{Placement, placement_by, rule_with_id, run};
 use crate::pool::Pool;
 use crate::states::{DeviceState, DeviceStates};
-use crush_bucket::{Scratch, Tables};
+use crush_bucket::{LANES, Scratch, Tables};
 use crush_choose::{Slot, Weights};
 use crush_map::{CrushMap, Rule};
-use crush_rules::{Out, touches};
+use crush_rules::{Out, can_look_ahead, look_ahead, touches};
 use std::alloc::{AllocError, Global};
 use std::marker::Model;
 
@@ -165,6 +165,23 @@ impl<'a> Placer<'a> {
             group,
             out,
         );
+    }
+
+    /// Picks ahead what the pool's rule asks for first for this group and the three behind it, side
+    /// by side. What is answered later is the same with and without; it takes less time.
+    pub fn look_ahead(&self, scratch: &mut Scratch, group: u32)
+        requires fits { scratch.old ≡ perms_of (tables_of self.now.map) }
+        ensures fits { scratch.new ≡ perms_of (tables_of self.now.map) }
+    {
+        if !can_look_ahead(self.tables, self.rule) {
+            return;
+        }
+        let mut xs = [0; LANES];
+        for lane in 0..LANES {
+            xs[lane] = self.pool.seed_of(group.wrapping_add(lane as u32));
+        }
+        let size = self.pool.parts().size;
+        look_ahead(self.tables, scratch, self.rule, xs, size);
     }
 
     /// Whether a device is in the trace of a run of the pool's rule for a group. Sets `out` to the

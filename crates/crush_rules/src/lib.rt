@@ -5,10 +5,12 @@
 //! nothing and can't fail. The tests are in the crate `choosing_tests`.
 #![tactic(auto)]
 
+mod ahead;
 pub mod laws;
 pub mod limits;
 mod plan;
 mod rule;
 pub mod stability;
 
+pub use ahead::{can_look_ahead, look_ahead};
 pub use rule::{Out, run_rule, touches};

@@ -33,7 +33,7 @@ pub(crate) fn append(row: &mut Row, slots: &[Slot])
     }
 }
 
-/// Appends the output of one bucket, at most `room` slots.
+/// Appends the output of one bucket, at most `room` slots. It is chosen into two other rows.
 #[tactic(auto, unfolding(crate::specs::Rules::put_out))]
 fn put_out(
     tables: &Tables,
@@ -42,6 +42,8 @@ fn put_out(
     plan: &Plan,
     room: u32,
     bucket: BucketNo,
+    items: &mut Row,
+    leaves: &mut Row,
     out: &mut Row,
 )
     requires plan { IsPlan plan.now }
@@ -55,8 +57,6 @@ fn put_out(
     if plan.numrep == 0 {
         return;
     }
-    let mut items = Row::new();
-    let mut leaves = Row::new();
     if plan.firstn {
         let call = FirstnCall {
             bucket,
@@ -69,7 +69,7 @@ fn put_out(
             vary_r: plan.vary_r,
             stable: plan.stable,
         };
-        choose_firstn(tables, scratch, &call, weights, &mut items, &mut leaves);
+        choose_firstn(tables, scratch, &call, weights, items, leaves);
     } else {
         let call = IndepCall {
             bucket,
@@ -80,7 +80,7 @@ fn put_out(
             tries: plan.tries,
             leaf_tries: plan.leaf_tries,
         };
-        choose_indep(tables, scratch, &call, weights, &mut items, &mut leaves);
+        choose_indep(tables, scratch, &call, weights, items, leaves);
     }
     append(
         out,
@@ -100,6 +100,8 @@ fn slot_out(
     plan: &Plan,
     room: u32,
     slot: Slot,
+    items: &mut Row,
+    leaves: &mut Row,
     out: &mut Row,
 )
     requires plan { IsPlan plan.now }
@@ -111,7 +113,9 @@ fn slot_out(
 {
     match slot {
         Some(item) => match tables.bucket_of(item) {
-            Some(bucket) => put_out(tables, scratch, weights, plan, room, bucket, out),
+            Some(bucket) => put_out(
+                tables, scratch, weights, plan, room, bucket, items, leaves, out,
+            ),
             None => {}
         },
         None => {}
@@ -126,6 +130,8 @@ pub(crate) fn step_out(
     plan: &Plan,
     size: u32,
     working: &[Slot],
+    items: &mut Row,
+    leaves: &mut Row,
     out: &mut Row,
 )
     requires plan { IsPlan plan.now }
@@ -138,6 +144,8 @@ pub(crate) fn step_out(
 {
     for slot in working {
         let room = size - out.len() as u32;
-        slot_out(tables, scratch, weights, plan, room, *slot, out);
+        slot_out(
+            tables, scratch, weights, plan, room, *slot, items, leaves, out,
+        );
     }
 }

@@ -35,12 +35,17 @@ pub(crate) struct Run {
     pub settings: Settings,
     pub working: Row,
     pub emitted: Row,
+    /// What a choose step puts out before it becomes the working list, and the items and leaves
+    /// that a bucket has for it.
+    pub next: Row,
+    pub items: Row,
+    pub leaves: Row,
     /// The devices in the outputs of choose steps.
     pub made: Vec<u32>,
 }
 
 /// Returns how many items a choose step with count n asks for, in an answer of this size.
-fn reps(n: i32, size: u32) -> u32
+pub(crate) fn reps(n: i32, size: u32) -> u32
     ensures { result ≡ spec.reps n size }
 {
     if n > 0 {
@@ -123,7 +128,7 @@ fn choose(
     ensures run { IsRun size (k + 1) run.new }
     ensures fits { scratch.new ≡ perms_of tables.now }
 {
-    let mut next = Row::new();
+    run.next.clear();
     step_out(
         tables,
         scratch,
@@ -131,10 +136,13 @@ fn choose(
         plan,
         size,
         run.working.items(),
-        &mut next,
+        &mut run.items,
+        &mut run.leaves,
+        &mut run.next,
     );
-    note_devices(&mut run.made, next.items());
-    run.working = next;
+    note_devices(&mut run.made, run.next.items());
+    run.working.clear();
+    append(&mut run.working, run.next.items());
 }
 
 /// Runs one step of a rule, after k steps.
@@ -333,6 +341,9 @@ impl Out {
                 },
                 working: Row::new(),
                 emitted: Row::new(),
+                next: Row::new(),
+                items: Row::new(),
+                leaves: Row::new(),
                 made,
             },
         })

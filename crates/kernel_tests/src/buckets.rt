@@ -39,6 +39,44 @@ fn ask<P: Picker>(
     Ok(picks)
 }
 
+/// Asks a bucket of this id and size for eight inputs at once, at attempts from 0 on, and for each
+/// of the inputs alone.
+fn assert_eight<P: Picker>(
+    rt: &impl Abort,
+    alloc: Global,
+    bucket: &P,
+    id: ItemId,
+    size: usize,
+    xs: &[u32; 8],
+) -> Result<(), AllocError>
+    requires few { size < 2 ^ 32 }
+    requires its { perm_of (P.bucket bucket.now) ≡ record { id = id; size = size } }
+{
+    let mut perm = Perm::build(alloc, id, size)?;
+    'attempts: for r in 0..9 {
+        let items = bucket.pick_eight(&mut perm, xs, r);
+        'lanes: for lane in 0..8 {
+            assert_eq!(rt; items[lane], bucket.pick(&mut perm, xs[lane], r));
+        }
+    }
+    Ok(())
+}
+
+/// A bucket of the kind picks for eight inputs at once what it picks for each of them.
+fn assert_kind(
+    rt: &impl Abort,
+    alloc: Global,
+    kind: Kind,
+    id: ItemId,
+    entries: &[(ItemId, Weight)],
+    xs: &[u32; 8],
+) -> Result<(), AllocError> {
+    assert!(rt; can_be_asked(entries));
+    assert!(rt; kind != Uniform || has_equal_weights(entries));
+    let bucket = AnyBucket::build(alloc, kind, id, entries)?;
+    assert_eight(rt, alloc, &bucket, id, entries.len(), xs)
+}
+
 /// What the bucket of a kind picks for inputs and attempts.
 fn picked(
     rt: &impl Abort,
@@ -196,6 +234,26 @@ fn buckets_pick_as_their_plain_forms(rt: HostRuntime) -> Result<(), AllocError> 
                 let want = plain::pick(alloc, kind, id, &entries, *x, *r)?;
                 assert_eq!(rt; pick, want, "round {round}");
             }
+        }
+    }
+    Ok(())
+}
+
+/// 40 buckets of each kind, of up to 200 items, each asked for eight inputs, some of them twice.
+#[test]
+fn buckets_pick_for_eight_inputs_as_for_each(rt: HostRuntime) -> Result<(), AllocError> {
+    let alloc = rt.alloc();
+    let mut seed = 2_029;
+    for round in 0..40 {
+        for kind in [Uniform, List, Tree] {
+            let id = random_id(&mut seed);
+            let size = random_size(&mut seed, round);
+            let entries = random_entries(alloc, &mut seed, size, kind == Uniform)?;
+            let mut xs = [0; 8];
+            for lane in 0..8 {
+                xs[lane] = next(&mut seed) % 50;
+            }
+            assert_kind(&rt, alloc, kind, id, &entries, &xs)?;
         }
     }
     Ok(())

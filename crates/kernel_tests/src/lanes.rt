@@ -1,7 +1,7 @@
 //! Eight hashes at a time, and four.
 
 use crate::buckets::next;
-use crush_hash::{hash3, hash3_lanes, hash4, hash4_lanes};
+use crush_hash::{hash3, hash3_each, hash3_lanes, hash4, hash4_each, hash4_lanes};
 use std::process::Abort;
 
 /// What Ceph 16's `crush_hash32_4` answers stands in the third lane; each lane is the hash of its
@@ -41,6 +41,33 @@ fn places_hash_as_one_by_one(rt: HostRuntime) {
         let hashes = hash3_lanes(x, id, &places);
         for lane in 0..4 {
             assert_eq!(rt; hashes[lane], hash3(x, id, places[lane]));
+        }
+    }
+}
+
+fn eight_words(seed: &mut u64) -> [u32; 8] {
+    let mut words = [0; 8];
+    for lane in 0..8 {
+        words[lane] = next(seed).wrapping_mul(next(seed));
+    }
+    words
+}
+
+/// Where all words differ from lane to lane, too. What Ceph answers stands in the second lane.
+#[test]
+fn each_lane_hashes_its_own_words(rt: HostRuntime) {
+    let one = [0, 1, 0, 0, 0, 0, 0, 0];
+    let (two, three) = ([7, 2, 7, 7, 7, 7, 7, 7], [9, 3, 9, 9, 9, 9, 9, 9]);
+    assert_eq!(rt; hash3_each(&one, &two, &three)[1], 1_935_332_395);
+    assert_eq!(rt; hash4_each(&one, &two, &three, &[4; 8])[1], 1_768_759_062);
+    let mut seed = 2_030;
+    for _ in 0..500 {
+        let (a, b) = (eight_words(&mut seed), eight_words(&mut seed));
+        let (c, d) = (eight_words(&mut seed), eight_words(&mut seed));
+        let (of_three, of_four) = (hash3_each(&a, &b, &c), hash4_each(&a, &b, &c, &d));
+        for lane in 0..8 {
+            assert_eq!(rt; of_three[lane], hash3(a[lane], b[lane], c[lane]));
+            assert_eq!(rt; of_four[lane], hash4(a[lane], b[lane], c[lane], d[lane]));
         }
     }
 }

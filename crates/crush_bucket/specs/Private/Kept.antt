@@ -1,7 +1,8 @@
 -- What list and tree buckets keep beside their items.
-use Rattle.std.specs.Prelude.{◌≡◌, ℕ, zero, suc, ◌+◌, ◌<◌, ◌^◌, List, [], ◌∷◌, ◌++◌, length, slice_index}
+use Rattle.std.specs.Prelude.{◌≡◌, ℕ, zero, suc, ◌+◌, ◌*◌, ◌<◌, ◌≤◌, ◌^◌, List, [], ◌∷◌, ◌++◌, length, slice_index}
+use Rattle.crush_map.specs.declared.ItemId.{ItemId}
 use Rattle.crush_bucket.specs.Bucket.{WeightedItem, weight_within}
-use Rattle.crush_bucket.specs.Kinds.{height_of, label}
+use Rattle.crush_bucket.specs.Kinds.{height_of, label, place_within}
 
 -- at each place, the sum of the weights up to it
 pub record AreSums (items : List WeightedItem) (sums : List ℕ) : Type 0 where
@@ -24,3 +25,11 @@ pub record AreNodes (items : List WeightedItem) (height : ℕ) (nodes : List ℕ
   pub low : height < 17
   pub size : length nodes ≡ 2 ^ suc height
   pub weights : HasNodes items nodes 0 height
+
+-- a walk that has come to the node of a range of 2^h places
+pub record AtNode (id : ItemId) (items : List WeightedItem) (nodes : List ℕ) (x r height h node : ℕ) : Type 0 where
+  pub from : ℕ
+  pub labelled : node ≡ 2 * from + 2 ^ h
+  pub within : from + 2 ^ h ≤ 2 ^ height
+  pub weighed : HasNodes items nodes from h
+  pub rest : place_within id items x r 0 height ≡ place_within id items x r from h

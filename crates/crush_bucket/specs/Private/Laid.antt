@@ -1,13 +1,11 @@
 -- What holds of the tables of every map.
-use Rattle.std.specs.Prelude.{◌≡◌, ℕ, negsuc, ◌<◌, ◌^◌, List, length, take, slice_index, slice_index_or, slice_get, Option, None, Some}
+use Rattle.std.specs.Prelude.{◌≡◌, ℕ, negsuc, ◌<◌, ◌^◌, List, length, slice_index_or, Option, None}
 use Rattle.std.specs.List.{position_from}
 use Rattle.std.specs.Ordering.{int_eq}
 use Rattle.crush_map.specs.declared.draft.Bucket.{Bucket}
 use Rattle.crush_map.specs.declared.word.Kind.TheVariants.{Uniform}
-use Rattle.crush_bucket.specs.Bucket.{BucketView, total_weight, HasEqualWeights}
-use Rattle.crush_permutation.specs.Permutation.{PermView}
-use Rattle.crush_bucket.specs.Pick.{perm_for}
-use Rattle.crush_bucket.specs.Tables.{TypedBucket, TablesView, bucket_at, perms_in, HasItemsBelow}
+use Rattle.crush_bucket.specs.Bucket.{total_weight, HasEqualWeights}
+use Rattle.crush_bucket.specs.Tables.{TypedBucket, TablesView, bucket_at, HasItemsBelow}
 
 -- what a bucket must be so that it can be kept: few items, a sum of weights that is a word, equal
 -- weights where it is uniform
@@ -28,12 +26,3 @@ pub record IsLaid (t : TablesView) : Type 0 where
 -- at each n the number of the bucket -1 - n
 abbrev pub IsIndexOf : List TypedBucket → List (Option ℕ) → Type 0
 IsIndexOf buckets index = (n : ℕ) → slice_index_or index n None ≡ position_from (λ b. int_eq b.bucket.id.0 (negsuc n)) 0 buckets
-
--- at each number, how many of the buckets before it need a permutation
-pub record AreSlots (buckets : List TypedBucket) (slots : List ℕ) : Type 0 where
-  pub size : length slots ≡ length buckets
-  pub each : (number : ℕ) → number < length buckets → slice_index slots number ≡ length (perms_in (take number buckets))
-
--- the permutation that a bucket needs, if it needs one, is that of this slot
-abbrev pub IsSlotOf : List PermView → ℕ → BucketView → Type 0
-IsSlotOf perms slot b = (p : PermView) → perm_for b ≡ Some p → slice_get perms slot ≡ Some p

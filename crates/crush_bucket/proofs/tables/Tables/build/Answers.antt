@@ -17,7 +17,7 @@ invariant_of-result c =
     let devices : c.in_ok-devices.devices.items ≡ (tables_of c.args.map.now).devices = c.in_ok-devices.ensures {u = tt} ∙ rw c.devices.ensures.same refl in
     record {
       laid = rw (buckets, devices, c.tunables.ensures.same) laid;
-      slots = rw c.deref.ensures.value at (c.in_ok-slots.ensures {u = tt});
-      index = rw c.deref-2.ensures.value at (c.in_ok-index.ensures {u = tt});
+      widest = rw c.deref-2.ensures.value at c.widest_of.ensures;
+      index = rw c.deref.ensures.value at (c.in_ok-index.ensures {u = tt});
       order = rw devices c.devices.ensures.valid.devices;
     }
