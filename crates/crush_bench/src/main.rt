@@ -10,6 +10,7 @@ mod text;
 mod words;
 
 use bucket::Questions;
+use crush_bucket::Tables;
 use crush_map::Kind;
 use crush_text::{TextFault, code_text};
 use ready::Ready;
@@ -122,7 +123,8 @@ fn mapped<R: AllocGlobal + Clock + Input + Print + Eprint>(
         Ok(map) => map,
         Err(refused) => return refusal(rt, refused),
     };
-    let mut ready = Ready::build(rt.alloc(), map, reweights)?;
+    let tables = Tables::build(rt.alloc(), &map)?;
+    let mut ready = Ready::build(rt.alloc(), &map, &tables, reweights)?;
     let measured = mappings::measure(rt, &mut ready, size, inputs)?;
     let each = measured.took.as_secs_f64() * 1e6 / f64::from(inputs);
     rt.println(measured.checksum)?;

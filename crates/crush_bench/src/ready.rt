@@ -14,36 +14,35 @@ use std::alloc::{AllocError, Global};
 
 /// A map, and all that running its rules needs.
 #[derive(Drop)]
-pub struct Ready {
-    map: CrushMap,
-    tables: Tables,
-    scratch: Scratch,
+pub struct Ready<'a> {
+    map: &'a CrushMap,
+    tables: &'a Tables,
+    scratch: Scratch<'a>,
     weights: Weights,
     out: Out,
-    ghost sound: { IsMap map },
-    ghost laid: { tables ≡ tables_of map },
-    ghost fits: { scratch ≡ perms_of tables },
+    ghost sound: { IsMap map.now },
+    ghost laid: { tables.now ≡ tables_of map.now },
+    ghost fits: { scratch ≡ perms_of tables.now },
 }
 
-impl Ready {
-    /// A map with pairs of device and reweight.
+impl<'a> Ready<'a> {
+    /// A map with its tables and with pairs of device and reweight.
     pub(crate) fn build(
         alloc: Global,
-        map: CrushMap,
+        map: &'a CrushMap,
+        tables: &'a Tables,
         reweights: &[(u32, u32)],
-    ) -> Result<Ready, AllocError> {
+    ) -> Result<Ready<'a>, AllocError>
+        requires { tables.now ≡ tables_of map.now }
+    {
         // says that the map is valid
         let _tunables = map.tunables();
-        let tables = Tables::build(alloc, &map)?;
-        let scratch = Scratch::build(alloc, &tables)?;
-        let weights = Weights::build(alloc, &map, reweights)?;
-        let out = Out::build(alloc)?;
         Ok(Ready {
             map,
             tables,
-            scratch,
-            weights,
-            out,
+            scratch: Scratch::build(alloc, tables)?,
+            weights: Weights::build(alloc, map, reweights)?,
+            out: Out::build(alloc)?,
         })
     }
 
@@ -53,7 +52,7 @@ impl Ready {
         match self.map.rules().first() {
             Some(rule) => {
                 run_rule(
-                    &self.tables,
+                    self.tables,
                     &mut self.scratch,
                     rule,
                     x,

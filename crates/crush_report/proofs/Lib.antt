@@ -1,11 +1,12 @@
-mod Gains
+pub mod Gains
 mod GainCounts
 mod Counting
-mod Groups
+pub mod Groups
+pub mod Kept
 mod Moving
 mod OfMap
-mod OnMaps
-mod Short
+pub mod OnMaps
+pub mod Short
 mod Sums
 mod Tallies
 mod Ups

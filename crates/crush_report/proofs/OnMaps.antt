@@ -18,10 +18,10 @@ use Rattle.crush_pool.specs.declared.pool.PoolParts.{PoolParts}
 use Rattle.crush_pool.specs.declared.states.DeviceState.{DeviceState}
 use Rattle.crush_report.specs.Impact.{touched}
 use Rattle.crush_report.specs.Moves.{move_rows}
-use Rattle.crush_report.specs.Private.OnMaps.{up_from, up_on, touched_on}
+use Rattle.crush_report.specs.OnMaps.{answer_on, up_from, up_on, touched_on}
 use Rattle.crush_report.specs.Reports.{groups, impact, impact_by, moves, moves_by, up_list, usage, usage_by}
 use Rattle.crush_report.specs.Usage.{usage_rows}
-use Rattle.crush_report.proofs.Short.{up_short, size_few}
+use Rattle.crush_report.proofs.Short.{answer_few as rule_few, up_short, size_few}
 use Rattle.crush_choose.specs.declared.limits.TheConstants.{SIZE_LIMIT}
 
 -- ---- the up list of a group
@@ -48,6 +48,12 @@ pub up_of_answer : (p : PoolOnMap) (group : ℕ) (raw : List Slot)
 unfolding placed
 up_of_answer p group raw e =
     ap (λ (slots : List Slot). up_of p.pool.erasure (flags_of p.states) (excepted (tables_of p.map) (weights_of (reweights p.states)) p.pairs group slots)) e
+
+-- an answer has at most SIZE_LIMIT slots
+pub answer_few : (p : PoolOnMap) (group : ℕ) (raw : List Slot) → raw ≡ answer_on p group → p.pool.size ≤ SIZE_LIMIT → length raw ≤ SIZE_LIMIT
+answer_few p group raw e few =
+    let short = rule_few (tables_of p.map) (weights_of (reweights p.states)) (steps_of p) (seed_of p.pool group) p.pool.size in
+    rw e (omega (arith, short, few))
 
 -- an up list has at most SIZE_LIMIT slots
 pub up_few : (p : PoolOnMap) → is_pool p.pool ≡ true → (group : ℕ) → length (up_on p group) ≤ SIZE_LIMIT

@@ -43,7 +43,8 @@ steps_few : (t : TablesView) (w : List ℕ) (x size : ℕ) (s : Running) (steps 
 steps_few t w x size s [] few = few
 steps_few t w x size s (step ∷ steps) few = steps_few t w x size (after_step t w x size s step) steps (step_few t w x size s step few)
 
-answer_few : (t : TablesView) (w : List ℕ) (steps : List Step) (x size : ℕ) → length (rule_answer t w steps x size) ≤ size
+-- an answer has at most as many slots as the pool's size
+pub answer_few : (t : TablesView) (w : List ℕ) (steps : List Step) (x size : ℕ) → length (rule_answer t w steps x size) ≤ size
 unfolding after_rule
 answer_few t w steps x size = steps_few t w x size (start t.tunables) steps (omega arith)
 

@@ -1,9 +1,10 @@
 //! Reports on a pool: how much of it lies on each device, which groups' up lists differ on another
 //! map, and which groups a device can touch. Reports as CSV, and changes of devices from CSV.
 //!
-//! The tests are in the crates `pool_tests` and `csv_tests`.
+//! The tests are in the crates `report_tests` and `csv_tests`.
 #![tactic(auto)]
 
+mod answers;
 mod counts;
 mod csv_laws;
 mod csv_read;
@@ -13,15 +14,18 @@ mod moved_groups;
 mod reports;
 mod rows;
 mod touched_groups;
+mod up_runs;
 mod usage_counts;
 pub mod usage_laws;
 
+pub use answers::look_ahead;
 pub use crush_pool::{DeviceChange, are_valid_changes};
 pub use csv_laws::{device_csvs_are_of_the_form, reports_are_read_back};
 pub use csv_read::{CsvFault, read_device_csv};
 pub use csv_write::{moves_csv, usage_csv};
-pub use moved_groups::{gained_in, moves_with};
+pub use moved_groups::{gained_in, move_between, moves_with};
 pub use reports::{impact, moves, usage};
 pub use rows::{MoveRow, UsageRow};
 pub use touched_groups::impact_with;
+pub use up_runs::UpRun;
 pub use usage_counts::usage_with;

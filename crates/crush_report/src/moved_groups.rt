@@ -1,16 +1,22 @@
 //! The groups of a pool whose up lists differ between two maps.
 
-ghost use Rattle.std.specs.Prelude.{◌≡◌, ◌<◌, ◌≤◌, ◌*◌, ◌^◌, Some, IfOk};
+ghost use Rattle.std.specs.Prelude.{◌≡◌, ◌<◌, ◌≤◌, ◌*◌, ◌^◌, Some, IfOk, OnOk, length};
+ghost use Rattle.crush_bucket.specs.Tables.{perms_of, tables_of};
 ghost use Rattle.crush_choose.specs.declared.limits.TheConstants.{SIZE_LIMIT};
+ghost use Rattle.crush_pool.specs.Placements.{up_of};
 ghost use Rattle.crush_pool.specs.declared.limits.TheConstants.{GROUP_LIMIT};
 ghost use Rattle.crush_report.specs.Moves as spec;
+ghost use Rattle.crush_report.specs.OnMaps.{up_from, up_on};
+ghost use Rattle.crush_report.specs.Private.Places.{AreAnswers};
 ghost use Rattle.crush_report.specs.Reports.{moves};
 
+use crate::answers::{Answers, run_next};
 use crate::rows::MoveRow;
 use crush_bucket::Scratch;
+use crush_choose::limits::SIZE_LIMIT;
 use crush_choose::{Slot, has, slot_has};
 use crush_map::Listed;
-use crush_pool::{Placement, Placer};
+use crush_pool::{DeviceStates, Placer, is_up_slot};
 use crush_rules::Out;
 use std::alloc::{AllocError, Global};
 
@@ -69,21 +75,34 @@ fn gained(old: &[Slot], new: &[Slot]) -> usize
     count
 }
 
-/// The row of a group; `None` where its up lists are the same. `Err(AllocError)`: an allocation
-/// failed.
-fn move_between(group: u32, old: Placement, new: Placement) -> Option<MoveRow>
-    ensures { result ≡ spec.move_between group old.up new.up }
+/// A copy of slots. `Err(AllocError)`: an allocation failed.
+fn copy_of(alloc: Global, slots: &[Slot]) -> Result<Listed<Slot>, AllocError>
+    ensures { IfOk result (λ copy. copy ≡ slots.now) }
 {
-    if same_slots(old.up.as_slice(), new.up.as_slice()) {
-        return None;
+    let mut copy = Vec::with_capacity(alloc, slots.len())?;
+    copy.extend_from_slice(slots)?;
+    Ok(Listed::new(copy))
+}
+
+/// The row of a group; `None` where its up lists are the same, which takes no memory.
+/// `Err(AllocError)`: an allocation failed.
+pub fn move_between(
+    alloc: Global,
+    group: u32,
+    old: &[Slot],
+    new: &[Slot],
+) -> Result<Option<MoveRow>, AllocError>
+    ensures { IfOk result (λ row. row ≡ spec.move_between group old.now new.now) }
+{
+    if same_slots(old, new) {
+        return Ok(None);
     }
-    let gained = gained(old.up.as_slice(), new.up.as_slice());
-    Some(MoveRow {
+    Ok(Some(MoveRow {
         group,
-        gained,
-        old: old.up,
-        new: new.up,
-    })
+        gained: gained(old, new),
+        old: copy_of(alloc, old)?,
+        new: copy_of(alloc, new)?,
+    }))
 }
 
 /// How many devices the groups gain in all.
@@ -100,6 +119,74 @@ pub fn gained_in(rows: &[MoveRow]) -> u64
     total
 }
 
+/// Sets `up` to the up list of a replicated or an erasure pool, by what the rule answered, with its
+/// exceptions. `Err(AllocError)`: an allocation failed.
+fn set_up(
+    up: &mut Vec<Slot>,
+    erasure: bool,
+    flags: &DeviceStates,
+    raw: &[Slot],
+) -> Result<(), AllocError>
+    ensures { OnOk result (up.new.items ≡ up_of erasure flags.now raw.now) }
+{
+    up.clear();
+    for slot in raw {
+        if is_up_slot(flags, *slot) {
+            up.push(*slot)?;
+        } else if erasure {
+            up.push(None)?;
+        }
+    }
+    Ok(())
+}
+
+/// Sets `up` to the up list of a group for which the rule gave this answer. `Err(AllocError)`: an
+/// allocation failed.
+fn set_up_by(
+    up: &mut Vec<Slot>,
+    placer: &Placer,
+    group: u32,
+    raw: &[Slot],
+) -> Result<(), AllocError>
+    requires { length raw.now ≤ SIZE_LIMIT }
+    ensures { OnOk result (up.new.items ≡ up_from placer.now group raw.now) }
+{
+    let erasure = placer.pool().parts().erasure;
+    if placer.exceptions().concern(group) {
+        let changed = placer.excepted(group, raw);
+        set_up(up, erasure, placer.flags(), changed.items())
+    } else {
+        set_up(up, erasure, placer.flags(), raw)
+    }
+}
+
+/// Sets `up` to the up list of a group. The rule runs where the answer for the group's place isn't
+/// kept. `Err(AllocError)`: an allocation failed.
+pub(crate) fn set_up_of(
+    up: &mut Vec<Slot>,
+    placer: &Placer,
+    answers: &Answers,
+    scratch: &mut Scratch,
+    out: &mut Out,
+    group: u32,
+) -> Result<(), AllocError>
+    requires answers { AreAnswers placer.now answers.now }
+    requires fits { scratch.old ≡ perms_of (tables_of placer.now.map) }
+    ensures up { OnOk result (up.new.items ≡ up_on placer.now group) }
+    ensures fits { scratch.new ≡ perms_of (tables_of placer.now.map) }
+{
+    match answers.kept(group) {
+        Some(raw) => set_up_by(up, placer, group, raw),
+        None => {
+            run_next(placer, scratch, out, group);
+            set_up_by(up, placer, group, out.items())
+        }
+    }
+}
+
+/// The most words of 8 bytes a group that are kept of the answers on each of the two maps.
+const WORDS_KEPT: u32 = 2;
+
 /// The groups of a pool whose up lists differ between two maps, in order. The exceptions and the
 /// states of devices are the same on both. `Err(AllocError)`: an allocation failed.
 #[tactic(auto, using(crate::proofs::Groups::moves_more))]
@@ -112,14 +199,19 @@ pub fn moves_with(alloc: Global, from: &Placer, to: &Placer) -> Result<Listed<Mo
 {
     let _first = from.map();
     let _second = to.map();
-    let mut old_scratch = Scratch::build(alloc, from.tables())?;
-    let mut new_scratch = Scratch::build(alloc, to.tables())?;
+    let mut old_scratch = Scratch::for_many(alloc, from.tables())?;
+    let mut new_scratch = Scratch::for_many(alloc, to.tables())?;
     let mut out = Out::build(alloc)?;
+    let olds = Answers::build(alloc, from, &mut old_scratch, &mut out, WORDS_KEPT)?;
+    let news = Answers::build(alloc, to, &mut new_scratch, &mut out, WORDS_KEPT)?;
+    let mut old = Vec::with_capacity(alloc, SIZE_LIMIT)?;
+    let mut new = Vec::with_capacity(alloc, SIZE_LIMIT)?;
     let mut rows = Vec::new(alloc);
     for group in 0..from.pool().parts().pg_num {
-        let old = from.place_with(alloc, &mut old_scratch, &mut out, group)?;
-        let new = to.place_with(alloc, &mut new_scratch, &mut out, group)?;
-        if let Some(row) = move_between(group, old, new) {
+        set_up_of(&mut old, from, &olds, &mut old_scratch, &mut out, group)?;
+        set_up_of(&mut new, to, &news, &mut new_scratch, &mut out, group)?;
+        let moved = move_between(alloc, group, &old, &new)?;
+        if let Some(row) = moved {
             rows.push(row)?;
         }
     }

@@ -2,34 +2,39 @@
 
 ghost use Rattle.std.specs.Prelude.{◌≡◌, Some, IfOk};
 ghost use Rattle.crush_bucket.specs.Tables.{perms_of, tables_of};
-ghost use Rattle.crush_report.specs.Private.OnMaps.{touches_on};
+ghost use Rattle.crush_report.specs.OnMaps.{touches_on};
+ghost use Rattle.crush_report.specs.Private.Places.{AreTraced};
 ghost use Rattle.crush_report.specs.Reports.{impact};
 
+use crate::answers::{Traced, is_traced};
 use crush_bucket::Scratch;
 use crush_map::Listed;
 use crush_pool::Placer;
 use crush_rules::Out;
-use crush_rules::laws::traces_ascend;
 use std::alloc::{AllocError, Global};
 
 /// Whether a pair of a group leads to a device, or the device is in the trace of the group. The
-/// rule runs only where no pair does.
+/// rule runs only where no pair does and the trace for the group's place isn't kept.
 fn is_touched(
     placer: &Placer,
+    traced: &Traced,
     scratch: &mut Scratch,
     out: &mut Out,
     device: u32,
     group: u32,
 ) -> bool
+    requires traced { AreTraced placer.now device traced.now }
     requires fits { scratch.old ≡ perms_of (tables_of placer.now.map) }
     ensures touched { result ≡ touches_on placer.now device group }
     ensures fits { scratch.new ≡ perms_of (tables_of placer.now.map) }
 {
-    traces_ascend();
     if placer.exceptions().lead_to(group, device) {
         return true;
     }
-    placer.touches(scratch, out, group, device)
+    match traced.kept(group) {
+        Some(found) => found,
+        None => is_traced(placer, scratch, out, device, group),
+    }
 }
 
 /// The groups of a pool in whose trace a device is, and those of which a pair leads to it, in
@@ -42,11 +47,12 @@ pub fn impact_with(alloc: Global, placer: &Placer, device: u32) -> Result<Listed
     ensures { IfOk result (λ found. Some found ≡ impact placer.now.map placer.now.states placer.now.pool placer.now.pairs device) }
 {
     let _map = placer.map();
-    let mut scratch = Scratch::build(alloc, placer.tables())?;
+    let mut scratch = Scratch::for_many(alloc, placer.tables())?;
     let mut out = Out::build(alloc)?;
+    let traced = Traced::build(alloc, placer, &mut scratch, &mut out, device)?;
     let mut found = Vec::new(alloc);
     for group in 0..placer.pool().parts().pg_num {
-        if is_touched(placer, &mut scratch, &mut out, device, group) {
+        if is_touched(placer, &traced, &mut scratch, &mut out, device, group) {
             found.push(group)?;
         }
     }

@@ -1,13 +1,16 @@
 //! How much of a pool lies on each device.
 
 ghost use Rattle.std.specs.Prelude.{◌≡◌, ◌<◌, ◌≤◌, ◌+◌, ◌*◌, ◌^◌, ◌++◌, ◌∷◌, [], ℕ, List, Some, IfOk, length, map};
+ghost use Rattle.crush_bucket.specs.Tables.{perms_of, tables_of};
 ghost use Rattle.crush_choose.specs.Marks.{Slot};
 ghost use Rattle.crush_choose.specs.declared.limits.TheConstants.{SIZE_LIMIT};
-ghost use Rattle.crush_report.specs.Private.OnMaps.{up_from, up_on};
+ghost use Rattle.crush_report.specs.OnMaps.{up_from, up_on};
+ghost use Rattle.crush_report.specs.Private.Places.{AreAnswers};
 ghost use Rattle.crush_report.specs.Private.Tallies.{HasRoom, IsTally, count_at, id_bound, row_by};
 ghost use Rattle.crush_report.specs.Usage as spec;
 ghost use Rattle.crush_report.specs.Reports.{groups, usage};
 
+use crate::answers::{Answers, run_next};
 use crate::counts::{count_if, count_slot, is_again};
 use crate::rows::UsageRow;
 use crush_bucket::Scratch;
@@ -161,6 +164,9 @@ fn bound_of(devices: &[Device]) -> usize
     bound
 }
 
+/// The most words of 8 bytes a group that are kept of answers.
+const WORDS_KEPT: u32 = 4;
+
 /// Counts the up list of one more group, for which the rule gave this answer.
 fn add_group(tally: &mut Tally, placer: &Placer, group: u32, raw: &[Slot])
     requires short { length raw.now ≤ SIZE_LIMIT }
@@ -177,18 +183,46 @@ fn add_group(tally: &mut Tally, placer: &Placer, group: u32, raw: &[Slot])
     }
 }
 
+/// Counts the up list of one more group. The rule runs where the answer for the group's place isn't
+/// kept.
+fn count_group(
+    tally: &mut Tally,
+    placer: &Placer,
+    answers: &Answers,
+    scratch: &mut Scratch,
+    out: &mut Out,
+    group: u32,
+)
+    requires answers { AreAnswers placer.now answers.now }
+    requires fits { scratch.old ≡ perms_of (tables_of placer.now.map) }
+    requires groups { HasRoom tally.old.groups SIZE_LIMIT }
+    requires entries { HasRoom tally.old.entries SIZE_LIMIT }
+    requires primaries { HasRoom tally.old.primaries SIZE_LIMIT }
+    requires filled { tally.old.filled + SIZE_LIMIT < 2 ^ 32 }
+    ensures tally { (bound : ℕ) (ups : List (List Slot)) → IsTally bound ups tally.old → IsTally bound (ups ++ up_on placer.now group ∷ []) tally.new }
+    ensures fits { scratch.new ≡ perms_of (tables_of placer.now.map) }
+{
+    match answers.kept(group) {
+        Some(raw) => add_group(tally, placer, group, raw),
+        None => {
+            run_next(placer, scratch, out, group);
+            add_group(tally, placer, group, out.items());
+        }
+    }
+}
+
 /// The counts over the up lists of all groups of a pool, for these devices. `Err(AllocError)`: an
 /// allocation failed.
 fn tally_of(alloc: Global, devices: &[Device], placer: &Placer) -> Result<Tally, AllocError>
     ensures few { IfOk result (λ t. (id : ℕ) → 1000 * count_at t.entries id < 2 ^ 32) }
     ensures tally { IfOk result (λ t. IsTally (id_bound devices.now) (map (up_on placer.now) (groups placer.now.pool)) t) }
 {
-    let mut scratch = Scratch::build(alloc, placer.tables())?;
+    let mut scratch = Scratch::for_many(alloc, placer.tables())?;
     let mut out = Out::build(alloc)?;
+    let answers = Answers::build(alloc, placer, &mut scratch, &mut out, WORDS_KEPT)?;
     let mut tally = Tally::new(alloc, bound_of(devices))?;
     for group in 0..placer.pool().parts().pg_num {
-        placer.run(&mut scratch, &mut out, group);
-        add_group(&mut tally, placer, group, out.items());
+        count_group(&mut tally, placer, &answers, &mut scratch, &mut out, group);
     }
     Ok(tally)
 }

@@ -5,9 +5,9 @@ use crate::maps::{THREE, TWO as TWO_DEVICES};
 use crate::placements::{
     ALL_UP, BUCKET, CODED, Case, HASHED, OF_THREE, ONE, SHORT, TWO, ZERO, assert_placed,
 };
-use crate::pools::{Short, TWELVE, pool};
-use crate::reports::{OF_TWO, OUT_1};
-use crate::states::DOWN_2;
+use crate::placing::exceptions_of;
+use crate::pools::{OF_TWO, Short, TWELVE, pool};
+use crate::states::{DOWN_2, OUT_1};
 use crush_pool::limits::PAIR_LIMIT;
 use crush_pool::{DeviceState, Exceptions, Pair, PoolFault};
 use std::alloc::Global;
@@ -224,11 +224,9 @@ fn groups_are_placed_with_their_exceptions(rt: HostRuntime) -> Result<(), Fail> 
 
 /// Whether these pairs are exceptions of a pool of twelve groups.
 fn assert_valid(rt: &impl Abort, alloc: Global, pairs: &[Pair], valid: bool) -> Result<(), Fail> {
-    let pool = pool(rt, alloc, TWELVE)?;
+    let pool = pool(alloc, TWELVE)?;
     let mut list = Vec::new(alloc);
-    for pair in pairs {
-        list.push(*pair)?;
-    }
+    list.extend_from_slice(pairs)?;
     match Exceptions::new(alloc, &pool, list)? {
         Ok(exceptions) => {
             assert!(rt; valid);
@@ -270,16 +268,8 @@ fn at_most_1024_pairs_are_exceptions(rt: HostRuntime) -> Result<(), Fail> {
     Ok(())
 }
 
-#[test]
-fn exceptions_know_their_groups_and_where_they_lead(rt: HostRuntime) -> Result<(), Fail> {
-    let alloc = rt.alloc();
-    let pool = pool(&rt, alloc, TWELVE)?;
-    let mut list = Vec::new(alloc);
-    list.push(of_5!(3, 9))?;
-    list.push(PAIR)?;
-    let Ok(exceptions) = Exceptions::new(alloc, &pool, list)? else {
-        return rt.abort();
-    };
+/// Of the groups the exceptions concern 5, which they lead to 9, and 0, which they lead to 1.
+fn assert_known(rt: &impl Abort, exceptions: &Exceptions) {
     for group in 0..13 {
         assert_eq!(rt; exceptions.concern(group), group == 0 || group == 5);
         assert_eq!(rt; exceptions.lead_to(group, 9), group == 5);
@@ -287,7 +277,16 @@ fn exceptions_know_their_groups_and_where_they_lead(rt: HostRuntime) -> Result<(
         assert!(rt; !exceptions.lead_to(group, 3));
     }
     assert!(rt; !exceptions.concern(65_536));
-    assert!(rt; Exceptions::none(alloc)?.pairs().is_empty());
-    assert!(rt; !Exceptions::none(alloc)?.concern(0));
+}
+
+#[test]
+fn exceptions_know_their_groups_and_where_they_lead(rt: HostRuntime) -> Result<(), Fail> {
+    let alloc = rt.alloc();
+    let pool = pool(alloc, TWELVE)?;
+    let exceptions = exceptions_of(alloc, &pool, &[of_5!(3, 9), PAIR])?;
+    assert_known(&rt, &exceptions);
+    let none = Exceptions::none(alloc)?;
+    assert!(rt; none.pairs().is_empty());
+    assert!(rt; !none.concern(0));
     Ok(())
 }

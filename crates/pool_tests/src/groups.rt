@@ -90,7 +90,7 @@ fn objects_have_the_groups_of_their_hashes(rt: HostRuntime) -> Result<(), Fail> 
             pgp_num: 1,
             ..TWELVE
         };
-        let pool = pool(&rt, rt.alloc(), short)?;
+        let pool = pool(rt.alloc(), short)?;
         assert_eq!(rt; name_hash(name.as_bytes()), *hash, "of {name}");
         assert_eq!(rt;
             pool.group_of(name.as_bytes()),

@@ -1,20 +1,20 @@
-//! Tests of `crush_pool` and `crush_report`, on maps that are written as texts. They stand apart,
-//! so that the crates themselves are proved once.
+//! Tests of `crush_pool`, and pools on maps that are written as texts, which `report_tests` uses
+//! too. They stand apart, so that `crush_pool` is proved once.
 #![tactic(auto)]
 
 #[cfg(test)]
 mod exceptions;
 #[cfg(test)]
 mod groups;
-#[cfg(test)]
-mod maps;
+pub mod maps;
 #[cfg(test)]
 mod placements;
+pub mod placing;
+pub mod pools;
 #[cfg(test)]
-mod pools;
-#[cfg(test)]
-mod reports;
+mod ranges;
 #[cfg(test)]
 mod seeds;
+pub mod states;
 #[cfg(test)]
-mod states;
+mod up;

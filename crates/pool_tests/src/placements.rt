@@ -1,12 +1,15 @@
 //! Placements of groups: the rule's answer, the devices of it that are up, the primary, and the
 //! trace that is left.
 
-use crate::maps::{THREE, asked, has_placer};
-use crate::pools::{Short, TWELVE, pool};
+use crate::maps::{MapTables, THREE};
+use crate::placing::{PoolCase, place_group, placement_by};
+use crate::pools::{Short, TWELVE};
 use crate::states::{DOWN_0, DOWN_1, DOWN_2};
-use crush_choose::Slot;
+use crush_bucket::Scratch;
+use crush_choose::{Slot, Weights};
 use crush_map::ItemId;
-use crush_pool::{DeviceState, Pair, Placement, PoolFault};
+use crush_pool::{DeviceState, Pair, Placement, Placer, PoolFault};
+use crush_rules::Out;
 use std::alloc::Global;
 use std::process::Abort;
 use std::test::Fail;
@@ -29,30 +32,32 @@ pub(crate) struct Case {
     pub(crate) trace: &'static [u32],
 }
 
+/// Slots of a case are those that are wanted.
+fn assert_slots(rt: &impl Abort, slots: &[Slot], wanted: &[Slot], part: &str, case: &Case) {
+    assert_eq!(rt; slots, wanted, "{part}: {}", case.what);
+}
+
 fn assert_placement(rt: &impl Abort, placement: &Placement, case: &Case) {
     assert_eq!(rt; placement.seed, case.seed, "seed: {}", case.what);
-    assert_eq!(rt; placement.raw.as_slice(), case.raw, "raw: {}", case.what);
-    assert_eq!(rt; placement.up.as_slice(), case.up, "up: {}", case.what);
-    assert_eq!(rt; placement.primary, case.primary, "primary: {}", case.what);
+    assert_slots(rt, placement.raw.as_slice(), case.raw, "raw", case);
+    assert_slots(rt, placement.up.as_slice(), case.up, "up", case);
+    assert_slots(rt, &[placement.primary], &[case.primary], "primary", case);
+}
+
+fn assert_out(rt: &impl Abort, out: &Out, case: &Case) {
+    assert_slots(rt, out.items(), case.raw, "answer", case);
+    assert_eq!(rt; out.trace(), case.trace, "trace: {}", case.what);
 }
 
 pub(crate) fn assert_placed(rt: &impl Abort, alloc: Global, case: &Case) -> Result<(), Fail> {
-    let pool = pool(rt, alloc, case.pool)?;
-    let (answer, out) = asked(
-        rt,
-        alloc,
-        case.text,
-        &pool,
-        case.pairs,
-        case.states,
-        case.group,
-    )?;
-    match answer {
-        Ok(placement) => assert_placement(rt, &placement, case),
-        Err(_) => return rt.abort(),
-    }
-    assert_eq!(rt; out.items(), case.raw, "answer: {}", case.what);
-    assert_eq!(rt; out.trace(), case.trace, "trace: {}", case.what);
+    let map = MapTables::of_text(alloc, case.text)?;
+    let pool = PoolCase::build(alloc, case.pool, case.pairs, case.states)?;
+    let Some(placer) = pool.placer(&map) else {
+        return rt.abort();
+    };
+    let placed = place_group(alloc, &placer, pool.weights(), case.group)?;
+    assert_placement(rt, &placed.placement, case);
+    assert_out(rt, &placed.out, case);
     Ok(())
 }
 
@@ -288,21 +293,53 @@ fn groups_are_placed(rt: HostRuntime) -> Result<(), Fail> {
     Ok(())
 }
 
+/// The pool of a placer has no group of this number.
+fn assert_past(
+    rt: &impl Abort,
+    alloc: Global,
+    placer: &Placer,
+    weights: &Weights,
+    group: u32,
+) -> Result<(), Fail> {
+    let mut scratch = Scratch::build(alloc, placer.tables())?;
+    let past = placement_by(alloc, placer, weights, &mut scratch, group)?;
+    assert_eq!(rt; past.err(), Some(PoolFault::P2));
+    Ok(())
+}
+
+/// A pool without exceptions has no group of the number of its groups, on this map.
+fn assert_end(rt: &impl Abort, alloc: Global, map: &MapTables, short: Short) -> Result<(), Fail> {
+    let pool = PoolCase::build(alloc, short, &[], &[])?;
+    let Some(placer) = pool.placer(map) else {
+        return rt.abort();
+    };
+    assert_past(rt, alloc, &placer, pool.weights(), short.pg_num)
+}
+
 #[test]
 fn groups_end_below_pg_num(rt: HostRuntime) -> Result<(), Fail> {
-    let alloc = rt.alloc();
-    let pool = pool(&rt, alloc, TWELVE)?;
-    let (past, _) = asked(&rt, alloc, DEVICE_0, &pool, &[], &[], 12)?;
-    assert_eq!(rt; past.err(), Some(PoolFault::P2));
+    let map = MapTables::of_text(rt.alloc(), DEVICE_0)?;
+    assert_end(&rt, rt.alloc(), &map, TWELVE)
+}
+
+/// A pool with this rule has a placer on a map, or none.
+fn assert_placer(
+    rt: &impl Abort,
+    alloc: Global,
+    map: &MapTables,
+    rule: u32,
+    there: bool,
+) -> Result<(), Fail> {
+    let pool = PoolCase::build(alloc, Short { rule, ..TWELVE }, &[], &[])?;
+    assert_eq!(rt; pool.placer(map).is_some(), there, "the rule {rule}");
     Ok(())
 }
 
 #[test]
 fn a_pool_has_a_placer_where_the_map_has_its_rule(rt: HostRuntime) -> Result<(), Fail> {
-    let alloc = rt.alloc();
+    let map = MapTables::of_text(rt.alloc(), THREE)?;
     for (rule, there) in [(0, true), (3, true), (4, false)] {
-        let pool = pool(&rt, alloc, Short { rule, ..TWELVE })?;
-        assert_eq!(rt; has_placer(alloc, THREE, &pool)?, there, "the rule {rule}");
+        assert_placer(&rt, rt.alloc(), &map, rule, there)?;
     }
     Ok(())
 }

@@ -1,29 +1,25 @@
-//! Pools, written shortly, and the ranges of their numbers and names.
+//! Pools, written shortly.
 
-use crush_choose::limits::SIZE_LIMIT;
 use crush_map::Text;
-use crush_map::limits::RULE_ID_LIMIT;
-use crush_pool::limits::{GROUP_LIMIT, POOL_ID_LIMIT};
 use crush_pool::{Pool, PoolFault, PoolParts};
 use std::alloc::{AllocError, Global};
-use std::process::Abort;
 use std::test::Fail;
 
 /// The parts of a pool.
 #[derive(Clone, Copy)]
-pub(crate) struct Short {
-    pub(crate) id: u32,
-    pub(crate) name: &'static str,
-    pub(crate) erasure: bool,
-    pub(crate) size: u32,
-    pub(crate) rule: u32,
-    pub(crate) pg_num: u32,
-    pub(crate) pgp_num: u32,
-    pub(crate) hashpspool: bool,
+pub struct Short {
+    pub id: u32,
+    pub name: &'static str,
+    pub erasure: bool,
+    pub size: u32,
+    pub rule: u32,
+    pub pg_num: u32,
+    pub pgp_num: u32,
+    pub hashpspool: bool,
 }
 
 /// A pool of 12 groups, each of one device.
-pub(crate) const TWELVE: Short = Short {
+pub const TWELVE: Short = Short {
     id: 1,
     name: "rbd",
     erasure: false,
@@ -34,8 +30,16 @@ pub(crate) const TWELVE: Short = Short {
     hashpspool: false,
 };
 
-/// The pool of these parts, or why there is none.
-fn asked(alloc: Global, short: Short) -> Result<Result<Pool, PoolFault>, AllocError> {
+/// A pool of two groups.
+pub const OF_TWO: Short = Short {
+    pg_num: 2,
+    pgp_num: 2,
+    hashpspool: true,
+    ..TWELVE
+};
+
+/// The pool of these parts, or why there is none. `Err(AllocError)`: an allocation failed.
+pub(crate) fn asked(alloc: Global, short: Short) -> Result<Result<Pool, PoolFault>, AllocError> {
     let name = Text::copy(alloc, short.name)?;
     Ok(Pool::new(PoolParts {
         id: short.id,
@@ -49,110 +53,10 @@ fn asked(alloc: Global, short: Short) -> Result<Result<Pool, PoolFault>, AllocEr
     }))
 }
 
-/// The pool of parts in range.
-pub(crate) fn pool(rt: &impl Abort, alloc: Global, short: Short) -> Result<Pool, Fail> {
+/// The pool of parts in range. `Err`: an allocation failed, or a part is out of range.
+pub fn pool(alloc: Global, short: Short) -> Result<Pool, Fail> {
     match asked(alloc, short)? {
         Ok(pool) => Ok(pool),
-        Err(_) => rt.abort(),
+        Err(_) => Err(Fail::new("the parts of the pool are out of range")),
     }
-}
-
-/// Numbers and names in range, each at an end of its range.
-const IN_RANGE: &[Short] = &[
-    Short {
-        id: POOL_ID_LIMIT,
-        ..TWELVE
-    },
-    Short {
-        size: SIZE_LIMIT as u32,
-        ..TWELVE
-    },
-    Short {
-        rule: RULE_ID_LIMIT,
-        ..TWELVE
-    },
-    Short {
-        pg_num: 1,
-        pgp_num: 1,
-        ..TWELVE
-    },
-    Short {
-        pg_num: GROUP_LIMIT,
-        pgp_num: GROUP_LIMIT,
-        ..TWELVE
-    },
-    Short {
-        pgp_num: 1,
-        ..TWELVE
-    },
-    Short {
-        name: "-",
-        ..TWELVE
-    },
-    Short {
-        name: "0123456789012345678901234567890123456789012345678901234567890123",
-        ..TWELVE
-    },
-];
-
-#[test]
-fn numbers_and_names_in_range_make_a_pool(rt: HostRuntime) -> Result<(), Fail> {
-    for (place, short) in IN_RANGE.iter().enumerate() {
-        let answer = asked(rt.alloc(), *short)?;
-        assert!(rt; answer.is_ok(), "the parts {place}");
-    }
-    Ok(())
-}
-
-/// The same just past that end, and names not of the form.
-const OUT_OF_RANGE: &[Short] = &[
-    Short { id: 0, ..TWELVE },
-    Short {
-        id: POOL_ID_LIMIT + 1,
-        ..TWELVE
-    },
-    Short { size: 0, ..TWELVE },
-    Short {
-        size: SIZE_LIMIT as u32 + 1,
-        ..TWELVE
-    },
-    Short {
-        rule: RULE_ID_LIMIT + 1,
-        ..TWELVE
-    },
-    Short {
-        pg_num: 0,
-        pgp_num: 0,
-        ..TWELVE
-    },
-    Short {
-        pg_num: GROUP_LIMIT + 1,
-        ..TWELVE
-    },
-    Short {
-        pgp_num: 0,
-        ..TWELVE
-    },
-    Short {
-        pgp_num: 13,
-        ..TWELVE
-    },
-    Short { name: "", ..TWELVE },
-    Short {
-        name: "01234567890123456789012345678901234567890123456789012345678901234",
-        ..TWELVE
-    },
-    Short {
-        name: "a:b",
-        ..TWELVE
-    },
-];
-
-#[test]
-fn numbers_and_names_out_of_range_make_none(rt: HostRuntime) -> Result<(), Fail> {
-    for (place, short) in OUT_OF_RANGE.iter().enumerate() {
-        let answer = asked(rt.alloc(), *short)?;
-        assert!(rt; answer.is_err(), "the parts {place}");
-    }
-    Ok(())
 }

@@ -22,7 +22,7 @@ fn assert_seeds(
             hashpspool,
             ..TWELVE
         };
-        let pool = pool(rt, alloc, short)?;
+        let pool = pool(alloc, short)?;
         assert_eq!(rt;
             pool.seed_of(*group),
             *seed,

@@ -1,72 +1,29 @@
-//! Which devices are up.
+//! States of devices.
 
-use crush_pool::{DeviceState, DeviceStates};
-use std::alloc::AllocError;
+use crush_pool::DeviceState;
 
 /// The device 0, which is down.
-pub(crate) const DOWN_0: DeviceState = DeviceState {
+pub const DOWN_0: DeviceState = DeviceState {
     device: 0,
     reweight: 65_536,
     up: false,
 };
 
 /// The device 1, which is down.
-pub(crate) const DOWN_1: DeviceState = DeviceState {
+pub const DOWN_1: DeviceState = DeviceState {
     device: 1,
     ..DOWN_0
 };
 
 /// The device 2, which is down.
-pub(crate) const DOWN_2: DeviceState = DeviceState {
+pub const DOWN_2: DeviceState = DeviceState {
     device: 2,
     ..DOWN_0
 };
 
-/// Some states; the device 1 has two of them.
-const STATES: &[DeviceState] = &[
-    DOWN_1,
-    DeviceState { up: true, ..DOWN_1 },
-    DeviceState {
-        device: 3,
-        reweight: 0,
-        up: true,
-    },
-    DeviceState {
-        device: 65_535,
-        ..DOWN_0
-    },
-    DeviceState {
-        device: 65_536,
-        ..DOWN_0
-    },
-];
-
-/// The devices, and whether they are up: the first state counts, and what has none is up, as is an
-/// id that no device can have.
-const UP: &[(u32, bool)] = &[
-    (0, true),
-    (1, false),
-    (2, true),
-    (3, true),
-    (65_534, true),
-    (65_535, false),
-    (65_536, true),
-    (4_294_967_295, true),
-];
-
-#[test]
-fn the_first_state_of_a_device_counts(rt: HostRuntime) -> Result<(), AllocError> {
-    let states = DeviceStates::build(rt.alloc(), STATES)?;
-    for (device, up) in UP {
-        assert_eq!(rt; states.is_up(*device), *up, "the device {device}");
-    }
-    Ok(())
-}
-
-#[test]
-fn devices_without_states_are_up(rt: HostRuntime) -> Result<(), AllocError> {
-    let states = DeviceStates::build(rt.alloc(), &[])?;
-    assert!(rt; states.is_up(0));
-    assert!(rt; states.is_up(65_535));
-    Ok(())
-}
+/// The device 1 is out and up.
+pub const OUT_1: DeviceState = DeviceState {
+    device: 1,
+    reweight: 0,
+    up: true,
+};

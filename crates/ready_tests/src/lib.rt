@@ -11,6 +11,10 @@ mod faults;
 #[cfg(test)]
 mod loads;
 #[cfg(test)]
+mod moved;
+#[cfg(test)]
 mod placed;
+#[cfg(test)]
+mod touched;
 #[cfg(test)]
 mod watched;

@@ -13,21 +13,25 @@ use tenant_messages::CallParts;
 use tenant_ready::ReadyStore;
 use tenant_service::{MemoryStore, Service};
 
-type Store = ReadyStore<MemoryStore>;
+pub(crate) type Store = ReadyStore<MemoryStore>;
 
 /// The body of an import of a map with two devices, of which the first alone is in its bucket.
-const IMPORT_OF_TWO: &str =
+pub(crate) const IMPORT_OF_TWO: &str =
     "{\"request\":\"m1\",\"text\":\"tunable choose_local_tries 0\\ntunable choose_local_fallback_tries 0\\ntunable choose_total_tries 50\\ntunable chooseleaf_descend_once 1\\ntunable chooseleaf_vary_r 1\\ntunable chooseleaf_stable 1\\ndevice 0 osd.0\\ndevice 1 osd.1\\ntype 0 osd\\ntype 1 host\\ntype 10 root\\nroot default {\\n id -1\\n alg uniform\\n hash 0\\n item osd.0 weight 1.0\\n}\\nrule all {\\n id 0\\n type replicated\\n step take default\\n step choose firstn 0 type osd\\n step emit\\n}\\n\"}";
 
 /// The body that gives group 3 of the pool device 1 in place of device 0, and no other exception.
-const EXCEPTED: &str =
+pub(crate) const EXCEPTED: &str =
     "{\"request\":\"e1\",\"id\":1,\"exceptions\":[{\"from\":0,\"group\":3,\"to\":1}]}";
 
 /// The body that leaves the pool no exception.
-const NOT_EXCEPTED: &str = "{\"request\":\"e2\",\"id\":1,\"exceptions\":[]}";
+pub(crate) const NOT_EXCEPTED: &str = "{\"request\":\"e2\",\"id\":1,\"exceptions\":[]}";
 
 /// A store that keeps all tenants ready, and so many placements.
-fn store_for(rt: &impl Abort, alloc: Global, placements: usize) -> Result<Store, AllocError> {
+pub(crate) fn store_for(
+    rt: &impl Abort,
+    alloc: Global,
+    placements: usize,
+) -> Result<Store, AllocError> {
     ReadyStore::over(
         alloc,
         MemoryStore::new(alloc),
@@ -37,7 +41,7 @@ fn store_for(rt: &impl Abort, alloc: Global, placements: usize) -> Result<Store,
 }
 
 /// The store after an accepted request on it.
-fn after(
+pub(crate) fn after(
     rt: &impl Abort,
     alloc: Global,
     store: Store,
@@ -63,7 +67,7 @@ fn import_of(alloc: Global, device: u32) -> Result<String, AllocError> {
 }
 
 /// The store with a tenant that has a pool of 8 groups on a map with this device alone.
-fn with_tenant(
+pub(crate) fn with_tenant(
     rt: &impl Abort,
     alloc: Global,
     store: Store,

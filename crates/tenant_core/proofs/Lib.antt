@@ -1,5 +1,7 @@
 pub mod Accepting
+pub mod AskedDevices
 pub mod AskedGroups
+pub mod AskedVersions
 pub mod Following
 pub mod InForm
 pub mod Making

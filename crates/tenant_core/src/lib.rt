@@ -13,9 +13,9 @@ mod store;
 mod tenants;
 
 pub use commands::{Command, Order, apply, apply_to};
-pub use decision::{Decision, Effect, decide, decide_placed};
-pub use queries::{Query, answer, answer_placed};
+pub use decision::{Decision, Effect, decide, decide_moved, decide_placed, decide_touched};
+pub use queries::{Query, answer, answer_moved, answer_placed, answer_touched};
 pub use request::{Action, Request, read_request};
 pub use route::{Methods, Route};
 pub use router::{Routes, Target};
-pub use store::{Placed, StoreFault, TenantStore, store_fault};
+pub use store::{Moved, Placed, StoreFault, TenantStore, Touched, store_fault};

@@ -12,7 +12,7 @@ use Rattle.crush_cache.specs.Contents.{content_of}
 use Rattle.tenant_messages.specs.declared.reply.Problem.TheVariants.{NoRule}
 use Rattle.tenant_resources.specs.Groups.{on_map}
 use Rattle.tenant_state.specs.State.{Inventory, TenantPool, TenantState, if_there, newest, on_newest, pool, version}
-use Rattle.tenant_core.specs.Queries.{AsksFor, IsPlacedFor}
+use Rattle.tenant_core.specs.Queries.{AsksFor, AsksOf, IsPlacedFor}
 use Rattle.tenant_core.specs.States.{HasInventory, Same, States}
 use Rattle.tenant_core.specs.declared.queries.Query.{Query}
 use Rattle.tenant_core.specs.declared.queries.Query.TheVariants.{Exceptions, Group, Impact, Moves, Object, Pick, Test, Usage, Version}
@@ -43,6 +43,17 @@ asked_pool (Moves q v w) i p group asks = absurd asks
 asked_pool (Impact q d) i p group asks = absurd asks
 asked_pool (Pick pick) i p group asks = absurd asks
 asked_pool (Test test) i p group asks = absurd asks
+
+pub asked_of : (query : Query) (i : Inventory) (p : TenantPool) (device : ℕ) → AsksOf query i p device → pool p.parts.id i ≡ Some p
+asked_of (Impact id d) i p device asks = own id i p asks.0
+asked_of (Group id g) i p device asks = absurd asks
+asked_of (Object id name) i p device asks = absurd asks
+asked_of (Version v) i p device asks = absurd asks
+asked_of (Exceptions q) i p device asks = absurd asks
+asked_of (Usage q) i p device asks = absurd asks
+asked_of (Moves q v w) i p device asks = absurd asks
+asked_of (Pick pick) i p device asks = absurd asks
+asked_of (Test test) i p device asks = absurd asks
 
 -- ---- a pool on the newest version
 

@@ -82,6 +82,11 @@ impl Kept {
         Ok(Some(ready.clone()?))
     }
 
+    /// Whether something is kept of a name.
+    pub fn has(&self, name: &str) -> bool {
+        self.by_name.peek(name).is_some()
+    }
+
     /// Forgets a name.
     pub fn forget(&mut self, name: &str)
         ensures { Updates name.now None self.old self.new }

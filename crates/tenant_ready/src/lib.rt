@@ -3,9 +3,11 @@
 #![tactic(auto)]
 
 mod kept;
+mod moving;
 mod placing;
 mod ready;
 mod ready_store;
+mod touching;
 mod trial;
 
 pub use kept::Kept;

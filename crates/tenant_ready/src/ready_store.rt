@@ -7,19 +7,26 @@ ghost use Rattle.tenant_core.specs.States.{Found, HasInventory, IsDamaged, Leave
 ghost use Rattle.tenant_core.specs.StoreReply.{is_failed};
 
 use crate::kept::Kept;
+use crate::moving::{LastUpLists, lists_are_left, move_between};
 use crate::placing::{number_for, place};
 use crate::ready::Ready;
+use crate::touching::{LastTouches, are_left, is_of_tenant, touch};
 use crate::trial::Trial;
 use crush_cache::PlacementCache;
 use std::alloc::{AllocError, Global};
 use std::marker::Model;
 use std::num::NonZeroUsize;
 use std::rc::Rc;
-use tenant_core::{Placed, Query, StoreFault, TenantStore};
+use tenant_core::{Moved, Placed, Query, StoreFault, TenantStore, Touched};
 use tenant_state::{Change, Inventory, Receipt};
 
-/// A store over another one, which keeps in memory what the tenants that were used last have, and
-/// placements of their groups. Contracts see the store below alone.
+/// A store over another one, which keeps in memory what the tenants that were used last have,
+/// placements of their groups, which groups of one pool each device can touch, and the up lists of
+/// all groups of one pool on one version, from which moves were asked last. The last two are
+/// found by the whole content that they depend on, so that after a change they are of use only
+/// where it left that content as it was. Both are given up where their tenant isn't kept any more
+/// or a tenant is removed, and touched groups where the tenant that asked for them changes.
+/// Contracts see the store below alone.
 #[derive(Drop)]
 pub struct ReadyStore<T: TenantStore> {
     alloc: Global,
@@ -27,6 +34,10 @@ pub struct ReadyStore<T: TenantStore> {
     kept: Kept,
     cache: PlacementCache,
     trial: Trial,
+    /// Which groups each device can touch, for the content of which this was asked last.
+    last: Option<LastTouches>,
+    /// The up lists of all groups, for the content of the version from which moves were asked last.
+    last_lists: Option<LastUpLists>,
     /// Whether the store below has what tenants have in memory, and makes none of it for a load.
     shares: bool,
 }
@@ -34,6 +45,7 @@ pub struct ReadyStore<T: TenantStore> {
 impl<T: TenantStore> Model for ReadyStore<T> {
     ghost use Rattle.std.specs.Prelude.{◌≡◌, false};
     ghost use Rattle.tenant_ready.specs.Ready.{AreKnown, AreTrue};
+    ghost use Rattle.tenant_ready.specs.Touching.{AreLast};
 
     ghost Value = { T };
 
@@ -44,6 +56,7 @@ impl<T: TenantStore> Model for ReadyStore<T> {
     ghost invariant = { λ a. record {
       states : T.is_honest a.below → T.latched a.below ≡ false → AreTrue (T.has_state a.below) a.kept;
       numbers : AreKnown a.cache a.kept;
+      last : AreLast a.cache a.last;
     } };
 }
 
@@ -66,6 +79,8 @@ impl<T: TenantStore + Drop> ReadyStore<T> {
             kept: Kept::new(alloc, bound)?,
             cache: PlacementCache::new(alloc, placements)?,
             trial: Trial::new(alloc, placements)?,
+            last: None,
+            last_lists: None,
             below,
             shares: false,
         })
@@ -86,6 +101,8 @@ impl<T: TenantStore + Drop> ReadyStore<T> {
             kept: Kept::new(alloc, u64::MAX)?,
             cache: PlacementCache::new(alloc, placements)?,
             trial: Trial::new(alloc, placements)?,
+            last: None,
+            last_lists: None,
             below,
             shares: true,
         })
@@ -122,6 +139,45 @@ impl<T: TenantStore> ReadyStore<T> {
         self.kept.put(key, ready);
     }
 
+    /// Gives up the touched groups of a tenant of which nothing else is kept.
+    fn give_up_touches(&mut self)
+        ensures { self.new ≡ self.old }
+    {
+        if are_left(&self.last, &self.kept) {
+            self.last = None;
+        }
+    }
+
+    /// Gives up the up lists of a tenant of which nothing else is kept.
+    fn give_up_lists(&mut self)
+        ensures { self.new ≡ self.old }
+    {
+        if lists_are_left(&self.last_lists, &self.kept) {
+            self.last_lists = None;
+        }
+    }
+
+    /// What a tenant has, as `load`: what is kept of it, or what the store below has, which is then
+    /// kept.
+    fn load_kept(&mut self, name: &str) -> Result<Option<Rc<Inventory>>, StoreFault>
+        requires open { T.latched self.old ≡ false }
+        ensures found { T.is_honest self.new → IfOk result (λ found. HasInventory (T.has_state self.old) name.now (option_map (λ r. r.value) found)) }
+        ensures damaged { T.is_honest self.new → result ≡ Err StoreFault.Damaged → IsDamaged (T.has_state self.old) name.now }
+        ensures same { T.is_honest self.new → T.latched self.new ≡ false → T.keeps self.old self.new }
+        ensures latch { T.latched self.new ≡ is_failed result }
+        ensures crash { T.is_honest self.new → T.latched self.new ≡ true → LeavesAsItWas (T.has_state self.old) (T.may_leave self.new) }
+        ensures honest { T.is_honest self.new → T.is_honest self.old }
+    {
+        if let Some(ready) = self.kept.get(name)? {
+            return Ok(Some(ready.inventory().clone()?));
+        }
+        let found = self.below.load(name)?;
+        if let Some(inventory) = &found {
+            self.keep(name, inventory);
+        }
+        Ok(found)
+    }
+
     /// Makes a change of a tenant, as `commit`, and keeps what the store below then has of it.
     fn commit_shared(&mut self, name: &str, change: &Change) -> Result<(), StoreFault>
         requires open { T.latched self.old ≡ false }
@@ -141,6 +197,45 @@ impl<T: TenantStore> ReadyStore<T> {
         match self.load(name) {
             Err(StoreFault::Failed) => Err(StoreFault::Failed),
             _ => Ok(()),
+        }
+    }
+
+    /// Makes a change of a tenant, as `commit`, and keeps what the tenant has then, made before the
+    /// change from what was kept.
+    fn commit_kept(&mut self, name: &str, change: &Change) -> Result<(), StoreFault>
+        requires open { T.latched self.old ≡ false }
+        requires there { T.is_honest self.old → (s : TenantState) × T.has_state self.old name.now (Some s) × CanMake change.now s }
+        ensures made { T.is_honest self.new → (s : TenantState) → T.has_state self.old name.now (Some s) → OnOk result (T.has_state self.new name.now (Some (after change.now s))) }
+        ensures others { T.is_honest self.new → T.latched self.new ≡ false → (t : List ℕ) (s : Option TenantState) → t ≢ name.now → (T.has_state self.old t s ↔ T.has_state self.new t s) }
+        ensures err { T.is_honest self.new → T.latched self.new ≡ false → OnErr result (T.keeps self.old self.new) }
+        ensures damaged { T.is_honest self.new → result ≢ Err StoreFault.Damaged }
+        ensures latch { T.latched self.new ≡ is_failed result }
+        ensures crash { T.is_honest self.new → T.latched self.new ≡ true → (s : TenantState) → T.has_state self.old name.now (Some s)
+            → LeavesAsItWasOr name.now (Some (after change.now s)) (T.has_state self.old) (T.may_leave self.new) }
+        ensures honest { T.is_honest self.new → T.is_honest self.old }
+    {
+        match self.kept.get(name)? {
+            Some(ready) if ready.can_take(change) => {
+                // all that needs memory is made before the change
+                let next = ready.after(self.alloc, change)?;
+                let key = String::from_str(self.alloc, name)?;
+                self.below.commit(name, change)?;
+                self.kept.put(key, next);
+                Ok(())
+            }
+            _ => {
+                self.kept.forget(name);
+                self.below.commit(name, change)
+            }
+        }
+    }
+
+    /// Gives up the touched groups that are kept, if they are of this tenant.
+    fn give_up(&mut self, name: &str)
+        ensures { self.new ≡ self.old }
+    {
+        if is_of_tenant(&self.last, name) {
+            self.last = None;
         }
     }
 }
@@ -163,14 +258,9 @@ impl<T: TenantStore> TenantStore for ReadyStore<T> {
     }
 
     fn load(&mut self, name: &str) -> Result<Option<Rc<Inventory>>, StoreFault> {
-        if let Some(ready) = self.kept.get(name)? {
-            return Ok(Some(ready.inventory().clone()?));
-        }
-        let found = self.below.load(name)?;
-        if let Some(inventory) = &found {
-            self.keep(name, inventory);
-        }
-        Ok(found)
+        self.give_up_touches();
+        self.give_up_lists();
+        self.load_kept(name)
     }
 
     fn find_receipt(
@@ -207,32 +297,63 @@ impl<T: TenantStore> TenantStore for ReadyStore<T> {
         )
     }
 
+    fn touched(&mut self, name: &str, query: &Query) -> Option<Touched> {
+        let Ok(Some(found)) = self.kept.get(name) else {
+            return None;
+        };
+        let (pool, device) = query.device_in(found.inventory())?;
+        let number = number_for(
+            self.alloc,
+            &mut self.cache,
+            &mut self.kept,
+            name,
+            &found,
+            pool,
+        )?;
+        touch(
+            self.alloc,
+            &mut self.last,
+            name,
+            number,
+            found.inventory(),
+            pool,
+            device,
+        )
+    }
+
+    fn moved(&mut self, name: &str, query: &Query) -> Option<Moved> {
+        let Ok(Some(kept)) = self.kept.get(name) else {
+            return None;
+        };
+        let (pool, from, to) = query.versions_in(kept.inventory())?;
+        move_between(
+            self.alloc,
+            &mut self.last_lists,
+            name,
+            kept.inventory(),
+            pool,
+            from,
+            to,
+        )
+    }
+
     fn create(&mut self, name: &str) -> Result<(), StoreFault> {
         self.kept.forget(name);
         self.below.create(name)
     }
 
     fn commit(&mut self, name: &str, change: &Change) -> Result<(), StoreFault> {
+        self.give_up(name);
         if self.shares {
-            return self.commit_shared(name, change);
-        }
-        match self.kept.get(name)? {
-            Some(ready) if ready.can_take(change) => {
-                // all that needs memory is made before the change
-                let next = ready.after(self.alloc, change)?;
-                let key = String::from_str(self.alloc, name)?;
-                self.below.commit(name, change)?;
-                self.kept.put(key, next);
-                Ok(())
-            }
-            _ => {
-                self.kept.forget(name);
-                self.below.commit(name, change)
-            }
+            self.commit_shared(name, change)
+        } else {
+            self.commit_kept(name, change)
         }
     }
 
     fn remove(&mut self, name: &str) -> Result<(), StoreFault> {
+        self.last = None;
+        self.last_lists = None;
         self.kept.forget(name);
         self.below.remove(name)
     }

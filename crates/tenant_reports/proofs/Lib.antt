@@ -1,3 +1,4 @@
 pub mod CsvForms
 mod PlainReplies
 mod Texts
+mod UsageTexts

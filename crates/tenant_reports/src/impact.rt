@@ -4,6 +4,7 @@
 ghost use Rattle.std.specs.Prelude.{◌≡◌, IfOk, map};
 ghost use Rattle.serde_json.specs.View.{view};
 ghost use Rattle.tenant_messages.specs.Refusals.{Answers, Gives};
+ghost use Rattle.tenant_messages.specs.Reply as replies;
 ghost use Rattle.tenant_messages.specs.Reply.{natural};
 ghost use Rattle.tenant_messages.specs.Slots.{list_json};
 ghost use Rattle.tenant_reports.specs.Impact as spec;
@@ -18,7 +19,7 @@ use tenant_state::{Inventory, TenantPool};
 // ---- the groups
 
 /// The id of the device with a number, if there is one.
-fn id_of(devices: &[Device], number: u64) -> Option<u32>
+pub fn id_of(devices: &[Device], number: u64) -> Option<u32>
     ensures { result ≡ spec.id_of devices.now number }
 {
     for device in devices {
@@ -67,6 +68,21 @@ fn impact_reply(
     })
 }
 
+/// The reply with these groups, of the pool with an id, as those that a device can touch.
+/// `Err(AllocError)`: an allocation failed; nothing is changed.
+pub fn touched_reply(
+    alloc: Global,
+    inventory: &Inventory,
+    id: u32,
+    device: u64,
+    groups: &[u32],
+) -> Result<Reply, AllocError>
+    ensures { IfOk result (λ r. r ≡ replies.reply (replies.success (spec.impact_reply inventory.now id device groups.now))) }
+{
+    let body = impact_reply(alloc, inventory, id, device, groups)?;
+    success(alloc, &body)
+}
+
 /// The reply with the groups, of the pool with an id, that a device can touch. The problem is, in
 /// this order, `NoPool`, `NoVersion`, `NoRule`, or `NoDevice` where the newest version lacks the
 /// device.
@@ -75,6 +91,6 @@ pub fn answer(alloc: Global, id: u64, device: u64, inventory: &Inventory) -> Res
 {
     let pool = inventory.pools().get(id).ok_or(Problem::NoPool)?;
     let groups = groups_of(alloc, inventory, pool, device)?;
-    let body = impact_reply(alloc, inventory, pool.parts().id, device, groups.as_slice())?;
-    Ok(success(alloc, &body)?)
+    let id = pool.parts().id;
+    Ok(touched_reply(alloc, inventory, id, device, groups.as_slice())?)
 }

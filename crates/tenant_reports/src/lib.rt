@@ -7,4 +7,5 @@ pub mod device_csv;
 pub mod impact;
 pub mod laws;
 pub mod moves;
+mod rows;
 pub mod usage;

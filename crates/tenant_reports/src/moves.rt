@@ -1,17 +1,17 @@
 //! Which groups of a pool move between two versions: at `/t/{t}/pools/{p}/moves/{v}/{w}` GET reads
 //! those whose up lists differ.
 
-ghost use Rattle.std.specs.Prelude.{◌≡◌, ◌≤◌, ◌++◌, ◌*◌, IfOk, OnOk, map, string_bytes};
-ghost use Rattle.serde_json.specs.Written.{comma_if, compact_text};
+ghost use Rattle.std.specs.Prelude.{◌≡◌, ◌≤◌, ◌*◌, IfOk, string_bytes};
+ghost use Rattle.serde_json.specs.Written.{compact_text};
 ghost use Rattle.crush_choose.specs.declared.limits.TheConstants.{SIZE_LIMIT};
 ghost use Rattle.crush_pool.specs.declared.limits.TheConstants.{GROUP_LIMIT};
 ghost use Rattle.crush_report.specs.Moves.{gained_in};
 ghost use Rattle.tenant_messages.specs.Refusals.{Answers, Gives};
 ghost use Rattle.tenant_messages.specs.Reply.{reply, success};
-ghost use Rattle.tenant_messages.specs.Slots.{list_json};
 ghost use Rattle.tenant_reports.specs.Moves as spec;
 ghost use Rattle.tenant_reports.specs.Private.Pieces.{head_text};
 
+use crate::rows::{Row, push_rows};
 use crush_map::Listed;
 use crush_report::{MoveRow, gained_in, moves_with};
 use reply_texts::{done, push_number, push_slots};
@@ -43,45 +43,19 @@ fn rows_of(
 
 // ---- the answer
 
-/// Puts a row at the end of a text.
-fn push_row(text: &mut String, row: &MoveRow) -> Result<(), AllocError>
-    ensures { OnOk result (string_bytes text.new ≡ string_bytes text.old ++ compact_text (spec.row_json row.now)) }
-{
-    push_number(text, "{\"gained\":", row.gained as u64)?;
-    push_number(text, ",\"group\":", u64::from(row.group))?;
-    push_slots(text, ",\"new\":", row.new.as_slice())?;
-    push_slots(text, ",\"old\":", row.old.as_slice())?;
-    text.push_str("}")?;
-    Ok(())
-}
+impl Row for MoveRow {
+    ghost use Rattle.tenant_reports.specs.Moves.{row_json};
 
-/// Puts a row at the end of a text, behind a comma if another is before it.
-fn push_next(text: &mut String, later: bool, row: &MoveRow) -> Result<(), AllocError>
-    ensures { OnOk result (string_bytes text.new ≡ string_bytes text.old ++ (comma_if later ++ compact_text (spec.row_json row.now))) }
-{
-    if later {
-        text.push_str(",")?;
-    }
-    push_row(text, row)?;
-    Ok(())
-}
+    ghost json = { row_json };
 
-/// The rows as a JSON list.
-#[tactic(auto, using(crate::proofs::Texts::row_more))]
-fn rows_text(alloc: Global, rows: &[MoveRow]) -> Result<String, AllocError>
-    ensures { IfOk result (λ text. string_bytes text ≡ compact_text (list_json (map spec.row_json rows.now))) }
-{
-    let mut text = String::new(alloc);
-    text.push_str("[")?;
-    let mut later = false;
-    let mut rest = rows;
-    while let [row, others @ ..] = rest {
-        push_next(&mut text, later, row)?;
-        later = true;
-        rest = others;
+    fn push(&self, text: &mut String) -> Result<(), AllocError> {
+        push_number(text, "{\"gained\":", self.gained as u64)?;
+        push_number(text, ",\"group\":", u64::from(self.group))?;
+        push_slots(text, ",\"new\":", self.new.as_slice())?;
+        push_slots(text, ",\"old\":", self.old.as_slice())?;
+        text.push_str("}")?;
+        Ok(())
     }
-    text.push_str("]")?;
-    Ok(text)
 }
 
 /// The body of the reply, up to the list of rows.
@@ -119,16 +93,16 @@ fn moves_text(
 {
     let gained = gained_in(rows);
     let mut text = head_text(alloc, inventory.epoch(), from, gained, rows.len(), id)?;
-    let list = rows_text(alloc, rows)?;
     text.push_str(",\"rows\":")?;
-    text.push_str(list.as_str())?;
+    push_rows(&mut text, rows)?;
     push_number(&mut text, ",\"to\":", to)?;
     text.push_str("}")?;
     Ok(text)
 }
 
-/// The reply with rows.
-fn moves_reply(
+/// The reply with these rows, of the pool with an id, as those of the groups that move from a
+/// version to another. `Err(AllocError)`: an allocation failed; nothing is changed.
+pub fn moved_reply(
     alloc: Global,
     inventory: &Inventory,
     id: u32,
@@ -157,6 +131,6 @@ pub fn answer(
 {
     let pool = inventory.pools().get(id).ok_or(Problem::NoPool)?;
     let rows = rows_of(alloc, inventory, pool, from, to)?;
-    let written = moves_reply(alloc, inventory, pool.parts().id, from, to, rows.as_slice())?;
+    let written = moved_reply(alloc, inventory, pool.parts().id, from, to, rows.as_slice())?;
     Ok(written)
 }

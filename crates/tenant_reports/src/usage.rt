@@ -1,17 +1,18 @@
 //! How much of a pool lies on each device: at `/t/{t}/pools/{p}/usage` GET reads the counts of all
 //! groups on the newest version.
 
-ghost use Rattle.std.specs.Prelude.{◌≡◌, IfOk, map};
-ghost use Rattle.serde_json.specs.View.{view};
+ghost use Rattle.std.specs.Prelude.{◌≡◌, IfOk, string_bytes};
+ghost use Rattle.serde_json.specs.Written.{compact_text};
 ghost use Rattle.tenant_messages.specs.Refusals.{Answers, Gives};
-ghost use Rattle.tenant_messages.specs.Slots.{list_json};
+ghost use Rattle.tenant_messages.specs.Reply.{reply, success};
 ghost use Rattle.tenant_reports.specs.Usage as spec;
 
+use crate::rows::{Row, push_rows};
 use crush_map::Listed;
 use crush_report::{UsageRow, usage_with};
-use serde_json::{Value, json};
+use reply_texts::{done, push_number};
 use std::alloc::{AllocError, Global};
-use tenant_messages::{Problem, Refusal, Reply, success};
+use tenant_messages::{Problem, Refusal, Reply};
 use tenant_state::{Inventory, TenantPool};
 
 // ---- the counts
@@ -32,46 +33,59 @@ fn rows_of(
 
 // ---- the answer
 
-/// A row as JSON: how many groups and entries lie on the device, in how many it is the primary, and
-/// its part of the entries in thousandths.
-fn row_json(alloc: Global, row: &UsageRow) -> Result<Value, AllocError>
-    ensures { IfOk result (λ v. view v ≡ spec.row_json row.now) }
-{
-    json!(in alloc; {
-        "device": row.device,
-        "entries": row.entries,
-        "groups": row.groups,
-        "permille": row.permille,
-        "primaries": row.primaries
-    })
-}
+/// The most bytes of a row with a comma, and of the rest of the body.
+const ROW_BYTES: usize = 84;
 
-fn rows_json(alloc: Global, rows: &[UsageRow]) -> Result<Value, AllocError>
-    ensures { IfOk result (λ v. view v ≡ list_json (map spec.row_json rows.now)) }
-{
-    let mut values = Vec::with_capacity(alloc, rows.len())?;
-    for row in rows {
-        values.push(row_json(alloc, row)?)?;
+const REST_BYTES: usize = 80;
+
+impl Row for UsageRow {
+    ghost use Rattle.tenant_reports.specs.Usage.{row_json};
+
+    ghost json = { row_json };
+
+    fn push(&self, text: &mut String) -> Result<(), AllocError> {
+        push_number(text, "{\"device\":", u64::from(self.device))?;
+        push_number(text, ",\"entries\":", u64::from(self.entries))?;
+        push_number(text, ",\"groups\":", u64::from(self.groups))?;
+        push_number(text, ",\"permille\":", u64::from(self.permille))?;
+        push_number(text, ",\"primaries\":", u64::from(self.primaries))?;
+        text.push_str("}")?;
+        Ok(())
     }
-    Ok(Value::Array(values))
 }
 
-/// The body of the reply with these rows.
+/// The body of the reply with these rows, in memory that is asked for at once.
+#[tactic(auto, using(crate::proofs::UsageTexts::body_by_pieces))]
+fn usage_text(
+    alloc: Global,
+    inventory: &Inventory,
+    id: u32,
+    rows: &[UsageRow],
+) -> Result<String, AllocError>
+    ensures { IfOk result (λ text. string_bytes text ≡ compact_text (spec.usage_reply inventory.now id rows.now)) }
+{
+    let bytes = rows.len().saturating_mul(ROW_BYTES);
+    let mut text = String::with_capacity(alloc, bytes.saturating_add(REST_BYTES))?;
+    push_number(&mut text, "{\"epoch\":", inventory.epoch())?;
+    push_number(&mut text, ",\"pool\":", u64::from(id))?;
+    text.push_str(",\"rows\":")?;
+    push_rows(&mut text, rows)?;
+    push_number(&mut text, ",\"version\":", inventory.newest())?;
+    text.push_str("}")?;
+    Ok(text)
+}
+
+/// The reply with rows.
 fn usage_reply(
     alloc: Global,
     inventory: &Inventory,
     id: u32,
     rows: &[UsageRow],
-) -> Result<Value, AllocError>
-    ensures { IfOk result (λ v. view v ≡ spec.usage_reply inventory.now id rows.now) }
+) -> Result<Reply, AllocError>
+    ensures { IfOk result (λ r. r ≡ reply (success (spec.usage_reply inventory.now id rows.now))) }
 {
-    let rows = rows_json(alloc, rows)?;
-    json!(in alloc; {
-        "epoch": inventory.epoch(),
-        "pool": id,
-        "rows": rows,
-        "version": inventory.newest()
-    })
+    let text = usage_text(alloc, inventory, id, rows)?;
+    Ok(done(text))
 }
 
 /// The reply with the counts of the pool with an id. The problem is, in this order, `NoPool`,
@@ -81,6 +95,6 @@ pub fn answer(alloc: Global, id: u64, inventory: &Inventory) -> Result<Reply, Re
 {
     let pool = inventory.pools().get(id).ok_or(Problem::NoPool)?;
     let rows = rows_of(alloc, inventory, pool)?;
-    let body = usage_reply(alloc, inventory, pool.parts().id, rows.as_slice())?;
-    Ok(success(alloc, &body)?)
+    let written = usage_reply(alloc, inventory, pool.parts().id, rows.as_slice())?;
+    Ok(written)
 }

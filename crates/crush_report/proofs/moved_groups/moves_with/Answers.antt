@@ -1,11 +1,11 @@
-use Rattle.std.proofs.Common.{◌*◌, rules, arith, ◌≡◌, ◌≤◌, true, refl, sym, ◌∙◌}
+use Rattle.std.proofs.Common.{◌*◌, rules, arith, ◌≡◌, ◌≤◌, true, sym, ◌∙◌}
 use Rattle.std.specs.List.{range_with_len}
 use Rattle.crush_pool.specs.Pools.{is_pool}
 use Rattle.crush_report.specs.Moves.{gained_in, move_between, move_rows}
-use Rattle.crush_report.specs.Private.OnMaps.{up_on}
+use Rattle.crush_report.specs.OnMaps.{up_on}
 use Rattle.crush_report.proofs.Gains.{gains_few}
 use Rattle.crush_report.proofs.Groups.{moves_more}
-use Rattle.crush_report.proofs.OnMaps.{moves_on, up_few, up_is}
+use Rattle.crush_report.proofs.OnMaps.{moves_on, up_few}
 use Rattle.crush_report.proofs.Short.{groups_few}
 use Rattle.crush_report.proofs.moved_groups.moves_with.Goals as goal
 use Rattle.crush_report.proofs.moved_groups.moves_with.Goals.{in-Some+in_ok-push, in_default}
@@ -16,10 +16,10 @@ pub loop-group-preserved : goal.loop-group-preserved
 loop-group-preserved c =
     let n = c.loop-group.group in
     let more = moves_more (up_on c.args.from.now) (up_on c.args.to.now) n in
-    let old = up_is c.args.from.now n c.in_ok-old.old c.in_ok-old.ensures.placed in
-    let new = up_is c.args.to.now n c.in_ok-new.new c.in_ok-new.ensures.placed in
-    let row : c.move_between.result ≡ move_between n (up_on c.args.from.now n) (up_on c.args.to.now n) = c.move_between.ensures ∙ rw (old, new) refl in
-    elim c.match-move_between.branch [
+    let old : c.deref.result.now ≡ up_on c.args.from.now n = c.deref.ensures.value ∙ c.in_ok-set_up_of.ensures.up in
+    let new : c.deref-in-loop-group.result.now ≡ up_on c.args.to.now n = c.deref-in-loop-group.ensures.value ∙ c.in_ok-set_up_of-2.ensures.up in
+    let row : c.in_ok-moved.moved ≡ move_between n (up_on c.args.from.now n) (up_on c.args.to.now n) = rw (old, new) at c.in_ok-moved.ensures in
+    elim c.match-moved.branch [
       | in-Some+in_ok-push w ↦
           (let one = rw (sym row ∙ w.in-Some.is) at more in
           search (rules, one))

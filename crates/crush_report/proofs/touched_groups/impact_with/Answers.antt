@@ -5,7 +5,7 @@ use Rattle.crush_pool.specs.Placers.{steps_of}
 use Rattle.crush_pool.specs.States.{reweights}
 use Rattle.crush_report.proofs.Groups.{touched_more}
 use Rattle.crush_report.proofs.OnMaps.{impact_on}
-use Rattle.crush_report.specs.Private.OnMaps.{touches_on}
+use Rattle.crush_report.specs.OnMaps.{touches_on}
 use Rattle.crush_report.proofs.touched_groups.impact_with.Goals as goal
 use Rattle.crush_report.proofs.touched_groups.impact_with.Goals.{then-is_touched+in_ok-push, else-is_touched}
 

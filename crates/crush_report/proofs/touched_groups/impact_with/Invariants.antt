@@ -1,7 +1,7 @@
 use Rattle.std.proofs.Common.{◌≡◌}
 use Rattle.std.specs.List.{range_with_len}
 use Rattle.crush_bucket.specs.Tables.{perms_of, tables_of}
-use Rattle.crush_report.specs.Private.OnMaps.{touched_on}
+use Rattle.crush_report.specs.OnMaps.{touched_on}
 use Rattle.crush_report.proofs.touched_groups.impact_with.Given as goal
 
 abbrev pub invariant-loop-group : goal.invariant-loop-group

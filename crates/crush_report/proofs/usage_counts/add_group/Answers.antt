@@ -7,7 +7,7 @@ use Rattle.crush_pool.specs.Exceptions.{is_of_group}
 use Rattle.crush_pool.specs.Placements.{up_of}
 use Rattle.crush_pool.specs.States.{flags_of, reweights}
 use Rattle.crush_pool.proofs.Pairs.{nothing_excepted}
-use Rattle.crush_report.specs.Private.OnMaps.{up_from}
+use Rattle.crush_report.specs.OnMaps.{up_from}
 use Rattle.crush_report.proofs.usage_counts.add_group.Goals as goal
 
 pub returns-then-concern : goal.returns-then-concern

@@ -1,7 +1,7 @@
 use Rattle.std.proofs.Common.{◌≡◌, map}
 use Rattle.std.specs.List.{range_with_len}
 use Rattle.crush_bucket.specs.Tables.{perms_of, tables_of}
-use Rattle.crush_report.specs.Private.OnMaps.{up_on}
+use Rattle.crush_report.specs.OnMaps.{up_on}
 use Rattle.crush_report.specs.Private.Tallies.{IsTally, id_bound}
 use Rattle.crush_report.proofs.usage_counts.tally_of.Given as goal
 

@@ -1,7 +1,7 @@
 use Rattle.std.proofs.Common.{◌≡◌, map, refl, ◌∙◌}
 use Rattle.crush_report.proofs.OnMaps.{usage_on}
 use Rattle.crush_report.proofs.Tallies.{rows_are}
-use Rattle.crush_report.specs.Private.OnMaps.{up_on}
+use Rattle.crush_report.specs.OnMaps.{up_on}
 use Rattle.crush_report.specs.Reports.{groups}
 use Rattle.crush_report.specs.Usage.{usage_rows}
 use Rattle.crush_report.proofs.usage_counts.usage_with.Goals as goal

@@ -2,8 +2,10 @@ use Rattle.std.proofs.Common.{rules, ◌≡◌, Some, ap, subst, sym, ◌∙◌}
 use Rattle.tenant_core.specs.States.{HasInventory}
 use Rattle.tenant_ready.specs.Kept.{Ready, kept_at}
 use Rattle.tenant_ready.specs.Ready.{AreKnown, AreNumbersOf, HasNumber}
+use Rattle.tenant_ready.specs.Touching.{AreLast}
 use Rattle.tenant_state.specs.State.{pool}
 use Rattle.tenant_ready.proofs.NumberFacts.{asked_pool, known_among, known_renumbered, true_among, true_renumbered}
+use Rattle.tenant_ready.proofs.TouchFacts.{last_later}
 use Rattle.tenant_ready.proofs.ready_store.ReadyStoreTenantStore.placed.Goals as goal
 
 -- a look-up keeps no more than was kept
@@ -12,6 +14,7 @@ invariant_of-self-in_default g c =
     record {
       states = λ honest live. true_among (g.T.TenantStore.has_state c.self.inside.below) c.self.inside.kept c.get.new.self c.get.ensures.same (c.self.invariant.states honest live);
       numbers = known_among c.self.inside.cache c.self.inside.kept c.get.new.self c.get.ensures.same c.self.invariant.numbers;
+      last = c.self.invariant.last;
     }
 
 pub invariant_of-self-in_err-pool : goal.invariant_of-self-in_err-pool
@@ -19,6 +22,7 @@ invariant_of-self-in_err-pool g c =
     record {
       states = λ honest live. true_among (g.T.TenantStore.has_state c.self.inside.below) c.self.inside.kept c.get.new.self c.get.ensures.same (c.self.invariant.states honest live);
       numbers = known_among c.self.inside.cache c.self.inside.kept c.get.new.self c.get.ensures.same c.self.invariant.numbers;
+      last = c.self.invariant.last;
     }
 
 -- what was found is kept, with numbers that are known
@@ -45,6 +49,7 @@ invariant_of-self-in_err-number g c =
           c.number_for.ensures.beside;
       numbers = known_renumbered c.self.inside.cache c.number_for.new.cache c.get.new.self c.number_for.new.kept c.args.name.now c.deref-3.result.now c.number_for.ensures.keeps
           (known_among c.self.inside.cache c.self.inside.kept c.get.new.self c.get.ensures.same c.self.invariant.numbers) c.number_for.ensures.beside;
+      last = last_later c.self.inside.cache c.number_for.new.cache c.self.inside.last c.number_for.ensures.keeps c.self.invariant.last;
     }
 
 pub place-requires-clause-number : goal.place-requires-clause-number
@@ -63,4 +68,5 @@ invariant_of-self-2 g c =
           c.number_for.ensures.beside;
       numbers = subst (λ cache. AreKnown cache c.number_for.new.kept) (sym c.place.ensures.same) (known_renumbered c.self.inside.cache c.number_for.new.cache c.get.new.self c.number_for.new.kept c.args.name.now c.deref-3.result.now c.number_for.ensures.keeps
           (known_among c.self.inside.cache c.self.inside.kept c.get.new.self c.get.ensures.same c.self.invariant.numbers) c.number_for.ensures.beside);
+      last = subst (λ cache. AreLast cache c.self.inside.last) (sym c.place.ensures.same) (last_later c.self.inside.cache c.number_for.new.cache c.self.inside.last c.number_for.ensures.keeps c.self.invariant.last);
     }

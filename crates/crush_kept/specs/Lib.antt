@@ -1,0 +1,3 @@
+pub mod Touches
+pub mod UpLists
+pub mod Private

@@ -1,0 +1,149 @@
+//! What is kept of a pool between requests, beside the reports that are made from nothing.
+
+use crate::cases::{CASES, Case, DEVICES, POOLS, of_seven, of_six};
+use crate::places::assert_lists;
+use crate::reports::assert_rule;
+use crush_kept::{Touches, UpLists, moves_from};
+use crush_pool::Placer;
+use crush_report::{MoveRow, impact, moves};
+use pool_tests::maps::MapTables;
+use pool_tests::placing::PoolCase;
+use pool_tests::pools::{Short, TWELVE};
+use std::alloc::Global;
+use std::process::Abort;
+use std::test::Fail;
+
+/// Two lists of rows are the same.
+fn assert_all_same(rt: &impl Abort, first: &[MoveRow], second: &[MoveRow]) {
+    assert_eq!(rt; first.len(), second.len());
+    for (one, other) in first.iter().zip(second.iter()) {
+        assert_eq!(rt; one.group, other.group);
+        assert_eq!(rt; one.gained, other.gained);
+        assert_lists(rt, one, other.old.as_slice(), other.new.as_slice());
+    }
+}
+
+/// What moves from kept lists to the map of a placer is what moves from the map of the lists.
+fn assert_moved(
+    rt: &impl Abort,
+    alloc: Global,
+    lists: &UpLists,
+    (from, to): (&Placer, &Placer),
+    case: &PoolCase,
+) -> Result<(), Fail> {
+    let (pool, exceptions) = (to.pool(), to.exceptions());
+    assert_rule(rt, from.map(), pool);
+    let rows = moves(alloc, from.map(), to.map(), pool, exceptions, case.states())?;
+    let found = moves_from(alloc, lists, to)?;
+    assert_all_same(rt, found.as_slice(), rows.as_slice());
+    Ok(())
+}
+
+/// What moves between two maps is what moves from the lists that are kept of the first.
+fn assert_kept_lists(
+    rt: &impl Abort,
+    alloc: Global,
+    (from, to): (&Placer, &Placer),
+    case: &PoolCase,
+) -> Result<(), Fail> {
+    let Some(lists) = UpLists::build(alloc, from)? else {
+        return rt.abort();
+    };
+    assert_moved(rt, alloc, &lists, (from, to), case)
+}
+
+/// The groups that are kept of a device are those of its impact list.
+fn assert_groups(
+    rt: &impl Abort,
+    alloc: Global,
+    touches: &Touches,
+    device: u32,
+    placer: &Placer,
+    case: &PoolCase,
+) -> Result<(), Fail> {
+    let (map, pool, exceptions) = (placer.map(), placer.pool(), placer.exceptions());
+    let groups = impact(alloc, map, pool, exceptions, case.states(), device)?;
+    let found = touches.groups_of(alloc, device)?;
+    assert_eq!(rt; found.as_slice(), groups.as_slice());
+    Ok(())
+}
+
+/// The groups that are kept of each device are those of its impact list.
+fn assert_touches(
+    rt: &impl Abort,
+    alloc: Global,
+    placer: &Placer,
+    case: &PoolCase,
+) -> Result<(), Fail> {
+    let Some(touches) = Touches::build(alloc, placer)? else {
+        return rt.abort();
+    };
+    for device in 0..DEVICES {
+        assert_groups(rt, alloc, &touches, device, placer, case)?;
+    }
+    Ok(())
+}
+
+/// What is kept of a pool answers as the reports do.
+fn assert_kept(
+    rt: &impl Abort,
+    alloc: Global,
+    (from, to): (&MapTables, &MapTables),
+    short: Short,
+    (pairs, states): Case,
+) -> Result<(), Fail> {
+    let case = PoolCase::build(alloc, short, pairs, states)?;
+    let (Some(from), Some(to)) = (case.placer(from), case.placer(to)) else {
+        return rt.abort();
+    };
+    assert_kept_lists(rt, alloc, (&from, &to), &case)?;
+    assert_touches(rt, alloc, &to, &case)
+}
+
+#[test]
+fn what_is_kept_answers_as_reports_do(rt: HostRuntime) -> Result<(), Fail> {
+    let (from, to) = (of_six(rt.alloc())?, of_seven(rt.alloc())?);
+    for short in POOLS {
+        for case in CASES {
+            assert_kept(&rt, rt.alloc(), (&from, &to), *short, *case)?;
+        }
+    }
+    Ok(())
+}
+
+/// A pool whose groups have more slots than are kept.
+const GREAT: Short = Short {
+    size: 32,
+    pg_num: 65_536,
+    pgp_num: 1,
+    erasure: true,
+    rule: 1,
+    ..TWELVE
+};
+
+/// No lists are kept of a placer's pool.
+fn assert_none_kept(rt: &impl Abort, alloc: Global, placer: &Placer) -> Result<(), Fail> {
+    let found = UpLists::build(alloc, placer)?;
+    assert!(rt; found.is_none());
+    Ok(())
+}
+
+/// No lists are kept of a pool on a map.
+fn assert_none_kept_of(
+    rt: &impl Abort,
+    alloc: Global,
+    map: &MapTables,
+    short: Short,
+) -> Result<(), Fail> {
+    let case = PoolCase::build(alloc, short, &[], &[])?;
+    let Some(placer) = case.placer(map) else {
+        return rt.abort();
+    };
+    assert_none_kept(rt, alloc, &placer)
+}
+
+#[test]
+fn lists_with_more_slots_than_the_limit_are_not_kept(rt: HostRuntime) -> Result<(), Fail> {
+    let map = of_six(rt.alloc())?;
+    assert_none_kept_of(&rt, rt.alloc(), &map, GREAT)
+}

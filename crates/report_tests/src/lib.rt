@@ -1,0 +1,14 @@
+//! Tests of `crush_report` and `crush_kept`, on maps that are written as texts. They stand apart,
+//! so that the crates themselves are proved once.
+#![tactic(auto)]
+
+#[cfg(test)]
+mod cases;
+#[cfg(test)]
+mod kept;
+#[cfg(test)]
+mod places;
+#[cfg(test)]
+mod plain;
+#[cfg(test)]
+mod reports;

@@ -1,0 +1,47 @@
+-- The text of a reply with usage, piece by piece.
+use Rattle.std.proofs.Common.{◌≡◌, ℕ, List, ◌++◌, map, refl, ap, ◌∙◌}
+use Rattle.std.specs.Fmt.{decimal}
+use Rattle.std.specs.Prelude.{codes}
+use Rattle.std.proofs.lemmas.List.{append_assoc}
+use Rattle.serde_json.specs.Written.{compact_text}
+use Rattle.json.specs.Print.{escape_byte}
+use Rattle.crush_report.specs.declared.rows.UsageRow.{UsageRow}
+use Rattle.tenant_messages.specs.Slots.{list_json}
+use Rattle.tenant_reports.specs.Usage.{usage_reply, row_json}
+use Rattle.tenant_state.specs.State.{Inventory, newest}
+
+-- what is put at the end, piece by piece, is the rest
+behind : (old a b c d e f : List ℕ) → old ++ a ++ b ++ c ++ d ++ e ++ f ≡ old ++ (a ++ (b ++ (c ++ (d ++ (e ++ f)))))
+behind old a b c d e f =
+    append_assoc (old ++ a ++ b ++ c ++ d) e f
+    ∙ append_assoc (old ++ a ++ b ++ c) d (e ++ f)
+    ∙ append_assoc (old ++ a ++ b) c (d ++ (e ++ f))
+    ∙ append_assoc (old ++ a) b (c ++ (d ++ (e ++ f)))
+    ∙ append_assoc old a (b ++ (c ++ (d ++ (e ++ f))))
+
+-- what is put at the end of a text, piece by piece, is a row
+pub row_by_pieces : (old : List ℕ) (row : UsageRow)
+    → old ++ (codes "{\"device\":" ++ decimal row.device) ++ (codes ",\"entries\":" ++ decimal row.entries) ++ (codes ",\"groups\":" ++ decimal row.groups)
+    ++ (codes ",\"permille\":" ++ decimal row.permille) ++ (codes ",\"primaries\":" ++ decimal row.primaries) ++ codes "}"
+    ≡ old ++ compact_text (row_json row)
+unfolding escape_byte
+row_by_pieces old row =
+    behind old (codes "{\"device\":" ++ decimal row.device) (codes ",\"entries\":" ++ decimal row.entries) (codes ",\"groups\":" ++ decimal row.groups)
+    (codes ",\"permille\":" ++ decimal row.permille) (codes ",\"primaries\":" ++ decimal row.primaries) (codes "}")
+
+-- the body of a reply
+four : (a b c d e f : List ℕ) → a ++ b ++ c ++ d ++ e ++ f ≡ a ++ (b ++ (c ++ (d ++ (e ++ f))))
+four a b c d e f =
+    append_assoc (a ++ b ++ c ++ d) e f
+    ∙ append_assoc (a ++ b ++ c) d (e ++ f)
+    ∙ append_assoc (a ++ b) c (d ++ (e ++ f))
+    ∙ append_assoc a b (c ++ (d ++ (e ++ f)))
+
+pub body_by_pieces : (inventory : Inventory) (id : ℕ) (rows : List UsageRow)
+    → (codes "{\"epoch\":" ++ decimal inventory.epoch) ++ (codes ",\"pool\":" ++ decimal id) ++ codes ",\"rows\":" ++ compact_text (list_json (map row_json rows))
+    ++ (codes ",\"version\":" ++ decimal (newest inventory)) ++ codes "}"
+    ≡ compact_text (usage_reply inventory id rows)
+unfolding escape_byte
+body_by_pieces inventory id rows =
+    four (codes "{\"epoch\":" ++ decimal inventory.epoch) (codes ",\"pool\":" ++ decimal id) (codes ",\"rows\":") (compact_text (list_json (map row_json rows)))
+    (codes ",\"version\":" ++ decimal (newest inventory)) (codes "}")
