@@ -4,6 +4,8 @@
 RT = rt
 PREFIX = /usr/local
 CRATES =
+# what processors the programs are built for, by rt run's --cpu: rt's own choice, or this
+CPU =
 SCRIPT = examples/first.script
 CASES =
 PORT = 8080
@@ -12,6 +14,14 @@ SECONDS = 600
 KILLS = 1000
 HISTORIES = 4
 SEED = $(shell date +%s)
+CPUS = x86-64 x86-64-v2 x86-64-v3
+FOR = $(if $(CPU),--cpu=$(CPU))
+ifneq ($(filter-out $(CPUS),$(CPU)),)
+  $(error CPU=$(CPU) is none of $(CPUS))
+endif
+ifneq ($(and $(CPU),$(filter test gate,$(MAKECMDGOALS))),)
+  $(error make $(filter test gate,$(MAKECMDGOALS)) tries the program as rt builds it with no CPU: tests/README.md says how to try another)
+endif
 SOURCES = $(shell find crates -name out -prune -o \( -name '*.rt' -o -name '*.antt' \) -print)
 
 build: crushcalc
@@ -19,6 +29,7 @@ build: crushcalc
 
 help:
 	@echo 'make build     proves the crates of the program and builds it as ./crushcalc, optimised (the first time: an hour or more)'
+	@echo '               with CPU=x86-64-v3 for processors since about 2013 (AVX2): quicker reports, and on an older one it ends with status 127'
 	@echo 'make try       plays examples/first.script, or the file SCRIPT=FILE, with no proof: each request with its reply, in a minute or two'
 	@echo 'make cases     plays the scripts of tests/cases, or those with CASES=WORD in their names, with no proof, and compares their replies, in a minute or two'
 	@echo 'make run       builds, and serves examples/first.script or SCRIPT=FILE: each request with its reply'
@@ -62,23 +73,31 @@ tools:
 	@command -v $(RT) >/dev/null 2>&1 || { \
 	  echo "The Rattle toolchain is missing: there is no command '$(RT)'. Put the folder bin/ of its kit on PATH, or give make RT=/path/to/rt." >&2; exit 1; }
 
+# the CPU that the programs were last built for; where another is named this changes, and they are
+# built again
+build/cpu: any
+	@mkdir -p build
+	@echo '$(CPU)' | cmp -s - $@ || echo '$(CPU)' >$@
+
+any:
+
 # the crates are proved side by side; then rt run builds crates/crushcalc/out/crushcalc by LLVM at
-# -O3, and runs it
-crushcalc: $(SOURCES) crates.txt HANDLES | tools
+# -O3, and runs it; with CPU it checks this crate again, over what its proof kept
+crushcalc: $(SOURCES) crates.txt HANDLES build/cpu | tools
 	@mkdir -p build
 	@echo 'Proving the crates and building ./crushcalc: the first time an hour or more on four cores, later what changed.'
 	@{ (cd crates/crushcalc && $(RT) all check --jobs $$(nproc)) 2>&1; echo "$$?" >build/build.status; } | tee build/build.log | awk -v crate=crushcalc -f tools/progress.awk crates.txt -
 	@[ "$$(cat build/build.status)" = 0 ] || { tail -n 30 build/build.log; echo 'The proofs failed; the whole log is build/build.log.' >&2; exit 1; }
-	@(cd crates/crushcalc && $(RT) run -- --help) >build/help.txt 2>>build/build.log || { tail -n 30 build/build.log; echo 'The build failed; the whole log is build/build.log.' >&2; exit 1; }
+	@(cd crates/crushcalc && $(RT) run $(FOR) -- --help) >build/help.txt 2>>build/build.log || { tail -n 30 build/build.log; echo 'The build failed; the whole log is build/build.log.' >&2; exit 1; }
 	@cp crates/crushcalc/out/crushcalc crushcalc
-	@echo 'Built ./crushcalc.'
+	@echo 'Built ./crushcalc$(if $(CPU), for $(CPU)).'
 
 # what make bench measures beside Ceph, and what answers mappings with reweights; built in the same
 # way
-build/crush_bench: $(SOURCES) crates.txt HANDLES | tools
+build/crush_bench: $(SOURCES) crates.txt HANDLES build/cpu | tools
 	@mkdir -p build
 	@echo 'Proving and building crush_bench, which is measured. build/bench.log shows how far it is.'
-	@(cd crates/crush_bench && $(RT) run -- small) >build/bench.txt 2>build/bench.log || { tail -n 30 build/bench.log; echo 'The build failed; the whole log is build/bench.log.' >&2; exit 1; }
+	@(cd crates/crush_bench && $(RT) run $(FOR) -- small) >build/bench.txt 2>build/bench.log || { tail -n 30 build/bench.log; echo 'The build failed; the whole log is build/bench.log.' >&2; exit 1; }
 	@cp crates/crush_bench/out/crush_bench build/crush_bench
 
 # a script's lines, each with its reply; an empty line has none
@@ -199,4 +218,4 @@ clean:
 	@echo 'Removing ./crushcalc, build/ and crates/*/out; the next build proves everything anew.'
 	@rm -rf crushcalc build crates/*/out
 
-.PHONY: build help tools try cases run test gate wrong form install serve ceph-check sqlite-check refused-check fuzz sanitized stops kill-check only-tested http-check page page-check bench bench-deps clean
+.PHONY: any build help tools try cases run test gate wrong form install serve ceph-check sqlite-check refused-check fuzz sanitized stops kill-check only-tested http-check page page-check bench bench-deps clean
