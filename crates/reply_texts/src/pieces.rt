@@ -12,7 +12,8 @@ use itoa::Buffer;
 use std::alloc::AllocError;
 use tenant_messages::Reply;
 
-/// Puts a text and a number at the end of a text. `Err(AllocError)`: an allocation failed.
+/// Puts a text and a number at the end of a text. `Err(AllocError)`: an allocation failed, and of
+/// what was to be put a part may stand there.
 pub fn push_number(text: &mut String, before: &str, number: u64) -> Result<(), AllocError>
     ensures { OnOk result (string_bytes text.new ≡ string_bytes text.old ++ (before.now ++ decimal number)) }
 {
@@ -21,7 +22,8 @@ pub fn push_number(text: &mut String, before: &str, number: u64) -> Result<(), A
     text.push_str(digits.format(number))
 }
 
-/// Puts a text and an item, or none, at the end of a text. `Err(AllocError)`: an allocation failed.
+/// Puts a text and an item, or none, at the end of a text. `Err(AllocError)`: an allocation failed,
+/// and of what was to be put a part may stand there.
 #[tactic(auto, using(crate::proofs::Texts::item_digits))]
 pub fn push_slot(text: &mut String, before: &str, slot: &Option<ItemId>) -> Result<(), AllocError>
     ensures { OnOk result (string_bytes text.new ≡ string_bytes text.old ++ (before.now ++ compact_text (slot_json slot.now))) }
@@ -42,7 +44,7 @@ fn comma(later: bool) -> &'static str
 }
 
 /// Puts a text and a list of items and nones at the end of a text. `Err(AllocError)`: an allocation
-/// failed.
+/// failed, and of what was to be put a part may stand there.
 #[tactic(auto, using(crate::proofs::Texts::item_more))]
 pub fn push_slots(
     text: &mut String,

@@ -1,6 +1,6 @@
 -- What a name has in a cache, before and after a call.
 use native.Mathlib.Omega.{arith}
-use Rattle.std.proofs.Common.{zero, suc, take, map, length, ◌-◌, ◌<◌, ◌≡◌, ◌≢◌, ◌⊎◌, inl, inr, ℕ, List, [], Bool, true, false, ◌∷◌, Option, Some, None, option_map, Contains, refl, sym, ap, subst, ◌∙◌, true≢false, string_bytes, String}
+use Rattle.std.proofs.Common.{zero, suc, take, map, length, ◌-◌, ◌<◌, ◌≡◌, ◌≢◌, ◌⊎◌, inl, inr, ℕ, List, [], Bool, true, false, ◌∷◌, Option, Some, None, option_map, is_some, Contains, refl, sym, ap, subst, ◌∙◌, true≢false, string_bytes, String}
 use Rattle.std.specs.declared.alloc.Global.{Global}
 use Rattle.std.specs.String.{string_eq, string_eq_equiv}
 use Rattle.std.specs.Str.{bytes_eq}
@@ -125,6 +125,14 @@ module _ {V H : Type 0} (f : V → H) where
   of_value : (o : Option V) (h : H) → option_map f o ≡ Some h → (v : V) × (o ≡ Some v) × (f v ≡ h)
   of_value None h e = absurd cc
   of_value (Some v) h e = (v, refl, cc)
+
+  pub some_of_value : (o : Option V) → is_some (option_map f o) ≡ is_some o
+  some_of_value None = refl
+  some_of_value (Some v) = refl
+
+  -- contracts see something of a name where it has an entry
+  pub some_shown : (es : List (String Global × V)) (u : List ℕ) → is_some (lookup (bytes_eq u) (shown es)) ≡ is_some (at es u)
+  some_shown es u = ap is_some (at_shown es u) ∙ some_of_value (at es u)
 
   -- the value that contracts see of a name is that of an entry
   pub found_shown : (es : List (String Global × V)) (u : List ℕ) (h : H) → lookup (bytes_eq u) (shown es) ≡ Some h → (v : V) × (at es u ≡ Some v) × (f v ≡ h)

@@ -42,7 +42,7 @@ impl Model for Kept {
 }
 
 impl Kept {
-    ghost use Rattle.std.specs.Prelude.{◌≡◌, ◌≤◌, ◌<◌, ◌≢◌, ℕ, [], List, Option, Some, None, IfOk, IsSome, length, min, option_map, string_bytes};
+    ghost use Rattle.std.specs.Prelude.{◌≡◌, ◌≤◌, ◌<◌, ◌≢◌, ℕ, [], List, Option, Some, None, IfOk, IsSome, is_some, length, min, option_map, string_bytes};
     ghost use Rattle.tenant_ready.specs.Kept as spec;
     ghost use Rattle.tenant_ready.specs.Kept.{kept_at, bytes_kept, Updates};
     ghost use Rattle.tenant_ready.specs.declared.kept.TheConstants.{GREATEST_BOUND};
@@ -83,7 +83,9 @@ impl Kept {
     }
 
     /// Whether something is kept of a name.
-    pub fn has(&self, name: &str) -> bool {
+    pub fn has(&self, name: &str) -> bool
+        ensures { result ≡ is_some (kept_at self.now name.now) }
+    {
         self.by_name.peek(name).is_some()
     }
 
