@@ -5,6 +5,8 @@ ghost use Rattle.crush_writing.specs.Canonical.{canonical};
 ghost use Rattle.crush_pool.specs.Exceptions.{are_pairs};
 ghost use Rattle.crush_cache.specs.Caches.{KeepsNumbers, WasNumberOf};
 ghost use Rattle.crush_cache.specs.Contents.{content_of};
+ghost use Rattle.crush_choose.specs.Weights.{weights_of};
+ghost use Rattle.crush_pool.specs.States.{flags_of, reweights};
 
 use crush_bucket::Tables;
 use crush_cache::{Content, PlacementCache, SharedExceptions, SharedStates, SharedText};
@@ -222,6 +224,76 @@ fn answer_of(
     }
 }
 
+/// The states of a device, with what a placer reads of them.
+#[derive(Drop)]
+struct Given {
+    states: SharedStates,
+    weights: Weights,
+    flags: DeviceStates,
+}
+
+/// The states that are asked with.
+fn given_of(alloc: Global, asked: &Asked) -> Result<Given, AllocError>
+    ensures weights { IfOk result (λ given. given.weights ≡ weights_of (reweights given.states)) }
+    ensures flags { IfOk result (λ given. given.flags ≡ flags_of given.states) }
+{
+    let states = SharedStates::new(states_of(alloc, asked)?)?;
+    let weights = Weights::of(alloc, &reweights_of(alloc, states.as_slice())?)?;
+    let flags = DeviceStates::build(alloc, states.as_slice())?;
+    Ok(Given {
+        states,
+        weights,
+        flags,
+    })
+}
+
+/// The content that a placement depends on.
+fn content_with(
+    rt: &impl Abort,
+    alloc: Global,
+    map: &CrushMap,
+    states: &SharedStates,
+    pool: &Rc<Pool>,
+    exceptions: &SharedExceptions,
+) -> Result<Content, AllocError>
+    ensures { IfOk result (λ content. content ≡ record { text = canonical map.now; states = states.now; pool = pool.now.value; pairs = exceptions.now }) }
+{
+    let text = text_of(rt, alloc, map)?;
+    Ok(Content::new(text, states.share()?, pool.clone()?, exceptions.share()?))
+}
+
+/// Asks a cache for the placement of a group by what was made for it.
+fn ask_with(
+    rt: &impl Abort,
+    alloc: Global,
+    cache: &mut PlacementCache,
+    map: &CrushMap,
+    given: &Given,
+    pool: &Rc<Pool>,
+    exceptions: &SharedExceptions,
+    group: u32,
+    how: How,
+) -> Result<Answer, Fail>
+    requires weights { given.now.weights ≡ weights_of (reweights given.now.states) }
+    requires flags { given.now.flags ≡ flags_of given.now.states }
+    requires pairs { are_pairs pool.now.value.pg_num exceptions.now ≡ true }
+{
+    let content = content_with(rt, alloc, map, &given.states, pool, exceptions)?;
+    let tables = Tables::build(alloc, map)?;
+    match Placer::new(
+        map,
+        &tables,
+        given.states.as_slice(),
+        &given.weights,
+        &given.flags,
+        pool,
+        exceptions.exceptions(),
+    ) {
+        Some(placer) => answer_of(rt, alloc, cache, &placer, &content, group, how),
+        None => rt.abort(),
+    }
+}
+
 /// Asks a cache for the placement of a group. All that is needed is made anew each time.
 pub(crate) fn ask(
     rt: &impl Abort,
@@ -231,28 +303,21 @@ pub(crate) fn ask(
     group: u32,
     how: How,
 ) -> Result<Answer, Fail> {
+    let given = given_of(alloc, asked)?;
     let map = map_with(alloc, asked.device, asked.is_long)?;
-    let tables = Tables::build(alloc, &map)?;
-    let states = SharedStates::new(states_of(alloc, asked)?)?;
-    let weights = Weights::of(alloc, &reweights_of(alloc, states.as_slice())?)?;
-    let flags = DeviceStates::build(alloc, states.as_slice())?;
     let pool = Rc::new(alloc, pool_of(rt, alloc, asked)?)?;
     let exceptions = exceptions_of(rt, alloc, &pool, asked.pairs)?;
-    let text = text_of(rt, alloc, &map)?;
-    let content = Content::new(text, states.share()?, pool.clone()?, exceptions.share()?);
-    let pairs = exceptions.exceptions();
-    match Placer::new(
+    ask_with(
+        rt,
+        alloc,
+        cache,
         &map,
-        &tables,
-        states.as_slice(),
-        &weights,
-        &flags,
+        &given,
         &pool,
-        pairs,
-    ) {
-        Some(placer) => answer_of(rt, alloc, cache, &placer, &content, group, how),
-        None => rt.abort(),
-    }
+        &exceptions,
+        group,
+        how,
+    )
 }
 
 /// Gives numbers to so many contents, which have a text that is no map's.
