@@ -9,6 +9,8 @@ mod bounds;
 #[cfg(test)]
 mod faults;
 #[cfg(test)]
+mod history;
+#[cfg(test)]
 mod loads;
 #[cfg(test)]
 mod moved;

@@ -1,14 +1,12 @@
 //! Groups that move between versions, as a store has them at hand.
 
 use crate::asking::{Asked, POOL};
-use crate::placed::{EXCEPTED, IMPORT_OF_TWO, NOT_EXCEPTED, Store, after};
-use crate::touched::{CHANGES, IMPORT_OF_BOTH, IN, OUT, assert_same, store_over};
+use crate::history::{Step, assert_history, assert_same};
+use crate::placed::{EXCEPTED, IMPORT_OF_TWO, NOT_EXCEPTED};
+use crate::touched::{CHANGES, IMPORT_OF_BOTH, IN, OUT};
 use crush_choose::Slot;
 use crush_map::ItemId;
-use std::process::Abort;
 use std::test::Fail;
-use tenant_core::{Query, TenantStore};
-use tenant_service::{MemoryStore, Service};
 
 /// What is asked between versions, each twice, some of which aren't there.
 const BETWEEN: [Asked; 10] = [
@@ -26,17 +24,7 @@ const BETWEEN: [Asked; 10] = [
 
 #[test]
 fn moves_are_answered_as_by_a_store_that_keeps_nothing(rt: HostRuntime) -> Result<(), Fail> {
-    let alloc = rt.alloc();
-    for shares in [false, true] {
-        let mut ready = Service::over(alloc, store_over(&rt, alloc, shares)?)?;
-        let mut plain = Service::over(alloc, MemoryStore::new(alloc))?;
-        for change in &CHANGES {
-            assert_same(&rt, &mut ready, &mut plain, change);
-            for asked in BETWEEN.iter().chain(BETWEEN.iter()) {
-                assert_same(&rt, &mut ready, &mut plain, asked);
-            }
-        }
-    }
+    assert_same(&rt, rt.alloc(), &CHANGES, &BETWEEN, 2)?;
     Ok(())
 }
 
@@ -56,113 +44,72 @@ const OF_TWO: [Asked; 11] = [
     ("DELETE", "/t/b", ""),
 ];
 
+/// The same moves of both.
+const OF_BOTH: [Asked; 2] = [
+    ("GET", "/t/a/pools/1/moves/1/2", ""),
+    ("GET", "/t/b/pools/1/moves/1/2", ""),
+];
+
 #[test]
 fn two_tenants_have_moves_of_their_own(rt: HostRuntime) -> Result<(), Fail> {
-    let alloc = rt.alloc();
-    for shares in [false, true] {
-        let mut ready = Service::over(alloc, store_over(&rt, alloc, shares)?)?;
-        let mut plain = Service::over(alloc, MemoryStore::new(alloc))?;
-        for change in &OF_TWO {
-            assert_same(&rt, &mut ready, &mut plain, change);
-            for _ in 0..2 {
-                for path in ["/t/a/pools/1/moves/1/2", "/t/b/pools/1/moves/1/2"] {
-                    assert_same(&rt, &mut ready, &mut plain, &("GET", path, ""));
-                }
-            }
-        }
-    }
+    assert_same(&rt, rt.alloc(), &OF_TWO, &OF_BOTH, 2)?;
     Ok(())
 }
 
 /// The body that takes device 0 out once more.
 const OUT_AGAIN: &str = "{\"request\":\"d4\",\"devices\":[{\"id\":0,\"reweight\":0}]}";
 
-/// Asserts that all 8 groups move from the version with a number to that with the other, from one
-/// up list to another.
-fn assert_all_moved(
-    rt: &impl Abort,
-    store: &mut Store,
-    from: u64,
-    to: u64,
-    old: &[Slot],
-    new: &[Slot],
-) {
-    let Some(moved) = store.moved("a", &Query::Moves(1, from, to)) else {
-        rt.abort()
-    };
-    assert_eq!(rt; moved.rows.as_slice().len(), 8);
-    for (group, row) in moved.rows.as_slice().iter().enumerate() {
-        assert_eq!(rt; row.group as usize, group);
-        assert!(rt;
-            row.old.as_slice() == old && row.new.as_slice() == new,
-            "{group}"
-        );
-    }
-}
+/// How many of the 8 groups have device 1 on version 2: 0, 2, 6 and 7, as Ceph's osdmaptool says.
+const SOME: usize = 4;
 
-/// Asserts how many groups move from the version with a number to that with the other.
-fn assert_moved(rt: &impl Abort, store: &mut Store, from: u64, to: u64, count: usize) {
-    match store.moved("a", &Query::Moves(1, from, to)) {
-        Some(moved) => assert_eq!(rt; moved.rows.as_slice().len(), count),
-        None => rt.abort(),
-    }
-}
+/// Device 1 alone.
+const ON_1: [Slot; 1] = [Some(ItemId(1))];
 
 /// With device 0 out no group has a device on version 1, and each has device 1 on version 2; with
 /// it in again some groups stay on it.
+const EACH_CHANGE: [Step; 19] = [
+    Step::Asks(("PUT", "/t/a", "")),
+    Step::Asks(("POST", "/t/a/maps", IMPORT_OF_TWO)),
+    Step::Asks(("POST", "/t/a/pools", POOL)),
+    Step::Asks(("POST", "/t/a/maps", IMPORT_OF_BOTH)),
+    Step::Asks(("GET", "/t/a", "")),
+    Step::Moves(1, 1, 0),
+    Step::Moves(1, 2, SOME),
+    Step::Asks(("POST", "/t/a/devices", OUT)),
+    Step::MovesAll(1, 2, &[], &ON_1),
+    Step::MovesAll(1, 2, &[], &ON_1),
+    Step::MovesAll(2, 1, &ON_1, &[]),
+    Step::Asks(("POST", "/t/a/devices", IN)),
+    Step::Moves(1, 2, SOME),
+    Step::Moves(2, 1, SOME),
+    Step::Asks(("POST", "/t/a/pools/exceptions", EXCEPTED)),
+    Step::Asks(("POST", "/t/a/devices", OUT_AGAIN)),
+    Step::Moves(1, 2, 8),
+    Step::Asks(("POST", "/t/a/pools/exceptions", NOT_EXCEPTED)),
+    Step::MovesAll(1, 2, &[], &ON_1),
+];
+
 #[test]
 fn each_change_is_seen_in_the_moves_at_hand(rt: HostRuntime) -> Result<(), Fail> {
-    let alloc = rt.alloc();
-    let on_1: [Slot; 1] = [Some(ItemId(1))];
-    for shares in [false, true] {
-        let store = store_over(&rt, alloc, shares)?;
-        let store = after(&rt, alloc, store, "PUT", "/t/a", "")?;
-        let store = after(&rt, alloc, store, "POST", "/t/a/maps", IMPORT_OF_TWO)?;
-        let store = after(&rt, alloc, store, "POST", "/t/a/pools", POOL)?;
-        let store = after(&rt, alloc, store, "POST", "/t/a/maps", IMPORT_OF_BOTH)?;
-        let mut store = after(&rt, alloc, store, "GET", "/t/a", "")?;
-        assert_moved(&rt, &mut store, 1, 1, 0);
-        let Some(moved) = store.moved("a", &Query::Moves(1, 1, 2)) else {
-            rt.abort()
-        };
-        let some = moved.rows.as_slice().len();
-        assert!(rt; some > 0 && some < 8);
-        let mut store = after(&rt, alloc, store, "POST", "/t/a/devices", OUT)?;
-        assert_all_moved(&rt, &mut store, 1, 2, &[], &on_1);
-        assert_all_moved(&rt, &mut store, 1, 2, &[], &on_1);
-        assert_all_moved(&rt, &mut store, 2, 1, &on_1, &[]);
-        let mut store = after(&rt, alloc, store, "POST", "/t/a/devices", IN)?;
-        assert_moved(&rt, &mut store, 1, 2, some);
-        assert_moved(&rt, &mut store, 2, 1, some);
-        let store = after(&rt, alloc, store, "POST", "/t/a/pools/exceptions", EXCEPTED)?;
-        let mut store = after(&rt, alloc, store, "POST", "/t/a/devices", OUT_AGAIN)?;
-        assert_moved(&rt, &mut store, 1, 2, 8);
-        let mut store = after(
-            &rt,
-            alloc,
-            store,
-            "POST",
-            "/t/a/pools/exceptions",
-            NOT_EXCEPTED,
-        )?;
-        assert_all_moved(&rt, &mut store, 1, 2, &[], &on_1);
-    }
+    assert_history(&rt, rt.alloc(), &EACH_CHANGE)?;
     Ok(())
 }
 
+/// Moves of one version, and of what isn't there.
+const NOT_THERE: [Step; 9] = [
+    Step::Asks(("PUT", "/t/a", "")),
+    Step::Asks(("POST", "/t/a/maps", IMPORT_OF_TWO)),
+    Step::Asks(("POST", "/t/a/pools", POOL)),
+    Step::Asks(("GET", "/t/a", "")),
+    Step::Moves(1, 1, 0),
+    Step::MovesNone("a", 1, 1, 2),
+    Step::MovesNone("a", 1, 0, 1),
+    Step::MovesNone("a", 2, 1, 1),
+    Step::MovesNone("b", 1, 1, 1),
+];
+
 #[test]
 fn no_moves_are_at_hand_of_what_is_not_there(rt: HostRuntime) -> Result<(), Fail> {
-    let alloc = rt.alloc();
-    let store = store_over(&rt, alloc, false)?;
-    let store = after(&rt, alloc, store, "PUT", "/t/a", "")?;
-    let store = after(&rt, alloc, store, "POST", "/t/a/maps", IMPORT_OF_TWO)?;
-    let store = after(&rt, alloc, store, "POST", "/t/a/pools", POOL)?;
-    let mut store = after(&rt, alloc, store, "GET", "/t/a", "")?;
-    assert_moved(&rt, &mut store, 1, 1, 0);
-    assert!(rt; store.moved("a", &Query::Moves(1, 1, 2)).is_none());
-    assert!(rt; store.moved("a", &Query::Moves(1, 0, 1)).is_none());
-    assert!(rt; store.moved("a", &Query::Moves(2, 1, 1)).is_none());
-    assert!(rt; store.moved("b", &Query::Moves(1, 1, 1)).is_none());
-    assert!(rt; store.moved("a", &Query::Usage(1)).is_none());
+    assert_history(&rt, rt.alloc(), &NOT_THERE)?;
     Ok(())
 }
