@@ -6,6 +6,7 @@
 mod chains;
 #[cfg(test)]
 mod disks;
-pub mod session;
+#[cfg(test)]
+mod session;
 #[cfg(test)]
 mod stops;

@@ -48,7 +48,7 @@ fn closed<D: Disk + Drop>(conn: Connection<FileStore<D>>) -> Files<D> {
 /// Opens the files, serves the calls as one session of a store that keeps tenants ready, and gives
 /// the files back, closed or as they then stand. There is no session where the opening is refused.
 /// `Err(AllocError)`: an allocation failed; no call was served.
-pub fn session<D: Disk + Drop>(
+pub(crate) fn session<D: Disk + Drop>(
     alloc: Global,
     files: Files<D>,
     calls: &[Call],
