@@ -68,7 +68,7 @@ pub(crate) fn watched_service(
 }
 
 /// The same, of which no call meets a fault.
-pub(crate) fn counted_service(
+fn counted_service(
     rt: &impl Abort,
     alloc: Global,
     over: Over,
@@ -88,17 +88,38 @@ pub(crate) fn ask<T: TenantStore>(service: &mut Service<T>, asked: &Asked) -> Re
     })
 }
 
-/// Asserts that a request is answered with this status, after which so many calls of `load` have
-/// reached the store below.
-pub(crate) fn assert_loads<T: TenantStore>(
+/// A request, the status of its reply, and how many calls of `load` have then reached the store
+/// below.
+pub(crate) type Load = (Asked, u16, u64);
+
+/// Asserts what these rows say.
+fn assert_rows<T: TenantStore>(
     rt: &impl Abort,
     service: &mut Service<T>,
     loads: &Rc<Cell<u64>>,
-    rows: &[(Asked, u16, u64)],
+    rows: &[Load],
 ) {
     for (asked, status, count) in rows {
         let reply = ask(service, asked);
         assert_eq!(rt; reply.status, *status, "{} {}", asked.0, asked.1);
         assert_eq!(rt; loads.get(), *count, "{} {}", asked.0, asked.1);
     }
+}
+
+/// Asserts what these rows say of a new service, and what others say so many times after them.
+pub(crate) fn assert_loads(
+    rt: &impl Abort,
+    alloc: Global,
+    over: Over,
+    rows: &[Load],
+    others: &[Load],
+    times: u32,
+) -> Result<(), AllocError> {
+    let loads = Rc::new(alloc, Cell::new(0))?;
+    let mut service = counted_service(rt, alloc, over, &loads)?;
+    assert_rows(rt, &mut service, &loads, rows);
+    for _ in 0..times {
+        assert_rows(rt, &mut service, &loads, others);
+    }
+    Ok(())
 }

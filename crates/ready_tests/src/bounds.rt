@@ -1,8 +1,6 @@
 //! What is kept of tenants within a number of bytes.
 
-use crate::asking::{IMPORT, Over, assert_loads, counted_service, room_for};
-use std::cell::Cell;
-use std::rc::Rc;
+use crate::asking::{IMPORT, Load, Over, assert_loads, room_for};
 use std::test::Fail;
 use tenant_core::TenantStore;
 use tenant_ready::ReadyStore;
@@ -12,62 +10,51 @@ use tenant_state::size::INVENTORY_BYTES;
 /// Room for two tenants that were just created.
 const TWO: u64 = 2 * INVENTORY_BYTES;
 
+/// Three tenants by turns, of which two are kept.
+const OF_THREE: [Load; 14] = [
+    (("PUT", "/t/a", ""), 201, 1),
+    (("PUT", "/t/b", ""), 201, 2),
+    (("PUT", "/t/c", ""), 201, 3),
+    (("GET", "/t/a", ""), 200, 4),
+    (("GET", "/t/b", ""), 200, 5),
+    (("GET", "/t/a", ""), 200, 5),
+    (("GET", "/t/b", ""), 200, 5),
+    (("GET", "/t/a", ""), 200, 5),
+    (("GET", "/t/c", ""), 200, 6),
+    (("GET", "/t/a", ""), 200, 6),
+    (("GET", "/t/b", ""), 200, 7),
+    (("GET", "/t/c", ""), 200, 8),
+    (("GET", "/t/a", ""), 200, 9),
+    (("GET", "/t/b", ""), 200, 10),
+];
+
 #[test]
 fn the_tenant_used_least_recently_is_given_up(rt: HostRuntime) -> Result<(), Fail> {
-    let alloc = rt.alloc();
-    let loads = Rc::new(alloc, Cell::new(0))?;
-    let mut service = counted_service(&rt, alloc, Over::Bound(TWO), &loads)?;
-    assert_loads(
-        &rt,
-        &mut service,
-        &loads,
-        &[
-            (("PUT", "/t/a", ""), 201, 1),
-            (("PUT", "/t/b", ""), 201, 2),
-            (("PUT", "/t/c", ""), 201, 3),
-            (("GET", "/t/a", ""), 200, 4),
-            (("GET", "/t/b", ""), 200, 5),
-            (("GET", "/t/a", ""), 200, 5),
-            (("GET", "/t/b", ""), 200, 5),
-            (("GET", "/t/a", ""), 200, 5),
-            (("GET", "/t/c", ""), 200, 6),
-            (("GET", "/t/a", ""), 200, 6),
-            (("GET", "/t/b", ""), 200, 7),
-            (("GET", "/t/c", ""), 200, 8),
-            (("GET", "/t/a", ""), 200, 9),
-            (("GET", "/t/b", ""), 200, 10),
-        ],
-    );
+    assert_loads(&rt, rt.alloc(), Over::Bound(TWO), &OF_THREE, &[], 0)?;
     Ok(())
 }
 
 /// With a map tenant a is larger than the bound.
+const LARGER: [Load; 12] = [
+    (("PUT", "/t/a", ""), 201, 1),
+    (("PUT", "/t/b", ""), 201, 2),
+    (("GET", "/t/b", ""), 200, 3),
+    (("GET", "/t/a", ""), 200, 4),
+    (("POST", "/t/a/maps", IMPORT), 201, 4),
+    (("GET", "/t/a", ""), 200, 4),
+    (("GET", "/t/a", ""), 200, 4),
+    (("GET", "/t/b", ""), 200, 5),
+    (("GET", "/t/b", ""), 200, 5),
+    (("GET", "/t/a", ""), 200, 6),
+    (("GET", "/t/a", ""), 200, 6),
+    (("GET", "/t/b", ""), 200, 7),
+];
+
 #[test]
 fn a_tenant_larger_than_the_bound_is_kept_while_it_is_the_one_used_last(
     rt: HostRuntime,
 ) -> Result<(), Fail> {
-    let alloc = rt.alloc();
-    let loads = Rc::new(alloc, Cell::new(0))?;
-    let mut service = counted_service(&rt, alloc, Over::Bound(TWO), &loads)?;
-    assert_loads(
-        &rt,
-        &mut service,
-        &loads,
-        &[
-            (("PUT", "/t/a", ""), 201, 1),
-            (("PUT", "/t/b", ""), 201, 2),
-            (("GET", "/t/b", ""), 200, 3),
-            (("GET", "/t/a", ""), 200, 4),
-            (("POST", "/t/a/maps", IMPORT), 201, 4),
-            (("GET", "/t/a", ""), 200, 4),
-            (("GET", "/t/a", ""), 200, 4),
-            (("GET", "/t/b", ""), 200, 5),
-            (("GET", "/t/b", ""), 200, 5),
-            (("GET", "/t/a", ""), 200, 6),
-            (("GET", "/t/a", ""), 200, 6),
-            (("GET", "/t/b", ""), 200, 7),
-        ],
-    );
+    assert_loads(&rt, rt.alloc(), Over::Bound(TWO), &LARGER, &[], 0)?;
     Ok(())
 }
 

@@ -3,12 +3,13 @@
 
 use crate::asking::{Asked, DOWN, IMPORT, Over, POOL, ask, watched_service};
 use crate::watched::Fault;
-use std::alloc::Global;
+use std::alloc::{AllocError, Global};
 use std::cell::Cell;
 use std::process::Abort;
 use std::rc::Rc;
 use std::test::Fail;
-use tenant_service::Service;
+use tenant_core::TenantStore;
+use tenant_service::{MemoryStore, Service};
 
 /// Requests of two tenants, one of which is dropped and created again.
 const ASKED: &[Asked] = &[
@@ -31,25 +32,20 @@ const ASKED: &[Asked] = &[
     ("GET", "/t/b/maps/1", ""),
 ];
 
-/// How many of these requests are answered 503 where the store's call after `left` others meets a
-/// fault. The others have the replies that a service in memory gives to them alone.
-fn unanswered(
+/// How many of these requests a service answers 503. The others have the replies that a service
+/// gives to them alone.
+fn count_unanswered<T: TenantStore>(
     rt: &impl Abort,
-    alloc: Global,
-    over: Over,
-    left: u64,
-    fault: Fault,
-) -> Result<usize, Fail> {
-    let mut service = watched_service(rt, alloc, over, Rc::new(alloc, Cell::new(0))?, left, fault)?;
-    let mut alone = Service::in_memory(alloc)?;
+    service: &mut Service<T>,
+    alone: &mut Service<MemoryStore>,
+) -> usize {
     let mut count: usize = 0;
-    for place in 0..ASKED.len() {
-        let asked = &ASKED[place];
-        let reply = ask(&mut service, asked);
+    for asked in ASKED {
+        let reply = ask(service, asked);
         if reply.status == 503 {
             count = count.wrapping_add(1);
         } else {
-            let wanted = ask(&mut alone, asked);
+            let wanted = ask(alone, asked);
             assert_eq!(rt; reply.status, wanted.status, "{} {}", asked.0, asked.1);
             assert_eq!(rt;
                 reply.body.as_str(),
@@ -60,7 +56,21 @@ fn unanswered(
             );
         }
     }
-    Ok(count)
+    count
+}
+
+/// How many of these requests are answered 503 where the store's call after `left` others meets a
+/// fault. The others have the replies that a service in memory gives to them alone.
+fn unanswered(
+    rt: &impl Abort,
+    alloc: Global,
+    over: Over,
+    left: u64,
+    fault: Fault,
+) -> Result<usize, AllocError> {
+    let mut service = watched_service(rt, alloc, over, Rc::new(alloc, Cell::new(0))?, left, fault)?;
+    let mut alone = Service::in_memory(alloc)?;
+    Ok(count_unanswered(rt, &mut service, &mut alone))
 }
 
 /// The tenant used last is kept, whatever its size; or others that fit beside it; or all are.

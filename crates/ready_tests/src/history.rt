@@ -1,12 +1,11 @@
 //! Histories of a store, with what it has at hand between its requests.
 
-use crate::asking::{Asked, ask, room_for};
-use crate::placed::{Store, after, store_for};
+use crate::asking::{Asked, ask};
+use crate::placed::{Store, after, store_over};
 use crush_choose::Slot;
 use std::alloc::{AllocError, Global};
 use std::process::Abort;
 use tenant_core::{Query, TenantStore};
-use tenant_ready::ReadyStore;
 use tenant_service::{MemoryStore, Service};
 
 /// A part of a history.
@@ -26,14 +25,8 @@ pub(crate) enum Step {
     MovesNone(&'static str, u64, u64, u64),
 }
 
-/// A store, which keeps what tenants have or shares it with the one below.
-fn store_over(rt: &impl Abort, alloc: Global, shares: bool) -> Result<Store, AllocError> {
-    if shares {
-        ReadyStore::over_memory(alloc, MemoryStore::new(alloc), room_for(rt, 16))
-    } else {
-        store_for(rt, alloc, 16)
-    }
-}
+/// Room for the placements of these histories.
+const ROOM: usize = 16;
 
 /// Asserts which groups of a tenant's first pool a device can touch.
 pub(crate) fn assert_touched(
@@ -121,7 +114,7 @@ pub(crate) fn assert_history(
     steps: &[Step],
 ) -> Result<(), AllocError> {
     for shares in [false, true] {
-        let mut store = store_over(rt, alloc, shares)?;
+        let mut store = store_over(rt, alloc, shares, ROOM)?;
         for step in steps {
             store = after_step(rt, alloc, store, step)?;
         }
@@ -139,18 +132,30 @@ pub(crate) fn assert_same(
     times: u32,
 ) -> Result<(), AllocError> {
     for shares in [false, true] {
-        let mut ready = Service::over(alloc, store_over(rt, alloc, shares)?)?;
+        let mut ready = Service::over(alloc, store_over(rt, alloc, shares, ROOM)?)?;
         let mut plain = Service::over(alloc, MemoryStore::new(alloc))?;
-        for change in changes {
-            assert_same_reply(rt, &mut ready, &mut plain, change);
-            for _ in 0..times {
-                for asked in asked {
-                    assert_same_reply(rt, &mut ready, &mut plain, asked);
-                }
+        assert_same_replies(rt, &mut ready, &mut plain, changes, asked, times);
+    }
+    Ok(())
+}
+
+/// Asserts that two services answer alike.
+fn assert_same_replies(
+    rt: &impl Abort,
+    ready: &mut Service<Store>,
+    plain: &mut Service<MemoryStore>,
+    changes: &[Asked],
+    asked: &[Asked],
+    times: u32,
+) {
+    for change in changes {
+        assert_same_reply(rt, ready, plain, change);
+        for _ in 0..times {
+            for asked in asked {
+                assert_same_reply(rt, ready, plain, asked);
             }
         }
     }
-    Ok(())
 }
 
 /// Asserts that two services answer a request alike.

@@ -1,8 +1,7 @@
 //! How often a store is loaded from while another one over it keeps ready what tenants have.
 
-use crate::asking::{DOWN, IMPORT, Over, POOL, ask, assert_loads, counted_service, room_for};
+use crate::asking::{DOWN, IMPORT, Load, Over, POOL, ask, assert_loads, room_for};
 use std::alloc::{AllocError, Global};
-use std::cell::Cell;
 use std::process::Abort;
 use std::rc::Rc;
 use std::test::Fail;
@@ -13,72 +12,58 @@ use tenant_service::{MemoryStore, Service};
 /// Room for all that these tests keep.
 const AMPLE: Over = Over::Bound(1_000_000);
 
+/// A new tenant.
+const CREATED: [Load; 1] = [(("PUT", "/t/a", ""), 201, 1)];
+
+/// What is asked of it often.
+const AGAIN: [Load; 1] = [(("GET", "/t/a", ""), 200, 2)];
+
 #[test]
 fn a_thousand_requests_on_a_tenant_load_it_once(rt: HostRuntime) -> Result<(), Fail> {
-    let alloc = rt.alloc();
-    let loads = Rc::new(alloc, Cell::new(0))?;
-    let mut service = counted_service(&rt, alloc, AMPLE, &loads)?;
-    assert_loads(&rt, &mut service, &loads, &[(("PUT", "/t/a", ""), 201, 1)]);
-    for _ in 0..1_000 {
-        let reply = ask(&mut service, &("GET", "/t/a", ""));
-        assert_eq!(rt; reply.status, 200);
-    }
-    assert_eq!(rt; loads.get(), 2);
+    assert_loads(&rt, rt.alloc(), AMPLE, &CREATED, &AGAIN, 1_000)?;
     Ok(())
 }
 
 /// What a tenant has after a change is kept in place of what it had. A tenant that is dropped is
 /// given up, and one that is absent is never kept.
+const CHANGED: [Load; 13] = [
+    (("PUT", "/t/a", ""), 201, 1),
+    (("POST", "/t/a/maps", IMPORT), 201, 2),
+    (("POST", "/t/a/pools", POOL), 201, 2),
+    (("POST", "/t/a/devices", DOWN), 200, 2),
+    (("POST", "/t/a/devices", DOWN), 200, 2),
+    (("POST", "/t/a/maps", POOL), 400, 2),
+    (("GET", "/t/a/pools/1/groups/0", ""), 200, 2),
+    (("DELETE", "/t/a", ""), 200, 2),
+    (("GET", "/t/a", ""), 404, 3),
+    (("GET", "/t/a", ""), 404, 4),
+    (("PUT", "/t/a", ""), 201, 5),
+    (("GET", "/t/a/maps/1", ""), 404, 6),
+    (("GET", "/t/a/maps/1", ""), 404, 6),
+];
+
 #[test]
 fn a_changed_tenant_is_not_loaded_again(rt: HostRuntime) -> Result<(), Fail> {
-    let alloc = rt.alloc();
-    let loads = Rc::new(alloc, Cell::new(0))?;
-    let mut service = counted_service(&rt, alloc, AMPLE, &loads)?;
-    assert_loads(
-        &rt,
-        &mut service,
-        &loads,
-        &[
-            (("PUT", "/t/a", ""), 201, 1),
-            (("POST", "/t/a/maps", IMPORT), 201, 2),
-            (("POST", "/t/a/pools", POOL), 201, 2),
-            (("POST", "/t/a/devices", DOWN), 200, 2),
-            (("POST", "/t/a/devices", DOWN), 200, 2),
-            (("POST", "/t/a/maps", POOL), 400, 2),
-            (("GET", "/t/a/pools/1/groups/0", ""), 200, 2),
-            (("DELETE", "/t/a", ""), 200, 2),
-            (("GET", "/t/a", ""), 404, 3),
-            (("GET", "/t/a", ""), 404, 4),
-            (("PUT", "/t/a", ""), 201, 5),
-            (("GET", "/t/a/maps/1", ""), 404, 6),
-            (("GET", "/t/a/maps/1", ""), 404, 6),
-        ],
-    );
+    assert_loads(&rt, rt.alloc(), AMPLE, &CHANGED, &[], 0)?;
     Ok(())
 }
 
 /// Over a store in memory a change is followed by one load below, which gives what that store has.
+const IN_MEMORY: [Load; 9] = [
+    (("PUT", "/t/a", ""), 201, 1),
+    (("POST", "/t/a/maps", IMPORT), 201, 3),
+    (("POST", "/t/a/pools", POOL), 201, 4),
+    (("POST", "/t/a/devices", DOWN), 200, 5),
+    (("POST", "/t/a/devices", DOWN), 200, 5),
+    (("POST", "/t/a/maps", POOL), 400, 5),
+    (("GET", "/t/a/pools/1/groups/0", ""), 200, 5),
+    (("DELETE", "/t/a", ""), 200, 5),
+    (("GET", "/t/a", ""), 404, 6),
+];
+
 #[test]
 fn a_change_in_memory_loads_once(rt: HostRuntime) -> Result<(), Fail> {
-    let alloc = rt.alloc();
-    let loads = Rc::new(alloc, Cell::new(0))?;
-    let mut service = counted_service(&rt, alloc, Over::Memory, &loads)?;
-    assert_loads(
-        &rt,
-        &mut service,
-        &loads,
-        &[
-            (("PUT", "/t/a", ""), 201, 1),
-            (("POST", "/t/a/maps", IMPORT), 201, 3),
-            (("POST", "/t/a/pools", POOL), 201, 4),
-            (("POST", "/t/a/devices", DOWN), 200, 5),
-            (("POST", "/t/a/devices", DOWN), 200, 5),
-            (("POST", "/t/a/maps", POOL), 400, 5),
-            (("GET", "/t/a/pools/1/groups/0", ""), 200, 5),
-            (("DELETE", "/t/a", ""), 200, 5),
-            (("GET", "/t/a", ""), 404, 6),
-        ],
-    );
+    assert_loads(&rt, rt.alloc(), Over::Memory, &IN_MEMORY, &[], 0)?;
     Ok(())
 }
 

@@ -1,6 +1,6 @@
 //! Placements that a store has at hand.
 
-use crate::asking::{DOWN, IMPORT, POOL, room_for};
+use crate::asking::{Asked, DOWN, IMPORT, POOL, room_for};
 use crush_choose::Slot;
 use crush_map::ItemId;
 use crush_pool::Placement;
@@ -40,6 +40,21 @@ pub(crate) fn store_for(
     )
 }
 
+/// A store with room for so many placements, which keeps what tenants have, or shares it with the
+/// one below.
+pub(crate) fn store_over(
+    rt: &impl Abort,
+    alloc: Global,
+    shares: bool,
+    placements: usize,
+) -> Result<Store, AllocError> {
+    if shares {
+        ReadyStore::over_memory(alloc, MemoryStore::new(alloc), room_for(rt, placements))
+    } else {
+        store_for(rt, alloc, placements)
+    }
+}
+
 /// The store after an accepted request on it.
 pub(crate) fn after(
     rt: &impl Abort,
@@ -66,6 +81,25 @@ fn import_of(alloc: Global, device: u32) -> Result<String, AllocError> {
     )
 }
 
+/// The paths of a tenant, of its maps and of its pools, and the body of its import.
+#[derive(Drop)]
+struct Made {
+    tenant: String,
+    maps: String,
+    pools: String,
+    import: String,
+}
+
+/// These of a tenant with a map that has this device alone.
+fn made_of(alloc: Global, tenant: &str, device: u32) -> Result<Made, AllocError> {
+    Ok(Made {
+        tenant: format!(in alloc; "/t/{tenant}")?,
+        maps: format!(in alloc; "/t/{tenant}/maps")?,
+        pools: format!(in alloc; "/t/{tenant}/pools")?,
+        import: import_of(alloc, device)?,
+    })
+}
+
 /// The store with a tenant that has a pool of 8 groups on a map with this device alone.
 pub(crate) fn with_tenant(
     rt: &impl Abort,
@@ -74,13 +108,11 @@ pub(crate) fn with_tenant(
     tenant: &str,
     device: u32,
 ) -> Result<Store, AllocError> {
-    let path = format!(in alloc; "/t/{tenant}")?;
-    let maps = format!(in alloc; "/t/{tenant}/maps")?;
-    let pools = format!(in alloc; "/t/{tenant}/pools")?;
-    let import = import_of(alloc, device)?;
-    let store = after(rt, alloc, store, "PUT", path.as_str(), "")?;
-    let store = after(rt, alloc, store, "POST", maps.as_str(), import.as_str())?;
-    after(rt, alloc, store, "POST", pools.as_str(), POOL)
+    let made = made_of(alloc, tenant, device)?;
+    let (maps, import) = (made.maps.as_str(), made.import.as_str());
+    let store = after(rt, alloc, store, "PUT", made.tenant.as_str(), "")?;
+    let store = after(rt, alloc, store, "POST", maps, import)?;
+    after(rt, alloc, store, "POST", made.pools.as_str(), POOL)
 }
 
 /// The placement that the store has at hand of a group of a tenant's pool.
@@ -171,21 +203,21 @@ fn assert_led_to(rt: &impl Abort, placement: &Placement, device: i32) {
     assert_eq!(rt; placement.primary, slot);
 }
 
-/// A store, which keeps what tenants have or shares it with the one below, with two tenants that
-/// have the same map and the same pool.
+/// Two tenants that have the same map and the same pool.
+const TWO_TENANTS: [Asked; 6] = [
+    ("PUT", "/t/a", ""),
+    ("POST", "/t/a/maps", IMPORT_OF_TWO),
+    ("POST", "/t/a/pools", POOL),
+    ("PUT", "/t/b", ""),
+    ("POST", "/t/b/maps", IMPORT_OF_TWO),
+    ("POST", "/t/b/pools", POOL),
+];
+
+/// A store with these, which keeps what tenants have or shares it with the one below.
 fn store_of_two(rt: &impl Abort, alloc: Global, shares: bool) -> Result<Store, AllocError> {
-    let mut store = if shares {
-        ReadyStore::over_memory(alloc, MemoryStore::new(alloc), room_for(rt, 1_024))?
-    } else {
-        store_for(rt, alloc, 1_024)?
-    };
-    for tenant in ["a", "b"] {
-        let path = format!(in alloc; "/t/{tenant}")?;
-        let maps = format!(in alloc; "/t/{tenant}/maps")?;
-        let pools = format!(in alloc; "/t/{tenant}/pools")?;
-        store = after(rt, alloc, store, "PUT", path.as_str(), "")?;
-        store = after(rt, alloc, store, "POST", maps.as_str(), IMPORT_OF_TWO)?;
-        store = after(rt, alloc, store, "POST", pools.as_str(), POOL)?;
+    let mut store = store_over(rt, alloc, shares, 1_024)?;
+    for (method, path, body) in &TWO_TENANTS {
+        store = after(rt, alloc, store, method, path, body)?;
     }
     Ok(store)
 }
