@@ -1,8 +1,8 @@
 """What the proof of each crate takes, watched from outside while rt ci runs: the processor time and
 the memory of the toolchain's processes, by crate.
 
-A process of the prover names its crate (--crate-name), and --test where it proves the tests. What it
-and those below it use is read from /proc a few times a second.
+A process of the prover names its crate (--crate-name), and --test where it proves the tests. What
+it and those below it use is read from /proc a few times a second.
 """
 import collections
 import os
@@ -16,7 +16,8 @@ EVERY = 0.5  # seconds
 
 
 class Process:
-    """A line of /proc: who began it, seconds of processor with those of ended children, and bytes."""
+    """A line of /proc: who began it, seconds of processor with those of ended children, and
+    bytes."""
 
     def __init__(self, number):
         fields = pathlib.Path(f"/proc/{number}/stat").read_text().rpartition(")")[2].split()

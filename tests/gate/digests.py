@@ -1,10 +1,10 @@
 """The digest of all that the refusal of an edit rests on.
 
-That is the function that the edit changes, whole, with its proofs; of its crate what other proofs can
-see: heads, clauses, types, constants, definitions and shared lemmas; and of the crates below the same
-without what is private there and without lemmas, since no lemma makes a false goal true. Another
-function's body is proved apart. Comments and layout say nothing to the prover. An edit that doesn't
-change the body of one function rests on its whole crate.
+That is the function that the edit changes, whole, with its proofs; of its crate what other proofs
+can see: heads, clauses, types, constants, definitions and shared lemmas; and of the crates below
+the same without what is private there and without lemmas, since no lemma makes a false goal true.
+Another function's body is proved apart. Comments and layout say nothing to the prover. An edit that
+doesn't change the body of one function rests on its whole crate.
 """
 import hashlib
 import re

@@ -1,9 +1,9 @@
 """Wrong bodies that the prover must refuse: crates/NAME/must-fail/WHAT_IT_DOES.edit, what each
 changes, and the record of what refused it (REFUSED.md beside them).
 
-An edit is a line `file: src/FILE.rt`, then pairs of lines `old: TEXT` and `new: TEXT`. Each old text
-stands once in the file as the pairs before left it. A record is a row for each edit, with the digest
-of all that its refusal rests on (digests.py). It is written by `wrong`, never by hand.
+An edit is a line `file: src/FILE.rt`, then pairs of lines `old: TEXT` and `new: TEXT`. Each old
+text stands once in the file as the pairs before left it. A record is a row for each edit, with the
+digest of all that its refusal rests on (digests.py). It is written by `wrong`, never by hand.
 """
 import pathlib
 import re
@@ -51,8 +51,8 @@ class Edit:
         return f"{self.crate}/{self.name}"
 
     def steps(self, text):
-        """The text before each pair, with the place of its old text, and at last the text behind all
-        with no place."""
+        """The text before each pair, with the place of its old text, and at last the text behind
+        all with no place."""
         if not self.file or not self.pairs:
             raise Unfit("it has no file, or no old and new text")
         for old, new in self.pairs:
@@ -67,8 +67,8 @@ class Edit:
         return text
 
     def function(self, text):
-        """The name of the one function whose body it changes, with that function's place in the file,
-        or None where it changes anything else."""
+        """The name of the one function whose body it changes, with that function's place in the
+        file, or None where it changes anything else."""
         found = set()
         for before, place in self.steps(text):
             if place is not None:

@@ -64,9 +64,9 @@ class Prover:
         return [*words, "--antt-project", str(logic), "--logic-built", f"{self.kit}/logic_built", "--jobs", "1", "--links", f"{crate}="]
 
     def check(self, crate, texts, seed):
-        """Checks the crate with these texts, by their paths in it, in place of its own, over what lies
-        in the folder `seed`, in which what is proved stays. Gives the status, what was said, and the
-        seconds of processor."""
+        """Checks the crate with these texts, by their paths in it, in place of its own, over
+        what lies in the folder `seed`, in which what is proved stays. Gives the status, what
+        was said, and the seconds of processor."""
         with tempfile.TemporaryDirectory(prefix="crushcalc-edits-") as room, tempfile.TemporaryFile() as said:
             room = pathlib.Path(room)
             for part in PARTS:

@@ -1,6 +1,6 @@
-"""Tries wrong bodies, many in one check: edits of different functions of a crate are applied together,
-and each has to be refused by a goal of its own function. One that isn't, or that can't be tried
-beside others, is tried alone.
+"""Tries wrong bodies, many in one check: edits of different functions of a crate are applied
+together, and each has to be refused by a goal of its own function. One that isn't, or that
+can't be tried beside others, is tried alone.
 """
 import collections
 import pathlib
@@ -128,7 +128,8 @@ class Trial:
         self.room = pathlib.Path(tempfile.mkdtemp(prefix="crushcalc-seed-"))
 
     def begin(self):
-        """Tries the first list over what is given, or from nothing; gives the steps that come next."""
+        """Tries the first list over what is given, or from nothing; gives the steps that come
+        next."""
         lists = groups(self.edits, self.texts)
         seed = self.room / "seed"
         linked(self.given, seed) if self.given else seed.mkdir()
@@ -204,7 +205,7 @@ class Trial:
         shutil.rmtree(self.room, ignore_errors=True)
 
     def costs(self):
-        """Seconds of processor for the first check, how many checks there were, and seconds for each
-        further one."""
+        """Seconds of processor for the first check, how many checks there were, and seconds for
+        each further one."""
         further = self.seconds[1:] or self.seconds
         return round(self.seconds[0]), len(self.seconds), round(sum(further) / len(further))
