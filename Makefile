@@ -50,6 +50,7 @@ help:
 	@echo 'make only-tested   tries the wrong bodies that contracts let through, and records which test refused each'
 	@echo 'make http-check   compares replies of the server with those of scripts, by curl, nginx and other clients'
 	@echo 'make bench     builds and measures; beside Ceph'"'"'s own library where that is installed'
+	@echo 'make instructions   counts the instructions of some thirty works beside the recorded ones, and fails where one grew by over 2 %'
 	@echo 'make bench-deps   installs what the comparisons with Ceph need (Debian: librados2, ceph-base, gcc)'
 	@echo 'make serve     builds, and serves HTTP on 127.0.0.1:8080, or PORT=N, with the tenants in build/tenants.db'
 	@echo 'make page      builds, and serves the planner'"'"'s page on 127.0.0.1:8080, or PORT=N, by nginx, with the tenants in build/page/tenants.db'
@@ -205,6 +206,11 @@ page-check: build
 bench: build build/crush_bench
 	@sh bench/all
 
+# counts are the same on each machine of a kind, whatever else runs there
+instructions: build build/crush_bench
+	@command -v valgrind >/dev/null || { echo 'Installing valgrind: apt-get install -y valgrind'; apt-get update && apt-get install -y valgrind; }
+	@python3 bench/instructions ./crushcalc build/crush_bench
+
 bench-deps:
 	@if [ -e "$$(sh bench/libceph)" ] && command -v gcc >/dev/null; then echo 'librados2 and gcc are installed.'; else \
 	  echo 'Installing librados2 and gcc: apt-get install -y librados2 gcc libc6-dev'; \
@@ -217,4 +223,4 @@ clean:
 	@echo 'Removing ./crushcalc, build/ and crates/*/out; the next build proves everything anew.'
 	@rm -rf crushcalc build crates/*/out
 
-.PHONY: any build help tools try cases run test test-all wrong form install serve ceph-check sqlite-check refused-check fuzz sanitized stops kill-check only-tested http-check page page-check bench bench-deps clean
+.PHONY: any build help tools try cases run test test-all wrong form install serve ceph-check sqlite-check refused-check fuzz sanitized stops kill-check only-tested http-check page page-check bench instructions bench-deps clean
