@@ -66,8 +66,8 @@ def give_up(port, folder):
 
 
 def given_up(port, folder, usage):
-    """ben asks for 40 usages, some at a time, and waits for none. Then anna waits for two of them at
-    most, and so does ben, who is told so before that by nginx."""
+    """ben asks for 40 usages, eight at a time, and waits for none. Then anna waits for two of them
+    at most."""
     with concurrent.futures.ThreadPoolExecutor(TOGETHER) as pool:
         list(pool.map(lambda _: give_up(port, folder), range(GIVEN_UP)))
     waited = timed(port, folder, "anna", b"GET /t/shop", there(b"shop"))
