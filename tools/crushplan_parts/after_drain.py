@@ -2,6 +2,7 @@
 CRUSH weight becomes 0 first, in the place of the drain."""
 from .edits import purged, weighed
 from .placing import Note
+from .stages import Stages
 from .summary import total, whole, written_anew
 
 
@@ -25,39 +26,43 @@ class AfterDrain:
     CRUSH weight of 0 moves in the place of the drain, and `then_purge` what removing them moves
     then. `without` are the pools that aren't computed in it."""
 
-    def __init__(self, plan, devices, drained):
+    def __init__(self, plan, devices):
         self.plan = plan
         by_class = {it.id for it in plan.pools.values() if any(plan.map.buckets[item].shadow for item in plan.map.rules[it.rule].takes() if item < 0)}
         # Ceph makes the trees of classes anew, which isn't computed here
         self.without = [it for it in plan.pools.values() if it.id in by_class and set(devices) & plan.reach(it)]
         above = {it for device in devices for it in [device, *plan.tree.ancestors(device)]}
         self.pools = [it.id for it in plan.pools.values() if it.id not in by_class and above & self.below(it)]
-        self.drained, self.other = plan.run(self.pools), plan.run(self.pools)
-        self.drained.set_states(drained)
-        gone, weightless = (plan.written(it).text() for it in (purged(plan.map, devices), weighed(plan.map, devices)))
-        self.asked = self.drained.import_map(gone, self.pools)
-        self.first, self.second = self.other.import_map(weightless, self.pools), self.other.import_map(gone, self.pools)
+        self.gone, self.weightless = purged(plan.map, devices), weighed(plan.map, devices)
+        self.texts = [plan.written(it).text() for it in (self.gone, self.weightless)]
 
     def below(self, pool):
         """Returns the items that a pool's rule takes, and all buckets below them."""
         takes = self.plan.map.rules[pool.rule].takes()
         return {*takes, *(it for item in takes for it in self.plan.map.buckets_below(item))}
 
-    def runs(self):
-        return [self.drained, self.other] if self.pools else []
+    def ask_purge(self, drained, pairs):
+        """Asks what removing the devices moves once they are drained, with the upmap items that
+        are left by then."""
+        if not self.pools:
+            return {}
+        return Stages(self.plan, self.pools, {**self.plan.pairs, **pairs}, drained).set_map(self.gone, self.texts[0])
 
-    def read(self, changes):
-        """Reads the replies, once the runs are answered. `changes` are those of the drain."""
+    def ask_weight_first(self):
+        """Asks what the CRUSH weight of 0 moves, and then the removal."""
+        if not self.pools:
+            return {}, {}
+        stages = Stages(self.plan, self.pools)
+        return stages.set_map(self.weightless, self.texts[1]), stages.set_map(self.gone, self.texts[0])
+
+    def take(self, changes, purge, first, second):
+        """Takes what was answered. `changes` are those of the drain."""
         changes = [it for it in changes if it.pool.id in self.pools]
-        self.purge = self.steps(changes, self.drained, self.asked)
-        self.weight_first, self.then_purge = self.steps(changes, self.other, self.first), self.steps(changes, self.other, self.second)
+        self.purge, self.weight_first, self.then_purge = (self.steps(changes, it) for it in (purge, first, second))
 
-    def steps(self, changes, run, asked):
-        found = []
-        for it in changes:
-            moves, skipped = run.moves(asked[it.pool.id]), self.plan.whole_lists.get(it.pool.id, ())
-            found.append((it, {group: both for group, both in moves.items() if group not in skipped}))
-        return Steps(found)
+    def steps(self, changes, moves):
+        skipped = self.plan.whole_lists
+        return Steps([(it, {group: both for group, both in moves[it.pool.id].items() if group not in skipped.get(it.pool.id, ())}) for it in changes])
 
     def note(self):
         """Returns what is said of the pools that are left out, or None."""

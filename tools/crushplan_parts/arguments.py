@@ -107,6 +107,7 @@ def add_check(words):
 def add_usage(words):
     words.add_argument("--pool", action="append", default=[], metavar="P", help="a pool, by its name or id; may stand several times")
     words.add_argument("--by", metavar="TYPE", help="by host, rack or another type (by device)")
+    words.add_argument("--groups", action="store_true", help="lists where each group lies")
 
 
 def add_compare(words):

@@ -1,6 +1,5 @@
 """Changes of device states on paper: the lists before and after, of the groups alone that can
 move."""
-from .cluster import State
 from .summary import Moved, PoolChange, copies_in
 
 
@@ -19,7 +18,7 @@ class Start:
         plan.answer(*([usages, impacts] if lists else [usages]))
         self.usage = {pool: usages.counted(it) for pool, it in asked.items()}
         self.impact = {key: impacts.can_move(it) for key, it in lists.items()} if lists else {}
-        self.all_lists = {}
+        self.all_lists, self.before = {}, None
         self.ask_short_pools()
 
     def ask_short_pools(self):
@@ -44,6 +43,17 @@ class Start:
             return set(range(self.plan.pools[pool].pg_num)) - self.plan.whole_lists.get(pool, set())
         return self.groups(pool, devices)
 
+    def wanted(self, devices):
+        """Returns the groups that are to be asked for devices that change, by pool."""
+        return {pool: self.groups_with(pool, devices) for pool in sorted(self.touched)}
+
+    def lists_now(self):
+        """Asks where all groups lie now that stand in some impact list, and keeps it."""
+        run = self.plan.run(self.touched)
+        asked = {pool: run.lists(pool, groups) for pool, groups in self.wanted(self.devices).items() if groups}
+        self.plan.answer(run)
+        self.before = {pool: run.placements(it) for pool, it in asked.items()}
+
     def unknown_groups(self, devices):
         """Returns the groups with whole upmap lists that may have to do with the devices."""
         found = []
@@ -54,25 +64,6 @@ class Start:
 
     def has_listed(self, pool, group, devices):
         return bool(self.plan.cluster.lists.get(pool, {}).get(group, set()) & set(devices))
-
-
-def states_after(plan, devices, **fields):
-    """Returns the states of devices once some of them are changed, as a function, and the changed
-    ones."""
-    changed = {it: State(**{**vars(plan.state(it)), **fields}) for it in devices}
-    return (lambda device: changed.get(device) or plan.state(device)), changed
-
-
-def ask_stages(plan, start, devices, stages):
-    """Returns a run that asks where groups lie now and at each stage, and what it asked: of each
-    pool, the places of the replies."""
-    run = plan.run(start.touched)
-    wanted = {pool: start.groups_with(pool, devices) for pool in sorted(start.touched)}
-    asked = [{pool: run.lists(pool, groups) for pool, groups in wanted.items()}]
-    for changed in stages:
-        run.set_states(changed)
-        asked.append({pool: run.lists(pool, groups) for pool, groups in wanted.items()})
-    return run, asked
 
 
 def pool_changes(plan, start, devices, before, after):

@@ -12,6 +12,7 @@ from .read_text import read_text
 from .reports import COPY, listed
 from .service import change
 from .shares import Shares, rounded
+from .stages import Stages
 from .summary import PoolChange, total, whole, written_anew
 from .tree import Tree
 from .write_text import Text
@@ -74,10 +75,10 @@ def compare(plan, asked):
     pools = new.pools
     run = plan.run([it.id for it in pools])
     usages = {it.id: run.usage(it.id) for it in pools}
-    places = run.import_map(new.text.text(), [it.id for it in pools])
-    after = {it.id: run.usage(it.id) for it in pools}
     plan.answer(run)
-    changes = [Compared(plan, new.map, it, run.counted(usages[it.id]), run.counted(after[it.id]), run.moves(places[it.id])) for it in pools]
+    stages = Stages(plan, [it.id for it in pools])
+    moves = stages.set_map(new.map, new.text.text(), True) if pools else {}
+    changes = [Compared(plan, new.map, it, run.counted(usages[it.id]), stages.usages[it.id], moves[it.id]) for it in pools]
     moved, copies = sum(len(it.moves) for it in changes), sum(it.copies for it in changes)
     bytes_ = total(it.change.bytes_of(it.copies) for it in changes)
     missing = sum(it.missing for it in changes)

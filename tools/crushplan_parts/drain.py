@@ -1,23 +1,27 @@
 """`crushplan drain`: hosts, racks or devices out, on paper."""
 from .after_drain import AfterDrain
-from .changing import Start, ask_stages, pool_changes, states_after
+from .changing import Start, pool_changes
 from .faults import counted
 from .output import Answer, sized
 from .reports import Stay, groups_rows, groups_table, pools_table, status_of, summary_table, usage_rows, usage_table, verdict
+from .stages import Stages, states_after
 from .summary import Summary
 
 
 def drain(plan, asked):
     """Answers what a drain does: the reweights of devices become 0."""
     devices = plan.tree.devices_of(asked.names)
-    start = Start(plan, devices)
+    start, later = Start(plan, devices), AfterDrain(plan, devices)
     states, drained = states_after(plan, devices, reweight=0)
-    run, places = ask_stages(plan, start, devices, [drained])
-    later = AfterDrain(plan, devices, drained)
-    plan.answer(run, *later.runs())
-    before, after = ({pool: run.placements(it) for pool, it in own.items()} for own in places)
+
+    def drain_then_purge():
+        stages = Stages(plan, start.touched)
+        lists = stages.set_states([drained], start.wanted(devices))
+        return lists, later.ask_purge(drained, stages.pairs)
+
+    ((before, after), purge), (first, second) = plan.side_by_side(drain_then_purge, later.ask_weight_first)
     changes = pool_changes(plan, start, devices, before, after)
-    later.read(changes)
+    later.take(changes, purge, first, second)
     summary, stay = Summary(plan, changes, states), Stay(plan, start, devices, changes)
     if later.note():
         plan.notes.append(later.note())

@@ -1,9 +1,10 @@
 """`crushplan fail`: hosts, racks or devices that go down, and later out."""
-from .changing import Start, ask_stages, pool_changes, short_now, states_after
+from .changing import Start, pool_changes, short_now
 from .faults import Fault, counted
 from .output import Answer, Progress, Table, devices_text, shown, sized
 from .reports import COPY, Stay, groups_rows, groups_table, listed, pools_table, status_of, summary_table, usage_rows, usage_table, verdict
-from .summary import Summary, copies_in
+from .stages import Stages, states_after
+from .summary import Summary
 
 
 class Down:
@@ -54,19 +55,13 @@ class Failure:
     """Devices that go down, and then out."""
 
     def __init__(self, plan, start, devices, quick=False):
-        self.plan, self.start, self.devices = plan, start, devices
         _, down = states_after(plan, devices, up=False)
-        self.states, self.out = states_after(plan, devices, up=False, reweight=0)
-        self.quick = quick
-        self.run, self.places = ask_stages(plan, start, devices, [down, self.out])
-
-    def read(self):
-        """Reads the replies, once the run is answered."""
-        before, down, out = ({pool: self.run.placements(it) for pool, it in own.items()} for own in self.places)
-        self.down = Down(self.plan, self.start, down)
-        changes = pool_changes(self.plan, self.start, self.devices, before, out)
-        self.summary = Summary(self.plan, changes, self.states, self.quick)
-        return self
+        states, out = states_after(plan, devices, up=False, reweight=0)
+        self.devices = devices
+        before, while_down, after = Stages(plan, start.touched).set_states([down, out], start.wanted(devices), start.before)
+        self.down = Down(plan, start, while_down)
+        changes = pool_changes(plan, start, devices, before, after)
+        self.summary = Summary(plan, changes, states, quick)
 
 
 def fail(plan, asked):
@@ -80,8 +75,6 @@ def fail(plan, asked):
     devices = plan.tree.devices_of(asked.names)
     start = Start(plan, devices)
     it = Failure(plan, start, devices)
-    plan.answer(it.run)
-    it.read()
     stay = Stay(plan, start, devices, it.summary.changes)
     status = status_of(plan, it.summary, stay, it.down.stopped)
     fields = {"devices": devices, "down": it.down.said(asked.groups), "out": it.summary.said(asked.groups), "stay": stay.said()}
@@ -111,13 +104,13 @@ def fail_each(plan, asked):
         raise Fault(f"no {asked.each} has devices")
     units = [(it, [d for d in dict.fromkeys(plan.map.below(it)) if d in plan.text.items]) for it in items]
     start = Start(plan, sorted({device for _, devices in units for device in devices}))
+    start.lists_now()
     found, progress = [], Progress(len(units), asked.each + "s")
     try:
         for done, (item, devices) in enumerate(units):
             progress.at(done)
             failure = Failure(plan, start, devices, quick=True)
-            plan.answer(failure.run)
-            found.append((item, failure.read(), Stay(plan, start, devices, failure.summary.changes)))
+            found.append((item, failure, Stay(plan, start, devices, failure.summary.changes)))
     finally:
         progress.end()
     found.sort(key=lambda it: (-it[1].down.stopped, -it[1].summary.missing, -it[1].summary.copies, plan.map.name_of(it[0])))

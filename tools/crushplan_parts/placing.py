@@ -4,8 +4,9 @@ import collections
 from .cluster import State
 from .crush_map import COMPUTED
 from .faults import Fault, counted, some
-from .service import at_once, change, get
+from .service import at_once, change, get, side_by_side
 from .tree import Tree
+from .upmap_rules import Keeper
 from .write_text import Text
 
 MOST_PAIRS, MOST_CHANGES, MOST_SIZE, MOST_GROUPS, MOST_POOLS = 1024, 1024, 32, 65536, 256
@@ -40,6 +41,7 @@ class Plan:
         self.more_pools()
         self.text = self.accepted_text()
         self.pairs = {pool: self.known_pairs(self.pools[pool]) for pool in self.pools}
+        self.keeper = Keeper(self.map, self.state)
         self.whole_lists = {pool: set(lists) for pool, lists in cluster.lists.items()}
         self.note_oddities()
 
@@ -194,16 +196,18 @@ class Plan:
         devices = set(devices)
         return [it for it in self.pools.values() if devices & self.reach(it) or any(new in devices for pairs in self.pairs[it.id].values() for _, new in pairs)]
 
-    def is_batched(self, pool):
-        return sum(map(len, self.pairs[pool].values())) > MOST_PAIRS
-
     def with_pair_to(self, pool, devices):
         """Returns the groups that have a pair to one of the devices."""
         devices = set(devices)
         return {group for group, pairs in self.pairs[pool].items() if any(new in devices for _, new in pairs)}
 
-    def run(self, pools=None):
-        return Run(self, self.pools if pools is None else pools)
+    def run(self, pools=None, pairs=None):
+        """Begins a run on some of the pools, with the cluster's upmap items or others."""
+        return Run(self, self.pools if pools is None else pools, self.pairs if pairs is None else pairs)
+
+    def side_by_side(self, *works):
+        """Does several works that ask, side by side where that can be; returns what they return."""
+        return side_by_side(self.client, works)
 
     def answer(self, *runs):
         """Has runs answered, side by side where that can be."""
@@ -215,15 +219,15 @@ class Plan:
 class Run:
     """Requests on a tenant that has the cluster, and the replies to them."""
 
-    def __init__(self, plan, pools):
-        self.plan, self.pools, self.requests, self.replies, self.version = plan, list(pools), [], None, 1
+    def __init__(self, plan, pools, pairs):
+        self.plan, self.pools, self.pairs, self.requests, self.replies, self.version = plan, list(pools), pairs, [], None, 1
         self.add(change("/maps", text=plan.text.text()))
         self.set_states({id_: plan.state(id_) for id_ in plan.text.items if id_ >= 0 and id_ not in plan.text.filled.values() and plan.state(id_) != State()})
         for id_ in self.pools:
             pool = plan.cluster.pools[id_]
             self.add(change("/pools", id=id_, name=f"pool-{id_}", kind=pool.kind, size=pool.size, rule=pool.rule, pg_num=pool.pg_num, pgp_num=pool.pgp_num, hashpspool=pool.hashpspool))
-            if plan.pairs[id_] and not plan.is_batched(id_):
-                self.set_pairs(id_, plan.pairs[id_])
+            if pairs[id_] and not self.is_batched(id_):
+                self.set_pairs(id_, pairs[id_])
 
     def add(self, request):
         """Adds a request, and returns its place."""
@@ -242,41 +246,43 @@ class Run:
     def ask_groups(self, pool, groups):
         return [(group, self.add(get(f"/pools/{pool}/groups/{group}"))) for group in groups]
 
+    def is_batched(self, pool):
+        """Returns whether a pool has more pairs than crushcalc takes at once."""
+        return sum(map(len, self.pairs[pool].values())) > MOST_PAIRS
+
     def lists(self, pool, groups, pairs=None):
-        """Asks where groups lie. More upmap items than a pool may have are set part by part;
-        `pairs` stand in the place of the cluster's."""
-        groups, own = sorted(groups), self.plan.pairs[pool] if pairs is None else pairs
-        if pairs is None and not self.plan.is_batched(pool):
+        """Asks where groups lie. More pairs than a pool may have are set part by part. `pairs` by
+        group stand in the place of the run's own."""
+        groups = sorted(groups)
+        if pairs is None and not self.is_batched(pool):
             return self.ask_groups(pool, groups)
-        asked = self.ask_groups(pool, [it for it in groups if it not in own]) if pairs is None else []
-        for part in parts_of({it: own.get(it, ()) for it in groups if pairs is not None or it in own}):
+        own = self.pairs[pool] if pairs is None else pairs
+        asked = self.ask_groups(pool, [it for it in groups if it not in own])
+        for part in parts_of({it: own[it] for it in groups if it in own}):
             self.set_pairs(pool, part)
             asked += self.ask_groups(pool, part)
-        self.set_pairs(pool, {} if self.plan.is_batched(pool) else self.plan.pairs[pool])
+        self.set_pairs(pool, {} if self.is_batched(pool) else self.pairs[pool])
         return asked
 
     def usage(self, pool):
         """Asks how much lies on each device."""
         place, without, within = self.add(get(f"/pools/{pool}/usage")), [], []
-        if self.plan.is_batched(pool):
-            without = self.ask_groups(pool, self.plan.pairs[pool])
-            within = self.lists(pool, self.plan.pairs[pool])
+        if self.is_batched(pool):
+            without, within = self.ask_groups(pool, self.pairs[pool]), self.lists(pool, self.pairs[pool])
         return place, without, within
 
     def impact(self, pool, devices):
         """Asks which groups can move where reweights of devices are lowered."""
         return pool, devices, [self.add(get(f"/pools/{pool}/impact/{it}")) for it in devices]
 
-    def import_map(self, text, pools):
-        """Imports a next version, and asks what moves to it in each pool."""
-        pairs = {it: self.lists(it, self.plan.pairs[it]) for it in pools if self.plan.is_batched(it)}
+    def import_map(self, text):
+        """Imports the text of a next version."""
         self.version += 1
         self.add(change("/maps", text=text))
-        asked = {}
-        for it in pools:
-            after = self.lists(it, self.plan.pairs[it]) if self.plan.is_batched(it) else []
-            asked[it] = (self.add(get(f"/pools/{it}/moves/{self.version - 1}/{self.version}")), pairs.get(it, []), after)
-        return asked
+
+    def moves_to(self, pool):
+        """Asks which groups lie elsewhere on the last version than on the one before."""
+        return self.add(get(f"/pools/{pool}/moves/{self.version - 1}/{self.version}"))
 
     # ---- replies
 
@@ -312,16 +318,9 @@ class Run:
         found = {group for place in places for group in self.replies[place]["groups"]}
         return found | self.plan.with_pair_to(pool, devices)
 
-    def moves(self, asked):
+    def moves(self, place):
         """Returns the groups that lie elsewhere on the next version: up before and after."""
-        place, before, after = asked
-        found = {row["group"]: (row["old"], row["new"]) for row in self.replies[place]["rows"]}
-        after = self.placements(after)
-        for group, it in self.placements(before).items():
-            found.pop(group, None)
-            if it.up != after[group].up:
-                found[group] = (it.up, after[group].up)
-        return found
+        return {row["group"]: (row["old"], row["new"]) for row in self.replies[place]["rows"]}
 
 
 class Usage:

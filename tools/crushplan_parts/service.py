@@ -179,10 +179,15 @@ def found_program(given, beside):
     raise Fault("crushcalc isn't there: neither beside crushplan nor on PATH. Build it by 'make', install it by 'make install', or name it by --program FILE, or a server by --service URL.")
 
 
-def at_once(client, runs):
-    """Answers several runs, side by side where each is a process of its own."""
-    runs = list(runs)
-    if isinstance(client, Server) or len(runs) < 2:
-        return [client.run(it) for it in runs]
+def side_by_side(client, works):
+    """Does works, functions without arguments, side by side where each asks a process of its
+    own."""
+    if isinstance(client, Server) or len(works) < 2:
+        return [it() for it in works]
     with concurrent.futures.ThreadPoolExecutor(JOBS) as jobs:
-        return list(jobs.map(client.run, runs))
+        return list(jobs.map(lambda it: it(), works))
+
+
+def at_once(client, runs):
+    """Answers several runs, side by side where that can be."""
+    return side_by_side(client, [lambda it=it: client.run(it) for it in runs])

@@ -9,7 +9,7 @@ from .output import Answer, Table, devices_text, sized
 from .reports import COPY, listed
 from .shares import percent
 from .summary import Moved, PoolChange, devices_of, total, whole
-from .upmap_rules import broken_rule, pair_remarks
+from .upmap_rules import Keeper, pair_remarks
 
 COMMAND = re.compile(r"(?:\S*/)?ceph\s+(?:-\S+\s+\S+\s+)*?osd\s+(\S+)\s+(\S+)\s*(.*)")
 GROUP = re.compile(r"(\d{1,10})\.([0-9a-f]{1,8})")
@@ -105,11 +105,11 @@ def pairs_text(pairs):
 
 def row_of(plan, pool, group, pairs, before, after):
     move = Moved(pool, group, before, after)
-    may_be = lambda device: plan.state(device).reweight > 0
-    items, remarks = pair_remarks(after.raw, pairs, may_be)
+    keeper = plan.keeper
+    items, remarks = pair_remarks(after.raw, pairs, keeper.may_be)
     return {
         "pool": pool.id, "group": group, "id": pool.group_name(group), "pairs": [list(it) for it in pairs], "raw": after.raw, "before": before.up, "after": after.up,
-        "primary_before": before.primary, "primary_after": after.primary, "copies": move.copies, "breaks": broken_rule(plan, pool, items) if pairs else None, "remarks": remarks,
+        "primary_before": before.primary, "primary_after": after.primary, "copies": move.copies, "breaks": keeper.broken(pool, items) if pairs else None, "remarks": remarks,
     }  # fmt: skip
 
 

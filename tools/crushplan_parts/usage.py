@@ -2,10 +2,10 @@
 import fractions
 
 from .faults import Fault, nearest
-from .output import Answer, Table, shown, sized
+from .output import Answer, Table, devices_text, shown, sized
 from .shares import Expected, percent, rounded
 from .summary import PoolChange, devices_of, whole
-from .reports import grouped, sum_fractions
+from .reports import grouped, listed, sum_fractions
 
 
 def pools_named(plan, names):
@@ -29,6 +29,7 @@ def usage(plan, asked):
     pools = pools_named(plan, asked.pool)
     run = plan.run([it.id for it in pools])
     places = {it.id: run.usage(it.id) for it in pools}
+    lists = {it.id: run.lists(it.id, range(it.pg_num)) for it in pools} if asked.groups else {}
     plan.answer(run)
     changes = [PoolChange(it, run.counted(places[it.id]), set(), []) for it in pools]
     devices = [it for it in devices_of(plan, changes, plan.state, True) if it.after or it.expected_after[0] or not asked.pool]
@@ -45,7 +46,13 @@ def usage(plan, asked):
     text = f"Least: {extreme(least)}. Greatest: {extreme(greatest)}." if ranked else ""
     keys = ["name", "device", "host", "copies", "primaries", "share", "percent", "bytes", "used"]
     fields = {"by": heads[0], "pools": [{"pool": it.pool.id, "name": it.pool.name, "copies": it.before.total(), "wanted": it.pool.size * it.pool.pg_num, "bytes": it.pool.bytes} for it in changes], "rows": rows, "least": least, "greatest": greatest}
-    return Answer(0 if pools else 2, sentence, fields, [text, Table(heads, table)], [keys] + [[it[key] for key in keys] for it in rows])
+    blocks, own = [text, Table(heads, table)], [keys] + [[it[key] for key in keys] for it in rows]
+    if asked.groups:
+        groups = [(it, group, placement) for it in pools for group, placement in sorted(run.placements(lists[it.id]).items())]
+        fields["groups"] = [{"pool": it.id, "group": group, "id": it.group_name(group), "raw": placement.raw, "up": placement.up, "primary": placement.primary} for it, group, placement in groups]
+        blocks.append(Table(("group", "raw", "up", "primary"), [(it.group_name(group), devices_text(placement.raw), devices_text(placement.up), placement.primary) for it, group, placement in groups], "Groups:"))
+        own = [["pool", "group", "id", "raw", "up", "primary"]] + [[it.id, group, it.group_name(group), listed(placement.raw), listed(placement.up), placement.primary] for it, group, placement in groups]
+    return Answer(0 if pools else 2, sentence, fields, blocks, own)
 
 
 def extreme(row):
