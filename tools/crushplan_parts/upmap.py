@@ -109,7 +109,7 @@ def row_of(plan, pool, group, pairs, before, after):
     items, remarks = pair_remarks(after.raw, pairs, keeper.may_be)
     return {
         "pool": pool.id, "group": group, "id": pool.group_name(group), "pairs": [list(it) for it in pairs], "raw": after.raw, "before": before.up, "after": after.up,
-        "primary_before": before.primary, "primary_after": after.primary, "copies": move.copies, "breaks": keeper.broken(pool, items) if pairs else None, "remarks": remarks,
+        "primary_before": before.primary, "primary_after": after.primary, "copies": move.copies, "breaks": keeper.broken(pool, items) if pairs else None, "remarks": remarks, "kept": [list(it) for it in keeper.kept_at_last(pool, after.raw, pairs)],
     }  # fmt: skip
 
 
