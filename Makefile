@@ -182,9 +182,9 @@ only-tested: tools
 	@RT='$(RT)' python3 tests/only_tested/check --try
 
 http-check: build
-	@{ command -v curl && command -v nginx && command -v openssl && command -v ab && command -v mkfs.btrfs; } >/dev/null || { \
-	  echo 'Installing curl, nginx, openssl, ab and mkfs.btrfs: apt-get install -y curl nginx openssl apache2-utils btrfs-progs'; \
-	  apt-get update && apt-get install -y curl nginx openssl apache2-utils btrfs-progs; }
+	@{ command -v curl && command -v nginx && command -v openssl && command -v ab && command -v mkfs.btrfs && [ -d /usr/share/openapi-specification ] && /usr/bin/python3 -c 'import jsonschema, yaml'; } >/dev/null 2>&1 || { \
+	  echo 'Installing what the clients and the description need: apt-get install -y curl nginx openssl apache2-utils btrfs-progs python3-jsonschema python3-yaml openapi-specification'; \
+	  apt-get update && apt-get install -y curl nginx openssl apache2-utils btrfs-progs python3-jsonschema python3-yaml openapi-specification; }
 	@python3 tests/http/check ./crushcalc
 
 # the page's files are served as they stand in web/, and d3 from where libjs-d3 puts it
