@@ -58,21 +58,26 @@ const REFUSALS = {
 };
 
 const STATUSES = {
-    0: "no reply came: the connection failed. The request may be done",
+    0: "no reply came: the connection failed",
     401: "the web server wants a user and a password",
     403: "the web server has no users for this cluster (tenant), or not this one",
     413: "the request is longer than the service takes",
-    502: "the service doesn't answer the web server. The request may be done",
-    504: "the service took too long for the web server. The request may be done",
+    502: "the service doesn't answer the web server",
+    504: "the service took too long for the web server",
 };
+
+// the replies after which a request that changes something may be done or not
+const UNKNOWN = new Set([0, 502, 504]);
 
 const UNABLE = {
     no_memory: "the service had no memory for it, and nothing was done",
     store_failed: "the service's file can't be written now, as with a full disk",
 };
 
-// A reply that isn't what was asked for, in words.
-export function meaning(status, error) {
+// A reply that isn't what was asked for, in words; `changes` is whether the request was to change
+// something.
+export function meaning(status, error, changes = false) {
     const words = (status === 503 ? UNABLE : REFUSALS)[error] ?? STATUSES[status] ?? "the web server gave this reply";
-    return `${[status || "", error ?? ""].filter((it) => it !== "").join(" ")}${status ? ": " : ""}${words}.`;
+    const more = changes && UNKNOWN.has(status) ? " The request may be done." : "";
+    return `${[status || "", error ?? ""].filter((it) => it !== "").join(" ")}${status ? ": " : ""}${words}.${more}`;
 }

@@ -1,11 +1,10 @@
 // A copy of a tenant, made for one look and dropped afterwards, so that the planner's own tenant
-// isn't changed. A copy that is in use when the page is closed or reloaded is dropped then, and
-// when a page is opened again if that wasn't answered.
-import { ask, change, forget, hex, kept } from "./service.js";
+// isn't changed. Copies have numbers, so that those which a closed browser left are found.
+import { ask, change, forget, kept } from "./service.js";
 import { meaning } from "./codes.js";
 
-const COPY = "crushcalc.copy.";
-const CHANGES = 1024;
+const COPY = "crushcalc.copy.", CHANGES = 1024, MOST = 16;
+// the longest name of which copies can be made
 export const LONGEST = 46;
 const inUse = new Set();
 
@@ -17,17 +16,22 @@ export function good(reply, what) {
     throw new Unlike(`${what}: ${meaning(reply.status, reply.error)}`);
 }
 
+function nameOf(tenant, number) {
+    return `${tenant}.copy-${number.toString(16).padStart(12, "0")}`;
+}
+
 // While a page works with a copy it holds a lock of its name, so that no other page drops it.
 function holding(name, act, how = {}) {
     return navigator.locks ? navigator.locks.request(COPY + name, how, act) : act(true);
 }
 
-async function drop(name) {
+export async function drop(name) {
     const reply = await ask(`Drop the copy ${name}`, "DELETE", `/t/${name}`);
     if (reply.status === 200 || reply.status === 404) localStorage.removeItem(COPY + name);
     return reply;
 }
 
+// Drops the copies that a page of this browser left.
 export async function dropLeft() {
     for (const key of Object.keys(localStorage).filter((it) => it.startsWith(COPY))) {
         const name = key.slice(COPY.length);
@@ -36,49 +40,100 @@ export async function dropLeft() {
     for (const record of kept().filter((it) => it.note?.copy && !localStorage.getItem(COPY + it.tenant))) forget(record);
 }
 
-// The exceptions of the tenant's pool, without those that name a device which the newest map lacks:
-// these have no effect, and the service takes none of them anew.
-async function exceptionsOf(tenant, map, pool) {
-    const reply = await ask(`Exceptions of ${pool.name}`, "GET", `/t/${tenant}/pools/${pool.id}/exceptions`);
+// The copies of a tenant that the service has, whichever browser made them.
+export async function copiesOf(tenant, signal) {
+    const names = Array.from({ length: MOST }, (_, it) => nameOf(tenant, it + 1));
+    const replies = await Promise.all(names.map((it) => ask(`Look for ${it}`, "GET", `/t/${it}`, undefined, signal)));
+    return names.filter((name, place) => replies[place].status === 200 && !inUse.has(name));
+}
+
+// A new tenant with the first name of a copy that is free. Where the reply was lost, one that is
+// there and empty is the one that was made.
+async function made(tenant, signal) {
+    for (let number = 1; number <= MOST; number += 1) {
+        const name = nameOf(tenant, number), reply = await ask(`Make the copy ${name}`, "PUT", `/t/${name}`, undefined, signal);
+        if (reply.status === 201) return name;
+        if (reply.error !== "exists") good(reply, "The copy");
+        if (reply.again && (await ask(`Look at ${name}`, "GET", `/t/${name}`, undefined, signal)).epoch === 0) return name;
+    }
+    throw new Unlike(`The service has ${MOST} copies of ${tenant} already: other browsers work with it, or left them. Drop them on the view Map.`);
+}
+
+// The text of a map with the same devices and the rules of the same numbers, by which nothing lies
+// anywhere: moves from it to another version list all groups.
+export function emptyMap(map) {
+    return ["tunable choose_local_tries 0", "tunable choose_local_fallback_tries 0", ...[...map.devices.values()].map((it) => `device ${it.id} ${it.name}`), "type 0 osd",
+        ...map.rules.map((it) => `rule r${it.id} { id ${it.id} type ${it.kind} step emit }`), ""].join("\n");
+}
+
+// The exceptions of a pool, without those that name a device which the newest map lacks: these have
+// no effect, and the service takes none of them anew.
+async function exceptionsOf({ tenant, map }, pool, signal) {
+    const reply = await ask(`Exceptions of ${pool.name}`, "GET", `/t/${tenant}/pools/${pool.id}/exceptions`, undefined, signal);
     return good(reply, "The pool's exceptions").exceptions.filter((it) => map.byId.has(it.from) && map.byId.has(it.to));
 }
 
-// Makes a copy of the tenant's newest map, the known states of its devices and a pool with its
-// exceptions, and lets `act` work with it, by its name. Gives what `act` gives, and keeps the copy
-// until `gone` is settled; where `act` fails the copy is dropped first.
-export function withCopy({ tenant, map, text, states, pool }, step, act, gone) {
-    const name = `${tenant}.copy-${hex(6)}`;
-    async function made() {
-        step("Making a copy of the cluster");
-        const pairs = await exceptionsOf(tenant, map, pool);
-        const there = await ask(`Make the copy ${name}`, "PUT", `/t/${name}`);
-        if (there.error !== "exists") good(there, "The copy");
-        const set = (what, route, fields) => change(what, name, route, fields, { copy: true }).then((it) => good(it, what));
-        await set("Import the map into the copy", "maps", { text });
-        for (const part of parts(states)) await set("Set states of devices in the copy", "devices", { devices: part });
-        await set("Make the pool in the copy", "pools", pool);
-        if (pairs.length) await set("Set the pool's exceptions in the copy", "pools/exceptions", { id: pool.id, exceptions: pairs });
-        return act(name, set);
+// What is sent of a pool to the service.
+export function poolBody({ id, name, kind, size, rule, pg_num, pgp_num, hashpspool }) {
+    return { id, name, kind, size, rule, pg_num, pgp_num, hashpspool };
+}
+
+// The states of devices that this page knows, of those that the map has.
+export function statesOf({ known, map }) {
+    return Object.entries(known.states).filter(([id]) => map.byId.has(Number(id))).map(([id, it]) => ({ id: Number(id), ...it }));
+}
+
+// A copy to which changes are made one after the other.
+function writable(name, work) {
+    const set = async (what, route, fields) => {
+        work.goesOn();
+        return good(await change(what, name, route, fields, { copy: true }), what);
+    };
+    return {
+        name, set,
+        async states(changes) {
+            for (const part of parts(changes)) await set("Set states of devices in the copy", "devices", { devices: part });
+        },
+        exceptions: (pool, pairs) => set("Set the pool's exceptions in the copy", "pools/exceptions", { id: pool.id, exceptions: pairs }),
+        // gives the number of the version
+        map: async (text) => (await set("Import the map into the copy", "maps", { text })).version,
+    };
+}
+
+// Version 1 has nothing anywhere, version 2 is the newest map of the tenant.
+async function filled(copy, cluster, pools, work) {
+    await copy.map(emptyMap(cluster.map));
+    await copy.map(cluster.text);
+    await copy.states(statesOf(cluster));
+    for (const pool of pools) {
+        await copy.set("Make the pool in the copy", "pools", poolBody(pool));
+        const pairs = await exceptionsOf(cluster, pool, work.signal);
+        if (pairs.length) await copy.exceptions(pool, pairs);
     }
+}
+
+// Makes a copy of the tenant's newest map, the known states of its devices and these pools with
+// their exceptions, and gives what `act` gives of it. The copy is dropped then.
+export function withCopy(cluster, pools, work, act) {
+    if (cluster.tenant.length > LONGEST) throw new Unlike(`A copy has a longer name than its cluster, whose name may have ${LONGEST} letters for that.`);
     return new Promise((done, failed) => {
-        holding(name, async () => {
+        work.step("Making a copy of the cluster");
+        made(cluster.tenant, work.signal).then((name) => holding(name, async () => {
             localStorage.setItem(COPY + name, "1");
             inUse.add(name);
-            let fault = null;
             try {
-                done(await made());
-                await gone;
+                const copy = writable(name, work);
+                await filled(copy, cluster, pools, work);
+                done(await act(copy));
             } catch (why) {
-                fault = why;
-                step("Dropping the copy");
+                failed(why);
             }
             try {
                 await drop(name);
             } finally {
                 inUse.delete(name);
             }
-            if (fault) failed(fault);
-        }).catch(failed);
+        })).catch(failed);
     });
 }
 

@@ -122,8 +122,8 @@ export async function longCsv(heads, count, row) {
 }
 
 // A file for the planner, made of text.
-export function save(name, text) {
-    const address = URL.createObjectURL(new Blob([text], { type: "text/csv" }));
+export function save(name, text, type = "text/csv") {
+    const address = URL.createObjectURL(new Blob([text], { type }));
     el("a", { href: address, download: name }).click();
     setTimeout(() => URL.revokeObjectURL(address), 10000);
 }

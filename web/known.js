@@ -1,5 +1,6 @@
 // What this browser knows of a tenant beside the service's replies: the pools and the states of
-// devices that it set, since no request lists these, and the names of files that were imported.
+// devices that it set, since no request lists these, the names of files that were imported, and
+// what of a dump isn't computed.
 
 const KNOWN = "crushcalc.tenant.";
 
@@ -8,7 +9,7 @@ export function tenants() {
 }
 
 export function known(tenant) {
-    const empty = { epoch: 0, pools: [], states: {}, files: {}, pool: 0 };
+    const empty = { epoch: 0, seen: 0, pools: [], states: {}, files: {}, notes: [], pool: 0, one: false };
     try {
         return { ...empty, ...JSON.parse(localStorage.getItem(KNOWN + tenant) ?? "{}") };
     } catch {
@@ -26,7 +27,7 @@ export function forgetTenant(tenant) {
     localStorage.removeItem(KNOWN + tenant);
 }
 
-// Notes what an accepted request did.
+// Notes what an accepted request did. `seen` is the epoch up to which this browser knows all.
 export function learn(record, reply) {
     if (record.note?.copy) return;
     const { request, ...fields } = JSON.parse(record.body);
@@ -34,11 +35,16 @@ export function learn(record, reply) {
     if (record.route === "maps") {
         it.files[reply.version] = record.note?.file ?? "";
     } else if (record.route === "pools") {
-        it.pools = [...it.pools.filter((pool) => pool.id !== fields.id), fields];
+        it.pools = [...it.pools.filter((pool) => pool.id !== fields.id), { ...fields, min_size: record.note?.min_size }].sort((one, other) => one.id - other.id);
         it.pool = fields.id;
+    } else if (record.route === "pools/remove") {
+        it.pools = it.pools.filter((pool) => pool.id !== fields.id);
+    } else if (record.route === "devices") {
+        for (const { id, ...state } of fields.devices) it.states[id] = { reweight: 65536, up: true, ...it.states[id], ...state };
     } else if (record.route === "devices/csv") {
         for (const [id, state] of statesOf(fields.csv)) it.states[id] = state;
     }
+    if (reply.epoch === it.seen + 1) it.seen = reply.epoch;
     note(record.tenant, it);
 }
 

@@ -2,15 +2,17 @@
 // they are written there, and the rules.
 
 export function readMap(text) {
-    const devices = new Map(), buckets = new Map(), rules = [];
+    const devices = new Map(), buckets = new Map(), rules = [], types = new Map();
     let open = null;
     for (const line of text.split("\n")) {
-        const words = line.trim().split(" ");
-        if (words[0] === "" || words[0] === "#" || words[0] === "tunable" || words[0] === "type" && !open) continue;
-        if (words[0] === "}") {
+        const words = line.replace(/#.*/, "").trim().split(/\s+/);
+        if (words[0] === "" || words[0] === "tunable") continue;
+        if (words[0] === "type" && !open) {
+            types.set(words[2], Number(words[1]));
+        } else if (words[0] === "}") {
             open = null;
         } else if (words.at(-1) === "{") {
-            open = words[0] === "rule" ? { name: words[1], takes: [] } : { name: words[1], type: words[0], items: [] };
+            open = words[0] === "rule" ? { name: words[1], steps: [] } : { name: words[1], type: words[0], items: [] };
             if (words[0] === "rule") rules.push(open); else buckets.set(open.name, open);
         } else if (words[0] === "device" && !open) {
             devices.set(words[2], { id: Number(words[1]), name: words[2], buckets: [] });
@@ -21,28 +23,64 @@ export function readMap(text) {
         } else if (words[0] === "type") {
             open.kind = words[1];
         } else if (words[0] === "item") {
-            open.items.push({ name: words[1], weight: words[3] });
-        } else if (words[0] === "step" && words[1] === "take") {
-            open.takes.push(words[2]);
+            open.items.push({ name: words[1], weight: words[3], number: Number(words[3]) });
+        } else if (words[0] === "step") {
+            open.steps.push(words.slice(1));
         }
     }
-    return joined(devices, buckets, rules);
+    return joined(devices, buckets, rules, types);
 }
 
 // Each bucket and device with the buckets that have it as an item; the roots are in none.
-function joined(devices, buckets, rules) {
+function joined(devices, buckets, rules, types) {
     const byId = new Map();
     for (const it of devices.values()) byId.set(it.id, it);
-    for (const bucket of buckets.values()) {
-        for (const item of bucket.items) {
-            const below = devices.get(item.name) ?? buckets.get(item.name);
-            (below.buckets ??= []).push(bucket);
-            item.device = devices.get(item.name);
-            item.bucket = buckets.get(item.name);
-        }
+    const all = [...buckets.values()];
+    for (const bucket of all) for (const item of bucket.items) Object.assign(item, { device: devices.get(item.name), bucket: buckets.get(item.name) });
+    const places = new Map();
+    for (const it of all.flatMap((bucket) => bucket.items)) places.set(it.name, (places.get(it.name) ?? 0) + 1);
+    for (const bucket of all) {
+        bucket.items = bucket.items.filter((it) => !isHole(bucket, it, places));
+        for (const it of bucket.items) ((it.device ?? it.bucket).buckets ??= []).push(bucket);
     }
-    const roots = [...buckets.values()].filter((it) => !it.buckets?.length);
-    return { devices, buckets, rules, byId, roots, hosts: hostsOf(devices, buckets) };
+    const roots = all.filter((it) => !it.buckets?.length);
+    return { devices, buckets, rules, types, byId, roots, hosts: hostsOf(devices, buckets), levels: levelsOf(all, types) };
+}
+
+// What a map says, to be compared with another one: weights as numbers.
+export function signature({ devices, buckets, rules }) {
+    const items = (it) => it.items.map(({ name, number }) => [name, number]);
+    return JSON.stringify([[...devices.values()].map((it) => [it.id, it.name]).sort(), [...buckets.values()].map((it) => [it.id, it.name, it.type, it.alg, items(it)]).sort(), rules.map((it) => [it.id, it.kind, it.steps]).sort()]);
+}
+
+// Where a device was removed from a tree bucket Ceph leaves the device 0 with the weight 0, which
+// stands elsewhere too, and a mended text has a device of the weight 0 named hole: for people
+// neither is there.
+function isHole(bucket, { device, name, number }, places) {
+    return bucket.alg === "tree" && number === 0 && device && (device.id === 0 && places.get(name) > 1 || name === `hole.${device.id}`);
+}
+
+// The types of which there are buckets, those nearest to the devices first.
+function levelsOf(buckets, types) {
+    const there = new Set(buckets.map((it) => it.type));
+    return [...types.keys()].filter((it) => there.has(it)).sort((a, b) => types.get(a) - types.get(b));
+}
+
+// The devices below a bucket, each once.
+export function devicesBelow(bucket) {
+    if (!bucket.below) {
+        const found = new Set();
+        for (const it of bucket.items) for (const one of it.device ? [it.device] : devicesBelow(it.bucket)) found.add(one);
+        bucket.below = [...found];
+    }
+    return bucket.below;
+}
+
+// The weights that a device has in its buckets, as they are written, and added where it is in
+// several.
+export function weightOf(device) {
+    const found = device.buckets.flatMap((it) => it.items.filter((item) => item.device === device).map((item) => item.weight));
+    return found.length === 1 ? found[0] : String(found.reduce((sum, it) => sum + Number(it), 0));
 }
 
 // The buckets that have devices as items, each with these, in the order of the map; and what is in
@@ -60,27 +98,4 @@ export function pathOf(bucket) {
     const names = [];
     for (let it = bucket.buckets?.[0]; it; it = it.buckets?.[0]) names.push(it.name);
     return names.join(", ");
-}
-
-// Where the line of the even share is drawn for each device below what the rule takes: its part of
-// their weights, each times the device's reweight.
-export function evenParts(map, rule, states) {
-    const weights = new Map(), seen = new Set();
-    function visit(bucket) {
-        if (!bucket || seen.has(bucket)) return;
-        seen.add(bucket);
-        for (const item of bucket.items) {
-            if (item.device) {
-                const { reweight, up } = states[item.device.id] ?? { reweight: 65536, up: true };
-                weights.set(item.device.id, (weights.get(item.device.id) ?? 0) + (up ? Number(item.weight) * reweight : 0));
-            } else {
-                visit(item.bucket);
-            }
-        }
-    }
-    for (const it of map.rules.find((it) => it.id === rule)?.takes ?? []) {
-        if (map.buckets.has(it)) visit(map.buckets.get(it));
-    }
-    const whole = d3.sum([...weights.values()]);
-    return new Map([...weights].map(([id, weight]) => [id, whole ? weight / whole : 0]));
 }

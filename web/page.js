@@ -3,14 +3,17 @@ import { GivenUp, NotKept, ask, connect, finish, kept } from "./service.js";
 import { meaning } from "./codes.js";
 import { button, el, fault, fresh, labelled, say, sayDone } from "./dom.js";
 import { forgetTenant, known, learn, note, tenants } from "./known.js";
-import { readMap } from "./map.js";
+import { devicesBelow, readMap, signature } from "./map.js";
 import { LONGEST, dropLeft, leave } from "./copies.js";
-import { aboutStraw, dropBox, showMap, takeFile } from "./view_map.js";
+import { Refused, filesOf, importMap, mapIn, readOsd, takeOsd, takeSaved, takeStates } from "./take.js";
+import { aboutStraw } from "./refused.js";
+import { dropBox, showMap } from "./view_map.js";
 import { showPools } from "./view_pools.js";
 import { showUsage } from "./view_usage.js";
 import { showCompare } from "./view_compare.js";
 import { showDrain } from "./view_drain.js";
 import { showObject } from "./view_object.js";
+import { Stopped, working } from "./waiting.js";
 
 const VIEWS = { map: "Map", pools: "Pools", usage: "Usage", compare: "Compare", drain: "Drain", object: "Object" };
 // a name of one or two points would be another path
@@ -20,8 +23,12 @@ let cluster = null;
 
 // ---- notices: a request without an answer, and whether to repeat it
 
-function decide({ what, why, changes }) {
+function decide({ what, why, changes, signal }) {
     return new Promise((repeat, giveUp) => {
+        signal?.addEventListener("abort", () => {
+            notice.remove();
+            giveUp(signal.reason);
+        });
         const title = el("strong", { id: fresh() }, what), notice = el("div", { class: "notice", role: "group", "aria-labelledby": title.id });
         const act = (then) => () => {
             notice.remove();
@@ -36,23 +43,29 @@ function decide({ what, why, changes }) {
 
 // ---- the tenant
 
-async function openTenant(name) {
-    const summary = await ask(`Open ${name}`, "GET", `/t/${name}`);
+// The cluster as the service has it now. What is read once is kept as long as nothing changes.
+async function openTenant(name, work) {
+    work.step(`Opening ${name}`);
+    const summary = await ask(`Open ${name}`, "GET", `/t/${name}`, undefined, work.signal);
     if (summary.status !== 200) {
         if (summary.error === "no_tenant") forgetTenant(name);
         throw new Error(`${name}: ${meaning(summary.status, summary.error)}`);
     }
     if (summary.epoch < known(name).epoch) forgetTenant(name);
-    const it = { tenant: name, summary, map: null, text: "", known: note(name, { epoch: summary.epoch }) };
-    if (summary.versions) {
-        const reply = await ask("Read the newest version", "GET", `/t/${name}/maps/${summary.versions}`);
-        if (reply.status !== 200) throw new Error(meaning(reply.status, reply.error));
-        it.text = reply.text;
-        it.map = readMap(reply.text);
-    }
+    const same = cluster?.tenant === name && cluster.summary.epoch === summary.epoch;
+    const it = { tenant: name, summary, map: same ? cluster.map : null, text: same ? cluster.text : "", usages: same ? cluster.usages : new Map(), known: note(name, { epoch: summary.epoch }) };
+    if (summary.versions && !it.map) await readNewest(it, work);
     it.name = (id) => it.map.byId.get(id)?.name ?? `device ${id}`;
     it.deviceOf = (word) => it.map.devices.get(word)?.id ?? (/^device \d+$/.test(word) ? Number(word.slice(7)) : undefined);
     cluster = it;
+}
+
+async function readNewest(it, work) {
+    work.step(`Reading the map of ${it.tenant}`);
+    const reply = await ask("Read the newest version", "GET", `/t/${it.tenant}/maps/${it.summary.versions}`, undefined, work.signal);
+    if (reply.status !== 200) throw new Error(meaning(reply.status, reply.error));
+    it.text = reply.text;
+    it.map = readMap(reply.text);
 }
 
 class Taken extends Error {}
@@ -67,8 +80,8 @@ async function makeTenant(name) {
 // ---- views
 
 function place() {
-    const [, tenant = "", view = "map"] = location.hash.split("/");
-    return { tenant: NAME.test(tenant) ? tenant : "", view: view in VIEWS ? view : "map" };
+    const [, tenant = "", view = "map", more = ""] = location.hash.split("/");
+    return { tenant: NAME.test(tenant) ? tenant : "", view: view in VIEWS ? view : "map", more };
 }
 
 function tabs({ tenant, view }) {
@@ -83,29 +96,76 @@ function put(section, focus) {
     if (focus) section.querySelector("h1").focus({ preventScroll: true });
 }
 
-// Shows the view as the service has it now. `said` is what came of the planner's last step, which
-// then has the focus.
-async function refresh(said) {
-    const { tenant, view } = place();
-    await openTenant(tenant);
-    const shows = { map: () => showMap(cluster, said, take), pools: () => showPools(cluster, said, refresh), usage: () => showUsage(cluster), compare: () => showCompare(cluster), drain: () => showDrain(cluster), object: () => showObject(cluster) };
-    put(shows[view](), false);
-    if (said) at("said")?.focus();
+// What an address asks the drain for: a way and the name of a place or of a device.
+function wantedOf(more) {
+    const [, way, name] = /^(drain|fail):(.+)$/.exec(decodeURIComponent(more)) ?? [];
+    const bucket = name && cluster.map?.buckets.get(name), device = name && cluster.map?.devices.get(name);
+    return { way, devices: bucket ? devicesBelow(bucket).map((it) => it.id) : device ? [device.id] : [] };
+}
+
+// The view of the address, of the cluster as it is. `what` is what came of the planner's last step:
+// `said` is shown and has the focus, `file` is a map to be tried, `focus` says what has the focus.
+function viewOf({ view, more }, what) {
+    const shows = {
+        map: () => showMap(cluster, what.said, take, refresh), pools: () => showPools(cluster, what.said, refresh, decodeURIComponent(more)), usage: () => showUsage(cluster), compare: () => showCompare(cluster, what, refresh),
+        drain: () => showDrain(cluster, wantedOf(more)), object: () => showObject(cluster),
+    };
+    return shows[view]();
+}
+
+let opening = null;
+
+// Shows the view as the service has it now. Until it is there the old one is dimmed, under its own
+// name.
+async function refresh(what = {}) {
+    const here = place();
+    opening?.stop();
+    at("main").setAttribute("aria-busy", "true");
+    try {
+        await working(`Opening ${VIEWS[here.view]}`, async (work) => {
+            opening = work;
+            await openTenant(here.tenant, work);
+            work.goesOn();
+        });
+        put(viewOf(here, what), false);
+        tabs(here);
+        if (what.said) at("said")?.focus();
+        else if (what.focus) at("main").querySelector(what.focus)?.focus();
+    } finally {
+        if (place().view === here.view && place().tenant === here.tenant) at("main").removeAttribute("aria-busy");
+    }
 }
 
 async function show(focus = true) {
     const here = place();
-    tabs(here);
     say("");
-    if (!here.tenant) return put(start(), focus);
+    if (!here.tenant) {
+        opening?.stop();
+        tabs(here);
+        at("main").removeAttribute("aria-busy");
+        return put(start(), focus);
+    }
     try {
         await refresh();
-        if (focus) at("main").querySelector("h1").focus({ preventScroll: true });
+        if (focus && place().view === here.view) at("main").querySelector("h1").focus({ preventScroll: true });
     } catch (why) {
+        // another view was asked for meanwhile
+        if (place().tenant !== here.tenant || place().view !== here.view) return undefined;
+        if (why instanceof Stopped && at("main").firstChild) return stopped();
         history.replaceState(null, "", "#/");
         put(start(fault(why.message)), focus);
         tabs(place());
+        at("main").removeAttribute("aria-busy");
     }
+    return undefined;
+}
+
+// The planner didn't wait for a view: the one that was there stays.
+function stopped() {
+    const current = document.querySelector("nav [aria-current]")?.getAttribute("href") ?? "#/";
+    history.replaceState(null, "", current);
+    at("main").removeAttribute("aria-busy");
+    sayDone("Stopped.");
     return undefined;
 }
 
@@ -130,33 +190,81 @@ function start(said) {
     };
     const links = tenants().length > 0 && [el("p", {}, "Open here before:"), el("ul", { class: "tenants" }, tenants().map((it) => el("li", {}, el("a", { href: `#/${it}/map` }, it))))];
     return el("section", { class: "start" }, el("h1", { tabindex: "-1" }, "Plan a cluster on paper"),
-        el("p", { class: "lead" }, "Which devices are full, what a new host moves, what a drain touches: computed from the text of a CRUSH map, without touching the cluster."),
+        el("p", { class: "lead" }, "May this host be drained? Which devices are full, what does a new host move? Computed from what the cluster itself writes of its CRUSH map, without touching the cluster."),
         el("div", { class: "note" }, el("p", {}, "Look first for ", el("code", {}, "alg straw2"), " in your map's text: most clusters have it, and crushcalc can't compute such buckets."),
             el("details", {}, el("summary", {}, "What can be done with such a map"), aboutStraw())),
         outcome,
         el("div", { class: "card", role: "group", "aria-labelledby": "new" }, el("h2", { id: "new" }, "Begin with the map of a cluster"),
             labelled("Cluster (tenant)", name, "A name of your choice. Under it the service keeps this cluster's maps, pools and device states, apart from all others; it calls that a tenant."),
-            dropBox((file) => take(file, name)), el("p", { class: "hint" }, "Then you fill in its pools, and see usage, moves and drains.")),
+            dropBox((files) => take(files, name)), el("p", { class: "hint" }, "Then usage, moves and drains are a click away. Where there is no osd.json you fill in the pools.")),
         el("form", { class: "card form", "aria-label": "A cluster that is there", on: { submit: open } }, el("h2", {}, "Or go on with one that is there"), links,
             labelled("Its name", there), el("button", {}, "Open it")));
 }
 
-// A file that was dropped or chosen: into the open tenant, or into a new one.
-async function take(file, name) {
+// ---- files
+
+// What came of dumps or a map for a new cluster, or for one that has no map yet.
+async function takeFirst(tenant, files, work) {
+    const osd = files.osd && readOsd(files.osd.text, files.osd.name), map = mapIn(files, osd);
+    if (!map) throw new Error("Drop the map too: crush.json, or map.txt.");
+    const version = await importMap(tenant, map, (file) => take([file]));
+    return osd ? takeWhole(tenant, map, osd, work, version === 1 && known(tenant).seen === 1) : done(tenant, `${map.name} is version ${version} of the map. `, ["pools", "Make a pool"], ["compare", "Compare the versions"], version);
+}
+
+function done(tenant, text, first, later, version) {
+    const [view, words] = version > 1 ? later : first;
+    sayDone(text);
+    return { said: el("p", { class: "done" }, text, el("a", { href: `#/${tenant}/${view}` }, words)) };
+}
+
+// The cluster's own dump, after its map: pools, states, upmap items.
+async function takeWhole(tenant, map, osd, work, fresh) {
+    await openTenant(tenant, work);
+    const taken = await takeOsd(tenant, cluster.map, osd, map.dump, fresh, work);
+    return done(tenant, `The cluster is there: ${taken}. Click on a host or rack in the picture, or `, ["drain", "choose what is drained or fails"], null, 1);
+}
+
+// Files for a cluster that has a map. A map that comes alone is tried in a copy.
+async function takeMore(tenant, files, work) {
+    if (files.saved) return { said: takeSaved(files.saved, cluster.summary) };
+    if (files.states) return { said: await takeStates(tenant, files.states) };
+    const osd = files.osd && readOsd(files.osd.text, files.osd.name), map = mapIn(files, osd);
+    if (map && osd) {
+        if (signature(readMap(map.text)) !== signature(cluster.map)) await importMap(tenant, map, (file) => take([file]));
+        return takeWhole(tenant, map, osd, work, false);
+    }
+    if (osd) return takeWhole(tenant, { dump: null }, osd, work, false);
+    if (known(tenant).pools.length) return { view: "compare", file: map };
+    const version = await importMap(tenant, map, (file) => take([file]));
+    return done(tenant, `${map.name} is version ${version} of the map. `, ["pools", "Make a pool"], ["pools", "Make a pool"], version);
+}
+
+// Files that were dropped or chosen: into the open cluster, or into a new one.
+async function take(list, name) {
     try {
-        if (!place().tenant) {
-            if (!isName(name)) return;
+        const files = await filesOf(list), isNew = !place().tenant;
+        if (isNew && !isName(name)) return;
+        if (isNew) {
+            if (files.osd) readOsd(files.osd.text, files.osd.name);
+            if (files.crush) mapIn(files, null);
             await makeTenant(name.value);
             history.pushState(null, "", `#/${name.value}/map`);
-        } else if (place().view !== "map") {
-            history.pushState(null, "", `#/${place().tenant}/map`);
         }
-        tabs(place());
-        const said = await takeFile({ tenant: place().tenant }, file);
-        await refresh(said);
+        const { tenant } = place();
+        await working("Reading the files", async (work) => {
+            await openTenant(tenant, work);
+            const { view = "map", ...what } = cluster.summary.versions ? await takeMore(tenant, files, work) : await takeFirst(tenant, files, work);
+            if (place().view !== view || place().more) history.pushState(null, "", `#/${tenant}/${view}`);
+            await refresh(what);
+        });
     } catch (why) {
         if (why instanceof GivenUp) return;
-        const into = at("said") ?? at("main");
+        if (why instanceof Refused) {
+            if (place().view !== "map") history.pushState(null, "", `#/${place().tenant}/map`);
+            await refresh({ said: why.shown });
+            return;
+        }
+        const into = at("said") ?? at("main").firstChild.appendChild(el("div", { id: "said", tabindex: "-1" }));
         into.replaceChildren(fault(why.message, why instanceof Taken && el("a", { href: `#/${name.value}/map` }, `open ${name.value}`)));
         into.focus();
     }
@@ -174,8 +282,7 @@ document.addEventListener("dragover", dropping(true));
 document.addEventListener("dragleave", dropping(false));
 document.addEventListener("drop", (event) => {
     dropping(false)(event);
-    const [file] = event.dataTransfer.files;
-    if (file) take(file, at("name"));
+    if (event.dataTransfer.files.length) take([...event.dataTransfer.files], at("name"));
 });
 
 // Sends the requests again that had no answer when the page was left.
@@ -185,7 +292,7 @@ async function repeatKept() {
             const reply = await finish(record);
             const done = reply.status === 200 || reply.status === 201;
             if (place().tenant === record.tenant) await show(false);
-            sayDone(`${record.what}: ${done ? "done" : meaning(reply.status, reply.error)}`);
+            sayDone(`${record.what}: ${done ? "done" : meaning(reply.status, reply.error, true)}`);
         } catch (why) {
             if (!(why instanceof GivenUp)) throw why;
         }

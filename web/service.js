@@ -23,11 +23,12 @@ export function hex(bytes) {
     return Array.from(crypto.getRandomValues(new Uint8Array(bytes)), (it) => it.toString(16).padStart(2, "0")).join("");
 }
 
-async function send(method, path, body) {
+async function send(method, path, body, signal) {
     try {
-        const reply = await fetch(path, { method, body, cache: "no-store", redirect: "error" });
+        const reply = await fetch(path, { method, body, signal, cache: "no-store", redirect: "error" });
         return { status: reply.status, bytes: await reply.arrayBuffer() };
     } catch {
+        if (signal?.aborted) throw signal.reason;
         return { status: 0, bytes: new ArrayBuffer(0) };
     }
 }
@@ -43,29 +44,30 @@ function said(bytes) {
 
 // Sends until there is an answer: after a lost reply once more by itself, and then, as after a 503,
 // when the planner says so.
-async function answer(what, method, path, body, changes) {
-    for (let itself = true; ; ) {
-        const { status, bytes } = await send(method, path, body);
-        if (!NO_ANSWER.has(status)) return { status, bytes };
+async function answer(what, method, path, body, changes, signal) {
+    for (let itself = true, tries = 1; ; tries += 1) {
+        const { status, bytes } = await send(method, path, body, signal);
+        if (!NO_ANSWER.has(status)) return { status, bytes, again: tries > 1 };
         if (status !== 503 && itself) {
             itself = false;
             await new Promise((go) => setTimeout(go, 500));
         } else {
-            await decide({ what, why: meaning(status, said(bytes).error), changes });
+            await decide({ what, why: meaning(status, said(bytes).error, method !== "GET"), changes, signal });
             itself = true;
         }
     }
 }
 
-// A request that changes nothing, or one that may be repeated as it is (PUT, DELETE).
-export async function ask(what, method, path, fields) {
-    const { status, bytes } = await answer(what, method, path, fields && JSON.stringify(fields), false);
-    return { status, ...said(bytes) };
+// A request that changes nothing, or one that may be repeated as it is (PUT, DELETE). `signal` ends
+// the wait for its reply; `again` is whether it was sent more than once.
+export async function ask(what, method, path, fields, signal) {
+    const { status, bytes, again } = await answer(what, method, path, fields && JSON.stringify(fields), false, signal);
+    return { ...said(bytes), status, again };
 }
 
 // A reply that may be long, as bytes.
-export function askLong(what, path) {
-    return answer(what, "GET", path, undefined, false);
+export function askLong(what, path, signal) {
+    return answer(what, "GET", path, undefined, false, signal);
 }
 
 export function read(bytes) {

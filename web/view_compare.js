@@ -1,124 +1,112 @@
-// Two versions compared: which groups move, and what each device gains and loses.
-import { askLong, read } from "./service.js";
+// Two maps compared: two versions, or the newest one and a map that is tried in a copy and doesn't
+// become a version. What moves in all, and what each place gains and loses.
+import { ask, change } from "./service.js";
+import { good, report, stagesOf } from "./answer.js";
 import { meaning } from "./codes.js";
-import { button, counted, cut, el, fault, labelled, later, longCsv, options, pause, save, say } from "./dom.js";
-import { devicesCell, idOf, written } from "./groups.js";
-import { readLong } from "./reading.js";
-import { changeCards, found } from "./charts.js";
-import { legend } from "./view_usage.js";
-import { missing, poolOf, poolPicker } from "./view_pools.js";
+import { button, csv, el, fault, labelled, options } from "./dom.js";
+import { answerRow, beforeAfter, changePicture, groupsFolded, legend, poolLines, totals, verdict } from "./change_view.js";
+import { count, figures } from "./figures.js";
+import { faultOf } from "./refused.js";
+import { readMap } from "./map.js";
+import { DEVICE_HEADS, deviceFields, placesTable } from "./places.js";
+import { missing, poolPicker, poolsChosen } from "./view_pools.js";
+import { filling } from "./waiting.js";
 
-const LINES = 50;
-
-function listOf({ starts, items }, place) {
-    return items.subarray(starts[place], starts[place + 1]);
-}
-
-function csvOf(report) {
-    return longCsv(["group", "gained", "old", "new"], report.groups.length, (it) => [report.groups[it], report.gainedBy[it], written(listOf(report.old, it)), written(listOf(report.next, it))]);
-}
-
-// The groups that each device gains and loses, as their rows.
-function changesOf({ changes }) {
-    return new Map(Array.from(changes.devices, (id, place) => [id, { gains: listOf(changes.gains, place), losses: listOf(changes.losses, place) }]));
-}
-
-// The rows in which the word is a device that joins or leaves, or begins the group's number or the
-// id that Ceph writes.
-function rowsOf(cluster, pool, report, changes, word) {
-    const device = cluster.deviceOf(word);
-    if (device !== undefined) {
-        const { gains, losses } = changes.get(device) ?? { gains: [], losses: [] };
-        return Int32Array.from(new Set([...gains, ...losses])).sort();
-    }
-    const rows = new Int32Array(report.groups.length);
-    for (let it = 0; it < rows.length; it += 1) rows[it] = it;
-    const text = (group) => (word.includes(".") ? idOf(pool, group) : String(group));
-    return word ? rows.filter((it) => text(report.groups[it]).startsWith(word)) : rows;
-}
-
-function groupList(cluster, pool, report, changes) {
-    const body = el("tbody"), foot = el("div"), search = el("input", { type: "search", id: "group-search" }), title = el("h2");
-    function draw() {
-        const word = search.value.trim(), rows = rowsOf(cluster, pool, report, changes, word);
-        title.replaceChildren(counted(`Groups that move${word && `, of ${word}`}`, rows));
-        foot.replaceChildren(cut(body, rows.length, (place) => {
-            const row = rows[place], group = report.groups[row], [old, next] = [listOf(report.old, row), listOf(report.next, row)];
-            return el("tr", { "data-group": group }, el("th", { scope: "row", class: "number" }, group), el("td", {}, idOf(pool, group)),
-                devicesCell(cluster, old, next, "del"), devicesCell(cluster, next, old, "ins"));
-        }, LINES));
-        if (!rows.length) foot.replaceChildren(el("p", { class: "empty" }, "No group that moves has this."));
-    }
-    search.addEventListener("input", draw);
-    draw();
-    const heads = el("tr", {}, ["group", "in Ceph", `on version ${report.from}`, `on version ${report.to}`].map((it) => el("th", { scope: "col" }, it)));
-    const list = el("div", { class: "card", id: "groups" }, title, labelled("Find a group or device", search, `A group's number or its id in Ceph (as ${idOf(pool, 28)}), or the name of a device that it joins or leaves.`),
-        el("table", { class: "plain" }, el("thead", {}, heads), body), foot);
-    const choose = (device) => {
-        search.value = device.name;
-        draw();
-        search.focus();
-        search.scrollIntoView({ block: "center" });
+// What each place gains and loses, of parts that have only that.
+function gainsAndLosses(cluster, found, name) {
+    const added = (key) => {
+        const all = new Map();
+        for (const part of found) part[key].forEach((it, id) => it && all.set(id, (all.get(id) ?? 0) + it));
+        return all;
     };
-    return [list, choose];
+    const gains = added("gains"), losses = added("losses"), ids = [...new Set([...gains.keys(), ...losses.keys()])].sort((a, b) => a - b);
+    const gone = ids.filter((id) => !cluster.map.byId.has(id)), net = (it) => it.gains - it.losses, signed = (it) => (it > 0 ? `+${count(it)}` : it < 0 ? `−${count(-it)}` : "0");
+    const table = placesTable(cluster, {
+        values: { gains: (id) => gains.get(id), losses: (id) => losses.get(id) }, top: (it) => it.gains + it.losses, only: (id) => gains.has(id) || losses.has(id),
+        columns: [{ head: "copies gained", text: (it) => count(it.gains) }, { head: "copies lost", text: (it) => count(it.losses) }, { head: "in all", text: (it) => signed(net(it)) }],
+        draw({ block }, it) {
+            block("loss", 0, it.losses);
+            block("gain", it.losses, it.losses + it.gains);
+        },
+        orders: [["gain", "greatest gain first", net], ["loss", "greatest loss first", (it) => -net(it)]], legend: legend(["gain", "copies gained"], ["loss", "copies lost"]),
+        file: { name: `gains-${name}.csv`, title: "Copies gained and lost", text: () => csv([...DEVICE_HEADS, "gained", "lost"], ids.map((id) => [...deviceFields(cluster, id), gains.get(id) ?? 0, losses.get(id) ?? 0])) },
+    });
+    return [gone.length > 0 && el("p", { class: "note" }, `Devices that the newest version doesn't have: ${gone.map((id) => `${cluster.name(id)} (loses ${losses.get(id) ?? 0}, gains ${gains.get(id) ?? 0})`).join(", ")}.`), table];
 }
 
-function deviceChart(cluster, report, lists, choose) {
-    const cards = el("div", { class: "cards", id: "cards" }), foot = el("div");
-    const search = el("input", { type: "search", id: "change-search" });
-    const names = new Set(cluster.map.hosts.flatMap((it) => it.devices.map((device) => device.id)));
-    const gone = [...lists.keys()].filter((it) => !names.has(it)).map((id) => ({ id, name: cluster.name(id), buckets: [] }));
-    const hosts = gone.length ? [...cluster.map.hosts, { name: "not in the newest version", type: "", path: "", devices: gone }] : cluster.map.hosts;
-    function draw() {
-        const some = found(hosts, search.value, (it) => lists.has(it.id));
-        foot.replaceChildren(...[changeCards(cards, some, lists, report.groups, choose)].filter(Boolean));
+// Two versions, by the service's own report: each with the states of now.
+async function versions(cluster, from, to, work) {
+    const pools = poolsChosen(cluster), found = [], name = `${cluster.tenant}-${from}-${to}`;
+    for (const pool of pools) {
+        work.step(`What moves: ${pool.name}`);
+        found.push({ pool, ...await report("moves", "Compare two versions", `/t/${cluster.tenant}/pools/${pool.id}/moves/${from}/${to}`, pool, work.signal) });
     }
-    search.addEventListener("input", later(draw));
-    draw();
-    return el("div", {}, el("div", { class: "bar-line" }, labelled("Find a device", search), legend(["gain", "groups gained"], ["loss", "groups lost"])), cards, foot);
+    const moved = found.reduce((sum, it) => sum + it.moved, 0), anew = found.reduce((sum, it) => sum + it.anew, 0);
+    return [figures([[moved, moved === 1 ? "group moves" : "groups move", "", "moved"], [anew, anew === 1 ? "copy is written anew" : "copies are written anew", "", "anew"]], "answer"),
+        ...moved ? [...gainsAndLosses(cluster, found, name), groupsFolded(cluster, found, [`on version ${from}`, `on version ${to}`], name)] : [el("p", { class: "done" }, "No group moves: each lies as before.")]];
 }
 
-function figures(report) {
-    return el("dl", { class: "figures" }, [["groups move", report.moved], ["copies are written anew", report.gained]].map(([text, value]) => el("div", {}, el("dt", {}, text), el("dd", {}, value))));
+// A map that is tried in a copy, beside the newest version.
+async function tried(cluster, { name, text }, refresh, work) {
+    const pools = poolsChosen(cluster), states = cluster.known.states;
+    let other = null;
+    const refusals = [], [found] = await stagesOf(cluster, pools, [{
+        words: `With ${name}`,
+        async change(copy) {
+            const reply = await change(`Try ${name} in a copy`, copy.name, "maps", { text }, { copy: true });
+            if (reply.error === "map_refused") refusals.push(faultOf({ name, text, reply }));
+            if (reply.status !== 201) throw new Error(`${name}: ${meaning(reply.status, reply.error)}`);
+            other = readMap(good(await ask(`Read ${name} as the service has it`, "GET", `/t/${copy.name}/maps/${reply.version}`), name).text);
+            return reply.version;
+        },
+    }], work).catch((why) => {
+        if (refusals.length) return [null];
+        throw why;
+    });
+    if (!found) return refusals;
+    const both = { ...cluster, map: union(cluster.map, other) }, all = totals(cluster, found, { before: states, after: states, map: other });
+    both.name = (id) => both.map.byId.get(id)?.name ?? cluster.name(id);
+    const file = `${cluster.tenant}-${name}`;
+    const keep = button(`Make it version ${cluster.summary.versions + 1}`, async () => {
+        const reply = await change(`Import ${name}`, cluster.tenant, "maps", { text }, { file: name });
+        if (reply.status === 201) return refresh();
+        keep.after(fault(meaning(reply.status, reply.error)));
+        return undefined;
+    }, { id: "keep" });
+    return [el("h2", { class: "title" }, `Version ${cluster.summary.versions} and ${name}`), el("p", { class: "hint" }, `${name} was tried in a copy: the newest version is ${cluster.summary.versions} as before. `, keep),
+        verdict(all), answerRow(both, all), poolLines(found), changePicture(both, all), beforeAfter(both, all, file), groupsFolded(both, found, ["now", `by ${name}`], file)];
 }
 
-// Puts the figures, the bars and the list there one after the other, so that none waits for all.
-async function fill(at, cluster, pool, report, save) {
-    at.replaceChildren(save, figures(report));
-    if (!report.groups.length) return at.append(el("p", { class: "done" }, "No group moves: each lies as before."));
-    await pause();
-    const changes = changesOf(report), [list, choose] = groupList(cluster, pool, report, changes), both = el("div", { class: "split wide-left" }, list);
-    at.append(both);
-    await pause();
-    return both.prepend(deviceChart(cluster, report, changes, choose));
+// The places of both maps: those of the other one, and what it lacks of the first.
+function union(first, other) {
+    const byId = new Map([...first.byId, ...other.byId]), buckets = new Map([...first.buckets, ...other.buckets]);
+    return { ...other, byId, buckets, devices: new Map([...first.devices, ...other.devices]), levels: other.levels.length ? other.levels : first.levels };
 }
 
-export function showCompare(cluster) {
+export function showCompare(cluster, what, refresh) {
     const section = el("section", {}, el("h1", { tabindex: "-1" }, "Compare"));
-    const lacks = missing(cluster) ?? (cluster.summary.versions < 2 && el("p", { class: "empty" }, "There is one version of the map: ", el("a", { href: `#/${cluster.tenant}/map` }, "drop another"), " to compare them."));
+    const lacks = missing(cluster);
     if (lacks) {
         section.append(lacks);
         return section;
     }
-    const newest = cluster.summary.versions, at = el("div");
-    const versions = Array.from({ length: newest }, (_, it) => [newest - it, `${newest - it}${cluster.known.files[newest - it] ? `: ${cluster.known.files[newest - it]}` : ""}`]);
-    const [from, to] = [options(el("select", { id: "from" }), versions, newest - 1), options(el("select", { id: "to" }), versions, newest)];
-    async function load() {
-        const pool = poolOf(cluster);
-        at.replaceChildren();
-        say("Comparing");
-        const { status, bytes } = await askLong("Compare two versions", `/t/${cluster.tenant}/pools/${pool.id}/moves/${from.value}/${to.value}`);
-        if (status !== 200) {
-            say("");
-            return at.replaceChildren(fault(meaning(status, read(bytes).error)));
-        }
-        const report = await readLong("moves", bytes);
-        say("");
-        return fill(at, cluster, pool, report, button("Save as CSV", async () => save(`moves-${cluster.tenant}-${pool.name}.csv`, await csvOf(report)), { id: "moves-csv", class: "right" }));
+    const newest = cluster.summary.versions, at = el("div"), drop = el("p", { class: "hint" }, "Drop a changed map text anywhere on this page: it is compared with the newest version in a copy, and becomes no version unless you say so.");
+    const lines = Array.from({ length: newest }, (_, it) => [newest - it, `${newest - it}${cluster.known.files[newest - it] ? `: ${cluster.known.files[newest - it]}` : ""}`]);
+    const [from, to] = [options(el("select", { id: "from" }), lines, Math.max(1, newest - 1)), options(el("select", { id: "to" }), lines, newest)];
+    const fills = (words, act) => filling(at, words, (work) => {
+        section.addEventListener("left", work.stop);
+        return act(work);
+    });
+    let file = what?.file;
+    const load = () => (file ? fills(`Trying ${file.name}`, (work) => tried(cluster, file, refresh, work)) : newest > 1 ? fills("Comparing", (work) => versions(cluster, from.value, to.value, work)) : at.replaceChildren(el("p", { class: "empty" }, "There is one version of the map.")));
+    for (const it of [from, to]) {
+        it.addEventListener("change", () => {
+            file = null;
+            load();
+        });
     }
-    for (const it of [from, to]) it.addEventListener("change", load);
-    section.append(el("div", { class: "controls" }, poolPicker(cluster, load), labelled("From version", from), labelled("To version", to)),
-        el("p", { class: "hint" }, "States of devices are those of now, for both versions."), at);
+    section.append(el("div", { class: "controls" }, poolPicker(cluster, load), ...newest > 1 ? [labelled("From version", from), labelled("To version", to)] : []), drop,
+        newest > 1 ? el("p", { class: "hint" }, "States of devices are those of now, for both versions.") : "", at);
     load();
     return section;
 }

@@ -1,89 +1,75 @@
-// The map: a text that is dropped and imported, or its first fault; the tree with weights and
-// states.
+// The map: its picture, its tree with weights and states that can be changed, its versions; and
+// what of the cluster this browser knows.
 import { ask, change } from "./service.js";
-import { FAULTS, NOT_COMPUTED, NO_FAULT, STRAW, meaning } from "./codes.js";
+import { copiesOf, drop } from "./copies.js";
+import { meaning } from "./codes.js";
 import { button, csv, cut, el, fault, labelled, options, save, say, sayDone } from "./dom.js";
 import { removal } from "./removing.js";
+import { many } from "./figures.js";
 import { pathOf, readMap } from "./map.js";
+import { DEVICE_HEADS, deviceFields } from "./places.js";
+import { picture } from "./picture.js";
+import { savedOf } from "./take.js";
+import { stateOf } from "./shares.js";
+import { sharePicture } from "./view_usage.js";
+import { placeActions } from "./actions.js";
+import { filling, working } from "./waiting.js";
 
-const AROUND = 8, LONGEST_FILE = 5242880, LONGEST_LINE = 300;
 // writes the states of a cluster's devices as the service takes them
 const STATES = 'ceph osd dump -f json | jq -r \'"id,reweight,up", (.osds[] | "\\(.osd),\\(.weight * 65536 | round),\\(.up)")\' >states.csv';
-const WHOLE = { reweight: 65536, up: true };
+const DUMPS = "ceph osd crush dump -f json >crush.json; ceph osd dump -f json >osd.json";
 
-// The place where a file is dropped, or chosen.
+// The place where files are dropped, or chosen.
 export function dropBox(take, more) {
-    const input = el("input", { type: "file", id: "file", class: "file", on: { change: () => input.files.length && take(input.files[0]) } });
+    const input = el("input", { type: "file", id: "file", class: "file", multiple: true, on: { change: () => input.files.length && take([...input.files]) } });
     return el("div", { class: "drop" },
-        el("p", { class: "large" }, "Drop a map text here"),
-        el("p", {}, el("span", { class: "choose" }, input, el("label", { for: "file" }, "or choose a file"))),
-        el("p", { class: "hint" }, "As ", el("code", {}, "ceph osd getcrushmap -o map.bin && crushtool -d map.bin -o map.txt"), " writes it, with list, tree and uniform buckets."), more);
+        el("p", { class: "large" }, "Drop crush.json and osd.json here, both at once"),
+        el("p", {}, el("span", { class: "choose" }, input, el("label", { for: "file" }, "or choose files"))),
+        el("p", { class: "hint" }, "On the cluster this writes them, and changes nothing: ", el("code", {}, DUMPS)),
+        el("p", { class: "hint" }, "Or a map text alone, as ", el("code", {}, "ceph osd getcrushmap -o map.bin && crushtool -d map.bin -o map.txt"), " writes it: its weights are rounded to three decimals, and those of crush.json are exact."), more);
 }
 
-// What holds of a map with straw or straw2 buckets.
-export function aboutStraw() {
-    return [el("p", {}, STRAW.why), el("p", {}, STRAW.copy), el("pre", {}, el("code", {}, STRAW.command)), el("p", {}, STRAW.good), el("p", {}, STRAW.bad), el("p", {}, el("strong", {}, STRAW.never))];
-}
+// ---- states
 
-// The text of a file as it is, its byte order mark too.
-async function textOf(file) {
-    return new TextDecoder("utf-8", { ignoreBOM: true }).decode(await file.arrayBuffer());
-}
-
-// Imports a map, or changes states of devices, and says what came of it, as an element.
-export async function takeFile(cluster, file) {
-    if (file.size > LONGEST_FILE) return fault(`${file.name} isn't sent: it is longer than the 5,242,880 bytes that a request may have.`);
-    const text = await textOf(file);
-    say(`Sending ${file.name}`);
-    if (/^\ufeff?"?id"?,/.test(text)) return takeStates(cluster, file.name, text);
-    const reply = await change(`Import ${file.name}`, cluster.tenant, "maps", { text }, { file: file.name });
-    if (reply.status === 201) {
-        sayDone(`${file.name} is version ${reply.version}`);
-        const next = reply.version > 1 ? ["compare", "Compare the versions"] : ["pools", "Make a pool"];
-        return el("p", { class: "done" }, `${file.name} is version ${reply.version} of the map. `, el("a", { href: `#/${cluster.tenant}/${next[0]}` }, next[1]));
-    }
-    say("");
-    return reply.error === "map_refused" ? faultOf(file.name, text, reply) : fault(`${file.name} isn't imported. `, meaning(reply.status, reply.error));
-}
-
-async function takeStates(cluster, name, text) {
-    const reply = await change(`Set the states of ${name}`, cluster.tenant, "devices/csv", { csv: text }, {});
-    say("");
-    if (reply.status !== 200) return fault(`The states of ${name} aren't set. `, meaning(reply.status, reply.error));
-    return el("p", { class: "done" }, `The states of ${name} are set: ${reply.devices} devices.`);
-}
-
-// The first fault of a text, at its line between the lines around it.
-function faultOf(name, text, { fault: code, line }) {
-    const lines = text.split("\n"), first = Math.max(1, line - AROUND), last = Math.min(lines.length, line + AROUND);
-    const shown = el("ol", { class: "text", start: first, "aria-label": `Lines ${first} to ${last} of the text` });
-    for (let at = first; at <= last; at += 1) {
-        const said = lines[at - 1].replace(/\r$/, "");
-        const words = el("code", {}, said.length > LONGEST_LINE ? `${said.slice(0, LONGEST_LINE)} ..` : said);
-        if (at !== line) {
-            shown.append(el("li", { value: at }, words));
-        } else {
-            shown.append(el("li", { value: at, class: "here", "aria-current": "true" }, words, el("p", { class: "meaning" }, el("strong", {}, code), `: ${FAULTS[code] ?? "a code that this page doesn't know."}`)));
+// A state that is set by a click: in or out, up or down, or another reweight.
+function stateButtons(cluster, device, refresh) {
+    const { reweight, up } = stateOf(cluster.known.states, device.id), of = `of ${device.name}`;
+    const set = async (fields, what) => {
+        const reply = await change(`${device.name} ${what}`, cluster.tenant, "devices", { devices: [{ id: device.id, ...fields }] }, {});
+        if (reply.status === 200) {
+            sayDone(`${device.name} is ${what}`);
+            return refresh({ focus: `[data-device="${device.id}"] button` });
         }
-    }
-    const title = NOT_COMPUTED.has(code) ? `crushcalc can't compute ${name}` : `${name} isn't imported`;
-    const more = code === "X2" ? aboutStraw() : NOT_COMPUTED.has(code) ? el("p", {}, NO_FAULT) : null;
-    return el("div", { class: "card refused", role: "alert" }, el("h3", {}, `${title}: line ${line}, code ${code}`), more, shown);
+        return say(meaning(reply.status, reply.error));
+    };
+    const share = reweight === 65536 ? "in" : reweight === 0 ? "out" : `reweight ${(reweight / 65536).toFixed(4).replace(/0+$/, "")}`;
+    const press = (text, kind, title, act) => el("button", { type: "button", class: `badge ${kind}`, title, "aria-label": `${title} (${of})`, on: { click: act } }, text);
+    return [press(share, reweight === 65536 ? "in" : reweight === 0 ? "out" : "part", reweight ? `${share}: take it out` : "out: take it in", () => set({ reweight: reweight ? 0 : 65536 }, reweight ? "out" : "in")),
+        press(up ? "up" : "down", up ? "up" : "down", up ? "up: say that it is down" : "down: say that it is up", () => set({ up: !up }, up ? "down" : "up")),
+        press("..", "other", "Another reweight", () => askReweight(device, reweight, (it) => set({ reweight: it }, `reweighted to ${it / 65536}`)))];
 }
 
-function stateOf(states, device) {
-    const { reweight, up } = { ...WHOLE, ...states[device.id] };
-    const share = reweight === 65536 ? ["in", "in"] : reweight === 0 ? ["out", "out"] : ["part", `reweight ${reweight}`];
-    return [share, up ? ["up", "up"] : ["down", "down"]].flatMap(([kind, text]) => [" ", el("span", { class: `badge ${kind}` }, text)]);
+function askReweight(device, reweight, set) {
+    const field = el("input", { type: "number", min: 0, max: 1, step: "any", value: reweight / 65536, required: true, id: "reweight" });
+    const send = (event) => {
+        event.preventDefault();
+        box.close();
+        set(Math.round(Number(field.value) * 65536));
+    };
+    const box = el("dialog", { "aria-label": `Reweight of ${device.name}`, on: { close: () => box.remove() } }, el("form", { on: { submit: send } }, labelled(`Reweight of ${device.name}`, field, "As ceph osd reweight takes it: 0 to 1."),
+        el("div", { class: "buttons" }, el("button", { class: "main" }, "Set it"), button("Leave it", () => box.close()))));
+    document.body.append(box);
+    box.showModal();
 }
 
-function deviceLine(cluster, device, weight) {
-    return el("div", { class: "leaf", "data-device": device.id }, el("span", { class: "device" }, device.name), el("span", { class: "weight" }, weight ?? ""),
-        el("span", {}, stateOf(cluster.known.states, device)));
+// ---- the tree
+
+function deviceLine(cluster, device, weight, refresh) {
+    return el("div", { class: "leaf", "data-device": device.id }, el("span", { class: "device" }, device.name), el("span", { class: "weight" }, weight ?? ""), el("span", { class: "states" }, ...stateButtons(cluster, device, refresh)));
 }
 
 // A bucket, whose items are made when it is opened.
-function bucketLine(cluster, bucket, weight, open) {
+function bucketLine(cluster, bucket, weight, open, refresh) {
     const items = el("ul"), foot = el("div");
     const line = el("details", { "data-bucket": bucket.name }, el("summary", {}, el("span", { class: "type" }, bucket.type), el("span", { class: "name" }, bucket.name),
         el("span", { class: "weight" }, weight ?? ""), el("span", { class: "hint" }, `${bucket.alg}, id ${bucket.id}`)), items, foot);
@@ -93,7 +79,7 @@ function bucketLine(cluster, bucket, weight, open) {
         filled = true;
         foot.replaceChildren(cut(items, bucket.items.length, (place) => {
             const item = bucket.items[place];
-            return el("li", {}, item.device ? deviceLine(cluster, item.device, item.weight) : bucketLine(cluster, item.bucket, item.weight, open - 1));
+            return el("li", {}, item.device ? deviceLine(cluster, item.device, item.weight, refresh) : bucketLine(cluster, item.bucket, item.weight, open - 1, refresh));
         }));
     }
     line.addEventListener("toggle", fill);
@@ -107,12 +93,12 @@ function levels(map) {
     return map.devices.size <= 64 ? 9 : map.buckets.size <= 64 ? 2 : 1;
 }
 
-function tree(cluster, map) {
+function tree(cluster, map, refresh) {
     const list = el("ul", { class: "tree", id: "tree" }), foot = el("div");
     const alone = map.hosts.filter((it) => it.type === "").flatMap((it) => it.devices);
     function whole() {
         const lines = [...map.roots, ...alone];
-        foot.replaceChildren(cut(list, lines.length, (it) => el("li", {}, lines[it].items ? bucketLine(cluster, lines[it], null, levels(map)) : deviceLine(cluster, lines[it]))));
+        foot.replaceChildren(cut(list, lines.length, (it) => el("li", {}, lines[it].items ? bucketLine(cluster, lines[it], null, levels(map), refresh) : deviceLine(cluster, lines[it], null, refresh))));
     }
     function search() {
         const word = input.value.trim().toLowerCase();
@@ -120,7 +106,7 @@ function tree(cluster, map) {
         const names = [...map.buckets.values(), ...map.devices.values()].filter((it) => it.name.toLowerCase().includes(word));
         foot.replaceChildren(cut(list, names.length, (place) => {
             const it = names[place], above = it.items ? pathOf(it) : it.buckets[0] ? [it.buckets[0].name, pathOf(it.buckets[0])].filter(Boolean).join(", ") : "";
-            const line = it.items ? bucketLine(cluster, it, null, 0) : deviceLine(cluster, it, it.buckets[0]?.items.find((item) => item.device === it).weight);
+            const line = it.items ? bucketLine(cluster, it, null, 0, refresh) : deviceLine(cluster, it, it.buckets[0]?.items.find((item) => item.device === it).weight, refresh);
             return el("li", {}, line, above && el("span", { class: "hint above" }, `in ${above}`));
         }));
         if (!names.length) list.append(el("li", { class: "empty" }, "No bucket and no device has this in its name."));
@@ -128,28 +114,82 @@ function tree(cluster, map) {
     }
     const input = el("input", { type: "search", id: "tree-search", on: { input: search } });
     whole();
-    return el("div", { class: "card" }, labelled("Find a bucket or device", input, "Classes of devices (hdd, ssd) aren't shown: the service reads them and doesn't keep them."), list, foot);
+    return el("div", { class: "card" }, labelled("Find a bucket or device", input, "A click on a state changes it. Classes of devices (hdd, ssd) aren't shown: the service reads them and doesn't keep them."), list, foot);
 }
 
-// One line of each place of a device, with the state that this page knows.
+// ---- what else is known
+
+// What the service has that this browser doesn't know.
+function unknown({ summary, known }) {
+    const count = Object.keys(known.states).length;
+    if (summary.epoch === known.seen && summary.pools === known.pools.length) return null;
+    const has = `The service keeps ${many(summary.pools, "pool")} and the states of ${many(summary.devices, "device")}; this browser knows ${many(known.pools.length, "pool")} and ${many(count, "state")}.`;
+    return el("p", { class: "note", id: "unknown" }, `This cluster was changed by another browser or program. ${has} No request lists them: drop osd.json, a CSV of all states, or the file that the other browser saves. What is computed in a copy is compared with the service first.`);
+}
+
+function notesOf({ known }) {
+    if (!known.notes.length) return null;
+    return el("div", { class: "note", id: "not-computed" }, el("p", {}, el("strong", {}, "What the cluster has and isn't computed here")), el("ul", {}, known.notes.map((it) => el("li", {}, it))));
+}
+
+// Copies that a closed browser left: found by their names, and dropped when asked.
+function leftCopies(cluster) {
+    const found = el("div", { "aria-live": "polite" });
+    const look = button("Look for copies", async () => {
+        const names = await working("Looking for copies", (work) => copiesOf(cluster.tenant, work.signal));
+        found.replaceChildren(names.length ? el("ul", { class: "tenants" }, names.map((it) => el("li", {}, el("code", {}, it), " ", button("Drop it", async (event) => {
+            const line = event.currentTarget.closest("li"), reply = await drop(it);
+            line.replaceChildren(reply.status === 200 || reply.status === 404 ? `${it} is dropped.` : meaning(reply.status, reply.error, true));
+        })))) : el("p", {}, "There is none."));
+    }, { id: "look" });
+    return el("details", { class: "hint", id: "copies" }, el("summary", {}, "Copies that a closed browser left"), el("p", {}, "A drain is computed on a copy, which is dropped at once. Where a browser was closed before, its copy is left on the service. Don't drop one that another browser works with now."), look, found);
+}
+
+function mapPicture(cluster) {
+    const weight = new Map([...cluster.map.devices.values()].map((it) => [it.id, it.buckets.reduce((sum, bucket) => sum + bucket.items.filter((item) => item.device === it).reduce((all, item) => all + Number(item.weight), 0), 0)]));
+    const out = (id) => stateOf(cluster.known.states, id).reweight === 0, down = (id) => !stateOf(cluster.known.states, id).up;
+    return picture(cluster, {
+        values: { devices: () => 1, out: (id) => (out(id) ? 1 : 0), down: (id) => (down(id) ? 1 : 0), weight: (id) => weight.get(id) },
+        colour: (it) => (it.down ? ["loss", it.down / it.devices] : it.out ? ["used", it.out / it.devices] : "same"),
+        words: (it, place) => [place.items ? `${many(it.devices, "device")}, weight ${Number(it.weight.toFixed(3))}` : `weight ${Number(it.weight.toFixed(5))}`, it.out && (place.items ? `${it.out} out` : "out"), it.down && (place.items ? `${it.down} down` : "down")].filter(Boolean).join(", "),
+        keys: [["same", "in and up"], ["used", "out"], ["loss", "down"]], actions: cluster.known.pools.length ? placeActions(cluster) : () => [],
+    });
+}
+
+// The picture by states at once; by shares where there are pools, once these are known.
+function pictureOf(cluster, section) {
+    const at = el("div", {}, mapPicture(cluster));
+    if (cluster.known.pools.length) {
+        filling(at, "Usage of the pools", (work) => {
+            section.addEventListener("left", work.stop);
+            return sharePicture(cluster, work, placeActions(cluster));
+        });
+    }
+    return at;
+}
+
 function devicesCsv(cluster, map) {
-    const rows = map.hosts.flatMap((host) => host.devices.map((device) => {
-        const { reweight, up } = { ...WHOLE, ...cluster.known.states[device.id] };
-        const weight = device.buckets.find((it) => it.name === host.name)?.items.find((it) => it.device === device).weight ?? "";
-        return [device.id, device.name, device.buckets.length ? host.name : "", host.path.replaceAll(",", ""), weight, reweight, up ? 1 : 0];
-    }));
-    return csv(["id", "name", "bucket", "above", "weight", "reweight", "up"], rows);
+    return csv([...DEVICE_HEADS, "above"], [...map.devices.values()].map((it) => [...deviceFields({ ...cluster, map }, it.id), it.buckets[0] ? pathOf(it.buckets[0]).replaceAll(",", "") : ""]));
 }
 
-// What the service has that this page doesn't know.
-function unknown(cluster) {
-    const count = Object.keys(cluster.known.states).length;
-    if (cluster.summary.devices === count) return null;
-    return el("p", { class: "note" }, `The service keeps the states of ${cluster.summary.devices} devices, and this browser knows ${count}: the others were set elsewhere, `
-        + "and no request lists them. Drop a CSV of all states to set them here.");
+function versionsOf(cluster, refresh) {
+    const { summary, tenant } = cluster, numbers = Array.from({ length: summary.versions }, (_, it) => summary.versions - it);
+    const select = options(el("select", { id: "version" }), numbers.map((it) => [it, `${it}${cluster.known.files[it] ? `: ${cluster.known.files[it]}` : ""}`]), summary.versions);
+    const shown = el("div");
+    let map = cluster.map;
+    select.addEventListener("change", async () => {
+        const version = select.value, reply = await ask("Read a version", "GET", `/t/${tenant}/maps/${version}`);
+        if (version !== select.value) return;
+        map = readMap(reply.text ?? "");
+        shown.replaceChildren(reply.status === 200 ? tree(cluster, map, refresh) : fault(meaning(reply.status, reply.error)));
+    });
+    shown.append(tree(cluster, map, refresh));
+    const file = button("Save devices as CSV", () => save(`devices-${tenant}-${select.value}.csv`, devicesCsv(cluster, map)), { id: "devices-csv" });
+    const whole = button("Save for another browser", () => save(`${tenant}.crushcalc.json`, savedOf(tenant), "application/json"), { id: "save-known", title: "What this browser alone knows: names and sizes of pools, and states of devices" });
+    return [el("div", { class: "controls" }, labelled("Version", select), file, whole), shown];
 }
 
-export function showMap(cluster, said, take) {
+export function showMap(cluster, said, take, refresh) {
     const { summary, tenant } = cluster, at = el("div", {}, el("div", { id: "said", tabindex: "-1" }, said));
     const states = el("details", { class: "hint" }, el("summary", {}, "A CSV of device states is taken here too"), el("p", {}, "Where devices are down or reweighted. Its lines are id,reweight,up: a reweight is in 65536ths, up is 1 or 0. On the cluster this writes it:"),
         el("pre", {}, el("code", {}, STATES)));
@@ -158,18 +198,6 @@ export function showMap(cluster, said, take) {
         at.append(el("p", { class: "empty" }, `${tenant} has no map yet. Drop one here, or delete ${tenant}, of which the service keeps nothing but the name.`), removal(cluster));
         return section;
     }
-    const versions = Array.from({ length: summary.versions }, (_, it) => summary.versions - it);
-    const select = options(el("select", { id: "version" }), versions.map((it) => [it, `${it}${cluster.known.files[it] ? `: ${cluster.known.files[it]}` : ""}`]), summary.versions);
-    const shown = el("div");
-    let map = cluster.map;
-    select.addEventListener("change", async () => {
-        const version = select.value, reply = await ask("Read a version", "GET", `/t/${tenant}/maps/${version}`);
-        if (version !== select.value) return;
-        map = readMap(reply.text ?? "");
-        shown.replaceChildren(reply.status === 200 ? tree(cluster, map) : fault(meaning(reply.status, reply.error)));
-    });
-    shown.append(tree(cluster, map));
-    const file = button("Save devices as CSV", () => save(`devices-${tenant}-${select.value}.csv`, devicesCsv(cluster, map)), { id: "devices-csv" });
-    at.append(el("div", { class: "controls" }, labelled("Version", select), file), ...[unknown(cluster)].filter(Boolean), shown, removal(cluster));
+    at.append(...[unknown(cluster), notesOf(cluster), pictureOf(cluster, section)].filter(Boolean), ...versionsOf(cluster, refresh), leftCopies(cluster), removal(cluster));
     return section;
 }

@@ -49,7 +49,7 @@ export function showObject(cluster) {
         group.setCustomValidity(number === undefined ? `A number, or an id in Ceph of this pool, as ${idOf(pool, 28)}.` : "");
         return group.reportValidity() && find(`Group ${number}`, (at) => ask("Locate a group", "GET", `${at}/groups/${number}`));
     };
-    section.append(el("div", { class: "split" }, el("div", {}, poolPicker(cluster, () => at.replaceChildren()),
+    section.append(el("div", { class: "split" }, el("div", {}, poolPicker(cluster, () => at.replaceChildren(), false),
         el("form", { class: "card form", "aria-label": "An object", on: { submit: byName } }, labelled("Name of an object", name), el("button", { class: "main" }, "Where is it?")),
         el("form", { class: "card form", "aria-label": "A group", on: { submit: byNumber } }, labelled("A group", group, "Its number, or its id as Ceph writes it: 1.1c is group 28 of pool 1."), el("button", {}, "Where is it?"))), at));
     return section;

@@ -1,46 +1,76 @@
-// How evenly a pool lies: a bar for each device, by host.
-import { ask } from "./service.js";
-import { meaning } from "./codes.js";
-import { button, csv, el, fault, labelled, later, options, save, say } from "./dom.js";
-import { evenParts } from "./map.js";
-import { found, usageCards } from "./charts.js";
-import { missing, poolOf, poolPicker } from "./view_pools.js";
+// How evenly the pools lie: copies beside what is expected by weight and reweight, by rack, host or
+// device.
+import { csv, el } from "./dom.js";
+import { legend } from "./change_view.js";
+import { count, figures } from "./figures.js";
+import { picture } from "./picture.js";
+import { DEVICE_HEADS, deviceFields, placesTable } from "./places.js";
+import { decimals, expectedOf, partText, partsOf, percent, percentText } from "./shares.js";
+import { copiesByDevice, copiesIn, usageOf } from "./usage.js";
+import { missing, poolPicker, poolsChosen } from "./view_pools.js";
+import { placeActions } from "./actions.js";
+import { filling } from "./waiting.js";
 
-const COLUMNS = ["device", "groups", "entries", "primaries", "permille"];
-
-export function usageOf(tenant, pool) {
-    return ask(`Usage of pool ${pool}`, "GET", `/t/${tenant}/pools/${pool}/usage`);
+// The devices that have the most and the least of what is expected of them.
+function ends(cluster, copies, expected) {
+    const parts = [...cluster.map.byId.keys()].filter((id) => expected.get(id) > 0).map((id) => [id, percent(copies.get(id) ?? 0, expected.get(id))]);
+    return [d3.max, d3.min].map((end) => {
+        const value = end(parts, (it) => it[1]), id = parts.find((it) => it[1] === value)?.[0];
+        return id === undefined ? null : [percentText(copies.get(id) ?? 0, expected.get(id)), cluster.name(id)];
+    });
 }
 
-export function byDevice(reply) {
-    return new Map(reply.rows.map((it) => [it.device, it]));
+function usageCsv(cluster, pools, usages) {
+    const heads = ["pool", "pool_name", ...DEVICE_HEADS, "copies", "expected", "percent", "groups", "primaries", "permille"];
+    const rows = pools.flatMap((pool, place) => {
+        const parts = partsOf(cluster.map, pool, cluster.known.states), whole = copiesIn(usages[place]);
+        return usages[place].rows.map((it) => {
+            const expected = (parts.get(it.device) ?? 0) * whole;
+            return [pool.id, pool.name, ...deviceFields(cluster, it.device), it.entries, decimals(expected, 2), partText(it.entries, expected), it.groups, it.primaries, it.permille];
+        });
+    });
+    return csv(heads, rows);
 }
 
-export function usageCsv(reply) {
-    return csv(COLUMNS, reply.rows.map((row) => COLUMNS.map((it) => row[it])));
+// The usages of several pools, the copies of each device, and what it is expected to have.
+async function usagesOf(cluster, pools, work) {
+    const usages = [];
+    for (const it of pools) usages.push(await usageOf(cluster, it, work));
+    const whole = new Map(pools.map((pool, place) => [pool, copiesIn(usages[place])]));
+    return { usages, copies: copiesByDevice(usages), expected: expectedOf(cluster.map, pools, cluster.known.states, (pool) => whole.get(pool)), whole: [...whole.values()].reduce((sum, it) => sum + it, 0) };
 }
 
-export function legend(...pairs) {
-    return el("ul", { class: "legend" }, pairs.map(([kind, text]) => el("li", {}, el("span", { class: `key ${kind}`, "aria-hidden": "true" }), text)));
+// The cluster's picture, coloured by percent of the shares in all pools that are known.
+export async function sharePicture(cluster, work, actions, pools = cluster.known.pools) {
+    const { copies, expected } = await usagesOf(cluster, pools, work);
+    return picture(cluster, {
+        values: { copies: (id) => copies.get(id), expected: (id) => expected.get(id) }, colour: (it) => percent(it.copies, it.expected), words: (it) => `${count(it.copies)} copies, ${percentText(it.copies, it.expected)} of its share`,
+        keys: [["low", "50 % of its share"], ["even-ground", "100 %"], ["high", "150 %"]], actions,
+    });
 }
 
-// Where the even share of each device is drawn, in a unit of usage.
-export function evenLines(cluster, pool, rows, unit, states = cluster.known.states) {
-    const whole = unit === "permille" ? 1000 : d3.sum(rows, (it) => it[unit]);
-    return new Map([...evenParts(cluster.map, pool.rule, states)].map(([id, part]) => [id, part * whole]));
-}
-
-export const ORDERS = [["host", "by host"], ["most", "most first"], ["above", "most above even share first"]];
-
-// The hosts as they are, or all devices as one list, each with its host: by how much they have, or
-// by how far that is above their even share.
-export function ordered(hosts, order, value, even) {
-    if (order === "host" || !hosts.length) return hosts;
-    const all = new Map(hosts.flatMap((host) => host.devices.map((it) => [it.id, { id: it.id, name: `${it.name}, ${host.name}` }])));
-    const above = (it) => (value(it) === 0 ? 0 : value(it) / (even.get(it.id) || Number.MIN_VALUE));
-    const first = order === "above" ? above : value;
-    const devices = [...all.values()].sort((a, b) => first(b) - first(a) || value(b) - value(a) || a.id - b.id);
-    return [{ name: order === "above" ? "Most above even share first" : "Most first", type: "", path: "", ordered: true, devices }];
+async function shown(cluster, work) {
+    const pools = poolsChosen(cluster), { usages, copies, expected, whole } = await usagesOf(cluster, pools, work);
+    const lacks = pools.reduce((sum, it) => sum + it.size * it.pg_num, 0) - whole;
+    const [most, least] = ends(cluster, copies, expected), name = pools.length === 1 ? pools[0].name : "all-pools";
+    const values = { copies: (id) => copies.get(id), expected: (id) => expected.get(id) };
+    const share = (it) => percent(it.copies, it.expected);
+    return [
+        figures([[count(whole), "copies in all", "", "copies"], lacks > 0 && [count(lacks), "copies have no room", "bad", "missing"],
+            most && [most[0], `of its share has ${most[1]}, the most`, "", "most"], least && [least[0], `of its share has ${least[1]}, the least`, "", "least"]], "answer"),
+        await sharePicture(cluster, work, placeActions(cluster), pools),
+        placesTable(cluster, {
+            values, top: (it) => Math.max(it.copies, it.expected),
+            columns: [{ head: "copies", text: (it) => count(it.copies) }, { head: "expected", text: (it) => decimals(it.expected, 1) }, { head: "of its share", text: (it) => percentText(it.copies, it.expected) }],
+            draw({ block, line }, it) {
+                block("used", 0, it.copies);
+                if (it.expected) line("even", it.expected);
+            },
+            orders: [["most", "most of its share first", (it) => share(it) ?? -1], ["copies", "most copies first", (it) => it.copies]],
+            legend: legend(["used", "copies"], ["even", "expected, by weight and reweight"]),
+            file: { name: `usage-${cluster.tenant}-${name}.csv`, title: "Copies by place", text: () => usageCsv(cluster, pools, usages) },
+        }),
+    ];
 }
 
 export function showUsage(cluster) {
@@ -50,28 +80,11 @@ export function showUsage(cluster) {
         section.append(lacks);
         return section;
     }
-    const at = el("div"), search = el("input", { type: "search", id: "usage-search" });
-    const order = options(el("select", { id: "order" }), ORDERS, "host");
-    section.append(el("div", { class: "controls" }, poolPicker(cluster, load), labelled("Find a device", search), labelled("Order", order)), at);
-    async function load() {
-        const pool = poolOf(cluster);
-        say(`Asking for the usage of ${pool.name}`);
-        const reply = await usageOf(cluster.tenant, pool.id);
-        say("");
-        if (reply.status !== 200) return at.replaceChildren(fault(meaning(reply.status, reply.error)));
-        const rows = byDevice(reply), even = evenLines(cluster, pool, reply.rows, "entries"), cards = el("div", { class: "cards", id: "cards" }), foot = el("div");
-        function draw() {
-            const hosts = found(cluster.map.hosts, search.value, (it) => rows.has(it.id));
-            foot.replaceChildren(...[usageCards(cards, ordered(hosts, order.value, (it) => rows.get(it.id).entries, even), rows, even)].filter(Boolean));
-        }
-        search.oninput = later(draw);
-        order.onchange = draw;
-        at.replaceChildren(el("div", { class: "bar-line" },
-            el("p", {}, `Pool ${pool.name} on version ${reply.version}: entries of up lists, which are the places that each device has in the groups' lists, and its part of all entries in thousandths (permille).`),
-            legend(["used", "entries of up lists"], ["even", "even share, by weight and reweight"]),
-            button("Save as CSV", () => save(`usage-${cluster.tenant}-${pool.name}.csv`, usageCsv(reply)), { id: "usage-csv" })), cards, foot);
-        return draw();
-    }
+    const at = el("div"), load = () => filling(at, "Usage", (work) => {
+        section.addEventListener("left", work.stop);
+        return shown(cluster, work);
+    });
+    section.append(el("div", { class: "controls" }, poolPicker(cluster, load)), el("p", { class: "hint" }, "Copies are the places that a device has in the groups' lists of devices that are up. Its share is what it is expected to have, by its weight and reweight."), at);
     load();
     return section;
 }

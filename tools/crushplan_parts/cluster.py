@@ -213,15 +213,29 @@ def describe_pools(cluster, asked):
     cluster.warnings.append(f"there is no {OSD_DUMP}: each rule is taken for a pool of size {asked.size or 3} with {asked.pg_num or 128} groups (--size, --pg-num, --min-size), and each device for in and up")
 
 
+def counts_by_pool(dump):
+    """Returns whether every OSD counts by pools what its disk holds. FileStore and MemStore don't."""
+    stats = dump.at("stats")
+    return not stats.has("num_per_pool_osds") or stats.get("num_per_pool_osds", int) == stats.get("num_osds", int)
+
+
+def bytes_of(pool, stats, by_pool):
+    """Returns what a pool takes on all its devices, or None where that isn't known."""
+    used = stats.get("bytes_used", int)
+    if stats.has("stored") and by_pool:
+        return used
+    # otherwise, and before release 14, bytes_used is without copies
+    return stats.get("stored_raw", int, used * pool.size if pool.kind == "replicated" else None)
+
+
 def read_bytes(cluster):
     """Reads what pools take and devices hold, where the files are there."""
     if (cluster.folder / DF).exists():
-        for it in opened(cluster.folder / DF, DF).each("pools"):
-            pool, stats = cluster.pools.get(it.get("id", int)), it.at("stats")
+        dump = opened(cluster.folder / DF, DF)
+        for it in dump.each("pools"):
+            pool = cluster.pools.get(it.get("id", int))
             if pool:
-                # before release 14 bytes_used was without copies
-                used = stats.get("bytes_used", int)
-                pool.bytes = used if stats.has("stored") else used * pool.size
+                pool.bytes = bytes_of(pool, it.at("stats"), counts_by_pool(dump))
     if (cluster.folder / OSD_DF).exists():
         for it in opened(cluster.folder / OSD_DF, OSD_DF).each("nodes"):
             id_ = it.get("id", int)

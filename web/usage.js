@@ -1,0 +1,24 @@
+// How much of the pools lies on each device, as the service says it, and what is made of it.
+import { ask } from "./service.js";
+import { good } from "./copies.js";
+
+// The usage of a pool now. It is asked once for each epoch of the cluster.
+export async function usageOf(cluster, pool, work) {
+    const kept = cluster.usages.get(pool.id);
+    if (kept) return kept;
+    work.step(`Usage of ${pool.name}`);
+    const what = `Usage of ${pool.name}`, reply = good(await ask(what, "GET", `/t/${cluster.tenant}/pools/${pool.id}/usage`, undefined, work.signal), what);
+    if (reply.epoch === cluster.summary.epoch) cluster.usages.set(pool.id, reply);
+    return reply;
+}
+
+export function copiesIn(usage) {
+    return usage.rows.reduce((sum, it) => sum + it.entries, 0);
+}
+
+// Of each device the copies that it has of all these usages.
+export function copiesByDevice(usages) {
+    const found = new Map();
+    for (const { rows } of usages) for (const it of rows) found.set(it.device, (found.get(it.device) ?? 0) + it.entries);
+    return found;
+}
