@@ -172,7 +172,7 @@ rebuild-check: tools
 	@RT='$(RT)' python3 tools/rebuild $(if $(STAMP),--stamp)
 
 release: tools
-	@RT='$(RT)' sh tests/all --stamp
+	@RT='$(RT)' python3 tests/all --stamp
 	@RT='$(RT)' python3 tools/dist
 
 dist: tools
