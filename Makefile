@@ -14,13 +14,17 @@ SECONDS = 600
 KILLS = 1000
 HISTORIES = 4
 SEED = $(shell date +%s)
+# make package-check: an earlier package, from which the new one is an upgrade
+BEFORE =
+# make rebuild-check: the program names its commit, as a release's does
+STAMP =
 CPUS = x86-64 x86-64-v2 x86-64-v3
 FOR = $(if $(CPU),--cpu=$(CPU))
 ifneq ($(filter-out $(CPUS),$(CPU)),)
   $(error CPU=$(CPU) is none of $(CPUS))
 endif
-ifneq ($(and $(CPU),$(filter test test-all,$(MAKECMDGOALS))),)
-  $(error make $(filter test test-all,$(MAKECMDGOALS)) tries the program as rt builds it with no CPU: tests/README.md says how to try another)
+ifneq ($(and $(CPU),$(filter test test-all release,$(MAKECMDGOALS))),)
+  $(error make $(filter test test-all release,$(MAKECMDGOALS)) tries the program as rt builds it with no CPU: tests/README.md says how to try another)
 endif
 SOURCES = $(shell find crates -name out -prune -o \( -name '*.rt' -o -name '*.antt' \) -print)
 
@@ -38,6 +42,11 @@ help:
 	@echo 'make wrong     tries the wrong bodies whose record is stale, or of CRATES="NAME..", and records what refused them; CRATES=--plan says how long that takes'
 	@echo 'make form      formats the sources of each crate; make test refuses what is not in this form'
 	@echo 'make install   builds, and installs PREFIX/bin/crushcalc (PREFIX=/usr/local)'
+	@echo 'make package   builds, and makes a Debian package and a tarball of the program, the page, the pages and the unit: build/package'
+	@echo 'make package-check   as root: installs that package in a Debian with nothing else, made by debootstrap, uses it, upgrades and removes it'
+	@echo 'make rebuild-check   builds the commit twice, in folders of different names, and compares programs and packages to the byte'
+	@echo 'make release   make test with a program that names its commit, and then make dist'
+	@echo 'make dist      a release of what the last gate proved and built, or a word why there is none: dist/crushcalc-VERSION'
 	@echo 'make ceph-check   compares 176,000 mappings by requests, 154,000 with reweights and 93 name hashes with those of Ceph'"'"'s own library,'
 	@echo '               74,592 placements of groups, and 21,660 with exceptions, with those of its osdmaptool, impacts with what its crushtool moves, and map texts with its crushtool'
 	@echo 'make sqlite-check   compares database files with those of the tool sqlite3, both ways'
@@ -65,13 +74,14 @@ tools:
 	  [ "$$(id -u)" = 0 ] && command -v apt-get >/dev/null || { echo "Install it, as by 'apt-get install python3', and try again." >&2; exit 1; }; \
 	  echo 'Installing it: apt-get install -y python3'; \
 	  apt-get update && apt-get install -y python3; }
-	@[ -z '$(filter test test-all,$(MAKECMDGOALS))' ] || command -v cc >/dev/null 2>&1 || command -v gcc >/dev/null 2>&1 || command -v clang >/dev/null 2>&1 || { \
+	@[ -z '$(filter test test-all release,$(MAKECMDGOALS))' ] || command -v cc >/dev/null 2>&1 || command -v gcc >/dev/null 2>&1 || command -v clang >/dev/null 2>&1 || { \
 	  echo 'A C compiler is missing (cc, gcc or clang): the tests need it.'; \
 	  [ "$$(id -u)" = 0 ] && command -v apt-get >/dev/null || { echo "Install it, as by 'apt-get install gcc libc6-dev', and try again." >&2; exit 1; }; \
 	  echo 'Installing it: apt-get install -y gcc libc6-dev'; \
 	  apt-get update && apt-get install -y gcc libc6-dev; }
 	@command -v $(RT) >/dev/null 2>&1 || { \
-	  echo "The Rattle toolchain is missing: there is no command '$(RT)'. Put the folder bin/ of its kit on PATH, or give make RT=/path/to/rt." >&2; exit 1; }
+	  echo "The Rattle toolchain is missing: there is no command '$(RT)'. Put the folder bin/ of its kit on PATH, or give make RT=/path/to/rt." >&2; \
+	  echo "Nothing can be proved, tried or built without it. A release's package needs none of it: docs/RELEASES.md says how it is installed." >&2; exit 1; }
 
 # the CPU that the programs were last built for; where another is named this changes, and they are
 # built again
@@ -142,6 +152,31 @@ install: build
 	@echo 'Installing the page: $(DESTDIR)$(PREFIX)/share/crushcalc/web'
 	@install -d '$(DESTDIR)$(PREFIX)/share/crushcalc/web'
 	@install -m 644 web/* '$(DESTDIR)$(PREFIX)/share/crushcalc/web'
+
+# lintian's overrides, with their reasons, are in package/
+package: build
+	@command -v dpkg-deb >/dev/null && command -v lintian >/dev/null || { \
+	  echo 'Installing dpkg-deb and lintian: apt-get install -y dpkg lintian'; \
+	  apt-get update && apt-get install -y dpkg lintian; }
+	@rm -rf build/package
+	@python3 package/build ./crushcalc build/package
+	@lintian --allow-root --fail-on error,warning build/package/*.deb
+
+package-check: package
+	@{ command -v debootstrap && command -v unshare; } >/dev/null || { \
+	  echo 'Installing debootstrap: apt-get install -y debootstrap util-linux'; \
+	  apt-get update && apt-get install -y debootstrap util-linux; }
+	@python3 package/check build/package/*.deb $(BEFORE)
+
+rebuild-check: tools
+	@RT='$(RT)' python3 tools/rebuild $(if $(STAMP),--stamp)
+
+release: tools
+	@RT='$(RT)' python3 tests/all --stamp
+	@RT='$(RT)' python3 tools/dist
+
+dist: tools
+	@RT='$(RT)' python3 tools/dist
 
 serve: build
 	@mkdir -p build
@@ -223,4 +258,4 @@ clean:
 	@echo 'Removing ./crushcalc, build/ and crates/*/out; the next build proves everything anew.'
 	@rm -rf crushcalc build crates/*/out
 
-.PHONY: any build help tools try cases run test test-all wrong form install serve ceph-check sqlite-check refused-check fuzz sanitized stops kill-check only-tested http-check page page-check bench instructions bench-deps clean
+.PHONY: any build help tools try cases run test test-all wrong form install package package-check rebuild-check release dist serve ceph-check sqlite-check refused-check fuzz sanitized stops kill-check only-tested http-check page page-check bench instructions bench-deps clean

@@ -55,9 +55,9 @@ def byte_by_byte(program, db):
 
 
 def examples(program, db):
-    """The stored scripts over one connection each, all to one server that is begun anew for
-    each."""
-    for path in sorted((HERE.parent / "examples").glob("*.script")):
+    """Stored scripts over one connection each, to a server that is begun anew for each."""
+    cases = [path for it in ("exceptions", "maps", "pools", "reports") for path in (HERE / "cases").glob(f"{it}_*.in")]
+    for path in sorted([*(HERE.parent / "examples").glob("*.script"), *cases]):
         with Server(program, db.with_name(f"{path.stem}.db")) as server:
             if why := unlike(asked(server, path.read_bytes().splitlines()), path.with_suffix(".out").read_bytes().splitlines()):
                 return f"{path.name}: {why}"

@@ -117,6 +117,8 @@ def read_cluster(folder, asked):
     states = {} if dump is None else states_of(dump)
     map_ = read_map(folder, None if dump is None else 0 in states)
     cluster = Cluster(folder, map_, {}, states, {}, {}, {}, [], {}, {}, [])
+    if map_.rounded:
+        cluster.warnings.append(f"{map_.file} has weights that 'crushtool -d' rounded to three decimals; {MAP_DUMP} ('ceph osd crush dump -f json') has exact ones")
     if dump is None:
         describe_pools(cluster, asked)
     else:

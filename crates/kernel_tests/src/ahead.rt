@@ -6,6 +6,7 @@ ghost use Rattle.crush_bucket.specs.Tables.{perms_of};
 use crate::buckets::next;
 use crate::drafts::{ONE, SOUND, Short, draft, entries};
 use crate::plain;
+use crate::same::{assert_same, assert_same_at};
 use Kind::{List, Tree, Uniform};
 use crush_bucket::{BucketNo, LANES, Scratch, Tables};
 use crush_map::{CrushMap, ItemId, Kind};
@@ -140,10 +141,11 @@ fn assert_pick(
     };
     assert!(rt; !tables.is_empty(bucket));
     let item = tables.pick(bucket, scratch, x, r);
-    assert_eq!(rt;
-        item,
-        plain_pick(rt, alloc, n % COUNT, x, r)?,
-        "bucket {n}, {x}, {r}"
+    assert_same_at(
+        rt,
+        [n as u32, x, r],
+        &item,
+        &plain_pick(rt, alloc, n % COUNT, x, r)?,
     );
     Ok(())
 }
@@ -171,9 +173,10 @@ fn assert_ahead(
         return Err(AllocError);
     };
     for lane in 0..LANES {
-        assert_eq!(rt;
-            items[lane],
-            plain_pick(rt, alloc, numbers[lane], xs[lane], r)?
+        assert_same(
+            rt,
+            &items[lane],
+            &plain_pick(rt, alloc, numbers[lane], xs[lane], r)?,
         );
     }
     'lanes: for lane in 0..LANES {

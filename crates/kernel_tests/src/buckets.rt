@@ -6,6 +6,7 @@ ghost use Rattle.crush_bucket.specs.Tables.{perms_of};
 
 use crate::drafts::{ONE, SOUND, Short, draft, entries};
 use crate::plain;
+use crate::same::{assert_same, assert_same_at};
 use Kind::{List, Tree, Uniform};
 use crush_bucket::{AnyBucket, Perm, Picker, Scratch, Tables, can_be_asked};
 use crush_map::{CrushMap, ItemId, Kind, Weight, has_equal_weights};
@@ -56,7 +57,7 @@ fn assert_eight<P: Picker>(
     'attempts: for r in 0..9 {
         let items = bucket.pick_eight(&mut perm, xs, r);
         'lanes: for lane in 0..8 {
-            assert_eq!(rt; items[lane], bucket.pick(&mut perm, xs[lane], r));
+            assert_same(rt, &items[lane], &bucket.pick(&mut perm, xs[lane], r));
         }
     }
     Ok(())
@@ -90,7 +91,7 @@ fn picked(
     assert!(rt; kind != Uniform || has_equal_weights(entries));
     let bucket = AnyBucket::build(alloc, kind, id, entries)?;
     let picks = ask(alloc, &bucket, id, entries.len(), questions)?;
-    assert_eq!(rt; picks.len(), questions.len());
+    assert_same(rt, &picks.len(), &questions.len());
     Ok(picks)
 }
 
@@ -157,7 +158,7 @@ fn buckets_answer_the_worked_rows(rt: HostRuntime) -> Result<(), AllocError> {
         for (case, (kind, items, want)) in rows.iter().enumerate() {
             let entries = entries(alloc, items)?;
             for pick in picked(&rt, alloc, *kind, ItemId(-1), &entries, questions)? {
-                assert_eq!(rt; pick, ItemId(*want), "case {case}");
+                assert_same_at(&rt, [case as u32, 0, 0], &pick, &ItemId(*want));
             }
         }
     }
@@ -174,10 +175,11 @@ fn a_scratch_that_was_asked_answers_as_a_new_one(rt: HostRuntime) -> Result<(), 
         'questions: for (x, r) in [(0, 0), (0, 2), (1, 0), (0, 1), (1, 0), (1, 8)] {
             let mut new = Perm::build(alloc, id, size)?;
             let place = r % size;
-            assert_eq!(rt;
-                asked.member(x, place),
-                new.member(x, place),
-                "{size} {x} {r}"
+            assert_same_at(
+                &rt,
+                [size as u32, x, r as u32],
+                &asked.member(x, place),
+                &new.member(x, place),
             );
         }
     }
@@ -232,7 +234,7 @@ fn buckets_pick_as_their_plain_forms(rt: HostRuntime) -> Result<(), AllocError> 
             let picks = picked(&rt, alloc, kind, id, &entries, &questions)?;
             for ((x, r), pick) in questions.iter().zip(picks) {
                 let want = plain::pick(alloc, kind, id, &entries, *x, *r)?;
-                assert_eq!(rt; pick, want, "round {round}");
+                assert_same_at(&rt, [round, 0, 0], &pick, &want);
             }
         }
     }
@@ -286,7 +288,7 @@ fn a_uniform_bucket_of_the_most_items_picks_as_its_plain_form(
         }
     }
     let picks = picked(&rt, alloc, Uniform, id, &entries, &questions)?;
-    assert_eq!(rt; picks.as_slice(), wanted.as_slice());
+    assert_same(&rt, &picks.as_slice(), &wanted.as_slice());
     Ok(())
 }
 
@@ -305,7 +307,7 @@ fn a_tree_of_the_most_items_picks_as_its_plain_form(rt: HostRuntime) -> Result<(
         wanted.push(plain::pick(alloc, Tree, id, &entries, x, r)?)?;
     }
     let picks = picked(&rt, alloc, Tree, id, &entries, &questions)?;
-    assert_eq!(rt; picks.as_slice(), wanted.as_slice());
+    assert_same(&rt, &picks.as_slice(), &wanted.as_slice());
     Ok(())
 }
 
@@ -326,7 +328,7 @@ const SMALL: Short<'static> = Short {
 fn assert_small(rt: &impl Abort, tables: &Tables) {
     assert!(rt; tables.has_device(2) && !tables.has_device(3));
     assert!(rt; tables.bucket_of(ItemId(-5)).is_none() && tables.bucket_of(ItemId(2)).is_none());
-    assert_eq!(rt; tables.tunables().total_tries, 50);
+    assert_same(rt, &tables.tunables().total_tries, &50);
     let (Some(root), Some(list), Some(empty)) = (
         tables.bucket_of(ItemId(-1)),
         tables.bucket_of(ItemId(-2)),
@@ -335,10 +337,8 @@ fn assert_small(rt: &impl Abort, tables: &Tables) {
         return rt.abort();
     };
     assert!(rt; tables.is_empty(empty) && empty.place() == 3);
-    assert_eq!(rt;
-        (tables.type_of(root), tables.size(root), root.place()),
-        (1, 2, 2)
-    );
+    assert_same(rt, &tables.type_of(root), &1);
+    assert_same(rt, &[tables.size(root), root.place()], &[2, 2]);
     assert!(rt; tables.kind(root) == Uniform && !tables.is_empty(root));
     assert!(rt; list.place() == 0 && !tables.is_empty(list));
 }
@@ -359,10 +359,10 @@ fn assert_picks(
     assert!(rt; !tables.is_empty(root) && !tables.is_empty(list));
     let hosts = [(ItemId(-2), Weight(ONE)), (ItemId(-3), Weight(ONE))];
     let host = tables.pick(root, scratch, 7, 3);
-    assert_eq!(rt; host, plain::uniform(alloc, ItemId(-1), &hosts, 7, 3)?);
+    assert_same(rt, &host, &plain::uniform(alloc, ItemId(-1), &hosts, 7, 3)?);
     let devices = [(ItemId(0), Weight(ONE)), (ItemId(1), Weight(ONE))];
     let device = tables.pick(list, scratch, 7, 3);
-    assert_eq!(rt; device, plain::list(ItemId(-2), &devices, 7, 3));
+    assert_same(rt, &device, &plain::list(ItemId(-2), &devices, 7, 3));
     let Some(below) = tables.bucket_of(host) else {
         return rt.abort();
     };

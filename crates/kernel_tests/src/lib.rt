@@ -11,6 +11,8 @@ mod lanes;
 #[cfg(test)]
 mod plain;
 #[cfg(test)]
+mod same;
+#[cfg(test)]
 mod sparse;
 
 #[cfg(test)]

@@ -3,6 +3,7 @@
 use crate::buckets::{next, random_id};
 use crate::drafts::{ONE, entries};
 use crate::plain;
+use crate::same::assert_same;
 use crush_bucket::{ListBucket, Perm, Picker, TreeBucket, UniformBucket, can_be_asked};
 use crush_map::{ItemId, has_equal_weights};
 use std::alloc::{AllocError, Global};
@@ -17,11 +18,11 @@ fn a_uniform_bucket_keeps_what_was_exchanged(rt: HostRuntime) -> Result<(), Allo
     assert!(rt; can_be_asked(&entries) && has_equal_weights(&entries));
     let bucket = UniformBucket::build(alloc, id, &entries)?;
     let mut perm = Perm::build(alloc, id, entries.len())?;
-    assert_eq!(rt; perm.kept(), 0);
-    assert_eq!(rt; bucket.pick(&mut perm, 0, 0), ItemId(7));
-    assert_eq!(rt; perm.kept(), 2);
-    assert_eq!(rt; bucket.pick(&mut perm, 0, 3), ItemId(7));
-    assert_eq!(rt; perm.kept(), 2);
+    assert_same(&rt, &perm.kept(), &0);
+    assert_same(&rt, &bucket.pick(&mut perm, 0, 0), &ItemId(7));
+    assert_same(&rt, &perm.kept(), &2);
+    assert_same(&rt, &bucket.pick(&mut perm, 0, 3), &ItemId(7));
+    assert_same(&rt, &perm.kept(), &2);
     Ok(())
 }
 
@@ -39,13 +40,13 @@ fn lists_and_trees_keep_nothing(rt: HostRuntime) -> Result<(), AllocError> {
     let mut perm = Perm::build(alloc, id, entries.len())?;
     list.pick(&mut perm, 5, 1);
     tree.pick(&mut perm, 5, 1);
-    assert_eq!(rt; perm.kept(), 0);
+    assert_same(&rt, &perm.kept(), &0);
     perm.member(5, 3);
     let kept = perm.kept();
     assert!(rt; kept > 0 && kept <= 8);
     list.pick(&mut perm, 6, 1);
     tree.pick(&mut perm, 6, 1);
-    assert_eq!(rt; perm.kept(), kept);
+    assert_same(&rt, &perm.kept(), &kept);
     Ok(())
 }
 

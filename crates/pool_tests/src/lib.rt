@@ -12,8 +12,6 @@ mod placements;
 pub mod placing;
 pub mod pools;
 #[cfg(test)]
-mod ranges;
-#[cfg(test)]
 mod seeds;
 pub mod states;
 #[cfg(test)]

@@ -1,8 +1,8 @@
 //! Pools, written shortly.
 
 use crush_map::Text;
-use crush_pool::{Pool, PoolFault, PoolParts};
-use std::alloc::{AllocError, Global};
+use crush_pool::{Pool, PoolParts};
+use std::alloc::Global;
 use std::test::Fail;
 
 /// The parts of a pool.
@@ -38,10 +38,10 @@ pub const OF_TWO: Short = Short {
     ..TWELVE
 };
 
-/// The pool of these parts, or why there is none. `Err(AllocError)`: an allocation failed.
-pub(crate) fn asked(alloc: Global, short: Short) -> Result<Result<Pool, PoolFault>, AllocError> {
+/// The pool of parts in range. `Err`: an allocation failed, or a part is out of range.
+pub fn pool(alloc: Global, short: Short) -> Result<Pool, Fail> {
     let name = Text::copy(alloc, short.name)?;
-    Ok(Pool::new(PoolParts {
+    let made = Pool::new(PoolParts {
         id: short.id,
         name,
         erasure: short.erasure,
@@ -50,12 +50,8 @@ pub(crate) fn asked(alloc: Global, short: Short) -> Result<Result<Pool, PoolFaul
         pg_num: short.pg_num,
         pgp_num: short.pgp_num,
         hashpspool: short.hashpspool,
-    }))
-}
-
-/// The pool of parts in range. `Err`: an allocation failed, or a part is out of range.
-pub fn pool(alloc: Global, short: Short) -> Result<Pool, Fail> {
-    match asked(alloc, short)? {
+    });
+    match made {
         Ok(pool) => Ok(pool),
         Err(_) => Err(Fail::new("the parts of the pool are out of range")),
     }

@@ -1,0 +1,46 @@
+"""Clones of a commit, the program built in each by the toolchain, and what package/build makes of it:
+for `rebuild` and `dist`."""
+import hashlib
+import os
+import pathlib
+import subprocess
+import sys
+
+TOP = pathlib.Path(__file__).resolve().parent.parent
+sys.path.insert(0, str(TOP / "tests"))
+import stamped  # noqa: E402
+
+RT = os.environ.get("RT", "rt")
+
+
+def ran(words, folder):
+    """Runs a command; its output is shown where it fails."""
+    done = subprocess.run(words, cwd=folder, stdin=subprocess.DEVNULL, stdout=subprocess.PIPE, stderr=subprocess.STDOUT)
+    if done.returncode:
+        sys.exit(f"{' '.join(words)} ends with {done.returncode}:\n{done.stdout.decode(errors='replace')[-3000:]}\n0 passed, 1 failed")
+    return done.stdout.decode(errors="replace")
+
+
+def clone(folder, is_stamped):
+    ran(["git", "clone", "-q", "--no-hardlinks", str(TOP), str(folder)], TOP)
+    if is_stamped:
+        stamped.stamp(folder, stamped.head())
+
+
+def build(folder, cpu=None):
+    """Proves and builds the program in a clone, and returns its path."""
+    crate = folder / "crates" / "crushcalc"
+    print(f"Proving and building in {folder}: minutes, where this machine has proved these sources before.", flush=True)
+    ran([RT, "all", "check", "--jobs", str(os.cpu_count())], crate)
+    ran([RT, "run", *(["--cpu", cpu] if cpu else []), "--", "--help"], crate)
+    return crate / "out" / "crushcalc"
+
+
+def packaged(folder, program):
+    """The packages that a clone makes of its program."""
+    made = ran([sys.executable, "package/build", str(program), "build/package"], folder).split()
+    return [folder / it for it in made]
+
+
+def sum_of(path):
+    return hashlib.sha256(path.read_bytes()).hexdigest()
