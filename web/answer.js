@@ -5,6 +5,7 @@ import { meaning } from "./codes.js";
 import { Unlike, good, withCopy } from "./copies.js";
 import { readLong } from "./reading.js";
 import { usageOf } from "./usage.js";
+import { Stopped } from "./waiting.js";
 
 const EMPTY = 1, NOW = 2;
 
@@ -71,11 +72,13 @@ export function stagesOf(cluster, pools, stages, work) {
 }
 
 // The impact lists of these devices in each pool: of a pool the groups that are in any of them.
-export async function canMove(cluster, pools, devices, work) {
+// `wanted` says whether they still are.
+export async function canMove(cluster, pools, devices, work, wanted) {
     const found = new Map();
     for (const pool of pools) {
         const has = new Set();
         for (const id of devices) {
+            if (!wanted()) throw new Stopped();
             work.step(`Which groups can move: ${pool.name}, ${cluster.name(id)}`);
             const { groups } = await report("impact", `Impact of ${cluster.name(id)}`, `/t/${cluster.tenant}/pools/${pool.id}/impact/${id}`, pool, work.signal);
             for (const it of groups) has.add(it);
