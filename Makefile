@@ -19,8 +19,8 @@ FOR = $(if $(CPU),--cpu=$(CPU))
 ifneq ($(filter-out $(CPUS),$(CPU)),)
   $(error CPU=$(CPU) is none of $(CPUS))
 endif
-ifneq ($(and $(CPU),$(filter test gate,$(MAKECMDGOALS))),)
-  $(error make $(filter test gate,$(MAKECMDGOALS)) tries the program as rt builds it with no CPU: tests/README.md says how to try another)
+ifneq ($(and $(CPU),$(filter test test-all,$(MAKECMDGOALS))),)
+  $(error make $(filter test test-all,$(MAKECMDGOALS)) tries the program as rt builds it with no CPU: tests/README.md says how to try another)
 endif
 SOURCES = $(shell find crates -name out -prune -o \( -name '*.rt' -o -name '*.antt' \) -print)
 
@@ -30,13 +30,12 @@ build: crushcalc
 help:
 	@echo 'make build     proves the crates of the program and builds it as ./crushcalc, optimised (the first time: an hour or more)'
 	@echo '               with CPU=x86-64-v3 for processors since about 2013 (AVX2): quicker reports, and on an older one it ends with status 127'
-	@echo 'make try       plays examples/first.script, or the file SCRIPT=FILE, with no proof: each request with its reply, in a minute or two'
-	@echo 'make cases     plays the scripts of tests/cases, or those with CASES=WORD in their names, with no proof, and compares their replies, in a minute or two'
+	@echo 'make try       plays examples/first.script, or the file SCRIPT=FILE, with no proof: each request with its reply, in a minute'
+	@echo 'make cases     plays the scripts of tests/cases, or those with CASES=WORD in their names, with no proof, and compares their replies, in a minute'
 	@echo 'make run       builds, and serves examples/first.script or SCRIPT=FILE: each request with its reply'
-	@echo 'make test      every proof from nothing, tests, the program from end to end, and the edits that must fail of each crate that changed'
-	@echo 'make gate      the same with every edit that must fail'
-	@echo 'make wrong     tries the edits of the crates that changed, or of CRATES="NAME..", and records what refused them;'
-	@echo '               CRATES="--from build" records what the last make test or make gate tried'
+	@echo 'make test      every proof from nothing, tests, the program from end to end, and the wrong bodies whose record a change made stale'
+	@echo 'make test-all  the same with every wrong body'
+	@echo 'make wrong     tries the wrong bodies whose record is stale, or of CRATES="NAME..", and records what refused them; CRATES=--plan says how long that takes'
 	@echo 'make form      formats the sources of each crate; make test refuses what is not in this form'
 	@echo 'make install   builds, and installs PREFIX/bin/crushcalc (PREFIX=/usr/local)'
 	@echo 'make ceph-check   compares 176,000 mappings by requests, 154,000 with reweights and 93 name hashes with those of Ceph'"'"'s own library,'
@@ -51,6 +50,7 @@ help:
 	@echo 'make only-tested   tries the wrong bodies that contracts let through, and records which test refused each'
 	@echo 'make http-check   compares replies of the server with those of scripts, by curl, nginx and other clients'
 	@echo 'make bench     builds and measures; beside Ceph'"'"'s own library where that is installed'
+	@echo 'make instructions   counts the instructions of some thirty works beside the recorded ones, and fails where one grew by over 2 %'
 	@echo 'make bench-deps   installs what the comparisons with Ceph need (Debian: librados2, ceph-base, gcc)'
 	@echo 'make serve     builds, and serves HTTP on 127.0.0.1:8080, or PORT=N, with the tenants in build/tenants.db'
 	@echo 'make page      builds, and serves the planner'"'"'s page on 127.0.0.1:8080, or PORT=N, by nginx, with the tenants in build/page/tenants.db'
@@ -65,7 +65,7 @@ tools:
 	  [ "$$(id -u)" = 0 ] && command -v apt-get >/dev/null || { echo "Install it, as by 'apt-get install python3', and try again." >&2; exit 1; }; \
 	  echo 'Installing it: apt-get install -y python3'; \
 	  apt-get update && apt-get install -y python3; }
-	@[ -z '$(filter test gate,$(MAKECMDGOALS))' ] || command -v cc >/dev/null 2>&1 || command -v gcc >/dev/null 2>&1 || command -v clang >/dev/null 2>&1 || { \
+	@[ -z '$(filter test test-all,$(MAKECMDGOALS))' ] || command -v cc >/dev/null 2>&1 || command -v gcc >/dev/null 2>&1 || command -v clang >/dev/null 2>&1 || { \
 	  echo 'A C compiler is missing (cc, gcc or clang): the tests need it.'; \
 	  [ "$$(id -u)" = 0 ] && command -v apt-get >/dev/null || { echo "Install it, as by 'apt-get install gcc libc6-dev', and try again." >&2; exit 1; }; \
 	  echo 'Installing it: apt-get install -y gcc libc6-dev'; \
@@ -106,8 +106,8 @@ SHOW = awk '$$0 != "" && $$0 != "\r" { print "> " $$0; getline reply <"build/rep
 try: tools
 	@mkdir -p build
 	@[ -r '$(SCRIPT)' ] || { echo "There is no file '$(SCRIPT)' to play." >&2; exit 1; }
-	@echo 'Playing $(SCRIPT) with no proof: a minute or two. Nothing is proved by this; make run proves the program and builds it.'
-	@script=$$(realpath '$(SCRIPT)') && cd crates/crushcalc && $(RT) try -- script <"$$script" >../../build/replies 2>../../build/try.log || { tail -n 30 ../../build/try.log; exit 1; }
+	@echo 'Playing $(SCRIPT) with no proof: a minute. Nothing is proved by this; make run proves the program and builds it.'
+	@RT='$(RT)' python3 tools/played <'$(SCRIPT)' >build/replies 2>build/try.log || { tail -n 30 build/try.log; exit 1; }
 	@$(SHOW)
 
 # rt try takes a folder of inputs, each beside what has to be written
@@ -115,8 +115,8 @@ cases: tools
 	@rm -rf build/cases && mkdir -p build/cases
 	@for it in tests/cases/*$(CASES)*.in; do name=$$(basename "$$it" .in); \
 	  cp "tests/cases/$$name.in" "build/cases/$$name" && cp "tests/cases/$$name.out" "build/cases/$$name.stdout" || exit 1; done
-	@echo 'Playing $(if $(CASES),the scripts of tests/cases with $(CASES) in their names,the scripts of tests/cases) with no proof: a minute or two.'
-	@cd crates/crushcalc && $(RT) try --cases ../../build/cases -- script
+	@echo 'Playing $(if $(CASES),the scripts of tests/cases with $(CASES) in their names,the scripts of tests/cases) with no proof: a minute.'
+	@RT='$(RT)' python3 tools/played --cases "$$PWD/build/cases"
 
 run: build
 	@echo 'Serving $(SCRIPT):'
@@ -124,13 +124,13 @@ run: build
 	@$(SHOW)
 
 test: tools
-	@RT='$(RT)' sh tests/all
+	@RT='$(RT)' python3 tests/all
 
-gate: tools
-	@RT='$(RT)' sh tests/all --all
+test-all: tools
+	@RT='$(RT)' python3 tests/all --all
 
 wrong: tools
-	@RT='$(RT)' python3 tests/wrong $(CRATES)
+	@RT='$(RT)' python3 tests/gate/wrong $(CRATES)
 
 form: tools
 	@for crate in crates/*; do (cd "$$crate" && $(RT) fmt) || exit 1; done
@@ -182,9 +182,9 @@ only-tested: tools
 	@RT='$(RT)' python3 tests/only_tested/check --try
 
 http-check: build
-	@{ command -v curl && command -v nginx && command -v openssl && command -v ab && command -v mkfs.btrfs; } >/dev/null || { \
-	  echo 'Installing curl, nginx, openssl, ab and mkfs.btrfs: apt-get install -y curl nginx openssl apache2-utils btrfs-progs'; \
-	  apt-get update && apt-get install -y curl nginx openssl apache2-utils btrfs-progs; }
+	@{ command -v curl && command -v nginx && command -v openssl && command -v ab && command -v mkfs.btrfs && [ -d /usr/share/openapi-specification ] && /usr/bin/python3 -c 'import jsonschema, yaml'; } >/dev/null 2>&1 || { \
+	  echo 'Installing what the clients and the description need: apt-get install -y curl nginx openssl apache2-utils btrfs-progs python3-jsonschema python3-yaml openapi-specification'; \
+	  apt-get update && apt-get install -y curl nginx openssl apache2-utils btrfs-progs python3-jsonschema python3-yaml openapi-specification; }
 	@python3 tests/http/check ./crushcalc
 
 # the page's files are served as they stand in web/, and d3 from where libjs-d3 puts it
@@ -206,6 +206,11 @@ page-check: build
 bench: build build/crush_bench
 	@sh bench/all
 
+# counts are the same on each machine of a kind, whatever else runs there
+instructions: build build/crush_bench
+	@command -v valgrind >/dev/null || { echo 'Installing valgrind: apt-get install -y valgrind'; apt-get update && apt-get install -y valgrind; }
+	@python3 bench/instructions ./crushcalc build/crush_bench
+
 bench-deps:
 	@if [ -e "$$(sh bench/libceph)" ] && command -v gcc >/dev/null; then echo 'librados2 and gcc are installed.'; else \
 	  echo 'Installing librados2 and gcc: apt-get install -y librados2 gcc libc6-dev'; \
@@ -218,4 +223,4 @@ clean:
 	@echo 'Removing ./crushcalc, build/ and crates/*/out; the next build proves everything anew.'
 	@rm -rf crushcalc build crates/*/out
 
-.PHONY: any build help tools try cases run test gate wrong form install serve ceph-check sqlite-check refused-check fuzz sanitized stops kill-check only-tested http-check page page-check bench bench-deps clean
+.PHONY: any build help tools try cases run test test-all wrong form install serve ceph-check sqlite-check refused-check fuzz sanitized stops kill-check only-tested http-check page page-check bench instructions bench-deps clean

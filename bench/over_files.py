@@ -11,7 +11,7 @@ import time
 
 TOP = pathlib.Path(__file__).resolve().parent.parent
 sys.path[:0] = [str(TOP / "tests"), str(TOP / "tests" / "ceph")]
-from make_maps import HOST, ROOT, Map, hosts_of  # noqa: E402
+from make_maps import HOST, ONE, RACK, ROOT, Map, hosts_of  # noqa: E402
 
 RUNS = 5
 
@@ -27,6 +27,17 @@ def tiny():
 def cluster(hosts, devices):
     it = hosts_of(Map("cluster"), ("list", "list"), hosts, devices)
     return it.rule("take -1", f"chooseleaf firstn 3 {HOST}", "emit").text()
+
+
+def racks(kind, per_host, size=3):
+    """Four racks of eight hosts with so many devices each, all buckets of this kind."""
+    it = Map("racks")
+    for host in range(32):
+        it.bucket(kind, HOST, it.take_devices(per_host), -6 - host)
+    for rack in range(4):
+        it.bucket(kind, RACK, [(-6 - host, per_host * ONE) for host in range(8 * rack, 8 * (rack + 1))], -2 - rack)
+    it.bucket(kind, ROOT, [(-2 - rack, 8 * per_host * ONE) for rack in range(4)], -1)
+    return it.rule("take -1", f"chooseleaf firstn {size} {HOST}", "emit", sizes=(size,)).text()
 
 
 def of_length(length, kind="list"):

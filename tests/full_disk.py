@@ -1,11 +1,12 @@
 """A full disk: what is answered, and that the server goes on when there is room again. A file
-system of two MiB in memory is mounted for it, which takes root; elsewhere there is no check."""
+system of two MiB in memory is mounted for it, which takes root; elsewhere it can't be tried."""
 import errno
 import os
 import pathlib
 import subprocess
 
 import map_cases
+from counted import Untried
 from definition import played
 from served import Server, asked, run_to_end
 from stored import SCHEMA_1, STORE_FAULT, files_at
@@ -100,21 +101,19 @@ def schema_1_at_full_disk(program, folder):
     return None if found == (0, summary + b"\n", b"") else f"with room again: {found}"
 
 
-def mounted(folder):
-    """Whether a small file system is mounted there."""
+def mount(folder):
+    """Mounts a small file system there."""
     if os.geteuid() != 0:
-        return False
+        raise Untried("a file system is mounted by root alone")
     ran = subprocess.run(["mount", "-t", "tmpfs", "-o", f"size={SIZE}", "crushcalc", str(folder)], stderr=subprocess.PIPE)
     if ran.returncode:
-        print(f"no disk is filled: {ran.stderr.decode(errors='replace').strip()}")
-    return ran.returncode == 0
+        raise Untried(f"no file system can be mounted: {ran.stderr.decode(errors='replace').strip()}")
 
 
 def checks(program, folder):
     at = pathlib.Path(folder, "full")
     at.mkdir()
-    if not mounted(at):
-        return
+    mount(at)
     try:
         yield "a file of schema 1 on a full disk", schema_1_at_full_disk(program, at)
         for it in at.iterdir():

@@ -59,6 +59,18 @@ rule all {
 """
 
 
+def never_picked(kind):
+    """Three buckets of this kind with the same two devices, of which the second is in and weighs
+    nothing, and a rule with the most tries for 64 of them."""
+    head = tiny().split("\n")[:10]
+    head[2] = "tunable choose_total_tries 999"
+    head[6:7] = ["device 0 osd.0", "device 1 osd.1"]
+    under = [f"host h{it} {{\n id {-2 - it}\n alg {kind}\n hash 0\n item osd.0 weight 1.0\n item osd.1 weight 0\n}}" for it in range(3)]
+    steps = ["set_choose_tries 1000", "set_chooseleaf_tries 1000", "take default", "chooseleaf firstn 64 type host", "emit"]
+    root = f"root default {{\n id -1\n alg {kind}\n hash 0\n" + "".join(f" item h{it} weight 1.0\n" for it in range(3)) + "}"
+    return "\n".join([*head, *under, root, "rule all {\n id 0\n type replicated", *(f" step {it}" for it in steps), "}\n"])
+
+
 def post(path, members):
     return b"POST /t/a/%s %s" % (path.encode(), json.dumps(members, separators=(",", ":"), ensure_ascii=False).encode())
 
@@ -224,6 +236,8 @@ def rule_tests():
     for text, rows in (
         (indep, [(dict(size=2, x=x), [3, None], [3]) for x in range(200)]),
         (hosts(), [(dict(size=2, x=x), [0], [0]) for x in range(200)]),
+        (never_picked("list"), [(dict(size=32, x=x), [0], [0]) for x in range(32)]),  # all tries would take minutes
+        (never_picked("tree"), [(dict(size=32, x=x), [0], [0]) for x in range(32)]),
         (firstn_rack, [({}, [], [])]),
         (indep_rack, [({}, [None], [])]),
         (firstn_empty, [({}, [], [])]),

@@ -1,10 +1,11 @@
 """A file system that becomes read-only while it is served, as one does whose disk fails. An ext4 in
-a file is mounted for it, which takes root and a loop device; elsewhere there is no check."""
+a file is mounted for it, which takes root and a loop device; elsewhere it can't be tried."""
 import os
 import pathlib
 import subprocess
 
 import map_cases
+from counted import Untried
 from replies import made
 from served import Server, asked, run_to_end
 from stored import STORE_FAULT
@@ -22,19 +23,17 @@ def import_of(place):
     return map_cases.import_of(map_cases.tiny(), f"m{place}")
 
 
-def mounted(image, at):
-    """Whether an ext4 is mounted there that becomes read-only at its first error."""
+def mount(image, at):
+    """Mounts an ext4 there that becomes read-only at its first error."""
     if os.geteuid() != 0:
-        return False
+        raise Untried("a file system is mounted by root alone")
     try:
         with open(image, "wb") as file:
             file.truncate(SIZE)
         said("mkfs.ext4", "-q", "-F", str(image))
         said("mount", "-o", "loop,errors=remount-ro", str(image), str(at))
     except (OSError, subprocess.CalledProcessError) as error:
-        print(f"no file system becomes read-only: {error} {getattr(error, 'stderr', '')}".strip())
-        return False
-    return True
+        raise Untried(f"no ext4 can be mounted: {error} {getattr(error, 'stderr', '')}".strip()) from error
 
 
 def fail(at):
@@ -76,11 +75,10 @@ def after_repair(program, at):
 
 
 def checks(program, folder):
-    """Names, each with why it fails, or None; none where nothing can be mounted."""
+    """Names, each with why it fails, or None."""
     at, image = pathlib.Path(folder, "read-only"), pathlib.Path(folder, "image")
     at.mkdir()
-    if not mounted(image, at):
-        return
+    mount(image, at)
     try:
         why = becomes_read_only(program, at)
     finally:

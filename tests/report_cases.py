@@ -1,10 +1,15 @@
 """Requests for reports on pools, and changes of states of devices as CSV, each with the reply that
 the rules of requests give it. The maps are small enough to be answered by hand; picks and seeds are
-those of crush.py."""
+those of crush.py. A pool beside items of weight 0 is answered by placed.py."""
+import pathlib
+
 import crush
 from map_cases import NO_RULE, NO_VERSION, REUSED, START, import_of, imported, of_b, post, test_of, tested, tiny, with_line
 from pool_cases import NO_DEVICE, NO_POOL, SEED, accepted, created, devices_of, duo, group_of, lies, one_host, pool_of, removal_of, removed, state, summary, three, with_devices, with_rule, words
+from placed import Placed
 from replies import BAD, METHOD, NO_PATH, NO_TENANT, TOO_LARGE, dropped, made
+
+THREE_HOSTS = (pathlib.Path(__file__).resolve().parent.parent / "examples" / "three_hosts.txt").read_text()
 
 # ---- maps
 
@@ -121,6 +126,28 @@ def usage_by_entries():
 
 
 # ---- moves
+
+
+def weightless(text, *items):
+    """The text with these items, of weight 1.0 or 2.0, of weight 0."""
+    for it in items:
+        text = text.replace(f"item {it} weight 1.0", f"item {it} weight 0").replace(f"item {it} weight 2.0", f"item {it} weight 0")
+    return text
+
+
+def usage_beside_weight_0():
+    """Where a host weighs nothing, a device of each host, both, all devices, or all hosts."""
+    first, second, all_hosts = ("osd.0", "osd.2", "osd.4"), ("osd.1", "osd.3", "osd.5"), ("host0", "host1", "host2")
+    rows = START + [(import_of(tiny()), imported(1, 1)), (pool_of("p1", size=3, pg_num=32, pgp_num=32), created(2))]
+    texts = [weightless(THREE_HOSTS.replace("alg list", f"alg {kind}"), *items) for items in (("host1",), second, ("host1", *first), first + second, all_hosts) for kind in ("list", "tree")]
+    for version, text in enumerate(texts, 2):
+        placed = Placed(text, pool=1, size=3, pg_num=32)
+        rows += [
+            (import_of(text, f"m{version}"), imported(version + 1, version)),
+            (usage_of(), used(version + 1, *((it, *row) for it, row in placed.entries().items()), version=version)),
+            *((test_of(placed.seeds[it], 3), tested(placed.raw[it], placed.traces[it], version + 1, version)) for it in range(32)),
+        ]
+    return rows
 
 
 def moves():
@@ -431,7 +458,7 @@ def reports_of_tenants():
 
 def cases():
     for make in (
-        usage, usage_by_entries, moves, moves_of_lists, checks_of_moves, impact, checks_of_impact, impact_of_what_is_passed_over, groups_of_two_devices,
+        usage, usage_by_entries, usage_beside_weight_0, moves, moves_of_lists, checks_of_moves, impact, checks_of_impact, impact_of_what_is_passed_over, groups_of_two_devices,
         states_as_csv, forms_of_csv, many_lines, forms_of_reports, reports_of_tenants,
     ):
         yield make.__name__, make()

@@ -60,7 +60,7 @@ def of_pool(template, pool):
     found = bytearray(template)
     parts = (
         ("B", TYPE, TYPES[pool["kind"]]), ("B", SIZE, pool["size"]), ("B", RULE, pool["rule"]), ("I", PG_NUM, pool["pg_num"]),
-        ("I", PGP_NUM, pool["pgp_num"]), ("Q", FLAGS, HASHPSPOOL if pool["hashpspool"] else 0), ("B", MIN_SIZE, 1),
+        ("I", PGP_NUM, pool["pgp_num"]), ("Q", FLAGS, HASHPSPOOL if pool["hashpspool"] else 0), ("B", MIN_SIZE, pool.get("min_size", 1)),
     )  # fmt: skip
     for form, at, value in parts:
         struct.pack_into("<" + form, found, 6 + at, value)
@@ -128,20 +128,27 @@ def with_upmaps(data, upmaps):
     return whole + struct.pack("<I", checksum(whole))
 
 
-class OsdMap:
-    """A file in a folder with the OSD map of a CRUSH map's text, of pools and of states."""
+def compiled(folder, text):
+    """The file of a CRUSH map's text, compiled by crushtool."""
+    path = pathlib.Path(folder) / "osdmap"
+    path.with_suffix(".txt").write_text(text)
+    library.run(["crushtool", "-c", path.with_suffix(".txt"), "-o", path.with_suffix(".crush")])
+    return path.with_suffix(".crush")
 
-    def __init__(self, folder, text, pools, states):
+
+class OsdMap:
+    """A file in a folder with the OSD map of a CRUSH map's text, or of a compiled file, of pools
+    and of states."""
+
+    def __init__(self, folder, text, pools, states, crush=None):
         self.path = pathlib.Path(folder) / "osdmap"
-        crush_text, crush = self.path.with_suffix(".txt"), self.path.with_suffix(".crush")
-        crush_text.write_text(text)
-        library.run(["crushtool", "-c", crush_text, "-o", crush])
+        crush = crush or compiled(folder, text)
         library.run(["osdmaptool", self.path, "--createsimple", len(states), "--with-default-pool", "--clobber"])
         pools = sorted(pools, key=lambda of: of["id"])
         self.path.write_bytes(changed(self.path.read_bytes(), pools, states))
         library.run(["osdmaptool", self.path, "--import-crush", crush])
         said = json.loads(self.ask("--dump", "json"))
-        if [self.pool_said(of) for of in said["pools"]] != pools:
+        if [{**self.pool_said(of), **{it: of[it] for it in ("min_size",) if it in pool}} for of, pool in zip(said["pools"], pools)] != pools:
             raise library.Failed(f"osdmaptool reads other pools than {pools}")
         if [self.state_said(of) for of in said["osds"]] != [(of, *it) for of, it in enumerate(states)]:
             raise library.Failed(f"osdmaptool reads other states than {states}")

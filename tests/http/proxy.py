@@ -1,15 +1,20 @@
 """nginx with the configuration of examples/nginx.conf before several processes, each with a file of
 its own, in a folder of the test."""
+import base64
 import contextlib
+import http.client
 import pathlib
 import shutil
+import ssl
 import subprocess
 import time
 
 from expected import TOP
 from served import SECONDS, Server, Unserved, free_port
 
-USERS = {"anna": ("shop", "depot", *(f"t{it}" for it in range(64))), "ben": ("lab",)}
+TENANTS = 64
+# the tenants t0, t1, .. have a user each
+USERS = {"anna": ("shop", "depot"), "ben": ("lab",)} | {f"u{it}": (f"t{it}",) for it in range(TENANTS)}
 MAIN = """daemon off;
 worker_processes 2;
 pid {folder}/nginx.pid;
@@ -26,6 +31,27 @@ http {{
     include {folder}/crushcalc.conf;
 }}
 """
+
+
+class Client:
+    """A user's connection to nginx by TLS."""
+
+    def __init__(self, port, folder, user, password=None):
+        context = ssl.create_default_context(cafile=f"{folder}/certificate.pem")
+        self.connection = http.client.HTTPSConnection("localhost", port, timeout=60, context=context)
+        self.headers = authorization(user, password) if user else {}
+
+    def ask(self, line):
+        """The reply to a script's line, as a script's line."""
+        method, path, *body = line.split(b" ", 2)
+        self.connection.request(method.decode(), path.decode(), body[0] if body else None, self.headers | {"Cookie": "c" * 3000, "User-Agent": "Mozilla/5.0"})
+        reply = self.connection.getresponse()
+        return b"%d " % reply.status + reply.read()
+
+
+def authorization(user, password=None):
+    """The header of a user, whose password is the user's name where none is given."""
+    return {"Authorization": "Basic " + base64.b64encode(f"{user}:{password or user}".encode()).decode()}
 
 
 def run(*words, **more):

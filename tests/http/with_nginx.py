@@ -1,22 +1,19 @@
 """nginx as a proxy: each reply through it is that of the script, users reach their tenants alone,
 and a tenant has one process."""
-import base64
 import concurrent.futures
-import http.client
 import pathlib
 import re
 import shutil
-import ssl
-
 
 import map_cases
 from expected import expected, unlike
 from hostile_cases import BODY_LIMIT
-from proxy import nginx, processes, run
+from proxy import TENANTS, Client, nginx, processes, run
 from replies import BAD, NO_TENANT, made
 from served import Server, asked
 
-CLIENTS, TENANTS, SECONDS = 64, 64, 5
+# what measures the load: so many users, each with two connections
+USERS, CONNECTIONS, SECONDS = 32, 2, 5
 # a user, a password where it isn't the user's, a path, and the status of the reply
 ASKED = (
     (None, None, "/t/shop", 401), ("anna", "wrong", "/t/shop", 401), ("ben", "anna", "/t/shop", 401), ("ben", None, "/t/shop", 401),
@@ -26,22 +23,6 @@ ASKED = (
     ("ben", None, "/t/shop.copy-0123456789ab", 401), ("anna", None, "/t/shop.copy-0123456789abc", 403), ("anna", None, "/t/lab.copy-0123456789ab", 401),
     ("ben", None, "/t/../t/shop", 403), ("ben", None, "/t/../shop", 403), ("ben", None, "/t/../shop.users", 403), ("ben", None, "//t/shop", 403), ("ben", None, "/t/%73hop", 403),
 )
-
-
-class Client:
-    """A user's connection to nginx by TLS."""
-
-    def __init__(self, port, folder, user, password=None):
-        context = ssl.create_default_context(cafile=f"{folder}/certificate.pem")
-        self.connection = http.client.HTTPSConnection("localhost", port, timeout=60, context=context)
-        self.headers = {"Authorization": "Basic " + base64.b64encode(f"{user}:{password or user}".encode()).decode()} if user else {}
-
-    def ask(self, line):
-        """The reply to a script's line, as a script's line."""
-        method, path, *body = line.split(b" ", 2)
-        self.connection.request(method.decode(), path.decode(), body[0] if body else None, self.headers | {"Cookie": "c" * 3000, "User-Agent": "Mozilla/5.0"})
-        reply = self.connection.getresponse()
-        return b"%d " % reply.status + reply.read()
 
 
 def whole_session(port, folder, program):
@@ -74,10 +55,10 @@ def other_sites(port, folder):
 def clients_at_once(port, folder):
     """Each of 64 clients makes a tenant and imports a map into it; then each asks for another's."""
     def own(place):
-        client = Client(port, folder, "anna")
+        client = Client(port, folder, f"u{place}")
         return [client.ask(it.replace(b"/t/a", b"/t/t%d" % place)) for it in (b"PUT /t/a", map_cases.import_of(map_cases.tiny(place)), b"GET /t/a", map_cases.test_of(x=place))]
 
-    with concurrent.futures.ThreadPoolExecutor(CLIENTS) as pool:
+    with concurrent.futures.ThreadPoolExecutor(TENANTS) as pool:
         found = list(pool.map(own, range(TENANTS)))
     for place, it in enumerate(found):
         want = [made(b"t%d" % place), map_cases.imported(1, 1), map_cases.summary(1, 1, b"t%d" % place), map_cases.tested([place], [place])]
@@ -94,14 +75,19 @@ def one_process_each(servers, folder):
 
 
 def load(port, folder):
-    """ab with 64 connections kept open for some seconds; it looks at the length and status of each
-    reply."""
-    ran = run("ab", "-q", "-k", "-c", str(CLIENTS), "-t", str(SECONDS), "-A", "anna:anna", f"https://localhost:{port}/t/t1").decode()
-    said = dict(re.findall(r"^([\w -]+): +(\S+)", ran, re.M))
-    if int(said["Complete requests"]) < CLIENTS // 4 or said["Failed requests"] != "0" or "Non-2xx responses" in said:
-        return ran
-    print(f"nginx with TLS, a password each and {CLIENTS} clients: {float(said['Requests per second']):,.0f} requests a second")
-    return None
+    """ab for some seconds, for each of 32 users with two connections that are kept open; it looks
+    at the length and status of each reply."""
+    def own(place):
+        words = ("-q", "-k", "-c", str(CONNECTIONS), "-t", str(SECONDS), "-A", f"u{place}:u{place}", f"https://localhost:{port}/t/t{place}")
+        ran = run("ab", *words).decode()
+        said = dict(re.findall(r"^([\w -]+): +(\S+)", ran, re.M))
+        sound = int(said["Complete requests"]) >= CONNECTIONS and said["Failed requests"] == "0" and "Non-2xx responses" not in said
+        return (None, float(said["Requests per second"])) if sound else (ran, 0)
+
+    with concurrent.futures.ThreadPoolExecutor(USERS) as pool:
+        found = list(pool.map(own, range(USERS)))
+    print(f"nginx with TLS, passwords, and {USERS * CONNECTIONS} connections of {USERS} users: {sum(rate for _, rate in found):,.0f} requests a second")
+    return next((why for why, _ in found if why), None)
 
 
 def limit(port, folder):
@@ -119,8 +105,8 @@ def a_process_is_down(port, folder, servers, program):
     back it has them."""
     held = [it for it in range(TENANTS) if asked(servers[0], [b"GET /t/t%d" % it]) != [NO_TENANT]]
     servers[0].stop()
-    client, other = Client(port, folder, "anna"), next(it for it in range(TENANTS) if it not in held)
-    found = [client.ask(b"PUT /t/t%d" % held[0]), client.ask(b"GET /t/t%d" % other)]
+    client, other = Client(port, folder, f"u{held[0]}"), next(it for it in range(TENANTS) if it not in held)
+    found = [client.ask(b"PUT /t/t%d" % held[0]), Client(port, folder, f"u{other}").ask(b"GET /t/t%d" % other)]
     if not found[0].startswith(b"502 ") or found[1] != map_cases.summary(1, 1, b"t%d" % other):
         return f"while it is down: {found}"
     with Server(program, pathlib.Path(folder, "0.db"), port=servers[0].port):
@@ -136,8 +122,7 @@ def twice_as_many(program, folder):
             if pathlib.Path(folder, f"{it}.db{end}").exists():
                 shutil.copyfile(f"{folder}/{it}.db{end}", f"{folder}/{it + 2}.db{end}")
     with processes(program, folder, 4) as servers, nginx(folder, [it.port for it in servers]) as port:
-        client = Client(port, folder, "anna")
-        found = [client.ask(b"GET /t/t%d" % it) for it in range(TENANTS)]
+        found = [Client(port, folder, f"u{it}").ask(b"GET /t/t%d" % it) for it in range(TENANTS)]
         return None if found == [map_cases.summary(1, 1, b"t%d" % it) for it in range(TENANTS)] else f"the replies are {found[:4]} .."
 
 
@@ -150,7 +135,7 @@ def checks(program, top):
         yield "each route", whole_session(port, folder, program)
         yield "64 clients at once", clients_at_once(port, folder)
         yield "a tenant has one process", one_process_each(servers, folder)
-        yield "64 clients, again and again", load(port, folder)
+        yield "64 connections, again and again", load(port, folder)
         yield "bodies of the limit and over it", limit(port, folder)
         yield "a process that is down", a_process_is_down(port, folder, servers, program)
         for it in servers[1:]:

@@ -5,5 +5,8 @@ pub mod Lanes
 pub mod Nodes
 pub mod Numbered
 pub mod Picking
+pub mod Hashes
+pub mod Weighed
+pub mod Pickable
 pub mod Validity
 pub mod Weights

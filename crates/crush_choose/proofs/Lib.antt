@@ -9,6 +9,7 @@ pub mod Answering
 pub mod Walking
 pub mod Entries
 pub mod Entering
+pub mod Picks
 pub mod WalkEnds
 pub mod Hopeless
 pub mod HopelessRounds

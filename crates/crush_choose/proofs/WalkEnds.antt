@@ -10,6 +10,7 @@ use Rattle.crush_map.specs.declared.word.ItemId.{ItemId}
 use Rattle.crush_map.specs.declared.limits.TheConstants.{BUCKET_LIMIT}
 use Rattle.crush_bucket.specs.Bucket.{BucketView, WeightedItem, no_item, item_at, IsItemOf}
 use Rattle.crush_bucket.specs.Pick.{pick}
+use Rattle.crush_bucket.specs.Pickable.{pickable}
 use Rattle.crush_bucket.specs.Tables.{TablesView, bucket_at, type_at, size_at, pick_at, bucket_numbered, HasItemsBelow}
 use Rattle.crush_choose.specs.declared.walk.Reached.{Reached}
 use Rattle.crush_choose.specs.declared.walk.Reached.TheVariants.{Empty, Wrong, Found}
@@ -17,6 +18,7 @@ use Rattle.crush_choose.specs.Reach.{at_item, reach_below, reach}
 use Rattle.crush_choose.specs.Marks.{Slot}
 use Rattle.crush_choose.specs.Firstn.{has}
 use Rattle.crush_choose.specs.Private.Reachable.{any_bucket, has_leaf, can_be_placed, can_have_leaf, can_end_at, can_reach_below, can_reach, marked, IsMarked}
+use Rattle.crush_bucket.proofs.Pickable.{pickable_item}
 use Rattle.crush_choose.proofs.Reaching.{below_of}
 
 -- ---- tests of the items of a list
@@ -44,8 +46,11 @@ end_same : (t : TablesView) (wanted : ℕ) (p q : ItemId → Bool) (f g : ℕ �
 end_same t wanted p q f g item None same down = rw same refl
 end_same t wanted p q f g item (Some k) same down = rw (same, down k refl) refl
 
-number_below : (t : TablesView) (b i k : ℕ) → HasItemsBelow t → b < length t.buckets → i < size_at t b → bucket_numbered t (item_at (bucket_at t b).items i) ≡ Some k → k < b
-number_below t b i k below lt few numbered = below_of t b (item_at (bucket_at t b).items i) k numbered (below b i lt few)
+number_below : (t : TablesView) (b i k : ℕ) → HasItemsBelow t → b < length t.buckets → i < length (pickable (bucket_at t b))
+    → bucket_numbered t (item_at (pickable (bucket_at t b)) i) ≡ Some k → k < b
+number_below t b i k below lt few numbered =
+    let (place, within, is) = pickable_item (bucket_at t b) i few in
+    below_of t b (item_at (pickable (bucket_at t b)) i) k numbered (rw is at (below b place lt within))
 
 -- two bounds on the picks, and two tests that agree, come to the same
 reach_same : (t : TablesView) (wanted : ℕ) (p q : ItemId → Bool) (bound n m b : ℕ) → HasItemsBelow t → AreAlike t bound p q → b < length t.buckets → b ≤ bound
@@ -53,9 +58,9 @@ reach_same : (t : TablesView) (wanted : ℕ) (p q : ItemId → Bool) (bound n m 
 reach_same t wanted p q bound zero m b below alike lt le h k = absurd (omega arith)
 reach_same t wanted p q bound (suc n) zero b below alike lt le h k = absurd (omega arith)
 reach_same t wanted p q bound (suc n) (suc m) b below alike lt le h k =
-    any_same _ _ (bucket_at t b).items no_item (λ i few.
-    end_same t wanted p q (can_reach_below t wanted p n) (can_reach_below t wanted q m) (item_at (bucket_at t b).items i) (bucket_numbered t (item_at (bucket_at t b).items i))
-    (alike (item_at (bucket_at t b).items i) (λ j numbered. let less = number_below t b i j below lt few numbered in omega arith))
+    any_same _ _ (pickable (bucket_at t b)) no_item (λ i few.
+    end_same t wanted p q (can_reach_below t wanted p n) (can_reach_below t wanted q m) (item_at (pickable (bucket_at t b)) i) (bucket_numbered t (item_at (pickable (bucket_at t b)) i))
+    (alike (item_at (pickable (bucket_at t b)) i) (λ j numbered. let less = number_below t b i j below lt few numbered in omega arith))
     (λ j numbered.
     let less : j < b = number_below t b i j below lt few numbered in
     reach_same t wanted p q bound n m j below alike (omega arith) (omega arith) (omega arith) (omega arith)))
@@ -87,11 +92,11 @@ leaves_marked t w x leaves k below lt low =
 -- a bucket's own mark, from the marks of smaller numbers
 pub next_mark : (t : TablesView) (wanted : ℕ) (p : ItemId → Bool) (found : List Bool) (b : ℕ) → HasItemsBelow t → b < length t.buckets
     → ((k : ℕ) → k < b → marked found k ≡ can_reach t wanted p k)
-    → list_any (λ (e : WeightedItem). can_end_at t wanted p (marked found) e.0 (bucket_numbered t e.0)) (bucket_at t b).items ≡ can_reach t wanted p b
+    → list_any (λ (e : WeightedItem). can_end_at t wanted p (marked found) e.0 (bucket_numbered t e.0)) (pickable (bucket_at t b)) ≡ can_reach t wanted p b
 unfolding can_reach
 next_mark t wanted p found b below lt marks =
-    any_same _ _ (bucket_at t b).items no_item (λ i few.
-    end_same t wanted p p (marked found) (can_reach_below t wanted p b) (item_at (bucket_at t b).items i) (bucket_numbered t (item_at (bucket_at t b).items i)) refl
+    any_same _ _ (pickable (bucket_at t b)) no_item (λ i few.
+    end_same t wanted p p (marked found) (can_reach_below t wanted p b) (item_at (pickable (bucket_at t b)) i) (bucket_numbered t (item_at (pickable (bucket_at t b)) i)) refl
     (λ k numbered.
     let less : k < b = number_below t b i k below lt few numbered in
     marks k less ∙ reach_same t wanted p p k (suc k) b k below (λ item low. refl) (omega arith) (omega arith) (omega arith) (omega arith)))
@@ -114,9 +119,9 @@ more_marked t wanted p found b mark low is same =
 
 -- ---- no walk ends elsewhere
 
--- what a bucket picks is one of its items
+-- what a bucket picks is one of the items that it can pick
 abbrev pub PicksItems : Type 0
-PicksItems = (b : BucketView) (x r : ℕ) → 0 < length b.items → IsItemOf b.items (pick b x r)
+PicksItems = (b : BucketView) (x r : ℕ) → 0 < length b.items → IsItemOf (pickable b) (pick b x r)
 
 at_device : (p : ItemId → Bool) (wanted : ℕ) (item end : ItemId) (r s : ℕ) → ((wanted == 0) && p item) ≡ false
     → (if 0 == wanted then Found item r else Wrong) ≡ Found end s → p end ≡ false
@@ -146,7 +151,7 @@ misses picks t x rr wanted p (suc n) b end s none e =
     let item = pick_at t b x (rr b) in
     let (some, on) = not_empty (size_at t b) _ end s e in
     let (i, few, is) = picks (bucket_at t b) x (rr b) some in
-    let fails = none_passes _ (bucket_at t b).items no_item i none few in
+    let fails = none_passes _ (pickable (bucket_at t b)) no_item i none few in
     at_end t wanted p (can_reach_below t wanted p n) (reach_below t x rr wanted n) item end (rr b) s (bucket_numbered t item) (rw is at fails) on
     (λ k cannot down. misses picks t x rr wanted p n k end s cannot down)
 

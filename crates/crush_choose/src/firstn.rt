@@ -16,7 +16,7 @@ use crate::reachable::can_choose;
 use crate::row::{Row, Slot};
 use crate::walk::{Reached, reach_by};
 use crate::weights::{Weights, is_device_in};
-use crush_bucket::laws::a_pick_is_an_item;
+use crush_bucket::laws::a_pick_is_pickable;
 use crush_bucket::{BucketNo, Scratch, Tables};
 use crush_map::ItemId;
 
@@ -124,7 +124,7 @@ fn leaf_below(
     ensures value { result ≡ spec.leaf_below tables.now weights.now call.now leaves.now bucket start }
     ensures fits { scratch.new ≡ perms_of tables.now }
 {
-    a_pick_is_an_item();
+    a_pick_is_pickable();
     let since = effort.spent();
     let mut asked = false;
     for g in 0..call.leaf_tries {
@@ -357,7 +357,7 @@ pub fn choose_firstn(
     ensures even { length leaves.new ≡ length items.new }
     ensures fits { scratch.new ≡ perms_of tables.now }
 {
-    a_pick_is_an_item();
+    a_pick_is_pickable();
     items.clear();
     leaves.clear();
     let mut effort = Effort::new();

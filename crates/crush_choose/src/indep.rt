@@ -17,7 +17,7 @@ use crate::reachable::can_choose;
 use crate::row::{Row, Slot};
 use crate::walk::{Attempts, Reached, reach};
 use crate::weights::{Weights, is_device_in};
-use crush_bucket::laws::a_pick_is_an_item;
+use crush_bucket::laws::a_pick_is_pickable;
 use crush_bucket::{BucketNo, Scratch, Tables};
 use crush_map::ItemId;
 
@@ -122,7 +122,7 @@ fn leaf_below(
     ensures value { result ≡ spec.indep_leaf tables.now weights.now call.now bucket start }
     ensures fits { scratch.new ≡ perms_of tables.now }
 {
-    a_pick_is_an_item();
+    a_pick_is_pickable();
     let since = effort.spent();
     let mut asked = false;
     for round in 0..call.leaf_tries {
@@ -310,7 +310,7 @@ fn run_rounds(
     ensures places { length marks.new ≡ call.now.n }
     ensures fits { scratch.new ≡ perms_of tables.now }
 {
-    a_pick_is_an_item();
+    a_pick_is_pickable();
     let mut effort = Effort::new();
     let mut since = 0;
     let mut waiting = marks.len();

@@ -1,7 +1,8 @@
-//! Whether any try can succeed, whatever the buckets pick.
+//! Whether any try can succeed, whatever the buckets pick of the items that they can pick.
 
-ghost use Rattle.std.specs.Prelude.{◌≡◌, ℕ, ◌<◌, ◌+◌, ◌||◌, nat_le, length};
+ghost use Rattle.std.specs.Prelude.{◌≡◌, ℕ, ◌<◌, ◌+◌, ◌||◌, ◌&&◌, nat_le, length};
 ghost use Rattle.std.specs.List.{list_any};
+ghost use Rattle.crush_bucket.specs.Pickable.{pickable, weighs};
 ghost use Rattle.crush_bucket.specs.Tables.{bucket_at, bucket_numbered};
 ghost use Rattle.crush_choose.specs.Private.Reachable as spec;
 ghost use Rattle.crush_choose.specs.Private.Reachable.{IsMarked, can_be_placed, can_end_at, marked};
@@ -11,8 +12,8 @@ use crate::firstn::has;
 use crate::row::Slot;
 use crate::weights::{Weights, is_device_in};
 use crush_bucket::{BucketNo, Tables};
-use crush_map::ItemId;
 use crush_map::limits::BUCKET_LIMIT;
+use crush_map::{ItemId, Kind, Weight};
 
 /// Returns whether a bucket is marked. One that the list of marks lacks isn't.
 fn is_marked(marks: &[bool], bucket: BucketNo) -> bool
@@ -50,7 +51,54 @@ fn can_end_at(
     }
 }
 
-/// Returns whether this is so of some item of a bucket.
+/// Returns whether some item weighs something.
+fn some_weighs(items: &[(ItemId, Weight)]) -> bool
+    ensures { result ≡ list_any weighs items.now }
+{
+    items.iter().any(|item| item.1.0 > 0)
+}
+
+/// Returns whether a bucket of this kind picks items of weight above 0 alone.
+fn picks_by_weight(kind: Kind, items: &[(ItemId, Weight)]) -> bool
+    ensures { result ≡ spec.picks_by_weight kind items.now }
+{
+    match kind {
+        Kind::Uniform => false,
+        Kind::List | Kind::Tree => some_weighs(items),
+    }
+}
+
+/// Returns the items that a bucket of this kind can pick where it doesn't go by weights.
+fn without_weights(kind: Kind, items: &[(ItemId, Weight)]) -> &[(ItemId, Weight)]
+    ensures { result.now ≡ spec.without_weights kind items.now }
+{
+    match kind {
+        Kind::Uniform => items,
+        Kind::List => &items[..items.len().min(1)],
+        Kind::Tree => &items[items.len().saturating_sub(1)..],
+    }
+}
+
+/// Returns whether this is so of some of these items that has at least this weight.
+fn can_end_among(
+    tables: &Tables,
+    weights: &Weights,
+    x: u32,
+    wanted: u32,
+    chosen: &[Slot],
+    leafy: &[bool],
+    found: &[bool],
+    items: &[(ItemId, Weight)],
+    least: u32,
+) -> bool
+    ensures { result ≡ list_any (λ e. nat_le least e.1.0 && can_end_at tables.now wanted (can_be_placed tables.now weights.now x chosen.now (marked leafy.now)) (marked found.now) e.0 (bucket_numbered tables.now e.0)) items.now }
+{
+    items.iter().any(|item| {
+        item.1.0 >= least && can_end_at(tables, weights, x, wanted, chosen, leafy, found, item.0)
+    })
+}
+
+/// Returns whether this is so of some item that a bucket can pick.
 fn can_end_below(
     tables: &Tables,
     weights: &Weights,
@@ -62,11 +110,16 @@ fn can_end_below(
     bucket: BucketNo,
 ) -> bool
     requires { bucket < length tables.now.buckets }
-    ensures { result ≡ list_any (λ e. can_end_at tables.now wanted (can_be_placed tables.now weights.now x chosen.now (marked leafy.now)) (marked found.now) e.0 (bucket_numbered tables.now e.0)) (bucket_at tables.now bucket).items }
+    ensures { result ≡ list_any (λ e. can_end_at tables.now wanted (can_be_placed tables.now weights.now x chosen.now (marked leafy.now)) (marked found.now) e.0 (bucket_numbered tables.now e.0)) (pickable (bucket_at tables.now bucket)) }
 {
-    tables.items(bucket).iter().any(|entry| can_end_at(
-        tables, weights, x, wanted, chosen, leafy, found, entry.0,
-    ))
+    let kind = tables.kind(bucket);
+    let items = tables.items(bucket);
+    if picks_by_weight(kind, items) {
+        can_end_among(tables, weights, x, wanted, chosen, leafy, found, items, 1)
+    } else {
+        let items = without_weights(kind, items);
+        can_end_among(tables, weights, x, wanted, chosen, leafy, found, items, 0)
+    }
 }
 
 /// Marks each bucket up to a bucket, by number, from which a walk can end at an item of the wanted

@@ -26,13 +26,13 @@ pub returns-in-Hopeless-clause-items : goal.returns-in-Hopeless-clause-items
 returns-in-Hopeless-clause-items c =
     let none = rw c.in-Hopeless.is at c.decide_with_room-decision.ensures.value in
     let cannot : firstn_can_place c.args.tables.now c.args.weights.now c.args.call.now c.loop-rep.items c.loop-rep.leaves ≡ false = search (rules, none) in
-    slots_end c.a_pick_is_an_item.ensures (λ s. Some s.item) c.args.tables.now c.args.weights.now c.args.call.now c.loop-rep.rep c.loop-rep.items c.loop-rep.leaves c.loop-rep.items (omega arith) c.loop-rep.invariant.items c.loop-rep.invariant.leaves cannot c.loop-rep.invariant.items
+    slots_end c.a_pick_is_pickable.ensures.pickable (λ s. Some s.item) c.args.tables.now c.args.weights.now c.args.call.now c.loop-rep.rep c.loop-rep.items c.loop-rep.leaves c.loop-rep.items (omega arith) c.loop-rep.invariant.items c.loop-rep.invariant.leaves cannot c.loop-rep.invariant.items
 
 pub returns-in-Hopeless-clause-leaves : goal.returns-in-Hopeless-clause-leaves
 returns-in-Hopeless-clause-leaves c =
     let none = rw c.in-Hopeless.is at c.decide_with_room-decision.ensures.value in
     let cannot : firstn_can_place c.args.tables.now c.args.weights.now c.args.call.now c.loop-rep.items c.loop-rep.leaves ≡ false = search (rules, none) in
-    slots_end c.a_pick_is_an_item.ensures (λ s. Some s.leaf) c.args.tables.now c.args.weights.now c.args.call.now c.loop-rep.rep c.loop-rep.items c.loop-rep.leaves c.loop-rep.leaves (omega arith) c.loop-rep.invariant.items c.loop-rep.invariant.leaves cannot c.loop-rep.invariant.leaves
+    slots_end c.a_pick_is_pickable.ensures.pickable (λ s. Some s.leaf) c.args.tables.now c.args.weights.now c.args.call.now c.loop-rep.rep c.loop-rep.items c.loop-rep.leaves c.loop-rep.leaves (omega arith) c.loop-rep.invariant.items c.loop-rep.invariant.leaves cannot c.loop-rep.invariant.leaves
 
 pub returns-in-Hopeless-clause-there : goal.returns-in-Hopeless-clause-there
 returns-in-Hopeless-clause-there c = firstn_is c.args.tables.now c.args.weights.now c.args.call.now
@@ -42,8 +42,8 @@ returns-in-Hopeless-clause-only c = λ marks is.
     let answer = sym (firstn_only c.args.tables.now c.args.weights.now c.args.call.now marks is) in
     let none = rw c.in-Hopeless.is at c.decide_with_room-decision.ensures.value in
     let cannot : firstn_can_place c.args.tables.now c.args.weights.now c.args.call.now c.loop-rep.items c.loop-rep.leaves ≡ false = search (rules, none) in
-    let items = slots_end c.a_pick_is_an_item.ensures (λ s. Some s.item) c.args.tables.now c.args.weights.now c.args.call.now c.loop-rep.rep c.loop-rep.items c.loop-rep.leaves c.loop-rep.items (omega arith) c.loop-rep.invariant.items c.loop-rep.invariant.leaves cannot c.loop-rep.invariant.items in
-    let leaves = slots_end c.a_pick_is_an_item.ensures (λ s. Some s.leaf) c.args.tables.now c.args.weights.now c.args.call.now c.loop-rep.rep c.loop-rep.items c.loop-rep.leaves c.loop-rep.leaves (omega arith) c.loop-rep.invariant.items c.loop-rep.invariant.leaves cannot c.loop-rep.invariant.leaves in
+    let items = slots_end c.a_pick_is_pickable.ensures.pickable (λ s. Some s.item) c.args.tables.now c.args.weights.now c.args.call.now c.loop-rep.rep c.loop-rep.items c.loop-rep.leaves c.loop-rep.items (omega arith) c.loop-rep.invariant.items c.loop-rep.invariant.leaves cannot c.loop-rep.invariant.items in
+    let leaves = slots_end c.a_pick_is_pickable.ensures.pickable (λ s. Some s.leaf) c.args.tables.now c.args.weights.now c.args.call.now c.loop-rep.rep c.loop-rep.items c.loop-rep.leaves c.loop-rep.leaves (omega arith) c.loop-rep.invariant.items c.loop-rep.invariant.leaves cannot c.loop-rep.invariant.leaves in
     (items ∙ ap items_of answer, leaves ∙ ap leaves_of answer)
 
 pub returns-clause-there : goal.returns-clause-there

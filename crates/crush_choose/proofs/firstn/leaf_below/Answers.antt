@@ -14,4 +14,4 @@ returns-then-not-can_choose-clause-value c =
     let fails : c.can_choose.result ≡ false = search rules in
     let cannot = neither c.can_choose.result _ _ c.can_choose.ensures fails in
     let leafless = sym (leaf_asked c.args.tables.now c.args.weights.now c.args.call.now.x c.args.leaves.now c.args.bucket) ∙ cannot in
-    sym (no_leaf c.a_pick_is_an_item.ensures c.args.tables.now c.args.weights.now c.args.call.now c.args.leaves.now c.args.bucket c.args.start leafless)
+    sym (no_leaf c.a_pick_is_pickable.ensures.pickable c.args.tables.now c.args.weights.now c.args.call.now c.args.leaves.now c.args.bucket c.args.start leafless)

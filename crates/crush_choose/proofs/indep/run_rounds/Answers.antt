@@ -23,4 +23,4 @@ pub returns-then-not-can_place-clause-value : goal.returns-then-not-can_place-cl
 returns-then-not-can_place-clause-value c =
     let fails : c.can_place.result ≡ false = search rules in
     let cannot : indep_can_place c.args.tables.now c.args.weights.now c.args.call.now (map item_at c.loop-round.marks) ≡ false = neither c.can_place.result _ _ c.can_place.ensures fails in
-    ends_the_same c.a_pick_is_an_item.ensures c.args.tables.now c.args.weights.now c.args.call.now c.loop-round.round c.loop-round.marks (omega arith) c.loop-round.invariant.marks cannot
+    ends_the_same c.a_pick_is_pickable.ensures.pickable c.args.tables.now c.args.weights.now c.args.call.now c.loop-round.round c.loop-round.marks (omega arith) c.loop-round.invariant.marks cannot

@@ -1,0 +1,117 @@
+"""The clusters that are foretold: CRUSH maps of list, tree, uniform and mixed buckets, their pools
+and objects, all drawn from a seed."""
+import copy
+import pathlib
+import sys
+
+HERE = pathlib.Path(__file__).resolve().parent
+sys.path[:0] = [str(HERE.parent), str(HERE.parent / "ceph")]
+import crush  # noqa: E402
+from make_maps import HOST, ONE, RACK, ROOT, Map  # noqa: E402
+
+# of each kind of cluster the kinds of its root, racks and hosts
+KINDS = {
+    "list": ("list", "list", "list"),
+    "tree": ("tree", "tree", "tree"),
+    "uniform": ("uniform", "uniform", "uniform"),
+    "mixed": ("list", "tree", "uniform"),
+}
+RACKS, HOSTS, DEVICES = 3, 2, 3
+OSDS = RACKS * HOSTS * DEVICES
+PROFILE = ["k=2", "m=2", "plugin=jerasure", "technique=reed_sol_van"]
+# the id of each pool is its place, from 1 on; the size of an erasure pool is that of its profile
+POOLS = (
+    {"pool": "even", "pg_num": 64, "pgp_num": 64, "pool_type": "replicated", "rule": "hosts", "size": 3},
+    {"pool": "racks", "pg_num": 32, "pgp_num": 32, "pool_type": "replicated", "rule": "racks", "size": 3},
+    {"pool": "parts", "pg_num": 50, "pgp_num": 50, "pool_type": "erasure", "rule": "hosts-of-parts", "erasure_code_profile": "two-and-two"},
+    {"pool": "pairs", "pg_num": 40, "pgp_num": 40, "pool_type": "replicated", "rule": "racks-then-hosts", "size": 4},
+)
+ODD_NAMES = ("with a blank", "a/b\\c\"d'e", "ä, 名前, 🦀", "0", "n" * 300)
+# pools whose groups have the same number of objects of one size: how many, and their bytes
+EVEN = {"even": (20, 4096), "parts": (12, 8192)}
+OBJECTS, LARGEST, ALIKE = 600, 30_000, "pairs"  # of the other pools; in one of them all are of one size
+
+
+class Planned(Map):
+    """A map with the rules that the pools name, under the root -1."""
+
+    def rules(self):
+        over = ("set_chooseleaf_tries 5", "set_choose_tries 100")
+        return (
+            ("hosts", 0, "replicated", ("take -1", f"chooseleaf firstn 0 {HOST}", "emit")),
+            ("hosts-of-parts", 1, "erasure", (*over, "take -1", f"chooseleaf indep 0 {HOST}", "emit")),
+            ("racks", 2, "replicated", ("take -1", f"chooseleaf firstn 0 {RACK}", "emit")),
+            ("racks-then-hosts", 3, "replicated", ("take -1", f"choose firstn 2 {RACK}", f"chooseleaf firstn 2 {HOST}", "emit")),
+        )
+
+    def rule_lines(self):
+        return [line for it in self.rules() for line in self.lines_of_rule(*it)]
+
+
+class Layout:
+    """Racks of hosts of devices with their weights, and the kinds of their buckets."""
+
+    def __init__(self, kind, choice):
+        self.kind, numbers = kind, iter(range(OSDS))
+        self.racks = [[[[next(numbers), weight(choice)] for _ in range(DEVICES)] for _ in range(HOSTS)] for _ in range(RACKS)]
+
+    def map(self):
+        """The map: the buckets of racks and hosts have the ids -2, -3 and so on, each rack after its
+        hosts. A uniform bucket has the weight of its first item for all."""
+        root, rack, host = KINDS[self.kind]
+        map_ = Planned(self.kind)
+        map_.devices = OSDS
+
+        def bucket(kind, type_, entries, id_=None):
+            return map_.bucket(kind, type_, [(it, entries[0][1]) for it, _ in entries] if kind == "uniform" else entries, id_)
+
+        bucket(root, ROOT, [bucket(rack, RACK, [bucket(host, HOST, of) for of in hosts]) for hosts in self.racks], -1)
+        return map_
+
+    def changed(self, choice):
+        """A layout in which a device stands in another host and two have another weight."""
+        other = copy.deepcopy(self)
+        hosts = [host for rack in other.racks for host in rack]
+        taken, given = choice.sample(hosts, 2)
+        given.append(taken.pop())
+        for host in choice.sample(hosts, 2):
+            host[choice.randrange(len(host))][1] = weight(choice)
+        return other
+
+    def hosts(self):
+        """The name of each host, with its rack's name and its devices."""
+        id_, found = 2, []
+        for hosts in self.racks:
+            rack = f"rack{id_ + len(hosts)}"
+            found += [(f"host{id_ + place}", rack, [device for device, _ in host]) for place, host in enumerate(hosts)]
+            id_ += len(hosts) + 1
+        return found
+
+
+def weight(choice):
+    return choice.randrange(ONE // 2, 2 * ONE)
+
+
+def objects(choice):
+    """Of each pool its objects: names with their bytes."""
+    found = {}
+    for pool in POOLS:
+        name, groups = pool["pool"], pool["pg_num"]
+        if name in EVEN:
+            found[name] = even_objects(name, groups, *EVEN[name])
+        else:
+            own = [f"{name}-{it}" for it in range(OBJECTS)] + list(ODD_NAMES)
+            found[name] = [(it, 4096 if name == ALIKE else choice.randrange(1, LARGEST)) for it in own]
+    return found
+
+
+def even_objects(name, groups, each, size):
+    """As many objects in each group."""
+    left, found, number = [each] * groups, [], 0
+    while any(left):
+        object_, number = f"{name}-{number}", number + 1
+        group = crush.stable_mod(crush.name_hash(object_.encode()), groups)
+        if left[group]:
+            left[group] -= 1
+            found.append((object_, size))
+    return found

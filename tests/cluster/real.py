@@ -1,0 +1,317 @@
+"""A real Ceph cluster on the loopback interface, in a folder of its own: a monitor, a manager and
+some OSDs whose objects are in memory, by Debian's packages.
+
+Each of its processes is a child of this one, is ended with it, and no other process is.
+"""
+import base64
+import collections
+import concurrent.futures
+import json
+import os
+import pathlib
+import shutil
+import socket
+import subprocess
+import time
+import uuid
+
+CONF = """[global]
+fsid = {fsid}
+mon initial members = a
+mon host = [v2:127.0.0.1:{ports[0]},v1:127.0.0.1:{ports[1]}]
+public addr = 127.0.0.1
+cluster addr = 127.0.0.1
+ms bind port min = 16800
+ms bind port max = 18800
+ms async op threads = 1
+mon data = {folder}/mon
+mgr data = {folder}/mgr
+osd data = {folder}/osd.$id
+run dir = {folder}/run
+admin socket = {folder}/run/$name.$pid.asok
+log file = {folder}/log/$name.log
+keyring = {folder}/keyring
+# a disk that is nearly full holds nothing up: objects are in memory
+mon data avail warn = 1
+mon data avail crit = 0
+mon allow pool delete = true
+mon max pg per osd = 100000
+osd max pg per osd hard ratio = 1000
+# nothing goes down or out, and nothing comes into the map, but by this test
+mon osd down out interval = 0
+mon osd min in ratio = 0
+mon osd min up ratio = 0
+mon osd adjust heartbeat grace = false
+osd heartbeat grace = 600
+osd crush update on start = false
+osd class update on start = false
+osd pool default pg autoscale mode = off
+# objects move at once, and what an OSD says of its groups is a second old at most
+mgr stats period = 1
+osd recovery sleep = 0
+osd recovery sleep hdd = 0
+osd recovery sleep ssd = 0
+osd recovery sleep hybrid = 0
+osd recovery delay start = 0
+osd recovery retry interval = 1
+osd backfill retry interval = 1
+osd max backfills = 100
+osd recovery max active = 100
+osd fast shutdown = false
+osd objectstore = memstore
+memstore device bytes = {bytes_of_osd}
+[mgr]
+keyring = {folder}/mgr/keyring
+[osd]
+keyring = {folder}/osd.$id/keyring
+osd op num shards = 1
+osd op num threads per shard = 1
+"""
+BYTES_OF_OSD = 256 * 1024 * 1024
+NEEDED = ("ceph", "ceph-mon", "ceph-mgr", "ceph-osd", "ceph-objectstore-tool", "ceph-authtool", "monmaptool", "crushtool", "setpriv")
+JOBS = 4
+# a group in one of these is still at work
+AT_WORK = {"creating", "unknown", "peering", "activating", "stale", "wait", "recovering", "recovery_wait", "recovery_unfound",
+           "backfilling", "backfill_wait", "backfill_toofull", "forced_recovery", "forced_backfill", "repair", "snaptrim", "scrubbing"}  # fmt: skip
+NONE = 2147483647
+PERIOD = 1.2  # seconds: a little more than OSDs wait between two reports
+
+
+class Failed(Exception):
+    """Says what the cluster, or a program, refused or didn't do in time."""
+
+
+def run(*words, seconds=120, **more):
+    """What a program writes on standard output; Failed says what it wrote on standard error."""
+    try:
+        ran = subprocess.run([str(it) for it in words], stdin=subprocess.DEVNULL, stdout=subprocess.PIPE, stderr=subprocess.PIPE, timeout=seconds, **more)
+    except (OSError, subprocess.TimeoutExpired) as error:
+        raise Failed(f"{words[0]}: {error}") from None
+    if ran.returncode:
+        raise Failed(f"{' '.join(map(str, words))}: status {ran.returncode}: {ran.stderr.decode(errors='replace')[-500:].strip()}")
+    return ran.stdout.decode()
+
+
+def missing():
+    """The programs that aren't installed."""
+    return [it for it in NEEDED if not shutil.which(it)]
+
+
+def free_ports(number):
+    """As many TCP ports of the loopback interface that nothing listens on."""
+    sockets = [socket.socket() for _ in range(number)]
+    for it in sockets:
+        it.bind(("127.0.0.1", 0))
+    ports = [it.getsockname()[1] for it in sockets]
+    for it in sockets:
+        it.close()
+    return ports
+
+
+def awaited(found, what, seconds):
+    """What `found` answers once that is true, asked for so many seconds; else Failed says what."""
+    end = time.monotonic() + seconds
+    while True:
+        it = found()
+        if it:
+            return it
+        if time.monotonic() > end:
+            raise Failed(f"{what} didn't come in {seconds} s")
+        time.sleep(0.3)
+
+
+class Cluster:
+    """A cluster with the OSDs 0 .. osds-1, each up and in, in a map without buckets. A `with` ends
+    it."""
+
+    def __init__(self, folder, osds):
+        self.folder, self.osds = pathlib.Path(folder).resolve(), osds
+        self.conf, self.processes, self.client = self.folder / "ceph.conf", {}, None
+        try:
+            self.start()
+        except BaseException:
+            self.stop()
+            raise
+
+    def __enter__(self):
+        return self
+
+    def __exit__(self, *_):
+        self.stop()
+
+    # ---- its processes
+
+    def start(self):
+        for name in ("mon", "mgr", "run", "log"):
+            (self.folder / name).mkdir(parents=True)
+        self.start_monitor()
+        self.start_manager()
+        names = range(self.osds)
+        made = {it: str(uuid.uuid4()) for it in names}
+        for it in names:
+            (self.folder / f"osd.{it}").mkdir()
+            self.told("osd new", uuid=made[it], id=it)
+            key = self.told("auth get-or-create", entity=f"osd.{it}", caps=["mon", "allow profile osd", "mgr", "allow profile osd", "osd", "allow *"])
+            (self.folder / f"osd.{it}" / "keyring").write_text(key)
+        with concurrent.futures.ThreadPoolExecutor(JOBS) as jobs:
+            list(jobs.map(lambda it: run("ceph-osd", "-c", self.conf, "-i", it, "--mkfs", "--osd-uuid", made[it], "--no-mon-config"), names))
+        for it in names:
+            self.start_osd(it)
+        self.await_up(names)
+
+    def start_monitor(self):
+        fsid, ring, ports = str(uuid.uuid4()), self.folder / "keyring", free_ports(2)
+        self.conf.write_text(CONF.format(fsid=fsid, folder=self.folder, ports=ports, bytes_of_osd=BYTES_OF_OSD))
+        run("ceph-authtool", "--create-keyring", ring, "--gen-key", "-n", "mon.", "--cap", "mon", "allow *")
+        run("ceph-authtool", ring, "--gen-key", "-n", "client.admin", *(word for of in ("mon", "osd", "mgr") for word in ("--cap", of, "allow *")))
+        monmap = self.folder / "monmap"
+        run("monmaptool", "--create", "--addv", "a", f"[v2:127.0.0.1:{ports[0]},v1:127.0.0.1:{ports[1]}]", "--fsid", fsid, monmap)
+        run("ceph-mon", "-c", self.conf, "--mkfs", "-i", "a", "--monmap", monmap, "--keyring", ring)
+        self.spawn("mon.a", "ceph-mon", "-i", "a")
+        self.client = subprocess.Popen(["/usr/bin/python3", str(pathlib.Path(__file__).with_name("client.py")), str(self.conf)],
+                                       stdin=subprocess.PIPE, stdout=subprocess.PIPE, text=True)
+        self.told("osd stat")
+
+    def start_manager(self):
+        for module in ("devicehealth/enable_monitoring", "balancer/active"):  # the balancer makes upmap items
+            self.told("config set", who="mgr", name=f"mgr/{module}", value="false", force=True)
+        key = self.told("auth get-or-create", entity="mgr.x", caps=["mon", "allow profile mgr", "osd", "allow *", "mds", "allow *"])
+        (self.folder / "mgr" / "keyring").write_text(key)
+        self.spawn("mgr.x", "ceph-mgr", "-i", "x")
+        awaited(lambda: self.asked("mgr dump")["available"], "the manager", 60)
+
+    def start_osd(self, number):
+        self.spawn(f"osd.{number}", "ceph-osd", "-i", number)
+
+    def spawn(self, name, program, *words):
+        """Starts a process of the cluster, which gets SIGTERM when this one ends in any way."""
+        said = (self.folder / "log" / f"{name}.out").open("ab")
+        self.processes[name] = subprocess.Popen(["setpriv", "--pdeathsig", "TERM", program, "-f", "-c", str(self.conf), *map(str, words)],
+                                                stdin=subprocess.DEVNULL, stdout=said, stderr=said, cwd=self.folder)
+        said.close()
+
+    def end(self, names):
+        """Ends these processes of its own, and waits for them."""
+        ended = [self.processes.pop(it) for it in names if it in self.processes]
+        for it in ended:
+            it.terminate()
+        for it in ended:
+            try:
+                it.wait(20)
+            except subprocess.TimeoutExpired:
+                it.kill()
+                it.wait()
+
+    def stop(self):
+        if self.client:
+            self.client.stdin.close()
+            self.client.kill()
+            self.client.wait()
+        self.end([it for it in self.processes if it != "mon.a"])
+        self.end(["mon.a"])
+
+    # ---- commands
+
+    def answer(self, request):
+        try:
+            self.client.stdin.write(json.dumps(request) + "\n")
+            self.client.stdin.flush()
+            line = self.client.stdout.readline()
+        except OSError as error:
+            raise Failed(f"the client: {error}") from None
+        if not line:
+            raise Failed("the client of the cluster ended")
+        return json.loads(line)
+
+    def told(self, prefix, to="mon", given=b"", **words):
+        """What a command answers, as text. Failed says why it was refused."""
+        said = self.answer({"to": to, "command": {"prefix": prefix, **words}, "input": base64.b64encode(given).decode()})
+        if said["status"] < 0:
+            raise Failed(f"ceph {prefix} {words}: {said['said']} ({said['status']})")
+        return said["out"]
+
+    def asked(self, prefix, to="mon", **words):
+        """The same of a command that answers JSON."""
+        return json.loads(self.told(prefix, to, format="json", **words))
+
+    def write(self, pool, objects):
+        """Writes objects: names with their bytes."""
+        said = self.answer({"write": pool, "objects": objects})
+        if said["status"] < 0:
+            raise Failed(f"the objects of {pool}: {said['said']}")
+
+    def stored(self, number):
+        """How many objects of each pool the store of an OSD holds, which has ended."""
+        out = run("ceph-objectstore-tool", "--no-mon-config", "--type", "memstore", "--data-path", self.folder / f"osd.{number}", "--op", "list")
+        found = collections.Counter()
+        for line in out.splitlines():
+            _, it = json.loads(line)
+            if it["oid"] and it["pool"] >= 0:
+                found[it["pool"]] += 1
+        return dict(found)
+
+    # ---- what it is doing
+
+    def await_up(self, names):
+        """Waits until exactly these OSDs are up."""
+        awaited(lambda: {it["osd"] for it in self.asked("osd dump")["osds"] if it["up"]} == set(names), f"OSDs {names}", 120)
+
+    def groups(self):
+        """Each group of each pool, (pool, group), as its OSDs say: up and acting lists, in which
+        None is an empty place, the primary of up, the states, and its objects and their bytes."""
+        found = {}
+        for it in self.asked("pg dump", "mgr", dumpcontents=["pgs"])["pg_stats"]:
+            pool, group = it["pgid"].split(".")
+            found[int(pool), int(group, 16)] = {
+                "up": listed(it["up"]), "primary": none_or(it["up_primary"]), "acting": listed(it["acting"]),
+                "states": frozenset(it["state"].split("+")), "objects": it["stat_sum"]["num_objects"], "bytes": it["stat_sum"]["num_bytes"],
+            }  # fmt: skip
+        return found
+
+    def mapped(self, groups):
+        """Up and acting lists of these groups as the monitor computes them."""
+        found = {}
+        for pool, group in groups:
+            it = self.asked("pg map", pgid=f"{pool}.{group:x}")
+            found[pool, group] = (listed(it["up"]), listed(it["acting"]))
+        return found
+
+    def settled(self, seconds=120):
+        """The groups once none is at work, and each OSD has the lists of the newest map, twice one
+        after the other. Failed says which are at work."""
+        wanted = {(it["pool"], group) for it in self.asked("osd dump")["pools"] for group in range(it["pg_num"])}
+        end, last = time.monotonic() + seconds, None
+        while True:
+            groups = self.groups()
+            mapped = self.mapped(wanted)
+            why = {key: why_at_work(groups.get(key), *mapped[key]) for key in sorted(wanted)}
+            why = {key: it for key, it in why.items() if it}
+            if not why and set(groups) == wanted and groups == last:
+                return groups
+            if time.monotonic() > end:
+                raise Failed(f"{len(why)} groups didn't settle in {seconds} s: {dict(list(why.items())[:5])}")
+            last = groups if not why else None
+            time.sleep(PERIOD)
+
+
+def why_at_work(group, up, acting):
+    """What a group still has to do before it is at rest on these lists, or None."""
+    if group is None:
+        return "unknown"
+    states = group["states"]
+    if not any(it is not None for it in acting):
+        return None if "stale" in states else "not stale yet"
+    if (group["up"], group["acting"]) != (up, acting):
+        return f"its OSDs have {group['up']} {group['acting']}, the map has {up} {acting}"
+    if states & AT_WORK or not states & {"clean", "undersized"} or "undersized" in states and up != acting:
+        return "+".join(sorted(states))
+    return None
+
+
+def listed(devices):
+    return [none_or(it) for it in devices]
+
+
+def none_or(device):
+    """A device, or None for what Ceph writes as 2147483647 or -1."""
+    return None if device in (NONE, -1) else device

@@ -1,0 +1,178 @@
+"""What is written: forms, widths, colours, progress, the help, and the fetching of files."""
+import csv
+import io
+import os
+import pty
+import re
+import select
+import subprocess
+import sys
+
+from made import crush_dump, osd_dump, pool, write
+from running import PLAN, SECONDS, equals, wants
+
+COMMANDS = ("fetch", "check", "usage", "compare", "drain", "fail", "upmap", "locate")
+
+
+def usual(folder):
+    (folder / "list").write_text("ceph osd pg-upmap-items 1.9 0 3\n")
+    return write(folder, crush_dump(), osd_dump(pools=[pool(1, "photos"), pool(2, "mail", size=2, min_size=1)]))
+
+
+def words_of(folder):
+    """A call of each command that computes."""
+    return (
+        ("check", folder), ("usage", folder), ("usage", folder, "--by", "host"), ("usage", folder, "--groups"), ("compare", folder, folder / "crush.json"), ("compare", folder, folder / "crush.json", "--groups"), ("drain", folder, "host0"),
+        ("drain", folder, "host0", "--groups"), ("fail", folder, "host0"), ("fail", folder, "host0", "--groups"), ("fail", folder, "--each", "host"), ("upmap", folder, folder / "list"), ("locate", folder, "photos", "a", "b"),
+    )  # fmt: skip
+
+
+def forms(runner, folder):
+    """Each command as text, CSV and JSON: the same status, CSV with as many fields in each row, and
+    no colours on a pipe."""
+    usual(folder)
+    for words in words_of(folder):
+        said = runner.said(*words)
+        code, text, err = runner.run(*words)
+        equals(f"{words}: status and standard error", (code, err), (said["status"], ""))
+        wants("\033" not in text and text.endswith("\n"), f"{words} has colours, or no end: {text[:80]!r}")
+        wants(text.startswith(said["answer"]), f"{words} doesn't begin with its answer: {text[:80]!r}")
+        code, rows, err = runner.run(*words, "--csv")
+        equals(f"{words}: status of the CSV", (code, err), (said["status"], ""))
+        read = list(csv.reader(io.StringIO(rows)))
+        wants(len(read) > 1 or words[0] == "compare", f"{words}: a CSV without rows")
+        equals(f"{words}: fields of each row", {len(it) for it in read}, {len(read[0])})
+        for key in ("crushplan", "command", "status", "answer", "map", "warnings", "uncomputed", "notes"):
+            wants(key in said, f"{words}: no field {key}")
+
+
+def rows(runner, folder):
+    """The rows of a CSV are those of the JSON."""
+    usual(folder)
+    said, read = runner.said("usage", folder), list(csv.DictReader(io.StringIO(runner.run("usage", folder, "--csv")[1])))
+    equals("usage", [(it["name"], int(it["copies"]), float(it["share"])) for it in read], [(it["name"], it["copies"], it["share"]) for it in said["rows"]])
+    said, read = runner.said("drain", folder, "host0", "--groups"), list(csv.DictReader(io.StringIO(runner.run("drain", folder, "host0", "--groups", "--csv")[1])))
+    equals("groups", [(it["id"], it["before"], it["after"]) for it in read], [(it["id"], " ".join(map(str, it["before"])), " ".join(map(str, it["after"]))) for it in said["groups"]])
+
+
+def on_terminal(words, environment, columns=80):
+    """What a program writes on a terminal of so many columns."""
+    leader, follower = pty.openpty()
+    import fcntl
+    import struct
+    import termios
+
+    fcntl.ioctl(follower, termios.TIOCSWINSZ, struct.pack("HHHH", 40, columns, 0, 0))
+    ran = subprocess.Popen([sys.executable, str(PLAN), *map(str, words)], stdin=subprocess.DEVNULL, stdout=follower, stderr=follower, env=environment)
+    os.close(follower)
+    found = b""
+    while select.select([leader], [], [], SECONDS)[0]:
+        try:
+            part = os.read(leader, 65536)
+        except OSError:
+            break
+        if not part:
+            break
+        found += part
+    ran.wait(SECONDS)
+    os.close(leader)
+    return found.decode()
+
+
+def terminals(runner, folder):
+    """On a terminal there are colours, but not with NO_COLOR; tables are as wide as the terminal;
+    and a failure of each host in turn shows how far it is."""
+    usual(folder)
+    environment = {name: value for name, value in runner.environment.items() if name not in ("NO_COLOR", "COLUMNS", "LINES")}
+    environment["TERM"] = "xterm"
+    said = on_terminal(("drain", folder, "host0"), environment)
+    wants(said.startswith("\033[32myes:"), f"no colour: {said[:60]!r}")
+    said = on_terminal(("drain", folder, "host0"), {**environment, "NO_COLOR": "1"})
+    wants(said.startswith("yes:") and "\033" not in said, f"a colour: {said[:60]!r}")
+    narrow = on_terminal(("usage", folder), {**environment, "NO_COLOR": "1"}, 50)
+    wants(max(len(it) for it in narrow.splitlines() if it.startswith("  ")) <= 50, "a table is wider than the terminal")
+    said = on_terminal(("fail", folder, "--each", "host"), environment)
+    wants("1 of 4 hosts" in said and "s left" in said, f"no progress: {said[:200]!r}")
+    _, _, err = runner.run("fail", folder, "--each", "host")
+    equals("progress on a pipe", err, "")
+
+
+def helps(runner, folder):
+    """Each command has a help with an example, whose options are there, and its exit status."""
+    code, out, _ = runner.run("--help")
+    equals("--help", code, 0)
+    for name in COMMANDS:
+        wants(re.search(rf"^    {name} ", out, re.M), f"--help has no {name}")
+        code, text, _ = runner.run(name, "--help")
+        wants(code == 0 and "exit status: " in text, f"{name} --help has no exit status")
+        example = re.search(r"^example: crushplan (.*)$", text, re.M)
+        wants(example and example[1].split()[0] == name, f"{name} --help has no example")
+        for option in re.findall(r"--[a-z-]+", example[1]):
+            wants(option in text.split("example: ")[0] or option == "--cluster", f"{name}: the example has {option}, which its help hasn't")
+
+
+def examples(runner, folder):
+    """The examples of the help, on a folder july, do what the help says."""
+    usual(folder / "july")
+    crush = crush_dump()
+    crush["buckets"][1]["alg"] = "tree"
+    write(folder / "july", crush)
+    (folder / "july" / "new.txt").write_text("device 0 osd.0\n")
+    text = runner.run("--help")[1]
+    found = re.findall(r"^  crushplan (\S.*?)(?:   .*)?$", text, re.M)
+    wants(len(found) >= 4, f"too few examples: {found}")
+    for it in found:
+        if it.startswith("fetch"):
+            continue
+        code, out, err = runner.run(*it.replace("july", str(folder / "july")).replace("--each rack", "--each host").split())
+        wants(code in (0, 1) and out and not err, f"{it}: {code} {err}")
+
+
+def completion(runner, folder):
+    """The completion of bash knows the commands and their options."""
+    script = PLAN.parent / "crushplan.bash"
+    for name in COMMANDS:
+        asked = f"source {script}; COMP_WORDS=(crushplan {name} --); COMP_CWORD=2; _crushplan; printf '%s\\n' \"${{COMPREPLY[@]}}\""
+        said = subprocess.run(["bash", "-c", asked], stdout=subprocess.PIPE, check=True).stdout.decode().split()
+        wanted = {it for it in re.findall(r"--[a-z-]+", runner.run(name, "--help")[1].split("example: ")[0].split("options:")[1]) if it not in ("--crushtool",)}
+        equals(f"options of {name}", {*said} | {"--help"}, wanted | {"--help"})
+    said = subprocess.run(["bash", "-c", f"source {script}; COMP_WORDS=(crushplan ''); COMP_CWORD=1; _crushplan; printf '%s\\n' \"${{COMPREPLY[@]}}\""], stdout=subprocess.PIPE, check=True).stdout.decode().split()
+    equals("commands", {it for it in said if not it.startswith("-")}, set(COMMANDS))
+
+
+FAKE = """#!/bin/sh
+case "$*" in
+"osd dump -f json") cat "{folder}/osd.json" ;;
+"osd crush dump -f json") cat "{folder}/crush.json" ;;
+"df detail -f json") echo '{{"pools":[]}}' ;;
+"osd df -f json") {osd_df} ;;
+"osd getcrushmap -o "*) echo map >"$4" ;;
+*) echo "unknown: $*" >&2; exit 22 ;;
+esac
+"""
+
+
+def fetched(runner, folder):
+    """The files of a cluster, by its own commands; what fails is said, and whatever is needed ends
+    the program."""
+    usual(folder)
+    ceph, crushtool = folder / "ceph", folder / "crushtool"
+    ceph.write_text(FAKE.format(folder=folder, osd_df="echo '{\"nodes\":[]}'"))
+    crushtool.write_text('#!/bin/sh\ncp "$2" "$4"\n')
+    for it in (ceph, crushtool):
+        it.chmod(0o755)
+    code, out, err = runner.run("fetch", folder / "new", "--ceph", ceph, "--crushtool", crushtool)
+    equals("status", (code, err), (0, ""))
+    equals("files", sorted(os.listdir(folder / "new")), ["crush.json", "df.json", "map.txt", "osd-df.json", "osd.json"])
+    equals("osd.json", (folder / "new" / "osd.json").read_bytes(), (folder / "osd.json").read_bytes())
+    equals("the folder is read", runner.said("check", folder / "new")["status"], 0)
+    ceph.write_text(FAKE.format(folder=folder, osd_df="echo no manager >&2; exit 1"))
+    code, out, _ = runner.run("fetch", folder / "other", "--ceph", ceph, "--crushtool", folder / "none")
+    wants(code == 0 and "osd-df.json isn't written" in out and "no manager" in out and "map.txt isn't written" in out, out)
+    ceph.write_text("#!/bin/sh\necho no monitor >&2; exit 1\n")
+    runner.refused("fetch", folder / "third", "--ceph", ceph, has=("osd dump -f json failed: no monitor",))
+    runner.refused("fetch", folder / "third", "--ceph", folder / "nowhere", has="isn't there")
+
+
+def cases():
+    return [(it.__name__, it) for it in (forms, rows, terminals, helps, examples, completion, fetched)]

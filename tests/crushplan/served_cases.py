@@ -1,0 +1,78 @@
+"""crushplan asks a server: the same answers, and no tenant is left, also where it is
+interrupted."""
+import os
+import signal
+import socket
+import sqlite3
+import subprocess
+import sys
+import time
+
+from made import crush_dump, osd_dump, pool, write
+from running import PLAN, SECONDS, equals, wants
+
+
+class Served:
+    """A server over a file in a folder."""
+
+    def __init__(self, runner, folder):
+        with socket.socket() as it:
+            it.bind(("127.0.0.1", 0))
+            self.port = it.getsockname()[1]
+        self.file, self.url = folder / "tenants.db", f"http://127.0.0.1:{self.port}"
+        self.run = subprocess.Popen([runner.program, "serve", "--db", self.file, "--port", str(self.port)], stdout=subprocess.PIPE)
+        wants(self.run.stdout.readline().startswith(b"listening"), "the server doesn't listen")
+
+    def __enter__(self):
+        return self
+
+    def __exit__(self, *_):
+        self.run.terminate()
+        self.run.wait(SECONDS)
+        self.run.stdout.close()
+
+    def tenants(self):
+        """How many tenants the file has."""
+        with sqlite3.connect(f"file:{self.file}?mode=ro", uri=True) as base:
+            return base.execute("select count(*) from tenants").fetchone()[0]
+
+
+def answers(runner, folder):
+    """Each command has the same answer by a server as by the program, and leaves no tenant."""
+    write(folder, crush_dump(), osd_dump(pools=[pool(1, "photos", pg_num=32), pool(2, "mail", size=2, pg_num=8)], down=(7,)))
+    (folder / "list").write_text("ceph osd pg-upmap-items 1.9 0 3\n")
+    with Served(runner, folder) as served:
+        for words in (("drain", "host1", "--groups"), ("fail", "host1", "--groups"), ("fail", "--each", "host"), ("usage", "--groups"), ("upmap", folder / "list"), ("locate", "photos", "a", "b"), ("compare", folder / "crush.json"), ("check",)):
+            by_server = runner.said(words[0], folder, *words[1:], "--service", served.url)
+            equals(f"{words}", by_server, runner.said(words[0], folder, *words[1:]))
+            equals(f"{words}: tenants", served.tenants(), 0)
+
+
+def refused(runner, folder):
+    """Where the input is bad no tenant is left, and a server that isn't crushcalc is named."""
+    write(folder, crush_dump(), osd_dump())
+    with Served(runner, folder) as served:
+        runner.refused("drain", folder, "hots1", "--service", served.url, has="hots1")
+        runner.refused("check", folder, "--service", f"{served.url}/other", has="doesn't know a request")
+        equals("tenants", served.tenants(), 0)
+
+
+def interrupted(runner, folder):
+    """Ctrl-C and a termination drop the tenant."""
+    write(folder, crush_dump(hosts=40, devices=4), osd_dump(160, [pool(1, "photos", pg_num=4096)]))
+    with Served(runner, folder) as served:
+        for sent in (signal.SIGINT, signal.SIGTERM):
+            words = [sys.executable, str(PLAN), "fail", str(folder), "--each", "host", "--service", served.url]
+            ran = subprocess.Popen(words, stdout=subprocess.PIPE, stderr=subprocess.PIPE, env=runner.environment)
+            end = time.monotonic() + SECONDS
+            while served.tenants() == 0 and time.monotonic() < end and ran.poll() is None:
+                time.sleep(0.01)
+            os.kill(ran.pid, sent)
+            out, err = ran.communicate(timeout=SECONDS)
+            equals(f"{sent.name}: status", ran.returncode, 130)
+            equals(f"{sent.name}: what it says", (out, err), (b"", b"crushplan: interrupted\n"))
+            equals(f"{sent.name}: tenants", served.tenants(), 0)
+
+
+def cases():
+    return [(it.__name__, it) for it in (answers, refused, interrupted)]

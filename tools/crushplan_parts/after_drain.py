@@ -1,0 +1,75 @@
+"""What removing the drained devices from the map would move again, and what it moves where their
+CRUSH weight becomes 0 first, in the place of the drain."""
+from .edits import purged, weighed
+from .placing import Note
+from .stages import Stages
+from .summary import total, whole, written_anew
+
+
+class Steps:
+    """Copies that a step writes, over all pools."""
+
+    def __init__(self, changes):
+        """Takes of each change of a pool its PoolChange, and the moved groups: up before and
+        after."""
+        self.moved = sum(len(moves) for _, moves in changes)
+        self.by_pool = [(change, sum(written_anew(change.pool, old, new) for old, new in moves.values())) for change, moves in changes]
+        self.copies = sum(it for _, it in self.by_pool)
+        self.bytes = total(change.bytes_of(copies) for change, copies in self.by_pool)
+
+    def said(self):
+        return {"moved": self.moved, "copies": self.copies, "bytes": whole(self.bytes)}
+
+
+class AfterDrain:
+    """`purge` is what removing the devices moves once they are drained; `weight_first` what their
+    CRUSH weight of 0 moves in the place of the drain, and `then_purge` what removing them moves
+    then. `without` are the pools that aren't computed in it."""
+
+    def __init__(self, plan, devices):
+        self.plan = plan
+        by_class = {it.id for it in plan.pools.values() if any(plan.map.buckets[item].shadow for item in plan.map.rules[it.rule].takes() if item < 0)}
+        # Ceph makes the trees of classes anew, which isn't computed here
+        self.without = [it for it in plan.pools.values() if it.id in by_class and set(devices) & plan.reach(it)]
+        above = {it for device in devices for it in [device, *plan.tree.ancestors(device)]}
+        self.pools = [it.id for it in plan.pools.values() if it.id not in by_class and above & self.below(it)]
+        self.gone, self.weightless = purged(plan.map, devices), weighed(plan.map, devices)
+        self.texts = [plan.written(it).text() for it in (self.gone, self.weightless)]
+
+    def below(self, pool):
+        """Returns the items that a pool's rule takes, and all buckets below them."""
+        takes = self.plan.map.rules[pool.rule].takes()
+        return {*takes, *(it for item in takes for it in self.plan.map.buckets_below(item))}
+
+    def ask_purge(self, drained, pairs):
+        """Asks what removing the devices moves once they are drained, with the upmap items that
+        are left by then."""
+        if not self.pools:
+            return {}
+        return Stages(self.plan, self.pools, {**self.plan.pairs, **pairs}, drained).set_map(self.gone, self.texts[0])
+
+    def ask_weight_first(self):
+        """Asks what the CRUSH weight of 0 moves, and then the removal."""
+        if not self.pools:
+            return {}, {}
+        stages = Stages(self.plan, self.pools)
+        return stages.set_map(self.weightless, self.texts[1]), stages.set_map(self.gone, self.texts[0])
+
+    def take(self, changes, purge, first, second):
+        """Takes what was answered. `changes` are those of the drain."""
+        changes = [it for it in changes if it.pool.id in self.pools]
+        self.purge, self.weight_first, self.then_purge = (self.steps(changes, it) for it in (purge, first, second))
+
+    def steps(self, changes, moves):
+        skipped = self.plan.whole_lists
+        return Steps([(it, {group: both for group, both in moves[it.pool.id].items() if group not in skipped.get(it.pool.id, ())}) for it in changes])
+
+    def note(self):
+        """Returns what is said of the pools that are left out, or None."""
+        if not self.without:
+            return None
+        return Note("class", f"what a purge moves isn't computed in pools whose rules take a class: {', '.join(it.name for it in self.without)}", pools=[it.id for it in self.without], open_=False)
+
+    def compared(self, drained_copies):
+        """Returns the copies in all: drained and then removed, and by the CRUSH weight first."""
+        return drained_copies + self.purge.copies, self.weight_first.copies + self.then_purge.copies

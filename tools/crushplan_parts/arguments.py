@@ -1,0 +1,140 @@
+"""The program's arguments and its help."""
+import argparse
+
+VERSION = "0.1.0"
+ABOUT = """Says from a cluster's own dumps what a drain, a failure or a changed map does, before it is done.
+
+DIR is a folder with files that the cluster writes:
+
+  crush.json    ceph osd crush dump -f json     the map with exact weights; taken before map.txt
+  map.txt       crushtool -d                    the map, with weights rounded to three decimals
+  osd.json      ceph osd dump -f json           pools, reweights, up and down, upmap items, full ratios;
+                                                without it each rule is a pool (--size, --pg-num)
+  df.json, osd-df.json                          ceph df detail -f json, ceph osd df -f json: bytes; optional
+
+'crushplan fetch DIR' writes them where 'ceph' is there. Nothing here changes a cluster."""
+END = """examples:
+  crushplan fetch july                        the files of the cluster, into the folder july
+  crushplan check july                        what of it can be computed, and what can't
+  crushplan drain july host3                  may host3 be drained? The summary, then usage before and after
+  crushplan fail july --each rack             each rack in turn, the worst first
+
+Exit status of drain and fail: 0 yes, every copy has room; 1 no; 2 it couldn't be computed.
+'crushplan COMMAND --help' has an example of each command. docs/CRUSHPLAN.md has the fields of --json."""
+COMMANDS = {
+    "fetch": ("writes the files of a cluster into DIR, by commands that only read it", "crushplan fetch july --ceph 'ceph --cluster backup'"),
+    "check": ("says what can be computed, what can't, and where the map has holes", "crushplan check july --mend mended.txt"),
+    "usage": ("shows how much of all pools or some lies where, beside what the weights ask for", "crushplan usage july --pool photos --by host"),
+    "compare": ("shows what moves where the map becomes that of NEW", "crushplan compare july new.txt --groups"),
+    "drain": ("says whether hosts, racks or devices can be drained, and what that moves", "crushplan drain july host3 osd.17"),
+    "fail": ("says what happens while hosts, racks or devices are down, and once they are out", "crushplan fail july --each host"),
+    "upmap": ("shows what a list of upmap commands does, before it is sent", "crushplan upmap july commands.sh"),
+    "locate": ("shows where objects of a pool lie", "crushplan locate july photos cat.jpg dog.jpg"),
+}
+STATUSES = {
+    "fetch": "0 where the map and the pools were written, 2 where they weren't.",
+    "check": "0 where every pool can be computed, 1 where some can, 2 where none can.",
+    "usage": "0; 2 where it couldn't be computed.",
+    "compare": "0; 1 where copies have no room afterwards; 2 where not all could be computed.",
+    "drain": "0 yes, every copy has room; 1 no; 2 where not all could be computed.",
+    "fail": "0 yes, no I/O stops and every copy has room; 1 no; 2 where not all could be computed.",
+    "upmap": "0; 1 where Ceph would remove some of the items again; 2 where not all could be computed.",
+    "locate": "0; 2 where it couldn't be computed.",
+}
+MORE = {
+    "check": "A removed device leaves a hole in a tree bucket. crushcalc refuses such a map (code M6), and crushplan fills each hole by a device of weight 0, with which every group lies as in Ceph.",
+    "usage": "The share is what weights and reweights give an item of the copies that there are; 'bytes' are its part of the pools' bytes.",
+    "compare": "NEW is a text as 'crushtool -d' writes it, or a dump. The least is what the change of weights asks for, however a map places.",
+    "drain": "The reweights of the devices become 0, as by 'ceph osd out'. The groups that can move are the impact lists of crushcalc: no other group moves, which is proved. A copy has no room where no device is found for it, or where that device would be past the backfill-full ratio.",
+    "fail": "First what holds while the devices are down: groups with fewer copies than the pool's min_size, whose I/O stops. Then what their going out moves.",
+    "upmap": "FILE has lines 'ceph osd pg-upmap-items GROUP FROM TO ..' or 'ceph osd rm-pg-upmap-items GROUP', as 'osdmaptool --upmap FILE' writes them; '-' is standard input.",
+}
+
+
+def positive(text):
+    if not text.isdigit() or not 0 < int(text) <= 65536:
+        raise argparse.ArgumentTypeError(f"{text!r} isn't a whole number from 1 to 65536")
+    return int(text)
+
+
+def common(words):
+    """Adds the options of all commands that compute."""
+    form = words.add_mutually_exclusive_group()
+    form.add_argument("--json", dest="form", action="store_const", const="json", default="text", help="writes one object of JSON, with all of it")
+    form.add_argument("--csv", dest="form", action="store_const", const="csv", help="writes the main table as CSV")
+    words.add_argument("--service", metavar="URL", help="asks a server instead of the program: a tenant of its own, which is dropped at the end")
+    words.add_argument("--program", metavar="FILE", help="the program crushcalc (otherwise the one beside crushplan, or on PATH)")
+    described = words.add_argument_group("where there is no osd.json")
+    described.add_argument("--size", type=positive, metavar="N", help="the size of each rule's pool (3)")
+    described.add_argument("--pg-num", type=positive, metavar="N", help="its number of groups (128)")
+    described.add_argument("--min-size", type=positive, metavar="N", help="its min_size")
+    words.add_argument("--allow-unplaced", action="store_true", help="takes an osd.json with devices, up and in, that the map lacks")
+
+
+def parser():
+    """Returns the parser of all arguments."""
+    raw = argparse.RawDescriptionHelpFormatter
+    whole = argparse.ArgumentParser(prog="crushplan", description=ABOUT, epilog=END, formatter_class=raw, allow_abbrev=False)
+    whole.add_argument("--version", action="store_true", help="says its version, and that of crushcalc")
+    commands = whole.add_subparsers(dest="command", metavar="COMMAND", title="commands")
+    for name, (what, example) in COMMANDS.items():
+        more = f"\n\n{MORE[name]}" if name in MORE else ""
+        one = commands.add_parser(name, help=what, description=f"{what[0].upper()}{what[1:]}.{more}", epilog=f"example: {example}\n\nexit status: {STATUSES[name]}", allow_abbrev=False, formatter_class=Wrapped)
+        one.add_argument("folder", metavar="DIR", help="the folder of a cluster's dumps")
+        ADD[name](one)
+        if name != "fetch":
+            common(one)
+    return whole
+
+
+class Wrapped(argparse.RawDescriptionHelpFormatter):
+    """Breaks the lines of a description, and keeps its paragraphs."""
+
+    def _fill_text(self, text, width, indent):
+        return "\n\n".join(argparse.HelpFormatter._fill_text(self, it, width, indent) for it in text.split("\n\n"))
+
+
+def add_fetch(words):
+    words.add_argument("--ceph", default="ceph", metavar="COMMAND", help="the command, with its options")
+    words.add_argument("--crushtool", default="crushtool", metavar="COMMAND", help=argparse.SUPPRESS)
+    words.set_defaults(form="text")
+
+
+def add_check(words):
+    words.add_argument("--mend", metavar="FILE", help="writes the map's text with its holes filled")
+
+
+def add_usage(words):
+    words.add_argument("--pool", action="append", default=[], metavar="P", help="a pool, by its name or id; may stand several times")
+    words.add_argument("--by", metavar="TYPE", help="by host, rack or another type (by device)")
+    words.add_argument("--groups", action="store_true", help="lists where each group lies")
+
+
+def add_compare(words):
+    words.add_argument("new", metavar="NEW", help="the changed map")
+    words.add_argument("--groups", action="store_true", help="lists the groups that move")
+
+
+def add_drain(words):
+    words.add_argument("names", nargs="+", metavar="NAME", help="a host, a rack or a device")
+    words.add_argument("--by", metavar="TYPE", help="usage by host, rack or another type")
+    words.add_argument("--groups", action="store_true", help="lists the groups that move")
+
+
+def add_fail(words):
+    words.add_argument("names", nargs="*", metavar="NAME", help="a host, a rack or a device")
+    words.add_argument("--each", metavar="TYPE", help="every host, rack or osd in turn: one line each, the worst first")
+    words.add_argument("--by", metavar="TYPE", help="usage by host, rack or another type")
+    words.add_argument("--groups", action="store_true", help="lists the groups that are short, and those that move")
+
+
+def add_upmap(words):
+    words.add_argument("file", metavar="FILE", help="the list of commands")
+
+
+def add_locate(words):
+    words.add_argument("pool_name", metavar="POOL", help="the pool, by its name or id")
+    words.add_argument("objects", nargs="+", metavar="OBJECT", help="the name of an object")
+
+
+ADD = {"fetch": add_fetch, "check": add_check, "usage": add_usage, "compare": add_compare, "drain": add_drain, "fail": add_fail, "upmap": add_upmap, "locate": add_locate}

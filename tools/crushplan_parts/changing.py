@@ -1,0 +1,83 @@
+"""Changes of device states on paper: the lists before and after, of the groups alone that can
+move."""
+from .summary import Moved, PoolChange, copies_in
+
+
+class Start:
+    """What is known of all pools before anything changes: usage, and which groups have a device in
+    their impact list. Where a pool lacks copies already, its lists too."""
+
+    def __init__(self, plan, devices):
+        self.plan, self.devices = plan, devices
+        self.touched = {it.id for it in plan.touched(devices)}
+        pools = list(plan.pools.values())
+        usages, impacts = plan.run(), plan.run(self.touched)
+        asked = {it.id: usages.usage(it.id) for it in pools}
+        # one request a device, so that each has its own list
+        lists = {(pool, device): impacts.impact(pool, [device]) for pool in sorted(self.touched) for device in devices}
+        plan.answer(*([usages, impacts] if lists else [usages]))
+        self.usage = {pool: usages.counted(it) for pool, it in asked.items()}
+        self.impact = {key: impacts.can_move(it) for key, it in lists.items()} if lists else {}
+        self.all_lists, self.before = {}, None
+        self.ask_short_pools()
+
+    def ask_short_pools(self):
+        """Asks all lists of the pools that lack copies already, so that each short group is known."""
+        short = [it for it in self.plan.pools.values() if self.usage[it.id].total() < it.size * it.pg_num or self.usage[it.id].doubled]
+        if not short:
+            return
+        run = self.plan.run([it.id for it in short])
+        asked = {it.id: run.lists(it.id, range(it.pg_num)) for it in short}
+        self.plan.answer(run)
+        self.all_lists = {pool: run.placements(it) for pool, it in asked.items()}
+
+    def groups(self, pool, devices):
+        """Returns the groups that can move where reweights of these devices are lowered."""
+        found = set().union(*(self.impact.get((pool, it), set()) for it in devices)) if devices else set()
+        return found - self.plan.whole_lists.get(pool, set())
+
+    def groups_with(self, pool, devices):
+        """Returns the groups whose up list may have one of the devices: those of the impact lists,
+        and all of a pool whose rule takes one by name, which no impact list has."""
+        if self.plan.taken(self.plan.pools[pool]) & set(devices):
+            return set(range(self.plan.pools[pool].pg_num)) - self.plan.whole_lists.get(pool, set())
+        return self.groups(pool, devices)
+
+    def wanted(self, devices):
+        """Returns the groups that are to be asked for devices that change, by pool."""
+        return {pool: self.groups_with(pool, devices) for pool in sorted(self.touched)}
+
+    def lists_now(self):
+        """Asks where all groups lie now that stand in some impact list, and keeps it."""
+        run = self.plan.run(self.touched)
+        asked = {pool: run.lists(pool, groups) for pool, groups in self.wanted(self.devices).items() if groups}
+        self.plan.answer(run)
+        self.before = {pool: run.placements(it) for pool, it in asked.items()}
+
+    def unknown_groups(self, devices):
+        """Returns the groups with whole upmap lists that may have to do with the devices."""
+        found = []
+        for pool, groups in self.plan.whole_lists.items():
+            touched = set().union(*(self.impact.get((pool, it), set()) for it in devices))
+            found += [(pool, it) for it in sorted(groups) if it in touched or self.has_listed(pool, it, devices)]
+        return found
+
+    def has_listed(self, pool, group, devices):
+        return bool(self.plan.cluster.lists.get(pool, {}).get(group, set()) & set(devices))
+
+
+def pool_changes(plan, start, devices, before, after):
+    """Returns what changes in each pool, from where groups lie before and after."""
+    found = []
+    for id_, pool in plan.pools.items():
+        old, new = before.get(id_, {}), after.get(id_, {})
+        moves = [Moved(pool, group, old[group], new[group]) for group in sorted(old) if old[group].up != new[group].up]
+        found.append(PoolChange(pool, start.usage[id_], start.groups(id_, devices), moves, start.all_lists.get(id_)))
+    return found
+
+
+def short_now(pool, lists, all_lists):
+    """Returns the groups of a pool that lack copies by some lists, over those of all groups where
+    these are known: copies by group."""
+    found = {group: copies_in(it.up) for group, it in {**(all_lists or {}), **lists}.items()}
+    return {group: copies for group, copies in found.items() if copies < pool.size}

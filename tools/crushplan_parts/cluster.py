@@ -1,0 +1,243 @@
+"""A cluster, from the folder of its dumps: the map, pools, states of devices, upmap items, bytes."""
+import dataclasses
+from decimal import Decimal
+import pathlib
+import re
+import typing
+
+from .crush_map import KINDS, MOST_DEVICES, ONE, mark_holes
+from .faults import Fault, some
+from .fields import opened
+from .read_dump import read_dump
+from .read_text import read_text
+
+MAP_DUMP, MAP_TEXT, OSD_DUMP, DF, OSD_DF = "crush.json", "map.txt", "osd.json", "df.json", "osd-df.json"
+HASHPSPOOL, RJENKINS = 1, 2
+GROUP = re.compile(r"(\d{1,10})\.([0-9a-f]{1,8})")
+NONE = 2_147_483_647  # an item that is none, in Ceph's lists
+
+
+@dataclasses.dataclass
+class Pool:
+    """A pool. `bytes` is what it takes on all its devices, or None where that isn't known."""
+
+    id: int
+    name: str
+    kind: str
+    size: int
+    min_size: int
+    rule: int
+    pg_num: int
+    pgp_num: int
+    hashpspool: bool
+    object_hash: int = RJENKINS
+    split_to: typing.Optional[tuple] = None  # the pg_num and pgp_num that it is on its way to
+    bytes: typing.Optional[int] = None
+
+    def group_name(self, group):
+        """Returns a group's id as Ceph writes it."""
+        return f"{self.id}.{group:x}"
+
+    def place_of(self, group):
+        """Returns the place by which groups share a seed (Ceph's stable_mod by pgp_num)."""
+        mask = (1 << (self.pgp_num - 1).bit_length()) - 1
+        return group & mask if group & mask < self.pgp_num else group & (mask >> 1)
+
+
+@dataclasses.dataclass
+class State:
+    """The state of a device: its reweight in 65536ths, and whether it is up."""
+
+    reweight: int = ONE
+    up: bool = True
+
+
+@dataclasses.dataclass
+class Room:
+    """What a device holds and can hold, in bytes."""
+
+    used: int
+    size: int
+
+
+@dataclasses.dataclass
+class Cluster:
+    """All that the files of a folder say."""
+
+    folder: pathlib.Path
+    map: object
+    pools: dict
+    states: dict
+    pairs: dict  # upmap items: of each pool, of each group, its pairs of devices
+    lists: dict  # whole upmap lists: of each pool, of each group, its devices
+    temporary: dict  # pg_temp and primary_temp: of each, the groups by pool
+    affine: list  # devices of a primary affinity other than 1
+    ratios: dict
+    rooms: dict
+    warnings: list
+    described: bool = False  # whether the pools come from the command line
+
+
+def fixed(value):
+    """Returns the 65536ths of a decimal number as Ceph writes a reweight: six digits after the
+    point, which are enough to find each of the 65,537 values again."""
+    return int((value * ONE).to_integral_value())
+
+
+def read_map(folder, with_osd_0):
+    """Reads the map of a folder: crush.json where it is there, else map.txt."""
+    dump, text = folder / MAP_DUMP, folder / MAP_TEXT
+    if dump.exists():
+        map_ = read_dump(dump, MAP_DUMP)
+    elif text.exists():
+        map_ = read_text(text_of(text), MAP_TEXT)
+    else:
+        raise Fault(f"{folder}: it has neither crush.json ('ceph osd crush dump -f json') nor map.txt ('crushtool -d'); 'crushplan fetch {folder}' writes them where ceph is there")
+    if with_osd_0 is None:
+        with_osd_0 = 0 in map_.devices and map_.devices[0] != "device0"
+    mark_holes(map_.buckets, with_osd_0)
+    return map_
+
+
+def text_of(path):
+    try:
+        return path.read_bytes().decode("utf-8-sig", errors="replace")
+    except OSError as error:
+        raise Fault(f"{path}: {error.strerror or error}") from None
+
+
+def read_cluster(folder, asked):
+    """Reads the files of a folder. `asked` has the options that describe pools where there is no
+    dump of them, and `allow_unplaced`."""
+    folder = pathlib.Path(folder)
+    if not folder.is_dir():
+        raise Fault(f"{folder}: there is no such folder" if not folder.exists() else f"{folder}: it isn't a folder: crushplan takes the folder of a cluster's dumps")
+    path = folder / OSD_DUMP
+    dump = opened(path, OSD_DUMP) if path.exists() else None
+    states = {} if dump is None else states_of(dump)
+    map_ = read_map(folder, None if dump is None else 0 in states)
+    cluster = Cluster(folder, map_, {}, states, {}, {}, {}, [], {}, {}, [])
+    if map_.rounded:
+        cluster.warnings.append(f"{map_.file} has weights that 'crushtool -d' rounded to three decimals; {MAP_DUMP} ('ceph osd crush dump -f json') has exact ones")
+    if dump is None:
+        describe_pools(cluster, asked)
+    else:
+        read_osd_dump(cluster, dump, asked)
+    read_bytes(cluster)
+    return cluster
+
+
+def states_of(dump):
+    if not dump.has("osds") or not dump.has("pools"):
+        raise Fault(f"{OSD_DUMP} has no fields 'osds' and 'pools': it isn't what 'ceph osd dump -f json' writes")
+    found = {}
+    for it in dump.each("osds"):
+        id_, weight = it.get("osd", int), fixed(it.at("weight").of_kind(Decimal))
+        if not 0 <= id_ < MOST_DEVICES:
+            raise Fault(f"{it.where}: osd is {id_}, and ids are 0 to {MOST_DEVICES - 1}")
+        if weight < 0:
+            raise Fault(f"{it.where}: weight is below 0")
+        found[id_] = State(min(weight, ONE), it.flag("up", True))
+    return found
+
+
+def read_osd_dump(cluster, dump, asked):
+    for it in dump.each("pools"):
+        pool = pool_of(it)
+        cluster.pools[pool.id] = pool
+    in_buckets = {item for bucket in cluster.map.buckets.values() for item, _ in bucket.items if item is not None and item >= 0}
+    lacking = sorted(id_ for id_, it in cluster.states.items() if id_ not in cluster.map.devices and id_ not in in_buckets)
+    working = [id_ for id_ in lacking if cluster.states[id_].up and cluster.states[id_].reweight]
+    if working and not asked.allow_unplaced:
+        raise Fault(f"{OSD_DUMP} has devices that {cluster.map.file} lacks ({some([f'osd.{it}' for it in working])}): is it of this cluster, and of the same time? Where they aren't placed yet, say --allow-unplaced.")
+    if lacking:
+        cluster.warnings.append(f"{OSD_DUMP} has devices that {cluster.map.file} lacks; they hold nothing: {some([f'osd.{it}' for it in lacking])}")
+    missing = sorted(in_buckets - cluster.states.keys())
+    if missing:
+        cluster.warnings.append(f"{cluster.map.file} has devices that {OSD_DUMP} lacks; they count as out and down: {some([f'osd.{it}' for it in missing])}")
+    for id_ in missing:
+        cluster.states[id_] = State(0, False)
+    read_upmaps(cluster, dump)
+    for name in ("pg_temp", "primary_temp"):
+        cluster.temporary[name] = groups_named(cluster, dump, name)
+    cluster.affine = sorted(it.get("osd", int) for it in dump.each("osds") if it.has("primary_affinity") and fixed(it.at("primary_affinity").of_kind(Decimal)) != ONE)
+    for name in ("full_ratio", "backfillfull_ratio", "nearfull_ratio"):
+        if dump.has(name):
+            cluster.ratios[name] = dump.at(name).of_kind(Decimal)
+
+
+def pool_of(node):
+    kind, name = node.get("type", int), node.get("pool_name", str)
+    pg_num, pgp_num = node.get("pg_num", int), node.get("pg_placement_num", int)
+    target = (node.get("pg_num_target", int, pg_num), node.get("pg_placement_num_target", int, pgp_num))
+    flags = node.get("flags_names", str, "").split(",") if node.has("flags_names") else ["hashpspool"] * (node.get("flags", int, HASHPSPOOL) & HASHPSPOOL)
+    size = node.get("size", int)
+    return Pool(
+        node.get("pool", int), name, KINDS.get(kind, f"of type {kind}"), size, node.get("min_size", int, 1), node.get("crush_rule", int), pg_num, pgp_num,
+        "hashpspool" in flags, node.get("object_hash", int, RJENKINS), target if target != (pg_num, pgp_num) else None,
+    )  # fmt: skip
+
+
+def group_of(text, where):
+    found = GROUP.fullmatch(text)
+    if not found:
+        raise Fault(f"{where} is {text!r}, which isn't the id of a group as 1.1c")
+    return int(found[1]), int(found[2], 16)
+
+
+def read_upmaps(cluster, dump):
+    for it in dump.each("pg_upmap_items", ()):
+        pool, group = group_of(it.get("pgid", str), f"{it.where}: pgid")
+        pairs = [(pair.get("from", int), pair.get("to", int)) for pair in it.each("mappings")]
+        cluster.pairs.setdefault(pool, {})[group] = pairs
+    for it in dump.each("pg_upmap", ()):
+        pool, group = group_of(it.get("pgid", str), f"{it.where}: pgid")
+        cluster.lists.setdefault(pool, {})[group] = {device.of_kind(int) for device in it.each("osds")}
+
+
+def groups_named(cluster, dump, name):
+    """Returns the groups that a list of the dump names, by pool."""
+    found = {}
+    for it in dump.each(name, ()):
+        pool, group = group_of(it.get("pgid", str), f"{it.where}: pgid")
+        found.setdefault(pool, []).append(group)
+    return found
+
+
+def describe_pools(cluster, asked):
+    """Makes a pool of each rule, as the command line describes it."""
+    cluster.described = True
+    for rule in cluster.map.rules.values():
+        size, pg_num = asked.size or 3, asked.pg_num or 128
+        cluster.pools[rule.id + 1] = Pool(rule.id + 1, rule.name, rule.kind, size, asked.min_size or size - size // 2, rule.id, pg_num, pg_num, True)
+    cluster.warnings.append(f"there is no {OSD_DUMP}: each rule is taken for a pool of size {asked.size or 3} with {asked.pg_num or 128} groups (--size, --pg-num, --min-size), and each device for in and up")
+
+
+def counts_by_pool(dump):
+    """Returns whether every OSD counts by pools what its disk holds. FileStore and MemStore don't."""
+    stats = dump.at("stats")
+    return not stats.has("num_per_pool_osds") or stats.get("num_per_pool_osds", int) == stats.get("num_osds", int)
+
+
+def bytes_of(pool, stats, by_pool):
+    """Returns what a pool takes on all its devices, or None where that isn't known."""
+    used = stats.get("bytes_used", int)
+    if stats.has("stored") and by_pool:
+        return used
+    # otherwise, and before release 14, bytes_used is without copies
+    return stats.get("stored_raw", int, used * pool.size if pool.kind == "replicated" else None)
+
+
+def read_bytes(cluster):
+    """Reads what pools take and devices hold, where the files are there."""
+    if (cluster.folder / DF).exists():
+        dump = opened(cluster.folder / DF, DF)
+        for it in dump.each("pools"):
+            pool = cluster.pools.get(it.get("id", int))
+            if pool:
+                pool.bytes = bytes_of(pool, it.at("stats"), counts_by_pool(dump))
+    if (cluster.folder / OSD_DF).exists():
+        for it in opened(cluster.folder / OSD_DF, OSD_DF).each("nodes"):
+            id_ = it.get("id", int)
+            if id_ >= 0:
+                cluster.rooms[id_] = Room(it.get("kb_used", int) * 1024, it.get("kb", int) * 1024)

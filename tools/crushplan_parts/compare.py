@@ -1,0 +1,141 @@
+"""`crushplan compare`: what moves where a map is changed."""
+import fractions
+import pathlib
+
+from .cluster import State, text_of
+from .crush_map import mark_holes
+from .faults import Fault, counted
+from .output import Answer, Table, devices_text, sized
+from .placing import Note
+from .read_dump import read_dump
+from .read_text import read_text
+from .reports import COPY, listed
+from .service import change
+from .shares import Shares, rounded
+from .stages import Stages
+from .summary import PoolChange, total, whole, written_anew
+from .tree import Tree
+from .write_text import Text
+
+
+def read_new(plan, path):
+    """Reads the changed map: a text, or a dump."""
+    path = pathlib.Path(path)
+    start = text_of(path).lstrip()[:1]
+    map_ = read_dump(path, path.name) if start == "{" else read_text(text_of(path), path.name)
+    mark_holes(map_.buckets, 0 in plan.cluster.states or plan.cluster.described)
+    return map_
+
+
+class NewMap:
+    """A changed map as crushcalc takes it, with the pools that it can compute."""
+
+    def __init__(self, plan, map_):
+        self.plan, self.map, self.left_out = plan, map_, []
+        self.pools = [it for it in plan.pools.values() if self.takes(it)]
+        self.text = self.accepted()
+
+    def takes(self, pool):
+        own = self.plan.map
+        try:
+            self.plan.map = self.map
+            why = self.plan.pool_fault(pool)
+        finally:
+            self.plan.map = own
+        if why:
+            self.leave_out(pool, why[0], why[1])
+        return why is None
+
+    def leave_out(self, pool, kind, why):
+        self.left_out.append(pool)
+        self.plan.notes.append(Note(kind, f"pool {pool.name} ({pool.id}) isn't computed on {self.map.file}: {why}", pools=[pool.id]))
+
+    def written(self):
+        rules = sorted({it.rule for it in self.pools})
+        buckets = {it: True for rule in rules for item in self.map.rules[rule].takes() for it in self.map.buckets_below(item)}
+        # devices of the present map stay declared: states and upmap items name them
+        more = {it for it in self.plan.text.items if it >= 0} | {item for it in buckets for item, _ in self.map.buckets[it].items if item is not None and item >= 0}
+        return Text(self.map, list(buckets), rules, more - set(self.map.devices))
+
+    def accepted(self):
+        text = self.written()
+        if not self.pools:
+            return text
+        status, said = self.plan.client.run([change("/maps", text=text.text())])[0]
+        if status != 201:
+            kind, key = text.at_line(said.get("line", 1))
+            name = self.map.rules[key].name if kind == "rule" else self.map.buckets[key].name if kind == "bucket" else key
+            raise Fault(f"{self.map.file}: crushcalc refuses its {kind} {name} by its code {said.get('fault', said)} ('crushcalc check --help' says what it means)")
+        return text
+
+
+def compare(plan, asked):
+    """Answers what a changed map moves."""
+    new = NewMap(plan, read_new(plan, asked.new))
+    pools = new.pools
+    run = plan.run([it.id for it in pools])
+    usages = {it.id: run.usage(it.id) for it in pools}
+    plan.answer(run)
+    stages = Stages(plan, [it.id for it in pools])
+    moves = stages.set_map(new.map, new.text.text(), True) if pools else {}
+    changes = [Compared(plan, new.map, it, run.counted(usages[it.id]), stages.usages[it.id], moves[it.id]) for it in pools]
+    moved, copies = sum(len(it.moves) for it in changes), sum(it.copies for it in changes)
+    bytes_ = total(it.change.bytes_of(it.copies) for it in changes)
+    missing = sum(it.missing for it in changes)
+    least = sum((it.least for it in changes), fractions.Fraction(0))
+    unknown = bool(new.left_out or plan.left_out)
+    status = 1 if missing else 2 if unknown or not pools else 0
+    sentence = f"{counted(moved, 'group')} {'moves' if moved == 1 else 'move'}, and {counted(copies, *COPY)} {'is' if copies == 1 else 'are'} written anew" + (f"; {counted(missing, *COPY)} {'has' if missing == 1 else 'have'} no room" if missing else "") + ("; not all can be computed" if unknown else "") + "."
+    rows = [
+        ("groups that move", f"{moved:,} of {sum(it.pg_num for it in pools):,}"), ("copies that are written anew", f"{copies:,}" + (f", {sized(bytes_)}" if bytes_ is not None else "")),
+        ("the least that the change of weights asks for", f"{rounded(least.numerator, least.denominator, 1):,} copies"), ("copies without a device afterwards", f"{missing:,}" if missing else "none"),
+    ]  # fmt: skip
+    if new.map.rounded and not plan.map.rounded:
+        plan.notes.append(Note("rounded", f"{new.map.file} has weights with three decimals, and {plan.map.file} exact ones: what this rounding alone moves is part of the answer, as it would be in the cluster", open_=False))
+    hosts = hosts_of(plan, new.map, changes)
+    by_pool = Table(("pool", "id", "move", "of", "copies", "bytes", "least"), [(it.pool.name, it.pool.id, len(it.moves), it.pool.pg_num, it.copies, sized(it.change.bytes_of(it.copies)), rounded(it.least.numerator, it.least.denominator, 1)) for it in changes], "By pool:") if len(changes) > 1 else None
+    by_host = Table(("host", "lost", "gained"), hosts, "Copies lost and gained, by host:") if hosts else None
+    blocks = [Table(("", ""), rows), by_pool, by_host]
+    groups = [(it.pool, group, old, now, written_anew(it.pool, old, now)) for it in changes for group, (old, now) in sorted(it.moves.items())]
+    if asked.groups:
+        blocks.append(Table(("group", "before", "after", "copies"), [(pool.group_name(group), devices_text(old), devices_text(now), count) for pool, group, old, now, count in groups], "Groups that move:") if groups else "No group moves.")
+    fields = {
+        "new": new.map.file, "moved": moved, "copies": copies, "bytes": whole(bytes_), "least": rounded(least.numerator, least.denominator, 2), "missing_copies": missing,
+        "pools": [it.said() for it in changes], "hosts": [{"name": name, "lost": lost, "gained": gained} for name, lost, gained in hosts],
+    }  # fmt: skip
+    own = [["pool", "group", "id", "before", "after", "copies"]] + [[pool.id, group, pool.group_name(group), listed(old), listed(now), count] for pool, group, old, now, count in groups]
+    if asked.groups:
+        fields["groups"] = [{"pool": pool.id, "group": group, "id": pool.group_name(group), "before": old, "after": now, "copies": count} for pool, group, old, now, count in groups]
+    else:
+        own = [["host", "lost", "gained"], *hosts]
+    return Answer(status, sentence, fields, blocks, own)
+
+
+class Compared:
+    """What a changed map moves in one pool."""
+
+    def __init__(self, plan, map_, pool, before, after, moves):
+        skipped = plan.whole_lists.get(pool.id, ())
+        self.pool, self.moves = pool, {group: it for group, it in moves.items() if group not in skipped}
+        self.copies = sum(written_anew(pool, *it) for it in self.moves.values())
+        self.change = PoolChange(pool, before, set(), [])
+        self.missing = pool.size * pool.pg_num - after.total()
+        old = Shares(plan.map, plan.map.rules[pool.rule], pool.size, plan.state)
+        new = Shares(map_, map_.rules[pool.rule], pool.size, lambda it: plan.state(it) if it in plan.text.items else State())
+        # the parts that devices gain, each of the copies that there are
+        gains = (fractions.Fraction(new.of(it), new.whole) - fractions.Fraction(old.of(it), old.whole) for it in {*old.parts, *new.parts})
+        self.least = sum((it for it in gains if it > 0), fractions.Fraction(0)) * before.total()
+
+    def said(self):
+        return {"pool": self.pool.id, "name": self.pool.name, "moved": len(self.moves), "copies": self.copies, "bytes": whole(self.change.bytes_of(self.copies)), "least": rounded(self.least.numerator, self.least.denominator, 2), "missing_copies": self.missing}
+
+
+def hosts_of(plan, map_, changes):
+    """Returns of each host how many copies it loses and gains, most first."""
+    trees, found = (plan.tree, Tree(map_)), {}
+    for it in changes:
+        for old, now in it.moves.values():
+            for tree, place, items, others in ((trees[0], 0, old, now), (trees[1], 1, now, old)):
+                for device in {d for d in items if d is not None} - set(others):
+                    found.setdefault(tree.host(device), [0, 0])[place] += 1
+    return [[name, *both] for name, both in sorted(found.items(), key=lambda it: (-sum(it[1]), it[0]))]

@@ -1,0 +1,114 @@
+"""A CRUSH map as its dump or its text declares it, whether crushcalc computes it or not."""
+import dataclasses
+import typing
+
+COMPUTED = ("list", "tree", "uniform")
+ONE = 65536
+KINDS = {1: "replicated", 3: "erasure"}
+TUNABLES = ("choose_local_tries", "choose_local_fallback_tries", "choose_total_tries", "chooseleaf_descend_once", "chooseleaf_vary_r", "chooseleaf_stable")
+MOST_DEVICES = 65536  # ids of devices are below it
+
+
+@dataclasses.dataclass
+class Bucket:
+    """A bucket: items are pairs of an id and a weight in 65536ths, in their places. A hole, which a
+    removed item left in a tree bucket, is a pair of None and 0."""
+
+    id: int
+    name: str
+    type: int
+    alg: str
+    hash: str
+    items: list
+    shadow: typing.Optional[str] = None  # the class whose devices alone it has
+
+    def weight(self):
+        return sum(weight for _, weight in self.items)
+
+    def holes(self):
+        """Returns the places of its holes."""
+        return [place for place, (item, _) in enumerate(self.items) if item is None]
+
+
+@dataclasses.dataclass
+class Rule:
+    """A rule: steps are tuples of words, as they stand in a text; a take has the id of its item,
+    and a class or None. `sizes` are the bounds that release 16 gives it, or None."""
+
+    id: int
+    name: str
+    kind: str
+    steps: list
+    sizes: typing.Optional[tuple] = None
+    odd: typing.Optional[str] = None  # why it can't be computed, whatever it takes
+
+    def takes(self):
+        return [step[1] for step in self.steps if step[0] == "take"]
+
+
+@dataclasses.dataclass
+class CrushMap:
+    """A whole map. `devices` are names by id, `classes` classes by id; `file` is where it was read,
+    `rounded` whether its weights have three decimals alone."""
+
+    file: str
+    rounded: bool
+    tunables: dict
+    devices: dict
+    classes: dict
+    types: dict
+    buckets: dict
+    rules: dict
+    weight_sets: dict = dataclasses.field(default_factory=dict)
+
+    def name_of(self, item):
+        if item in self.buckets:
+            return self.buckets[item].name
+        return self.devices.get(item, f"osd.{item}")
+
+    def holes(self):
+        """Returns the holes that removed items left: pairs of a bucket and a place."""
+        return [(bucket, place) for bucket in self.buckets.values() for place in bucket.holes()]
+
+    def below(self, item, seen=None):
+        """Returns the devices below an item, each once, in order; a device is below itself."""
+        seen = set() if seen is None else seen
+        if item is None or item in seen:
+            return []
+        seen.add(item)
+        if item not in self.buckets:
+            return [item]
+        return [device for inner, _ in self.buckets[item].items for device in self.below(inner, seen)]
+
+    def buckets_below(self, item, found=None):
+        """Returns the ids of the buckets at and below an item."""
+        found = {} if found is None else found
+        if item in self.buckets and item not in found:
+            found[item] = True
+            for inner, _ in self.buckets[item].items:
+                self.buckets_below(inner, found)
+        return list(found)
+
+    def reached(self, rule):
+        """Returns the devices that a rule can answer."""
+        return {device for item in rule.takes() for device in self.below(item)}
+
+
+def mark_holes(buckets, devices_known):
+    """Makes holes of the items that a removal left in tree buckets: a dump shows them as osd.0 with
+    the weight 0. `devices_known` is whether osd.0 is a device of the cluster.
+
+    osd.0 may itself have the weight 0. It is taken for a hole where it stands twice in the bucket,
+    where it stands in another bucket with a weight, where the bucket has buckets below it, or where
+    there is no osd.0. Which it is changes no placement: a tree bucket never picks a weight of 0.
+    """
+    for bucket in buckets.values():
+        places = [place for place, it in enumerate(bucket.items) if tuple(it) == (0, 0)] if bucket.alg == "tree" else []
+        if not places:
+            continue
+        weighed = any(item == 0 and weight > 0 for item, weight in bucket.items)
+        elsewhere = any(item == 0 and weight > 0 for other in buckets.values() if other is not bucket and not other.shadow for item, weight in other.items)
+        among_buckets = any(item is not None and item < 0 for item, _ in bucket.items)
+        first = 0 if weighed or elsewhere or among_buckets or not devices_known else 1
+        for place in places[first:]:
+            bucket.items[place] = (None, 0)

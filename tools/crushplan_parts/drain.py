@@ -1,0 +1,53 @@
+"""`crushplan drain`: hosts, racks or devices out, on paper."""
+from .after_drain import AfterDrain
+from .changing import Start, pool_changes
+from .faults import counted
+from .output import Answer, sized
+from .reports import Stay, groups_rows, groups_table, pools_table, status_of, summary_table, usage_rows, usage_table, verdict
+from .stages import Stages, states_after
+from .summary import Summary
+
+
+def drain(plan, asked):
+    """Answers what a drain does: the reweights of devices become 0."""
+    devices = plan.tree.devices_of(asked.names)
+    start, later = Start(plan, devices), AfterDrain(plan, devices)
+    states, drained = states_after(plan, devices, reweight=0)
+
+    def drain_then_purge():
+        stages = Stages(plan, start.touched)
+        lists = stages.set_states([drained], start.wanted(devices))
+        return lists, later.ask_purge(drained, stages.pairs)
+
+    ((before, after), purge), (first, second) = plan.side_by_side(drain_then_purge, later.ask_weight_first)
+    changes = pool_changes(plan, start, devices, before, after)
+    later.take(changes, purge, first, second)
+    summary, stay = Summary(plan, changes, states), Stay(plan, start, devices, changes)
+    if later.note():
+        plan.notes.append(later.note())
+    status = status_of(plan, summary, stay)
+    fields = {
+        "devices": devices, **summary.said(asked.groups), "stay": stay.said(),
+        "purge": later.purge.said(), "weight_first": {**later.weight_first.said(), "then_purge": later.then_purge.said()},
+    }  # fmt: skip
+    blocks = [summary_table(plan, summary, stay), pools_table(summary), usage_table(plan, summary, asked.by), purge_text(summary, later, devices)]
+    if asked.groups:
+        blocks.append(groups_table(summary.moves))
+    return Answer(status, verdict(summary, stay, status), fields, blocks, groups_rows(plan, summary.moves) if asked.groups else usage_rows(summary))
+
+
+def in_bytes(value):
+    return f" ({sized(value)})" if value is not None else ""
+
+
+def purge_text(summary, later, devices):
+    """Says what removing the devices moves afterwards, and whether it is less by their CRUSH weight
+    first."""
+    first, other = later.compared(summary.copies)
+    ids = " ".join(map(str, devices[:3])) + (" .." if len(devices) > 3 else "")
+    lines = [
+        f"Afterwards 'ceph osd purge' of {counted(len(devices), 'device')} ({ids}) would move {counted(later.purge.moved, 'group')} again: {counted(later.purge.copies, 'copy', 'copies')}{in_bytes(later.purge.bytes)}, in all {first:,}.",
+        f"With 'ceph osd crush reweight osd.N 0' in the place of the drain: {counted(later.weight_first.copies, 'copy', 'copies')}, and {later.then_purge.copies:,} by the purge, in all {other:,}: "
+        + ("that moves less." if other < first else "that moves as much." if other == first else "the drain moves less."),
+    ]
+    return "\n".join(lines)

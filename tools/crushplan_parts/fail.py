@@ -1,0 +1,146 @@
+"""`crushplan fail`: hosts, racks or devices that go down, and later out."""
+from .changing import Start, pool_changes, short_now
+from .faults import Fault, counted
+from .output import Answer, Progress, Table, devices_text, shown, sized
+from .reports import COPY, Stay, groups_rows, groups_table, listed, pools_table, status_of, summary_table, usage_rows, usage_table, verdict
+from .stages import Stages, states_after
+from .summary import Summary
+
+
+class Down:
+    """Groups that lack copies while devices are down. Of each pool: the groups with fewer copies
+    than its size, and those of them with fewer than its min_size, whose I/O stops."""
+
+    def __init__(self, plan, start, lists):
+        self.rows = []
+        for id_, pool in plan.pools.items():
+            short = short_now(pool, lists.get(id_, {}), start.all_lists.get(id_))
+            skipped = plan.whole_lists.get(id_, ())
+            for group, copies in sorted(short.items()):
+                if group not in skipped:
+                    self.rows.append((pool, group, lists.get(id_, {}).get(group) or start.all_lists[id_][group], copies))
+        self.short = len(self.rows)
+        self.stopped = sum(copies < pool.min_size for pool, _, _, copies in self.rows)
+
+    def by_pool(self):
+        found = {}
+        for pool, _, _, copies in self.rows:
+            own = found.setdefault(pool.id, [pool, 0, 0])
+            own[1], own[2] = own[1] + 1, own[2] + (copies < pool.min_size)
+        return list(found.values())
+
+    def said(self, with_groups):
+        found = {"below_min_size": self.stopped, "short": self.short, "pools": [{"pool": pool.id, "name": pool.name, "size": pool.size, "min_size": pool.min_size, "short": short, "below_min_size": stopped} for pool, short, stopped in self.by_pool()]}
+        if with_groups:
+            found["groups"] = [{"pool": pool.id, "group": group, "id": pool.group_name(group), "up": it.up, "primary": it.primary, "copies": copies, "below_min_size": copies < pool.min_size} for pool, group, it, copies in self.rows]
+        return found
+
+    def table(self, groups):
+        rows = [
+            ("groups below their pool's min_size: their I/O stops", f"{self.stopped:,} of {groups:,}" if self.stopped else "none"),
+            ("groups with fewer copies than the pool's size", f"{self.short:,} of {groups:,}" if self.short else "none"),
+        ]
+        return Table(("", ""), rows, "While they are down:")
+
+    def pools_table(self):
+        rows = [(pool.name, pool.id, pool.size, pool.min_size, short, stopped) for pool, short, stopped in self.by_pool()]
+        return Table(("pool", "id", "size", "min_size", "short", "below min_size"), rows) if len(rows) > 1 else None
+
+    def groups_table(self):
+        rows = [(pool.group_name(group), devices_text(it.up), it.primary, copies, "yes" if copies < pool.min_size else "") for pool, group, it, copies in self.rows]
+        return Table(("group", "up", "primary", "copies", "I/O stops"), rows, "Groups a copy short while they are down:") if rows else None
+
+
+class Failure:
+    """Devices that go down, and then out."""
+
+    def __init__(self, plan, start, devices, quick=False):
+        _, down = states_after(plan, devices, up=False)
+        states, out = states_after(plan, devices, up=False, reweight=0)
+        self.devices = devices
+        before, while_down, after = Stages(plan, start.touched).set_states([down, out], start.wanted(devices), start.before)
+        self.down = Down(plan, start, while_down)
+        changes = pool_changes(plan, start, devices, before, after)
+        self.summary = Summary(plan, changes, states, quick)
+
+
+def fail(plan, asked):
+    """Answers what a failure of devices does, or of each bucket of a type in turn."""
+    if asked.each:
+        if asked.names:
+            raise Fault("crushplan fail takes either names or --each TYPE")
+        return fail_each(plan, asked)
+    if not asked.names:
+        raise Fault("crushplan fail wants the names of hosts, racks or devices, or --each TYPE")
+    devices = plan.tree.devices_of(asked.names)
+    start = Start(plan, devices)
+    it = Failure(plan, start, devices)
+    stay = Stay(plan, start, devices, it.summary.changes)
+    status = status_of(plan, it.summary, stay, it.down.stopped)
+    fields = {"devices": devices, "down": it.down.said(asked.groups), "out": it.summary.said(asked.groups), "stay": stay.said()}
+    blocks = [it.down.table(it.summary.groups), it.down.pools_table(), summary_table(plan, it.summary, stay, "Once they are out:"), pools_table(it.summary), usage_table(plan, it.summary, asked.by)]
+    if asked.groups:
+        blocks += [it.down.groups_table(), groups_table(it.summary.moves)]
+    return Answer(status, verdict(it.summary, stay, status, it.down.stopped), fields, blocks, rows_of(plan, it) if asked.groups else usage_rows(it.summary))
+
+
+def rows_of(plan, it):
+    """Yields the rows of a CSV of groups: those that are short while devices are down, and those
+    that move once they are out."""
+    yield ["stage", "pool", "group", "id", "before", "after", "primary_before", "primary_after", "copies", "short"]
+    for pool, group, placement, copies in it.down.rows:
+        yield ["down", pool.id, group, pool.group_name(group), "", listed(placement.up), "", placement.primary, copies, 1]
+    rows = groups_rows(plan, it.summary.moves)
+    next(rows)
+    for row in rows:
+        yield ["out", *row]
+
+
+def fail_each(plan, asked):
+    """Answers what each bucket of a type would cost, the worst first."""
+    type_ = plan.tree.type_number(asked.each)
+    items = plan.tree.buckets_of_type(type_)
+    if not items:
+        raise Fault(f"no {asked.each} has devices")
+    units = [(it, [d for d in dict.fromkeys(plan.map.below(it)) if d in plan.text.items]) for it in items]
+    start = Start(plan, sorted({device for _, devices in units for device in devices}))
+    start.lists_now()
+    found, progress = [], Progress(len(units), asked.each + "s")
+    try:
+        for done, (item, devices) in enumerate(units):
+            progress.at(done)
+            failure = Failure(plan, start, devices, quick=True)
+            found.append((item, failure, Stay(plan, start, devices, failure.summary.changes)))
+    finally:
+        progress.end()
+    found.sort(key=lambda it: (-it[1].down.stopped, -it[1].summary.missing, -it[1].summary.copies, plan.map.name_of(it[0])))
+    statuses = [status_of(plan, it.summary, stay, it.down.stopped) for _, it, stay in found]
+    status = 1 if 1 in statuses else 2 if 2 in statuses else 0
+    bad = statuses.count(1)
+    name = asked.each
+    sentence = (
+        f"no: of {counted(len(found), name)} {bad:,} can't fail without I/O that stops or copies that have no room." if bad
+        else f"unknown: not all of it can be computed." if status == 2 else f"yes: {'each' if len(found) > 1 else 'the one'} of {counted(len(found), name)} can fail, and every copy has room."
+    )  # fmt: skip
+    rows = [each_said(plan, *it) for it in found]
+    table = [(it["name"], it["devices"], it["below_min_size"], it["short_down"], it["missing_copies"], it["moved"], it["copies"], sized(it["bytes"]), each_fullest(it)) for it in rows]
+    heads = (name, "devices", "I/O stops", "short", "no room", "move", "copies", "bytes", "fullest afterwards")
+    own = [list(rows[0])[:-1] + ["fullest", "fullest_percent"]] + [[*list(it.values())[:-1], it["fullest"] and it["fullest"]["name"], it["fullest"] and it["fullest"]["percent_after"]] for it in rows]
+    text = "I/O stops: groups below min_size while it is down; short: groups below size then; no room: copies that\nhave no device once it is out; move, copies: groups that then move, and copies written anew."
+    return Answer(status, sentence, {"type": name, "each": rows}, [Table(heads, table), text], own)
+
+
+def each_fullest(it):
+    if it["fullest"] is None:
+        return "-"
+    of = it["fullest"]["used_after"]
+    return f"{it['fullest']['name']} {shown(it['fullest']['percent_after'])}%" if of is None else f"{it['fullest']['name']} {of * 100:.1f}% used"
+
+
+def each_said(plan, item, it, stay):
+    summary = it.summary
+    said = summary.said(False)
+    return {
+        "name": plan.map.name_of(item), "devices": len(it.devices), "below_min_size": it.down.stopped, "short_down": it.down.short, "short_groups": summary.short,
+        "missing_copies": summary.missing, "moved": len(summary.moves), "can_move": summary.can_move, "copies": summary.copies, "bytes": said["bytes"], "fullest": said["fullest"],
+    }  # fmt: skip

@@ -1,0 +1,83 @@
+"""Files of JSON, and their fields by name: each that is missing or of another kind is a Fault with
+its file and its path in it."""
+import decimal
+import json
+import pathlib
+
+from .faults import Fault
+
+KINDS = {int: "a whole number", str: "a text", list: "a list", dict: "an object", decimal.Decimal: "a number"}
+REQUIRED = object()
+
+
+def load(path):
+    """Reads a file of JSON; numbers with a point become exact decimals. A Fault where it can't be
+    read."""
+    path = pathlib.Path(path)
+    try:
+        text = path.read_bytes().decode("utf-8-sig")
+    except OSError as error:
+        raise Fault(f"{path}: {error.strerror or error}") from None
+    except UnicodeDecodeError as error:
+        raise Fault(f"{path}: it isn't JSON: byte {error.start} is no UTF-8") from None
+    try:
+        return json.loads(text, parse_float=decimal.Decimal)
+    except json.JSONDecodeError as error:
+        raise Fault(f"{path}: line {error.lineno}: it isn't JSON ({error.msg})") from None
+    except (RecursionError, ValueError) as error:
+        raise Fault(f"{path}: it isn't JSON that can be read ({type(error).__name__})") from None
+
+
+class Node:
+    """A value of a file, with where it stands."""
+
+    def __init__(self, value, where):
+        self.value, self.where = value, where
+
+    def of_kind(self, kind):
+        """Returns the value, which has to be of a kind."""
+        value = self.value
+        if kind is decimal.Decimal and isinstance(value, int) and not isinstance(value, bool):
+            return decimal.Decimal(value)
+        if not isinstance(value, kind) or isinstance(value, bool):
+            raise Fault(f"{self.where} isn't {KINDS[kind]}")
+        if kind is decimal.Decimal and not value.is_finite():
+            raise Fault(f"{self.where} isn't a number")
+        return value
+
+    def has(self, name):
+        return name in self.of_kind(dict)
+
+    def at(self, name):
+        """Returns the member of a name."""
+        if not self.has(name):
+            raise Fault(f"{self.where} has no field {name!r}")
+        return Node(self.value[name], f"{self.where}: {name}")
+
+    def get(self, name, kind, default=REQUIRED):
+        """Returns the value of a member; where it is missing the default, if there is one."""
+        if default is not REQUIRED and not self.has(name):
+            return default
+        return self.at(name).of_kind(kind)
+
+    def each(self, name, default=REQUIRED):
+        """Yields the members of a list that is a member."""
+        if default is not REQUIRED and not self.has(name):
+            return
+        inner = self.at(name)
+        for place, value in enumerate(inner.of_kind(list)):
+            yield Node(value, f"{inner.where}[{place}]")
+
+    def flag(self, name, default):
+        """Returns whether a member is true or 1."""
+        if not self.has(name):
+            return default
+        value = self.value[name]
+        if value not in (0, 1):
+            raise Fault(f"{self.where}: {name} is neither 0 nor 1")
+        return bool(value)
+
+
+def opened(path, name):
+    """Returns the whole of a file as a node."""
+    return Node(load(path), name)

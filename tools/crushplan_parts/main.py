@@ -1,0 +1,83 @@
+"""The program from its arguments to its exit status."""
+import json
+import os
+import signal
+import sys
+
+from . import arguments, check, compare, drain, fail, fetch, locate, upmap, usage
+from .cluster import read_cluster
+from .faults import Fault
+from .output import written
+from .placing import Plan
+from .service import Script, Server, found_program
+
+COMMANDS = {"check": check.check, "usage": usage.usage, "compare": compare.compare, "drain": drain.drain, "fail": fail.fail, "upmap": upmap.upmap, "locate": locate.locate}
+FAILED, INTERRUPTED = 2, 130
+
+
+def client_of(asked, beside):
+    if asked.service:
+        return Server(asked.service)
+    return Script(found_program(asked.program or os.environ.get("CRUSHCALC"), beside))
+
+
+def said_version(beside):
+    print(f"crushplan {arguments.VERSION}")
+    try:
+        program = Script(found_program(os.environ.get("CRUSHCALC"), beside))
+        print(f"{program.version()} ({program.where})")
+    except Fault as fault:
+        print(fault)
+
+
+def answered(asked, beside):
+    """Returns the exit status, once the answer is written."""
+    if asked.command == "fetch":
+        answer, plan = fetch.fetch(asked), None
+    else:
+        plan = Plan(read_cluster(asked.folder, asked), client_of(asked, beside))
+        answer = COMMANDS[asked.command](plan, asked)
+    sys.stdout.write(written(answer, asked.command, asked.form, plan))
+    sys.stdout.flush()
+    return answer.status
+
+
+def failed(asked, why):
+    """Says why there is no answer, in JSON too where that was asked for."""
+    if getattr(asked, "form", "") == "json":
+        print(json.dumps({"crushplan": 1, "command": asked.command, "status": FAILED, "error": why}))
+    print(f"crushplan: {why}", file=sys.stderr)
+    return FAILED
+
+
+def terminated(*_):
+    raise KeyboardInterrupt
+
+
+def main(words, beside):
+    """Does what the arguments ask. `beside` are the places where crushcalc may be."""
+    signal.signal(signal.SIGTERM, terminated)
+    parser = arguments.parser()
+    asked = parser.parse_args(words)
+    if asked.version:
+        said_version(beside)
+        return 0
+    if not asked.command:
+        parser.print_help(sys.stderr)
+        return FAILED
+    try:
+        return answered(asked, beside)
+    except Fault as fault:
+        return failed(asked, str(fault))
+    except KeyboardInterrupt:
+        print("crushplan: interrupted", file=sys.stderr)
+        return INTERRUPTED
+    except BrokenPipeError:
+        os.dup2(os.open(os.devnull, os.O_WRONLY), sys.stdout.fileno())
+        return FAILED
+    except RecursionError:
+        return failed(asked, "the map is nested too deeply, or has a bucket below itself")
+    except Exception as error:  # whatever it is given, the program says a sentence
+        if "CRUSHPLAN_TRACE" in os.environ:
+            raise
+        return failed(asked, f"it can't go on: {type(error).__name__}: {str(error)[:200]}. This is a mistake in crushplan.")

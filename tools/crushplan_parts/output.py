@@ -1,0 +1,149 @@
+"""What is written: tables for people, CSV, JSON; colours and progress on a terminal alone."""
+import csv
+import io
+import json
+import os
+import shutil
+import sys
+import time
+
+UNITS = ("B", "KiB", "MiB", "GiB", "TiB", "PiB", "EiB")
+RED, GREEN, YELLOW, BOLD, PLAIN = "\033[31m", "\033[32m", "\033[33m", "\033[1m", "\033[0m"
+COLOURS = {0: GREEN, 1: RED, 2: YELLOW}
+NARROWEST = 8  # of a column that is cut to fit
+
+
+class Answer:
+    """What a command found: its status, one sentence, the fields of its JSON, blocks of text for
+    people, and the rows of its CSV with their heads first."""
+
+    def __init__(self, status, sentence, fields, blocks, rows):
+        self.status, self.sentence, self.fields, self.blocks, self.rows = status, sentence, fields, blocks, rows
+
+
+class Table:
+    """Rows under heads; numbers stand at the right. A title stands above."""
+
+    def __init__(self, heads, rows, title=None):
+        self.heads, self.rows, self.title = heads, rows, title
+
+    def text(self, width):
+        cells = [[shown(it) for it in row] for row in self.rows]
+        right = [all(is_number(row[place]) for row in self.rows) for place in range(len(self.heads))]
+        widths = [max(len(head), *(len(row[place]) for row in cells)) if cells else len(head) for place, head in enumerate(self.heads)]
+        while width and sum(widths) + 2 * len(widths) > width:
+            widest = max(range(len(widths)), key=lambda it: widths[it])
+            if widths[widest] <= NARROWEST:
+                break
+            widths[widest] -= 1
+        lines = [self.title] if self.title else []
+        for row in ([list(self.heads)] if any(self.heads) else []) + cells:
+            parts = [cut(it, size).rjust(size) if of else cut(it, size).ljust(size) for it, size, of in zip(row, widths, right)]
+            lines.append(("  " + "  ".join(parts)).rstrip())
+        return "\n".join(lines)
+
+
+def is_number(value):
+    return value is None or value == "" or isinstance(value, (int, float)) or (isinstance(value, Sized))
+
+
+class Sized(str):
+    """A number in words that stands at the right, as a size in bytes."""
+
+
+def shown(value):
+    if value is None:
+        return "-"
+    if isinstance(value, bool):
+        return "yes" if value else "no"
+    if isinstance(value, int):
+        return f"{value:,}"
+    if isinstance(value, float):
+        return f"{value:,.1f}" if value == round(value, 1) else f"{value:,.2f}"
+    return str(value)
+
+
+def cut(text, size):
+    return text if len(text) <= size else text[: size - 1] + "…"
+
+
+def sized(value):
+    """Returns a number of bytes in words."""
+    if value is None:
+        return None
+    sign, value, unit = "-" if value < 0 else "", abs(float(value)), 0
+    while value >= 1024 and unit + 1 < len(UNITS):
+        value, unit = value / 1024, unit + 1
+    return Sized(f"{sign}{value:.0f} B" if unit == 0 else f"{sign}{value:.1f} {UNITS[unit]}")
+
+
+def devices_text(items):
+    """Returns a list of devices as Ceph writes it; a place without one is a dash."""
+    return "[" + ",".join("-" if it is None else str(it) for it in items) + "]"
+
+
+def coloured(stream):
+    return stream.isatty() and "NO_COLOR" not in os.environ and os.environ.get("TERM") != "dumb"
+
+
+def painted(text, colour):
+    return f"{colour}{text}{PLAIN}" if coloured(sys.stdout) else text
+
+
+def width():
+    """Returns how wide a table may be: the terminal's width, or 0 where there is none."""
+    return shutil.get_terminal_size().columns if sys.stdout.isatty() else 0
+
+
+def csv_text(rows):
+    out = io.StringIO()
+    writer = csv.writer(out, lineterminator="\n")
+    for row in rows:
+        writer.writerow(["" if it is None else it for it in row])
+    return out.getvalue()
+
+
+def written(answer, command, form, plan):
+    """Returns an answer as text, CSV or JSON. `plan` has the notes, or is None."""
+    notes = plan.notes if plan else []
+    warnings = plan.cluster.warnings if plan else []
+    if form == "json":
+        head = {"crushplan": 1, "command": command, "status": answer.status, "answer": answer.sentence}
+        tail = {
+            "map": plan and {"file": plan.map.file, "exact": not plan.map.rounded}, "warnings": warnings,
+            "uncomputed": [it.said() for it in notes if it.open], "notes": [it.said() for it in notes if not it.open],
+        }  # fmt: skip
+        return json.dumps({**head, **answer.fields, **tail}) + "\n"
+    if form == "csv":
+        return csv_text(answer.rows)
+    return people_text(answer, notes, warnings)
+
+
+def people_text(answer, notes, warnings):
+    blocks = [painted(answer.sentence, COLOURS.get(answer.status, BOLD))] if answer.sentence else []
+    for it in answer.blocks:
+        blocks.append(it.text(width()) if isinstance(it, Table) else it)
+    text = "\n\n".join(it for it in blocks if it)
+    remarks = [f"not computed: {it.text}" for it in notes if it.open] + [f"note: {it}" for it in warnings] + [f"note: {it.text}" for it in notes if not it.open]
+    return text + "\n" + ("\n" + "\n".join(remarks) + "\n" if remarks else "")
+
+
+class Progress:
+    """A bar on standard error with the time that is left; nothing where that is no terminal."""
+
+    def __init__(self, whole, what):
+        self.whole, self.what, self.start, self.shown = whole, what, time.monotonic(), sys.stderr.isatty() and whole > 1
+
+    def at(self, done):
+        if not self.shown:
+            return
+        passed = time.monotonic() - self.start
+        left = f", {passed / done * (self.whole - done):.0f} s left" if done else ""
+        filled = 24 * done // self.whole
+        sys.stderr.write(f"\r[{'#' * filled}{'.' * (24 - filled)}] {done} of {self.whole} {self.what}{left} \033[K")
+        sys.stderr.flush()
+
+    def end(self):
+        if self.shown:
+            sys.stderr.write("\r\033[K")
+            sys.stderr.flush()

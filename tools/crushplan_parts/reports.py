@@ -1,0 +1,180 @@
+"""Parts that several commands write: the summary, tables of pools, devices and groups."""
+import fractions
+
+from .faults import counted, some
+from .output import Table, devices_text, shown, sized
+from .placing import Note
+from .shares import percent, rounded
+from .summary import whole
+
+MOST_ROWS = 40  # devices in a table of usage; where there are more, hosts are shown
+COPY = ("copy", "copies")
+
+
+class Stay:
+    """Copies that devices keep though they are out, since a rule takes them by name; and groups of
+    whole upmap lists that have to do with the devices, which aren't computed."""
+
+    def __init__(self, plan, start, devices, changes):
+        self.keeping = {}
+        for it in changes:
+            for device in plan.taken(it.pool) & set(devices):
+                if it.after.entries.get(device):
+                    self.keeping[device] = self.keeping.get(device, 0) + it.after.entries[device]
+        self.unknown = start.unknown_groups(devices)
+        if self.unknown:
+            names = [plan.cluster.pools[pool].group_name(group) if pool in plan.cluster.pools else f"{pool}.{group:x}" for pool, group in self.unknown]
+            plan.notes.append(Note("pg_upmap", f"{counted(len(names), 'group')} with whole upmap lists may have to do with these devices: {some(names)}", pools={pool for pool, _ in self.unknown}, devices=devices, groups=names))
+        own = set(devices)
+        self.left_out = [it for it in plan.notes if it.open and it.pools and it.kind != "pg_upmap" and (not it.devices or own & set(it.devices))]
+        self.names = [plan.map.name_of(it) for it in self.keeping]
+
+    def is_unknown(self):
+        return bool(self.unknown or self.left_out)
+
+    def said(self):
+        return [{"device": device, "copies": copies} for device, copies in sorted(self.keeping.items())]
+
+
+def status_of(plan, summary, stay, stopped=0):
+    """Returns the exit status: 1 where a copy has no room, a device keeps some, or I/O stops; 2
+    where what isn't computed may have to do with it."""
+    if summary.changes and (not summary.has_room() or stay.keeping or stopped):
+        return 1
+    return 2 if stay.is_unknown() or not plan.pools else 0
+
+
+def verdict(summary, stay, status, stopped=0):
+    """Returns the answer in one sentence."""
+    moved = f"{counted(len(summary.moves), 'group')} {'moves' if len(summary.moves) == 1 else 'move'}"
+    if status == 2:
+        return f"unknown: not all of it can be computed; of what can, {moved}."
+    if status == 0:
+        return f"yes: {moved}, and every copy has room." if summary.moves else "yes: no group moves, and every copy has room."
+    why = []
+    if stopped:
+        why.append(f"{counted(stopped, 'group')} {'has' if stopped == 1 else 'have'} fewer copies than min_size while the devices are down, so {'its' if stopped == 1 else 'their'} I/O stops")
+    lacking = [it for it in summary.changes if it.missing]
+    if lacking:
+        pools = some([it.pool.name for it in lacking], 3)
+        why.append(f"{counted(summary.missing, *COPY)} of {'pool' if len(lacking) == 1 else 'the pools'} {pools} {'has' if summary.missing == 1 else 'have'} no room")
+    if summary.past["backfillfull_ratio"]:
+        why.append(f"{some([shown_used(it) for it in summary.past['backfillfull_ratio']], 3)}, past the backfill-full ratio")
+    if stay.keeping:
+        why.append(f"{some(stay.names, 3)} {'keeps' if len(stay.names) == 1 else 'keep'} {counted(sum(stay.keeping.values()), *COPY)}: a rule takes it by name")
+    return "no: " + "; ".join(why) + f"; {moved}."
+
+
+def shown_used(it):
+    return f"osd.{it.id} would be {rounded(it.used_after.numerator * 100, it.used_after.denominator, 1)}% full"
+
+
+def summary_table(plan, summary, stay, title=None):
+    """Returns the lines of a summary, in the order in which they matter."""
+    before = f", of which {summary.short_before:,} already lack one" if summary.short_before else ""
+    short = f"{summary.short:,} of {summary.groups:,}, by {counted(summary.missing, *COPY)}{before}" if summary.short else "none"
+    rows = [
+        ("groups with fewer copies than the pool's size", short),
+        ("groups that move", f"{len(summary.moves):,} of {summary.groups:,}"),
+        ("copies that are written anew", f"{summary.copies:,}" + (f", {sized(summary.bytes)}" if summary.bytes is not None else "")),
+        ("fullest device afterwards", fullest_text(plan, summary)),
+        ("proved", f"no group moves but the {summary.can_move:,} of the impact lists"),
+    ]
+    if summary.past["nearfull_ratio"]:
+        rows.insert(4, ("past the near-full ratio", some([shown_used(it) for it in summary.past["nearfull_ratio"]])))
+    if stay.keeping:
+        rows.insert(1, ("copies that stay, by a rule that takes the device", some([f"osd.{device}: {copies:,}" for device, copies in sorted(stay.keeping.items())])))
+    return Table(("", ""), rows, title)
+
+
+def fullest_text(plan, summary):
+    it = summary.fullest
+    if it is None:
+        return "none has copies"
+    text = f"{plan.map.name_of(it.id)} ({plan.tree.host(it.id)}): {counted(it.after, *COPY)}"
+    of = it.percent()
+    if of is not None:
+        text += f", {shown(of)}% of its share of {shown(rounded(*it.expected_after, 1))}"
+    if it.used_after is not None:
+        ratio = plan.cluster.ratios.get("nearfull_ratio")
+        text += f"; {rounded(it.used_after.numerator * 100, it.used_after.denominator, 1)}% of its room used"
+        if ratio is not None:
+            text += f", near-full is {shown(float(ratio * 100))}%"
+    return text
+
+
+def pools_table(summary):
+    """Returns a line for each pool that the change touches, where there are several pools."""
+    own = [it for it in summary.changes if it.moves or it.missing or it.can_move]
+    if len(summary.changes) < 2 or not own:
+        return None
+    heads = ("pool", "id", "size", "short", "missing", "move", "of", "copies", "bytes")
+    rows = [(it.pool.name, it.pool.id, it.pool.size, it.short, it.missing, len(it.moves), it.pool.pg_num, it.copies, sized(it.bytes_of(it.copies))) for it in own]
+    return Table(heads, rows, "By pool:")
+
+
+def usage_table(plan, summary, by):
+    """Returns usage before and after, by device, or by the buckets of a type."""
+    devices = [it for it in summary.devices if it.before or it.after or it.expected_before[0]]
+    type_ = plan.tree.type_number(by) if by else 0 if len(devices) <= MOST_ROWS else plan.tree.host_type()
+    known = any(it.bytes_after is not None for it in devices)
+    used = any(it.used_after is not None for it in devices) and type_ == 0
+    heads = ["device" if type_ == 0 else plan.map.types.get(type_, "bucket")] + (["host"] if type_ == 0 else []) + ["before", "after", "change", "share", "% of share"] + (["bytes"] if known else []) + (["used %"] if used else [])
+    rows = []
+    for name, host, own in grouped(plan, devices, type_):
+        before, after, expected = sum(it.before for it in own), sum(it.after for it in own), sum_fractions(it.expected_after for it in own)
+        row = [name] + ([host] if type_ == 0 else []) + [before, after, after - before, rounded(*expected, 1), percent(after, expected)]
+        row += [sized(sum(it.bytes_after or 0 for it in own))] if known else []
+        row += [None if own[0].used_after is None else rounded(own[0].used_after.numerator * 100, own[0].used_after.denominator, 1)] if used else []
+        rows.append(row)
+    return Table(heads, rows, f"Copies before and after, by {heads[0]}:")
+
+
+def grouped(plan, devices, type_):
+    """Yields the name, the host and the devices of each row of a table."""
+    if type_ == 0:
+        yield from ((plan.map.name_of(it.id), plan.tree.host(it.id), [it]) for it in devices)
+        return
+    groups = {}
+    for it in devices:
+        groups.setdefault(plan.tree.of_type(it.id, type_), []).append(it)
+    for bucket, own in groups.items():
+        yield ("-" if bucket is None else plan.map.name_of(bucket)), "", own
+
+
+def sum_fractions(values):
+    """Returns the sum of fractions, each a pair of what is above and below its line."""
+    over, under = 0, 1
+    for more, below in values:
+        if below == under:
+            over += more
+        elif more:
+            over, under = over * below + more * under, under * below
+    return over, under
+
+
+def usage_rows(summary):
+    """Yields the rows of a CSV of usage before and after."""
+    said = [summary.device_said(it) for it in summary.devices]
+    heads = list(said[0]) if said else ["device"]
+    yield heads
+    for it in said:
+        yield [it[head] for head in heads]
+
+
+def groups_table(moves):
+    rows = [(it.pool.group_name(it.group), devices_text(it.before.up), devices_text(it.after.up), it.after.primary, it.copies, "yes" if it.short else "") for it in moves]
+    return Table(("group", "before", "after", "primary", "copies", "short"), rows, "Groups that move:") if rows else "No group moves."
+
+
+def groups_rows(plan, moves):
+    """Yields the rows of a CSV of groups that move; a list has blanks between its devices, and a
+    dash for none."""
+    yield ["pool", "group", "id", "before", "after", "primary_before", "primary_after", "copies", "short"]
+    for it in moves:
+        said = it.said()
+        yield [said["pool"], said["group"], said["id"], listed(said["before"]), listed(said["after"]), said["primary_before"], said["primary_after"], said["copies"], int(said["short"])]
+
+
+def listed(items):
+    return " ".join("-" if it is None else str(it) for it in items)

@@ -1,0 +1,206 @@
+"""What a change does to pools: the groups that move, copies written anew, groups a copy short, and
+how full devices are afterwards. Sums and differences of what crushcalc answers, in whole numbers."""
+import fractions
+
+from .shares import Expected, Shares, percent, rounded
+
+
+def copies_in(up):
+    """Returns how many copies a list has: devices, each once."""
+    return len({it for it in up if it is not None})
+
+
+def written_anew(pool, old, new):
+    """Returns how many copies a move writes: devices that the old list hasn't; in an erasure pool
+    places with another device, since each place has another part of the data."""
+    if pool.kind == "erasure":
+        return sum(it is not None and (place >= len(old) or old[place] != it) for place, it in enumerate(new))
+    return len({it for it in new if it is not None} - set(old))
+
+
+class Moved:
+    """A group that lies elsewhere afterwards."""
+
+    def __init__(self, pool, group, before, after):
+        self.pool, self.group, self.before, self.after = pool, group, before, after
+        self.copies = written_anew(pool, before.up, after.up)
+        self.short = copies_in(after.up) < pool.size
+
+    def said(self):
+        return {
+            "pool": self.pool.id, "group": self.group, "id": self.pool.group_name(self.group), "before": self.before.up, "after": self.after.up,
+            "primary_before": self.before.primary, "primary_after": self.after.primary, "copies": self.copies, "short": self.short,
+        }  # fmt: skip
+
+
+class PoolChange:
+    """What a change does to one pool. `missing` are copies that have no device, afterwards and
+    before; `short` the groups that lack some."""
+
+    def __init__(self, pool, before, can_move, moves, lists=None):
+        """Takes the usage before, the groups that can move, the moves, and the lists of all groups
+        before, if they were asked for."""
+        self.pool, self.before, self.can_move, self.moves = pool, before, can_move, moves
+        self.after = before.after([(it.before, it.after) for it in moves])
+        lacking = {group: pool.size - copies_in(it.up) for group, it in (lists or {}).items()}
+        self.short_before, self.missing_before = counts(lacking)
+        for it in moves:
+            lacking[it.group] = pool.size - copies_in(it.after.up)
+        self.short, self.missing = counts(lacking)
+        self.copies = sum(it.copies for it in moves)
+
+    def bytes_of(self, copies):
+        """Returns the bytes of so many copies, of which each has the same part of the pool's, or
+        None where these aren't known."""
+        total = self.before.total()
+        return None if self.pool.bytes is None or not total else fractions.Fraction(self.pool.bytes * copies, total)
+
+    def said(self):
+        pool = self.pool
+        return {
+            "pool": pool.id, "name": pool.name, "kind": pool.kind, "size": pool.size, "min_size": pool.min_size, "pg_num": pool.pg_num,
+            "short_groups": self.short, "missing_copies": self.missing, "short_groups_before": self.short_before, "missing_copies_before": self.missing_before,
+            "can_move": len(self.can_move), "moved": len(self.moves), "copies": self.copies, "bytes": whole(self.bytes_of(self.copies)),
+        }  # fmt: skip
+
+
+def counts(lacking):
+    return sum(it > 0 for it in lacking.values()), sum(it for it in lacking.values() if it > 0)
+
+
+def whole(value):
+    """Returns a number of bytes rounded to whole ones, or None."""
+    return None if value is None else round(value)
+
+
+class Device:
+    """How full a device is, before and after. Expected copies are fractions; bytes are the part of
+    the pools' bytes, and `used` the part of its room that is then used, as a fraction or None."""
+
+    def __init__(self, id_):
+        self.id, self.before, self.after = id_, 0, 0
+        self.expected_before, self.expected_after = (0, 1), (0, 1)
+        self.bytes_before = self.bytes_after = None
+        self.used_before = self.used_after = None
+        self.primaries_before = self.primaries_after = 0
+
+    def percent(self):
+        return percent(self.after, self.expected_after)
+
+
+class Summary:
+    """A change of the states of devices, in all pools that are computed."""
+
+    def __init__(self, plan, changes, states, quick=False):
+        """Takes the changes by pool, and the states afterwards: a function from a device. `quick`
+        leaves out what is expected before."""
+        self.plan, self.changes = plan, changes
+        self.moves = [it for change in changes for it in change.moves]
+        self.copies = sum(it.copies for it in changes)
+        self.short = sum(it.short for it in changes)
+        self.missing = sum(it.missing for it in changes)
+        self.short_before = sum(it.short_before for it in changes)
+        self.missing_before = sum(it.missing_before for it in changes)
+        self.can_move = sum(len(it.can_move) for it in changes)
+        self.groups = sum(it.pool.pg_num for it in changes)
+        self.bytes = total(it.bytes_of(it.copies) for it in changes)
+        self.devices = devices_of(plan, changes, states, quick)
+        self.fullest = self.find_fullest()
+        self.past = {name: self.devices_past(name) for name in ("nearfull_ratio", "backfillfull_ratio", "full_ratio")}
+
+    def find_fullest(self):
+        """Returns the device that is fullest afterwards: by bytes where these are known, else by
+        its copies against its share."""
+        devices = [it for it in self.devices if it.after]
+        if any(it.used_after is not None for it in devices):
+            return max((it for it in devices if it.used_after is not None), key=lambda it: it.used_after)
+        known = [it for it in devices if it.expected_after[0]]
+        return max(known or devices, key=lambda it: fractions.Fraction(it.after * it.expected_after[1], it.expected_after[0]) if it.expected_after[0] else it.after, default=None)
+
+    def devices_past(self, name):
+        """Returns the devices that are past a ratio of the cluster afterwards."""
+        ratio = self.plan.cluster.ratios.get(name)
+        if ratio is None:
+            return []
+        return [it for it in self.devices if it.used_after is not None and it.used_after > fractions.Fraction(ratio) and it.used_after > it.used_before]
+
+    def has_room(self):
+        """Returns whether every copy has room: a device, which isn't past the ratio from which on
+        Ceph writes no more copies to it."""
+        return not self.missing and not self.past["backfillfull_ratio"]
+
+    def said(self, with_groups):
+        found = {
+            "short": {"groups": self.short, "copies": self.missing, "groups_before": self.short_before, "copies_before": self.missing_before},
+            "moved": len(self.moves), "can_move": self.can_move, "copies": self.copies, "bytes": whole(self.bytes),
+            "fullest": self.fullest and self.device_said(self.fullest),
+            "past_nearfull": [it.id for it in self.past["nearfull_ratio"]], "past_backfillfull": [it.id for it in self.past["backfillfull_ratio"]],
+            "pools": [it.said() for it in self.changes], "usage": [self.device_said(it) for it in self.devices],
+        }  # fmt: skip
+        if with_groups:
+            found["groups"] = [it.said() for it in self.moves]
+        return found
+
+    def device_said(self, it):
+        return {
+            "device": it.id, "name": self.plan.map.name_of(it.id), "host": self.plan.tree.host(it.id), "copies_before": it.before, "copies_after": it.after,
+            "share_before": rounded(*it.expected_before, 2), "share_after": rounded(*it.expected_after, 2), "percent_after": it.percent(),
+            "primaries_before": it.primaries_before, "primaries_after": it.primaries_after, "bytes_before": whole(it.bytes_before), "bytes_after": whole(it.bytes_after),
+            "used_before": ratio_said(it.used_before), "used_after": ratio_said(it.used_after),
+        }  # fmt: skip
+
+
+def ratio_said(value):
+    """Returns a part of 1 with four decimals, or None."""
+    return None if value is None else rounded(value.numerator, value.denominator, 4)
+
+
+def total(values):
+    """Returns a sum, or None where a part isn't known."""
+    values = list(values)
+    return None if any(it is None for it in values) or not values else sum(values)
+
+
+SHARES = {}
+
+
+def shares_of(plan, pool, states, key):
+    """Returns the shares of a pool by states that a key stands for."""
+    found = (id(plan), pool.rule, pool.size, key)
+    if key is None or found not in SHARES:
+        shares = Shares(plan.map, plan.map.rules[pool.rule], pool.size, states)
+        if key is None:
+            return shares
+        SHARES[found] = shares
+    return SHARES[found]
+
+
+def devices_of(plan, changes, states, quick):
+    """Returns each placed device with how full it is before and after."""
+    found = {it: Device(it) for it in plan.tree.placed_devices() if it in plan.text.items}
+    before, after, own = Expected(), Expected(), {}
+    for change in changes:
+        pool = change.pool
+        if not quick:
+            before.add(shares_of(plan, pool, plan.state, "now"), change.before.total())
+        key = (pool.rule, pool.size)
+        own[key] = own.get(key) or shares_of(plan, pool, states, None)
+        after.add(own[key], change.after.total())
+    known = all(it.pool.bytes is not None for it in changes) and bool(changes)
+    for id_, it in found.items():
+        it.before, it.after = (sum(of.entries.get(id_, 0) for of in sides) for sides in ([c.before for c in changes], [c.after for c in changes]))
+        it.primaries_before, it.primaries_after = (sum(of.primaries.get(id_, 0) for of in sides) for sides in ([c.before for c in changes], [c.after for c in changes]))
+        it.expected_before, it.expected_after = before.of(id_), after.of(id_)
+        if known:
+            fill(plan, changes, it)
+    return list(found.values())
+
+
+def fill(plan, changes, it):
+    """Sets the bytes of a device, and how much of its room is used."""
+    it.bytes_before = sum((change.bytes_of(change.before.entries.get(it.id, 0)) or 0 for change in changes), fractions.Fraction(0))
+    it.bytes_after = sum((change.bytes_of(change.after.entries.get(it.id, 0)) or 0 for change in changes), fractions.Fraction(0))
+    room = plan.cluster.rooms.get(it.id)
+    if room and room.size > 0:
+        it.used_before = fractions.Fraction(room.used, room.size)
+        it.used_after = fractions.Fraction(max(room.used + it.bytes_after - it.bytes_before, 0)) / room.size

@@ -1,0 +1,137 @@
+"""The text of a map for crushcalc: exact weights, and the buckets and rules alone that it is to
+have."""
+import decimal
+import re
+
+from .crush_map import MOST_DEVICES, ONE
+
+NAME = re.compile(r"[A-Za-z0-9_.-]{1,64}")
+KEYWORDS = {"tunable", "device", "type", "rule", "choose_args", "class"}
+
+
+def exact(weight):
+    """Returns a weight of 65536ths with all its decimals, of which there are 16 at most."""
+    text = f"{decimal.Decimal(weight) / ONE:f}"
+    return text if "." in text else text + ".0"
+
+
+class Names:
+    """Names that a text can have, each once: those of the map where they are such names."""
+
+    def __init__(self):
+        self.taken = set()
+
+    def give(self, name, other):
+        if not NAME.fullmatch(name) or name in self.taken or name in KEYWORDS:
+            name = other
+            while name in self.taken:
+                name += "-"
+        self.taken.add(name)
+        return name
+
+
+class Text:
+    """The text of a map, its lines, and what is declared from each line on."""
+
+    def __init__(self, map_, buckets, rules, more_devices=(), with_classes=False):
+        self.map, self.lines, self.declared = map_, [], []
+        self.names, self.items = Names(), {}
+        self.with_classes = with_classes
+        self.fillers = iter(free_ids(map_, more_devices))
+        self.filled = {}  # the device that stands in a hole, by its bucket and place
+        for bucket in buckets:
+            for place in map_.buckets[bucket].holes():
+                self.filled[bucket, place] = next(self.fillers)
+        self.write_tunables()
+        self.write_devices(more_devices)
+        self.write_types()
+        for bucket in in_order(map_, buckets):
+            self.write_bucket(map_.buckets[bucket])
+        for rule in rules:
+            self.write_rule(map_.rules[rule])
+
+    def text(self):
+        return "\n".join(self.lines) + "\n"
+
+    def at_line(self, number):
+        """Returns what the declaration is of that a line belongs to: a kind and a key."""
+        return next((what for line, what in reversed(self.declared) if line <= number), ("map", None))
+
+    def declare(self, what):
+        self.declared.append((len(self.lines) + 1, what))
+
+    def write_tunables(self):
+        for name, value in self.map.tunables.items():
+            self.declare(("tunable", name))
+            self.lines.append(f"tunable {name} {value}")
+
+    def write_devices(self, more):
+        devices = {**{id_: f"osd.{id_}" for id_ in more}, **self.map.devices, **{id_: f"hole.{id_}" for id_ in self.filled.values()}}
+        for id_, name in sorted(devices.items()):
+            self.items[id_] = self.names.give(name, f"device-{id_}")
+            self.declare(("device", id_))
+            class_ = self.map.classes.get(id_)
+            self.lines.append(f"device {id_} {self.items[id_]}" + (f" class {class_}" if class_ and self.with_classes and NAME.fullmatch(class_) else ""))
+
+    def write_types(self):
+        names = Names()
+        self.types = {name: names.give(name, f"type-{number}") for number, name in self.map.types.items()}
+        for number, name in sorted(self.map.types.items()):
+            self.declare(("type", number))
+            self.lines.append(f"type {number} {self.types[name]}")
+
+    def write_bucket(self, bucket):
+        name = self.items[bucket.id] = self.names.give(bucket.name, f"bucket{bucket.id}")
+        self.declare(("bucket", bucket.id))
+        type_name = self.map.types.get(bucket.type)
+        self.lines.append(f"{self.types.get(type_name, 'unknown')} {name} {{")
+        self.lines.append(f"\tid {bucket.id}")
+        if self.with_classes:
+            for it in self.map.buckets.values():
+                if it.shadow and it.name == f"{bucket.name}~{it.shadow}" and NAME.fullmatch(it.shadow):
+                    self.lines.append(f"\tid {it.id} class {it.shadow}")
+        self.lines += [f"\talg {bucket.alg}", "\thash 0"]
+        for place, (item, weight) in enumerate(bucket.items):
+            item = self.filled[bucket.id, place] if item is None else item
+            self.lines.append(f"\titem {self.items[item]} weight {exact(weight)}" + (f" pos {place}" if bucket.alg == "tree" else ""))
+        self.lines.append("}")
+
+    def write_rule(self, rule):
+        self.declare(("rule", rule.id))
+        self.lines += [f"rule {Names().give(rule.name, f'rule-{rule.id}')} {{", f"\tid {rule.id}", f"\ttype {rule.kind}"]
+        if rule.sizes:
+            self.lines += [f"\tmin_size {rule.sizes[0]}", f"\tmax_size {rule.sizes[1]}"]
+        self.lines += [f"\tstep {self.step(it)}" for it in rule.steps if it[0] != "noop"]
+        self.lines.append("}")
+
+    def step(self, words):
+        if words[0] == "take":
+            return f"take {self.items[words[1]]}"
+        if words[0] in ("choose", "chooseleaf"):
+            return f"{words[0]} {words[1]} {words[2]} type {self.types.get(words[3], 'unknown')}"
+        return " ".join(map(str, words))
+
+
+def free_ids(map_, more):
+    """Yields ids that no device has, the ones behind the last first."""
+    taken = {*map_.devices, *more, *(item for bucket in map_.buckets.values() for item, _ in bucket.items if item is not None and item >= 0)}
+    last = max(taken, default=-1)
+    yield from range(last + 1, MOST_DEVICES)
+    yield from (it for it in range(last) if it not in taken)
+
+
+def in_order(map_, buckets):
+    """Returns buckets with each behind those that are its items."""
+    wanted, found, seen = set(buckets), [], set()
+
+    def visit(id_):
+        if id_ in seen or id_ not in wanted:
+            return
+        seen.add(id_)
+        for item, _ in map_.buckets[id_].items:
+            visit(item)
+        found.append(id_)
+
+    for id_ in buckets:
+        visit(id_)
+    return found
