@@ -17,8 +17,8 @@ function statesAfter(cluster, ids, down) {
     return states;
 }
 
-function stages(ids, fails) {
-    const out = { words: "With the devices out", change: (copy) => copy.states(ids.map((id) => ({ id, reweight: 0 }))) };
+function stages(cluster, ids, fails) {
+    const out = { words: "With the devices out", change: (copy) => copy.states(ids.map((id) => ({ id, reweight: 0 }))), out: { ids: new Set(ids), states: statesAfter(cluster, ids, fails) } };
     const down = { words: "With the devices down", change: (copy) => copy.states(ids.map((id) => ({ id, up: false }))) };
     return fails ? [down, out] : [out];
 }
@@ -96,7 +96,7 @@ export function showDrain(cluster, wanted = {}) {
         try {
             await working(fails ? "A failure on a copy" : "A drain on a copy", async (work) => {
                 running = work;
-                const results = await stagesOf(cluster, pools, stages(ids, fails), work);
+                const results = await stagesOf(cluster, pools, stages(cluster, ids, fails), work);
                 work.goesOn();
                 at.replaceChildren(...shown(cluster, pools, ids, fails, results).filter(Boolean));
             });
