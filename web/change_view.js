@@ -73,7 +73,7 @@ export function poolLines(found) {
     if (found.length < 2) return null;
     const head = ["pool", "fewer copies than its size", "copies without room", "groups that move", "copies written anew"];
     const row = ({ pool, lacks, moved, anew }) => el("tr", { "data-pool": pool.id }, el("th", { scope: "row", class: "place" }, pool.name), [lacks.groups, lacks.copies, moved, anew].map((it, at) => el("td", { class: `number ${at < 2 && it ? "bad" : ""}` }, count(it))));
-    return el("div", { class: "card scroll", id: "by-pool", tabindex: "0", role: "region", "aria-label": "By pool" }, el("table", {}, el("thead", {}, el("tr", {}, head.map((it, at) => el("th", { scope: "col", class: at ? "number" : "place" }, it)))), el("tbody", {}, found.map(row))));
+    return el("div", { class: "card scroll", id: "by-pool", tabindex: "0", role: "region", "aria-label": "By pool" }, el("table", { "aria-label": "By pool" }, el("thead", {}, el("tr", {}, head.map((it, at) => el("th", { scope: "col", class: at ? "number" : "place" }, it)))), el("tbody", {}, found.map(row))));
 }
 
 const signed = (it) => (it > 0 ? `+${count(it)}` : it < 0 ? `−${count(-it)}` : "0");

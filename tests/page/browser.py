@@ -10,7 +10,8 @@ from selenium.webdriver.chrome.service import Service
 from selenium.webdriver.common.by import By
 from selenium.webdriver.support.ui import WebDriverWait
 
-SECONDS = int(os.environ.get("PAGE_SECONDS", 60))
+# a machine that does much else may need longer, and fewer looks
+SECONDS, POLL = int(os.environ.get("PAGE_SECONDS", 60)), float(os.environ.get("PAGE_POLL", 0.05))
 # records tasks of 50 ms and more, and presses of a pointer, from the page's first line on; and the
 # times of the test's own scripts
 RECORDER = """
@@ -47,7 +48,7 @@ class Browser:
 
     def until(self, holds, why, seconds=SECONDS):
         # an element may be replaced while it is looked at
-        return WebDriverWait(self.driver, seconds, 0.05, ignored_exceptions=(Exception,)).until(lambda _: holds(), why)
+        return WebDriverWait(self.driver, seconds, POLL, ignored_exceptions=(Exception,)).until(lambda _: holds(), why)
 
     def text(self, selector):
         return self.one(selector).text
