@@ -1,8 +1,8 @@
 // Files that are dropped or chosen: a cluster's own dumps, the text of a map, a CSV of states, what
 // another browser saved. Each is read, and what it says is set on the service.
-import { change, ask } from "./service.js";
+import { change } from "./service.js";
 import { meaning } from "./codes.js";
-import { drop, good, parts, poolBody, Unlike } from "./copies.js";
+import { good, parts, poolBody } from "./copies.js";
 import { Fault, RJENKINS, kindOf, readCrush, readOsd, ruleFault, some, textOf } from "./dump.js";
 import { el, fault } from "./dom.js";
 import { many } from "./figures.js";
@@ -158,5 +158,3 @@ export function takeSaved({ name, text }, summary) {
     note(summary.tenant, { pools: it.pools, states: it.states, files: it.files ?? {}, notes: it.notes ?? [], seen: it.seen });
     return el("p", { class: "done" }, `${name} is read: ${many(it.pools.length, "pool")} and the states of ${many(Object.keys(it.states).length, "device")}.`);
 }
-
-export { Fault, Unlike, drop, ask };
