@@ -215,6 +215,8 @@ def describe_pools(cluster, asked):
 
 def counts_by_pool(dump):
     """Returns whether every OSD counts by pools what its disk holds. FileStore and MemStore don't."""
+    if not dump.has("stats"):
+        return True
     stats = dump.at("stats")
     return not stats.has("num_per_pool_osds") or stats.get("num_per_pool_osds", int) == stats.get("num_osds", int)
 
