@@ -160,8 +160,8 @@ def a_failure_says_what_stops_at_once(page):
 
 
 def which_groups_move(page):
-    """Folded until they are wanted: those that move with both lists, one by its id that stays, those
-    that a device leaves; and as CSV."""
+    """Folded until they are wanted: those that move with both lists, one by its id that stays,
+    those that a device leaves; and as CSV."""
     page.planned()
     page.drained("host0")
     page.browser.click("#which summary")

@@ -15,7 +15,8 @@ def exact(weight):
 
 
 class Cluster:
-    """Racks of hosts of devices, all buckets of one kind, with rules by host (0) and by rack (1)."""
+    """Racks of hosts of devices, all buckets of one kind, with rules by host (0) and by rack
+    (1)."""
 
     def __init__(self, racks, hosts, devices, alg="tree", seed=5):
         chance = random.Random(seed)
@@ -51,8 +52,8 @@ class Cluster:
         })
 
     def osd(self, pools, states=(), upmaps=(), **more):
-        """The JSON of 'ceph osd dump -f json': pools are (name, size, min_size, rule, pg_num), states
-        by device (a reweight as Ceph writes it, and whether it is up)."""
+        """The JSON of 'ceph osd dump -f json': pools are (name, size, min_size, rule, pg_num),
+        states by device (a reweight as Ceph writes it, and whether it is up)."""
         states = dict(states)
         return json.dumps({
             "epoch": 9, "fsid": "0", "full_ratio": 0.95, "nearfull_ratio": 0.85,

@@ -1,5 +1,6 @@
-"""While the page waits: what it does is said after 300 ms, after 5 s for how long already, with a
-button that stops it; the old view is dimmed and keeps its own name; a failed GET may not be done."""
+"""While the page waits: what it does is said after 300 ms, after 5 s for how long already, with
+a button that stops it; the old view is dimmed and keeps its own name; a failed GET may not be
+done."""
 from page import first, unlike
 
 
