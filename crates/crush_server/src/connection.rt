@@ -1,14 +1,16 @@
-//! Connections over TCP.
+//! One connection.
+
+ghost use Rattle.std.specs.Prelude.{◌≡◌, false};
+ghost use Rattle.crush_server.specs.Served.{ServesCalls, ServesCallsInSession};
 
 use crate::client::Client;
-use crate::fault::ServerFault;
-use crate::listener::Listener;
 use crate::waiting::Waiting;
-use std::alloc::AllocError;
-use std::io::{self, ErrorKind, Read};
-use std::net::{Ipv4Addr, Shutdown, TcpListener, TcpStream, UdpSocket};
-use std::rt::HostRuntime;
-use std::time::Duration;
+use crush_http::{Buffers, serve_with};
+use std::io::{self, Read};
+use std::net::{Shutdown, TcpStream};
+use std::time::{Clock, Duration};
+use tenant_core::TenantStore;
+use tenant_service::Service;
 
 /// How many seconds one read or write may wait for the client.
 const WAIT_SECONDS: u64 = 5;
@@ -18,12 +20,6 @@ const LAST_MILLISECONDS: u64 = 100;
 
 /// How many reads take what the client still sends, at most.
 const LAST_READS: u32 = 40;
-
-/// How many bytes that a client still sends are taken at once.
-const TAKEN_SIZE: usize = 65_536;
-
-/// How many milliseconds pass after an accept that failed.
-const PAUSE_MILLISECONDS: u64 = 100;
 
 /// Sets how long the client is waited for, and that replies are sent without delay.
 fn prepare(stream: &TcpStream) -> io::Result<()> {
@@ -46,119 +42,31 @@ fn finish(mut stream: &TcpStream, taken: &mut [u8]) -> io::Result<()> {
     Ok(())
 }
 
-/// A socket to which nobody sends, so that a read of it takes `PAUSE_MILLISECONDS`. It is made
-/// before the first accept, since an accept fails where no further socket can be made.
-fn quiet_socket(rt: &HostRuntime) -> io::Result<UdpSocket> {
-    let socket = UdpSocket::bind(rt, (Ipv4Addr::LOCALHOST, 0))?;
-    // its one peer is itself, so that nothing comes from elsewhere
-    socket.connect(socket.local_addr()?)?;
-    socket.set_read_timeout(Some(Duration::from_millis(PAUSE_MILLISECONDS)))?;
-    Ok(socket)
-}
-
-/// One of two handles of a connection's socket: a reader and a writer are values of their own.
-pub type TcpClient<'a> = Client<'a, TcpStream, HostRuntime>;
-
-/// The clients of a port of 127.0.0.1. Each read and each write waits 5 seconds for one at most,
-/// and a message with its reply 30 seconds in all.
-#[derive(Drop)]
-pub struct TcpClients<'a> {
-    rt: &'a HostRuntime,
-    port: u16,
-    waiting: &'a Waiting<'a, HostRuntime>,
-    /// Where they connect, once it is listened on.
-    listener: Option<TcpListener>,
-    /// What is read where an accept failed, so that the next one waits.
-    quiet: Option<UdpSocket>,
-    /// How many accepts failed.
-    failed: u32,
-    /// Room for what a client sends after its replies.
-    taken: Vec<u8>,
-}
-
-impl<'a> TcpClients<'a> {
-    /// The clients of this port, which isn't listened on yet. `Err(AllocError)`: an allocation
-    /// failed; nothing is changed.
-    pub fn new(
-        rt: &'a HostRuntime,
-        port: u16,
-        waiting: &'a Waiting<'a, HostRuntime>,
-    ) -> Result<Self, AllocError> {
-        let taken = vec![in rt.alloc(); 0; TAKEN_SIZE]?;
-        Ok(TcpClients {
-            rt,
-            port,
-            waiting,
-            listener: None,
-            quiet: None,
-            failed: 0,
-            taken,
-        })
+/// Serves a connection until it ends, however that is: each read and each write waits 5 seconds at
+/// most, and a message with its reply 30 seconds in all. The connection is to be closed then.
+/// `taken` is room for what the client sends after that; nothing is allocated but by the calls.
+///
+/// What a client sends and gets has no model in contracts. The contract of `crush_http::serve` says
+/// how calls and replies follow from the bytes.
+pub(crate) fn serve_stream<T: TenantStore, C: Clock>(
+    buffers: &mut Buffers,
+    taken: &mut [u8],
+    clock: &C,
+    service: &mut Service<T>,
+    stream: &TcpStream,
+)
+    ensures served { T.is_honest service.new → ServesCalls (T.latched service.new) (T.has_state service.old) (T.has_state service.new) }
+    ensures stop { T.is_honest service.new → T.latched service.old ≡ false → ServesCallsInSession (T.latched service.new) (T.has_state service.old) (T.has_state service.new) (T.may_leave service.new) }
+    ensures honest { T.is_honest service.new → T.is_honest service.old }
+{
+    if prepare(stream).is_err() {
+        // the client is gone already
+        return;
     }
-
-    /// How many clients couldn't be accepted.
-    pub fn failed(&self) -> u32 {
-        self.failed
-    }
-
-    /// Accepts a connection.
-    fn accepted(&self) -> io::Result<(TcpStream, TcpStream)> {
-        let Some(listener) = &self.listener else {
-            return Err(ErrorKind::NotConnected.into());
-        };
-        let (stream, _peer) = listener.accept()?;
-        prepare(&stream)?;
-        let other = stream.try_clone()?;
-        Ok((stream, other))
-    }
-
-    /// Counts an accept that failed, and waits for a while: the next one would most likely fail
-    /// too, at once.
-    fn pause(&mut self) {
-        self.failed = self.failed.saturating_add(1);
-        if let Some(quiet) = &self.quiet {
-            let _nothing = quiet.recv(&mut [0]);
-        }
-    }
-}
-
-impl<'a> Listener for TcpClients<'a> {
-    type Reader = TcpClient<'a>;
-
-    type Writer = TcpClient<'a>;
-
-    /// Listens on the port, and writes a line that says so to standard output.
-    fn listen(&mut self) -> Result<(), ServerFault> {
-        let Ok(listener) = TcpListener::bind(self.rt, (Ipv4Addr::LOCALHOST, self.port)) else {
-            return Err(ServerFault::CannotListen);
-        };
-        self.listener = Some(listener);
-        self.quiet = quiet_socket(self.rt).ok();
-        let port = self.port;
-        if println!(self.rt; "listening 127.0.0.1:{port}").is_err() {
-            return Err(ServerFault::WriteFault);
-        }
-        Ok(())
-    }
-
-    fn accept(&mut self) -> io::Result<(TcpClient<'a>, TcpClient<'a>)> {
-        match self.accepted() {
-            Ok((stream, other)) => {
-                self.waiting.restart();
-                Ok((
-                    Client::new(stream, self.waiting),
-                    Client::new(other, self.waiting),
-                ))
-            }
-            Err(error) => {
-                self.pause();
-                Err(error)
-            }
-        }
-    }
-
-    fn close(&mut self, reader: TcpClient<'a>, _writer: TcpClient<'a>) {
-        // where this fails the client is gone, or sends no end
-        let _finished = finish(&reader.stream, &mut self.taken);
-    }
+    let waiting = Waiting::new(clock);
+    let mut reader = Client::new(stream, &waiting);
+    let mut writer = Client::new(stream, &waiting);
+    let _ended = serve_with(buffers, service, &mut reader, &mut writer);
+    // where this fails the client is gone, or sends no end
+    let _finished = finish(stream, taken);
 }

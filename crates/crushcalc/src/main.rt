@@ -8,7 +8,7 @@ use clap::Error;
 use clap::error::ErrorKind;
 use crush_app::{CheckEnd, ScriptEnd, check_run, script_in_memory};
 use crush_files::script_on_file;
-use crush_server::{ServerFault, TcpClients, Waiting, serve_on_file};
+use crush_server::{ServerFault, serve_on_file};
 use sqlite_disk::Unknown;
 use std::alloc::AllocError;
 use std::fs::File;
@@ -131,16 +131,6 @@ fn check_file<R: AllocGlobal + Files + Print>(rt: &R, path: &str) -> Result<Exit
     }
 }
 
-/// Writes to standard error how many connections couldn't be accepted, where these are most.
-fn tell_of_failed<R: Eprint>(rt: &R, failed: u32, connections: u32) {
-    if failed > connections / 2 {
-        // the server has ended, whether or not this is written
-        let _written = eprintln!(rt;
-            "crushcalc: {failed} of {connections} connections not accepted"
-        );
-    }
-}
-
 /// Runs the command that the arguments name, and returns the exit status.
 fn run(rt: &HostRuntime) -> Result<ExitCode, Stop> {
     let Ok(given) = env::args(rt) else {
@@ -162,10 +152,7 @@ fn run(rt: &HostRuntime) -> Result<ExitCode, Stop> {
             port,
             connections,
         } => {
-            let waiting = Waiting::new(rt);
-            let mut clients = TcpClients::new(rt, port, &waiting)?;
-            serve_on_file(rt, db, Unknown, placements, &mut clients, connections)?;
-            tell_of_failed(rt, clients.failed(), connections);
+            serve_on_file(rt, db, Unknown, placements, port, connections)?;
             Ok(ExitCode::SUCCESS)
         }
         Invocation::Check { path } => check_file(rt, path),
