@@ -41,7 +41,7 @@ help:
 	@echo 'make test-all  the same with every wrong body'
 	@echo 'make wrong     tries the wrong bodies whose record is stale, or of CRATES="NAME..", and records what refused them; CRATES=--plan says how long that takes'
 	@echo 'make form      formats the sources of each crate; make test refuses what is not in this form'
-	@echo 'make install   builds, and installs PREFIX/bin/crushcalc (PREFIX=/usr/local)'
+	@echo 'make install   builds, and installs PREFIX/bin/crushcalc and crushplan (PREFIX=/usr/local)'
 	@echo 'make package   builds, and makes a Debian package and a tarball of the program, the page, the pages and the unit: build/package'
 	@echo 'make package-check   as root: installs that package in a Debian with nothing else, made by debootstrap, uses it, upgrades and removes it'
 	@echo 'make rebuild-check   builds the commit twice, in folders of different names, and compares programs and packages to the byte'
@@ -149,6 +149,11 @@ install: build
 	@echo 'Installing $(DESTDIR)$(PREFIX)/bin/crushcalc'
 	@install -d '$(DESTDIR)$(PREFIX)/bin'
 	@install -m 755 crushcalc '$(DESTDIR)$(PREFIX)/bin/crushcalc'
+	@echo 'Installing the planner'"'"'s command: $(DESTDIR)$(PREFIX)/bin/crushplan'
+	@install -m 755 tools/crushplan '$(DESTDIR)$(PREFIX)/bin/crushplan'
+	@install -d '$(DESTDIR)$(PREFIX)/share/crushcalc/crushplan_parts' '$(DESTDIR)$(PREFIX)/share/bash-completion/completions'
+	@install -m 644 tools/crushplan_parts/*.py '$(DESTDIR)$(PREFIX)/share/crushcalc/crushplan_parts'
+	@install -m 644 tools/crushplan.bash '$(DESTDIR)$(PREFIX)/share/bash-completion/completions/crushplan'
 	@echo 'Installing the page: $(DESTDIR)$(PREFIX)/share/crushcalc/web'
 	@install -d '$(DESTDIR)$(PREFIX)/share/crushcalc/web'
 	@install -m 644 web/* '$(DESTDIR)$(PREFIX)/share/crushcalc/web'
@@ -189,6 +194,7 @@ ceph-check: build build/crush_bench bench-deps
 	@python3 tests/ceph/check_exceptions ./crushcalc
 	@python3 tests/ceph/check_impacts ./crushcalc
 	@python3 tests/ceph/check_texts ./crushcalc build/crush_bench
+	@python3 tests/ceph/check_plan --program ./crushcalc --seed $(SEED) tools/crushplan
 
 sqlite-check: build
 	@command -v sqlite3 >/dev/null || { echo 'Installing sqlite3: apt-get install -y sqlite3'; apt-get update && apt-get install -y sqlite3; }

@@ -56,7 +56,7 @@ def byte_by_byte(program, db):
 
 def examples(program, db):
     """Stored scripts over one connection each, to a server that is begun anew for each."""
-    cases = [path for it in ("exceptions", "maps", "pools", "reports") for path in (HERE / "cases").glob(f"{it}_*.in")]
+    cases = [path for it in ("exceptions", "maps", "pools", "reports") for path in (HERE / "cases").glob(f"{it}*.in")]
     for path in sorted([*(HERE.parent / "examples").glob("*.script"), *cases]):
         with Server(program, db.with_name(f"{path.stem}.db")) as server:
             if why := unlike(asked(server, path.read_bytes().splitlines()), path.with_suffix(".out").read_bytes().splitlines()):

@@ -5,7 +5,8 @@ import re
 import subprocess
 
 TOP = pathlib.Path(__file__).resolve().parent.parent
-MANUALS, COMPLETIONS = TOP / "package" / "man", TOP / "package" / "completions"
+MANUALS = TOP / "package" / "man"
+COMPLETIONS = {"crushcalc": TOP / "package/completions/crushcalc", "crushplan": TOP / "tools/crushplan.bash"}
 OPTION = re.compile(r"(?<![\w-])--[a-z][a-z-]*")
 SECONDS = 60
 
@@ -44,7 +45,7 @@ def manual(name):
 def completed(name, *words):
     """What the completion offers for the last of the words."""
     line = " ".join(f"'{it}'" for it in (name, *words))
-    script = f". {COMPLETIONS / name}; COMP_WORDS=({line}); COMP_CWORD={len(words)}; _{name}; printf '%s\\n' \"${{COMPREPLY[@]}}\""
+    script = f". {COMPLETIONS[name]}; COMP_WORDS=({line}); COMP_CWORD={len(words)}; _{name}; printf '%s\\n' \"${{COMPREPLY[@]}}\""
     ran = subprocess.run(["bash", "-c", script], stdout=subprocess.PIPE, timeout=SECONDS, check=True)
     return set(ran.stdout.decode().split())
 

@@ -1,6 +1,6 @@
 """The commands that documents show, each with what it has to print: indented lines, a command after
 '$ ' and its output below it. The commands of a document run in order in one folder, which has the
-program as crushcalc, and the examples."""
+program as crushcalc, the examples and the tools."""
 import os
 import pathlib
 import re
@@ -45,7 +45,8 @@ def without_jq(command):
 
 def fault(folder, command, wanted, seconds):
     """Why a command doesn't print what is shown, or None."""
-    ran = subprocess.run(["sh", "-c", command], cwd=folder, stdin=subprocess.DEVNULL, stdout=subprocess.PIPE, stderr=subprocess.STDOUT, timeout=seconds)
+    environment = {**os.environ, "CRUSHCALC": f"{folder}/crushcalc"}
+    ran = subprocess.run(["sh", "-c", command], cwd=folder, env=environment, stdin=subprocess.DEVNULL, stdout=subprocess.PIPE, stderr=subprocess.STDOUT, timeout=seconds)
     said = ran.stdout.decode(errors="replace")
     return None if said == wanted else f"it prints {said[:400]!r}"
 
@@ -59,7 +60,8 @@ def outcomes(program, words, seconds):
             continue
         with tempfile.TemporaryDirectory() as folder:
             os.symlink(program, f"{folder}/crushcalc")
-            os.symlink(TOP / "examples", f"{folder}/examples")
+            for it in ("examples", "tools"):
+                os.symlink(TOP / it, f"{folder}/{it}")
             for place, (command, wanted) in enumerate(commands_in((TOP / document).read_text()), 1):
                 if SERVED.search(command):
                     continue

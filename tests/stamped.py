@@ -1,6 +1,6 @@
-"""The program's own words on which commit it was built from. A release's program names it, in a line
-of `crushcalc --version` that the gate puts into its copy of the sources (`tests/all --stamp`);
-in the repository no source names a commit, since a commit can't name itself."""
+"""The program's own words on which commit it was built from. A release's program names it, in a
+line of `crushcalc --version` that the gate puts into its copy of the sources (`tests/all
+--stamp`); in the repository no source names a commit, since a commit can't name itself."""
 import pathlib
 import re
 import subprocess

@@ -1,5 +1,5 @@
-"""Clones of a commit, the program built in each by the toolchain, and what package/build makes of it:
-for `rebuild` and `dist`."""
+"""Clones of a commit, the program built in each by the toolchain, and what package/build makes
+of it: for `rebuild` and `dist`."""
 import hashlib
 import os
 import pathlib

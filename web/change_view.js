@@ -6,6 +6,7 @@ import { groupTable } from "./group_table.js";
 import { DEVICE_HEADS, deviceFields, placesTable } from "./places.js";
 import { decimals, expectedOf, partText, percent, percentText } from "./shares.js";
 import { picture } from "./picture.js";
+import { some } from "./dump.js";
 
 export function legend(...pairs) {
     return el("ul", { class: "legend" }, pairs.map(([kind, text]) => el("li", {}, el("span", { class: `key ${kind}`, "aria-hidden": "true" }), text)));
@@ -53,9 +54,18 @@ export function answerRow(cluster, all) {
     ], "answer");
 }
 
-export function verdict(all) {
-    if (!all.missing) return el("p", { class: "verdict good", id: "verdict" }, el("strong", {}, "Yes"), ": every copy has room.");
-    return el("p", { class: "verdict bad", id: "verdict" }, el("strong", {}, "No"), `: ${many(all.missing, "copy", "copies")} ${all.missing === 1 ? "has" : "have"} no room.`);
+// The answer in one sentence: whether every copy has room, and how many groups move. `stopped` is
+// how many groups stop while devices are down, `keeping` how many copies stay on devices that a rule
+// takes by name.
+export function verdict(found, all, { stopped = 0, keeping = 0 } = {}) {
+    const lacking = found.filter((it) => it.lacks.copies).map((it) => it.pool.name), moved = `${many(all.moved, "group")} ${all.moved === 1 ? "moves" : "move"}`, has = (it) => (it === 1 ? "has" : "have");
+    const why = [
+        stopped && `${many(stopped, "group")} ${has(stopped)} fewer copies than min_size while the devices are down, so ${stopped === 1 ? "its" : "their"} I/O stops`,
+        all.missing && `${many(all.missing, "copy", "copies")} of ${lacking.length === 1 ? "pool" : "the pools"} ${some(lacking, 3)} ${has(all.missing)} no room`,
+        keeping && `${many(keeping, "copy", "copies")} ${keeping === 1 ? "stays" : "stay"}: a rule takes the device by name`,
+    ].filter(Boolean);
+    if (why.length) return el("p", { class: "verdict bad", id: "verdict" }, el("strong", {}, "No"), `: ${why.join("; ")}; ${moved}.`);
+    return el("p", { class: "verdict good", id: "verdict" }, el("strong", {}, "Yes"), `: ${all.moved ? moved : "no group moves"}, and every copy has room.`);
 }
 
 // One line for each pool, where there are several.
@@ -63,7 +73,7 @@ export function poolLines(found) {
     if (found.length < 2) return null;
     const head = ["pool", "fewer copies than its size", "copies without room", "groups that move", "copies written anew"];
     const row = ({ pool, lacks, moved, anew }) => el("tr", { "data-pool": pool.id }, el("th", { scope: "row", class: "place" }, pool.name), [lacks.groups, lacks.copies, moved, anew].map((it, at) => el("td", { class: `number ${at < 2 && it ? "bad" : ""}` }, count(it))));
-    return el("div", { class: "card scroll", id: "by-pool", tabindex: "0", role: "region", "aria-label": "By pool" }, el("table", {}, el("thead", {}, el("tr", {}, head.map((it, at) => el("th", { scope: "col", class: at ? "number" : "place" }, it)))), el("tbody", {}, found.map(row))));
+    return el("div", { class: "card scroll", id: "by-pool", tabindex: "0", role: "region", "aria-label": "By pool" }, el("table", { "aria-label": "By pool" }, el("thead", {}, el("tr", {}, head.map((it, at) => el("th", { scope: "col", class: at ? "number" : "place" }, it)))), el("tbody", {}, found.map(row))));
 }
 
 const signed = (it) => (it > 0 ? `+${count(it)}` : it < 0 ? `−${count(-it)}` : "0");
@@ -93,9 +103,9 @@ export function beforeAfter(cluster, all, name, marked) {
 }
 
 // The groups that move, folded until they are wanted.
-export function groupsFolded(cluster, found, heads, name, more) {
+export function groupsFolded(cluster, found, heads, name) {
     const moved = sum(found, (it) => it.moved), inside = el("div");
-    const fold = el("details", { class: "card", id: "which" }, el("summary", {}, counted("Which groups", { length: moved })), more, inside);
+    const fold = el("details", { class: "card", id: "which" }, el("summary", {}, counted("Which groups", { length: moved })), inside);
     fold.addEventListener("toggle", () => fold.open && !inside.firstChild && inside.append(groupTable(cluster, found, heads, name)));
     return fold;
 }

@@ -90,7 +90,7 @@ function writable(name, work) {
         return good(await change(what, name, route, fields, { copy: true }), what);
     };
     return {
-        name, set,
+        name, set, pairs: new Map(),
         async states(changes) {
             for (const part of parts(changes)) await set("Set states of devices in the copy", "devices", { devices: part });
         },
@@ -108,6 +108,7 @@ async function filled(copy, cluster, pools, work) {
     for (const pool of pools) {
         await copy.set("Make the pool in the copy", "pools", poolBody(pool));
         const pairs = await exceptionsOf(cluster, pool, work.signal);
+        copy.pairs.set(pool.id, pairs);
         if (pairs.length) await copy.exceptions(pool, pairs);
     }
 }

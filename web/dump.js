@@ -91,7 +91,7 @@ export function readCrush(text, file = "crush.json") {
     const map = { file, types: new Map(each(whole, "types", file, named("type_id"))), devices: new Map(each(whole, "devices", file, named("id"))), tunables: TUNABLES.filter((it) => it in whole.tunables).map((it) => [it, whole.tunables[it]]) };
     map.buckets = new Map(each(whole, "buckets", file, bucketOf).map((it) => [it.id, it]));
     map.rules = new Map(each(whole, "rules", file, (it, where) => ruleOf(it, where, map.buckets)).map((it) => [it.id, it]));
-    map.weightSets = Object.entries(whole.choose_args ?? {}).map(([id, sets]) => [Number(id), (Array.isArray(sets) ? sets : []).map((it) => it.bucket_id)]);
+    map.weightSets = Object.keys(whole.choose_args ?? {});
     markHoles(map);
     return map;
 }
@@ -128,10 +128,8 @@ function names() {
 // The devices below an item, and the buckets at and below it.
 function reach(map, item, found = { devices: new Set(), buckets: new Set() }) {
     if (item === null || found.devices.has(item) || found.buckets.has(item)) return found;
-    if (!map.buckets.has(item)) {
-        found.devices.add(item);
-        return found;
-    }
+    if (item >= 0) found.devices.add(item);
+    if (!map.buckets.has(item)) return found;
     found.buckets.add(item);
     for (const it of map.buckets.get(item).items) reach(map, it.id, found);
     return found;
@@ -141,16 +139,19 @@ const some = (all, most = 6) => (all.length > most ? `${all.slice(0, most).join(
 
 // Why a rule can't be computed, or null.
 export function ruleFault(map, rule) {
-    if (rule.odd) return rule.odd;
-    for (const [op, item, of] of rule.steps) {
-        if (op !== "take") continue;
-        if (of) return `it takes devices of the class ${of}, whose tree the file doesn't have`;
-        const bad = [...reach(map, item).buckets].map((it) => map.buckets.get(it)).filter((it) => !COMPUTED.has(it.alg));
-        if (bad.length) return `it takes ${bad[0].alg} buckets: ${some(bad.map((it) => it.name))}`;
-        const other = [...reach(map, item).buckets].map((it) => map.buckets.get(it)).find((it) => it.hash !== "rjenkins1" && it.hash !== 0);
-        if (other) return `the bucket ${other.name} has the hash ${other.hash}`;
+    if (rule.odd) return `of its rule ${rule.name}: ${rule.odd}`;
+    const takes = rule.steps.filter(([op]) => op === "take");
+    for (const [, item, of] of takes) {
+        if (of) return `its rule ${rule.name} takes the class ${of} alone, whose trees crush.json has, and ${map.file} hasn't`;
+        if (item < 0 && !map.buckets.has(item)) return `its rule ${rule.name} takes the bucket ${item}, which isn't there`;
     }
-    return null;
+    const ids = [...new Set(takes.flatMap(([, item]) => [...reach(map, item).buckets]))], buckets = ids.map((it) => map.buckets.get(it));
+    const lost = buckets.flatMap((it) => it.items).find((it) => it.id !== null && it.id < 0 && !map.buckets.has(it.id));
+    if (lost) return `below its rule ${rule.name} is the bucket ${lost.id}, which isn't there`;
+    const others = buckets.filter((it) => !COMPUTED.has(it.alg));
+    if (others.length) return `below its rule ${rule.name} are ${[...new Set(others.map((it) => it.alg))].sort().join(" and ")} buckets (${some(others.map((it) => it.name), 3)}), which crushcalc doesn't compute`;
+    const hashed = buckets.filter((it) => it.hash !== "rjenkins1" && it.hash !== "0");
+    return hashed.length ? `the buckets ${some(hashed.map((it) => it.name), 3)} have another hash than rjenkins1` : null;
 }
 
 // The buckets with each behind those that are its items.
@@ -229,12 +230,13 @@ export function readOsd(text, file = "osd.json") {
     const states = new Map(), affine = [];
     each(whole, "osds", file, (it, where) => {
         const id = field(it, "osd", "number", where), weight = field(it, "weight", "decimal", where);
-        states.set(id, { reweight: Math.min(ONE, Math.max(0, Math.round(weight * ONE))), up: Boolean(it.up ?? 1) });
+        if (weight < 0) throw new Fault(`${where}: weight is below 0`);
+        states.set(id, { reweight: Math.min(ONE, Math.round(weight * ONE)), up: Boolean(it.up ?? 1) });
         if (Math.round((it.primary_affinity ?? 1) * ONE) !== ONE) affine.push(id);
     });
     const groups = (name) => each(whole, name, file, (it, where) => groupOf(field(it, "pgid", "text", where), `${where}: pgid`), []);
     const upmaps = each(whole, "pg_upmap_items", file, (it, where) => ({ at: groupOf(field(it, "pgid", "text", where), `${where}: pgid`), pairs: each(it, "mappings", where, (pair, at) => [field(pair, "from", "number", at), field(pair, "to", "number", at)]) }), []);
-    return { file, pools: each(whole, "pools", file, poolOf), states, affine, upmaps, lists: groups("pg_upmap"), temporary: [...groups("pg_temp"), ...groups("primary_temp")] };
+    return { file, pools: each(whole, "pools", file, poolOf), states, affine, upmaps, lists: groups("pg_upmap"), temporary: { lists: groups("pg_temp"), primaries: groups("primary_temp") } };
 }
 
 export { RJENKINS, some };

@@ -67,7 +67,7 @@ export function groupTable(cluster, found, heads, name) {
     const file = button("Save as CSV", async () => save(`groups-${name}.csv`, await longCsv(["pool", "pool_name", "group", "id", "old", "new", "old_names", "new_names"], sorted.length, (place) => fields(sorted[place]))), { id: "groups-csv" });
     const example = found[0]?.pool ?? { id: 1 };
     return el("div", { id: "groups" }, el("div", { class: "controls" }, labelled("Find a group or device", search, `A group's number or its id in Ceph (group 28 of pool ${example.id} is ${idOf(example, 28)}), also one that stays; or a device that joins or leaves.`), file), said,
-        el("table", { class: "plain lists" }, el("thead", {}, el("tr", {}, ["group", ...heads].map((it) => el("th", { scope: "col" }, it)))), body), foot);
+        el("table", { class: "plain lists", "aria-label": "Groups" }, el("thead", {}, el("tr", {}, ["group", ...heads].map((it) => el("th", { scope: "col" }, it)))), body), foot);
 }
 
 function named(cluster, list) {

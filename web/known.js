@@ -9,7 +9,7 @@ export function tenants() {
 }
 
 export function known(tenant) {
-    const empty = { epoch: 0, seen: 0, pools: [], states: {}, files: {}, notes: [], pool: 0, one: false };
+    const empty = { epoch: 0, seen: 0, pools: [], states: {}, files: {}, notes: [], skipped: {}, pool: 0, one: false };
     try {
         return { ...empty, ...JSON.parse(localStorage.getItem(KNOWN + tenant) ?? "{}") };
     } catch {

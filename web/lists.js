@@ -25,11 +25,10 @@ function same(one, other) {
     return one.length === other.length && one.every((it, place) => it === other[place]);
 }
 
-// The copies of a group that are written anew. In an erasure pool each place has a part of its own,
-// so a device that changes its place writes another one.
-function writtenAnew(old, next, erasure) {
-    if (erasure) return next.filter((it, place) => it !== -1 && old[place] !== it);
-    return next.filter((it, place) => it !== -1 && !old.includes(it) && next.indexOf(it) === place);
+// How many copies a group of an erasure pool writes anew: each place has a part of its own, so a
+// device that changes its place writes another one.
+function placesAnew(old, next) {
+    return next.reduce((count, it, place) => count + (it !== -1 && old[place] !== it), 0);
 }
 
 // The copies that a list has: its devices, each once.
@@ -61,16 +60,20 @@ function greatest(...all) {
     return all.reduce((most, items) => items.reduce((top, it) => Math.max(top, it), most), -1);
 }
 
-// Of groups that move, with their lists: how many copies each writes anew, and what each device
-// gains and loses.
+// The devices of a list that another one lacks, each once.
+function others(list, lacks) {
+    return list.filter((it, place) => it !== -1 && !lacks.includes(it) && list.indexOf(it) === place);
+}
+
+// Of groups that move, with their lists: how many copies each writes anew, and how often each device
+// joins a list and leaves one.
 function moves(pool, groups, old, next) {
-    const erasure = pool.kind === "erasure", ids = greatest(old.items, next.items) + 1;
-    const gains = new Int32Array(ids), losses = new Int32Array(ids), gainedBy = new Int32Array(groups.length);
+    const ids = greatest(old.items, next.items) + 1, gains = new Int32Array(ids), losses = new Int32Array(ids), gainedBy = new Int32Array(groups.length);
     groups.forEach((group, place) => {
-        const [one, other] = [listAt(old, place), listAt(next, place)], written = writtenAnew(one, other, erasure);
-        for (const it of written) gains[it] += 1;
-        for (const it of writtenAnew(other, one, erasure)) losses[it] += 1;
-        gainedBy[place] = written.length;
+        const [one, other] = [listAt(old, place), listAt(next, place)];
+        for (const it of others(other, one)) gains[it] += 1;
+        for (const it of others(one, other)) losses[it] += 1;
+        gainedBy[place] = pool.kind === "erasure" ? placesAnew(one, other) : others(other, one).length;
     });
     return { moved: groups.length, anew: gainedBy.reduce((sum, it) => sum + it, 0), groups, gainedBy, old, next, gains, losses };
 }

@@ -40,7 +40,10 @@ function joined(devices, buckets, rules, types) {
     const places = new Map();
     for (const it of all.flatMap((bucket) => bucket.items)) places.set(it.name, (places.get(it.name) ?? 0) + 1);
     for (const bucket of all) {
-        bucket.items = bucket.items.filter((it) => !isHole(bucket, it, places));
+        // `whole` has the holes too
+        bucket.whole = bucket.items;
+        for (const it of bucket.whole) it.hole = isHole(bucket, it, places);
+        bucket.items = bucket.items.filter((it) => !it.hole);
         for (const it of bucket.items) ((it.device ?? it.bucket).buckets ??= []).push(bucket);
     }
     const roots = all.filter((it) => !it.buckets?.length);

@@ -4,7 +4,7 @@
 import { button, el, labelled, options } from "./dom.js";
 import { devicesBelow, pathOf } from "./map.js";
 
-const STRIP = 24, DEVICES = 150, SIDE_BY_SIDE = 14, NAMED = 34, GAP = 1;
+const STRIP = 24, DEVICES = 150, SIDE_BY_SIDE = 14, NAMED = 18, GAP = 1;
 
 // The rectangles of a place and of what is below it, as wide as the weights say.
 function laidOut(place, left, top, width, depth, found) {
@@ -90,8 +90,9 @@ export function picture(cluster, { values, colour, words, keys, actions }) {
         }
     }
     function write(to, it, ink, room) {
-        const { name } = it.place, fits = to.measureText(name).width <= it.width - 6;
-        if (!fits && !it.strip) return;
+        // where the name has no room, its number may have
+        const name = [it.place.name, /\d+$/.exec(it.place.name)?.[0]].find((text) => text && to.measureText(text).width <= it.width - 6);
+        if (!name) return;
         to.save();
         to.beginPath();
         to.rect(it.left, it.top, it.width - 2, it.height);

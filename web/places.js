@@ -92,7 +92,7 @@ export function placesTable(cluster, { values, columns, draw, top, orders, mark 
     draws();
     return el("div", { id, class: "places" }, el("div", { class: "controls" }, labelled("Show", level), labelled("Order", order), labelled("Find a place", search),
         file && button("Save as CSV", () => save(file.name, file.text()), { id: `${id}-csv` })), legend,
-    el("div", { class: "card scroll", tabindex: "0", role: "region", "aria-label": file?.title ?? "Places" }, el("table", {}, el("thead", {}, heads), body)), foot);
+    el("div", { class: "card scroll", tabindex: "0", role: "region", "aria-label": file?.title ?? "Places" }, el("table", { "aria-label": file?.title ?? "Places" }, el("thead", {}, heads), body)), foot);
 }
 
 // The first fields of a device's line in a CSV, and their names.

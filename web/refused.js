@@ -27,8 +27,8 @@ function linesAround(lines, line, meaning) {
 function itemOf(code, text, line) {
     const it = (code === "M5" || code === "M6") && guilty(text, code, line);
     if (!it) return null;
-    const why = code === "M5" ? `${it.name} isn't declared before the bucket ${it.bucket}` : `${it.name} stands a second time in the bucket ${it.bucket}`;
-    return { line: it.line, meaning: [el("strong", {}, code), `: ${why}. ${FAULTS[code]}`] };
+    const here = code === "M5" ? `${it.name} isn't declared before the bucket ${it.bucket}` : `${it.name} stands a second time in the bucket ${it.bucket}`;
+    return { line: it.line, meaning: [el("strong", {}, code), `: ${FAULTS[code]} Here ${here}.`] };
 }
 
 // What is offered for holes of tree buckets: the text with them filled, to be taken or saved.

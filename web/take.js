@@ -1,15 +1,15 @@
 // Files that are dropped or chosen: a cluster's own dumps, the text of a map, a CSV of states, what
 // another browser saved. Each is read, and what it says is set on the service.
-import { change, ask } from "./service.js";
+import { change } from "./service.js";
 import { meaning } from "./codes.js";
-import { drop, good, parts, poolBody, Unlike } from "./copies.js";
+import { good, parts, poolBody } from "./copies.js";
 import { Fault, RJENKINS, kindOf, readCrush, readOsd, ruleFault, some, textOf } from "./dump.js";
 import { el, fault } from "./dom.js";
 import { many } from "./figures.js";
 import { known, note } from "./known.js";
 import { faultOf } from "./refused.js";
 
-const LONGEST_FILE = 16_777_216, LONGEST_BODY = 5_242_880, PAIRS = 1024;
+const LONGEST_FILE = 16_777_216, LONGEST_BODY = 5_242_880, PAIRS = 1024, SIZE = 32, GROUPS = 65536;
 
 // The text of a file as it is, its byte order mark too.
 async function textIn(file) {
@@ -54,34 +54,38 @@ export async function importMap(tenant, { name, text }, take) {
 
 // ---- pools, states and upmap items of osd.json
 
-// Why a pool isn't computed, or null.
-function poolFault(pool, dump, rules) {
-    if (pool.kind.startsWith("of type")) return `it is ${pool.kind}`;
-    if (pool.hash !== RJENKINS) return `its objects have another hash (object_hash ${pool.hash})`;
-    if (dump) {
-        const rule = dump.rules.get(pool.rule);
-        if (!rule) return `its rule ${pool.rule} is missing`;
-        const why = ruleFault(dump, rule);
-        if (why) return `its rule ${rule.name}: ${why}`;
-        const sets = dump.weightSets.some(([id]) => id === -1 || id === pool.id);
-        if (sets) return "it has a weight set (choose_args)";
-    }
-    return rules && !rules.has(pool.rule) ? `its rule ${pool.rule} is missing in the map` : null;
+// Why a pool isn't computed, or null. `rules` are those of the map that the service has.
+function poolFault(pool, dump, rules, file) {
+    const rule = dump ? dump.rules.get(pool.rule) : rules.get(pool.rule);
+    if (!rule) return `${file} lacks its rule ${pool.rule}`;
+    if (pool.kind.startsWith("of type")) return `it is a pool ${pool.kind}`;
+    if (!(pool.size >= 1 && pool.size <= SIZE)) return `its size is ${pool.size}, and crushcalc takes 1 to ${SIZE}`;
+    if (!(pool.pg_num >= 1 && pool.pg_num <= GROUPS && pool.pgp_num >= 1 && pool.pgp_num <= pool.pg_num)) return `it has ${pool.pg_num} groups, ${pool.pgp_num} by pgp_num, and crushcalc takes 1 to ${many(GROUPS, "").trim()}`;
+    if (pool.kind !== rule.kind) return `it is ${pool.kind}, and its rule ${rule.name} is for ${rule.kind} pools: Ceph then finds no rule`;
+    if (rule.sizes && (pool.size < rule.sizes[0] || pool.size > rule.sizes[1])) return `its size ${pool.size} isn't within ${rule.sizes[0]} to ${rule.sizes[1]} of its rule ${rule.name}: Ceph then finds no rule`;
+    return dump && ruleFault(dump, rule);
 }
 
-// What of the dump isn't computed, each with the pools and devices that it touches.
-function notComputed(osd, dump, map) {
-    const lines = [], rules = map && new Set(map.rules.map((it) => it.id));
+// What the dump has that placements here don't have, each with the pools, groups and devices that it
+// touches.
+function oddities(osd, dump) {
+    const lines = [], groups = (all) => some(all.map(([pool, group]) => `${pool}.${group.toString(16)}`)), note = (all, has, what) => all.length && lines.push(`${many(all.length, "group")} with ${has}: ${groups(all)}; ${what}`);
     for (const it of osd.pools) {
-        const why = poolFault(it, dump, rules);
-        if (why) lines.push(`Pool ${it.name} isn't computed: ${why}.`);
-        else if (it.splits) lines.push(`Pool ${it.name} is on its way to pg_num ${it.splits[0]} and pgp_num ${it.splits[1]}: it is computed as it is now.`);
+        if (it.splits) lines.push(`pool ${it.name} is being split or merged (pg_num ${it.pg_num} on its way to ${it.splits[0]}, pgp_num ${it.pgp_num} to ${it.splits[1]}): it is computed as it is now, and its groups move by themselves`);
+        if (it.hash !== RJENKINS) lines.push(`pool ${it.name} has another object hash than rjenkins: where its groups lie is computed, where its objects lie isn't`);
     }
-    const groups = (all) => some(all.map(([pool, group]) => `${pool}.${group.toString(16)}`));
-    if (osd.lists.length) lines.push(`Whole upmap lists (pg_upmap) aren't computed: ${groups(osd.lists)} lie elsewhere.`);
-    if (osd.temporary.length) lines.push(`Temporary placements (pg_temp, primary_temp) aren't computed: ${groups(osd.temporary)} lie elsewhere now.`);
-    if (osd.affine.length) lines.push(`Primary affinity isn't computed: which device is the primary may differ for groups of ${some(osd.affine.map((it) => `osd.${it}`))}.`);
+    note(osd.lists, "whole upmap lists (pg_upmap)", "where they lie isn't computed: they count where their rule puts them, and stand in no list of moves");
+    note(osd.temporary.lists, "a temporary list (pg_temp)", "what is said is where they lie once that is over");
+    note(osd.temporary.primaries, "a temporary primary (primary_temp)", "what is said is where they lie once that is over");
+    if (osd.affine.length) lines.push(`${some(osd.affine.map((it) => `osd.${it}`))} ${osd.affine.length === 1 ? "has" : "have"} a primary affinity other than 1: the primaries of their groups, and the order of the lists of replicated pools, are others in the cluster`);
+    for (const key of dump?.weightSets ?? []) lines.push(`there is a weight set (choose_args ${key}); Ceph uses it in straw2 buckets alone, so it changes nothing in the pools that are computed`);
     return lines;
+}
+
+// The states of a dump; devices of the map that it lacks count as out and down.
+function statesOf(osd, map) {
+    const placed = [...map.devices.values()].filter((it) => it.buckets.length && !osd.states.has(it.id));
+    return new Map([...osd.states, ...placed.map((it) => [it.id, { reweight: 0, up: false }])]);
 }
 
 async function setStates(tenant, states, map, before) {
@@ -111,21 +115,22 @@ function pairsOf(osd, pool, map) {
 
 // Sets what osd.json says on a tenant that has its map.
 export async function takeOsd(tenant, map, osd, dump, fresh, work) {
-    const lines = notComputed(osd, dump, map), rules = new Set(map.rules.map((it) => it.id));
+    const rules = new Map(map.rules.map((it) => [it.id, it])), fault = (it) => poolFault(it, dump, rules, dump?.file ?? "the map");
+    const lines = [...osd.pools.filter(fault).map((it) => `pool ${it.name} (${it.id}) isn't computed: ${fault(it)}`), ...oddities(osd, dump)];
     work.step("Setting the states of devices");
-    const states = await setStates(tenant, osd.states, map, { whole: fresh }), lacking = [...osd.states.keys()].filter((id) => !map.byId.has(id));
-    if (lacking.length) lines.push(`${osd.file} has devices that the map lacks; they hold nothing: ${some(lacking.map((it) => `osd.${it}`))}.`);
-    const pools = osd.pools.filter((it) => !poolFault(it, dump, rules));
+    const states = await setStates(tenant, statesOf(osd, map), map, { whole: fresh }), lacking = [...osd.states.keys()].filter((id) => !map.byId.has(id));
+    if (lacking.length) lines.push(`${osd.file} has devices that the map lacks; they hold nothing: ${some(lacking.map((it) => `osd.${it}`))}`);
+    const pools = osd.pools.filter((it) => !fault(it)), skipped = Object.fromEntries(pools.map((it) => [it.id, osd.lists.filter(([pool]) => pool === it.id).map(([, group]) => group)]).filter(([, groups]) => groups.length));
     let pairs = 0;
     for (const pool of pools) {
         work.step(`Making the pool ${pool.name}`);
         await makePool(tenant, pool);
         const all = pairsOf(osd, pool, map);
-        if (all.length > PAIRS) lines.push(`Pool ${pool.name} has ${many(all.length, "pair")} of upmap items, and the service takes ${many(PAIRS, "pair")}: they aren't set.`);
+        if (all.length > PAIRS) lines.push(`Pool ${pool.name} has ${many(all.length, "pair")} of upmap items, and the service takes ${many(PAIRS, "pair")}: they aren't set`);
         else if (all.length || !fresh) good(await change(`Set the upmap items of ${pool.name}`, tenant, "pools/exceptions", { id: pool.id, exceptions: all }, {}), `The upmap items of ${pool.name}`);
         pairs += all.length > PAIRS ? 0 : all.length;
     }
-    note(tenant, { notes: lines });
+    note(tenant, { notes: lines, skipped });
     return `${many(pools.length, "pool")}, ${many(states, "device")} with a reweight or down, ${many(pairs, "upmap item")}`;
 }
 
@@ -153,5 +158,3 @@ export function takeSaved({ name, text }, summary) {
     note(summary.tenant, { pools: it.pools, states: it.states, files: it.files ?? {}, notes: it.notes ?? [], seen: it.seen });
     return el("p", { class: "done" }, `${name} is read: ${many(it.pools.length, "pool")} and the states of ${many(Object.keys(it.states).length, "device")}.`);
 }
-
-export { Fault, Unlike, drop, ask };

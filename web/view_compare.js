@@ -74,7 +74,7 @@ async function tried(cluster, { name, text }, refresh, work) {
         return undefined;
     }, { id: "keep" });
     return [el("h2", { class: "title" }, `Version ${cluster.summary.versions} and ${name}`), el("p", { class: "hint" }, `${name} was tried in a copy: the newest version is ${cluster.summary.versions} as before. `, keep),
-        verdict(all), answerRow(both, all), poolLines(found), changePicture(both, all), beforeAfter(both, all, file), groupsFolded(both, found, ["now", `by ${name}`], file)];
+        verdict(found, all), answerRow(both, all), poolLines(found), changePicture(both, all), beforeAfter(both, all, file), groupsFolded(both, found, ["now", `by ${name}`], file)];
 }
 
 // The places of both maps: those of the other one, and what it lacks of the first.

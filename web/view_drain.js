@@ -1,6 +1,6 @@
 // A drain or a failure on paper: the answer first, then the usage before and after, then the
 // groups.
-import { button, el, fault, labelled, options, sayDone } from "./dom.js";
+import { button, el, fault, labelled, options, pause, sayDone } from "./dom.js";
 import { canMove, stagesOf } from "./answer.js";
 import { answerRow, beforeAfter, changePicture, groupsFolded, poolLines, totals, verdict } from "./change_view.js";
 import { count, figures, many } from "./figures.js";
@@ -17,8 +17,8 @@ function statesAfter(cluster, ids, down) {
     return states;
 }
 
-function stages(ids, fails) {
-    const out = { words: "With the devices out", change: (copy) => copy.states(ids.map((id) => ({ id, reweight: 0 }))) };
+function stages(cluster, ids, fails) {
+    const out = { words: "With the devices out", change: (copy) => copy.states(ids.map((id) => ({ id, reweight: 0 }))), out: { ids: new Set(ids), states: statesAfter(cluster, ids, fails) } };
     const down = { words: "With the devices down", change: (copy) => copy.states(ids.map((id) => ({ id, up: false }))) };
     return fails ? [down, out] : [out];
 }
@@ -33,21 +33,25 @@ function atOnce(found) {
         el("h2", {}, "When they are taken out")];
 }
 
-// The groups that can move, by the impact lists: asked for when the groups are looked at.
-function proved(cluster, pools, ids, down) {
-    const said = el("p", { class: "hint", id: "proved" }), text = "While only the reweights of these devices are lowered, no other group moves: that is proved.";
-    if (down) return el("p", { class: "hint", id: "proved" }, "Groups whose lists have one of these devices change at once; the groups below are as they lie when these are out.");
-    said.append(text, " ", button("How many can move", async () => {
-        said.replaceChildren(text);
-        try {
-            const lists = await working("Which groups can move", (work) => canMove(cluster, pools, ids, work));
-            const all = [...lists.values()].reduce((sum, it) => sum + it.size, 0);
-            said.replaceChildren(`${many(all, "group")} can move by the lists of these devices, and no other: that is proved.`);
-        } catch (why) {
-            said.append(fault(why.message));
-        }
-    }, { id: "can-move", class: "link" }));
+// What is proved, by the impact lists: they are asked for once the answer is shown.
+function proved(cluster, pools, ids) {
+    const said = el("p", { class: "hint", id: "proved" }, "Which groups can move at all is being asked ..");
+    const asks = async (work) => {
+        // the answer is put there first
+        await pause();
+        return canMove(cluster, pools, ids, work, () => said.isConnected);
+    };
+    working("Which groups can move", asks).then((lists) => {
+        const all = [...lists.values()].reduce((sum, it) => sum + it.size, 0);
+        said.replaceChildren(`Proved: no group moves but the ${count(all)} of the impact lists, while only the reweights of these devices are lowered.`);
+    }).catch((why) => said.replaceChildren(fault(why.message)));
     return said;
+}
+
+// The copies that stay on these devices, since a rule takes them by name.
+function stay(cluster, ids, found) {
+    const taken = ({ pool }) => new Set(cluster.map.rules.find((it) => it.id === pool.rule)?.steps.filter(([op]) => op === "take").map(([, name]) => cluster.map.devices.get(name)?.id));
+    return found.reduce((all, it) => all + ids.filter((id) => taken(it).has(id)).reduce((sum, id) => sum + (it.has[id] ?? 0), 0), 0);
 }
 
 function shown(cluster, pools, ids, fails, results) {
@@ -57,11 +61,10 @@ function shown(cluster, pools, ids, fails, results) {
         const within = place.devices.filter((it) => chosen.has(it)).length, word = fails ? "failed" : "drained";
         return within > 0 && el("span", { class: "badge out" }, within === place.devices.length ? word : `${word} in part`);
     };
-    const file = `${cluster.tenant}-${namesOf(cluster, ids)[0]}`;
-    return [el("h2", { class: "title", id: "answered", tabindex: "-1" }, `${fails ? "Failure" : "Drain"} of ${names}`), fails && atOnce(results[0]), verdict(all), answerRow(cluster, all),
-        all.shortBefore > 0 && el("p", { class: "note" }, `Before it ${many(all.shortBefore, "group has", "groups have")} fewer copies than the pool's size already.`),
-        poolLines(found), el("h2", {}, "Usage before and after"), changePicture(cluster, all), beforeAfter(cluster, all, file, mark),
-        groupsFolded(cluster, found, ["before", "after"], file, proved(cluster, pools, ids, fails)),
+    const file = `${cluster.tenant}-${namesOf(cluster, ids)[0]}`, stopped = fails ? results[0].reduce((sum, it) => sum + it.lacks.stopped, 0) : 0;
+    return [el("h2", { class: "title", id: "answered", tabindex: "-1" }, `${fails ? "Failure" : "Drain"} of ${names}`), verdict(found, all, { stopped, keeping: stay(cluster, ids, found) }), fails && atOnce(results[0]), answerRow(cluster, all), proved(cluster, pools, ids),
+        all.shortBefore > 0 && el("p", { class: "note" }, `${many(all.shortBefore, "group has", "groups have")} fewer copies than the pool's size already now.`), poolLines(found), el("h2", {}, "Usage before and after"), changePicture(cluster, all), beforeAfter(cluster, all, file, mark),
+        groupsFolded(cluster, found, ["before", "after"], file),
         el("p", { class: "hint" }, `Computed on a copy of the cluster on the service, which is dropped: neither your Ceph cluster nor what is kept here is changed. ${count(ids.length)} devices, ${many(pools.length, "pool")}.`)].flat();
 }
 
@@ -93,7 +96,7 @@ export function showDrain(cluster, wanted = {}) {
         try {
             await working(fails ? "A failure on a copy" : "A drain on a copy", async (work) => {
                 running = work;
-                const results = await stagesOf(cluster, pools, stages(ids, fails), work);
+                const results = await stagesOf(cluster, pools, stages(cluster, ids, fails), work);
                 work.goesOn();
                 at.replaceChildren(...shown(cluster, pools, ids, fails, results).filter(Boolean));
             });

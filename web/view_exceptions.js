@@ -96,5 +96,5 @@ function editor(cluster, pool, key, pairs, refresh) {
 async function tried(cluster, pool, list, work) {
     const [found] = await stagesOf(cluster, [pool], [{ words: "With the exceptions", change: (copy) => copy.exceptions(pool, list).then(() => undefined) }], work);
     const states = cluster.known.states, all = totals(cluster, found, { before: states, after: states }), name = `${cluster.tenant}-${pool.name}-exceptions`;
-    return [el("h2", {}, "Beside what is set now"), verdict(all), answerRow(cluster, all), beforeAfter(cluster, all, name), groupsFolded(cluster, found, ["now", "with them"], name)];
+    return [el("h2", {}, "Beside what is set now"), verdict(found, all), answerRow(cluster, all), beforeAfter(cluster, all, name), groupsFolded(cluster, found, ["now", "with them"], name)];
 }

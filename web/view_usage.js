@@ -61,7 +61,7 @@ async function shown(cluster, work) {
         await sharePicture(cluster, work, placeActions(cluster), pools),
         placesTable(cluster, {
             values, top: (it) => Math.max(it.copies, it.expected),
-            columns: [{ head: "copies", text: (it) => count(it.copies) }, { head: "expected", text: (it) => decimals(it.expected, 1) }, { head: "of its share", text: (it) => percentText(it.copies, it.expected) }],
+            columns: [{ head: "copies", text: (it) => count(it.copies) }, { head: "expected", text: (it) => decimals(it.expected, 2) }, { head: "of its share", text: (it) => percentText(it.copies, it.expected) }],
             draw({ block, line }, it) {
                 block("used", 0, it.copies);
                 if (it.expected) line("even", it.expected);

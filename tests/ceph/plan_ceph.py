@@ -148,8 +148,8 @@ class Ceph:
         return {"names": names, "devices": devices, "after": elsewhere(self.before, after), "down": elsewhere(self.before, down), "out": elsewhere(self.before, out), "purge": purge}
 
     def purge(self, devices, drained, after):
-        """The devices are still in the OSD map, out, as crushplan has them: a rule that takes one by
-        name still answers it."""
+        """The devices are still in the OSD map, out, as crushplan has them: a rule that takes
+        one by name still answers it."""
         purged = self.placements(State(self.without(self.start.crush, devices), drained.states, drained.upmaps))
         weightless = State(self.weightless(self.start.crush, devices), self.start.states, self.start.upmaps)
         first = self.placements(weightless)

@@ -56,8 +56,8 @@ class Layout:
         self.racks = [[[[next(numbers), weight(choice)] for _ in range(DEVICES)] for _ in range(HOSTS)] for _ in range(RACKS)]
 
     def map(self):
-        """The map: the buckets of racks and hosts have the ids -2, -3 and so on, each rack after its
-        hosts. A uniform bucket has the weight of its first item for all."""
+        """The map: the buckets of racks and hosts have the ids -2, -3 and so on, each rack after
+        its hosts. A uniform bucket has the weight of its first item for all."""
         root, rack, host = KINDS[self.kind]
         map_ = Planned(self.kind)
         map_.devices = OSDS

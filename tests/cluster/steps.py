@@ -1,9 +1,10 @@
-"""What is done to a cluster, step by step, each recorded in a folder of its own: the cluster's dumps
-before the step, the words of crushplan that foretell it, and where the groups lay before and after.
+"""What is done to a cluster, step by step, each recorded in a folder of its own: the cluster's
+dumps before the step, the words of crushplan that foretell it, and where the groups lay before
+and after.
 
-step.json has: "words", the words of crushplan, in which FOLDER is the step's; "pools"; "before", the
-groups; "stages", what was done, each with the groups once the cluster had settled; and what a step
-has beside.
+step.json has: "words", the words of crushplan, in which FOLDER is the step's; "pools"; "before",
+the groups; "stages", what was done, each with the groups once the cluster had settled; and what a
+step has beside.
 """
 import json
 import random

@@ -1,11 +1,14 @@
 """crushplan asks a server: the same answers, and no tenant is left, also where it is
 interrupted."""
+import http.client
+import http.server
 import os
 import signal
 import socket
 import sqlite3
 import subprocess
 import sys
+import threading
 import time
 
 from made import crush_dump, osd_dump, pool, write
@@ -13,28 +16,62 @@ from running import PLAN, SECONDS, equals, wants
 
 
 class Served:
-    """A server over a file in a folder."""
+    """A server over a file in a folder, and before it one that hands requests on and notes their
+    methods: the server locks its file while it runs."""
 
     def __init__(self, runner, folder):
+        self.file, self.made, self.dropped = folder / "tenants.db", [], []
         with socket.socket() as it:
             it.bind(("127.0.0.1", 0))
             self.port = it.getsockname()[1]
-        self.file, self.url = folder / "tenants.db", f"http://127.0.0.1:{self.port}"
         self.run = subprocess.Popen([runner.program, "serve", "--db", self.file, "--port", str(self.port)], stdout=subprocess.PIPE)
         wants(self.run.stdout.readline().startswith(b"listening"), "the server doesn't listen")
+        self.before = http.server.ThreadingHTTPServer(("127.0.0.1", 0), type("Before", (Before,), {"served": self}))
+        self.url = f"http://127.0.0.1:{self.before.server_address[1]}"
+        threading.Thread(target=self.before.serve_forever, daemon=True).start()
 
     def __enter__(self):
         return self
 
-    def __exit__(self, *_):
+    def __exit__(self, kind, *_):
+        self.before.shutdown()
+        self.before.server_close()
         self.run.terminate()
         self.run.wait(SECONDS)
         self.run.stdout.close()
+        if kind is None:
+            with sqlite3.connect(self.file) as base:
+                equals("tenants in the file", base.execute("select count(*) from tenants").fetchone()[0], 0)
 
     def tenants(self):
-        """How many tenants the file has."""
-        with sqlite3.connect(f"file:{self.file}?mode=ro", uri=True) as base:
-            return base.execute("select count(*) from tenants").fetchone()[0]
+        """How many tenants were made and not dropped."""
+        return len(self.made) - len(self.dropped)
+
+
+class Before(http.server.BaseHTTPRequestHandler):
+    """Hands each request on, by one connection to the server for all."""
+
+    protocol_version, lock = "HTTP/1.1", threading.Lock()
+
+    def hand_on(self):
+        body = self.rfile.read(int(self.headers.get("Content-Length") or 0))
+        with self.lock:
+            connection = http.client.HTTPConnection("127.0.0.1", self.served.port, timeout=SECONDS)
+            connection.request(self.command, self.path, body or None)
+            reply = connection.getresponse()
+            data = reply.read()
+            connection.close()
+        if reply.status < 300 and self.command in ("PUT", "DELETE"):
+            (self.served.made if self.command == "PUT" else self.served.dropped).append(self.path)
+        self.send_response(reply.status)
+        self.send_header("Content-Length", str(len(data)))
+        self.end_headers()
+        self.wfile.write(data)
+
+    do_GET = do_POST = do_PUT = do_DELETE = hand_on
+
+    def log_message(self, *_):
+        """Writes nothing."""
 
 
 def answers(runner, folder):
@@ -55,6 +92,7 @@ def refused(runner, folder):
         runner.refused("drain", folder, "hots1", "--service", served.url, has="hots1")
         runner.refused("check", folder, "--service", f"{served.url}/other", has="doesn't know a request")
         equals("tenants", served.tenants(), 0)
+        wants(served.made, "no tenant was made")
 
 
 def interrupted(runner, folder):

@@ -1,5 +1,6 @@
-"""The form of an OpenAPI 3.1 document, by the tables of fields in the specification itself, which
-Debian's package openapi-specification has, and by JSON Schema's own schema for each schema in it."""
+"""The form of an OpenAPI 3.1 document, by the tables of fields in the specification itself,
+which Debian's package openapi-specification has, and by JSON Schema's own schema for each
+schema in it."""
 import re
 
 import jsonschema

@@ -34,10 +34,12 @@ http {{
 
 
 class Client:
-    """A user's connection to nginx by TLS."""
+    """A user's connection to nginx by TLS, with a password or a certificate."""
 
-    def __init__(self, port, folder, user, password=None):
+    def __init__(self, port, folder, user, password=None, certificate=None):
         context = ssl.create_default_context(cafile=f"{folder}/certificate.pem")
+        if certificate:
+            context.load_cert_chain(certificate)
         self.connection = http.client.HTTPSConnection("localhost", port, timeout=60, context=context)
         self.headers = authorization(user, password) if user else {}
 
@@ -81,26 +83,27 @@ def write_users(folder):
             (folder / f"{it}.users").write_bytes(line)
 
 
-def write_configuration(folder, port, servers):
-    """examples/nginx.conf with the test's ports, and its files in place of those below /etc/nginx
-    and of the page."""
+def write_configuration(folder, port, servers, more):
+    """examples/nginx.conf with the test's ports, its files in place of those below /etc/nginx and
+    of the page, and more that is replaced."""
     def lines(ports):
         return "".join(f"    server 127.0.0.1:{it} max_fails=0;\n" for it in ports)
 
     files = (("/etc/nginx/crushcalc/" + it, f"{folder}/{it}") for it in ("certificate.pem", "key.pem", "$owner.users"))
     shutil.copytree(TOP / "web", folder / "web", dirs_exist_ok=True)
     page = ("/usr/local/share/crushcalc/web/", f"{folder}/web/")
-    text = replaced((TOP / "examples" / "nginx.conf").read_text(), (lines((8081, 8082)), lines(servers)), ("listen 443 ssl;", f"listen 127.0.0.1:{port} ssl;"), page, *files)
+    text = replaced((TOP / "examples" / "nginx.conf").read_text(), (lines((8081, 8082)), lines(servers)), ("listen 443 ssl;", f"listen 127.0.0.1:{port} ssl;"), page, *files, *more)
     (folder / "crushcalc.conf").write_text(text)
     (folder / "main.conf").write_text(MAIN.format(folder=folder))
 
 
 @contextlib.contextmanager
-def nginx(folder, servers):
-    """nginx before the servers of these ports. What is given is its own port."""
+def nginx(folder, servers, *more):
+    """nginx before the servers of these ports, with its example, in which more may be replaced.
+    What is given is its own port."""
     port = free_port()
     write_users(folder)
-    write_configuration(folder, port, servers)
+    write_configuration(folder, port, servers, more)
     words = ["nginx", "-c", f"{folder}/main.conf", "-e", f"{folder}/error.log"]
     run(*words, "-t")
     proxy = subprocess.Popen(words, stdin=subprocess.DEVNULL, stdout=subprocess.DEVNULL, stderr=subprocess.PIPE)

@@ -4,18 +4,21 @@ import contextlib
 import http.client
 import http.server
 import threading
+import time
 
 
 class Between(http.server.ThreadingHTTPServer):
     """loses: how many replies to come are lost, after their requests are done. refuses: how many
     requests to come are answered 503 and not passed on. Both look at changing requests alone.
-    keeps: how many DELETE to come are answered 503."""
+    keeps: how many DELETE to come are answered 503. holds: the seconds that a GET is held up whose
+    path ends with `held`. drops: how many GET of usage to come get no reply."""
 
     daemon_threads = True
 
     def __init__(self, port):
         super().__init__(("127.0.0.1", 0), Handler)
         self.behind, self.loses, self.refuses, self.keeps, self.posts = port, 0, 0, 0, []
+        self.holds, self.held, self.drops = 0, "", 0
 
 
 class Handler(http.server.BaseHTTPRequestHandler):
@@ -30,6 +33,12 @@ class Handler(http.server.BaseHTTPRequestHandler):
         if self.command == "DELETE" and self.server.keeps:
             self.server.keeps -= 1
             return self.answer(503, b'{"error":"store_failed"}', "application/json")
+        if self.command == "GET" and self.path.endswith("/usage") and self.server.drops:
+            self.server.drops -= 1
+            self.close_connection = True
+            return None
+        if self.command == "GET" and self.server.holds and self.path.endswith(self.server.held):
+            time.sleep(self.server.holds)
         asked = http.client.HTTPConnection("127.0.0.1", self.server.behind, timeout=60)
         asked.request(self.command, self.path, body or None)
         reply = asked.getresponse()

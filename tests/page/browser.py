@@ -10,7 +10,8 @@ from selenium.webdriver.chrome.service import Service
 from selenium.webdriver.common.by import By
 from selenium.webdriver.support.ui import WebDriverWait
 
-SECONDS = 60
+# a machine that does much else may need longer, and fewer looks
+SECONDS, POLL = int(os.environ.get("PAGE_SECONDS", 60)), float(os.environ.get("PAGE_POLL", 0.05))
 # records tasks of 50 ms and more, and presses of a pointer, from the page's first line on; and the
 # times of the test's own scripts
 RECORDER = """
@@ -21,10 +22,10 @@ window.clicks = 0;
 document.addEventListener("pointerdown", (event) => { if (event.isTrusted) window.clicks += 1; }, true);
 """
 DROP = """
-const [text, name] = arguments, carried = new DataTransfer();
-carried.items.add(new File([text], name));
+const [files] = arguments, carried = new DataTransfer();
+for (const [text, name] of files) carried.items.add(new File([text], name));
 for (const kind of ["dragover", "drop"]) {
-    document.querySelector(".drop").dispatchEvent(new DragEvent(kind, { dataTransfer: carried, bubbles: true, cancelable: true }));
+    document.querySelector("main").dispatchEvent(new DragEvent(kind, { dataTransfer: carried, bubbles: true, cancelable: true }));
 }
 """
 
@@ -47,7 +48,7 @@ class Browser:
 
     def until(self, holds, why, seconds=SECONDS):
         # an element may be replaced while it is looked at
-        return WebDriverWait(self.driver, seconds, 0.05, ignored_exceptions=(Exception,)).until(lambda _: holds(), why)
+        return WebDriverWait(self.driver, seconds, POLL, ignored_exceptions=(Exception,)).until(lambda _: holds(), why)
 
     def text(self, selector):
         return self.one(selector).text
@@ -70,9 +71,10 @@ class Browser:
         it.clear()
         it.send_keys(words)
 
-    def drop(self, text, name):
-        self.one(".drop")
-        self.run(DROP, text, name)
+    def drop(self, text, name, *more):
+        """Drops a file, or several: pairs of a text and a name."""
+        self.one("h1")
+        self.run(DROP, [(text, name), *more])
 
     def tab(self, name):
         self.named("nav a", name).click()

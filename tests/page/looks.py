@@ -7,7 +7,7 @@ from selenium.webdriver.common.keys import Keys
 
 from page import DRAINED, PICTURES, example, first, unlike
 
-WIDTHS, VIEWS = (360, 1920), ("Map", "Pools", "Usage", "Compare", "Drain", "Object")
+WIDTHS, VIEWS = (360, 1440, 1920), ("Map", "Pools", "Usage", "Compare", "Drain", "Object")
 CONTRAST, MOST_TABS = 4.5, 80
 # of each text that is shown: its colour, and the colours below it from the nearest on
 TEXTS = """
@@ -26,27 +26,26 @@ return [...found.values()];
 def full(page):
     """A tenant with two versions and a pool."""
     tenant = page.planned()
-    page.browser.tab("Map")
-    page.drop(example("four_hosts.txt"), "four_hosts.txt", "version 2")
+    page.browser.drop(example("four_hosts.txt"), "four_hosts.txt")
+    page.kept(2)
     return tenant
 
 
-def filled(page, view):
+def filled(page, view, host="host0"):
     """A view with what it shows when it is used."""
-    page.browser.tab(view)
     if view == "Drain":
-        page.browser.named("label.host", "host0").click()
-        page.browser.click("#drain")
-        page.browser.one("#usages tr[data-device]")
-        page.browser.has(DRAINED)
-        page.browser.click("#all-groups button.group")
-        page.browser.has("#goes tr[data-group]")
-    elif view == "Object":
+        page.drained(host, way="fail")
+        page.browser.click("#which summary")
+        page.browser.has("#groups tbody tr")
+        return
+    page.browser.tab(view)
+    if view == "Object":
         page.browser.fill("#object", "cat.jpg")
         page.browser.click("form button.main")
         page.browser.one("#found")
     elif view in ("Usage", "Compare"):
-        page.browser.one("#cards tr[data-device]")
+        page.browser.one("#places tbody tr")
+    page.settled()
 
 
 def it_fits_both_widths(page):
@@ -71,22 +70,12 @@ def the_longest_names_fit(page):
         text = re.sub(rf"\b{re.escape(name)}\b", name.ljust(64, "m"), text)
     page.imported(text, "m" * 64 + ".txt", tenant="n" * 46)
     page.pool("p" * 64, size=2, pg_num=16)
-    page.browser.tab("Map")
-    page.drop(text.replace("weight 1.0", "weight 1.5"), "other.txt", "version 2")
+    page.browser.drop(text.replace("weight 1.0", "weight 1.5"), "other.txt")
+    page.kept(2)
     page.browser.size(360, 740)
     whys = []
     for view in VIEWS:
-        page.browser.tab(view)
-        if view == "Drain":
-            page.browser.named("label.host", "host0").click()
-            page.browser.click("#drain")
-            page.browser.has("#usages tr[data-device]")
-            page.browser.has(DRAINED)
-            page.browser.click("#all-groups button.group")
-            page.browser.has("#goes tr[data-group]")
-            page.browser.click("#order option[value='most']")
-        elif view in ("Usage", "Compare"):
-            page.browser.has(".figures, #cards tr[data-device]")
+        filled(page, view, "host0".ljust(64, "m"))
         over = page.browser.run("return document.scrollingElement.scrollWidth") - 360
         page.browser.picture(PICTURES / f"{view.lower()}-long.png")
         if over > 0:
@@ -210,19 +199,24 @@ def a_drain_by_keyboard_alone(page):
     after_pool = tabs_to(page, lambda it: it.text == "drain a host on paper")
     press(page, Keys.ENTER)
     page.browser.one(".picker")
-    to_list = tabs_to(page, lambda it: it.get_attribute("type") == "checkbox")
+    to_list = tabs_to(page, id_is("drain-search"))
+    press(page, "host0")
+    to_list += tabs_to(page, lambda it: it.get_attribute("type") == "checkbox")
     press(page, Keys.SPACE, Keys.ENTER)
-    page.browser.one("#usages tr[data-device]")
-    chosen = [int(it.get_attribute("data-impact")) for it in page.browser.all("[data-impact]")]
+    page.browser.one("#answer")
+    page.browser.has(DRAINED)
+    chosen = page.browser.text(".title")
+    tab_to(page, lambda it: it.tag_name == "summary" and "Which groups" in it.text)
+    press(page, Keys.ENTER)
+    page.browser.has("#groups tbody tr")
     return first(
-        unlike(chosen, [0, 1]), unlike(page.clicks(), 0, "clicks:"), unlike(page.summary(tenant)["epoch"], 2), None if after_pool <= 2 else f"{after_pool} tabs from the pool to its drain",
-        None if to_list <= 4 else f"{to_list} tabs to the first host",
+        unlike(chosen, "Drain of host0"), unlike(page.clicks(), 0, "clicks:"), unlike(page.summary(tenant)["epoch"], 2), None if after_pool <= 2 else f"{after_pool} tabs from the pool to its drain",
+        None if to_list <= 6 else f"{to_list} tabs to a host",
     )
 
 
 def the_list_of_hosts_is_skipped(page):
-    """On a cluster of more hosts, the button is a few keys away, and so is what is behind a list of
-    groups."""
+    """On a cluster of more hosts the button is a few keys away; a search doesn't go on yet."""
     page.imported(example("cluster.txt"))
     page.pool(pg_num=64)
     page.browser.tab("Drain")
@@ -232,26 +226,12 @@ def the_list_of_hosts_is_skipped(page):
     skipped = page.browser.run("return document.activeElement.id")
     page.browser.fill("#drain-search", "host2")
     press(page, Keys.ENTER)
-    early = page.browser.run("return document.getElementById('result').textContent")
+    early = len(page.browser.all("#answer"))
     tab_to(page, lambda it: it.get_attribute("type") == "checkbox")
     press(page, Keys.SPACE, Keys.ENTER)
-    page.browser.one("#usages tr[data-device]")
+    page.browser.one("#answer")
     page.browser.has(DRAINED)
-    groups = [it.get_attribute("data-group") for it in page.browser.all("#all-groups button.group")]
-    tab_to(page, lambda it: it.get_attribute("data-group") == groups[0])
-    press(page, Keys.ARROW_RIGHT, Keys.ARROW_DOWN, Keys.ARROW_LEFT)
-    at = page.browser.run("return document.activeElement.dataset.group")
-    press(page, Keys.ENTER)
-    page.browser.has("#goes tr[data-group]")
-    shown = page.browser.run("return document.querySelector('#goes tr[data-group]').dataset.group")
-    left = tabs_to(page, lambda it: not it.get_attribute("data-group"))
-    heard = page.browser.run("return document.querySelector('#goes [aria-live] p').textContent")
-    page.browser.click("#goes-close")
-    open_yet = page.browser.one("#impact").is_displayed() and page.browser.all("#goes")[0].is_displayed()
-    return first(
-        None if to_skip <= 3 else f"{to_skip} tabs to what skips the list", unlike(skipped, "drain", "the focus is on"), unlike(early, "", "a search drains:"), unlike((at, shown), (groups[1], groups[1])),
-        unlike(left, 1, "tabs out of the groups:"), unlike(open_yet, False, "after closing it, it is open:"), None if heard.startswith(f"Group {groups[1]}: before osd.") else heard,
-    )
+    return first(None if to_skip <= 4 else f"{to_skip} tabs to what skips the list", unlike(skipped, "drain", "the focus is on"), unlike(early, 0, "a search drains:"), unlike(page.browser.text(".title"), "Drain of host2"))
 
 
 def the_content_is_skipped_to(page):
@@ -259,25 +239,56 @@ def the_content_is_skipped_to(page):
     page.planned()
     page.browser.tab("Usage")
     page.browser.driver.refresh()
-    page.browser.one("#cards tr[data-device]")
+    page.browser.one("#places tbody tr")
     press(page, Keys.TAB, Keys.ENTER)
     return first(unlike(page.browser.run("return document.activeElement.id"), "main", "the focus is on"), unlike(page.browser.text("h1"), "Usage"))
+
+
+# what a checker of accessibility asks of the page's elements: of each that is shown what is wrong
+CHECKED = """
+const wrong = [], seen = new Set(), text = (it) => it.outerHTML.slice(0, 100);
+const shows = (it) => it.checkVisibility({ visibilityProperty: true });
+for (const it of document.querySelectorAll("[id]")) {
+    if (seen.has(it.id)) wrong.push(`the id ${it.id} stands twice`);
+    seen.add(it.id);
+}
+for (const name of ["aria-labelledby", "aria-describedby", "for"]) {
+    for (const it of document.querySelectorAll(`[${name}]`)) for (const id of it.getAttribute(name).split(" ")) if (!document.getElementById(id)) wrong.push(`${name} of ${text(it)} names nothing`);
+}
+for (const it of document.querySelectorAll("[tabindex]")) if (Number(it.getAttribute("tabindex")) > 0) wrong.push(`${text(it)} has its own place among the tabs`);
+for (const it of document.querySelectorAll("svg, .key")) if (!it.closest("[aria-hidden='true']")) wrong.push(`${text(it)} is read`);
+for (const it of document.querySelectorAll("img, canvas")) if (it.getAttribute("alt") === null && !it.getAttribute("aria-label")) wrong.push(`${text(it)} has no words`);
+for (const it of document.querySelectorAll("button, a")) if (it.querySelector("button, a, input, select")) wrong.push(`${text(it)} has another control in it`);
+for (const it of document.querySelectorAll("ul, ol")) for (const child of it.children) if (child.tagName !== "LI") wrong.push(`${text(child)} is in a list`);
+for (const it of document.querySelectorAll("dl > div")) if (!it.querySelector("dt") || !it.querySelector("dd")) wrong.push(`${text(it)} is no pair`);
+let level = 0;
+for (const it of document.querySelectorAll("h1, h2, h3, h4")) {
+    if (!shows(it)) continue;
+    const own = Number(it.tagName[1]);
+    if (own > level + 1) wrong.push(`${text(it)} follows a heading of level ${level}`);
+    level = own;
+}
+for (const it of document.querySelectorAll("table")) if (!it.querySelector("th[scope]")) wrong.push(`${text(it)} has no heads`);
+return wrong;
+"""
 
 
 def a_screen_reader_has_names_for_all(page):
     full(page)
     for view in reversed(VIEWS):
         filled(page, view)
-        for kind in ("a", "button", "input", "select", "summary", "table.plain", "#cards table", "fieldset", "form"):
+        if wrong := page.browser.run(CHECKED):
+            return f"{view}: {wrong[:3]}"
+        for kind in ("a", "button", "input", "select", "summary", "textarea", "table", "canvas", "fieldset", "form", "dialog[open]"):
             for it in page.browser.all(kind):
-                if it.is_displayed() and not (it.accessible_name or "").strip() and not page.browser.run("return arguments[0].caption?.textContent || arguments[0].closest('#groups')", it):
+                if it.is_displayed() and not (it.accessible_name or "").strip() and not page.browser.run("return arguments[0].caption?.textContent", it):
                     return f"{view}: {kind} {it.get_attribute('outerHTML')[:120]} has no name"
         heads = page.browser.run("return [...document.querySelectorAll('h1')].length")
         current = page.browser.run("return document.querySelectorAll('nav [aria-current=page]').length")
         hidden = page.browser.run("return [...document.querySelectorAll('svg')].filter((it) => it.getAttribute('aria-hidden') !== 'true').length")
         if why := first(unlike(heads, 1, f"{view}: headings h1"), unlike(current, 1, f"{view}: current views"), unlike(hidden, 0, f"{view}: pictures that are read")):
             return why
-        if page.browser.run("return document.activeElement.tagName") not in ("H1", "INPUT", "BUTTON"):
+        if page.browser.run("return document.activeElement.tagName") == "BODY":
             return f"{view}: the focus is on {page.browser.run('return document.activeElement.outerHTML')[:100]}"
     roles = page.browser.run("return ['main', 'nav[aria-label]', 'header', '[role=status]', '[role=alert]'].filter((it) => !document.querySelector(it))")
     return first(unlike(roles, []), unlike(page.browser.run("return document.documentElement.lang"), "en"))

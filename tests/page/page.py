@@ -92,9 +92,9 @@ class Page:
         self.browser.click("form button.main")
         self.browser.until(lambda: f"The pool {name} is made" in self.browser.text("#said"), "the pool isn't made")
 
-    def planned(self, size=2, groups=16):
+    def planned(self, size=2, groups=16, port=None):
         """The tenant of docs/PLANNING.md: the map of three hosts, and its pool."""
-        tenant = self.imported(example("three_hosts.txt"), "three_hosts.txt")
+        tenant = self.imported(example("three_hosts.txt"), "three_hosts.txt", port)
         self.pool(size=size, pg_num=groups)
         self.browser.run("window.clicks = 0")
         return tenant
@@ -102,10 +102,40 @@ class Page:
     def clicks(self):
         return self.browser.run("return window.clicks")
 
+    def settled(self):
+        """Waits until nothing of the view is asked for any more."""
+        self.browser.until(lambda: not self.browser.run("return document.querySelectorAll('[aria-busy]').length"), "the view waits")
+
+    def by(self, level, table="places"):
+        """Shows a table of places by a level."""
+        self.browser.one(f"#{table} tbody tr")
+        self.browser.click(f"#{table}-level option[value='{level}']")
+
+    def kept(self, number):
+        """Makes the map that was tried a version."""
+        self.browser.click("#keep")
+        self.browser.until(lambda: self.browser.all("#to option") and self.browser.one("#to").get_property("value") == str(number), f"no version {number}")
+
+    def figures(self, which="answer"):
+        """The large numbers, by their keys."""
+        script = "return [...document.querySelectorAll(`#${arguments[0]} [data-figure]`)].map((it) => [it.dataset.figure, it.querySelector('dd').textContent])"
+        return dict(self.browser.run(script, which))
+
+    def drained(self, *names, way="drain"):
+        """Ticks racks, hosts or devices, and waits for the answer."""
+        self.browser.tab("Drain")
+        self.browser.click(f"#way option[value='{way}']")
+        for name in names:
+            self.browser.fill("#drain-search", name)
+            self.browser.until(lambda: [it.click() for it in self.browser.all(".picker > li > label") if name in it.text.split()], f"no {name}")
+        self.browser.click("#drain")
+        self.browser.one("#answer")
+        self.browser.has(DRAINED)
+
     def rows(self, selector):
         """The rows of tables: of each its device and the texts of its cells."""
-        script = "return [...document.querySelectorAll(arguments[0])].map((row) => [row.dataset.device ?? row.dataset.group, [...row.children].map((it) => it.textContent.trim())])"
-        return {int(it): cells for it, cells in self.browser.run(script, selector)}
+        script = "return [...document.querySelectorAll(arguments[0])].map((row) => [row.dataset.device ?? row.dataset.group ?? row.dataset.place, [...row.children].map((it) => it.textContent.trim())])"
+        return {int(it) if it.isdigit() else it: cells for it, cells in self.browser.run(script, selector)}
 
     def bars(self, selector, kind):
         """Of each row's device, the place and the width of a mark, in hundredths of the bar."""
@@ -125,7 +155,7 @@ class Page:
         while time.monotonic() < end:
             files = list(self.downloads.iterdir())
             # an empty file has the name while what is in it comes under another
-            if len(files) == 1 and files[0].suffix == ".csv" and files[0].stat().st_size:
+            if len(files) == 1 and files[0].suffix in (".csv", ".json", ".txt") and files[0].stat().st_size:
                 return files[0].read_text()
             time.sleep(0.05)
         raise OSError("no file is saved")

@@ -88,7 +88,7 @@ def a_drain_with_lost_replies_and_a_503(page):
     page.proxy.loses, page.proxy.refuses = 1, 1
     page.browser.click("#drain")
     page.browser.named(".notice button", "Repeat").click()
-    page.browser.one("#usages tr[data-device]")
+    page.browser.one("#usages tbody tr")
     page.browser.has(DRAINED)
     page.browser.tab("Usage")
     page.faults()
@@ -98,21 +98,20 @@ def a_drain_with_lost_replies_and_a_503(page):
 
 
 def a_copy_goes_with_its_page(page):
-    """The result of a drain is shown, and its copy is kept; then the page is closed and not opened
-    again."""
-    tenant = page.imported(example("three_hosts.txt"))
+    """A drain goes on, on its copy; then the page is closed and not opened again."""
+    tenant = page.imported(example("three_hosts.txt"), port=through(page))
     page.pool(size=2, pg_num=16)
     page.browser.tab("Drain")
     page.browser.named("label.host", "host1").click()
+    page.proxy.refuses = 1
     page.browser.click("#drain")
-    page.browser.one("#usages tr[data-device]")
-    page.browser.has(DRAINED)
+    page.browser.one(".notice")
     page.faults()
     name = next(it for it in page.copies if it.startswith(f"{tenant}.copy-"))
     there = page.ask("GET", f"/t/{name}")[0]
     page.browser.open("about:blank")
     page.browser.until(lambda: page.ask("GET", f"/t/{name}")[0] == 404, "the copy is left")
-    return unlike(there, 200, "the copy's status while it is shown:")
+    return unlike(there, 200, "the copy's status while it is used:")
 
 
 def a_cluster_is_deleted_at_the_second_try(page):
@@ -138,15 +137,14 @@ def a_drain_is_stopped(page):
     page.proxy.refuses = 1
     page.browser.click("#drain")
     page.browser.one(".notice")
-    page.browser.named("#result button", "Stop").click()
+    page.browser.click("#stop")
     page.browser.named(".notice button", "Repeat").click()
     said = page.browser.text("#result .fault")
     page.browser.has(DRAINED)
     page.faults()
-    left = [it for it in page.copies if page.ask("GET", f"/t/{it}")[0] != 404]
-    page.browser.click("#all-groups button.group")
-    of_group = page.browser.text("#goes .fault")
-    return first(None if of_group.endswith("goes isn't known. Stopped.") else of_group, unlike(said, "Stopped."), unlike(len(page.browser.all("#usages")), 0, "usages:"), unlike(left, [], "copies are left:"), unlike(page.summary(tenant), summary))
+    for it in page.copies:
+        page.browser.until(lambda: page.ask("GET", f"/t/{it}")[0] == 404, f"the copy {it} is left")
+    return first(unlike(said, "Stopped."), unlike(len(page.browser.all("#usages")), 0, "usages:"), unlike(page.summary(tenant), summary))
 
 
 def a_copy_that_was_left_is_dropped(page):

@@ -6,7 +6,7 @@ import contextlib
 
 import proxy
 from browser import browser
-from page import DRAINED, Page, example, unlike
+from page import Page, example, unlike
 
 USER, TENANT = "anna", "shop"
 
@@ -31,12 +31,9 @@ def a_drain_behind_tls_and_passwords(program, folder):
         one.drop(example("three_hosts.txt"), "three_hosts.txt")
         one.one("#tree [data-bucket]")
         page.pool(size=2, pg_num=16)
-        one.tab("Drain")
-        one.named("label.host", "host0").click()
-        one.click("#drain")
-        one.one("#usages tr[data-device]")
-        one.has(DRAINED)
-        found = {it: row[2:] for it, row in page.rows("#usages tr[data-device]").items()}
+        page.drained("host0")
+        page.by("device", "usages")
+        found = {it: row[2:4] for it, row in page.rows("#usages tr[data-device]").items()}
     return unlike(found[5], ["5", "9"])
 
 

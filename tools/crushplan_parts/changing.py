@@ -22,7 +22,8 @@ class Start:
         self.ask_short_pools()
 
     def ask_short_pools(self):
-        """Asks all lists of the pools that lack copies already, so that each short group is known."""
+        """Asks all lists of the pools that lack copies already, so that each short group is
+        known."""
         short = [it for it in self.plan.pools.values() if self.usage[it.id].total() < it.size * it.pg_num or self.usage[it.id].doubled]
         if not short:
             return

@@ -1,4 +1,5 @@
-"""A cluster, from the folder of its dumps: the map, pools, states of devices, upmap items, bytes."""
+"""A cluster, from the folder of its dumps: the map, pools, states of devices, upmap items,
+bytes."""
 import dataclasses
 from decimal import Decimal
 import pathlib
@@ -214,7 +215,10 @@ def describe_pools(cluster, asked):
 
 
 def counts_by_pool(dump):
-    """Returns whether every OSD counts by pools what its disk holds. FileStore and MemStore don't."""
+    """Returns whether every OSD counts by pools what its disk holds. FileStore and MemStore
+    don't."""
+    if not dump.has("stats"):
+        return True
     stats = dump.at("stats")
     return not stats.has("num_per_pool_osds") or stats.get("num_per_pool_osds", int) == stats.get("num_osds", int)
 

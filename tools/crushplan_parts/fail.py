@@ -3,6 +3,7 @@ from .changing import Start, pool_changes, short_now
 from .faults import Fault, counted
 from .output import Answer, Progress, Table, devices_text, shown, sized
 from .reports import COPY, Stay, groups_rows, groups_table, listed, pools_table, status_of, summary_table, usage_rows, usage_table, verdict
+from .shares import hundredths
 from .stages import Stages, states_after
 from .summary import Summary
 
@@ -134,7 +135,7 @@ def each_fullest(it):
     if it["fullest"] is None:
         return "-"
     of = it["fullest"]["used_after"]
-    return f"{it['fullest']['name']} {shown(it['fullest']['percent_after'])}%" if of is None else f"{it['fullest']['name']} {of * 100:.1f}% used"
+    return f"{it['fullest']['name']} {shown(it['fullest']['percent_after'])}%" if of is None else f"{it['fullest']['name']} {hundredths(of)}% used"
 
 
 def each_said(plan, item, it, stay):

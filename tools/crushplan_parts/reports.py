@@ -80,8 +80,10 @@ def summary_table(plan, summary, stay, title=None):
         ("fullest device afterwards", fullest_text(plan, summary)),
         ("proved", f"no group moves but the {summary.can_move:,} of the impact lists"),
     ]
+    if summary.fullest and summary.fullest.used_after is not None:
+        rows.insert(4, ("its room", room_text(plan, summary.fullest)))
     if summary.past["nearfull_ratio"]:
-        rows.insert(4, ("past the near-full ratio", some([shown_used(it) for it in summary.past["nearfull_ratio"]])))
+        rows.insert(5, ("past the near-full ratio", some([shown_used(it) for it in summary.past["nearfull_ratio"]])))
     if stay.keeping:
         rows.insert(1, ("copies that stay, by a rule that takes the device", some([f"osd.{device}: {copies:,}" for device, copies in sorted(stay.keeping.items())])))
     return Table(("", ""), rows, title)
@@ -95,12 +97,14 @@ def fullest_text(plan, summary):
     of = it.percent()
     if of is not None:
         text += f", {shown(of)}% of its share of {shown(rounded(*it.expected_after, 1))}"
-    if it.used_after is not None:
-        ratio = plan.cluster.ratios.get("nearfull_ratio")
-        text += f"; {rounded(it.used_after.numerator * 100, it.used_after.denominator, 1)}% of its room used"
-        if ratio is not None:
-            text += f", near-full is {shown(float(ratio * 100))}%"
     return text
+
+
+def room_text(plan, it):
+    """Says how much of a device's room is used afterwards, beside the near-full ratio."""
+    ratio = plan.cluster.ratios.get("nearfull_ratio")
+    used = f"{rounded(it.used_after.numerator * 100, it.used_after.denominator, 1)}% used"
+    return used + (f"; near-full is {shown(float(ratio * 100))}%" if ratio is not None else "")
 
 
 def pools_table(summary):

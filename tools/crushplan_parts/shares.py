@@ -92,3 +92,8 @@ def percent(copies, expected):
     """Returns how much of what is expected is there, in percent with one decimal, or None."""
     over, under = expected
     return rounded(copies * under * 100, over, 1) if over else None
+
+
+def hundredths(part):
+    """Returns a part of 1, with four decimals, in percent with one."""
+    return rounded(round(part * 10_000), 100, 1)

@@ -3,7 +3,7 @@ import fractions
 
 from .faults import Fault, nearest
 from .output import Answer, Table, devices_text, shown, sized
-from .shares import Expected, percent, rounded
+from .shares import hundredths, percent, rounded
 from .summary import PoolChange, devices_of, whole
 from .reports import grouped, listed, sum_fractions
 
@@ -38,7 +38,7 @@ def usage(plan, asked):
     known = any(it["bytes"] is not None for it in rows)
     used = any(it["used"] is not None for it in rows)
     heads = ["device" if type_ == 0 else plan.map.types.get(type_, "bucket")] + (["host"] if type_ == 0 else []) + ["copies", "primaries", "share", "% of share"] + (["bytes"] if known else []) + (["used %"] if used else [])
-    table = [[it["name"]] + ([it["host"]] if type_ == 0 else []) + [it["copies"], it["primaries"], it["share"], it["percent"]] + ([sized(it["bytes"])] if known else []) + ([None if it["used"] is None else round(it["used"] * 100, 1)] if used else []) for it in rows]
+    table = [[it["name"]] + ([it["host"]] if type_ == 0 else []) + [it["copies"], it["primaries"], it["share"], it["percent"]] + ([sized(it["bytes"])] if known else []) + ([None if it["used"] is None else hundredths(it["used"])] if used else []) for it in rows]
     ranked = sorted((it for it in rows if it["percent"] is not None), key=lambda it: it["percent"])
     least, greatest = (ranked[0], ranked[-1]) if ranked else (None, None)
     copies, wanted = sum(it.before.total() for it in changes), sum(it.pool.size * it.pool.pg_num for it in changes)

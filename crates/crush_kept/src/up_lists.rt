@@ -1,7 +1,9 @@
 //! The up lists of all groups of a pool.
 
-ghost use Rattle.std.specs.Prelude.{◌≡◌, ◌≤◌, length, slice_range};
-ghost use Rattle.crush_kept.specs.Private.Parts.{start_at};
+ghost use Rattle.std.specs.List.{range_with_len};
+ghost use Rattle.std.specs.Prelude.{◌≡◌, ◌≤◌, [], IfOk, length, map, slice_range, true};
+ghost use Rattle.crush_report.specs.OnMaps.{up_on};
+ghost use Rattle.crush_kept.specs.Private.Parts.{AreEnds, parts_of, start_at};
 
 use crush_choose::Slot;
 use crush_choose::limits::SIZE_LIMIT;
@@ -61,6 +63,32 @@ fn slots_between(slots: &[Slot], start: usize, end: usize) -> &[Slot]
     &slots[start..end]
 }
 
+/// Puts the up lists of the first groups of a pool behind one another, and where each ends; `up` is
+/// room for one of them. `false`: they have more than `SLOT_LIMIT` slots. `Err(AllocError)`: an
+/// allocation failed.
+fn put_lists(
+    run: &mut UpRun,
+    up: &mut Vec<Slot>,
+    slots: &mut Vec<Slot>,
+    ends: &mut Vec<u32>,
+    count: u32,
+) -> Result<bool, AllocError>
+    requires slots { slots.old.items ≡ [] }
+    requires ends { ends.old.items ≡ [] }
+    ensures ends { IfOk result (λ fits. fits ≡ true → AreEnds (length slots.new.items) 0 ends.new.items) }
+    ensures lists { IfOk result (λ fits. fits ≡ true → parts_of slots.new.items 0 ends.new.items ≡ map (up_on run.old) (range_with_len 0 count)) }
+{
+    for group in 0..count {
+        run.set_up(up, group)?;
+        slots.extend_from_slice(up.as_slice())?;
+        if slots.len() > SLOT_LIMIT {
+            return Ok(false);
+        }
+        ends.push(slots.len() as u32)?;
+    }
+    Ok(true)
+}
+
 impl UpLists {
     ghost use Rattle.std.specs.Prelude.{◌≡◌, [], IfOk, IfSome, slice_index_or};
     ghost use Rattle.crush_kept.specs.UpLists.{AreUpListsOn};
@@ -77,15 +105,11 @@ impl UpLists {
         let mut up = Vec::with_capacity(alloc, SIZE_LIMIT)?;
         let mut slots = Vec::with_capacity(alloc, most_slots(pool))?;
         let mut ends = Vec::with_capacity(alloc, count as usize)?;
-        for group in 0..count {
-            run.set_up(&mut up, group)?;
-            slots.extend_from_slice(up.as_slice())?;
-            if slots.len() > SLOT_LIMIT {
-                return Ok(None);
-            }
-            ends.push(slots.len() as u32)?;
+        let fits = put_lists(&mut run, &mut up, &mut slots, &mut ends, count)?;
+        if fits {
+            return Ok(Some(UpLists { slots, ends }));
         }
-        Ok(Some(UpLists { slots, ends }))
+        Ok(None)
     }
 
     /// The up list of a group; an empty one of a group that has none.

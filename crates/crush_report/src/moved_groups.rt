@@ -1,5 +1,6 @@
 //! The groups of a pool whose up lists differ between two maps.
 
+ghost use Rattle.std.specs.List.{range_with_len};
 ghost use Rattle.std.specs.Prelude.{◌≡◌, ◌<◌, ◌≤◌, ◌*◌, ◌^◌, Some, IfOk, OnOk, length};
 ghost use Rattle.crush_bucket.specs.Tables.{perms_of, tables_of};
 ghost use Rattle.crush_choose.specs.declared.limits.TheConstants.{SIZE_LIMIT};
@@ -187,9 +188,41 @@ pub(crate) fn set_up_of(
 /// The most words of 8 bytes a group that are kept of the answers on each of the two maps.
 const WORDS_KEPT: u32 = 2;
 
+/// The groups of a pool whose up lists differ between two maps, in order. `Err(AllocError)`: an
+/// allocation failed.
+#[tactic(auto, using(crate::proofs::Groups::moves_more))]
+fn moved_rows(
+    alloc: Global,
+    from: &Placer,
+    to: &Placer,
+    olds: &Answers,
+    news: &Answers,
+    old_scratch: &mut Scratch,
+    new_scratch: &mut Scratch,
+    out: &mut Out,
+) -> Result<Listed<MoveRow>, AllocError>
+    requires olds { AreAnswers from.now olds.now }
+    requires news { AreAnswers to.now news.now }
+    requires first { old_scratch.old ≡ perms_of (tables_of from.now.map) }
+    requires second { new_scratch.old ≡ perms_of (tables_of to.now.map) }
+    ensures { IfOk result (λ rows. rows ≡ spec.move_rows (up_on from.now) (up_on to.now) (range_with_len 0 from.now.pool.pg_num)) }
+{
+    let mut old = Vec::with_capacity(alloc, SIZE_LIMIT)?;
+    let mut new = Vec::with_capacity(alloc, SIZE_LIMIT)?;
+    let mut rows = Vec::new(alloc);
+    for group in 0..from.pool().parts().pg_num {
+        set_up_of(&mut old, from, olds, old_scratch, out, group)?;
+        set_up_of(&mut new, to, news, new_scratch, out, group)?;
+        let moved = move_between(alloc, group, &old, &new)?;
+        if let Some(row) = moved {
+            rows.push(row)?;
+        }
+    }
+    Ok(Listed::new(rows))
+}
+
 /// The groups of a pool whose up lists differ between two maps, in order. The exceptions and the
 /// states of devices are the same on both. `Err(AllocError)`: an allocation failed.
-#[tactic(auto, using(crate::proofs::Groups::moves_more))]
 pub fn moves_with(alloc: Global, from: &Placer, to: &Placer) -> Result<Listed<MoveRow>, AllocError>
     requires states { to.now.states ≡ from.now.states }
     requires pool { to.now.pool ≡ from.now.pool }
@@ -199,21 +232,21 @@ pub fn moves_with(alloc: Global, from: &Placer, to: &Placer) -> Result<Listed<Mo
 {
     let _first = from.map();
     let _second = to.map();
+    let _parts = from.pool().parts();
     let mut old_scratch = Scratch::for_many(alloc, from.tables())?;
     let mut new_scratch = Scratch::for_many(alloc, to.tables())?;
     let mut out = Out::build(alloc)?;
     let olds = Answers::build(alloc, from, &mut old_scratch, &mut out, WORDS_KEPT)?;
     let news = Answers::build(alloc, to, &mut new_scratch, &mut out, WORDS_KEPT)?;
-    let mut old = Vec::with_capacity(alloc, SIZE_LIMIT)?;
-    let mut new = Vec::with_capacity(alloc, SIZE_LIMIT)?;
-    let mut rows = Vec::new(alloc);
-    for group in 0..from.pool().parts().pg_num {
-        set_up_of(&mut old, from, &olds, &mut old_scratch, &mut out, group)?;
-        set_up_of(&mut new, to, &news, &mut new_scratch, &mut out, group)?;
-        let moved = move_between(alloc, group, &old, &new)?;
-        if let Some(row) = moved {
-            rows.push(row)?;
-        }
-    }
-    Ok(Listed::new(rows))
+    let rows = moved_rows(
+        alloc,
+        from,
+        to,
+        &olds,
+        &news,
+        &mut old_scratch,
+        &mut new_scratch,
+        &mut out,
+    )?;
+    Ok(rows)
 }

@@ -3,7 +3,7 @@ use Rattle.std.specs.List.{range_with_len}
 use Rattle.crush_bucket.specs.Tables.{perms_of, tables_of}
 use Rattle.crush_report.specs.Moves.{move_rows}
 use Rattle.crush_report.specs.OnMaps.{up_on}
-use Rattle.crush_report.proofs.moved_groups.moves_with.Given as goal
+use Rattle.crush_report.proofs.moved_groups.moved_rows.Given as goal
 
 abbrev pub invariant-loop-group : goal.invariant-loop-group
 invariant-loop-group l = record {

@@ -1,0 +1,89 @@
+// Which exceptions (upmap items) Ceph's monitors remove when states of devices change, by
+// OSDMap::check_pg_upmaps and CrushWrapper::verify_upmap of release 16. Lists have null at empty
+// places.
+
+// The list that pairs make of a raw one.
+function paired(raw, pairs, mayBe) {
+    const items = [...raw];
+    for (const [from, to] of pairs) if (items.includes(from) && !items.includes(to) && mayBe(to)) items[items.indexOf(from)] = to;
+    return items;
+}
+
+// Devices below a bucket, by id; where it has a hole Ceph takes that for the device 0.
+function devicesOf(map, bucket, found = new Set()) {
+    for (const it of bucket.whole) {
+        if (it.bucket) devicesOf(map, it.bucket, found);
+        else found.add(it.hole ? 0 : it.device.id);
+    }
+    return found;
+}
+
+function bucketsOfType(map, bucket, type) {
+    if (bucket.type === type) return [bucket];
+    return map.types.get(bucket.type) < map.types.get(type) ? [] : bucket.items.filter((it) => it.bucket).flatMap((it) => bucketsOfType(map, it.bucket, type));
+}
+
+// What the monitors keep on a map, with states: `mayBe` says whether a device is in.
+export function keeper(map, mayBe) {
+    const kept = new Map(), once = (key, make) => kept.get(key) ?? kept.set(key, make()).get(key);
+    const takes = (rule) => rule.steps.filter(([op]) => op === "take").map((it) => it[1]);
+    const below = (name) => once(`below ${name}`, () => devicesOf(map, map.buckets.get(name)));
+    const domains = (rule, type) => once(`type ${rule.id} ${type}`, () => {
+        const found = new Map();
+        for (const name of new Set(takes(rule))) {
+            for (const bucket of map.buckets.has(name) ? bucketsOfType(map, map.buckets.get(name), type) : []) for (const id of below(bucket.name)) if (!found.has(id)) found.set(id, bucket.name);
+        }
+        return found;
+    });
+    // the weight of each device below what a rule takes, level by level: the last place counts
+    const weights = (rule) => once(`weights ${rule.id}`, () => {
+        const found = new Map();
+        for (const name of takes(rule)) {
+            const own = new Map(), queue = map.buckets.has(name) ? [map.buckets.get(name)] : [];
+            if (!queue.length) own.set(map.devices.get(name)?.id, 1);
+            for (const bucket of queue) for (const it of bucket.whole) if (it.bucket) queue.push(it.bucket); else own.set(it.hole ? 0 : it.device.id, it.number);
+            for (const [id, weight] of own) found.set(id, (found.get(id) ?? 0) + weight);
+        }
+        return found;
+    });
+    const wants = (pool, count) => (Number(count) > 0 ? Number(count) : pool.size + Number(count));
+    // too many devices in one bucket, or too many buckets
+    function crowded(rule, pool, [op, , count, , type], items) {
+        if (!map.types.get(type)) return false;
+        const found = new Map(), of = domains(rule, type);
+        for (const it of new Set(items)) if (of.has(it)) found.set(of.get(it), (found.get(of.get(it)) ?? 0) + 1);
+        return op === "chooseleaf" ? [...found.values()].some((it) => it > 1) : found.size > wants(pool, count);
+    }
+    // a device, or a place without one, that isn't below what the rule takes
+    function outside(rule, pool, items) {
+        let root = null, types = new Map(), cursor = 0;
+        for (const [op, ...words] of rule.steps) {
+            if (op === "take") root = words[0];
+            else if (op === "choose" || op === "chooseleaf") types.has(words[3]) || types.set(words[3], wants(pool, words[1]));
+            else if (op === "emit") {
+                const places = Math.max(0, [...types.values()].reduce((all, it) => all * it, 1));
+                if (root !== null && map.buckets.has(root)) {
+                    if (items.slice(cursor, cursor + places).some((it) => !below(root).has(it))) return true;
+                    cursor += Math.min(places, items.length - cursor);
+                }
+                [root, types] = [null, new Map()];
+            }
+        }
+        return false;
+    }
+    function broken(rule, pool, items) {
+        return rule.steps.some((step) => (step[0] === "choose" || step[0] === "chooseleaf") && crowded(rule, pool, step, items)) || outside(rule, pool, items) || items.some((it) => it === null || !weights(rule).get(it) || !mayBe(it));
+    }
+    function keptOnce(rule, pool, raw, pairs) {
+        return broken(rule, pool, paired(raw, pairs, mayBe)) ? [] : pairs.filter(([from, to]) => raw.includes(from) && mayBe(to));
+    }
+    // the pairs of a group that stay once nothing more is removed
+    return (pool, raw, pairs) => {
+        const rule = map.rules.find((it) => it.id === pool.rule);
+        for (let now = pairs; ;) {
+            const next = keptOnce(rule, pool, raw, now);
+            if (next.length === now.length) return next;
+            now = next;
+        }
+    };
+}
