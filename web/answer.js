@@ -86,8 +86,8 @@ async function differ(pools, before, after) {
 }
 
 // The stages of a change, each as it differs from what is now: a list of pools each, with how many
-// exceptions Ceph would remove. `change` of a stage changes the copy, and gives the version on which
-// it is looked at, if another; `out` has the devices that are out then, and the states.
+// exceptions Ceph would remove. `change` of a stage changes the copy, and gives the version on
+// which it is looked at, if another; `out` has the devices that are out then, and the states.
 export function stagesOf(cluster, pools, stages, work) {
     return withCopy(cluster, pools, work, async (copy) => {
         const before = await listsIn(copy, pools, NOW, "Where the groups lie now", work), found = [];

@@ -55,8 +55,8 @@ export function answerRow(cluster, all) {
 }
 
 // The answer in one sentence: whether every copy has room, and how many groups move. `stopped` is
-// how many groups stop while devices are down, `keeping` how many copies stay on devices that a rule
-// takes by name.
+// how many groups stop while devices are down, `keeping` how many copies stay on devices that a
+// rule takes by name.
 export function verdict(found, all, { stopped = 0, keeping = 0 } = {}) {
     const lacking = found.filter((it) => it.lacks.copies).map((it) => it.pool.name), moved = `${many(all.moved, "group")} ${all.moved === 1 ? "moves" : "move"}`, has = (it) => (it === 1 ? "has" : "have");
     const why = [

@@ -65,8 +65,8 @@ function others(list, lacks) {
     return list.filter((it, place) => it !== -1 && !lacks.includes(it) && list.indexOf(it) === place);
 }
 
-// Of groups that move, with their lists: how many copies each writes anew, and how often each device
-// joins a list and leaves one.
+// Of groups that move, with their lists: how many copies each writes anew, and how often each
+// device joins a list and leaves one.
 function moves(pool, groups, old, next) {
     const ids = greatest(old.items, next.items) + 1, gains = new Int32Array(ids), losses = new Int32Array(ids), gainedBy = new Int32Array(groups.length);
     groups.forEach((group, place) => {

@@ -1,6 +1,6 @@
 // What a device is expected to have of a pool: its share by weights and reweights, going down from
-// what the pool's rule takes. Where a rule takes several items, each gets as much as the places that
-// its steps fill.
+// what the pool's rule takes. Where a rule takes several items, each gets as much as the places
+// that its steps fill.
 
 const WHOLE = { reweight: 65536, up: true };
 

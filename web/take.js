@@ -66,8 +66,8 @@ function poolFault(pool, dump, rules, file) {
     return dump && ruleFault(dump, rule);
 }
 
-// What the dump has that placements here don't have, each with the pools, groups and devices that it
-// touches.
+// What the dump has that placements here don't have, each with the pools, groups and devices that
+// it touches.
 function oddities(osd, dump) {
     const lines = [], groups = (all) => some(all.map(([pool, group]) => `${pool}.${group.toString(16)}`)), note = (all, has, what) => all.length && lines.push(`${many(all.length, "group")} with ${has}: ${groups(all)}; ${what}`);
     for (const it of osd.pools) {
