@@ -20,9 +20,10 @@ SERVED = re.compile(r"\bcurl\b|\bserve\b|crushcalc\.pid")
 def commands_in(text):
     """The commands of a document, each with its output."""
     lines, found = iter(text.splitlines()), []
-    command = None
+    command, empty = None, ""
     for line in lines:
         if line.startswith(PROMPT):
+            empty = ""
             command = [line[len(PROMPT) :]]
             last = next((last for first, last in LONGER.items() if command[0].endswith(first)), None)
             for more in lines if last else ():
@@ -31,9 +32,13 @@ def commands_in(text):
                     break
             found.append(("\n".join(command) + "\n", []))
         elif line.startswith(INDENT) and command is not None:
-            found[-1][1].append(line[len(INDENT) :] + "\n")
+            found[-1][1].append(empty + line[len(INDENT) :] + "\n")
+            empty = ""
+        elif not line and command is not None:
+            # of the output, if that goes on
+            empty += "\n"
         else:
-            command = None
+            command, empty = None, ""
     return [(command, "".join(output)) for command, output in found]
 
 
