@@ -81,13 +81,14 @@ def load(port, folder):
         words = ("-q", "-k", "-c", str(CONNECTIONS), "-t", str(SECONDS), "-A", f"u{place}:u{place}", f"https://localhost:{port}/t/t{place}")
         ran = run("ab", *words).decode()
         said = dict(re.findall(r"^([\w -]+): +(\S+)", ran, re.M))
-        sound = int(said["Complete requests"]) >= CONNECTIONS and said["Failed requests"] == "0" and "Non-2xx responses" not in said
-        return (None, float(said["Requests per second"])) if sound else (ran, 0)
+        sound = said["Failed requests"] == "0" and "Non-2xx responses" not in said
+        return None if sound else ran, int(said["Complete requests"]), float(said["Requests per second"])
 
     with concurrent.futures.ThreadPoolExecutor(USERS) as pool:
         found = list(pool.map(own, range(USERS)))
-    print(f"nginx with TLS, passwords, and {USERS * CONNECTIONS} connections of {USERS} users: {sum(rate for _, rate in found):,.0f} requests a second")
-    return next((why for why, _ in found if why), None)
+    print(f"nginx with TLS, passwords, and {USERS * CONNECTIONS} connections of {USERS} users: {sum(rate for _, _, rate in found):,.0f} requests a second")
+    done = sum(count for _, count, _ in found)
+    return next((why for why, _, _ in found if why), None if done >= USERS else f"only {done} requests were answered")
 
 
 def limit(port, folder):
