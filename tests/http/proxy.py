@@ -13,6 +13,8 @@ from expected import TOP
 from served import SECONDS, Server, Unserved, free_port
 
 TENANTS = 64
+# keys of RSA take long on a busy machine
+KEY = ("-newkey", "ec", "-pkeyopt", "ec_paramgen_curve:prime256v1", "-nodes")
 # the tenants t0, t1, .. have a user each
 USERS = {"anna": ("shop", "depot"), "ben": ("lab",)} | {f"u{it}": (f"t{it}",) for it in range(TENANTS)}
 MAIN = """daemon off;
@@ -75,7 +77,7 @@ def replaced(text, *pairs):
 def write_users(folder):
     """A certificate that signs itself, and for each tenant its file of users, each user's password
     being the user's name."""
-    run("openssl", "req", "-x509", "-newkey", "rsa:2048", "-nodes", "-days", "1", "-subj", "/CN=localhost", "-addext", "subjectAltName=DNS:localhost",
+    run("openssl", "req", "-x509", *KEY, "-days", "1", "-subj", "/CN=localhost", "-addext", "subjectAltName=DNS:localhost",
         "-keyout", f"{folder}/key.pem", "-out", f"{folder}/certificate.pem")
     for user, tenants in USERS.items():
         line = b"%s:%s" % (user.encode(), run("openssl", "passwd", "-apr1", user))

@@ -5,12 +5,11 @@ import re
 import subprocess
 
 from expected import TOP
-from proxy import Client, nginx, run
+from proxy import KEY, Client, nginx, run
 from replies import NO_TENANT, there
 from served import Server, Unserved
 
 REQUESTS = 500
-KEY = ("-newkey", "ec", "-pkeyopt", "ec_paramgen_curve:prime256v1", "-nodes")
 BLOCK = re.compile(r"^```text\n(map \"\$ssl_client_verify.*?)^```$", re.M | re.S)
 
 
