@@ -21,10 +21,12 @@ def ran(words, folder):
     return done.stdout.decode(errors="replace")
 
 
-def clone(folder, is_stamped):
+def clone(folder, commit, is_stamped):
+    """A clone with this commit checked out."""
     ran(["git", "clone", "-q", "--no-hardlinks", str(TOP), str(folder)], TOP)
+    ran(["git", "checkout", "-q", "--detach", commit], folder)
     if is_stamped:
-        stamped.stamp(folder, stamped.head())
+        stamped.stamp(folder, commit)
 
 
 def build(folder, cpu=None):
