@@ -18,7 +18,7 @@ import sys
 
 import rados
 
-SECONDS = 60
+SECONDS = 300
 AT_ONCE = 64
 
 

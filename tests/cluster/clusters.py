@@ -56,8 +56,8 @@ class Layout:
         self.racks = [[[[next(numbers), weight(choice)] for _ in range(DEVICES)] for _ in range(HOSTS)] for _ in range(RACKS)]
 
     def map(self):
-        """The map: the buckets of racks and hosts have the ids -2, -3 and so on, each rack after its
-        hosts. A uniform bucket has the weight of its first item for all."""
+        """Returns the map: the buckets of racks and hosts have the ids -2, -3 and so on, each rack
+        after its hosts. A uniform bucket has the weight of its first item for all."""
         root, rack, host = KINDS[self.kind]
         map_ = Planned(self.kind)
         map_.devices = OSDS
@@ -69,7 +69,7 @@ class Layout:
         return map_
 
     def changed(self, choice):
-        """A layout in which a device stands in another host and two have another weight."""
+        """Returns a layout in which a device stands in another host, and two have another weight."""
         other = copy.deepcopy(self)
         hosts = [host for rack in other.racks for host in rack]
         taken, given = choice.sample(hosts, 2)
@@ -79,7 +79,7 @@ class Layout:
         return other
 
     def hosts(self):
-        """The name of each host, with its rack's name and its devices."""
+        """Returns the name of each host, with its rack's name and its devices."""
         id_, found = 2, []
         for hosts in self.racks:
             rack = f"rack{id_ + len(hosts)}"
@@ -93,7 +93,7 @@ def weight(choice):
 
 
 def objects(choice):
-    """Of each pool its objects: names with their bytes."""
+    """Returns the objects of each pool: names with their bytes."""
     found = {}
     for pool in POOLS:
         name, groups = pool["pool"], pool["pg_num"]
@@ -106,7 +106,7 @@ def objects(choice):
 
 
 def even_objects(name, groups, each, size):
-    """As many objects in each group."""
+    """Returns objects of a pool, as many in each of its groups."""
     left, found, number = [each] * groups, [], 0
     while any(left):
         object_, number = f"{name}-{number}", number + 1
