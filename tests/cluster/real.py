@@ -7,8 +7,8 @@ import base64
 import collections
 import concurrent.futures
 import json
-import os
 import pathlib
+import re
 import shutil
 import socket
 import subprocess
@@ -36,6 +36,8 @@ mon data avail warn = 1
 mon data avail crit = 0
 mon allow pool delete = true
 mon max pg per osd = 100000
+# seconds that the monitor gives its own test of a new map
+mon lease = 120
 osd max pg per osd hard ratio = 1000
 # nothing goes down or out, and nothing comes into the map, but by this test
 mon osd down out interval = 0
@@ -43,8 +45,7 @@ mon osd min in ratio = 0
 mon osd min up ratio = 0
 mon osd adjust heartbeat grace = false
 osd heartbeat grace = 600
-# a group waits that part of the grace, 6 s, after an OSD that had it ended
-osd pool default read lease ratio = 0.01
+osd heartbeat interval = 30
 osd crush update on start = false
 osd class update on start = false
 osd pool default pg autoscale mode = off
@@ -72,12 +73,13 @@ osd op num shards = 1
 osd op num threads per shard = 1
 """
 BYTES_OF_OSD = 256 * 1024 * 1024
-NEEDED = ("ceph", "ceph-mon", "ceph-mgr", "ceph-osd", "ceph-objectstore-tool", "ceph-authtool", "monmaptool", "crushtool", "setpriv")
+NEEDED = ("ceph", "ceph-mon", "ceph-mgr", "ceph-osd", "ceph-objectstore-tool", "ceph-authtool", "monmaptool", "crushtool", "osdmaptool", "setpriv")
 JOBS = 4
 # a group in one of these is still at work
 AT_WORK = {"creating", "unknown", "peering", "activating", "stale", "wait", "laggy", "recovering", "recovery_wait", "recovery_unfound",
            "backfilling", "backfill_wait", "backfill_toofull", "forced_recovery", "forced_backfill", "repair", "snaptrim", "scrubbing"}  # fmt: skip
 NONE = 2147483647
+MAPPED = re.compile(r"(\d+)\.([0-9a-f]+) raw \(\[[^]]*\], p-?\d+\) up \(\[([^]]*)\], p-?\d+\) acting \(\[([^]]*)\], p-?\d+\)")
 PERIOD = 1.2  # seconds: a little more than OSDs wait between two reports
 PATIENCE = 300  # seconds for what takes a few on a machine that does nothing else
 
@@ -114,7 +116,7 @@ def free_ports(number):
 
 
 def awaited(found, what):
-    """Returns what `found` answers, once that is true. Failed says what it was that took too long."""
+    """Returns what `found` answers, once that is true. Failed says what took too long."""
     end = time.monotonic() + PATIENCE
     while True:
         it = found()
@@ -228,10 +230,14 @@ class Cluster:
 
     def told(self, prefix, to="mon", given=b"", **words):
         """Returns what a command answers, as text. Failed says why it was refused."""
+        return self.told_bytes(prefix, to, given, **words).decode()
+
+    def told_bytes(self, prefix, to="mon", given=b"", **words):
+        """Returns the same as bytes."""
         said = self.answer({"to": to, "command": {"prefix": prefix, **words}, "input": base64.b64encode(given).decode()})
         if said["status"] < 0:
             raise Failed(f"ceph {prefix} {words}: {said['said']} ({said['status']})")
-        return said["out"]
+        return base64.b64decode(said["out"])
 
     def asked(self, prefix, to="mon", **words):
         """Returns the same of a command that answers JSON."""
@@ -271,25 +277,26 @@ class Cluster:
             }  # fmt: skip
         return found
 
-    def mapped(self, groups):
-        """Returns the up and acting lists of these groups, as the monitor computes them."""
+    def mapped(self):
+        """Returns the up and acting lists of all groups, by the monitor's newest map."""
+        path = self.folder / "osdmap"
+        path.write_bytes(self.told_bytes("osd getmap"))
         found = {}
-        for pool, group in groups:
-            it = self.asked("pg map", pgid=f"{pool}.{group:x}")
-            found[pool, group] = (listed(it["up"]), listed(it["acting"]))
+        for line in run("osdmaptool", path, "--test-map-pgs-dump-all").splitlines():
+            it = MAPPED.match(line)
+            if it:
+                found[int(it[1]), int(it[2], 16)] = tuple([none_or(int(device)) for device in of.split(",") if device] for of in (it[3], it[4]))
         return found
 
     def settled(self):
         """Returns the groups once none is at work, and the OSDs have the lists of the newest map,
         twice one after the other. Failed says which are at work."""
-        wanted = {(it["pool"], group) for it in self.asked("osd dump")["pools"] for group in range(it["pg_num"])}
         end, last = time.monotonic() + PATIENCE, None
         while True:
-            groups = self.groups()
-            mapped = self.mapped(wanted)
-            why = {key: why_at_work(groups.get(key), *mapped[key]) for key in sorted(wanted)}
+            groups, mapped = self.groups(), self.mapped()
+            why = {key: why_at_work(groups.get(key), *lists) for key, lists in sorted(mapped.items())}
             why = {key: it for key, it in why.items() if it}
-            if not why and set(groups) == wanted and groups == last:
+            if not why and set(groups) == set(mapped) and groups == last:
                 return groups
             if time.monotonic() > end:
                 raise Failed(f"{len(why)} groups didn't settle in {PATIENCE} s: {dict(list(why.items())[:5])}")

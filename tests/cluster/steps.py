@@ -22,9 +22,9 @@ class Story:
     def __init__(self, cluster, kind, seed, folder):
         self.cluster, self.kind, self.folder, self.count = cluster, kind, folder, 0
         self.choice = random.Random(f"{kind} {seed}")
-        self.layout = clusters.Layout(kind, self.choice)
+        self.layout = clusters.Layout(kind, cluster.osds, self.choice)
         self.objects = clusters.objects(self.choice)
-        self.left, self.holes = set(range(clusters.OSDS)), []
+        self.left, self.holes = set(range(cluster.osds)), []
 
     def prepare(self):
         """Gives the cluster its map, pools, reweights and objects."""
@@ -34,11 +34,12 @@ class Story:
         told("osd erasure-code-profile set", name="two-and-two", profile=clusters.PROFILE)
         for it in clusters.POOLS:
             told("osd pool create", **it)
-        for device in self.choice.sample(range(clusters.OSDS), 3):
+        for device in self.choice.sample(range(self.cluster.osds), 3):
             told("osd reweight", id=device, weight=self.choice.randrange(ONE // 2, ONE) / ONE)
         self.cluster.settled()
         for pool, objects in self.objects.items():
             self.cluster.write(pool, objects)
+        self.cluster.settled()
 
     def set_map(self, layout):
         text, compiled = self.folder / "map.txt", self.folder / "map.bin"
@@ -50,8 +51,7 @@ class Story:
     # ---- recording
 
     def dump(self, folder):
-        """Writes the cluster's dumps, once what it says of objects is up to date."""
-        self.cluster.settled()
+        """Writes the dumps of the cluster, which has settled, once they have all objects."""
         wanted = {number: len(self.objects[it["pool"]]) for number, it in enumerate(clusters.POOLS, 1)}
 
         def current():
@@ -91,7 +91,8 @@ class Story:
         def end():
             self.left -= set(devices)
             self.cluster.end([f"osd.{it}" for it in devices])
-            self.cluster.told("osd down", ids=[str(it) for it in devices])
+            # as they are dead, no group has to wait until what they were allowed to answer is over
+            self.cluster.told("osd down", ids=[str(it) for it in devices], definitely_dead=True)
             self.cluster.await_up(self.left)
 
         return "the processes of " + " ".join(f"osd.{it}" for it in devices) + " end", end
@@ -193,8 +194,8 @@ class Story:
 
 
 def text_of(record):
-    """Returns a record as JSON, with a line for each group. A stage has the groups alone that differ
-    from those before, and a group its acting list where that isn't up."""
+    """Returns a record as JSON, with a line for each group. A stage has the groups alone that
+    differ from those before, and a group its acting list where that isn't up."""
     def said(group):
         kept = {key: it for key, it in group.items() if key != "acting" or it != group["up"]}
         return {**kept, "states": "+".join(sorted(group["states"]))}
