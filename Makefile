@@ -49,6 +49,8 @@ help:
 	@echo 'make dist      a release of what the last gate proved and built, or a word why there is none: dist/crushcalc-VERSION'
 	@echo 'make ceph-check   compares 176,000 mappings by requests, 154,000 with reweights and 93 name hashes with those of Ceph'"'"'s own library,'
 	@echo '               74,592 placements of groups, and 21,660 with exceptions, with those of its osdmaptool, impacts with what its crushtool moves, and map texts with its crushtool'
+	@echo 'make cluster-check   starts real Ceph clusters on this machine, foretells by crushplan what drains, failures, upmap items and changed'
+	@echo '               maps do to them, of the seed SEED=S (the time), does it, and compares: some 10 minutes'
 	@echo 'make sqlite-check   compares database files with those of the tool sqlite3, both ways'
 	@echo 'make refused-check   refuses each allocation in turn, in memory, over a file and in a server: some 110,000 runs'
 	@echo 'make fuzz      1,000,000 damaged inputs of the seed SEED=S (the time): lines, texts, bodies and streams; INPUTS=N for another number'
@@ -196,6 +198,13 @@ ceph-check: build build/crush_bench bench-deps
 	@python3 tests/ceph/check_texts ./crushcalc build/crush_bench
 	@python3 tests/ceph/check_plan --program ./crushcalc --seed $(SEED) tools/crushplan
 
+# the module rados, by which the cluster is asked, is that of /usr/bin/python3
+cluster-check: build
+	@{ command -v ceph-mon && command -v ceph-mgr && command -v ceph-osd && command -v ceph && command -v crushtool && /usr/bin/python3 -c 'import rados'; } >/dev/null 2>&1 || { \
+	  echo 'Installing ceph-mon, ceph-mgr, ceph-osd and ceph-common: apt-get install -y --no-install-recommends ceph-mon ceph-mgr ceph-osd ceph-common python3-rados'; \
+	  apt-get update && apt-get install -y --no-install-recommends ceph-mon ceph-mgr ceph-osd ceph-common python3-rados; }
+	@python3 tests/cluster/check ./crushcalc --seed $(SEED)
+
 sqlite-check: build
 	@command -v sqlite3 >/dev/null || { echo 'Installing sqlite3: apt-get install -y sqlite3'; apt-get update && apt-get install -y sqlite3; }
 	@python3 tests/with_sqlite3 ./crushcalc
@@ -264,4 +273,4 @@ clean:
 	@echo 'Removing ./crushcalc, build/ and crates/*/out; the next build proves everything anew.'
 	@rm -rf crushcalc build crates/*/out
 
-.PHONY: any build help tools try cases run test test-all wrong form install package package-check rebuild-check release dist serve ceph-check sqlite-check refused-check fuzz sanitized stops kill-check only-tested http-check page page-check bench instructions bench-deps clean
+.PHONY: any build help tools try cases run test test-all wrong form install package package-check rebuild-check release dist serve ceph-check cluster-check sqlite-check refused-check fuzz sanitized stops kill-check only-tested http-check page page-check bench instructions bench-deps clean

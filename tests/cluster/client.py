@@ -6,7 +6,7 @@ usage: /usr/bin/python3 client.py CONF
 Reads requests from standard input, a line of JSON each, and answers each by a line of JSON:
 
 - {"to": "mon" or "mgr" or the number of an OSD, "command": .., "input": base64}: what the command
-  answers, {"status": 0 or less, "out": text, "said": text};
+  answers, {"status": 0 or less, "out": base64, "said": text};
 - {"write": POOL, "objects": [[NAME, BYTES] ..]}: writes these objects, {"status": 0} once all are;
 - {"list": POOL}: the names of its objects, {"status": 0, "names": [..]}.
 
@@ -18,7 +18,7 @@ import sys
 
 import rados
 
-SECONDS = 60
+SECONDS = 300
 AT_ONCE = 64
 
 
@@ -31,7 +31,7 @@ def commanded(cluster, request):
         status, out, said = cluster.mgr_command(command, given, timeout=SECONDS)
     else:
         status, out, said = cluster.osd_command(request["to"], command, given, timeout=SECONDS)
-    return {"status": status, "out": out.decode(errors="replace"), "said": said}
+    return {"status": status, "out": base64.b64encode(out).decode(), "said": said}
 
 
 def written(cluster, request):

@@ -16,20 +16,20 @@ KINDS = {
     "uniform": ("uniform", "uniform", "uniform"),
     "mixed": ("list", "tree", "uniform"),
 }
-RACKS, HOSTS, DEVICES = 3, 2, 3
-OSDS = RACKS * HOSTS * DEVICES
+RACKS, HOSTS = 3, 2
+OSDS = (12, 18, 24)
 PROFILE = ["k=2", "m=2", "plugin=jerasure", "technique=reed_sol_van"]
 # the id of each pool is its place, from 1 on; the size of an erasure pool is that of its profile
 POOLS = (
-    {"pool": "even", "pg_num": 64, "pgp_num": 64, "pool_type": "replicated", "rule": "hosts", "size": 3},
-    {"pool": "racks", "pg_num": 32, "pgp_num": 32, "pool_type": "replicated", "rule": "racks", "size": 3},
-    {"pool": "parts", "pg_num": 50, "pgp_num": 50, "pool_type": "erasure", "rule": "hosts-of-parts", "erasure_code_profile": "two-and-two"},
-    {"pool": "pairs", "pg_num": 40, "pgp_num": 40, "pool_type": "replicated", "rule": "racks-then-hosts", "size": 4},
+    {"pool": "even", "pg_num": 32, "pgp_num": 32, "pool_type": "replicated", "rule": "hosts", "size": 3},
+    {"pool": "racks", "pg_num": 16, "pgp_num": 16, "pool_type": "replicated", "rule": "racks", "size": 3},
+    {"pool": "parts", "pg_num": 25, "pgp_num": 25, "pool_type": "erasure", "rule": "hosts-of-parts", "erasure_code_profile": "two-and-two"},
+    {"pool": "pairs", "pg_num": 24, "pgp_num": 24, "pool_type": "replicated", "rule": "racks-then-hosts", "size": 4},
 )
 ODD_NAMES = ("with a blank", "a/b\\c\"d'e", "ä, 名前, 🦀", "0", "n" * 300)
 # pools whose groups have the same number of objects of one size: how many, and their bytes
-EVEN = {"even": (20, 4096), "parts": (12, 8192)}
-OBJECTS, LARGEST, ALIKE = 600, 30_000, "pairs"  # of the other pools; in one of them all are of one size
+EVEN = {"even": (10, 4096), "parts": (6, 8192)}
+OBJECTS, LARGEST, ALIKE = 200, 30_000, "pairs"  # of the other pools; in one of them all are of one size
 
 
 class Planned(Map):
@@ -51,16 +51,16 @@ class Planned(Map):
 class Layout:
     """Racks of hosts of devices with their weights, and the kinds of their buckets."""
 
-    def __init__(self, kind, choice):
-        self.kind, numbers = kind, iter(range(OSDS))
-        self.racks = [[[[next(numbers), weight(choice)] for _ in range(DEVICES)] for _ in range(HOSTS)] for _ in range(RACKS)]
+    def __init__(self, kind, osds, choice):
+        self.kind, self.osds, numbers = kind, osds, iter(range(osds))
+        self.racks = [[[[next(numbers), weight(choice)] for _ in range(osds // HOSTS // RACKS)] for _ in range(HOSTS)] for _ in range(RACKS)]
 
     def map(self):
-        """The map: the buckets of racks and hosts have the ids -2, -3 and so on, each rack after
-        its hosts. A uniform bucket has the weight of its first item for all."""
+        """Returns the map: the buckets of racks and hosts have the ids -2, -3 and so on, each rack
+        after its hosts. A uniform bucket has the weight of its first item for all."""
         root, rack, host = KINDS[self.kind]
         map_ = Planned(self.kind)
-        map_.devices = OSDS
+        map_.devices = self.osds
 
         def bucket(kind, type_, entries, id_=None):
             return map_.bucket(kind, type_, [(it, entries[0][1]) for it, _ in entries] if kind == "uniform" else entries, id_)
@@ -69,7 +69,7 @@ class Layout:
         return map_
 
     def changed(self, choice):
-        """A layout in which a device stands in another host and two have another weight."""
+        """Returns a layout in which a device is in another host, and two have another weight."""
         other = copy.deepcopy(self)
         hosts = [host for rack in other.racks for host in rack]
         taken, given = choice.sample(hosts, 2)
@@ -79,7 +79,7 @@ class Layout:
         return other
 
     def hosts(self):
-        """The name of each host, with its rack's name and its devices."""
+        """Returns the name of each host, with its rack's name and its devices."""
         id_, found = 2, []
         for hosts in self.racks:
             rack = f"rack{id_ + len(hosts)}"
@@ -93,7 +93,7 @@ def weight(choice):
 
 
 def objects(choice):
-    """Of each pool its objects: names with their bytes."""
+    """Returns the objects of each pool: names with their bytes."""
     found = {}
     for pool in POOLS:
         name, groups = pool["pool"], pool["pg_num"]
@@ -106,7 +106,7 @@ def objects(choice):
 
 
 def even_objects(name, groups, each, size):
-    """As many objects in each group."""
+    """Returns objects of a pool, as many in each of its groups."""
     left, found, number = [each] * groups, [], 0
     while any(left):
         object_, number = f"{name}-{number}", number + 1

@@ -9,11 +9,11 @@ import steps
 
 CRUSHPLAN = pathlib.Path(__file__).resolve().parent.parent.parent / "tools" / "crushplan"
 ERASURE = 3
-SECONDS = 120
+SECONDS = 300
 
 
 class Unsaid(Exception):
-    """What crushplan said in the place of an answer."""
+    """Says what crushplan said in the place of an answer."""
 
 
 class Step:
@@ -26,7 +26,7 @@ class Step:
         self.before, self.stages = self.record["before"], [it["groups"] for it in self.record["stages"]]
 
     def foretold(self, *words):
-        """The object of JSON that crushplan writes for a command on the folder."""
+        """Returns the object of JSON that crushplan writes for a command on the folder."""
         command, *rest = [str(self.folder / it[7:]) if it.startswith("FOLDER/") else it for it in words]
         ran = subprocess.run([str(CRUSHPLAN), command, str(self.folder), *rest, "--json", "--program", self.program], stdin=subprocess.DEVNULL, stdout=subprocess.PIPE, stderr=subprocess.PIPE, timeout=SECONDS)
         try:
@@ -42,7 +42,7 @@ class Step:
         return said
 
     def moved(self):
-        """How many groups the cluster moved, in all stages."""
+        """Returns how many groups the cluster moved, in all stages."""
         lists = [self.before, *self.stages]
         return sum(len(moved_between(*it)) for it in zip(lists, lists[1:]))
 
@@ -53,7 +53,7 @@ class Step:
         return devices_in(up) < self.pool(group)["size"]
 
     def written(self, group, old, new):
-        """How many copies a move from one up list to another writes."""
+        """Returns how many copies a move from one up list to another writes."""
         if self.pool(group)["type"] == ERASURE:
             return sum(it is not None and it != was for was, it in zip(old, new))
         return len({it for it in new if it is not None} - set(old))
@@ -64,7 +64,7 @@ def devices_in(up):
 
 
 def moved_between(old, new):
-    """The groups whose up list differs."""
+    """Returns the groups whose up list differs."""
     return {it for it in old if old[it]["up"] != new[it]["up"]}
 
 
@@ -73,7 +73,8 @@ def with_state(groups, state):
 
 
 def counted(groups, *, primaries=False):
-    """How many copies each device has by up lists, or of how many groups it is the primary."""
+    """Returns how many copies each device has by up lists, or of how many groups it is the
+    primary."""
     found = collections.Counter()
     for it in groups.values():
         found.update([it["primary"]] if primaries else [device for device in it["up"] if device is not None])
@@ -81,7 +82,7 @@ def counted(groups, *, primaries=False):
 
 
 def same(said, is_, what="crushplan"):
-    """Why two values differ, or None. Of sets and dicts the first few differences are named."""
+    """Returns why two values differ, or None. Of sets and dicts it names a few differences."""
     if said == is_:
         return None
     if isinstance(is_, set):
@@ -103,9 +104,11 @@ def compared(step):
 
 
 def usage(step, said):
-    """Copies, primaries and bytes of each device before anything is done, and objects' places."""
+    """Compares all lists, copies, primaries and bytes of each device, and where objects lie."""
     rows = {it["device"]: it for it in said["rows"]}
     yield from usage_beside(step, {it: of["copies"] for it, of in rows.items()}, {it: of["primaries"] for it, of in rows.items()}, step.before)
+    lists = {it["id"]: (it["up"], it["primary"]) for it in step.foretold("usage", "--groups")["groups"]}
+    yield f"up lists and primaries of all {len(lists)} groups", same(lists, {it: (of["up"], of["primary"]) for it, of in step.before.items()})
     for number, pool in step.pools.items():
         own = {it["device"]: it["bytes"] for it in step.foretold("usage", "--pool", pool["pool_name"])["rows"]}
         yield f"bytes of each device in pool {pool['pool_name']}", bytes_beside(step, number, own, step.before)
@@ -124,9 +127,9 @@ def nonzero(counts):
 
 
 def bytes_beside(step, number, said, groups):
-    """Why the bytes that crushplan gives devices in a pool can't be: a group's copy has as many as
-    its objects have. Where all groups have as many, each device has exactly so many; else it is
-    between the least and the greatest."""
+    """Returns why devices can't have the bytes that crushplan gives them in a pool, or None. A copy
+    has as many as its group's objects; where all groups have as many, a device has exactly so many
+    a copy, and else between the least and the greatest."""
     own = [it for group, it in groups.items() if int(group.split(".")[0]) == number]
     parts = step.pool(f"{number}.0")["size"] // 2 if step.pool(f"{number}.0")["type"] == ERASURE else 1
     least, greatest = (of(it["bytes"] for it in own) // parts for of in (min, max))
@@ -136,7 +139,7 @@ def bytes_beside(step, number, said, groups):
 
 
 def moves(step, said, groups):
-    """The groups that moved, their lists and primaries before and after, and the copies written."""
+    """Compares the groups that moved, their lists and primaries, and the copies written."""
     told = {it["id"]: it for it in said}
     moved = moved_between(step.before, groups)
     yield f"{len(moved)} groups moved", same(set(told), moved)
@@ -151,7 +154,8 @@ def moves(step, said, groups):
 
 
 def summed(step, said, groups):
-    """Numbers of groups by pool, groups a copy short, and copies of each device after a change."""
+    """Compares numbers of groups by pool, groups a copy short, and copies of each device
+    afterwards."""
     short = {it for it, of in groups.items() if step.is_short(it, of["up"])}
     by_pool = {it["name"]: (it["moved"], it["short_groups"]) for it in said["pools"]}
     moved = moved_between(step.before, groups)
@@ -162,7 +166,7 @@ def summed(step, said, groups):
 
 
 def drain(step, said):
-    """Devices out, then ended, then perhaps removed from the map."""
+    """Compares devices out, then ended, then perhaps removed from the map."""
     out, ended, *purged = step.stages
     yield from moves(step, said["groups"], out)
     yield from summed(step, said, out)
@@ -178,9 +182,9 @@ def drain(step, said):
 
 
 def short_of_cluster(step, short, groups, before, ended=False):
-    """Why the groups a copy short aren't those that a settled cluster calls undersized, or
-    remapped, where a device outside the list is up and keeps the copy. The drained devices do that
-    until they end; then only those of an earlier change."""
+    """Returns why the groups a copy short aren't those that a settled cluster calls undersized, or
+    remapped, where a device outside the list is up and keeps the copy; or None. The drained devices
+    do that until they end; then only those of an earlier change."""
     undersized, kept = with_state(groups, "undersized"), with_state(groups, "remapped")
     first = kept if ended else undersized
     earlier = with_state(before, "remapped" if ended else "undersized")
@@ -193,7 +197,7 @@ def moved_and_copies(step, old, new):
 
 
 def stores(step, groups):
-    """What the stores of the OSDs hold, beside the lists and the objects of the groups."""
+    """Compares what the stores of the OSDs hold with the lists and the objects of the groups."""
     wanted = collections.defaultdict(collections.Counter)
     for group, it in groups.items():
         for device in it["acting"]:
@@ -204,7 +208,7 @@ def stores(step, groups):
 
 
 def fail(step, said):
-    """Devices down, then out, then back."""
+    """Compares devices down, then out, then back."""
     down, out, back = step.stages
     told = {it["id"]: it for it in said["down"]["groups"]}
     short = {it for it, of in down.items() if "undersized" in of["states"].split("+") or "stale" in of["states"].split("+")}
@@ -227,7 +231,7 @@ def fail(step, said):
 
 
 def upmap(step, said):
-    """Upmap items are sent."""
+    """Compares upmap items that were sent."""
     after = step.stages[0]
     rows = [it for it in said["groups"] if it["before"] != it["after"]]
     yield from moves(step, rows, after)
@@ -236,7 +240,7 @@ def upmap(step, said):
 
 
 def compare(step, said):
-    """The map is changed."""
+    """Compares a changed map."""
     after = step.stages[0]
     yield from moves(step, said["groups"], after)
     yield "groups and copies in all", same((said["moved"], said["copies"]), moved_and_copies(step, step.before, after))

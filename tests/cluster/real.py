@@ -7,8 +7,8 @@ import base64
 import collections
 import concurrent.futures
 import json
-import os
 import pathlib
+import re
 import shutil
 import socket
 import subprocess
@@ -36,6 +36,8 @@ mon data avail warn = 1
 mon data avail crit = 0
 mon allow pool delete = true
 mon max pg per osd = 100000
+# seconds that the monitor gives its own test of a new map
+mon lease = 120
 osd max pg per osd hard ratio = 1000
 # nothing goes down or out, and nothing comes into the map, but by this test
 mon osd down out interval = 0
@@ -43,6 +45,7 @@ mon osd min in ratio = 0
 mon osd min up ratio = 0
 mon osd adjust heartbeat grace = false
 osd heartbeat grace = 600
+osd heartbeat interval = 30
 osd crush update on start = false
 osd class update on start = false
 osd pool default pg autoscale mode = off
@@ -62,29 +65,29 @@ osd objectstore = memstore
 memstore device bytes = {bytes_of_osd}
 [mgr]
 keyring = {folder}/mgr/keyring
+# no module is loaded: that takes long, and the balancer makes upmap items of its own
+mgr module path = {folder}/modules
 [osd]
 keyring = {folder}/osd.$id/keyring
 osd op num shards = 1
 osd op num threads per shard = 1
-"""
-BYTES_OF_OSD = 256 * 1024 * 1024
-NEEDED = ("ceph", "ceph-mon", "ceph-mgr", "ceph-osd", "ceph-objectstore-tool", "ceph-authtool", "monmaptool", "crushtool", "setpriv")
-JOBS = 4
-# a group in one of these is still at work
-AT_WORK = {"creating", "unknown", "peering", "activating", "stale", "wait", "recovering", "recovery_wait", "recovery_unfound",
-           "backfilling", "backfill_wait", "backfill_toofull", "forced_recovery", "forced_backfill", "repair", "snaptrim", "scrubbing"}  # fmt: skip
-NONE = 2147483647
-PERIOD = 1.2  # seconds: a little more than OSDs wait between two reports
+""" BYTES_OF_OSD = 256 * 1024 * 1024 NEEDED = ("ceph", "ceph-mon", "ceph-mgr", "ceph-osd",
+"ceph-objectstore-tool", "ceph-authtool", "monmaptool", "crushtool", "osdmaptool", "setpriv")
+JOBS = 4 # a group in one of these is still at work AT_WORK = {"creating", "unknown", "peering",
+"activating", "stale", "wait", "laggy", "recovering", "recovery_wait", "recovery_unfound",
+"backfilling", "backfill_wait", "backfill_toofull", "forced_recovery", "forced_backfill",
+"repair", "snaptrim", "scrubbing"}  # fmt: skip NONE = 2147483647 MAPPED =
+re.compile(r"(\d+)\.([0-9a-f]+) raw \(\[[^]]*\], p-?\d+\) up \(\[([^]]*)\], p-?\d+\) acting
+\(\[([^]]*)\], p-?\d+\)") PERIOD = 1.2  # seconds: a little more than OSDs wait between two
+reports PATIENCE = 300  # seconds for what takes a few on a machine that does nothing else
+
+ class Failed(Exception):"""Says what the cluster, or a program, refused or didn't do in time."""
 
 
-class Failed(Exception):
-    """Says what the cluster, or a program, refused or didn't do in time."""
-
-
-def run(*words, seconds=120, **more):
-    """What a program writes on standard output; Failed says what it wrote on standard error."""
+def run(*words):
+    """Returns what a program writes on standard output. Failed says why there is none."""
     try:
-        ran = subprocess.run([str(it) for it in words], stdin=subprocess.DEVNULL, stdout=subprocess.PIPE, stderr=subprocess.PIPE, timeout=seconds, **more)
+        ran = subprocess.run([str(it) for it in words], stdin=subprocess.DEVNULL, stdout=subprocess.PIPE, stderr=subprocess.PIPE, timeout=PATIENCE)
     except (OSError, subprocess.TimeoutExpired) as error:
         raise Failed(f"{words[0]}: {error}") from None
     if ran.returncode:
@@ -93,12 +96,12 @@ def run(*words, seconds=120, **more):
 
 
 def missing():
-    """The programs that aren't installed."""
+    """Returns the programs that aren't installed."""
     return [it for it in NEEDED if not shutil.which(it)]
 
 
 def free_ports(number):
-    """As many TCP ports of the loopback interface that nothing listens on."""
+    """Returns as many TCP ports of the loopback interface, on which nothing listens."""
     sockets = [socket.socket() for _ in range(number)]
     for it in sockets:
         it.bind(("127.0.0.1", 0))
@@ -108,15 +111,15 @@ def free_ports(number):
     return ports
 
 
-def awaited(found, what, seconds):
-    """What `found` answers once that is true, asked for so many seconds; else Failed says what."""
-    end = time.monotonic() + seconds
+def awaited(found, what):
+    """Returns what `found` answers, once that is true. Failed says what took too long."""
+    end = time.monotonic() + PATIENCE
     while True:
         it = found()
         if it:
             return it
         if time.monotonic() > end:
-            raise Failed(f"{what} didn't come in {seconds} s")
+            raise Failed(f"{what} didn't come in {PATIENCE} s")
         time.sleep(0.3)
 
 
@@ -142,7 +145,7 @@ class Cluster:
     # ---- its processes
 
     def start(self):
-        for name in ("mon", "mgr", "run", "log"):
+        for name in ("mon", "mgr", "modules", "run", "log"):
             (self.folder / name).mkdir(parents=True)
         self.start_monitor()
         self.start_manager()
@@ -173,12 +176,10 @@ class Cluster:
         self.told("osd stat")
 
     def start_manager(self):
-        for module in ("devicehealth/enable_monitoring", "balancer/active"):  # the balancer makes upmap items
-            self.told("config set", who="mgr", name=f"mgr/{module}", value="false", force=True)
         key = self.told("auth get-or-create", entity="mgr.x", caps=["mon", "allow profile mgr", "osd", "allow *", "mds", "allow *"])
         (self.folder / "mgr" / "keyring").write_text(key)
         self.spawn("mgr.x", "ceph-mgr", "-i", "x")
-        awaited(lambda: self.asked("mgr dump")["available"], "the manager", 60)
+        awaited(lambda: self.asked("mgr dump")["available"], "the manager")
 
     def start_osd(self, number):
         self.spawn(f"osd.{number}", "ceph-osd", "-i", number)
@@ -197,7 +198,7 @@ class Cluster:
             it.terminate()
         for it in ended:
             try:
-                it.wait(20)
+                it.wait(60)
             except subprocess.TimeoutExpired:
                 it.kill()
                 it.wait()
@@ -224,14 +225,18 @@ class Cluster:
         return json.loads(line)
 
     def told(self, prefix, to="mon", given=b"", **words):
-        """What a command answers, as text. Failed says why it was refused."""
+        """Returns what a command answers, as text. Failed says why it was refused."""
+        return self.told_bytes(prefix, to, given, **words).decode()
+
+    def told_bytes(self, prefix, to="mon", given=b"", **words):
+        """Returns the same as bytes."""
         said = self.answer({"to": to, "command": {"prefix": prefix, **words}, "input": base64.b64encode(given).decode()})
         if said["status"] < 0:
             raise Failed(f"ceph {prefix} {words}: {said['said']} ({said['status']})")
-        return said["out"]
+        return base64.b64decode(said["out"])
 
     def asked(self, prefix, to="mon", **words):
-        """The same of a command that answers JSON."""
+        """Returns the same of a command that answers JSON."""
         return json.loads(self.told(prefix, to, format="json", **words))
 
     def write(self, pool, objects):
@@ -241,7 +246,7 @@ class Cluster:
             raise Failed(f"the objects of {pool}: {said['said']}")
 
     def stored(self, number):
-        """How many objects of each pool the store of an OSD holds, which has ended."""
+        """Returns how many objects of each pool the store of an OSD holds, which has ended."""
         out = run("ceph-objectstore-tool", "--no-mon-config", "--type", "memstore", "--data-path", self.folder / f"osd.{number}", "--op", "list")
         found = collections.Counter()
         for line in out.splitlines():
@@ -254,11 +259,11 @@ class Cluster:
 
     def await_up(self, names):
         """Waits until exactly these OSDs are up."""
-        awaited(lambda: {it["osd"] for it in self.asked("osd dump")["osds"] if it["up"]} == set(names), f"OSDs {names}", 120)
+        awaited(lambda: {it["osd"] for it in self.asked("osd dump")["osds"] if it["up"]} == set(names), f"OSDs {names}")
 
     def groups(self):
-        """Each group of each pool, (pool, group), as its OSDs say: up and acting lists, in which
-        None is an empty place, the primary of up, the states, and its objects and their bytes."""
+        """Returns each group of each pool, (pool, group), as its OSDs say: up and acting lists, in
+        which None is an empty place, the primary of up, the states, its objects and their bytes."""
         found = {}
         for it in self.asked("pg dump", "mgr", dumpcontents=["pgs"])["pg_stats"]:
             pool, group = it["pgid"].split(".")
@@ -268,34 +273,35 @@ class Cluster:
             }  # fmt: skip
         return found
 
-    def mapped(self, groups):
-        """Up and acting lists of these groups as the monitor computes them."""
+    def mapped(self):
+        """Returns the up and acting lists of all groups, by the monitor's newest map."""
+        path = self.folder / "osdmap"
+        path.write_bytes(self.told_bytes("osd getmap"))
         found = {}
-        for pool, group in groups:
-            it = self.asked("pg map", pgid=f"{pool}.{group:x}")
-            found[pool, group] = (listed(it["up"]), listed(it["acting"]))
+        for line in run("osdmaptool", path, "--test-map-pgs-dump-all").splitlines():
+            it = MAPPED.match(line)
+            if it:
+                found[int(it[1]), int(it[2], 16)] = tuple([none_or(int(device)) for device in of.split(",") if device] for of in (it[3], it[4]))
         return found
 
-    def settled(self, seconds=120):
-        """The groups once none is at work, and each OSD has the lists of the newest map, twice one
-        after the other. Failed says which are at work."""
-        wanted = {(it["pool"], group) for it in self.asked("osd dump")["pools"] for group in range(it["pg_num"])}
-        end, last = time.monotonic() + seconds, None
+    def settled(self):
+        """Returns the groups once none is at work, and the OSDs have the lists of the newest map,
+        twice one after the other. Failed says which are at work."""
+        end, last = time.monotonic() + PATIENCE, None
         while True:
-            groups = self.groups()
-            mapped = self.mapped(wanted)
-            why = {key: why_at_work(groups.get(key), *mapped[key]) for key in sorted(wanted)}
+            groups, mapped = self.groups(), self.mapped()
+            why = {key: why_at_work(groups.get(key), *lists) for key, lists in sorted(mapped.items())}
             why = {key: it for key, it in why.items() if it}
-            if not why and set(groups) == wanted and groups == last:
+            if not why and set(groups) == set(mapped) and groups == last:
                 return groups
             if time.monotonic() > end:
-                raise Failed(f"{len(why)} groups didn't settle in {seconds} s: {dict(list(why.items())[:5])}")
+                raise Failed(f"{len(why)} groups didn't settle in {PATIENCE} s: {dict(list(why.items())[:5])}")
             last = groups if not why else None
             time.sleep(PERIOD)
 
 
 def why_at_work(group, up, acting):
-    """What a group still has to do before it is at rest on these lists, or None."""
+    """Returns what a group still has to do before it is at rest on these lists, or None."""
     if group is None:
         return "unknown"
     states = group["states"]
@@ -313,5 +319,5 @@ def listed(devices):
 
 
 def none_or(device):
-    """A device, or None for what Ceph writes as 2147483647 or -1."""
+    """Returns a device, or None for what Ceph writes as 2147483647 or -1."""
     return None if device in (NONE, -1) else device

@@ -1,10 +1,10 @@
-"""What is done to a cluster, step by step, each recorded in a folder of its own: the cluster's
-dumps before the step, the words of crushplan that foretell it, and where the groups lay before
+"""What is done to a cluster, step by step. Each step is recorded in a folder of its own: the
+cluster's dumps before it, the words of crushplan that foretell it, and where the groups lay before
 and after.
 
-step.json has: "words", the words of crushplan, in which FOLDER is the step's; "pools"; "before",
-the groups; "stages", what was done, each with the groups once the cluster had settled; and what a
-step has beside.
+step.json has "words", the words of crushplan, in which FOLDER is the step's; "pools"; "holes" of
+tree buckets; "before", the groups; "stages", what was done, each with the groups once the cluster
+had settled; and what a step has beside.
 """
 import json
 import random
@@ -22,9 +22,9 @@ class Story:
     def __init__(self, cluster, kind, seed, folder):
         self.cluster, self.kind, self.folder, self.count = cluster, kind, folder, 0
         self.choice = random.Random(f"{kind} {seed}")
-        self.layout = clusters.Layout(kind, self.choice)
+        self.layout = clusters.Layout(kind, cluster.osds, self.choice)
         self.objects = clusters.objects(self.choice)
-        self.left, self.holes = set(range(clusters.OSDS)), []
+        self.left, self.holes = set(range(cluster.osds)), []
 
     def prepare(self):
         """Gives the cluster its map, pools, reweights and objects."""
@@ -34,11 +34,12 @@ class Story:
         told("osd erasure-code-profile set", name="two-and-two", profile=clusters.PROFILE)
         for it in clusters.POOLS:
             told("osd pool create", **it)
-        for device in self.choice.sample(range(clusters.OSDS), 3):
+        for device in self.choice.sample(range(self.cluster.osds), 3):
             told("osd reweight", id=device, weight=self.choice.randrange(ONE // 2, ONE) / ONE)
         self.cluster.settled()
         for pool, objects in self.objects.items():
             self.cluster.write(pool, objects)
+        self.cluster.settled()
 
     def set_map(self, layout):
         text, compiled = self.folder / "map.txt", self.folder / "map.bin"
@@ -50,8 +51,7 @@ class Story:
     # ---- recording
 
     def dump(self, folder):
-        """Writes the cluster's dumps, once what it says of objects is up to date."""
-        self.cluster.settled()
+        """Writes the dumps of the cluster, which has settled, once they have all objects."""
         wanted = {number: len(self.objects[it["pool"]]) for number, it in enumerate(clusters.POOLS, 1)}
 
         def current():
@@ -60,7 +60,7 @@ class Story:
             own = {pool: tuple(sum(it[key] for (of, _), it in groups.items() if of == pool) for key in ("objects", "bytes")) for pool in wanted}
             return groups if own == said and all(own[it][0] == wanted[it] for it in wanted) else None
 
-        groups = real.awaited(current, "what ceph df says of the objects", 60)
+        groups = real.awaited(current, "what ceph df says of the objects")
         folder.mkdir(parents=True)
         for name, (to, prefix, more) in DUMPS.items():
             (folder / name).write_text(self.cluster.told(prefix, to, format="json", **more))
@@ -91,7 +91,8 @@ class Story:
         def end():
             self.left -= set(devices)
             self.cluster.end([f"osd.{it}" for it in devices])
-            self.cluster.told("osd down", ids=[str(it) for it in devices])
+            # as they are dead, no group has to wait until what they were allowed to answer is over
+            self.cluster.told("osd down", ids=[str(it) for it in devices], definitely_dead=True)
             self.cluster.await_up(self.left)
 
         return "the processes of " + " ".join(f"osd.{it}" for it in devices) + " end", end
@@ -142,7 +143,7 @@ class Story:
         return self.step("locate", ["usage"], objects=asked)
 
     def failure(self):
-        """A rack, or two hosts of different racks, go down and then out, and come back."""
+        """Ends a rack, or two hosts of different racks, puts them out, and has them come back."""
         if self.choice.random() < 0.5:
             names = [self.choice.choice(self.layout.hosts())[1]]
         else:
@@ -151,8 +152,8 @@ class Story:
         return self.step("fail", ["fail", *names, "--groups"], self.ended(devices), self.out(devices), self.back(devices))
 
     def upmaps(self):
-        """Upmap items of two dozen groups: a device of the list for another of the same host, or of
-        a host that the list doesn't have, in the rack of the first."""
+        """Sends upmap items of some two dozen groups: a device of the list for another of the same
+        host, or of a host that the list doesn't have, in the rack of the first."""
         groups = self.cluster.groups()
         place = {device: (rack, host) for host, rack, devices in self.layout.hosts() for device in devices}
         items = {}
@@ -179,22 +180,22 @@ class Story:
         return self.step("remove", ["drain", f"osd.{device}", "--groups"], self.out([device]), self.ended([device]), self.purged([device]))
 
     def host_drained(self, other):
-        """Another host than this is drained; then every process ends, and what the stores of the
-        others hold is counted."""
+        """Drains another host than this; then ends every process, and counts what the stores of
+        the others hold."""
         host = self.choice.choice([it[0] for it in self.layout.hosts() if it[0] != other])
         devices = self.devices_of(host)
         return self.step("drain", ["drain", host, "--groups"], self.out(devices), self.ended(devices), stores=lambda: self.stores())
 
     def stores(self):
-        """How many objects of each pool the store of each OSD that is left holds."""
+        """Ends the OSDs that are left, and returns how many objects of each pool each holds."""
         left = sorted(self.left)
         self.cluster.end([f"osd.{it}" for it in left])
         return {it: self.cluster.stored(it) for it in left}
 
 
 def text_of(record):
-    """A record as JSON, with a line for each group. A stage has the groups alone that differ from
-    those before, and a group its acting list where that isn't up."""
+    """Returns a record as JSON, with a line for each group. A stage has the groups alone that
+    differ from those before, and a group its acting list where that isn't up."""
     def said(group):
         kept = {key: it for key, it in group.items() if key != "acting" or it != group["up"]}
         return {**kept, "states": "+".join(sorted(group["states"]))}
@@ -209,7 +210,7 @@ def text_of(record):
 
 
 def read(folder):
-    """The record of a step, with all groups of each stage."""
+    """Returns the record of a step, with all groups of each stage."""
     record = json.loads((folder / "step.json").read_text())
     record["before"] = {key: {"acting": it["up"], **it} for key, it in record["before"].items()}
     for it in record["stages"]:
