@@ -71,17 +71,21 @@ mgr module path = {folder}/modules
 keyring = {folder}/osd.$id/keyring
 osd op num shards = 1
 osd op num threads per shard = 1
-""" BYTES_OF_OSD = 256 * 1024 * 1024 NEEDED = ("ceph", "ceph-mon", "ceph-mgr", "ceph-osd",
-"ceph-objectstore-tool", "ceph-authtool", "monmaptool", "crushtool", "osdmaptool", "setpriv")
-JOBS = 4 # a group in one of these is still at work AT_WORK = {"creating", "unknown", "peering",
-"activating", "stale", "wait", "laggy", "recovering", "recovery_wait", "recovery_unfound",
-"backfilling", "backfill_wait", "backfill_toofull", "forced_recovery", "forced_backfill",
-"repair", "snaptrim", "scrubbing"}  # fmt: skip NONE = 2147483647 MAPPED =
-re.compile(r"(\d+)\.([0-9a-f]+) raw \(\[[^]]*\], p-?\d+\) up \(\[([^]]*)\], p-?\d+\) acting
-\(\[([^]]*)\], p-?\d+\)") PERIOD = 1.2  # seconds: a little more than OSDs wait between two
-reports PATIENCE = 300  # seconds for what takes a few on a machine that does nothing else
+"""
+BYTES_OF_OSD = 256 * 1024 * 1024
+NEEDED = ("ceph", "ceph-mon", "ceph-mgr", "ceph-osd", "ceph-objectstore-tool", "ceph-authtool", "monmaptool", "crushtool", "osdmaptool", "setpriv")
+JOBS = 4
+# a group in one of these is still at work
+AT_WORK = {"creating", "unknown", "peering", "activating", "stale", "wait", "laggy", "recovering", "recovery_wait", "recovery_unfound",
+           "backfilling", "backfill_wait", "backfill_toofull", "forced_recovery", "forced_backfill", "repair", "snaptrim", "scrubbing"}  # fmt: skip
+NONE = 2147483647
+MAPPED = re.compile(r"(\d+)\.([0-9a-f]+) raw \(\[[^]]*\], p-?\d+\) up \(\[([^]]*)\], p-?\d+\) acting \(\[([^]]*)\], p-?\d+\)")
+PERIOD = 1.2  # seconds: a little more than OSDs wait between two reports
+PATIENCE = 300  # seconds for what takes a few on a machine that does nothing else
 
- class Failed(Exception):"""Says what the cluster, or a program, refused or didn't do in time."""
+
+class Failed(Exception):
+    """Says what the cluster, or a program, refused or didn't do in time."""
 
 
 def run(*words):
