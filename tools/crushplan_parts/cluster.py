@@ -1,5 +1,4 @@
-"""A cluster, from the folder of its dumps: the map, pools, states of devices, upmap items,
-bytes."""
+"""A cluster, from the folder of its dumps: map, pools, states of devices, upmap items, bytes."""
 import dataclasses
 from decimal import Decimal
 import pathlib
@@ -215,8 +214,7 @@ def describe_pools(cluster, asked):
 
 
 def counts_by_pool(dump):
-    """Returns whether every OSD counts by pools what its disk holds. FileStore and MemStore
-    don't."""
+    """Returns whether every OSD counts by pools what it holds. FileStore and MemStore don't."""
     if not dump.has("stats"):
         return True
     stats = dump.at("stats")

@@ -113,8 +113,7 @@ class Plan:
         return sorted({it.rule for it in self.pools.values()})
 
     def written(self, map_):
-        """Returns the text of a map with the rules of the pools, and the buckets that they
-        reach."""
+        """Returns the text of a map with the rules of the pools and the buckets they reach."""
         buckets = {it: True for rule in self.rules() for item in map_.rules[rule].takes() for it in map_.buckets_below(item)}
         more = {item for it in buckets for item, _ in map_.buckets[it].items if item is not None and item >= 0}
         more |= {item for rule in self.rules() for item in map_.rules[rule].takes() if item >= 0} | set(self.cluster.states)
@@ -314,8 +313,7 @@ class Run:
         return Usage(entries, primaries, without == [] and entries != groups)
 
     def can_move(self, asked):
-        """Returns the groups of impact lists, and those with an upmap item to one of the
-        devices."""
+        """Returns the groups of impact lists, and those with an upmap item to a device."""
         pool, devices, places = asked
         found = {group for place in places for group in self.replies[place]["groups"]}
         return found | self.plan.with_pair_to(pool, devices)

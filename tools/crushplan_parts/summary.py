@@ -1,6 +1,5 @@
-"""What a change does to pools: the groups that move, copies written anew, groups a copy short,
-and how full devices are afterwards. Sums and differences of what crushcalc answers, in whole
-numbers."""
+"""What a change does to pools: the groups that move, copies written anew, groups a copy short, and
+how full devices are then. Sums and differences of what crushcalc answers, in whole numbers."""
 import fractions
 
 from .shares import Expected, Shares, percent, rounded

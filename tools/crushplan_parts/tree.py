@@ -48,8 +48,7 @@ class Tree:
         return {self.map.types.get(self.map.buckets[it].type, "?"): self.map.buckets[it].name for it in reversed(self.ancestors(device))}
 
     def item(self, name):
-        """Returns the id of a name: a device as osd.3 or 3, or a bucket. A Fault has the
-        nearest."""
+        """Returns the id of a name, a device (osd.3 or 3) or a bucket. A Fault has the nearest."""
         if name in self.ids:
             return self.ids[name]
         if name.isdigit() and int(name) in self.map.devices:
