@@ -248,9 +248,9 @@ page: build
 
 # Debian's selenium is that of /usr/bin/python3
 page-check: build
-	@{ command -v nginx && command -v chromium && command -v chromedriver && command -v openssl && [ -r $(D3) ] && /usr/bin/python3 -c 'import selenium'; } >/dev/null 2>&1 || { \
-	  echo 'Installing what the page and a browser need: apt-get install -y nginx openssl libjs-d3 chromium chromium-driver python3-selenium'; \
-	  apt-get update && apt-get install -y nginx openssl libjs-d3 chromium chromium-driver python3-selenium; }
+	@{ command -v nginx && command -v chromium && command -v chromedriver && command -v openssl && command -v jq && [ -r $(D3) ] && /usr/bin/python3 -c 'import selenium'; } >/dev/null 2>&1 || { \
+	  echo 'Installing what the page and a browser need: apt-get install -y nginx openssl jq libjs-d3 chromium chromium-driver python3-selenium'; \
+	  apt-get update && apt-get install -y nginx openssl jq libjs-d3 chromium chromium-driver python3-selenium; }
 	@/usr/bin/python3 tests/page/check ./crushcalc
 
 bench: build build/crush_bench

@@ -14,7 +14,7 @@ export const FAULTS = {
     M3: "a name that is taken (devices and buckets share their names), or a tunable that was named before.",
     M4: "a bucket of a type that isn't declared, or is misspelt; at the end of the text: there is no type 0. An empty text has it.",
     M5: "an item that isn't declared before its bucket: it is misspelt, or stands further down. The line is that of the bucket, whichever item it is; buckets come after their items, the root last.",
-    M6: "an item that stands twice in its bucket.",
+    M6: "an item that stands twice in its bucket, as osd.0 where a tree bucket has holes.",
     M7: "the weights of a bucket add up to 65536 or more.",
     M8: "the weights of a uniform bucket differ.",
     M9: "a bucket of type 0, which is that of devices.",

@@ -62,7 +62,7 @@ async function made(tenant, signal) {
 // The text of a map with the same devices and the rules of the same numbers, by which nothing lies
 // anywhere: moves from it to another version list all groups.
 export function emptyMap(map) {
-    return ["tunable choose_local_tries 0", "tunable choose_local_fallback_tries 0", ...[...map.devices.values()].map((it) => `device ${it.id} ${it.name}`), "type 0 osd",
+    return ["tunable choose_local_tries 0", "tunable choose_local_fallback_tries 0", ...[...map.devices.values(), ...map.fillers].map((it) => `device ${it.id} ${it.name}`), "type 0 osd",
         ...map.rules.map((it) => `rule r${it.id} { id ${it.id} type ${it.kind} step emit }`), ""].join("\n");
 }
 

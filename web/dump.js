@@ -36,9 +36,9 @@ function json(text, file) {
     }
 }
 
-// Whether a text is one of these two files: "crush", "osd", or nothing.
+// Which JSON a text is: "crush", "osd", "saved", or "other"; null where it can be a map's text.
 export function kindOf(text) {
-    if (!/^\ufeff?\s*\{/.test(text)) return null;
+    if (!/^\ufeff?\s*[[{]/.test(text)) return null;
     try {
         const it = JSON.parse(text.replace(/^\ufeff/, ""));
         return it.crushcalc ? "saved" : it.buckets && it.tunables ? "crush" : it.pools && it.osds ? "osd" : "other";

@@ -46,13 +46,18 @@ function joined(devices, buckets, rules, types) {
         bucket.items = bucket.items.filter((it) => !it.hole);
         for (const it of bucket.items) ((it.device ?? it.bucket).buckets ??= []).push(bucket);
     }
+    const fillers = [...devices.values()].filter((it) => isFiller(it) && !it.buckets.length && places.has(it.name));
+    for (const it of fillers) {
+        devices.delete(it.name);
+        byId.delete(it.id);
+    }
     const roots = all.filter((it) => !it.buckets?.length);
-    return { devices, buckets, rules, types, byId, roots, hosts: hostsOf(devices, buckets), levels: levelsOf(all, types) };
+    return { devices, fillers, buckets, rules, types, byId, roots, hosts: hostsOf(devices, buckets), levels: levelsOf(all, types) };
 }
 
 // What a map says, to be compared with another one: weights as numbers.
 export function signature({ devices, buckets, rules }) {
-    const items = (it) => it.items.map(({ name, number }) => [name, number]);
+    const items = (it) => it.whole.map(({ name, number }) => [name, number]);
     return JSON.stringify([[...devices.values()].map((it) => [it.id, it.name]).sort(), [...buckets.values()].map((it) => [it.id, it.name, it.type, it.alg, items(it)]).sort(), rules.map((it) => [it.id, it.kind, it.steps]).sort()]);
 }
 
@@ -60,7 +65,12 @@ export function signature({ devices, buckets, rules }) {
 // stands elsewhere too, and a mended text has a device of the weight 0 named hole: for people
 // neither is there.
 function isHole(bucket, { device, name, number }, places) {
-    return bucket.alg === "tree" && number === 0 && device && (device.id === 0 && places.get(name) > 1 || name === `hole.${device.id}`);
+    return bucket.alg === "tree" && number === 0 && device && (device.id === 0 && places.get(name) > 1 || isFiller(device));
+}
+
+// Whether a device has the name of those that fill holes.
+function isFiller({ id, name }) {
+    return name === `hole.${id}`;
 }
 
 // The types of which there are buckets, those nearest to the devices first.

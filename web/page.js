@@ -18,6 +18,7 @@ import { Stopped, working } from "./waiting.js";
 const VIEWS = { map: "Map", pools: "Pools", usage: "Usage", compare: "Compare", drain: "Drain", object: "Object" };
 // a name of one or two points would be another path
 const NAME = /^(?!\.{1,2}$)[A-Za-z0-9_.-]{1,64}$/;
+const NO_MAP = "Drop the map too: crush.json, or map.txt.";
 const at = (id) => document.getElementById(id);
 let cluster = null;
 
@@ -206,22 +207,22 @@ function start(said) {
 // What came of dumps or a map for a new cluster, or for one that has no map yet.
 async function takeFirst(tenant, files, work) {
     const osd = files.osd && readOsd(files.osd.text, files.osd.name), map = mapIn(files, osd);
-    if (!map) throw new Error("Drop the map too: crush.json, or map.txt.");
+    if (!map) throw new Error(NO_MAP);
     const version = await importMap(tenant, map, (file) => take([file]));
     return osd ? takeWhole(tenant, map, osd, work, version === 1 && known(tenant).seen === 1) : done(tenant, `${map.name} is version ${version} of the map. `, ["pools", "Make a pool"], ["compare", "Compare the versions"], version);
 }
 
-function done(tenant, text, first, later, version) {
+function done(tenant, text, first, later, version, before = "") {
     const [view, words] = version > 1 ? later : first;
     sayDone(text);
-    return { said: el("p", { class: "done" }, text, el("a", { href: `#/${tenant}/${view}` }, words)) };
+    return { said: el("p", { class: "done" }, text, before, el("a", { href: `#/${tenant}/${view}` }, words)) };
 }
 
 // The cluster's own dump, after its map: pools, states, upmap items.
 async function takeWhole(tenant, map, osd, work, fresh) {
     await openTenant(tenant, work);
     const taken = await takeOsd(tenant, cluster.map, osd, map.dump, fresh, work);
-    return done(tenant, `The cluster is there: ${taken}. Click on a host or rack in the picture, or `, ["drain", "choose what is drained or fails"], null, 1);
+    return done(tenant, `The cluster is there: ${taken}. `, ["drain", "choose what is drained or fails"], null, 1, "Click on a host or rack in the picture, or ");
 }
 
 // Files for a cluster that has a map. A map that comes alone is tried in a copy.
@@ -245,8 +246,9 @@ async function take(list, name) {
         const files = await filesOf(list), isNew = !place().tenant;
         if (isNew && !isName(name)) return;
         if (isNew) {
+            // what can't be read makes no cluster
             if (files.osd) readOsd(files.osd.text, files.osd.name);
-            if (files.crush) mapIn(files, null);
+            if (!mapIn(files, null)) throw new Error(NO_MAP);
             await makeTenant(name.value);
             history.pushState(null, "", `#/${name.value}/map`);
         }

@@ -39,7 +39,9 @@ async function versions(cluster, from, to, work) {
     const pools = poolsChosen(cluster), found = [], name = `${cluster.tenant}-${from}-${to}`;
     for (const pool of pools) {
         work.step(`What moves: ${pool.name}`);
-        found.push({ pool, ...await report("moves", "Compare two versions", `/t/${cluster.tenant}/pools/${pool.id}/moves/${from}/${to}`, pool, work.signal) });
+        const said = await report("moves", "Compare two versions", `/t/${cluster.tenant}/pools/${pool.id}/moves/${from}/${to}`, pool, work.signal);
+        // the report has the pool's number in a field of this name
+        found.push({ ...said, pool });
     }
     const moved = found.reduce((sum, it) => sum + it.moved, 0), anew = found.reduce((sum, it) => sum + it.anew, 0);
     return [figures([[moved, moved === 1 ? "group moves" : "groups move", "", "moved"], [anew, anew === 1 ? "copy is written anew" : "copies are written anew", "", "anew"]], "answer"),

@@ -17,7 +17,7 @@ import { filling, working } from "./waiting.js";
 
 // writes the states of a cluster's devices as the service takes them
 const STATES = 'ceph osd dump -f json | jq -r \'"id,reweight,up", (.osds[] | "\\(.osd),\\(.weight * 65536 | round),\\(.up)")\' >states.csv';
-const DUMPS = "ceph osd crush dump -f json >crush.json; ceph osd dump -f json >osd.json";
+const DUMPS = "ceph osd crush dump -f json >crush.json && ceph osd dump -f json >osd.json";
 
 // The place where files are dropped, or chosen.
 export function dropBox(take, more) {

@@ -249,6 +249,8 @@ def a_copy_that_was_left_is_found(page):
     left = f"{tenant}.copy-000000000002"
     page.ask("PUT", f"/t/{left}")
     page.browser.tab("Map")
+    # what comes of the picture moves what is below it
+    page.settled()
     page.browser.click("#copies summary")
     page.browser.click("#look")
     page.browser.until(lambda: [it.text for it in page.browser.all("#copies li code")] == [left], "the copy isn't found")

@@ -3,6 +3,7 @@ service's place, and notes every changing request."""
 import contextlib
 import http.client
 import http.server
+import sys
 import threading
 import time
 
@@ -19,6 +20,11 @@ class Between(http.server.ThreadingHTTPServer):
         super().__init__(("127.0.0.1", 0), Handler)
         self.behind, self.loses, self.refuses, self.keeps, self.posts = port, 0, 0, 0, []
         self.holds, self.held, self.drops = 0, "", 0
+
+    def handle_error(self, request, client_address):
+        # a browser that was stopped doesn't take its reply
+        if not isinstance(sys.exc_info()[1], ConnectionError):
+            super().handle_error(request, client_address)
 
 
 class Handler(http.server.BaseHTTPRequestHandler):

@@ -1,10 +1,15 @@
 """What a planner does with maps, pools and objects, on maps of the examples: each with at most
 three clicks, with the numbers of docs/PLANNING.md and of placed.py."""
+import os
+import pathlib
 import re
+import subprocess
+import tempfile
 
 import crush
 import map_text
 import shown
+from clusters import Cluster
 from page import DRAINED, EXAMPLES, TOP, example, first, unlike
 from placed import Placed
 
@@ -157,18 +162,29 @@ def a_cluster_is_deleted(page):
     )
 
 
+def states_by(command, dump):
+    """The states.csv that a command of the page writes where `ceph` says this dump."""
+    with tempfile.TemporaryDirectory() as folder:
+        ceph = pathlib.Path(folder) / "ceph"
+        ceph.write_text(f"#!/bin/sh\ncat <<'END'\n{dump}\nEND\n")
+        ceph.chmod(0o755)
+        subprocess.run(["sh", "-c", command], cwd=folder, env={**os.environ, "PATH": f"{folder}:{os.environ['PATH']}"}, check=True, timeout=60)
+        return (pathlib.Path(folder) / "states.csv").read_text()
+
+
 def devices_are_saved_as_csv(page):
     page.imported(example("cluster.txt"))
     page.drop("id,reweight,up\n4,32768,0\n", "states.csv", "1 devices")
-    note = page.browser.text("#tree-search-hint")
+    note, dumps = page.browser.text("#tree-search-hint"), page.browser.text(".drop .hint code")
     page.browser.click(".drop summary")
-    command = page.browser.text(".drop pre")
+    states_of = states_by(page.browser.text(".drop pre"), Cluster(1, 1, 3).osd((), {1: (0.5, True), 2: (1, False)}))
     rows = [it.split(",") for it in page.saved("#devices-csv").splitlines()]
     tree, states = wanted_tree(example("cluster.txt")), {"osd.4": ["32768", "0"]}
     wanted = [[name[4:], name, path[-1], words[0], *states.get(name, ["65536", "1"]), " ".join(reversed(path[:-1]))] for name, (path, words) in tree.items()]
     return first(
         unlike(rows[0], "device name host weight reweight up above".split()), unlike(sorted(rows[1:]), sorted(wanted)),
-        None if note.startswith("Classes of devices") else note, None if f"    {command}\n" in PAGE else command,
+        None if "Classes of devices (hdd, ssd) aren't shown" in note else note, None if f"    {dumps}\n" in PAGE else dumps,
+        unlike(states_of, "id,reweight,up\n0,65536,1\n1,32768,1\n2,65536,0\n"),
     )
 
 

@@ -1,6 +1,8 @@
 """While the page waits: what it does is said after 300 ms, after 5 s for how long already, with
 a button that stops it; the old view is dimmed and keeps its own name; a failed GET may not be
 done."""
+import re
+
 from page import first, unlike
 
 
@@ -12,7 +14,7 @@ def a_view_that_waits_says_so(page):
     page.browser.named("nav a", "Usage").click()
     page.browser.until(lambda: page.browser.run("return document.getElementById('waiting').innerText").startswith("Usage"), "it isn't said what is asked for")
     early = page.browser.run("return [document.querySelector('#stop').offsetParent === null, document.querySelector('h1').textContent]")
-    page.browser.until(lambda: "still waiting, 5 s" in page.browser.run("return document.getElementById('waiting').innerText"), "the seconds aren't said")
+    page.browser.until(lambda: re.search(r"still waiting, [5-7] s", page.browser.run("return document.getElementById('waiting').textContent")), "the seconds aren't said")
     page.browser.click("#stop")
     page.browser.until(lambda: page.browser.text("main .fault") == "Stopped.", "it isn't stopped")
     said = page.browser.run("return document.getElementById('waiting').innerText")
