@@ -70,7 +70,8 @@ def the_longest_names_fit(page):
         text = re.sub(rf"\b{re.escape(name)}\b", name.ljust(64, "m"), text)
     page.imported(text, "m" * 64 + ".txt", tenant="n" * 46)
     page.pool("p" * 64, size=2, pg_num=16)
-    page.browser.drop(text.replace("weight 1.0", "weight 1.5"), "other.txt")
+    # one device of three times the weight, so that groups move
+    page.browser.drop(text.replace("weight 1.0", "weight 3.0", 1), "other.txt")
     page.kept(2)
     page.browser.size(360, 740)
     whys = []
