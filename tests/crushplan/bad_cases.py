@@ -42,7 +42,7 @@ FILES = (
     ("a group that is none", {"osd.json": changed(osd_dump(), "pg_upmap_items", [{"pgid": "photos", "mappings": []}])}, "isn't the id of a group"), ("a dump of another cluster", {"osd.json": osd_dump(15)}, "osd.json has devices that crush.json lacks (osd.12, osd.13, osd.14)"),
     ("bytes that are a text", {"df.json": {"pools": [{"id": 1, "stats": {"bytes_used": "1", "stored": 1}}]}}, "df.json: pools[0]: stats: bytes_used isn't a whole number"), ("no stats", {"df.json": {"pools": [{"id": 1}]}}, "df.json: pools[0] has no field 'stats'"),
     ("nodes of nothing", {"osd-df.json": {"nodes": {}}}, "osd-df.json: nodes isn't a list"), ("NaN", {"osd.json": json.dumps(osd_dump()).replace("0.95", "NaN").encode()}, "osd.json: full_ratio isn't a number"),
-    ("a bucket below itself", {"crush.json": changed(crush_dump(), "buckets", 1, "items", 0, "id", -1)}, ""), ("a bucket that isn't there", {"crush.json": changed(crush_dump(), "buckets", 0, "items", 0, "id", -77)}, ""),
+    ("a bucket below itself", {"crush.json": changed(crush_dump(), "buckets", 1, "items", 0, "id", -1)}, "crush.json: the bucket default is below itself (default has host0 has default)"), ("a bucket that isn't there", {"crush.json": changed(crush_dump(), "buckets", 0, "items", 0, "id", -77)}, ""),
 )  # fmt: skip
 
 

@@ -93,6 +93,9 @@ def read_map(folder, with_osd_0):
         map_ = read_text(text_of(text), MAP_TEXT)
     else:
         raise Fault(f"{folder}: it has neither crush.json ('ceph osd crush dump -f json') nor map.txt ('crushtool -d'); 'crushplan fetch {folder}' writes them where ceph is there")
+    cycle = [map_.buckets[it].name for it in map_.cycle()]
+    if cycle:
+        raise Fault(f"{map_.file}: the bucket {cycle[0]} is below itself ({' has '.join([*cycle, cycle[0]])})")
     if with_osd_0 is None:
         with_osd_0 = 0 in map_.devices and map_.devices[0] != "device0"
     mark_holes(map_.buckets, with_osd_0)

@@ -89,6 +89,28 @@ class CrushMap:
                 self.buckets_below(inner, found)
         return list(found)
 
+    def cycle(self):
+        """Returns the ids of buckets of which each has the next as an item, and the last the first;
+        an empty list where no bucket is below itself."""
+        done = set()
+        for start in self.buckets:
+            path, left = [start], [self.buckets_in(start)]
+            while path and start not in done:
+                item = next(left[-1], None)
+                if item in path:
+                    return path[path.index(item) :]
+                if item is None:
+                    done.add(path.pop())
+                    left.pop()
+                elif item not in done:
+                    path.append(item)
+                    left.append(self.buckets_in(item))
+        return []
+
+    def buckets_in(self, bucket):
+        """Returns an iterator over the ids of the buckets that are a bucket's own items."""
+        return iter([item for item, _ in self.buckets[bucket].items if item in self.buckets])
+
     def reached(self, rule):
         """Returns the devices that a rule can answer."""
         return {device for item in rule.takes() for device in self.below(item)}

@@ -76,7 +76,7 @@ def main(words, beside):
         os.dup2(os.open(os.devnull, os.O_WRONLY), sys.stdout.fileno())
         return FAILED
     except RecursionError:
-        return failed(asked, "the map is nested too deeply, or has a bucket below itself")
+        return failed(asked, "the map is nested too deeply")
     except Exception as error:  # whatever it is given, the program says a sentence
         if "CRUSHPLAN_TRACE" in os.environ:
             raise
