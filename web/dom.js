@@ -1,7 +1,7 @@
 // Elements of the page. Text enters as text nodes only, so that no name and no map is ever taken
 // for markup.
 
-const SLICE = 8192;
+const SLICE = 2048;
 
 export function el(tag, fields, ...children) {
     const made = document.createElement(tag);

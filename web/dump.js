@@ -28,22 +28,15 @@ function each(of, name, where, act, otherwise) {
     return field(of, name, "list", where, otherwise).map((it, place) => act(it, `${where}: ${name}[${place}]`));
 }
 
-function json(text, file) {
-    try {
-        return JSON.parse(text.replace(/^\ufeff/, ""));
-    } catch (why) {
-        throw new Fault(`${file} isn't JSON: ${why.message}`);
-    }
-}
-
-// Which JSON a text is: "crush", "osd", "saved", or "other"; null where it can be a map's text.
+// Which JSON a text is ("crush", "osd", "saved", or "other"), and what it says; no kind where it can
+// be a map's text.
 export function kindOf(text) {
-    if (!/^\ufeff?\s*[[{]/.test(text)) return null;
+    if (!/^\ufeff?\s*[[{]/.test(text)) return {};
     try {
-        const it = JSON.parse(text.replace(/^\ufeff/, ""));
-        return it.crushcalc ? "saved" : it.buckets && it.tunables ? "crush" : it.pools && it.osds ? "osd" : "other";
+        const whole = JSON.parse(text.replace(/^\ufeff/, ""));
+        return { whole, kind: whole.crushcalc ? "saved" : whole.buckets && whole.tunables ? "crush" : whole.pools && whole.osds ? "osd" : "other" };
     } catch {
-        return "other";
+        return { kind: "other" };
     }
 }
 
@@ -84,9 +77,7 @@ function bucketOf(it, where) {
 }
 
 // The map of a dump, whether the service computes it or not.
-export function readCrush(text, file = "crush.json") {
-    const whole = json(text, file);
-    if (!whole.buckets || !whole.tunables) throw new Fault(`${file} has no fields 'buckets' and 'tunables': it isn't what 'ceph osd crush dump -f json' writes`);
+export function readCrush(whole, file) {
     const named = (key) => (it, where) => [field(it, key, "number", where), it.name];
     const map = { file, types: new Map(each(whole, "types", file, named("type_id"))), devices: new Map(each(whole, "devices", file, named("id"))), tunables: TUNABLES.filter((it) => it in whole.tunables).map((it) => [it, whole.tunables[it]]) };
     map.buckets = new Map(each(whole, "buckets", file, bucketOf).map((it) => [it.id, it]));
@@ -102,6 +93,7 @@ export function readCrush(text, file = "crush.json") {
 function markHoles({ buckets, devices }) {
     for (const bucket of buckets.values()) {
         const places = bucket.alg === "tree" ? bucket.items.filter((it) => it.id === 0 && it.weight === 0) : [];
+        if (!places.length) continue;
         const weighed = [...buckets.values()].some((it) => (it === bucket || !it.shadow) && it.items.some((one) => one.id === 0 && one.weight > 0));
         const itself = !weighed && !bucket.items.some((it) => it.id < 0) && devices.has(0) && devices.get(0) !== "device0";
         for (const it of places.slice(itself ? 1 : 0)) it.id = null;
@@ -224,9 +216,7 @@ function groupOf(text, where) {
 }
 
 // The pools, states of devices, upmap items and all that can't be computed of a dump.
-export function readOsd(text, file = "osd.json") {
-    const whole = json(text, file);
-    if (!whole.osds || !whole.pools) throw new Fault(`${file} has no fields 'osds' and 'pools': it isn't what 'ceph osd dump -f json' writes`);
+export function readOsd(whole, file) {
     const states = new Map(), affine = [];
     each(whole, "osds", file, (it, where) => {
         const id = field(it, "osd", "number", where), weight = field(it, "weight", "decimal", where);

@@ -1,11 +1,11 @@
 // The planner's page: which tenant and which view, and what the service says of the tenant.
 import { GivenUp, NotKept, ask, connect, finish, kept } from "./service.js";
 import { meaning } from "./codes.js";
-import { button, el, fault, fresh, labelled, say, sayDone } from "./dom.js";
+import { button, el, fault, fresh, labelled, pause, say, sayDone } from "./dom.js";
 import { forgetTenant, known, learn, note, tenants } from "./known.js";
 import { devicesBelow, readMap, signature } from "./map.js";
 import { LONGEST, dropLeft, leave } from "./copies.js";
-import { Refused, filesOf, importMap, mapIn, readOsd, takeOsd, takeSaved, takeStates } from "./take.js";
+import { Refused, crushIn, filesOf, importMap, mapIn, osdIn, takeOsd, takeSaved, takeStates } from "./take.js";
 import { aboutStraw } from "./refused.js";
 import { dropBox, showMap } from "./view_map.js";
 import { showPools } from "./view_pools.js";
@@ -206,7 +206,7 @@ function start(said) {
 
 // What came of dumps or a map for a new cluster, or for one that has no map yet.
 async function takeFirst(tenant, files, work) {
-    const osd = files.osd && readOsd(files.osd.text, files.osd.name), map = mapIn(files, osd);
+    const osd = osdIn(files), map = mapIn(files, osd);
     if (!map) throw new Error(NO_MAP);
     const version = await importMap(tenant, map, (file) => take([file]));
     return osd ? takeWhole(tenant, map, osd, work, version === 1 && known(tenant).seen === 1) : done(tenant, `${map.name} is version ${version} of the map. `, ["pools", "Make a pool"], ["compare", "Compare the versions"], version);
@@ -214,7 +214,8 @@ async function takeFirst(tenant, files, work) {
 
 function done(tenant, text, first, later, version, before = "") {
     const [view, words] = version > 1 ? later : first;
-    sayDone(text);
+    // it gets the focus, so nothing says it a second time
+    say("");
     return { said: el("p", { class: "done" }, text, before, el("a", { href: `#/${tenant}/${view}` }, words)) };
 }
 
@@ -229,7 +230,7 @@ async function takeWhole(tenant, map, osd, work, fresh) {
 async function takeMore(tenant, files, work) {
     if (files.saved) return { said: takeSaved(files.saved, cluster.summary) };
     if (files.states) return { said: await takeStates(tenant, files.states) };
-    const osd = files.osd && readOsd(files.osd.text, files.osd.name), map = mapIn(files, osd);
+    const osd = osdIn(files), map = mapIn(files, osd);
     if (map && osd) {
         if (signature(readMap(map.text)) !== signature(cluster.map)) await importMap(tenant, map, (file) => take([file]));
         return takeWhole(tenant, map, osd, work, false);
@@ -247,8 +248,10 @@ async function take(list, name) {
         if (isNew && !isName(name)) return;
         if (isNew) {
             // what can't be read makes no cluster
-            if (files.osd) readOsd(files.osd.text, files.osd.name);
-            if (!mapIn(files, null)) throw new Error(NO_MAP);
+            osdIn(files);
+            await pause();
+            if (!crushIn(files) && !files.text) throw new Error(NO_MAP);
+            await pause();
             await makeTenant(name.value);
             history.pushState(null, "", `#/${name.value}/map`);
         }

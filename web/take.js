@@ -21,19 +21,30 @@ async function textIn(file) {
 export async function filesOf(list) {
     const found = {};
     for (const file of list) {
-        const text = await textIn(file), json = kindOf(text), kind = json ?? (/^\ufeff?"?id"?,/.test(text) ? "states" : "text");
-        if (json === "other") throw new Fault(`${file.name} is neither what ceph osd crush dump -f json nor what ceph osd dump -f json writes, and no map text.`);
+        const text = await textIn(file), { kind = /^\ufeff?"?id"?,/.test(text) ? "states" : "text", whole } = kindOf(text);
+        if (kind === "other") throw new Fault(`${file.name} is neither what ceph osd crush dump -f json nor what ceph osd dump -f json writes, and no map text.`);
         if (found[kind]) throw new Fault(`${file.name} and ${found[kind].name} are of one kind: drop one of them.`);
-        found[kind] = { name: file.name, text };
+        found[kind] = { name: file.name, text, whole };
     }
     if (found.crush && found.text) delete found.text;
     return found;
 }
 
+// What osd.json and crush.json say, where they are among the files. Each is read once.
+export function osdIn({ osd }) {
+    if (osd) osd.read ??= readOsd(osd.whole, osd.name);
+    return osd?.read;
+}
+
+export function crushIn({ crush }) {
+    if (crush) crush.read ??= readCrush(crush.whole, crush.name);
+    return crush?.read;
+}
+
 // The map of the files: its text for the service, and the dump where it is one.
 export function mapIn(files, osd) {
-    if (!files.crush) return files.text && { ...files.text, dump: null };
-    const dump = readCrush(files.crush.text, files.crush.name);
+    const dump = crushIn(files);
+    if (!dump) return files.text && { ...files.text, dump: null };
     return { name: files.crush.name, text: textOf(dump, osd ? [...osd.states.keys()].filter((id) => !dump.devices.has(id)) : []), dump };
 }
 
@@ -133,8 +144,6 @@ export async function takeOsd(tenant, map, osd, dump, fresh, work) {
     note(tenant, { notes: lines, skipped });
     return `${many(pools.length, "pool")}, ${many(states, "device")} with a reweight or down, ${many(pairs, "upmap item")}`;
 }
-
-export { readOsd };
 
 // ---- the other files
 
