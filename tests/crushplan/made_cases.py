@@ -39,6 +39,7 @@ def straw2(runner, folder):
     write(folder, crush)
     equals("a whole cluster of straw2", runner.said("check", folder, status=2)["answer"], "no: 0 of 2 pools can be computed.")
     equals("and a drain of it", runner.said("drain", folder, "host0")["status"], 2)
+    equals("and its usage", runner.said("usage", folder, status=2)["answer"], "unknown: no pool can be computed.")
 
 
 def classes(runner, folder):

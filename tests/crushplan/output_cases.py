@@ -15,8 +15,8 @@ COMMANDS = ("fetch", "check", "usage", "compare", "drain", "fail", "upmap", "loc
 
 
 def usual(folder):
+    write(folder, crush_dump(), osd_dump(pools=[pool(1, "photos"), pool(2, "mail", size=2, min_size=1)]))
     (folder / "list").write_text("ceph osd pg-upmap-items 1.9 0 3\n")
-    return write(folder, crush_dump(), osd_dump(pools=[pool(1, "photos"), pool(2, "mail", size=2, min_size=1)]))
 
 
 def words_of(folder):

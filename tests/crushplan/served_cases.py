@@ -9,7 +9,6 @@ import sqlite3
 import subprocess
 import sys
 import threading
-import time
 
 from made import crush_dump, osd_dump, pool, write
 from running import PLAN, SECONDS, equals, wants
@@ -21,6 +20,8 @@ class Served:
 
     def __init__(self, runner, folder):
         self.file, self.made, self.dropped = folder / "tenants.db", [], []
+        # a method whose next request waits, and whether one waits
+        self.held, self.waits, self.goes_on = None, threading.Event(), threading.Event()
         with socket.socket() as it:
             it.bind(("127.0.0.1", 0))
             self.port = it.getsockname()[1]
@@ -47,14 +48,34 @@ class Served:
         """How many tenants were made and not dropped."""
         return len(self.made) - len(self.dropped)
 
+    def hold(self, method):
+        """Has the next request of a method wait until let_go()."""
+        self.waits.clear()
+        self.goes_on.clear()
+        self.held = method
+
+    def let_go(self):
+        self.held = None
+        self.goes_on.set()
+
+    def wait(self, method):
+        """Waits where requests of this method are held."""
+        if self.held == method:
+            self.held = None
+            self.waits.set()
+            self.goes_on.wait(SECONDS)
+
 
 class Before(http.server.BaseHTTPRequestHandler):
     """Hands each request on, by one connection to the server for all."""
 
     protocol_version, lock = "HTTP/1.1", threading.Lock()
+    disable_nagle_algorithm = True  # otherwise each body waits 40 ms for the head's acknowledgement
 
     def hand_on(self):
         body = self.rfile.read(int(self.headers.get("Content-Length") or 0))
+        if self.command == "DELETE":
+            self.served.wait("DELETE")
         with self.lock:
             connection = http.client.HTTPConnection("127.0.0.1", self.served.port, timeout=SECONDS)
             connection.request(self.command, self.path, body or None)
@@ -63,10 +84,15 @@ class Before(http.server.BaseHTTPRequestHandler):
             connection.close()
         if reply.status < 300 and self.command in ("PUT", "DELETE"):
             (self.served.made if self.command == "PUT" else self.served.dropped).append(self.path)
-        self.send_response(reply.status)
-        self.send_header("Content-Length", str(len(data)))
-        self.end_headers()
-        self.wfile.write(data)
+        if self.command != "DELETE":
+            self.served.wait(self.command)
+        try:
+            self.send_response(reply.status)
+            self.send_header("Content-Length", str(len(data)))
+            self.end_headers()
+            self.wfile.write(data)
+        except ConnectionError:  # the interrupted program is gone
+            self.close_connection = True
 
     do_GET = do_POST = do_PUT = do_DELETE = hand_on
 
@@ -96,20 +122,29 @@ def refused(runner, folder):
 
 
 def interrupted(runner, folder):
-    """Ctrl-C and a termination drop the tenant."""
+    """Ctrl-C and a termination drop the tenant, wherever they come: while the tenant is made, amid
+    a run, and while it is dropped."""
     write(folder, crush_dump(hosts=40, devices=4), osd_dump(160, [pool(1, "photos", pg_num=4096)]))
     with Served(runner, folder) as served:
         for sent in (signal.SIGINT, signal.SIGTERM):
-            words = [sys.executable, str(PLAN), "fail", str(folder), "--each", "host", "--service", served.url]
-            ran = subprocess.Popen(words, stdout=subprocess.PIPE, stderr=subprocess.PIPE, env=runner.environment)
-            end = time.monotonic() + SECONDS
-            while served.tenants() == 0 and time.monotonic() < end and ran.poll() is None:
-                time.sleep(0.01)
-            os.kill(ran.pid, sent)
-            out, err = ran.communicate(timeout=SECONDS)
-            equals(f"{sent.name}: status", ran.returncode, 130)
-            equals(f"{sent.name}: what it says", (out, err), (b"", b"crushplan: interrupted\n"))
-            equals(f"{sent.name}: tenants", served.tenants(), 0)
+            for method in ("PUT", "GET", "DELETE"):
+                interrupt(runner, folder, served, sent, method)
+
+
+def interrupt(runner, folder, served, sent, method):
+    """Sends a signal while a request of a method has no reply."""
+    what = f"{sent.name} while {method} waits"
+    words = [sys.executable, str(PLAN), "fail", str(folder), "--each", "host", "--service", served.url]
+    served.hold(method)
+    ran = subprocess.Popen(words, stdout=subprocess.PIPE, stderr=subprocess.PIPE, env=runner.environment)
+    wants(served.waits.wait(SECONDS), f"{what}: there is no such request")
+    equals(f"{what}: tenants before", served.tenants(), 1)
+    os.kill(ran.pid, sent)
+    out, err = ran.communicate(timeout=SECONDS)
+    served.let_go()
+    equals(f"{what}: status", ran.returncode, 130)
+    equals(f"{what}: what it says", (out, err), (b"", b"crushplan: interrupted\n"))
+    equals(f"{what}: tenants", served.tenants(), 0)
 
 
 def cases():

@@ -35,8 +35,12 @@ def answered(asked, beside):
     if asked.command == "fetch":
         answer, plan = fetch.fetch(asked), None
     else:
-        plan = Plan(read_cluster(asked.folder, asked), client_of(asked, beside))
-        answer = COMMANDS[asked.command](plan, asked)
+        cluster, client = read_cluster(asked.folder, asked), client_of(asked, beside)
+        try:
+            plan = Plan(cluster, client)
+            answer = COMMANDS[asked.command](plan, asked)
+        finally:
+            client.end()
     sys.stdout.write(written(answer, asked.command, asked.form, plan))
     sys.stdout.flush()
     return answer.status

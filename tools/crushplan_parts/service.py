@@ -9,6 +9,8 @@ import pathlib
 import secrets
 import shutil
 import subprocess
+import sys
+import time
 import urllib.parse
 
 from .faults import Fault
@@ -16,6 +18,7 @@ from .faults import Fault
 JOBS = 4
 SECONDS = 600  # as long as one run may take
 TRIES = 3  # of a message to a server
+LATE = 0.2  # seconds after which a tenant that was asked for as the program was interrupted is there
 
 
 def compact(body):
@@ -86,6 +89,9 @@ class Script:
             raise Fault(f"{self.where} isn't a crushcalc that plays scripts, or it failed (status {ran.returncode}{': ' + said[0] if said else ''}; its version: {self.version()})")
         return [read(int(line[:3]) if line[:3].isdigit() else 0, line[4:], self.where) for line in replies[1:]]
 
+    def end(self):
+        """Does nothing: a script's tenant ends with its process."""
+
     def version(self):
         """Returns what the program says of its version, or that it says nothing."""
         try:
@@ -96,8 +102,8 @@ class Script:
 
 
 class Server:
-    """Asks a server over HTTP or HTTPS; a tenant is dropped at the end of each run, whatever ends
-    it."""
+    """Asks a server over HTTP or HTTPS; a tenant is dropped at the end of each run, and by end()
+    where the run or the drop was interrupted."""
 
     def __init__(self, url):
         parts = urllib.parse.urlsplit(url if "//" in url else f"http://{url}")
@@ -107,6 +113,7 @@ class Server:
             self.port = parts.port
         except ValueError:
             raise Fault(f"--service {url}: its port is none") from None
+        self.left = {}  # the tenants that may be there, and whether the server said so
         self.secure, self.host, self.base = parts.scheme == "https", parts.hostname, parts.path.rstrip("/")
         self.where, self.connection, self.headers = f"{parts.scheme}://{parts.hostname}{f':{self.port}' if self.port else ''}{self.base}", None, {}
         if parts.username is not None:
@@ -116,21 +123,38 @@ class Server:
     def run(self, requests):
         """Answers requests on a new tenant, in order."""
         tenant = f"/t/crushplan-{secrets.token_hex(8)}"
+        self.left[tenant] = False
         status, said = self.send("PUT", tenant, None)
+        self.left[tenant] = True
+        if status != 201:
+            raise Fault(f"{self.where} makes no tenant: {status} {said}")
+        replies = [self.send(method, tenant + path, body) for method, path, body in numbered(requests)]
         try:
-            if status != 201:
-                raise Fault(f"{self.where} makes no tenant: {status} {said}")
-            return [self.send(method, tenant + path, body) for method, path, body in numbered(requests)]
-        finally:
             self.drop(tenant)
+        except Fault:
+            pass  # end() tries again
+        return replies
 
     def drop(self, tenant):
-        """Drops the tenant, by a new connection: an interrupted one may be amid a reply."""
+        """Drops a tenant. One whose making was interrupted may be made a little later."""
+        for _ in range(1 if self.left[tenant] else TRIES):
+            status, _said = self.send("DELETE", tenant, None)
+            if status != 404:
+                break
+            time.sleep(LATE)
+        del self.left[tenant]
+
+    def end(self):
+        """Drops the tenants that are left, by a new connection: an interrupted one may be amid a
+        reply."""
         self.close()
-        try:
-            self.send("DELETE", tenant, None)
-        except Fault:
-            pass
+        for tenant in list(self.left):
+            made = self.left[tenant]
+            try:
+                self.drop(tenant)
+            except Fault as fault:
+                if made:
+                    print(f"crushplan: the tenant {tenant.removeprefix('/t/')} isn't dropped: {fault}", file=sys.stderr)
         self.close()
 
     def close(self):

@@ -43,6 +43,8 @@ def usage(plan, asked):
     least, greatest = (ranked[0], ranked[-1]) if ranked else (None, None)
     copies, wanted = sum(it.before.total() for it in changes), sum(it.pool.size * it.pool.pg_num for it in changes)
     sentence = f"{copies:,} copies of {', '.join(it.name for it in pools) if len(pools) < 4 else f'{len(pools)} pools'}" + (f", {wanted - copies:,} fewer than the pools' sizes ask for" if wanted > copies else "") + "."
+    if not pools:
+        sentence = "unknown: no pool can be computed."
     text = f"Least: {extreme(least)}. Greatest: {extreme(greatest)}." if ranked else ""
     keys = ["name", "device", "host", "copies", "primaries", "share", "percent", "bytes", "used"]
     fields = {"by": heads[0], "pools": [{"pool": it.pool.id, "name": it.pool.name, "copies": it.before.total(), "wanted": it.pool.size * it.pool.pg_num, "bytes": it.pool.bytes} for it in changes], "rows": rows, "least": least, "greatest": greatest}
