@@ -12,11 +12,12 @@ from edits import Unfit
 from prover import linked
 from sources import source_of
 
-FUNCTION = re.compile(r"^fn (\S+): (not proved|no proof|could not tell)(?:: (.*))?$", re.M)
+FUNCTION = re.compile(r"^fn (\S+): (not proved|no proof|could not tell)(?:[:;] (.*))?$", re.M)
 PLACE = re.compile(r"^(?:note: )?(?:\./)?(src/[\w/]+\.rt):(\d+):\d+: (.*)$", re.M)
 PROOF = re.compile(r"^(?:note: )?(?:\./)?proofs/([\w/]+)/\w+\.antt:\d+:\d+: (.*)$", re.M)
 GOAL = re.compile(r"\((?:in )?`([^`]*)`\)|error: `([^`]*)`")
-CALLS = re.compile(r"it calls `[^`]*`(?:, `[^`]*`)*(?:,? and `[^`]*`)?, which (?:is|are) not proved")
+# a reason that is another function's
+OTHERS = re.compile(r"^(?:it calls .*|.*\b(?:is|are) not proved)$")
 LIMIT = re.compile(r"ran out of|outgrew the memory limit|stopped at the step limit|gave no verdict")
 # what says that a proof names something that the edit took away
 GONE = re.compile(r"has no field|is not in scope|has no `|was not admitted|that can be named from here")
@@ -94,7 +95,8 @@ class Said:
 
     def failed_itself(self):
         """The functions that aren't proved for more than what they call."""
-        return [path for path, verdict, why in FUNCTION.findall(self.output) if verdict != "no proof" or CALLS.sub("", why).strip("; ")]
+        found = ((path, verdict, why.split("; ")) for path, verdict, why in FUNCTION.findall(self.output))
+        return [path for path, verdict, reasons in found if verdict != "no proof" or not all(map(OTHERS.match, reasons))]
 
     def own_goal(self, edit, text):
         """The goal of the edited function that refused the edit, or None."""
