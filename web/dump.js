@@ -28,8 +28,8 @@ function each(of, name, where, act, otherwise) {
     return field(of, name, "list", where, otherwise).map((it, place) => act(it, `${where}: ${name}[${place}]`));
 }
 
-// Which JSON a text is ("crush", "osd", "saved", or "other"), and what it says; no kind where it can
-// be a map's text.
+// Which JSON a text is ("crush", "osd", "saved", or "other"), and what it says; no kind where it
+// can be a map's text.
 export function kindOf(text) {
     if (!/^\ufeff?\s*[[{]/.test(text)) return {};
     try {
