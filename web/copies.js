@@ -42,9 +42,13 @@ export async function dropLeft() {
 
 // The copies of a tenant that the service has, whichever browser made them.
 export async function copiesOf(tenant, signal) {
-    const names = Array.from({ length: MOST }, (_, it) => nameOf(tenant, it + 1));
-    const replies = await Promise.all(names.map((it) => ask(`Look for ${it}`, "GET", `/t/${it}`, undefined, signal)));
-    return names.filter((name, place) => replies[place].status === 200 && !inUse.has(name));
+    const found = [];
+    // one after the other: a web server may let a user have two requests at a time
+    for (const name of Array.from({ length: MOST }, (_, it) => nameOf(tenant, it + 1))) {
+        const reply = await ask(`Look for ${name}`, "GET", `/t/${name}`, undefined, signal);
+        if (reply.status === 200 && !inUse.has(name)) found.push(name);
+    }
+    return found;
 }
 
 // A new tenant with the first name of a copy that is free. Where the reply was lost, one that is
