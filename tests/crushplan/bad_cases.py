@@ -114,8 +114,6 @@ def programs(runner, folder):
     usual(folder)
     empty = folder / "bin"
     empty.mkdir()
-    command, runner.command = runner.command, ["/bin/sh", "-c", 'cp -r "$0" "$1/tools" 2>/dev/null; shift; exec python3 "$@"']
-    runner.command = command
     runner.refused("check", folder, "--program", folder / "none", has="there is no program there")
     runner.refused("check", folder, "--program", folder / "osd.json", has="there is no program there")
     other = empty / "other"

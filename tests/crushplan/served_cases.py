@@ -22,6 +22,8 @@ class Served:
         self.file, self.made, self.dropped = folder / "tenants.db", [], []
         # a method whose next request waits, and whether one waits
         self.held, self.waits, self.goes_on = None, threading.Event(), threading.Event()
+        # whether it waits before it is handed on until a tenant is missed, and whether it went on
+        self.early, self.went_on = False, threading.Event()
         with socket.socket() as it:
             it.bind(("127.0.0.1", 0))
             self.port = it.getsockname()[1]
@@ -48,11 +50,11 @@ class Served:
         """How many tenants were made and not dropped."""
         return len(self.made) - len(self.dropped)
 
-    def hold(self, method):
+    def hold(self, method, early=False):
         """Has the next request of a method wait until let_go()."""
-        self.waits.clear()
-        self.goes_on.clear()
-        self.held = method
+        for it in (self.waits, self.goes_on, self.went_on):
+            it.clear()
+        self.held, self.early = method, early
 
     def let_go(self):
         self.held = None
@@ -74,8 +76,8 @@ class Before(http.server.BaseHTTPRequestHandler):
 
     def hand_on(self):
         body = self.rfile.read(int(self.headers.get("Content-Length") or 0))
-        if self.command == "DELETE":
-            self.served.wait("DELETE")
+        if self.command == "DELETE" or self.served.early:
+            self.served.wait(self.command)
         with self.lock:
             connection = http.client.HTTPConnection("127.0.0.1", self.served.port, timeout=SECONDS)
             connection.request(self.command, self.path, body or None)
@@ -84,7 +86,12 @@ class Before(http.server.BaseHTTPRequestHandler):
             connection.close()
         if reply.status < 300 and self.command in ("PUT", "DELETE"):
             (self.served.made if self.command == "PUT" else self.served.dropped).append(self.path)
-        if self.command != "DELETE":
+        if self.command == "PUT":
+            self.served.went_on.set()
+        if self.served.early and reply.status == 404:
+            self.served.let_go()
+            self.served.went_on.wait(SECONDS)
+        if self.command != "DELETE" and not self.served.early:
             self.served.wait(self.command)
         try:
             self.send_response(reply.status)
@@ -126,19 +133,23 @@ def interrupted(runner, folder):
     a run, and while it is dropped."""
     write(folder, crush_dump(hosts=40, devices=4), osd_dump(160, [pool(1, "photos", pg_num=4096)]))
     with Served(runner, folder) as served:
+        # first of all: no request of an interrupted program is left that can be taken for its own
+        interrupt(runner, folder, served, signal.SIGINT, "PUT", True)
         for sent in (signal.SIGINT, signal.SIGTERM):
             for method in ("PUT", "GET", "DELETE"):
-                interrupt(runner, folder, served, sent, method)
+                interrupt(runner, folder, served, sent, method, False)
+        equals("tenants that were made", len(served.made), len(set(served.dropped)))
 
 
-def interrupt(runner, folder, served, sent, method):
-    """Sends a signal while a request of a method has no reply."""
-    what = f"{sent.name} while {method} waits"
+def interrupt(runner, folder, served, sent, method, early):
+    """Sends a signal while a request of a method has no reply; an early one isn't handed on before
+    the program tries to drop the tenant."""
+    what = f"{sent.name} while {method} waits{' early' * early}"
     words = [sys.executable, str(PLAN), "fail", str(folder), "--each", "host", "--service", served.url]
-    served.hold(method)
+    served.hold(method, early)
     ran = subprocess.Popen(words, stdout=subprocess.PIPE, stderr=subprocess.PIPE, env=runner.environment)
     wants(served.waits.wait(SECONDS), f"{what}: there is no such request")
-    equals(f"{what}: tenants before", served.tenants(), 1)
+    equals(f"{what}: tenants before", served.tenants(), int(not early))
     os.kill(ran.pid, sent)
     out, err = ran.communicate(timeout=SECONDS)
     served.let_go()

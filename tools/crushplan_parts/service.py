@@ -18,7 +18,7 @@ from .faults import Fault
 JOBS = 4
 SECONDS = 600  # as long as one run may take
 TRIES = 3  # of a message to a server
-LATE = 0.2  # seconds after which a tenant that was asked for as the program was interrupted is there
+LATE = 0.2  # seconds between the tries to drop a tenant whose making was interrupted
 
 
 def compact(body):
