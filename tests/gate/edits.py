@@ -5,6 +5,7 @@ An edit is a line `file: src/FILE.rt`, then pairs of lines `old: TEXT` and `new:
 text stands once in the file as the pairs before left it. A record is a row for each edit, with the
 digest of all that its refusal rests on (digests.py). It is written by `wrong`, never by hand.
 """
+import os
 import pathlib
 import re
 import subprocess
@@ -13,6 +14,8 @@ from prover import RT, crates_of
 from sources import source_of
 
 TOP = pathlib.Path(__file__).resolve().parent.parent.parent
+# what runs on this machine recorded
+KEPT = pathlib.Path(os.environ.get("XDG_CACHE_HOME") or pathlib.Path.home() / ".cache") / "crushcalc" / "refused"
 ROW = re.compile(r"^\| `(\w+)` \| (.*) \| ([0-9a-f]{16}) \|$", re.M)
 TOOLCHAIN = re.compile(r"^Toolchain: (.*)$", re.M)
 SECONDS = re.compile(r"^Seconds of processor: (\d+) for the first of (\d+) checks, (\d+) for each further one\.$", re.M)
@@ -98,18 +101,30 @@ def logic(toolchain):
 
 
 class Record:
-    """What refused the edits of a crate: where, and the digest, by the edits' names."""
+    """What refused the edits of a crate: where, and the digest, by the edits' names. What was
+    recorded on this machine, as by a run in another checkout, is there too."""
 
     def __init__(self, crate, toolchain, top=TOP):
         self.path, self.toolchain, self.rows, self.seconds = top / "crates" / crate / "must-fail" / "REFUSED.md", toolchain, {}, None
-        text = self.path.read_text() if self.path.is_file() else ""
+        self.kept = KEPT / f"{crate}.md" if top == TOP else None
+        self.others, self.is_taken = self.read(self.kept) if self.kept else {}, False
+        self.rows = self.read(self.path)
+
+    def read(self, path):
+        """The rows of a record, and the seconds where it has them; none of another logic."""
+        text = path.read_text() if path.is_file() else ""
         by, seconds = TOOLCHAIN.search(text), SECONDS.search(text)
-        if by and logic(by[1]) == logic(toolchain):
-            self.rows = {name: (where, digest) for name, where, digest in ROW.findall(text)}
-            self.seconds = tuple(map(int, seconds.groups())) if seconds else None
+        if not by or logic(by[1]) != logic(self.toolchain):
+            return {}
+        self.seconds = tuple(map(int, seconds.groups())) if seconds else self.seconds
+        return {name: (where, digest) for name, where, digest in ROW.findall(text)}
 
     def fits(self, edit, digest):
-        return self.rows.get(edit.name, (None, None))[1] == digest
+        """Whether the edit is recorded as refused with this digest."""
+        other = self.others.get(edit.name, (None, None))
+        if digest and other[1] == digest != self.rows.get(edit.name, (None, None))[1]:
+            self.rows[edit.name], self.is_taken = other, True
+        return digest is not None and self.rows.get(edit.name, (None, None))[1] == digest
 
     def minutes(self):
         """Minutes of processor that trying all edits took, or nothing where that isn't recorded."""
@@ -119,4 +134,8 @@ class Record:
     def write(self, names):
         """Writes the rows of these edits; what is recorded of others is dropped."""
         rows = [f"| `{name}` | {where} | {digest} |\n" for name, (where, digest) in sorted(self.rows.items()) if name in names]
-        self.path.write_text(HEAD.format(self.toolchain, *self.seconds) + "".join(rows))
+        text = HEAD.format(self.toolchain, *self.seconds) + "".join(rows)
+        self.path.write_text(text)
+        if self.kept:
+            self.kept.parent.mkdir(parents=True, exist_ok=True)
+            self.kept.write_text(text)
