@@ -165,6 +165,8 @@ class Trial:
             names.add(function[0] if function else None)
             if goal:
                 self.outcomes[edit] = Outcome(Outcome.TOGETHER, goal)
+            elif len(beside) == 1:
+                self.outcomes[edit] = Outcome(Outcome.ALONE, said.first_goal())
         if len(beside) > 1 and self.has_others(said, names):
             # what failed there may have failed for what was changed elsewhere
             self.outcomes = {it: found for it, found in self.outcomes.items() if it not in beside}
