@@ -1,9 +1,13 @@
 -- A script is played line by line.
-use Rattle.std.proofs.Common.{◌≡◌, ℕ, ◌==◌, ◌≤◌, List, [], ◌∷◌, ◌++◌, length, map, filter, length-append, Bool, true, false, if◌then◌else◌, Option, Some, None, refl, ap, sym, ◌∙◌, arith, append_assoc}
+use Rattle.std.proofs.Common.{◌≡◌, ℕ, ◌==◌, ◌≤◌, List, [], ◌∷◌, ◌++◌, length, map, filter, length-append, Bool, true, false, if◌then◌else◌, Option, Some, None, refl, ap, sym, subst, ◌∙◌, arith, append_assoc}
 use Rattle.std.proofs.lemmas.Bool.Decides.{nat_tests}
 use Rattle.std.specs.Io.KnownBytes.{Appends}
 use Rattle.std.specs.Str.Lines.{lines}
-use Rattle.tenant_core.specs.States.{States, MeetsDefinition, Serves}
+use Rattle.tenant_core.specs.States.{Headline, States, MeetsDefinition, Outcomes, Serves}
+use Rattle.tenant_history.proofs.Served.{leaves_latched}
+use Rattle.tenant_history.specs.Served.{LeavesSession}
+use Rattle.tenant_service.proofs.OneSession.{Rests}
+use Rattle.crush_app.specs.Private.Latching.{PlaysLatching}
 use Rattle.tenant_core.specs.StoreReply.{IsUnavailable}
 use Rattle.tenant_messages.specs.declared.call.Call.{Call}
 use Rattle.tenant_messages.specs.declared.reply.Reply.{Reply}
@@ -180,14 +184,24 @@ rest_cut latched old mid new a b c input rest line after h played one =
     rw (sym played.all, messages-line rest line after h) (cut_after latched old mid new a b c played.done (messages_in (line ∷ [])) (messages after) played.plays one)
 
 -- the next line latched the store
-pub rest_latched : (old mid new : States) (a b c : Option (List ℕ)) (input rest line after : List ℕ) → lines rest ≡ line ∷ lines after
-    → PlaysRest old mid a b input rest → Plays true mid new (messages_in (line ∷ [])) b c → PlaysUntilLatched old new (messages input) a c
-rest_latched old mid new a b c input rest line after h played one = record {
-  served = played.done ++ messages_in (line ∷ []);
-  later = messages after;
-  all = moved played.done (messages_in (line ∷ [])) (messages after) (messages rest) (messages input) (messages-line rest line after h) played.all;
-  plays = plays_both true old mid new a b c played.done (messages_in (line ∷ [])) played.plays one;
-}
+pub rest_latched : (old mid new : States) (kept left : Outcomes) (a b c : Option (List ℕ)) (input rest line after : List ℕ) → lines rest ≡ line ∷ lines after
+    → Rests false mid kept → PlaysRest old mid a b input rest → PlaysLatching mid left (messages_in (line ∷ [])) b c
+    → PlaysUntilLatched old new left (messages input) a c
+rest_latched old mid new kept left a b c input rest line after h one played last =
+    let first = played.plays in
+    record {
+      before = played.done;
+      call = last.call;
+      later = messages after;
+      all = ap (λ ms. played.done ++ ms) (ap (λ ms. ms ++ messages after) (sym last.one) ∙ sym (messages-line rest line after h)) ∙ played.all;
+      replies = first.replies;
+      reply = last.reply;
+      silent = last.silent;
+      meets = run_latched false old mid new (calls_in played.done) first.replies last.call last.reply first.meets last.silent;
+      leaves = subst (λ place. LeavesSession old left (calls_in played.done ++ last.call ∷ []) (first.replies ++ last.reply ∷ []) (Some place)) first.meets.count
+          (leaves_latched old mid left (calls_in played.done) first.replies last.call last.reply first.meets (one.one refl) last.silent last.leaves);
+      written = appends_both a b c (output played.done first.replies) (wire last.reply) first.written last.written;
+    }
 
 -- nothing is left
 pub rest_none : (old new : States) (a b : Option (List ℕ)) (input rest : List ℕ) → length rest ≤ 0 → PlaysRest old new a b input rest → Plays false old new (messages input) a b
@@ -207,15 +221,27 @@ headline_whole latched old new ms a b plays = record {
   headline = plays.meets.headline;
 }
 
-pub headline_latched : (old new : States) (ms : List (Option Call)) (a b : Option (List ℕ)) → PlaysUntilLatched old new ms a b → WritesHeadline old ms a b
-headline_latched old new ms a b first = record {
-  served = first.served;
+with_call : (ms : List (Option Call)) (call : Call) → calls_in (ms ++ Some call ∷ []) ≡ calls_in ms ++ call ∷ []
+with_call ms call = calls_in-append ms (Some call ∷ [])
+
+before_count : (ms : List (Option Call)) (call : Call) (rs : List Reply) (r : Reply) → length (rs ++ r ∷ []) ≡ length (calls_in ms ++ call ∷ []) → length rs ≡ length (calls_in ms)
+before_count ms call rs r h = omega (arith, h, length-append rs (r ∷ []), length-append (calls_in ms) (call ∷ []))
+
+pub headline_latched : (old new : States) (left : Outcomes) (ms : List (Option Call)) (a b : Option (List ℕ)) → PlaysUntilLatched old new left ms a b → WritesHeadline old ms a b
+headline_latched old new left ms a b first = record {
+  served = first.before ++ Some first.call ∷ [];
   later = first.later;
-  all = first.all;
-  replies = first.plays.replies;
+  all = append_assoc first.before (Some first.call ∷ []) first.later ∙ first.all;
+  replies = first.replies ++ first.reply ∷ [];
   rest = [];
-  written = record { front = output first.served first.plays.replies; all = append_none (output first.served first.plays.replies); written = first.plays.written };
-  headline = first.plays.meets.headline;
+  written = record {
+    front = output first.before first.replies ++ wire first.reply;
+    all =
+        append_none (output first.before first.replies ++ wire first.reply) ∙ ap (λ ys. output first.before first.replies ++ ys) (sym (append_none (wire first.reply)))
+        ∙ sym (output-append first.before (Some first.call ∷ []) first.replies (first.reply ∷ []) (before_count first.before first.call first.replies first.reply first.meets.count));
+    written = first.written;
+  };
+  headline = subst (λ cs. Headline old cs (first.replies ++ first.reply ∷ [])) (sym (with_call first.before first.call)) first.meets.headline;
 }
 
 pub headline_part : (latched : Bool) (old new : States) (ms : List (Option Call)) (a b : Option (List ℕ)) → PlaysUpTo latched old new ms a b → WritesHeadline old ms a b
@@ -241,9 +267,9 @@ pub script_played : (known : Option (List ℕ)) (read : List ℕ) (old new : Sta
     → Plays false old new (messages read) a b → OfScript known (λ input. Plays false old new (messages input) a b)
 script_played known read old new a b said plays = of_read known (λ input. Plays false old new (messages input) a b) read said plays
 
-pub script_latched : (known : Option (List ℕ)) (read : List ℕ) (old new : States) (a b : Option (List ℕ)) → OfInput known (λ input. (read ≡ input) × (length input ≤ SCRIPT_LIMIT))
-    → PlaysUntilLatched old new (messages read) a b → OfScript known (λ input. PlaysUntilLatched old new (messages input) a b)
-script_latched known read old new a b said plays = of_read known (λ input. PlaysUntilLatched old new (messages input) a b) read said plays
+pub script_latched : (known : Option (List ℕ)) (read : List ℕ) (old new : States) (left : Outcomes) (a b : Option (List ℕ)) → OfInput known (λ input. (read ≡ input) × (length input ≤ SCRIPT_LIMIT))
+    → PlaysUntilLatched old new left (messages read) a b → OfScript known (λ input. PlaysUntilLatched old new left (messages input) a b)
+script_latched known read old new left a b said plays = of_read known (λ input. PlaysUntilLatched old new left (messages input) a b) read said plays
 
 pub script_cut_off : (known : Option (List ℕ)) (read : List ℕ) (latched : Bool) (old new : States) (a b : Option (List ℕ)) → OfInput known (λ input. (read ≡ input) × (length input ≤ SCRIPT_LIMIT))
     → PlaysUpTo latched old new (messages read) a b → OfScript known (λ input. PlaysUpTo latched old new (messages input) a b)

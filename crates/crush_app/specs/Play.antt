@@ -1,12 +1,13 @@
 -- A script that was played: the states of tenants after it, and the bytes that were written.
-use Rattle.std.specs.Prelude.{ℕ, ◌≡◌, ◌<◌, List, [], ◌∷◌, ◌++◌, length, Bool, true, Option}
+use Rattle.std.specs.Prelude.{ℕ, ◌≡◌, ◌<◌, List, [], ◌∷◌, ◌++◌, length, Bool, true, Option, Some}
 use Rattle.std.specs.Io.KnownBytes.{Appends}
 use Rattle.tenant_core.specs.States.{States, Outcomes, Headline, MeetsDefinition}
-use Rattle.tenant_history.specs.Served.{IsSession}
+use Rattle.tenant_core.specs.StoreReply.{IsUnavailable}
+use Rattle.tenant_history.specs.Served.{IsSession, LeavesSession}
 use Rattle.tenant_messages.specs.declared.call.Call.{Call}
 use Rattle.tenant_messages.specs.declared.reply.Reply.{Reply}
 use Rattle.tenant_service.specs.Writing.{AppendsUpTo}
-use Rattle.crush_app.specs.Script.{calls_in, output}
+use Rattle.crush_app.specs.Script.{calls_in, output, wire}
 
 -- ---- messages
 
@@ -45,14 +46,6 @@ pub record WritesFirst (Meets : List Call → List Reply → Type 0) (ms : List 
   pub written : AppendsUpTo rest from to (output served replies)
   pub headline : Meets (calls_in served) replies
 
--- the first messages were served, so that this is met by their calls and the replies, and their
--- lines were written; no later message was served
-pub record PlaysFirstBy (Meets : List Call → List Reply → Type 0) (ms : List (Option Call)) (from to : Option (List ℕ)) : Type 0 where
-  pub served : List (Option Call)
-  pub later : List (Option Call)
-  pub all : served ++ later ≡ ms
-  pub plays : PlaysBy Meets served from to
-
 -- ---- messages, and the states of tenants
 
 -- the messages were served as the definition says, and their lines were written; the store is then
@@ -64,9 +57,20 @@ Plays is_latched old new ms from to = PlaysBy (MeetsDefinition is_latched old ne
 abbrev pub PlaysUpTo : Bool → States → States → List (Option Call) → Option (List ℕ) → Option (List ℕ) → Type 0
 PlaysUpTo is_latched old new ms from to = PlaysUpToBy (MeetsDefinition is_latched old new) ms from to
 
--- the same up to a message whose call latched the store; its line was written whole
-abbrev pub PlaysUntilLatched : States → States → List (Option Call) → Option (List ℕ) → Option (List ℕ) → Type 0
-PlaysUntilLatched old new ms from to = PlaysFirstBy (MeetsDefinition true old new) ms from to
+-- The messages before one were served so, and then that one: its call latched the store, was answered
+-- 503, and is the one in doubt, so that an opening may find it done or not. The lines of all of them
+-- were written, and nothing else; no later message was served.
+pub record PlaysUntilLatched (old new : States) (left : Outcomes) (ms : List (Option Call)) (from to : Option (List ℕ)) : Type 0 where
+  pub before : List (Option Call)
+  pub call : Call
+  pub later : List (Option Call)
+  pub all : before ++ Some call ∷ later ≡ ms
+  pub replies : List Reply
+  pub reply : Reply
+  pub silent : IsUnavailable reply
+  pub meets : MeetsDefinition true old new (calls_in before ++ call ∷ []) (replies ++ reply ∷ [])
+  pub leaves : LeavesSession old left (calls_in before ++ call ∷ []) (replies ++ reply ∷ []) (Some (length (calls_in before)))
+  pub written : Appends from to (output before replies ++ wire reply)
 
 -- the headline of what was written: for every tenant the replies other than 503 are the
 -- definition's

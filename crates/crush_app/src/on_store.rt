@@ -34,10 +34,10 @@ pub fn script_on_store<T: TenantStore + Drop, R: Read, W: Write>(
     ensures cut { IfOk result (λ r. T.is_honest r.1 → r.0 ≡ ScriptEnd.WriteFault → OfScript (R.remaining reader.old)
         (λ input. PlaysUpTo (T.latched r.1) (T.has_state store) (T.has_state r.1) (messages input) (W.contents writer.old) (W.contents writer.new))) }
 
-    // `Latched`: the replies up to that of the call that latched the store were written whole, and
-    // no later line was served.
+    // `Latched`: all lines up to the call that latched the store were served, and their replies
+    // written, and nothing else; that call was answered 503, and is in doubt.
     ensures latched { IfOk result (λ r. T.is_honest r.1 → r.0 ≡ ScriptEnd.Latched → OfScript (R.remaining reader.old)
-        (λ input. PlaysUntilLatched (T.has_state store) (T.has_state r.1) (messages input) (W.contents writer.old) (W.contents writer.new))) }
+        (λ input. PlaysUntilLatched (T.has_state store) (T.has_state r.1) (T.may_leave r.1) (messages input) (W.contents writer.old) (W.contents writer.new))) }
     ensures works { IfOk result (λ r. r.0 ≡ ScriptEnd.Done → T.latched r.1 ≡ false) }
     ensures shut { IfOk result (λ r. r.0 ≡ ScriptEnd.Latched → T.latched r.1 ≡ true) }
 

@@ -8,6 +8,7 @@ ghost use Rattle.tenant_service.specs.Input.{DropsFirst};
 ghost use Rattle.crush_app.specs.End.{ServesLines, ServesNone, ReadsInput};
 ghost use Rattle.crush_app.specs.Play.{Plays, PlaysUntilLatched, PlaysUpTo, WritesHeadline, WritesSession};
 ghost use Rattle.crush_app.specs.declared.limits.TheConstants.{SCRIPT_LIMIT};
+ghost use Rattle.crush_app.specs.Private.Latching.{PlaysLatching};
 ghost use Rattle.crush_app.specs.Script.{bad_line, messages, messages_in, OfScript};
 
 use crate::input::{InputFault, read_input};
@@ -48,6 +49,7 @@ fn play_message<T: TenantStore, W: Write>(
     requires works { T.latched service.old ≡ false }
     ensures whole { T.is_honest service.new → IsTrue result → Plays (T.latched service.new) (T.has_state service.old) (T.has_state service.new) (option_map call_of message.entry ∷ []) (W.contents writer.old) (W.contents writer.new) }
     ensures cut { T.is_honest service.new → IsFalse result → PlaysUpTo (T.latched service.new) (T.has_state service.old) (T.has_state service.new) (option_map call_of message.entry ∷ []) (W.contents writer.old) (W.contents writer.new) }
+    ensures latch { T.is_honest service.new → T.latched service.new ≡ true → IsTrue result → PlaysLatching (T.has_state service.old) (T.may_leave service.new) (option_map call_of message.entry ∷ []) (W.contents writer.old) (W.contents writer.new) }
     ensures stop { T.is_honest service.new → WritesSession (T.has_state service.old) (T.may_leave service.new) (option_map call_of message.entry ∷ []) (W.contents writer.old) (W.contents writer.new) }
     ensures honest { T.is_honest service.new → T.is_honest service.old }
 {
@@ -72,6 +74,7 @@ fn play_line<T: TenantStore, W: Write>(
     requires works { T.latched service.old ≡ false }
     ensures whole { T.is_honest service.new → IsTrue result → Plays (T.latched service.new) (T.has_state service.old) (T.has_state service.new) (messages_in (line.now ∷ [])) (W.contents writer.old) (W.contents writer.new) }
     ensures cut { T.is_honest service.new → IsFalse result → PlaysUpTo (T.latched service.new) (T.has_state service.old) (T.has_state service.new) (messages_in (line.now ∷ [])) (W.contents writer.old) (W.contents writer.new) }
+    ensures latch { T.is_honest service.new → T.latched service.new ≡ true → IsTrue result → PlaysLatching (T.has_state service.old) (T.may_leave service.new) (messages_in (line.now ∷ [])) (W.contents writer.old) (W.contents writer.new) }
     ensures stop { T.is_honest service.new → WritesSession (T.has_state service.old) (T.may_leave service.new) (messages_in (line.now ∷ [])) (W.contents writer.old) (W.contents writer.new) }
     ensures honest { T.is_honest service.new → T.is_honest service.old }
 {
@@ -94,7 +97,7 @@ fn play<T: TenantStore, W: Write>(
     requires works { T.latched service.old ≡ false }
     ensures done { T.is_honest service.new → result ≡ ScriptEnd.Done → Plays false (T.has_state service.old) (T.has_state service.new) (messages input.now) (W.contents writer.old) (W.contents writer.new) }
     ensures cut { T.is_honest service.new → result ≡ ScriptEnd.WriteFault → PlaysUpTo (T.latched service.new) (T.has_state service.old) (T.has_state service.new) (messages input.now) (W.contents writer.old) (W.contents writer.new) }
-    ensures latched { T.is_honest service.new → result ≡ ScriptEnd.Latched → PlaysUntilLatched (T.has_state service.old) (T.has_state service.new) (messages input.now) (W.contents writer.old) (W.contents writer.new) }
+    ensures latched { T.is_honest service.new → result ≡ ScriptEnd.Latched → PlaysUntilLatched (T.has_state service.old) (T.has_state service.new) (T.may_leave service.new) (messages input.now) (W.contents writer.old) (W.contents writer.new) }
     ensures headline { T.is_honest service.new → WritesHeadline (T.has_state service.old) (messages input.now) (W.contents writer.old) (W.contents writer.new) }
     ensures stop { T.is_honest service.new → WritesSession (T.has_state service.old) (T.may_leave service.new) (messages input.now) (W.contents writer.old) (W.contents writer.new) }
     ensures served { ServesLines (Ok result) }
@@ -140,10 +143,10 @@ pub fn script_run<T: TenantStore, R: Read, W: Write>(
     ensures cut { T.is_honest service.new → result ≡ Ok ScriptEnd.WriteFault → OfScript (R.remaining reader.old)
         (λ input. PlaysUpTo (T.latched service.new) (T.has_state service.old) (T.has_state service.new) (messages input) (W.contents writer.old) (W.contents writer.new)) }
 
-    // `Latched`: the replies up to that of the call that latched the store were written whole, and
-    // no later line was served.
+    // `Latched`: all lines up to the call that latched the store were served, and their replies
+    // written, and nothing else; that call was answered 503, and is in doubt.
     ensures latched { T.is_honest service.new → result ≡ Ok ScriptEnd.Latched → OfScript (R.remaining reader.old)
-        (λ input. PlaysUntilLatched (T.has_state service.old) (T.has_state service.new) (messages input) (W.contents writer.old) (W.contents writer.new)) }
+        (λ input. PlaysUntilLatched (T.has_state service.old) (T.has_state service.new) (T.may_leave service.new) (messages input) (W.contents writer.old) (W.contents writer.new)) }
     ensures works { result ≡ Ok ScriptEnd.Done → T.latched service.new ≡ false }
     ensures shut { result ≡ Ok ScriptEnd.Latched → T.latched service.new ≡ true }
 

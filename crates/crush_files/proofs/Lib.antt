@@ -1,2 +1,4 @@
 pub mod FileFacts
 pub mod PlayFacts
+pub mod TableLatch
+pub mod StopFacts

@@ -1,6 +1,6 @@
 //! Scripts that are played over a database file.
 
-ghost use Rattle.std.specs.Prelude.{◌≡◌, ◌≤◌, ◌<◌, ◌+◌, true, false, length, Ok, IfOk, IfSome};
+ghost use Rattle.std.specs.Prelude.{◌≡◌, ◌⊎◌, ◌≤◌, ◌<◌, ◌+◌, true, false, length, Ok, IfOk, IfSome, OnErr};
 ghost use Rattle.std.specs.Io.KnownBytes.{Keeps as KeepsBytes};
 ghost use Rattle.tenant_service.specs.Input.{DropsFirst};
 ghost use Rattle.crush_app.specs.End.{ServesLines, ServesNone, ReadsInput};
@@ -10,6 +10,7 @@ ghost use Rattle.crush_app.specs.Script.{messages, OfScript};
 ghost use Rattle.sqlite_wal.specs.Files.{image_at};
 ghost use Rattle.sqlite_wal.specs.Reads.{AreClean};
 ghost use Rattle.tenant_files.specs.Opened.{IsPlayed};
+ghost use Rattle.crush_files.specs.Stopped.{StopsFrom};
 
 use crate::on_files::script_on_files;
 use crush_app::ScriptEnd;
@@ -65,6 +66,9 @@ pub fn script_on_file<S: Start, R: Read, W: Write>(
 
     // Otherwise nothing was written.
     ensures silent { IfOk result (λ r. ServesNone (Ok r.0) → KeepsBytes (W.contents writer.old) (W.contents writer.new)) }
+
+    // `Err`: nothing was written, or lines up to where the file failed, as a stop leaves them.
+    ensures fault { OnErr result (KeepsBytes (W.contents writer.old) (W.contents writer.new) ⊎ StopsFrom ⟦<FileFrom<S> as Disk>⟧ (image_at S.Start) (R.remaining reader.old) (W.contents writer.old) (W.contents writer.new)) }
 {
     let store = open_store(rt, path, start)?;
     script_on_files(rt.alloc(), store, placements, reader, writer)

@@ -1,6 +1,6 @@
 //! Scripts that are played over an opened database file, which is then closed.
 
-ghost use Rattle.std.specs.Prelude.{◌≡◌, ◌≢◌, ◌≤◌, ◌<◌, ◌+◌, true, false, length, Ok, IfOk, IfErr, IfSome};
+ghost use Rattle.std.specs.Prelude.{◌≡◌, ◌≢◌, ◌⊎◌, ◌≤◌, ◌<◌, ◌+◌, true, false, length, Ok, IfOk, IfErr, IfSome, OnErr};
 ghost use Rattle.std.specs.Io.KnownBytes.{Keeps as KeepsBytes};
 ghost use Rattle.tenant_service.specs.Input.{DropsFirst};
 ghost use Rattle.crush_app.specs.End.{ServesLines, ServesNone, ReadsInput};
@@ -14,6 +14,7 @@ ghost use Rattle.sqlite.specs.State.{HasCleanDisk};
 ghost use Rattle.sqlite_store.specs.declared.store.FileStore.{FileStore};
 ghost use Rattle.sqlite_wal.specs.Reads.{AreClean};
 ghost use Rattle.tenant_rows.specs.Rows.{StandsFor, StatesIn};
+ghost use Rattle.crush_files.specs.Stopped.{StopsAfter};
 
 use crate::on_tables::script_on_tables;
 use crush_app::ScriptEnd;
@@ -85,6 +86,9 @@ pub fn script_on_files<D: Disk + Drop, R: Read, W: Write>(
 
     // Otherwise nothing was written.
     ensures silent { IfOk result (λ r. ServesNone (Ok r.0) → KeepsBytes (W.contents writer.old) (W.contents writer.new)) }
+
+    // `Err`: nothing was written, or lines up to where the file failed, as a stop leaves them.
+    ensures fault { OnErr result (KeepsBytes (W.contents writer.old) (W.contents writer.new) ⊎ StopsAfter D.Disk store.0 (StandsFor (file_state store.0).now.trees) (R.remaining reader.old) (W.contents writer.old) (W.contents writer.new)) }
 {
     let (end, conn) = match script_on_tables(alloc, store, placements, reader, writer) {
         Ok(played) => played,

@@ -51,10 +51,10 @@ pub fn script_on_tables<S: Alter + Drop, R: Read, W: Write>(
     ensures cut { IfOk result (λ r. HasCleanDisk (state S.Store r.1) → r.0 ≡ ScriptEnd.WriteFault → OfScript (R.remaining reader.old)
         (λ input. (latched : Bool) × PlaysUpTo latched (StandsFor (state S.Store store.0).now.trees) (StandsFor (state S.Store r.1).now.trees) (messages input) (W.contents writer.old) (W.contents writer.new))) }
 
-    // `Latched`: the replies up to that of the call at which the database failed for good were
-    // written whole, and no later line was served.
+    // `Latched`: all lines up to the call at which the database failed for good were served, and
+    // their replies written, and nothing else; that call was answered 503, and is in doubt.
     ensures latched { IfOk result (λ r. HasCleanDisk (state S.Store r.1) → r.0 ≡ ScriptEnd.Latched → OfScript (R.remaining reader.old)
-        (λ input. PlaysUntilLatched (StandsFor (state S.Store store.0).now.trees) (StandsFor (state S.Store r.1).now.trees) (messages input) (W.contents writer.old) (W.contents writer.new))) }
+        (λ input. PlaysUntilLatched (StandsFor (state S.Store store.0).now.trees) (StandsFor (state S.Store r.1).now.trees) (MayStandFor S.Store r.1) (messages input) (W.contents writer.old) (W.contents writer.new))) }
 
     // The headline: for every tenant, the written replies other than 503 are those of the
     // definition, run over just the calls that have such a reply, from the state that the tenant's

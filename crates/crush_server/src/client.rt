@@ -1,69 +1,80 @@
 //! The client of a connection, as a reader and a writer.
 
+ghost use Rattle.std.specs.Prelude.{◌≡◌};
 ghost use Rattle.std.specs.Io.{ReadsAtMost, WritesAtMost};
+ghost use Rattle.std.specs.Io.KnownBytes.{ReadConsumes, WriteAppends};
 
 use crate::waiting::Waiting;
 use std::io::{self, ErrorKind, Read, Write};
-use std::net::TcpStream;
 use std::time::Clock;
 
 /// How many times a call is made that signals interrupt, before it fails.
 const TRIES: u32 = 16;
 
-/// The client of a connection: what it sends, or where its replies go.
+/// The client of a connection, over a stream: what it sends, or where its replies go. Contracts see
+/// the bytes of the stream, where they are known.
 #[derive(Drop)]
-pub(crate) struct Client<'a, C: Clock> {
-    stream: &'a TcpStream,
+pub struct Client<'a, S, C: Clock> {
+    pub(crate) stream: S,
     waiting: &'a Waiting<'a, C>,
 }
 
-impl<'a, C: Clock> Client<'a, C> {
-    pub(crate) fn new(stream: &'a TcpStream, waiting: &'a Waiting<'a, C>) -> Self {
+impl<'a, S, C: Clock> Client<'a, S, C> {
+    /// The client over a stream, waited for so long as this measures.
+    pub fn new(stream: S, waiting: &'a Waiting<'a, C>) -> Self
+        ensures { result.stream ≡ stream }
+    {
         Client { stream, waiting }
     }
 }
 
 /// Reads once, again where a signal interrupts that.
-fn read_once(mut stream: &TcpStream, buf: &mut [u8]) -> io::Result<usize>
-    ensures { ReadsAtMost result buf.new }
+fn read_once<R: Read>(reader: &mut R, buf: &mut [u8]) -> io::Result<usize>
+    ensures bound { ReadsAtMost result buf.new }
+    ensures bytes { ReadConsumes (R.remaining reader.old) (R.remaining reader.new) result buf.new }
 {
     for _try in 1..TRIES {
-        match stream.read(buf) {
+        match reader.read(buf) {
             Err(error) if error.kind() == ErrorKind::Interrupted => {}
             other => return other,
         }
     }
-    stream.read(buf)
+    reader.read(buf)
 }
 
 /// Writes once, again where a signal interrupts that.
-fn write_once(mut stream: &TcpStream, buf: &[u8]) -> io::Result<usize>
-    ensures { WritesAtMost result buf.now }
+fn write_once<W: Write>(writer: &mut W, buf: &[u8]) -> io::Result<usize>
+    ensures bound { WritesAtMost result buf.now }
+    ensures bytes { WriteAppends (W.contents writer.old) (W.contents writer.new) result buf.now }
 {
     for _try in 1..TRIES {
-        match stream.write(buf) {
+        match writer.write(buf) {
             Err(error) if error.kind() == ErrorKind::Interrupted => {}
             other => return other,
         }
     }
-    stream.write(buf)
+    writer.write(buf)
 }
 
-impl<C: Clock> Read for Client<'_, C> {
+impl<S: Read, C: Clock> Read for Client<'_, S, C> {
+    ghost remaining = { λ client. S.remaining client.stream };
+
     fn read(&mut self, buf: &mut [u8]) -> io::Result<usize> {
         let start = self.waiting.begin(false)?;
-        let count = read_once(self.stream, buf)?;
-        self.waiting.end(start)?;
-        Ok(count)
+        let count = read_once(&mut self.stream, buf);
+        self.waiting.end(start);
+        count
     }
 }
 
-impl<C: Clock> Write for Client<'_, C> {
+impl<S: Write, C: Clock> Write for Client<'_, S, C> {
+    ghost contents = { λ client. S.contents client.stream };
+
     fn write(&mut self, buf: &[u8]) -> io::Result<usize> {
         let start = self.waiting.begin(true)?;
-        let count = write_once(self.stream, buf)?;
-        self.waiting.end(start)?;
-        Ok(count)
+        let count = write_once(&mut self.stream, buf);
+        self.waiting.end(start);
+        count
     }
 
     fn flush(&mut self) -> io::Result<()> {

@@ -1,16 +1,14 @@
-//! One connection.
-
-ghost use Rattle.std.specs.Prelude.{◌≡◌, false};
-ghost use Rattle.crush_server.specs.Served.{ServesCalls, ServesCallsInSession};
+//! Connections over TCP.
 
 use crate::client::Client;
+use crate::fault::ServerFault;
+use crate::listener::Listener;
 use crate::waiting::Waiting;
-use crush_http::{Buffers, serve_with};
-use std::io::{self, Read};
-use std::net::{Shutdown, TcpStream};
-use std::time::{Clock, Duration};
-use tenant_core::TenantStore;
-use tenant_service::Service;
+use std::alloc::AllocError;
+use std::io::{self, ErrorKind, Read};
+use std::net::{Ipv4Addr, Shutdown, TcpListener, TcpStream};
+use std::rt::HostRuntime;
+use std::time::Duration;
 
 /// How many seconds one read or write may wait for the client.
 const WAIT_SECONDS: u64 = 5;
@@ -20,6 +18,9 @@ const LAST_MILLISECONDS: u64 = 100;
 
 /// How many reads take what the client still sends, at most.
 const LAST_READS: u32 = 40;
+
+/// How many bytes that a client still sends are taken at once.
+const TAKEN_SIZE: usize = 65_536;
 
 /// Sets how long the client is waited for, and that replies are sent without delay.
 fn prepare(stream: &TcpStream) -> io::Result<()> {
@@ -42,31 +43,75 @@ fn finish(mut stream: &TcpStream, taken: &mut [u8]) -> io::Result<()> {
     Ok(())
 }
 
-/// Serves a connection until it ends, however that is: each read and each write waits 5 seconds at
-/// most, and a message with its reply 30 seconds in all. The connection is to be closed then.
-/// `taken` is room for what the client sends after that; nothing is allocated but by the calls.
-///
-/// What a client sends and gets has no model in contracts. The contract of `crush_http::serve` says
-/// how calls and replies follow from the bytes.
-pub(crate) fn serve_stream<T: TenantStore, C: Clock>(
-    buffers: &mut Buffers,
-    taken: &mut [u8],
-    clock: &C,
-    service: &mut Service<T>,
-    stream: &TcpStream,
-)
-    ensures served { T.is_honest service.new → ServesCalls (T.latched service.new) (T.has_state service.old) (T.has_state service.new) }
-    ensures stop { T.is_honest service.new → T.latched service.old ≡ false → ServesCallsInSession (T.latched service.new) (T.has_state service.old) (T.has_state service.new) (T.may_leave service.new) }
-    ensures honest { T.is_honest service.new → T.is_honest service.old }
-{
-    if prepare(stream).is_err() {
-        // the client is gone already
-        return;
+/// One of two handles of a connection's socket: a reader and a writer are values of their own.
+pub type TcpClient<'a> = Client<'a, TcpStream, HostRuntime>;
+
+/// The clients of a port of 127.0.0.1. Each read and each write waits 5 seconds for one at most, and
+/// a message with its reply 30 seconds in all.
+#[derive(Drop)]
+pub struct TcpClients<'a> {
+    rt: &'a HostRuntime,
+    port: u16,
+    waiting: &'a Waiting<'a, HostRuntime>,
+    /// Where they connect, once it is listened on.
+    listener: Option<TcpListener>,
+    /// Room for what a client sends after its replies.
+    taken: Vec<u8>,
+}
+
+impl<'a> TcpClients<'a> {
+    /// The clients of this port, which isn't listened on yet. `Err(AllocError)`: an allocation
+    /// failed; nothing is changed.
+    pub fn new(
+        rt: &'a HostRuntime,
+        port: u16,
+        waiting: &'a Waiting<'a, HostRuntime>,
+    ) -> Result<Self, AllocError> {
+        let taken = vec![in rt.alloc(); 0; TAKEN_SIZE]?;
+        Ok(TcpClients {
+            rt,
+            port,
+            waiting,
+            listener: None,
+            taken,
+        })
     }
-    let waiting = Waiting::new(clock);
-    let mut reader = Client::new(stream, &waiting);
-    let mut writer = Client::new(stream, &waiting);
-    let _ended = serve_with(buffers, service, &mut reader, &mut writer);
-    // where this fails the client is gone, or sends no end
-    let _finished = finish(stream, taken);
+}
+
+impl<'a> Listener for TcpClients<'a> {
+    type Reader = TcpClient<'a>;
+
+    type Writer = TcpClient<'a>;
+
+    /// Listens on the port, and writes a line that says so to standard output.
+    fn listen(&mut self) -> Result<(), ServerFault> {
+        let Ok(listener) = TcpListener::bind(self.rt, (Ipv4Addr::LOCALHOST, self.port)) else {
+            return Err(ServerFault::CannotListen);
+        };
+        self.listener = Some(listener);
+        let port = self.port;
+        if println!(self.rt; "listening 127.0.0.1:{port}").is_err() {
+            return Err(ServerFault::WriteFault);
+        }
+        Ok(())
+    }
+
+    fn accept(&mut self) -> io::Result<(TcpClient<'a>, TcpClient<'a>)> {
+        let Some(listener) = &self.listener else {
+            return Err(ErrorKind::NotConnected.into());
+        };
+        let (stream, _peer) = listener.accept()?;
+        prepare(&stream)?;
+        let other = stream.try_clone()?;
+        self.waiting.restart();
+        Ok((
+            Client::new(stream, self.waiting),
+            Client::new(other, self.waiting),
+        ))
+    }
+
+    fn close(&mut self, reader: TcpClient<'a>, _writer: TcpClient<'a>) {
+        // where this fails the client is gone, or sends no end
+        let _finished = finish(&reader.stream, &mut self.taken);
+    }
 }

@@ -14,30 +14,40 @@ struct Waited {
     time: Duration,
     /// Whether something was written since the last read.
     replying: bool,
+    /// Whether the clock couldn't be read after bytes were moved. The next read or write fails.
+    is_unknown: bool,
 }
+
+/// Nothing was waited for yet.
+const NOTHING: Waited = Waited {
+    time: Duration::ZERO,
+    replying: false,
+    is_unknown: false,
+};
 
 /// Measures how long a client is waited for. Reads and writes of one connection share it.
 #[derive(Drop)]
-pub(crate) struct Waiting<'a, C: Clock> {
+pub struct Waiting<'a, C: Clock> {
     clock: &'a C,
     waited: Cell<Waited>,
 }
 
 impl<'a, C: Clock> Waiting<'a, C> {
     /// Nothing was waited for yet.
-    pub(crate) fn new(clock: &'a C) -> Self {
-        let waited = Waited {
-            time: Duration::ZERO,
-            replying: false,
-        };
+    pub fn new(clock: &'a C) -> Self {
         Waiting {
             clock,
-            waited: Cell::new(waited),
+            waited: Cell::new(NOTHING),
         }
     }
 
+    /// Nothing was waited for yet, by the next client.
+    pub(crate) fn restart(&self) {
+        self.waited.set(NOTHING);
+    }
+
     /// Begins a read or a write, and returns the time. A read that follows a write begins a new
-    /// message. `Err`: the client took too long, or the clock can't be read.
+    /// message. `Err`: the client took too long, or the clock can't be read; no byte was moved.
     pub(crate) fn begin(&self, replying: bool) -> io::Result<Instant> {
         let mut waited = self.waited.get();
         if waited.replying && !replying {
@@ -45,17 +55,20 @@ impl<'a, C: Clock> Waiting<'a, C> {
         }
         waited.replying = replying;
         self.waited.set(waited);
-        if waited.time.as_secs() >= MESSAGE_SECONDS {
+        if waited.is_unknown || waited.time.as_secs() >= MESSAGE_SECONDS {
             return Err(ErrorKind::TimedOut.into());
         }
         Instant::now(self.clock)
     }
 
-    /// Ends what was begun at a time. `Err`: the clock can't be read.
-    pub(crate) fn end(&self, start: Instant) -> io::Result<()> {
+    /// Ends what was begun at a time. Where the clock can't be read, what comes next fails, since
+    /// bytes were moved already.
+    pub(crate) fn end(&self, start: Instant) {
         let mut waited = self.waited.get();
-        waited.time = waited.time.saturating_add(start.elapsed(self.clock)?);
+        match start.elapsed(self.clock) {
+            Ok(time) => waited.time = waited.time.saturating_add(time),
+            Err(_) => waited.is_unknown = true,
+        }
         self.waited.set(waited);
-        Ok(())
     }
 }

@@ -8,7 +8,7 @@ use clap::Error;
 use clap::error::ErrorKind;
 use crush_app::{CheckEnd, ScriptEnd, check_run, script_in_memory};
 use crush_files::script_on_file;
-use crush_server::{ServerFault, serve_on_file};
+use crush_server::{ServerFault, TcpClients, Waiting, serve_on_file};
 use sqlite_disk::Unknown;
 use std::alloc::AllocError;
 use std::fs::File;
@@ -152,7 +152,9 @@ fn run(rt: &HostRuntime) -> Result<ExitCode, Stop> {
             port,
             connections,
         } => {
-            serve_on_file(rt, db, Unknown, placements, port, connections)?;
+            let waiting = Waiting::new(rt);
+            let mut clients = TcpClients::new(rt, port, &waiting)?;
+            serve_on_file(rt, db, Unknown, placements, &mut clients, connections)?;
             Ok(ExitCode::SUCCESS)
         }
         Invocation::Check { path } => check_file(rt, path),

@@ -23,23 +23,23 @@ returns-then-not-play_line-clause-headline g c = λ honest.
 
 pub returns-then-is_latched-clause-latched : goal.returns-then-is_latched-clause-latched
 returns-then-is_latched-clause-latched g c = λ honest is.
-    rest_latched (g.T.TenantStore.has_state c.args.service.now) (g.T.TenantStore.has_state c.loop-rest.service) (g.T.TenantStore.has_state c.play_line.new.service)
+    rest_latched (g.T.TenantStore.has_state c.args.service.now) (g.T.TenantStore.has_state c.loop-rest.service) (g.T.TenantStore.has_state c.play_line.new.service) (g.T.TenantStore.may_leave c.loop-rest.service) (g.T.TenantStore.may_leave c.play_line.new.service)
     (g.W.Write.contents c.args.writer.now) (g.W.Write.contents c.loop-rest.writer) (g.W.Write.contents c.play_line.new.writer)
     c.args.input.now c.loop-rest.rest.now c.first_line.result.0.now c.first_line.result.1.now c.first_line.ensures.lines
+    (record { one = λ _ t s u. g.met.T.TenantStore.one_state c.loop-rest.service t s u (c.play_line.ensures.honest honest) c.loop-rest.invariant.works; settled = λ _ t found there. g.met.T.TenantStore.settled c.loop-rest.service t found (c.play_line.ensures.honest honest) c.loop-rest.invariant.works there })
     (c.loop-rest.invariant.played (c.play_line.ensures.honest honest))
-    (subst (λ b. Plays b (g.T.TenantStore.has_state c.loop-rest.service) (g.T.TenantStore.has_state c.play_line.new.service) (messages_in (c.first_line.result.0.now ∷ []))
-    (g.W.Write.contents c.loop-rest.writer) (g.W.Write.contents c.play_line.new.writer)) (sym c.if-is_latched.ensures) (c.if-not-play_line.ensures.whole honest refl))
+    (c.if-not-play_line.ensures.latch honest (sym c.if-is_latched.ensures) refl)
 
 pub returns-then-is_latched-clause-headline : goal.returns-then-is_latched-clause-headline
 returns-then-is_latched-clause-headline g c = λ honest.
-    headline_latched (g.T.TenantStore.has_state c.args.service.now) (g.T.TenantStore.has_state c.play_line.new.service) (messages c.args.input.now)
+    headline_latched (g.T.TenantStore.has_state c.args.service.now) (g.T.TenantStore.has_state c.play_line.new.service) (g.T.TenantStore.may_leave c.play_line.new.service) (messages c.args.input.now)
     (g.W.Write.contents c.args.writer.now) (g.W.Write.contents c.play_line.new.writer)
-    (rest_latched (g.T.TenantStore.has_state c.args.service.now) (g.T.TenantStore.has_state c.loop-rest.service) (g.T.TenantStore.has_state c.play_line.new.service)
+    (rest_latched (g.T.TenantStore.has_state c.args.service.now) (g.T.TenantStore.has_state c.loop-rest.service) (g.T.TenantStore.has_state c.play_line.new.service) (g.T.TenantStore.may_leave c.loop-rest.service) (g.T.TenantStore.may_leave c.play_line.new.service)
     (g.W.Write.contents c.args.writer.now) (g.W.Write.contents c.loop-rest.writer) (g.W.Write.contents c.play_line.new.writer)
     c.args.input.now c.loop-rest.rest.now c.first_line.result.0.now c.first_line.result.1.now c.first_line.ensures.lines
+    (record { one = λ _ t s u. g.met.T.TenantStore.one_state c.loop-rest.service t s u (c.play_line.ensures.honest honest) c.loop-rest.invariant.works; settled = λ _ t found there. g.met.T.TenantStore.settled c.loop-rest.service t found (c.play_line.ensures.honest honest) c.loop-rest.invariant.works there })
     (c.loop-rest.invariant.played (c.play_line.ensures.honest honest))
-    (subst (λ b. Plays b (g.T.TenantStore.has_state c.loop-rest.service) (g.T.TenantStore.has_state c.play_line.new.service) (messages_in (c.first_line.result.0.now ∷ []))
-    (g.W.Write.contents c.loop-rest.writer) (g.W.Write.contents c.play_line.new.writer)) (sym c.if-is_latched.ensures) (c.if-not-play_line.ensures.whole honest refl)))
+    (c.if-not-play_line.ensures.latch honest (sym c.if-is_latched.ensures) refl))
 
 pub returns-clause-headline : goal.returns-clause-headline
 returns-clause-headline g c = λ honest.

@@ -1,4 +1,5 @@
-use Rattle.std.proofs.Common.{[], ◌∷◌}
+use Rattle.std.proofs.Common.{[], ◌∷◌, sym, ◌∙◌}
+use Rattle.std.proofs.lemmas.Bool.{false≢true}
 use Rattle.crush_app.proofs.Playing.{plays_empty}
 use Rattle.crush_app.proofs.Stopping.{stopped_whole}
 use Rattle.crush_app.specs.Script.{messages_in}
@@ -16,3 +17,6 @@ returns-then-is_empty-clause-stop g c = λ honest.
     stopped_whole (g.T.TenantStore.has_state old) (g.T.TenantStore.has_state old) (g.T.TenantStore.may_leave old) (messages_in (c.args.line.now ∷ [])) (g.W.Write.contents c.args.writer.now) (g.W.Write.contents c.args.writer.now)
     (record { one = λ _ t s u. store.one_state old t s u honest works; settled = λ _ t found there. store.settled old t found honest works there })
     (plays_empty (g.T.TenantStore.has_state old) (g.W.Write.contents c.args.writer.now) c.args.line.now c.if-is_empty.ensures)
+
+pub returns-then-is_empty-clause-latch : goal.returns-then-is_empty-clause-latch
+returns-then-is_empty-clause-latch g c = λ honest shut yes. absurd (false≢true (sym c.requires.works ∙ shut))

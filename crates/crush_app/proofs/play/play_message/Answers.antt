@@ -1,3 +1,5 @@
+use Rattle.std.proofs.Common.{refl, sym, ◌∙◌}
+use Rattle.std.proofs.lemmas.Bool.{false≢true}
 use Rattle.tenant_messages.specs.CallParts.{call_of}
 use Rattle.crush_app.proofs.Playing.{plays_bad, plays_call, cut_bad, cut_call}
 use Rattle.tenant_service.proofs.OneSession.{no_session, one_session}
@@ -52,3 +54,18 @@ returns-in-None-clause-stop g c = λ honest.
     (record { one = λ _ t s u. store.one_state old t s u honest works; settled = λ _ t found there. store.settled old t found honest works there }))
     (line_written c.write_line-in-None.result (g.W.Write.contents c.args.writer.now) (g.W.Write.contents c.write_line-in-None.new.writer) (wire bad_line)
     (λ yes. rw c.requires.bad at (c.write_line-in-None.ensures.whole yes)) (λ no. rw c.requires.bad at (c.write_line-in-None.ensures.part no))))
+
+pub returns-in-Some-clause-latch : goal.returns-in-Some-clause-latch
+returns-in-Some-clause-latch g c = λ honest shut yes.
+    let works = c.requires.works in
+    rw c.in-Some.is (record {
+      call = call_of c.in-Some.call;
+      one = refl;
+      reply = c.request-reply.result;
+      silent = c.request-reply.ensures.silent shut;
+      leaves = c.request-reply.ensures.crash honest works shut;
+      written = c.write_line.ensures.whole yes;
+    })
+
+pub returns-in-None-clause-latch : goal.returns-in-None-clause-latch
+returns-in-None-clause-latch g c = λ honest shut yes. absurd (false≢true (sym c.requires.works ∙ shut))

@@ -5,6 +5,7 @@ use Rattle.sqlite.specs.Closing.{IsCopied}
 use Rattle.sqlite.specs.Files.{file_state}
 use Rattle.tenant_rows.specs.Rows.{StandsFor}
 use Rattle.crush_files.proofs.FileFacts.{closed_done, closed_cut, closed_headline}
+use Rattle.crush_files.proofs.StopFacts.{of_err, stopped}
 use Rattle.crush_files.proofs.on_files.script_on_files.Goals as goal
 
 pub returns-clause-done : goal.returns-clause-done
@@ -42,3 +43,15 @@ returns-clause-rest g c reads = c.in-Ok.ensures.rest (subst (λ end. ReadsInput 
 
 pub returns-clause-silent : goal.returns-clause-silent
 returns-clause-silent g c none = c.in-Ok.ensures.silent (subst (λ end. ServesNone (Ok end)) c.in_ok-end.ensures.same none)
+
+pub returns-in_err-end-clause-fault : goal.returns-in_err-end-clause-fault
+returns-in_err-end-clause-fault g c =
+    let conn = c.in-Ok.played.1 in
+    of_err _ (stopped g.D.Disk (g.R.Read.remaining c.args.reader.now) (g.W.Write.contents c.args.writer.now) (g.W.Write.contents c.script_on_tables.new.writer) c.in-Ok.played.0 c.args.store.0 conn
+    (StandsFor (file_state c.args.store.0).now.trees) (λ clean. (c.in-Ok.ensures.honest clean).clean) c.in-Ok.ensures.silent c.in-Ok.ensures.stop)
+
+pub returns-in_err-files-clause-fault : goal.returns-in_err-files-clause-fault
+returns-in_err-files-clause-fault g c =
+    let conn = c.in-Ok.played.1 in
+    of_err _ (stopped g.D.Disk (g.R.Read.remaining c.args.reader.now) (g.W.Write.contents c.args.writer.now) (g.W.Write.contents c.script_on_tables.new.writer) c.in-Ok.played.0 c.args.store.0 conn
+    (StandsFor (file_state c.args.store.0).now.trees) (λ clean. (c.in-Ok.ensures.honest clean).clean) c.in-Ok.ensures.silent c.in-Ok.ensures.stop)

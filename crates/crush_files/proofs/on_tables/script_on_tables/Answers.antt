@@ -7,6 +7,7 @@ use Rattle.tenant_store.specs.Shown.{IsHonest, HasState}
 use Rattle.crush_app.specs.Play.{Plays, PlaysUpTo, PlaysUntilLatched, WritesHeadline, WritesSession}
 use Rattle.crush_app.specs.Script.{OfScript, messages}
 use Rattle.crush_app.proofs.Inputs.{of_script}
+use Rattle.crush_files.proofs.TableLatch.{of_latched}
 use Rattle.tenant_files.proofs.TableFacts.{of_rows, of_stop}
 use Rattle.crush_files.proofs.on_tables.script_on_tables.Goals as goal
 
@@ -26,7 +27,7 @@ returns-clause-cut g c clean is =
 pub returns-clause-latched : goal.returns-clause-latched
 returns-clause-latched g c clean is =
     let honest : IsHonest g.S.Store c.in_ok-end.ready = subst (IsHonest g.S.Store) c.into_below.ensures (c.close.ensures.honest clean) in
-    of_rows g.S.Store (λ old new. OfScript (g.R.Read.remaining c.args.reader.now) (λ input. PlaysUntilLatched old new (messages input) (g.W.Write.contents c.args.writer.now) (g.W.Write.contents c.script_on_store.new.writer)))
+    of_latched g.S.Store (λ old new left. OfScript (g.R.Read.remaining c.args.reader.now) (λ input. PlaysUntilLatched old new left (messages input) (g.W.Write.contents c.args.writer.now) (g.W.Write.contents c.script_on_store.new.writer)))
     c.in_ok-ready.ready c.args.store c.in_ok-end.ready c.close.result c.in_ok-ready.ensures (sym (c.close.ensures.same ∙ ap (λ s. s.0) c.into_below.ensures)) (c.in_ok-end.ensures.latched honest is)
 
 pub returns-clause-headline : goal.returns-clause-headline

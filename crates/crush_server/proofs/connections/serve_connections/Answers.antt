@@ -1,47 +1,72 @@
-use Rattle.std.proofs.Common.{◌≡◌, sym, ◌∙◌}
-use Rattle.crush_server.proofs.Serving.{served_none, served_both, session_after, session_none}
+use Rattle.std.proofs.Common.{◌≡◌, ◌+◌, ◌<◌, ◌≤◌, ℕ, suc, false, sym, subst, ◌∙◌, arith, add-one}
+use Rattle.tenant_core.specs.States.{MeetsDefinition}
+use Rattle.tenant_history.specs.Served.{ServesSession}
+use Rattle.crush_server.proofs.Each.{clients_map, clients_more, clients_none}
+use Rattle.crush_server.proofs.Serving.{meets_after, meets_none, session_after, session_whole}
+use Rattle.crush_server.specs.Clients.{ServesClients}
 use Rattle.crush_server.proofs.connections.serve_connections.Goals as goal
 
-pub returns-in_err-buffers-clause-served : goal.returns-in_err-buffers-clause-served
-returns-in_err-buffers-clause-served g c = λ is. served_none (g.T.TenantStore.latched c.args.service.now) (g.T.TenantStore.has_state c.args.service.now)
-
-pub returns-in_err-taken-clause-served : goal.returns-in_err-taken-clause-served
-returns-in_err-taken-clause-served g c = λ is. served_none (g.T.TenantStore.latched c.args.service.now) (g.T.TenantStore.has_state c.args.service.now)
-
 pub loop-connection-init : goal.loop-connection-init
-loop-connection-init g c = record {
-  works = c.requires.works;
-  honest = λ is. is;
-  served = λ is. served_none (g.T.TenantStore.latched c.args.service.now) (g.T.TenantStore.has_state c.args.service.now);
-}
-
--- a connection that can't be accepted changes nothing
-pub loop-connection-preserved-in_default : goal.loop-connection-preserved-in_default
-loop-connection-preserved-in_default g c = let so_far = c.loop-connection.invariant in record { works = so_far.works; honest = so_far.honest; served = so_far.served }
-
-pub returns-then-is_latched-clause-served : goal.returns-then-is_latched-clause-served
-returns-then-is_latched-clause-served g c = λ is.
-    let so_far = c.loop-connection.invariant in
-    served_both (g.T.TenantStore.latched c.loop-connection.service) (g.T.TenantStore.latched c.serve_stream.new.service)
-    (g.T.TenantStore.has_state c.args.service.now) (g.T.TenantStore.has_state c.loop-connection.service) (g.T.TenantStore.has_state c.serve_stream.new.service)
-    so_far.works (so_far.served (c.serve_stream.ensures.honest is)) (c.serve_stream.ensures.served is)
-
-pub returns-then-is_latched-clause-honest : goal.returns-then-is_latched-clause-honest
-returns-then-is_latched-clause-honest g c = λ is. c.loop-connection.invariant.honest (c.serve_stream.ensures.honest is)
+loop-connection-init g c =
+    let store = g.T.TenantStore in
+    let old = c.args.service.now in record {
+      works = c.requires.works;
+      honest = λ is. is;
+      served = clients_none (λ calls replies. store.is_honest old → MeetsDefinition false (store.has_state old) (store.has_state old) calls replies) (g.L.Listener.clients c.args.listener.now) (λ _. meets_none (store.has_state old));
+    }
 
 pub loop-connection-preserved : goal.loop-connection-preserved
 loop-connection-preserved g c =
-    let so_far = c.loop-connection.invariant in record {
-      works = sym c.is_latched.ensures ∙ c.if-is_latched.false;
-      honest = λ is. so_far.honest (c.serve_stream.ensures.honest is);
-      served = λ is.
-          served_both (g.T.TenantStore.latched c.loop-connection.service) (g.T.TenantStore.latched c.serve_stream.new.service)
-          (g.T.TenantStore.has_state c.args.service.now) (g.T.TenantStore.has_state c.loop-connection.service) (g.T.TenantStore.has_state c.serve_stream.new.service)
-          so_far.works (so_far.served (c.serve_stream.ensures.honest is)) (c.serve_stream.ensures.served is);
+    let store = g.T.TenantStore in
+    let old = c.args.service.now in
+    let mid = c.loop-connection.service in
+    let new = c.serve_client.new.service in
+    let so_far = c.loop-connection.invariant in
+    let works : store.latched new ≡ false = sym c.is_latched.ensures ∙ c.if-is_latched.false in record {
+      works = works;
+      honest = λ is. so_far.honest (c.serve_client.ensures.honest is);
+      served = subst (λ (n : ℕ). ServesClients (λ calls replies. store.is_honest new → MeetsDefinition false (store.has_state old) (store.has_state new) calls replies) n (g.L.Listener.clients c.args.listener.now) (g.L.Listener.clients c.serve_client.new.listener))
+          (sym (add-one c.loop-connection._connection))
+          (clients_more (λ calls replies. store.is_honest mid → MeetsDefinition false (store.has_state old) (store.has_state mid) calls replies)
+          (λ calls replies. store.is_honest new → ServesSession false (store.latched new) (store.has_state mid) (store.has_state new) (store.may_leave new) calls replies)
+          (λ calls replies. store.is_honest new → MeetsDefinition false (store.has_state old) (store.has_state new) calls replies) c.loop-connection._connection (g.L.Listener.clients c.args.listener.now)
+          (g.L.Listener.clients c.loop-connection.listener) (g.L.Listener.clients c.serve_client.new.listener)
+          (λ cs rs m ds qs p is. meets_after (store.latched new) (store.has_state old) (store.has_state mid) (store.has_state new) (store.may_leave new) cs rs ds qs works (m (c.serve_client.ensures.honest is)) (p is))
+          so_far.served c.serve_client.ensures.served);
     }
 
-pub returns-clause-served : goal.returns-clause-served
-returns-clause-served g c = c.loop-connection.invariant.served
+pub returns-then-is_latched-clause-some : goal.returns-then-is_latched-clause-some
+returns-then-is_latched-clause-some g c = λ _.
+    let store = g.T.TenantStore in
+    let old = c.args.service.now in
+    let mid = c.loop-connection.service in
+    let new = c.serve_client.new.service in
+    let so_far = c.loop-connection.invariant in (
+      suc c.loop-connection._connection,
+      omega arith,
+      omega (arith, c.loop-connection-test.true),
+      clients_more (λ calls replies. store.is_honest mid → MeetsDefinition false (store.has_state old) (store.has_state mid) calls replies)
+          (λ calls replies. store.is_honest new → ServesSession false (store.latched new) (store.has_state mid) (store.has_state new) (store.may_leave new) calls replies)
+          (λ calls replies. store.is_honest new → ServesSession false (store.latched new) (store.has_state old) (store.has_state new) (store.may_leave new) calls replies) c.loop-connection._connection (g.L.Listener.clients c.args.listener.now)
+          (g.L.Listener.clients c.loop-connection.listener) (g.L.Listener.clients c.serve_client.new.listener)
+          (λ cs rs m ds qs p is. session_after (store.latched new) (store.has_state old) (store.has_state mid) (store.has_state new) (store.may_leave new) cs rs ds qs (m (c.serve_client.ensures.honest is)) (p is))
+          so_far.served c.serve_client.ensures.served,
+    )
+
+pub returns-clause-all : goal.returns-clause-all
+returns-clause-all g c =
+    let store = g.T.TenantStore in
+    let old = c.args.service.now in
+    let new = c.loop-connection.service in
+    let so_far = c.loop-connection.invariant in
+    let works = so_far.works in
+    subst (λ (n : ℕ). ServesClients (λ calls replies. store.is_honest new → ServesSession false (store.latched new) (store.has_state old) (store.has_state new) (store.may_leave new) calls replies) n (g.L.Listener.clients c.args.listener.now) (g.L.Listener.clients c.loop-connection.listener))
+    (omega (arith, c.loop-connection-test.false, c.loop-connection.auto._connection-end))
+    (clients_map (λ calls replies. store.is_honest new → MeetsDefinition false (store.has_state old) (store.has_state new) calls replies)
+    (λ calls replies. store.is_honest new → ServesSession false (store.latched new) (store.has_state old) (store.has_state new) (store.may_leave new) calls replies) c.loop-connection._connection
+    (g.L.Listener.clients c.args.listener.now) (g.L.Listener.clients c.loop-connection.listener)
+    (λ cs rs m is. session_whole (store.latched new) (store.has_state old) (store.has_state new) (store.may_leave new) cs rs works
+    (record { one = λ _ t s u. g.met.T.TenantStore.one_state new t s u is works; settled = λ _ t found there. g.met.T.TenantStore.settled new t found is works there }) (m is)) so_far.served)
 
 pub returns-clause-works : goal.returns-clause-works
 returns-clause-works g c = c.loop-connection.invariant.works
@@ -49,35 +74,25 @@ returns-clause-works g c = c.loop-connection.invariant.works
 pub returns-clause-honest : goal.returns-clause-honest
 returns-clause-honest g c = c.loop-connection.invariant.honest
 
-pub returns-in_err-buffers-clause-stop : goal.returns-in_err-buffers-clause-stop
-returns-in_err-buffers-clause-stop g c = λ is.
-    let works = c.requires.works in
-    session_none (g.T.TenantStore.latched c.args.service.now) (g.T.TenantStore.has_state c.args.service.now) (g.T.TenantStore.may_leave c.args.service.now)
-    (record { one = λ _ t s u. g.met.T.TenantStore.one_state c.args.service.now t s u is works; settled = λ _ t found there. g.met.T.TenantStore.settled c.args.service.now t found is works there })
+pub returns-then-is_latched-clause-honest : goal.returns-then-is_latched-clause-honest
+returns-then-is_latched-clause-honest g c = λ is. c.loop-connection.invariant.honest (c.serve_client.ensures.honest is)
 
-pub returns-in_err-taken-clause-stop : goal.returns-in_err-taken-clause-stop
-returns-in_err-taken-clause-stop g c = λ is.
-    let works = c.requires.works in
-    session_none (g.T.TenantStore.latched c.args.service.now) (g.T.TenantStore.has_state c.args.service.now) (g.T.TenantStore.may_leave c.args.service.now)
-    (record { one = λ _ t s u. g.met.T.TenantStore.one_state c.args.service.now t s u is works; settled = λ _ t found there. g.met.T.TenantStore.settled c.args.service.now t found is works there })
-
-pub returns-then-is_latched-clause-stop : goal.returns-then-is_latched-clause-stop
-returns-then-is_latched-clause-stop g c = λ is.
-    let so_far = c.loop-connection.invariant in
-    session_after (g.T.TenantStore.latched c.loop-connection.service) (g.T.TenantStore.latched c.serve_stream.new.service)
-    (g.T.TenantStore.has_state c.args.service.now) (g.T.TenantStore.has_state c.loop-connection.service) (g.T.TenantStore.has_state c.serve_stream.new.service) (g.T.TenantStore.may_leave c.serve_stream.new.service)
-    so_far.works (so_far.served (c.serve_stream.ensures.honest is)) (c.serve_stream.ensures.stop is so_far.works)
-
-pub returns-clause-stop : goal.returns-clause-stop
-returns-clause-stop g c = λ is.
-    let so_far = c.loop-connection.invariant in
-    let store = c.loop-connection.service in
-    let works = so_far.works in
-    session_after (g.T.TenantStore.latched store) (g.T.TenantStore.latched store) (g.T.TenantStore.has_state c.args.service.now) (g.T.TenantStore.has_state store) (g.T.TenantStore.has_state store) (g.T.TenantStore.may_leave store)
-    works (so_far.served is)
-    (session_none (g.T.TenantStore.latched store) (g.T.TenantStore.has_state store) (g.T.TenantStore.may_leave store)
-    (record { one = λ _ t s u. g.met.T.TenantStore.one_state store t s u is works; settled = λ _ t found there. g.met.T.TenantStore.settled store t found is works there }))
-
--- (written out, since a search for it takes gigabytes where a body answers something else)
-pub returns-then-is_latched-clause-works : goal.returns-then-is_latched-clause-works
-returns-then-is_latched-clause-works g c = tt
+pub returns-then-is_latched-clause-last : goal.returns-then-is_latched-clause-last
+returns-then-is_latched-clause-last g c = λ _.
+    let store = g.T.TenantStore in
+    let old = c.args.service.now in
+    let mid = c.loop-connection.service in
+    let new = c.serve_client.new.service in
+    let so_far = c.loop-connection.invariant in (
+      c.loop-connection._connection,
+      c.loop-connection-test.true,
+      record {
+        mid = mid;
+        works = so_far.works;
+        between = g.L.Listener.clients c.loop-connection.listener;
+        before = clients_map (λ calls replies. store.is_honest mid → MeetsDefinition false (store.has_state old) (store.has_state mid) calls replies)
+            (λ calls replies. store.is_honest new → MeetsDefinition false (store.has_state old) (store.has_state mid) calls replies) c.loop-connection._connection
+            (g.L.Listener.clients c.args.listener.now) (g.L.Listener.clients c.loop-connection.listener) (λ cs rs m is. m (c.serve_client.ensures.honest is)) so_far.served;
+        last = c.serve_client.ensures.served;
+      },
+    )
