@@ -57,9 +57,9 @@ Plays is_latched old new ms from to = PlaysBy (MeetsDefinition is_latched old ne
 abbrev pub PlaysUpTo : Bool → States → States → List (Option Call) → Option (List ℕ) → Option (List ℕ) → Type 0
 PlaysUpTo is_latched old new ms from to = PlaysUpToBy (MeetsDefinition is_latched old new) ms from to
 
--- The messages before one were served so, and then that one: its call latched the store, was answered
--- 503, and is the one in doubt, so that an opening may find it done or not. The lines of all of them
--- were written, and nothing else; no later message was served.
+-- The messages before one were served so, and then that one: its call latched the store, was
+-- answered 503, and is the one in doubt, so that an opening may find it done or not. The lines of
+-- all of them were written, and nothing else; no later message was served.
 pub record PlaysUntilLatched (old new : States) (left : Outcomes) (ms : List (Option Call)) (from to : Option (List ℕ)) : Type 0 where
   pub before : List (Option Call)
   pub call : Call

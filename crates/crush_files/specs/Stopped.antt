@@ -13,9 +13,9 @@ use Rattle.tenant_files.specs.Stored.{MayStandFor}
 use Rattle.crush_app.specs.Play.{WritesSession}
 use Rattle.crush_app.specs.Script.{OfScript, messages}
 
--- Lines of an input were served up to a last connection: where its disk returned what was written,
--- the lines written are those of one sound session from these states, which leaves what rows may
--- stand for after a stop then.
+-- Lines of an input were served up to a last connection to the database: where its disk returned
+-- what was written, the lines written are those of one sound session from these states, which
+-- leaves what rows may stand for after a stop then.
 pub record StopsAfter {D : Type 0} (g : disk.Ghosts D) (first : Held (FileStore D g)) (states : States) (known from to : Option (List ℕ)) : Type 0 where
   pub last : Held (FileStore D g)
   pub was_clean : HasCleanDisk (file_state last) → HasCleanDisk (file_state first)

@@ -46,8 +46,8 @@ fn finish(mut stream: &TcpStream, taken: &mut [u8]) -> io::Result<()> {
 /// One of two handles of a connection's socket: a reader and a writer are values of their own.
 pub type TcpClient<'a> = Client<'a, TcpStream, HostRuntime>;
 
-/// The clients of a port of 127.0.0.1. Each read and each write waits 5 seconds for one at most, and
-/// a message with its reply 30 seconds in all.
+/// The clients of a port of 127.0.0.1. Each read and each write waits 5 seconds for one at most,
+/// and a message with its reply 30 seconds in all.
 #[derive(Drop)]
 pub struct TcpClients<'a> {
     rt: &'a HostRuntime,
