@@ -61,7 +61,9 @@ pub(crate) fn watched_service(
     };
     let placements = room_for(rt, 16);
     let store = match over {
-        Over::Bound(bound) => ReadyStore::over(alloc, below, bound, placements)?,
+        Over::Bound(bound) => {
+            ReadyStore::over(alloc, below, bound, placements).map_err(|(error, _below)| error)?
+        }
         Over::Memory => ReadyStore::over_memory(alloc, below, placements)?,
     };
     Service::over(alloc, store)

@@ -61,7 +61,9 @@ fn a_tenant_larger_than_the_bound_is_kept_while_it_is_the_one_used_last(
 #[test]
 fn the_store_below_is_given_back(rt: HostRuntime) -> Result<(), Fail> {
     let alloc = rt.alloc();
-    let mut store = ReadyStore::over(alloc, MemoryStore::new(alloc), TWO, room_for(&rt, 1))?;
+    let mut store = ReadyStore::over(alloc, MemoryStore::new(alloc), TWO, room_for(&rt, 1)).map_err(
+        |(error, _below)| error,
+    )?;
     assert!(rt; store.create("a").is_ok());
     let mut below = store.into_below();
     assert!(rt; matches!(below.load("a"), Ok(Some(_))));

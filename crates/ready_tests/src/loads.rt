@@ -95,7 +95,10 @@ fn is_shared(
 fn what_a_store_in_memory_has_after_a_change_is_shared(rt: HostRuntime) -> Result<(), Fail> {
     let alloc = rt.alloc();
     let room = room_for(&rt, 1);
-    let made = ReadyStore::over(alloc, MemoryStore::new(alloc), u64::MAX, room)?;
+    let made = ReadyStore::over(alloc, MemoryStore::new(alloc), u64::MAX, room).map_err(|(
+        error,
+        _below,
+    )| error)?;
     assert!(rt; !is_shared(&rt, alloc, made)?);
     let shared = ReadyStore::over_memory(alloc, MemoryStore::new(alloc), room)?;
     assert!(rt; is_shared(&rt, alloc, shared)?);

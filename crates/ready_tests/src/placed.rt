@@ -38,6 +38,7 @@ pub(crate) fn store_for(
         1_000_000_000,
         room_for(rt, placements),
     )
+    .map_err(|(error, _below)| error)
 }
 
 /// A store with room for so many placements, which keeps what tenants have, or shares it with the

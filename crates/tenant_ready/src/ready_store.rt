@@ -61,24 +61,34 @@ impl<T: TenantStore> Model for ReadyStore<T> {
 }
 
 impl<T: TenantStore + Drop> ReadyStore<T> {
-    ghost use Rattle.std.specs.Prelude.{◌≡◌, IfOk};
+    ghost use Rattle.std.specs.Prelude.{◌≡◌, IfErr, IfOk};
 
     /// A store over this one, which keeps what takes at most `bound` bytes, and so many placements
-    /// beside. Nothing is kept yet. `Err(AllocError)`: an allocation failed; the store below is
-    /// dropped.
+    /// beside. Nothing is kept yet. `Err((AllocError, below))`: an allocation failed; the store
+    /// below is given back.
     pub fn over(
         alloc: Global,
         below: T,
         bound: u64,
         placements: NonZeroUsize,
-    ) -> Result<Self, AllocError>
-        ensures { IfOk result (λ store. store ≡ below) }
+    ) -> Result<Self, (AllocError, T)>
+        ensures made { IfOk result (λ store. store ≡ below) }
+        ensures refused { IfErr result (λ refused. refused.1 ≡ below) }
     {
+        let Ok(kept) = Kept::new(alloc, bound) else {
+            return Err((AllocError, below));
+        };
+        let Ok(cache) = PlacementCache::new(alloc, placements) else {
+            return Err((AllocError, below));
+        };
+        let Ok(trial) = Trial::new(alloc, placements) else {
+            return Err((AllocError, below));
+        };
         Ok(ReadyStore {
             alloc,
-            kept: Kept::new(alloc, bound)?,
-            cache: PlacementCache::new(alloc, placements)?,
-            trial: Trial::new(alloc, placements)?,
+            kept,
+            cache,
+            trial,
             last: None,
             last_lists: None,
             below,

@@ -226,16 +226,13 @@ impl<T: TenantStore> Model for Service<T> {
 impl<T: TenantStore + Drop> Service<T> {
     ghost use Rattle.std.specs.Prelude.{◌≡◌, IfOk};
 
-    /// Returns a service over this store. `Err(AllocError)`: an allocation failed; nothing is
-    /// changed.
+    /// Returns a service over this store. `Err(AllocError)`: an allocation failed; the store is
+    /// dropped.
     pub fn over(alloc: Global, store: T) -> Result<Self, AllocError>
         ensures { IfOk result (λ service. service ≡ store) }
     {
-        Ok(Service {
-            alloc,
-            routes: Routes::build(alloc)?,
-            store,
-        })
+        let routes = Routes::build(alloc)?;
+        Ok(Service::with_routes(alloc, routes, store))
     }
 }
 
@@ -246,6 +243,17 @@ impl<T: TenantStore> Service<T> {
     ghost use Rattle.tenant_core.specs.States.{IsDamaged, LeavesStep, Serves, MeetsDefinition, Headline, Leaves, ServesCallsOfNobody, ServesCallsOfDamaged, StaysDamaged, NamesCause};
     ghost use Rattle.tenant_core.specs.Step.{is_of};
     ghost use Rattle.tenant_core.specs.StoreReply.{IsUnavailable};
+
+    /// Returns a service over this store, by the routes that were made before. Allocates nothing.
+    pub fn with_routes(alloc: Global, routes: Routes, store: T) -> Self
+        ensures { result ≡ store }
+    {
+        Service {
+            alloc,
+            routes,
+            store,
+        }
+    }
 
     /// Gives the store back. Allocates nothing.
     pub fn into_store(self) -> T
