@@ -1,3 +1,3 @@
-pub mod Results
+pub mod ClosedFacts
 pub mod StoredFacts
 pub mod TableFacts

@@ -11,6 +11,9 @@ use Rattle.table_schema.specs.Layout.{IsStoreSchema}
 
 -- ---- states that are the same
 
+pub same_states : (a : States) → Same a a
+same_states a t s = (λ has. has, λ has. has)
+
 pub damaged_too : (a b : States) → Same a b → (t : List ℕ) → IsDamaged b t → IsDamaged a t
 damaged_too a b same t damaged s has = damaged s ((same t s).0 has)
 

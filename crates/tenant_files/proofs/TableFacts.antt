@@ -8,15 +8,8 @@ use Rattle.tenant_store.specs.Shown.{HasState, MayLeave}
 use Rattle.tenant_files.specs.Stored.{MayStandFor}
 
 -- the store that is begun with is this one, and the last one has this connection
-pub of_rows : {S : Type 0} (g : Ghosts S) (Says : States → States → Type 0) (first start last : Held S × Bool) (conn : Held S) → first ≡ start → last.0 ≡ conn
-    → Says (HasState g first) (HasState g last) → Says (StandsFor (state g start.0).now.trees) (StandsFor (state g conn).now.trees)
-of_rows {S = S} g Says first start last conn begun ended said =
-    subst (λ (x : Held S). Says (StandsFor (state g start.0).now.trees) (StandsFor (state g x).now.trees)) ended
-    (subst (λ (x : Held S × Bool). Says (StandsFor (state g x.0).now.trees) (StandsFor (state g last.0).now.trees)) begun said)
-
--- the same of what a stop may leave
-pub of_stop : {S : Type 0} (g : Ghosts S) (Says : States → Outcomes → Type 0) (first start last : Held S × Bool) (conn : Held S) → first ≡ start → last.0 ≡ conn
-    → Says (HasState g first) (MayLeave g last) → Says (StandsFor (state g start.0).now.trees) (MayStandFor g conn)
-of_stop {S = S} g Says first start last conn begun ended said =
-    subst (λ (x : Held S). Says (StandsFor (state g start.0).now.trees) (MayStandFor g x)) ended
-    (subst (λ (x : Held S × Bool). Says (StandsFor (state g x.0).now.trees) (MayLeave g last)) begun said)
+pub of_store : {S : Type 0} (g : Ghosts S) (Says : States → States → Outcomes → Type 0) (first start last : Held S × Bool) (conn : Held S) → first ≡ start → last.0 ≡ conn
+    → Says (HasState g first) (HasState g last) (MayLeave g last) → Says (StandsFor (state g start.0).now.trees) (StandsFor (state g conn).now.trees) (MayStandFor g conn)
+of_store {S = S} g Says first start last conn begun ended said =
+    subst (λ (x : Held S). Says (StandsFor (state g start.0).now.trees) (StandsFor (state g x).now.trees) (MayStandFor g x)) ended
+    (subst (λ (x : Held S × Bool). Says (StandsFor (state g x.0).now.trees) (StandsFor (state g last.0).now.trees) (MayLeave g last)) begun said)

@@ -1,26 +1,47 @@
 //! Closing a database file.
 
-ghost use Rattle.std.specs.Prelude.{IfOk};
-ghost use Rattle.sqlite.specs.Closing.{IsCopied};
-ghost use Rattle.sqlite_wal.specs.Reads.{AreClean};
+ghost use Rattle.std.specs.Prelude.{◌≡◌, Err};
+ghost use Rattle.tenant_files.specs.Closed.{GivesBack};
 
 use crate::fault::{FileFault, fault_of};
 use sqlite::{Connection, FileStore};
 use sqlite_disk::{Disk, Files};
 
-/// Copies the log into the database file, and closes both. The clause has the premise that the disk
-/// returned what was written (`AreClean`).
+/// What a connection gave back: the two files, and whether the log was copied into the database
+/// file.
+#[derive(Drop)]
+pub struct Closed<D: Disk> {
+    /// `Err`: it wasn't. What was committed is in the file or in its log.
+    pub copied: Result<(), FileFault>,
+    pub files: Files<D>,
+}
+
+/// Copies the log into the database file, and gives both back.
 ///
-/// `Err(FileFault::Store)`: the file failed; what was committed is in it or in its log.
-/// `Err(FileFault::NoMemory)`: an allocation failed; the same holds.
-pub fn close_files<D: Disk + Drop>(conn: Connection<FileStore<D>>) -> Result<Files<D>, FileFault>
-    ensures { IfOk result (λ files. AreClean D.Disk files.log files.db → IsCopied conn files) }
+/// `copied` is `Err(FileFault::Store)` where the file failed, and `Err(FileFault::NoMemory)` where
+/// an allocation failed.
+pub fn close_files<D: Disk + Drop>(conn: Connection<FileStore<D>>) -> Closed<D>
+    ensures { GivesBack conn result.copied result.files }
 {
     match conn.close_files() {
-        Ok(files) => Ok(files),
-        Err((error, store)) => {
-            drop(store.close());
-            Err(fault_of(error))
-        }
+        Ok(files) => Closed {
+            copied: Ok(()),
+            files,
+        },
+        Err((error, store)) => Closed {
+            copied: Err(fault_of(error)),
+            files: store.close(),
+        },
+    }
+}
+
+/// Gives back the files of a connection whose file failed for good, with nothing copied.
+pub fn give_up<D: Disk + Drop>(conn: Connection<FileStore<D>>) -> Closed<D>
+    ensures given { GivesBack conn result.copied result.files }
+    ensures failed { result.copied ≡ Err FileFault.Store }
+{
+    Closed {
+        copied: Err(FileFault::Store),
+        files: conn.into_store().close(),
     }
 }

@@ -6,6 +6,6 @@ mod fault;
 mod log;
 mod opening;
 
-pub use closing::close_files;
+pub use closing::{Closed, close_files, give_up};
 pub use fault::FileFault;
 pub use opening::{READY_BYTES, open_store};

@@ -52,7 +52,7 @@ pub fn open_store<S: Start>(
     ensures live { IfOk result (λ store. store.1 ≡ false) }
 
     // The rows stand for the states that the files held.
-    ensures found { IfOk result (λ store. HasCleanDisk (file_state store.0) → IsFound ⟦<FileFrom<S> as Disk>⟧ (image_at S.Start) (StandsFor (file_state store.0).now.trees)) }
+    ensures found { IfOk result (λ store. IsFound ⟦<FileFrom<S> as Disk>⟧ (HasCleanDisk (file_state store.0)) (image_at S.Start) (StandsFor (file_state store.0).now.trees)) }
 {
     let before = log_before(rt, path);
     let conn = match Connection::open_from(rt, path, false, start) {
