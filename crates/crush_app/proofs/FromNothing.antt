@@ -1,12 +1,17 @@
 -- A script that is played by a service with no tenant.
-use Rattle.std.proofs.Common.{ℕ, List, Bool, false, Option, None}
-use Rattle.tenant_core.specs.States.{States, Headline, MeetsDefinition}
+use Rattle.std.proofs.Common.{◌≡◌, ◌∙◌, ℕ, List, Bool, false, Option, None, Result, Ok, Err, refl, sym}
+use Rattle.std.proofs.lemmas.Bool.{false≢true}
+use Rattle.std.specs.Prelude.{⊤}
+use Rattle.std.specs.declared.alloc.AllocError.{AllocError}
+use Rattle.tenant_core.specs.States.{States, Headline, MeetsDefinition, Outcomes}
 use Rattle.tenant_messages.specs.declared.call.Call.{Call}
 use Rattle.tenant_messages.specs.declared.reply.Reply.{Reply}
-use Rattle.crush_app.specs.Play.{Plays, PlaysUpTo, WritesHeadline}
-use Rattle.crush_app.specs.FromNothing.{HeadlineFromNothing, MeetsFromNothing, PlaysFromNothing, PlaysUpToFromNothing, WritesHeadlineFromNothing}
-use Rattle.crush_app.specs.Script.{OfScript, messages}
-use Rattle.crush_app.proofs.Inputs.{of_script}
+use Rattle.crush_app.specs.End.{EndsScript, LatchesAs}
+use Rattle.crush_app.specs.FromNothing.{HeadlineFromNothing, MeetsFromNothing, PlaysFromNothing, PlaysScriptFromNothing, PlaysToFromNothing, PlaysUpToFromNothing, WritesHeadlineFromNothing}
+use Rattle.crush_app.specs.Play.{Plays, PlaysScript, PlaysTo, PlaysUpTo, WritesHeadline}
+use Rattle.crush_app.specs.declared.play.ScriptEnd.{ScriptEnd}
+use Rattle.crush_app.specs.declared.play.ScriptEnd.TheVariants.{Done, Latched, TooLong, ReadFault, WriteFault}
+use Rattle.crush_app.proofs.Ending.{nothing_map, serves_map}
 
 -- each name is absent
 abbrev pub IsEmpty : States → Type 0
@@ -60,14 +65,33 @@ writes_from_nothing old ms a b empty writes = record {
 
 -- ---- scripts
 
-pub script_done : (known : Option (List ℕ)) (old new : States) (a b : Option (List ℕ)) → IsEmpty old
-    → OfScript known (λ input. Plays false old new (messages input) a b) → OfScript known (λ input. PlaysFromNothing (messages input) a b)
-script_done known old new a b empty said = of_script known (λ input plays. plays_from_nothing old new (messages input) a b empty plays) said
+to_nothing : (end : ScriptEnd) (latched : Bool) (old new : States) (left : Outcomes) (ms : List (Option Call)) (a b : Option (List ℕ)) → IsEmpty old → (end ≡ Latched → ⊥)
+    → PlaysTo end latched old new left ms a b → PlaysToFromNothing end ms a b
+to_nothing Done latched old new left ms a b empty works plays = plays_from_nothing old new ms a b empty plays
+to_nothing WriteFault latched old new left ms a b empty works plays = cut_from_nothing latched old new ms a b empty plays
+to_nothing Latched latched old new left ms a b empty works plays = absurd (works refl)
+to_nothing TooLong latched old new left ms a b empty works plays = absurd plays
+to_nothing ReadFault latched old new left ms a b empty works plays = absurd plays
 
-pub script_cut : (known : Option (List ℕ)) (latched : Bool) (old new : States) (a b : Option (List ℕ)) → IsEmpty old
-    → OfScript known (λ input. PlaysUpTo latched old new (messages input) a b) → OfScript known (λ input. PlaysUpToFromNothing (messages input) a b)
-script_cut known latched old new a b empty said = of_script known (λ input plays. cut_from_nothing latched old new (messages input) a b empty plays) said
+script_from_nothing : (end : ScriptEnd) (latched : Bool) (old new : States) (left : Outcomes) (ms : List (Option Call)) (a b : Option (List ℕ)) → IsEmpty old → (end ≡ Latched → ⊥)
+    → PlaysScript end latched old new left ms a b → PlaysScriptFromNothing end ms a b
+script_from_nothing end latched old new left ms a b empty works plays =
+    record { plays = to_nothing end latched old new left ms a b empty works plays.plays; headline = writes_from_nothing old ms a b empty plays.headline }
 
-pub script_headline : (known : Option (List ℕ)) (old : States) (a b : Option (List ℕ)) → IsEmpty old
-    → OfScript known (λ input. WritesHeadline old (messages input) a b) → OfScript known (λ input. WritesHeadlineFromNothing (messages input) a b)
-script_headline known old a b empty said = of_script known (λ input writes. writes_from_nothing old (messages input) a b empty writes) said
+module _ (Unasked Honest : Type 0) (latched : Bool) (old new : States) (left : Outcomes) (reads rest a b : Option (List ℕ)) (honest : Honest) (empty : IsEmpty old) where
+  abbrev pub Said : ScriptEnd → List (Option Call) → Type 0
+  Said end ms = Honest → PlaysScript end latched old new left ms a b
+
+  abbrev FromNothing : ScriptEnd → List (Option Call) → Type 0
+  FromNothing end ms = PlaysScriptFromNothing end ms a b
+
+  -- a script that ended so on a store that never latches
+  pub ends_from_nothing : (r : Result ScriptEnd AllocError) → latched ≡ false → LatchesAs r latched → EndsScript Unasked Said r reads rest a b → EndsScript ⊤ FromNothing r reads rest a b
+  ends_from_nothing (Ok Done) works latch s =
+      serves_map (Said Done) (FromNothing Done) reads rest (λ ms said. script_from_nothing Done latched old new left ms a b empty (λ is. cc) (said honest)) s
+  ends_from_nothing (Ok WriteFault) works latch s =
+      serves_map (Said WriteFault) (FromNothing WriteFault) reads rest (λ ms said. script_from_nothing WriteFault latched old new left ms a b empty (λ is. cc) (said honest)) s
+  ends_from_nothing (Ok Latched) works latch s = absurd (false≢true (sym works ∙ latch))
+  ends_from_nothing (Ok TooLong) works latch s = (nothing_map Unasked ⊤ a b (λ _. tt) s.0, s.1)
+  ends_from_nothing (Ok ReadFault) works latch s = nothing_map Unasked ⊤ a b (λ _. tt) s
+  ends_from_nothing (Err e) works latch s = nothing_map Unasked ⊤ a b (λ _. tt) s

@@ -14,10 +14,7 @@ use Rattle.tenant_messages.specs.declared.reply.Reply.{Reply}
 use Rattle.tenant_core.proofs.Running.{run_both, run_latched, run_one, run_none}
 use Rattle.tenant_service.specs.Writing.{AppendsPart}
 use Rattle.crush_app.specs.Play.{Plays, PlaysUntilLatched, PlaysUpTo, WritesHeadline}
-use Rattle.tenant_service.specs.Input.{OfInput}
-use Rattle.crush_app.specs.declared.limits.TheConstants.{SCRIPT_LIMIT}
-use Rattle.crush_app.specs.Script.{bad_line, call_of_line, calls_in, is_nonempty, messages_in, messages, OfScript, output, wire}
-use Rattle.crush_app.proofs.Inputs.{of_read}
+use Rattle.crush_app.specs.Script.{bad_line, call_of_line, calls_in, is_nonempty, messages_in, messages, output, wire}
 use Rattle.tenant_service.proofs.Written.{appends_both, appends_none}
 
 pub append_none : {A : Type 0} (xs : List A) → xs ++ [] ≡ xs
@@ -260,21 +257,3 @@ headline_part latched old new ms a b plays = record {
   };
   headline = plays.meets.headline;
 }
-
--- ---- the input that was read
-
-pub script_played : (known : Option (List ℕ)) (read : List ℕ) (old new : States) (a b : Option (List ℕ)) → OfInput known (λ input. (read ≡ input) × (length input ≤ SCRIPT_LIMIT))
-    → Plays false old new (messages read) a b → OfScript known (λ input. Plays false old new (messages input) a b)
-script_played known read old new a b said plays = of_read known (λ input. Plays false old new (messages input) a b) read said plays
-
-pub script_latched : (known : Option (List ℕ)) (read : List ℕ) (old new : States) (left : Outcomes) (a b : Option (List ℕ)) → OfInput known (λ input. (read ≡ input) × (length input ≤ SCRIPT_LIMIT))
-    → PlaysUntilLatched old new left (messages read) a b → OfScript known (λ input. PlaysUntilLatched old new left (messages input) a b)
-script_latched known read old new left a b said plays = of_read known (λ input. PlaysUntilLatched old new left (messages input) a b) read said plays
-
-pub script_cut_off : (known : Option (List ℕ)) (read : List ℕ) (latched : Bool) (old new : States) (a b : Option (List ℕ)) → OfInput known (λ input. (read ≡ input) × (length input ≤ SCRIPT_LIMIT))
-    → PlaysUpTo latched old new (messages read) a b → OfScript known (λ input. PlaysUpTo latched old new (messages input) a b)
-script_cut_off known read latched old new a b said plays = of_read known (λ input. PlaysUpTo latched old new (messages input) a b) read said plays
-
-pub script_written : (known : Option (List ℕ)) (read : List ℕ) (old : States) (a b : Option (List ℕ)) → OfInput known (λ input. (read ≡ input) × (length input ≤ SCRIPT_LIMIT))
-    → WritesHeadline old (messages read) a b → OfScript known (λ input. WritesHeadline old (messages input) a b)
-script_written known read old a b said writes = of_read known (λ input. WritesHeadline old (messages input) a b) read said writes

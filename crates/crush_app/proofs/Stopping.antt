@@ -9,13 +9,10 @@ use Rattle.tenant_messages.specs.declared.call.Call.{Call}
 use Rattle.tenant_messages.specs.declared.reply.Reply.{Reply}
 use Rattle.tenant_service.proofs.OneSession.{Rests}
 use Rattle.tenant_service.proofs.Written.{appends_both}
-use Rattle.tenant_service.specs.Input.{OfInput}
 use Rattle.tenant_service.specs.Writing.{AppendsPart, AppendsUpTo}
-use Rattle.crush_app.proofs.Inputs.{of_read}
 use Rattle.crush_app.proofs.Playing.{PlaysRest, append_none, calls_in-append, messages-line, output-append}
 use Rattle.crush_app.specs.Play.{Plays, WritesSession}
-use Rattle.crush_app.specs.Script.{OfScript, bad_line, calls_in, messages, messages_in, output, wire}
-use Rattle.crush_app.specs.declared.limits.TheConstants.{SCRIPT_LIMIT}
+use Rattle.crush_app.specs.Script.{bad_line, calls_in, messages, messages_in, output, wire}
 
 -- ---- one message
 
@@ -91,7 +88,3 @@ rest_stopped old mid left a b c input rest line after h played one =
       };
       headline = rw (calls_in-append done one.served) (session_both old mid left (calls_in done) before.replies (calls_in one.served) one.replies before.meets one.headline);
     }
-
-pub script_stopped : (known : Option (List ℕ)) (read : List ℕ) (old : States) (left : Outcomes) (a b : Option (List ℕ)) → OfInput known (λ input. (read ≡ input) × (length input ≤ SCRIPT_LIMIT))
-    → WritesSession old left (messages read) a b → OfScript known (λ input. WritesSession old left (messages input) a b)
-script_stopped known read old left a b said writes = of_read known (λ input. WritesSession old left (messages input) a b) read said writes

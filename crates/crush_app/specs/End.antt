@@ -1,32 +1,44 @@
 -- How a script ends.
-use Rattle.std.specs.Prelude.{Result, Ok, Err, ⊤}
+use Rattle.std.specs.Prelude.{ℕ, ◌≡◌, ◌+◌, ◌<◌, List, length, Bool, true, false, Option, IfSome, Result, Ok, Err, ⊤}
+use Rattle.std.specs.Io.KnownBytes.{Keeps}
 use Rattle.std.specs.declared.alloc.AllocError.{AllocError}
+use Rattle.tenant_messages.specs.declared.call.Call.{Call}
+use Rattle.tenant_service.specs.Input.{DropsFirst}
+use Rattle.crush_app.specs.Script.{OfScript, messages}
+use Rattle.crush_app.specs.declared.limits.TheConstants.{SCRIPT_LIMIT}
 use Rattle.crush_app.specs.declared.play.ScriptEnd.{ScriptEnd}
 use Rattle.crush_app.specs.declared.play.ScriptEnd.TheVariants.{Done, Latched, TooLong, ReadFault, WriteFault}
 
--- the input was read whole, and its lines were served, all or a first part
-abbrev pub ServesLines : Result ScriptEnd AllocError → Type 0
-ServesLines (Ok Done) = ⊤
-ServesLines (Ok WriteFault) = ⊤
-ServesLines (Ok Latched) = ⊤
-ServesLines (Ok TooLong) = ⊥
-ServesLines (Ok ReadFault) = ⊥
-ServesLines (Err e) = ⊥
+-- The script was read whole, and its lines were served, all or a first part: this is said of its
+-- messages. Of what the reader had, a script of the greatest length and one byte were read, and the
+-- rest is left.
+pub record ServesScript (Says : List (Option Call) → Type 0) (reads left : Option (List ℕ)) : Type 0 where
+  pub said : OfScript reads (λ input. Says (messages input))
+  pub rest : DropsFirst (SCRIPT_LIMIT + 1) reads left
 
--- it was not, and no line was served
-abbrev pub ServesNone : Result ScriptEnd AllocError → Type 0
-ServesNone (Ok Done) = ⊥
-ServesNone (Ok WriteFault) = ⊥
-ServesNone (Ok Latched) = ⊥
-ServesNone (Ok TooLong) = ⊤
-ServesNone (Ok ReadFault) = ⊤
-ServesNone (Err e) = ⊤
+-- No line was served, so that the store wasn't asked, and nothing was written.
+pub record ServesNothing (Unasked : Type 0) (from to : Option (List ℕ)) : Type 0 where
+  pub unasked : Unasked
+  pub silent : Keeps from to
 
--- the input was read: whole, or so far that it is known to be too long
-abbrev pub ReadsInput : Result ScriptEnd AllocError → Type 0
-ReadsInput (Ok Done) = ⊤
-ReadsInput (Ok WriteFault) = ⊤
-ReadsInput (Ok Latched) = ⊤
-ReadsInput (Ok TooLong) = ⊤
-ReadsInput (Ok ReadFault) = ⊥
-ReadsInput (Err e) = ⊥
+-- So much was read that the script is known to be too long.
+pub record IsTooLong (reads left : Option (List ℕ)) : Type 0 where
+  pub long : IfSome reads (λ input. SCRIPT_LIMIT < length input)
+  pub rest : DropsFirst (SCRIPT_LIMIT + 1) reads left
+
+-- How a script ended, with what the reader had and has left, and what the writer held and holds.
+-- `Says` is what is said of messages that were served, by the end; `Unasked` is what is said of a
+-- store that wasn't asked.
+abbrev pub EndsScript : Type 0 → (ScriptEnd → List (Option Call) → Type 0) → Result ScriptEnd AllocError → (reads left from to : Option (List ℕ)) → Type 0
+EndsScript Unasked Says (Ok Done) reads left from to = ServesScript (Says Done) reads left
+EndsScript Unasked Says (Ok WriteFault) reads left from to = ServesScript (Says WriteFault) reads left
+EndsScript Unasked Says (Ok Latched) reads left from to = ServesScript (Says Latched) reads left
+EndsScript Unasked Says (Ok TooLong) reads left from to = ServesNothing Unasked from to × IsTooLong reads left
+EndsScript Unasked Says (Ok ReadFault) reads left from to = ServesNothing Unasked from to
+EndsScript Unasked Says (Err e) reads left from to = ServesNothing Unasked from to
+
+-- whether the store is then latched. After a failed write it may be
+abbrev pub LatchesAs : Result ScriptEnd AllocError → Bool → Type 0
+LatchesAs (Ok Done) is_latched = is_latched ≡ false
+LatchesAs (Ok Latched) is_latched = is_latched ≡ true
+LatchesAs _ is_latched = ⊤

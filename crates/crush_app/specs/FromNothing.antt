@@ -6,6 +6,8 @@ use Rattle.tenant_core.specs.States.{ServesCallsOfNobody, NamesCause}
 use Rattle.tenant_messages.specs.declared.call.Call.{Call}
 use Rattle.tenant_messages.specs.declared.reply.Reply.{Reply}
 use Rattle.crush_app.specs.Play.{PlaysBy, PlaysUpToBy, WritesFirst}
+use Rattle.crush_app.specs.declared.play.ScriptEnd.{ScriptEnd}
+use Rattle.crush_app.specs.declared.play.ScriptEnd.TheVariants.{Done, Latched, TooLong, ReadFault, WriteFault}
 
 -- the headline, for every tenant t: its replies other than 503 are those of the definition
 -- run over just the requests so answered, from nothing
@@ -31,3 +33,17 @@ PlaysUpToFromNothing ms from to = PlaysUpToBy MeetsFromNothing ms from to
 -- the headline from nothing of what was written
 abbrev pub WritesHeadlineFromNothing : List (Option Call) → Option (List ℕ) → Option (List ℕ) → Type 0
 WritesHeadlineFromNothing ms from to = WritesFirst HeadlineFromNothing ms from to
+
+-- how the messages of a script that ended so were served from nothing. No such script ends as
+-- `Latched`, since a store in memory never fails for good
+abbrev pub PlaysToFromNothing : ScriptEnd → List (Option Call) → (from to : Option (List ℕ)) → Type 0
+PlaysToFromNothing Done ms from to = PlaysFromNothing ms from to
+PlaysToFromNothing WriteFault ms from to = PlaysUpToFromNothing ms from to
+PlaysToFromNothing Latched ms from to = ⊥
+PlaysToFromNothing TooLong ms from to = ⊥
+PlaysToFromNothing ReadFault ms from to = ⊥
+
+-- messages were served from nothing
+pub record PlaysScriptFromNothing (end : ScriptEnd) (ms : List (Option Call)) (from to : Option (List ℕ)) : Type 0 where
+  pub plays : PlaysToFromNothing end ms from to
+  pub headline : WritesHeadlineFromNothing ms from to

@@ -1,5 +1,5 @@
 -- A script that was played: the states of tenants after it, and the bytes that were written.
-use Rattle.std.specs.Prelude.{ℕ, ◌≡◌, ◌<◌, List, [], ◌∷◌, ◌++◌, length, Bool, true, Option, Some}
+use Rattle.std.specs.Prelude.{ℕ, ◌≡◌, ◌<◌, List, [], ◌∷◌, ◌++◌, length, Bool, true, false, Option, Some}
 use Rattle.std.specs.Io.KnownBytes.{Appends}
 use Rattle.tenant_core.specs.States.{States, Outcomes, Headline, MeetsDefinition}
 use Rattle.tenant_core.specs.StoreReply.{IsUnavailable}
@@ -8,6 +8,8 @@ use Rattle.tenant_messages.specs.declared.call.Call.{Call}
 use Rattle.tenant_messages.specs.declared.reply.Reply.{Reply}
 use Rattle.tenant_service.specs.Writing.{AppendsUpTo}
 use Rattle.crush_app.specs.Script.{calls_in, output, wire}
+use Rattle.crush_app.specs.declared.play.ScriptEnd.{ScriptEnd}
+use Rattle.crush_app.specs.declared.play.ScriptEnd.TheVariants.{Done, Latched, TooLong, ReadFault, WriteFault}
 
 -- ---- messages
 
@@ -81,3 +83,20 @@ WritesHeadline old ms from to = WritesFirst (Headline old) ms from to
 -- replies to their calls, and these are a sound session, which leaves what it may leave
 abbrev pub WritesSession : States → Outcomes → List (Option Call) → Option (List ℕ) → Option (List ℕ) → Type 0
 WritesSession old left ms from to = WritesFirst (IsSession old left) ms from to
+
+-- ---- a script
+
+-- how the messages of a script that ended so were served
+abbrev pub PlaysTo : ScriptEnd → Bool → States → States → Outcomes → List (Option Call) → (from to : Option (List ℕ)) → Type 0
+PlaysTo Done is_latched old new left ms from to = Plays false old new ms from to
+PlaysTo WriteFault is_latched old new left ms from to = PlaysUpTo is_latched old new ms from to
+PlaysTo Latched is_latched old new left ms from to = PlaysUntilLatched old new left ms from to
+PlaysTo TooLong is_latched old new left ms from to = ⊥
+PlaysTo ReadFault is_latched old new left ms from to = ⊥
+
+-- Messages were served on a store with the states `old` before and `new` after, which is then
+-- latched or not, and of which an opening may find `left` after a crash.
+pub record PlaysScript (end : ScriptEnd) (is_latched : Bool) (old new : States) (left : Outcomes) (ms : List (Option Call)) (from to : Option (List ℕ)) : Type 0 where
+  pub plays : PlaysTo end is_latched old new left ms from to
+  pub headline : WritesHeadline old ms from to
+  pub stop : WritesSession old left ms from to

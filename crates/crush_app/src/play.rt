@@ -1,15 +1,13 @@
 //! Scripts: the service serves each line of an input, and its reply is written.
 
-ghost use Rattle.std.specs.Prelude.{◌≡◌, ◌≤◌, ◌<◌, ◌∷◌, ◌+◌, [], Ok, true, false, length, IsTrue, IfSome, option_map};
+ghost use Rattle.std.specs.Prelude.{◌≡◌, ◌<◌, ◌∷◌, [], Ok, true, false, length, IsTrue, option_map};
 ghost use Rattle.std.specs.Bool.{IsFalse};
-ghost use Rattle.std.specs.Io.KnownBytes.{Keeps as KeepsBytes};
 ghost use Rattle.tenant_messages.specs.CallParts.{call_of};
-ghost use Rattle.tenant_service.specs.Input.{DropsFirst};
-ghost use Rattle.crush_app.specs.End.{ServesLines, ServesNone, ReadsInput};
-ghost use Rattle.crush_app.specs.Play.{Plays, PlaysUntilLatched, PlaysUpTo, WritesHeadline, WritesSession};
-ghost use Rattle.crush_app.specs.declared.limits.TheConstants.{SCRIPT_LIMIT};
+ghost use Rattle.crush_app.specs.End.{EndsScript, LatchesAs};
+ghost use Rattle.crush_app.specs.Play.{Plays, PlaysScript, PlaysUpTo, WritesSession};
+ghost use Rattle.crush_app.specs.Private.Ending.{IsServed};
 ghost use Rattle.crush_app.specs.Private.Latching.{PlaysLatching};
-ghost use Rattle.crush_app.specs.Script.{bad_line, messages, messages_in, OfScript};
+ghost use Rattle.crush_app.specs.Script.{bad_line, messages, messages_in};
 
 use crate::input::{InputFault, read_input};
 use crate::limits::SCRIPT_LIMIT;
@@ -95,14 +93,9 @@ fn play<T: TenantStore, W: Write>(
 ) -> ScriptEnd
     requires bad { bad.now ≡ bad_line }
     requires works { T.latched service.old ≡ false }
-    ensures done { T.is_honest service.new → result ≡ ScriptEnd.Done → Plays false (T.has_state service.old) (T.has_state service.new) (messages input.now) (W.contents writer.old) (W.contents writer.new) }
-    ensures cut { T.is_honest service.new → result ≡ ScriptEnd.WriteFault → PlaysUpTo (T.latched service.new) (T.has_state service.old) (T.has_state service.new) (messages input.now) (W.contents writer.old) (W.contents writer.new) }
-    ensures latched { T.is_honest service.new → result ≡ ScriptEnd.Latched → PlaysUntilLatched (T.has_state service.old) (T.has_state service.new) (T.may_leave service.new) (messages input.now) (W.contents writer.old) (W.contents writer.new) }
-    ensures headline { T.is_honest service.new → WritesHeadline (T.has_state service.old) (messages input.now) (W.contents writer.old) (W.contents writer.new) }
-    ensures stop { T.is_honest service.new → WritesSession (T.has_state service.old) (T.may_leave service.new) (messages input.now) (W.contents writer.old) (W.contents writer.new) }
-    ensures served { ServesLines (Ok result) }
-    ensures works { result ≡ ScriptEnd.Done → T.latched service.new ≡ false }
-    ensures shut { result ≡ ScriptEnd.Latched → T.latched service.new ≡ true }
+    ensures plays { T.is_honest service.new → PlaysScript result (T.latched service.new) (T.has_state service.old) (T.has_state service.new) (T.may_leave service.new) (messages input.now) (W.contents writer.old) (W.contents writer.new) }
+    ensures served { IsServed result }
+    ensures latch { LatchesAs (Ok result) (T.latched service.new) }
     ensures honest { T.is_honest service.new → T.is_honest service.old }
 {
     let mut rest = input;
@@ -125,7 +118,6 @@ fn play<T: TenantStore, W: Write>(
 /// The clauses speak of an input, which is what the reader had where contracts know its bytes.
 /// `Err(AllocError)`: an allocation for the script itself failed; no line was served, nothing was
 /// written, and the script may have been read in part.
-#[tactic(auto, using(crate::proofs::Playing::script_played, crate::proofs::Playing::script_cut_off, crate::proofs::Playing::script_latched, crate::proofs::Playing::script_written, crate::proofs::Stopping::script_stopped, crate::proofs::Inputs::known_short, crate::proofs::Inputs::known_long))]
 pub fn script_run<T: TenantStore, R: Read, W: Write>(
     alloc: Global,
     service: &mut Service<T>,
@@ -134,44 +126,13 @@ pub fn script_run<T: TenantStore, R: Read, W: Write>(
 ) -> Result<ScriptEnd, AllocError>
     requires { T.latched service.old ≡ false }
 
-    // `Done`: all lines of the input were served; their replies were written, and nothing else.
-    ensures done { T.is_honest service.new → result ≡ Ok ScriptEnd.Done → OfScript (R.remaining reader.old)
-        (λ input. Plays false (T.has_state service.old) (T.has_state service.new) (messages input) (W.contents writer.old) (W.contents writer.new)) }
-
-    // `WriteFault`: the replies before the failed one were written whole, that one in part, and no
-    // later line was served.
-    ensures cut { T.is_honest service.new → result ≡ Ok ScriptEnd.WriteFault → OfScript (R.remaining reader.old)
-        (λ input. PlaysUpTo (T.latched service.new) (T.has_state service.old) (T.has_state service.new) (messages input) (W.contents writer.old) (W.contents writer.new)) }
-
-    // `Latched`: all lines up to the call that latched the store were served, and their replies
-    // written, and nothing else; that call was answered 503, and is in doubt.
-    ensures latched { T.is_honest service.new → result ≡ Ok ScriptEnd.Latched → OfScript (R.remaining reader.old)
-        (λ input. PlaysUntilLatched (T.has_state service.old) (T.has_state service.new) (T.may_leave service.new) (messages input) (W.contents writer.old) (W.contents writer.new)) }
-    ensures works { result ≡ Ok ScriptEnd.Done → T.latched service.new ≡ false }
-    ensures shut { result ≡ Ok ScriptEnd.Latched → T.latched service.new ≡ true }
-
-    // The headline: for every tenant, the written replies other than 503 are those of the
-    // definition, run over just the calls that have such a reply, from the state that the tenant
-    // had.
-    ensures headline { T.is_honest service.new → ServesLines result → OfScript (R.remaining reader.old)
-        (λ input. WritesHeadline (T.has_state service.old) (messages input) (W.contents writer.old) (W.contents writer.new)) }
-
-    // What a stop leaves: what was written, and what an opening may find after a crash now, are
-    // those of one sound session, whatever the store did.
-    ensures stop { T.is_honest service.new → ServesLines result → OfScript (R.remaining reader.old)
-        (λ input. WritesSession (T.has_state service.old) (T.may_leave service.new) (messages input) (W.contents writer.old) (W.contents writer.new)) }
-
-    // An input is too long exactly by its length.
-    ensures short { ServesLines result → IfSome (R.remaining reader.old) (λ input. length input ≤ SCRIPT_LIMIT) }
-    ensures long { result ≡ Ok ScriptEnd.TooLong → IfSome (R.remaining reader.old) (λ input. SCRIPT_LIMIT < length input) }
-
-    // Served or too long: of what the reader had, a script of the greatest length and one byte were
-    // read, and the rest is left.
-    ensures rest { ReadsInput result → DropsFirst (SCRIPT_LIMIT + 1) (R.remaining reader.old) (R.remaining reader.new) }
-
-    // Otherwise the store wasn't asked, and nothing was written.
-    ensures none { ServesNone result → service.new ≡ service.old }
-    ensures silent { ServesNone result → KeepsBytes (W.contents writer.old) (W.contents writer.new) }
+    // Lines were served as the definition says, from the states before to those after, and what was
+    // written has the headline and is, with what a crash may leave, one sound session. Or the store
+    // wasn't asked, and nothing was written.
+    ensures ends { EndsScript (service.new ≡ service.old)
+        (λ end ms. T.is_honest service.new → PlaysScript end (T.latched service.new) (T.has_state service.old) (T.has_state service.new) (T.may_leave service.new) ms (W.contents writer.old) (W.contents writer.new))
+        result (R.remaining reader.old) (R.remaining reader.new) (W.contents writer.old) (W.contents writer.new) }
+    ensures latch { LatchesAs result (T.latched service.new) }
     ensures honest { T.is_honest service.new → T.is_honest service.old }
 {
     let input = match read_input(alloc, reader, SCRIPT_LIMIT) {

@@ -1,0 +1,57 @@
+-- What is said of how a script ends.
+use Rattle.std.proofs.Common.{◌≡◌, ℕ, List, Bool, true, false, Option, Some, None, Result, Ok, Err, refl}
+use Rattle.std.specs.Io.KnownBytes.{Keeps}
+use Rattle.std.specs.declared.alloc.AllocError.{AllocError}
+use Rattle.tenant_core.specs.States.{Outcomes, States}
+use Rattle.tenant_messages.specs.declared.call.Call.{Call}
+use Rattle.crush_app.proofs.Inputs.{of_script}
+use Rattle.crush_app.proofs.Playing.{headline_latched, headline_part, headline_whole}
+use Rattle.crush_app.specs.End.{EndsScript, IsTooLong, ServesNothing, ServesScript}
+use Rattle.crush_app.specs.Play.{PlaysTo, WritesHeadline}
+use Rattle.crush_app.specs.Private.Ending.{IsServed}
+use Rattle.crush_app.specs.Script.{messages}
+use Rattle.crush_app.specs.declared.play.ScriptEnd.{ScriptEnd}
+use Rattle.crush_app.specs.declared.play.ScriptEnd.TheVariants.{Done, Latched, TooLong, ReadFault, WriteFault}
+
+pub keeps_itself : (a : Option (List ℕ)) → Keeps a a
+keeps_itself None = tt
+keeps_itself (Some xs) = refl
+
+-- the headline of what was written, however the script ended
+pub headline_of : (end : ScriptEnd) (latched : Bool) (old new : States) (left : Outcomes) (ms : List (Option Call)) (a b : Option (List ℕ)) → PlaysTo end latched old new left ms a b
+    → WritesHeadline old ms a b
+headline_of Done latched old new left ms a b plays = headline_whole false old new ms a b plays
+headline_of WriteFault latched old new left ms a b plays = headline_part latched old new ms a b plays
+headline_of Latched latched old new left ms a b plays = headline_latched old new left ms a b plays
+headline_of TooLong latched old new left ms a b plays = absurd plays
+headline_of ReadFault latched old new left ms a b plays = absurd plays
+
+-- a script whose lines were served
+pub ends_served : (Unasked : Type 0) (Says : ScriptEnd → List (Option Call) → Type 0) (end : ScriptEnd) (reads left from to : Option (List ℕ)) → IsServed end
+    → ServesScript (Says end) reads left → EndsScript Unasked Says (Ok end) reads left from to
+ends_served Unasked Says Done reads left from to is served = served
+ends_served Unasked Says WriteFault reads left from to is served = served
+ends_served Unasked Says Latched reads left from to is served = served
+ends_served Unasked Says TooLong reads left from to is served = absurd is
+ends_served Unasked Says ReadFault reads left from to is served = absurd is
+
+-- ---- what follows from what is said
+
+pub serves_map : (P Q : List (Option Call) → Type 0) (reads left : Option (List ℕ)) → ((ms : List (Option Call)) → P ms → Q ms) → ServesScript P reads left → ServesScript Q reads left
+serves_map P Q reads left follows s = record {
+  said = of_script reads {P = λ (input : List ℕ). P (messages input)} {Q = λ (input : List ℕ). Q (messages input)} (λ input. follows (messages input)) s.said;
+  rest = s.rest;
+}
+
+pub nothing_map : (A B : Type 0) (from to : Option (List ℕ)) → (A → B) → ServesNothing A from to → ServesNothing B from to
+nothing_map A B from to follows s = record { unasked = follows s.unasked; silent = s.silent }
+
+-- by the end that the script had
+pub ends_map : (A B : Type 0) (P Q : ScriptEnd → List (Option Call) → Type 0) (r : Result ScriptEnd AllocError) (reads left from to : Option (List ℕ)) → (A → B)
+    → ((end : ScriptEnd) (ms : List (Option Call)) → r ≡ Ok end → P end ms → Q end ms) → EndsScript A P r reads left from to → EndsScript B Q r reads left from to
+ends_map A B P Q (Ok Done) reads left from to unasked follows s = serves_map (P Done) (Q Done) reads left (λ ms. follows Done ms refl) s
+ends_map A B P Q (Ok WriteFault) reads left from to unasked follows s = serves_map (P WriteFault) (Q WriteFault) reads left (λ ms. follows WriteFault ms refl) s
+ends_map A B P Q (Ok Latched) reads left from to unasked follows s = serves_map (P Latched) (Q Latched) reads left (λ ms. follows Latched ms refl) s
+ends_map A B P Q (Ok TooLong) reads left from to unasked follows s = (nothing_map A B from to unasked s.0, s.1)
+ends_map A B P Q (Ok ReadFault) reads left from to unasked follows s = nothing_map A B from to unasked s
+ends_map A B P Q (Err e) reads left from to unasked follows s = nothing_map A B from to unasked s
