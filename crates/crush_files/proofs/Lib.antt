@@ -1,4 +1,2 @@
-pub mod FileFacts
+pub mod EndFacts
 pub mod PlayFacts
-pub mod TableLatch
-pub mod StopFacts

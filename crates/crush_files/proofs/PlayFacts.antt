@@ -1,16 +1,18 @@
 -- What is said of a script over states is said of the same states.
 use Rattle.std.proofs.lemmas.Bool.{false≢true}
-use Rattle.std.proofs.Common.{◌≡◌, ℕ, List, Bool, true, false, Option, sym}
-use Rattle.tenant_core.specs.States.{States, Same}
-use Rattle.crush_app.specs.Play.{Plays, PlaysUpTo, WritesHeadline}
+use Rattle.std.proofs.Common.{◌≡◌, ℕ, List, Bool, true, false, Option, refl, sym}
+use Rattle.tenant_core.specs.States.{Outcomes, States, Same}
+use Rattle.crush_app.specs.Play.{Plays, PlaysScript, PlaysTo, PlaysUntilLatched, PlaysUpTo, WritesHeadline, WritesSession}
+use Rattle.crush_app.specs.declared.play.ScriptEnd.{ScriptEnd}
+use Rattle.crush_app.specs.declared.play.ScriptEnd.TheVariants.{Done, Latched, TooLong, ReadFault, WriteFault}
 use Rattle.tenant_files.proofs.StoredFacts.{damaged_too, meets_same}
 
-pub plays_same : (latched : Bool) (a b c d : States) (ms : _) (from to : Option (List ℕ)) → Same a b → (latched ≡ false → Same c d) → Plays latched a c ms from to → Plays latched b d ms from to
-plays_same latched a b c d ms from to before after plays =
-    record { replies = plays.replies; meets = meets_same latched a b c d _ plays.replies before after plays.meets; written = plays.written }
+plays_same : (a b c d : States) (ms : _) (from to : Option (List ℕ)) → Same a b → Same c d → Plays false a c ms from to → Plays false b d ms from to
+plays_same a b c d ms from to before after plays =
+    record { replies = plays.replies; meets = meets_same false a b c d _ plays.replies before (λ works. after) plays.meets; written = plays.written }
 
 -- where the last line was cut, what the store then shows isn't said
-pub cut_weaker : (latched : Bool) (a b c d : States) (ms : _) (from to : Option (List ℕ)) → Same a b → PlaysUpTo latched a c ms from to → PlaysUpTo true b d ms from to
+cut_weaker : (latched : Bool) (a b c d : States) (ms : _) (from to : Option (List ℕ)) → Same a b → PlaysUpTo latched a c ms from to → PlaysUpTo true b d ms from to
 cut_weaker latched a b c d ms from to before plays = record {
   before = plays.before;
   cut = plays.cut;
@@ -35,7 +37,21 @@ cut_weaker latched a b c d ms from to before plays = record {
   written = plays.written;
 }
 
-pub headline_same : (a b : States) (ms : _) (from to : Option (List ℕ)) → Same a b → WritesHeadline a ms from to → WritesHeadline b ms from to
+latched_same : (a b c d : States) (left : Outcomes) (ms : _) (from to : Option (List ℕ)) → Same a b → PlaysUntilLatched a c left ms from to → PlaysUntilLatched b d left ms from to
+latched_same a b c d left ms from to before plays = record {
+  before = plays.before;
+  call = plays.call;
+  later = plays.later;
+  all = plays.all;
+  replies = plays.replies;
+  reply = plays.reply;
+  silent = plays.silent;
+  meets = meets_same true a b c d _ _ before (λ never. absurd (false≢true (sym never))) plays.meets;
+  leaves = λ f t next has there. plays.leaves f t next ((before t (f t)).1 has) there;
+  written = plays.written;
+}
+
+headline_same : (a b : States) (ms : _) (from to : Option (List ℕ)) → Same a b → WritesHeadline a ms from to → WritesHeadline b ms from to
 headline_same a b ms from to before writes = record {
   served = writes.served;
   later = writes.later;
@@ -44,4 +60,36 @@ headline_same a b ms from to before writes = record {
   rest = writes.rest;
   written = writes.written;
   headline = λ t s has. writes.headline t s ((before t s).1 has);
+}
+
+session_same : (a b : States) (left : Outcomes) (ms : _) (from to : Option (List ℕ)) → Same a b → WritesSession a left ms from to → WritesSession b left ms from to
+session_same a b left ms from to same writes = record {
+  served = writes.served;
+  later = writes.later;
+  all = writes.all;
+  replies = writes.replies;
+  rest = writes.rest;
+  written = writes.written;
+  headline = record {
+    doubt = writes.headline.doubt;
+    sound = λ f t has. writes.headline.sound f t ((same t (f t)).1 has);
+    crash = λ f t next has there. writes.headline.crash f t next ((same t (f t)).1 has) there;
+  };
+}
+
+to_same : (how : ScriptEnd) (latched : Bool) (a b c d : States) (left : Outcomes) (ms : _) (from to : Option (List ℕ)) → Same a b → (how ≡ Done → Same c d)
+    → PlaysTo how latched a c left ms from to → PlaysTo how true b d left ms from to
+to_same Done latched a b c d left ms from to before after plays = plays_same a b c d ms from to before (after refl) plays
+to_same WriteFault latched a b c d left ms from to before after plays = cut_weaker latched a b c d ms from to before plays
+to_same Latched latched a b c d left ms from to before after plays = latched_same a b c d left ms from to before plays
+to_same TooLong latched a b c d left ms from to before after plays = absurd plays
+to_same ReadFault latched a b c d left ms from to before after plays = absurd plays
+
+-- what the store shows afterwards is said after a whole script alone
+pub script_same : (how : ScriptEnd) (latched : Bool) (a b c d : States) (left : Outcomes) (ms : _) (from to : Option (List ℕ)) → Same a b → (how ≡ Done → Same c d)
+    → PlaysScript how latched a c left ms from to → PlaysScript how true b d left ms from to
+script_same how latched a b c d left ms from to before after script = record {
+  plays = to_same how latched a b c d left ms from to before after script.plays;
+  headline = headline_same a b ms from to before script.headline;
+  stop = session_same a b left ms from to before script.stop;
 }

@@ -1,100 +1,88 @@
 //! Scripts that are played over an opened database file, which is then closed.
 
-ghost use Rattle.std.specs.Prelude.{◌≡◌, ◌≢◌, ◌⊎◌, ◌≤◌, ◌<◌, ◌+◌, true, false, length, Ok, IfOk, IfErr, IfSome, OnErr};
-ghost use Rattle.std.specs.Io.KnownBytes.{Keeps as KeepsBytes};
-ghost use Rattle.tenant_service.specs.Input.{DropsFirst};
-ghost use Rattle.crush_app.specs.End.{ServesLines, ServesNone, ReadsInput};
-ghost use Rattle.crush_app.specs.Play.{Plays, PlaysUpTo, WritesHeadline};
-ghost use Rattle.crush_app.specs.declared.limits.TheConstants.{SCRIPT_LIMIT};
-ghost use Rattle.crush_app.specs.Script.{messages, OfScript};
-ghost use Rattle.sqlite.specs.Closing.{IsCopied};
-ghost use Rattle.sqlite.specs.Files.{file_state};
-ghost use Rattle.sqlite.specs.Held.{Held};
+ghost use Rattle.std.specs.Prelude.{◌≡◌, false, true, Err, Ok};
+ghost use Rattle.crush_app.specs.End.{EndsScript};
+ghost use Rattle.crush_app.specs.Play.{PlaysScript};
+ghost use Rattle.sqlite.specs.Held.{state};
 ghost use Rattle.sqlite.specs.State.{HasCleanDisk};
-ghost use Rattle.sqlite_store.specs.declared.store.FileStore.{FileStore};
-ghost use Rattle.sqlite_wal.specs.Reads.{AreClean};
-ghost use Rattle.tenant_rows.specs.Rows.{StandsFor, StatesIn};
-ghost use Rattle.crush_files.specs.Stopped.{StopsAfter};
+ghost use Rattle.table_schema.specs.Ready.{IsReady};
+ghost use Rattle.tenant_files.specs.Closed.{GivesBack};
+ghost use Rattle.tenant_files.specs.Stored.{MayStandFor};
+ghost use Rattle.tenant_rows.specs.Rows.{StandsFor};
+ghost use Rattle.tenant_store.specs.Shown.{IsHonest};
+ghost use Rattle.crush_files.specs.Ended.{EndsOnFiles};
 
-use crate::on_tables::script_on_tables;
-use crush_app::ScriptEnd;
-use sqlite::FileStore;
-use sqlite_disk::{Disk, Files};
+use crush_app::{ScriptEnd, script_on_store};
+use sqlite::{Alter, Connection, FileStore};
+use sqlite_disk::Disk;
 use std::alloc::{AllocError, Global};
 use std::io::{Read, Write};
 use std::num::NonZeroUsize;
-use tenant_files::{FileFault, close_files};
+use tenant_files::{Closed, FileFault, READY_BYTES, close_files, give_up};
+use tenant_ready::ReadyStore;
 use tenant_store::Store;
 
-/// The end of a script, where its file may be closed.
-///
-/// `Err(FileFault::Store)`: the store failed for good.
-fn closable(end: ScriptEnd) -> Result<ScriptEnd, FileFault>
-    ensures same { IfOk result (λ same. same ≡ end) }
-    ensures works { IfOk result (λ same. same ≢ ScriptEnd.Latched) }
-    ensures fault { IfErr result (λ fault. fault ≡ FileFault.Store) }
+/// Plays a script on the tenants of a store over tables, and gives the connection back. What
+/// tenants have is kept ready, within `READY_BYTES`, and so many placements of their groups.
+fn script_on_tables<S: Alter + Drop, R: Read, W: Write>(
+    alloc: Global,
+    store: Store<S>,
+    placements: NonZeroUsize,
+    reader: &mut R,
+    writer: &mut W,
+) -> (Result<ScriptEnd, AllocError>, Connection<S>)
+    requires works { store.1 ≡ false }
+    ensures ends { EndsScript (result.1 ≡ store.0)
+        (λ end ms. HasCleanDisk (state S.Store result.1) → PlaysScript end true (StandsFor (state S.Store store.0).now.trees) (StandsFor (state S.Store result.1).now.trees) (MayStandFor S.Store result.1) ms (W.contents writer.old) (W.contents writer.new))
+        result.0 (R.remaining reader.old) (R.remaining reader.new) (W.contents writer.old) (W.contents writer.new) }
+    ensures ready { HasCleanDisk (state S.Store result.1) → result.0 ≡ Ok ScriptEnd.Done → IsReady (state S.Store result.1) }
+    ensures honest { HasCleanDisk (state S.Store result.1) → IsHonest S.Store store }
+{
+    let ready = match ReadyStore::over(alloc, store, READY_BYTES, placements) {
+        Ok(ready) => ready,
+        Err((error, store)) => return (Err(error), store.close()),
+    };
+    let (end, ready) = script_on_store(alloc, ready, reader, writer);
+    let conn = ready.into_below().close();
+    (end, conn)
+}
+
+/// Closes the file after a script that ended so, unless it failed for good.
+fn close_after<D: Disk + Drop>(
+    end: &Result<ScriptEnd, AllocError>,
+    conn: Connection<FileStore<D>>,
+) -> Closed<D>
+    ensures given { GivesBack conn result.copied result.files }
+    ensures failed { end.now ≡ Ok ScriptEnd.Latched → result.copied ≡ Err FileFault.Store }
 {
     match end {
-        ScriptEnd::Latched => Err(FileFault::Store),
-        _ => Ok(end),
+        Ok(ScriptEnd::Latched) => give_up(conn),
+        _ => close_files(conn),
     }
 }
 
 /// Plays a script on the tenants of a store over a database file, of whose groups so many
-/// placements are kept, and returns how that ended, with the closed file and its log.
+/// placements are kept, and returns how that ended, with what was given back of the file.
 ///
 /// The clauses have the premise that the disk returned what was written (`AreClean`).
-/// `Err(FileFault::Store)`: the file failed for good while lines were served, or as it was closed.
-/// `Err(FileFault::NoMemory)`: an allocation failed outside a request.
+/// `Err(AllocError)`: an allocation outside a request failed; no line was served.
 pub fn script_on_files<D: Disk + Drop, R: Read, W: Write>(
     alloc: Global,
     store: Store<FileStore<D>>,
     placements: NonZeroUsize,
     reader: &mut R,
     writer: &mut W,
-) -> Result<(ScriptEnd, Files<D>), FileFault>
+) -> (Result<ScriptEnd, AllocError>, Closed<D>)
     requires works { store.1 ≡ false }
 
-    // `Done`: all lines of the input were served; their replies were written, and nothing else.
-    // From the states that the rows stood for the definition leads to those that the closed file
-    // holds, also after a crash.
-    ensures done { IfOk result (λ r. AreClean D.Disk r.1.log r.1.db → r.0 ≡ ScriptEnd.Done → OfScript (R.remaining reader.old)
-        (λ input. (now : Held (FileStore D D.Disk)) × IsCopied now r.1 × Plays false (StandsFor (file_state store.0).now.trees) (StatesIn (file_state now).committed) (messages input) (W.contents writer.old) (W.contents writer.new))) }
+    // Lines were served from the states that the rows stood for to those that the file holds now,
+    // also after a crash, and what was written has the headline; or nothing was served and written.
+    ensures ends { EndsOnFiles D.Disk store.0 result.0 result.1.copied result.1.files (R.remaining reader.old) (R.remaining reader.new) (W.contents writer.old) (W.contents writer.new) }
 
-    // `WriteFault`: the replies before the failed one were written whole, that one in part, and no
-    // later line was served.
-    ensures cut { IfOk result (λ r. AreClean D.Disk r.1.log r.1.db → r.0 ≡ ScriptEnd.WriteFault → OfScript (R.remaining reader.old)
-        (λ input. (now : Held (FileStore D D.Disk)) × IsCopied now r.1 × PlaysUpTo true (StandsFor (file_state store.0).now.trees) (StatesIn (file_state now).committed) (messages input) (W.contents writer.old) (W.contents writer.new))) }
-
-    // The headline: for every tenant, the written replies other than 503 are those of the
-    // definition, run over just the calls that have such a reply, from the state that the tenant's
-    // rows stood for.
-    ensures headline { IfOk result (λ r. AreClean D.Disk r.1.log r.1.db → ServesLines (Ok r.0) → OfScript (R.remaining reader.old)
-        (λ input. (now : Held (FileStore D D.Disk)) × IsCopied now r.1 × WritesHeadline (StandsFor (file_state store.0).now.trees) (messages input) (W.contents writer.old) (W.contents writer.new))) }
-    ensures clean { IfOk result (λ r. AreClean D.Disk r.1.log r.1.db → HasCleanDisk (file_state store.0)) }
-
-    // `Latched` has no closed file.
-    ensures open { IfOk result (λ r. r.0 ≢ ScriptEnd.Latched) }
-
-    // An input is too long exactly by its length.
-    ensures short { IfOk result (λ r. ServesLines (Ok r.0) → IfSome (R.remaining reader.old) (λ input. length input ≤ SCRIPT_LIMIT)) }
-    ensures long { IfOk result (λ r. r.0 ≡ ScriptEnd.TooLong → IfSome (R.remaining reader.old) (λ input. SCRIPT_LIMIT < length input)) }
-
-    // Served or too long: of what the reader had, a script of the greatest length and one byte were
-    // read, and the rest is left.
-    ensures rest { IfOk result (λ r. ReadsInput (Ok r.0) → DropsFirst (SCRIPT_LIMIT + 1) (R.remaining reader.old) (R.remaining reader.new)) }
-
-    // Otherwise nothing was written.
-    ensures silent { IfOk result (λ r. ServesNone (Ok r.0) → KeepsBytes (W.contents writer.old) (W.contents writer.new)) }
-
-    // `Err`: nothing was written, or lines up to where the file failed, as a stop leaves them.
-    ensures fault { OnErr result (KeepsBytes (W.contents writer.old) (W.contents writer.new) ⊎ StopsAfter D.Disk store.0 (StandsFor (file_state store.0).now.trees) (R.remaining reader.old) (W.contents writer.old) (W.contents writer.new)) }
+    // Where the file failed for good, it isn't closed.
+    ensures failed { result.0 ≡ Ok ScriptEnd.Latched → result.1.copied ≡ Err FileFault.Store }
 {
-    let (end, conn) = match script_on_tables(alloc, store, placements, reader, writer) {
-        Ok(played) => played,
-        Err(AllocError) => return Err(FileFault::NoMemory),
-    };
-    let end = closable(end)?;
-    let files = close_files(conn)?;
-    Ok((end, files))
+    let (end, conn) = script_on_tables(alloc, store, placements, reader, writer);
+    let closed = close_after(&end, conn);
+    (end, closed)
 }

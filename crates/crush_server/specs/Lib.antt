@@ -1,2 +1,2 @@
 pub mod Clients
-pub mod Stopped
+pub mod Ended

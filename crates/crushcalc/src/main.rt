@@ -93,7 +93,7 @@ fn script_over_file(
     placements: NonZeroUsize,
 ) -> Result<ScriptEnd, Stop> {
     let mut writer = io::writer(rt);
-    let (end, _files) = script_on_file(
+    let (end, closed) = script_on_file(
         rt,
         path,
         Unknown,
@@ -101,7 +101,8 @@ fn script_over_file(
         &mut rt.reader(),
         &mut writer,
     )?;
-    Ok(end)
+    closed.copied?;
+    Ok(end?)
 }
 
 /// Why the program stops after a script that ended so, if it does.
@@ -154,7 +155,16 @@ fn run(rt: &HostRuntime) -> Result<ExitCode, Stop> {
         } => {
             let waiting = Waiting::new(rt);
             let mut clients = TcpClients::new(rt, port, &waiting)?;
-            serve_on_file(rt, db, Unknown, placements, &mut clients, connections)?;
+            let (served, closed) = serve_on_file(
+                rt,
+                db,
+                Unknown,
+                placements,
+                &mut clients,
+                connections,
+            )?;
+            served?;
+            closed.copied?;
             Ok(ExitCode::SUCCESS)
         }
         Invocation::Check { path } => check_file(rt, path),

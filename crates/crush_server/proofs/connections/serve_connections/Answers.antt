@@ -35,26 +35,27 @@ loop-connection-preserved g c =
           so_far.served c.serve_client.ensures.served);
     }
 
-pub returns-then-is_latched-clause-some : goal.returns-then-is_latched-clause-some
-returns-then-is_latched-clause-some g c = λ _.
+pub returns-then-is_latched-clause-ends : goal.returns-then-is_latched-clause-ends
+returns-then-is_latched-clause-ends g c =
     let store = g.T.TenantStore in
     let old = c.args.service.now in
     let mid = c.loop-connection.service in
     let new = c.serve_client.new.service in
-    let so_far = c.loop-connection.invariant in (
-      suc c.loop-connection._connection,
-      omega arith,
-      omega (arith, c.loop-connection-test.true),
-      clients_more (λ calls replies. store.is_honest mid → MeetsDefinition false (store.has_state old) (store.has_state mid) calls replies)
+    let so_far = c.loop-connection.invariant in
+    record {
+      count = suc c.loop-connection._connection;
+      some = omega arith;
+      few = omega (arith, c.loop-connection-test.true);
+      serves = clients_more (λ calls replies. store.is_honest mid → MeetsDefinition false (store.has_state old) (store.has_state mid) calls replies)
           (λ calls replies. store.is_honest new → ServesSession false (store.latched new) (store.has_state mid) (store.has_state new) (store.may_leave new) calls replies)
           (λ calls replies. store.is_honest new → ServesSession false (store.latched new) (store.has_state old) (store.has_state new) (store.may_leave new) calls replies) c.loop-connection._connection (g.L.Listener.clients c.args.listener.now)
           (g.L.Listener.clients c.loop-connection.listener) (g.L.Listener.clients c.serve_client.new.listener)
           (λ cs rs m ds qs p is. session_after (store.latched new) (store.has_state old) (store.has_state mid) (store.has_state new) (store.may_leave new) cs rs ds qs (m (c.serve_client.ensures.honest is)) (p is))
-          so_far.served c.serve_client.ensures.served,
-    )
+          so_far.served c.serve_client.ensures.served;
+    }
 
-pub returns-clause-all : goal.returns-clause-all
-returns-clause-all g c =
+pub returns-clause-ends : goal.returns-clause-ends
+returns-clause-ends g c =
     let store = g.T.TenantStore in
     let old = c.args.service.now in
     let new = c.loop-connection.service in
@@ -68,8 +69,8 @@ returns-clause-all g c =
     (λ cs rs m is. session_whole (store.latched new) (store.has_state old) (store.has_state new) (store.may_leave new) cs rs works
     (record { one = λ _ t s u. g.met.T.TenantStore.one_state new t s u is works; settled = λ _ t found there. g.met.T.TenantStore.settled new t found is works there }) (m is)) so_far.served)
 
-pub returns-clause-works : goal.returns-clause-works
-returns-clause-works g c = c.loop-connection.invariant.works
+pub returns-clause-latch : goal.returns-clause-latch
+returns-clause-latch g c = c.loop-connection.invariant.works
 
 pub returns-clause-honest : goal.returns-clause-honest
 returns-clause-honest g c = c.loop-connection.invariant.honest

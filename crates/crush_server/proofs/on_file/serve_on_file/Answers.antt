@@ -1,15 +1,16 @@
--- What the opening found, the clients and the closing, put together.
-use Rattle.std.proofs.Common.{◌≡◌}
-use Rattle.tenant_files.proofs.Results.{both_ok}
-use Rattle.crush_server.proofs.FileFacts.{played_after}
+-- What the opening found, and the clients, put together.
+use Rattle.std.proofs.Common.{◌≡◌, Err, ap}
+use Rattle.crush_server.proofs.EndFacts.{ends_on_file, ends_unlistened}
 use Rattle.crush_server.proofs.on_file.serve_on_file.Goals as goal
 
-pub returns : goal.returns
-returns g c = record {
-  served =
-      both_ok c.serve_on_store.result
-      (λ files said clean premise.
-      played_after _ files c.args.connections (g.L.Listener.clients c.listen.new.self) (g.L.Listener.clients c.serve_on_store.new.listener) _ _ (g.L.Listener.clients c.args.listener.now) c.listen.ensures.same
-      (c.in_ok-store.ensures.found (clean premise)) (said premise))
-      c.serve_on_store.ensures.served c.serve_on_store.ensures.clean;
-}
+pub returns-clause-ends : goal.returns-clause-ends
+returns-clause-ends g c =
+    let served = c.serve_on_store in
+    ends_on_file _ _ c.in_ok-store.store.0 served.result.0 served.result.1.copied served.result.1.files c.args.connections (g.L.Listener.clients c.args.listener.now) (g.L.Listener.clients c.listen.new.self)
+    (g.L.Listener.clients served.new.listener) (served.new.listener ≡ c.listen.new.self) (λ same. ap g.L.Listener.clients same) c.listen.ensures.same c.in_ok-store.ensures.found served.ensures.ends
+
+pub returns-in-Err-clause-ends : goal.returns-in-Err-clause-ends
+returns-in-Err-clause-ends g c =
+    let closed = c.close_files.result in
+    ends_unlistened _ _ c.in_ok-store.store.0 closed.copied closed.files c.args.connections (g.L.Listener.clients c.args.listener.now) (g.L.Listener.clients c.listen.new.self) c.in-Err.fault c.close.result
+    (λ is. c.in-Err.ensures.others.0 (ap Err is)) c.close.ensures.same c.listen.ensures.same c.close_files.ensures c.in_ok-store.ensures.found

@@ -1,0 +1,117 @@
+-- How a script over a file ends, from how it ends over the store below.
+use Rattle.std.proofs.Common.{◌≡◌, ◌∙◌, ℕ, List, Bool, true, Option, Result, Ok, ap, subst, sym}
+use Rattle.std.specs.declared.alloc.AllocError.{AllocError}
+use Rattle.sqlite_disk.specs.declared.Disk as disk
+use Rattle.sqlite_disk.specs.declared.Files.{Files}
+use Rattle.sqlite_wal.specs.Reads.{AreClean}
+use Rattle.sqlite_wal.specs.Recovery.{Image}
+use Rattle.sqlite_store.specs.declared.store.FileStore.{FileStore}
+use Rattle.sqlite.specs.Effect.{Database}
+use Rattle.sqlite.specs.Files.{file_state, over_files}
+use Rattle.sqlite.specs.Held.{Held, state}
+use Rattle.sqlite.specs.State.{HasCleanDisk}
+use Rattle.sqlite.specs.Store.{Ghosts}
+use Rattle.table_schema.specs.Layout.{IsStoreSchema}
+use Rattle.table_schema.specs.Ready.{IsReady}
+use Rattle.tenant_core.specs.States.{Outcomes, Same, States}
+use Rattle.tenant_messages.specs.declared.call.Call.{Call}
+use Rattle.tenant_files.proofs.ClosedFacts.{given_clean}
+use Rattle.tenant_files.proofs.StoredFacts.{left_states, same_states, turned}
+use Rattle.tenant_files.proofs.TableFacts.{of_store}
+use Rattle.tenant_files.specs.Closed.{GivesBack}
+use Rattle.tenant_files.specs.Opened.{IsFound}
+use Rattle.tenant_files.specs.Stored.{MayStandFor}
+use Rattle.tenant_files.specs.declared.fault.FileFault.{FileFault}
+use Rattle.tenant_rows.specs.Rows.{StandsFor, StatesIn}
+use Rattle.tenant_store.specs.Shown.{HasState, IsHonest, MayLeave}
+use Rattle.crush_app.proofs.Ending.{ends_map}
+use Rattle.crush_app.specs.End.{EndsScript}
+use Rattle.crush_app.specs.Play.{PlaysScript}
+use Rattle.crush_app.specs.declared.play.ScriptEnd.{ScriptEnd}
+use Rattle.crush_app.specs.declared.play.ScriptEnd.TheVariants.{Done}
+use Rattle.crush_files.proofs.PlayFacts.{script_same}
+use Rattle.crush_files.specs.Ended.{EndsOnFile, EndsOnFiles}
+
+-- ---- over tables
+
+module _ {S : Type 0} (g : Ghosts S) (first start last : Held S × Bool) (conn : Held S) (end : Result ScriptEnd AllocError) (reads left from to : Option (List ℕ)) where
+  abbrev OnStore : ScriptEnd → List (Option Call) → Type 0
+  OnStore how ms = IsHonest g last → PlaysScript how last.1 (HasState g first) (HasState g last) (MayLeave g last) ms from to
+
+  abbrev OnRows : ScriptEnd → List (Option Call) → Type 0
+  OnRows how ms = HasCleanDisk (state g conn) → PlaysScript how true (StandsFor (state g start.0).now.trees) (StandsFor (state g conn).now.trees) (MayStandFor g conn) ms from to
+
+  pub ends_on_tables : first ≡ start → last.0 ≡ conn → (HasCleanDisk (state g conn) → IsHonest g last) → EndsScript (last ≡ first) OnStore end reads left from to
+      → EndsScript (conn ≡ start.0) OnRows end reads left from to
+  ends_on_tables begun ended honest said =
+      ends_map (last ≡ first) (conn ≡ start.0) OnStore OnRows end reads left from to (λ same. sym ended ∙ ap (λ x. x.0) (same ∙ begun))
+      (λ how ms is plays clean.
+      let old = StandsFor (state g start.0).now.trees in
+      let new = StandsFor (state g conn).now.trees in
+      script_same how last.1 old old new new (MayStandFor g conn) ms from to (same_states old) (λ _. same_states new)
+      (of_store g (λ a b l. PlaysScript how last.1 a b l ms from to) first start last conn begun ended (plays (honest clean))))
+      said
+
+-- ---- over files
+
+module _ {D : Type 0} (g : disk.Ghosts D) (first last : Held (FileStore D g)) (end : Result ScriptEnd AllocError) (copied : Result (Unit {0}) FileFault) (files : Files D)
+    (reads left from to : Option (List ℕ)) where
+  abbrev OnTables : ScriptEnd → List (Option Call) → Type 0
+  OnTables how ms =
+      HasCleanDisk (file_state last) → PlaysScript how true (StandsFor (file_state first).now.trees) (StandsFor (file_state last).now.trees) (MayStandFor over_files last) ms from to
+
+  abbrev OnFiles : ScriptEnd → List (Option Call) → Type 0
+  OnFiles how ms =
+      AreClean g files.log files.db → PlaysScript how true (StandsFor (file_state first).now.trees) (StatesIn (file_state last).committed) (MayStandFor over_files last) ms from to
+
+  -- at the closing the rows are what the file holds
+  held : IsReady (file_state last) → Same (StandsFor (file_state last).now.trees) (StatesIn (file_state last).committed)
+  held ready =
+      subst (λ (db : Database). Same (StandsFor (file_state last).now.trees) (StatesIn db)) ready.settled (left_states (file_state last).now ready.schema)
+
+  pub ends_on_files : GivesBack last copied files → (HasCleanDisk (file_state last) → HasCleanDisk (file_state first)) → (HasCleanDisk (file_state last) → end ≡ Ok Done → IsReady (file_state last))
+      → EndsScript (last ≡ first) OnTables end reads left from to → EndsOnFiles g first end copied files reads left from to
+  ends_on_files given before ready said = record {
+    last = last;
+    given = given;
+    was_clean = λ clean. before (given_clean last copied files given clean);
+    tables = λ clean is.
+        let r = ready (given_clean last copied files given clean) is in
+        subst (λ (db : Database). IsStoreSchema db.schema) r.settled r.schema;
+    ends =
+        ends_map (last ≡ first) (last ≡ first) OnTables OnFiles end reads left from to (λ same. same)
+        (λ how ms is plays clean.
+        let now = given_clean last copied files given clean in
+        let old = StandsFor (file_state first).now.trees in
+        script_same how true old old (StandsFor (file_state last).now.trees) (StatesIn (file_state last).committed) (MayStandFor over_files last) ms from to (same_states old)
+        (λ done. held (ready now (is ∙ ap Ok done))) (plays now))
+        said;
+  }
+
+-- ---- with the opening
+
+module _ {D : Type 0} (g : disk.Ghosts D) (image : Image) (first : Held (FileStore D g)) (end : Result ScriptEnd AllocError) (copied : Result (Unit {0}) FileFault) (files : Files D)
+    (reads left from to : Option (List ℕ)) where
+  pub ends_on_file : IsFound g (HasCleanDisk (file_state first)) image (StandsFor (file_state first).now.trees) → EndsOnFiles g first end copied files reads left from to
+      → EndsOnFile g image end copied files reads left from to
+  ends_on_file opening files_end =
+      let last = files_end.last in
+      let rows = StandsFor (file_state first).now.trees in
+      let old = StatesIn (file_state opening.was).committed in
+      record {
+        was = opening.was;
+        finds = record { opened = λ clean. opening.finds.opened (files_end.was_clean clean); found = λ clean. opening.finds.found (files_end.was_clean clean) };
+        last = last;
+        given = files_end.given;
+        tables = files_end.tables;
+        ends =
+            ends_map (last ≡ first) (AreClean g files.log files.db → Same old (StandsFor (file_state last).now.trees))
+            (OnFiles g first last end copied files reads left from to)
+            (λ how ms. AreClean g files.log files.db → PlaysScript how true old (StatesIn (file_state last).committed) (MayStandFor over_files last) ms from to)
+            end reads left from to
+            (λ same clean. subst (λ (x : Held (FileStore D g)). Same old (StandsFor (file_state x).now.trees)) (sym same) (turned rows old (opening.same (files_end.was_clean clean))))
+            (λ how ms is plays clean.
+            script_same how true rows old (StatesIn (file_state last).committed) (StatesIn (file_state last).committed) (MayStandFor over_files last) ms from to
+            (opening.same (files_end.was_clean clean)) (λ _. same_states (StatesIn (file_state last).committed)) (plays clean))
+            files_end.ends;
+      }

@@ -1,0 +1,43 @@
+//! Scripts that are played over a database file.
+
+ghost use Rattle.std.specs.Prelude.{◌≡◌, IfOk, OnErr};
+ghost use Rattle.sqlite_wal.specs.Files.{image_at};
+ghost use Rattle.crush_files.specs.Ended.{EndsOnFile};
+
+use crate::on_files::script_on_files;
+use crush_app::ScriptEnd;
+use sqlite_disk::{Disk, Start};
+use sqlite_std_file::FileFrom;
+use std::alloc::AllocError;
+use std::io::{Read, Write};
+use std::num::NonZeroUsize;
+use std::rt::HostRuntime;
+use tenant_files::{Closed, FileFault, open_store};
+
+/// Plays a script on the tenants in a database file, of whose groups so many placements are kept,
+/// and returns how that ended, with what was given back of the file. A file that is missing or
+/// empty becomes a new database. The file is opened before the script is read.
+///
+/// The clauses speak of what the file and its log held (`S`), which no clause ties to the path, and
+/// have the premise that the disk returned what was written (`AreClean`).
+///
+/// `Err(FileFault::Store)`: the file can't be opened, or isn't a database with the tables of this
+/// service; it is then as it was. `Err(FileFault::NoMemory)`: an allocation of the opening failed.
+pub fn script_on_file<S: Start, R: Read, W: Write>(
+    rt: &HostRuntime,
+    path: &str,
+    start: S,
+    placements: NonZeroUsize,
+    reader: &mut R,
+    writer: &mut W,
+) -> Result<(Result<ScriptEnd, AllocError>, Closed<FileFrom<S>>), FileFault>
+    // Lines were served from the states that the file held to those that it holds now, also after
+    // a crash, and what was written has the headline; or nothing was served and written.
+    ensures ends { IfOk result (λ r. EndsOnFile ⟦<FileFrom<S> as Disk>⟧ (image_at S.Start) r.0 r.1.copied r.1.files (R.remaining reader.old) (R.remaining reader.new) (W.contents writer.old) (W.contents writer.new)) }
+
+    // The file wasn't opened: nothing was read, and nothing was written.
+    ensures unopened { OnErr result ((reader.new ≡ reader.old) × (writer.new ≡ writer.old)) }
+{
+    let store = open_store(rt, path, start)?;
+    Ok(script_on_files(rt.alloc(), store, placements, reader, writer))
+}
