@@ -6,7 +6,7 @@ use crate::listener::Listener;
 use crate::waiting::Waiting;
 use std::alloc::AllocError;
 use std::io::{self, ErrorKind, Read};
-use std::net::{Ipv4Addr, Shutdown, TcpListener, TcpStream};
+use std::net::{Ipv4Addr, Shutdown, TcpListener, TcpStream, UdpSocket};
 use std::rt::HostRuntime;
 use std::time::Duration;
 
@@ -21,6 +21,9 @@ const LAST_READS: u32 = 40;
 
 /// How many bytes that a client still sends are taken at once.
 const TAKEN_SIZE: usize = 65_536;
+
+/// How many milliseconds pass after an accept that failed.
+const PAUSE_MILLISECONDS: u64 = 100;
 
 /// Sets how long the client is waited for, and that replies are sent without delay.
 fn prepare(stream: &TcpStream) -> io::Result<()> {
@@ -43,6 +46,16 @@ fn finish(mut stream: &TcpStream, taken: &mut [u8]) -> io::Result<()> {
     Ok(())
 }
 
+/// A socket to which nobody sends, so that a read of it takes `PAUSE_MILLISECONDS`. It is made before
+/// the first accept, since an accept fails where no further socket can be made.
+fn quiet_socket(rt: &HostRuntime) -> io::Result<UdpSocket> {
+    let socket = UdpSocket::bind(rt, (Ipv4Addr::LOCALHOST, 0))?;
+    // its one peer is itself, so that nothing comes from elsewhere
+    socket.connect(socket.local_addr()?)?;
+    socket.set_read_timeout(Some(Duration::from_millis(PAUSE_MILLISECONDS)))?;
+    Ok(socket)
+}
+
 /// One of two handles of a connection's socket: a reader and a writer are values of their own.
 pub type TcpClient<'a> = Client<'a, TcpStream, HostRuntime>;
 
@@ -55,6 +68,10 @@ pub struct TcpClients<'a> {
     waiting: &'a Waiting<'a, HostRuntime>,
     /// Where they connect, once it is listened on.
     listener: Option<TcpListener>,
+    /// What is read where an accept failed, so that the next one waits.
+    quiet: Option<UdpSocket>,
+    /// How many accepts failed.
+    failed: u32,
     /// Room for what a client sends after its replies.
     taken: Vec<u8>,
 }
@@ -73,8 +90,35 @@ impl<'a> TcpClients<'a> {
             port,
             waiting,
             listener: None,
+            quiet: None,
+            failed: 0,
             taken,
         })
+    }
+
+    /// How many clients couldn't be accepted.
+    pub fn failed(&self) -> u32 {
+        self.failed
+    }
+
+    /// Accepts a connection.
+    fn accepted(&self) -> io::Result<(TcpStream, TcpStream)> {
+        let Some(listener) = &self.listener else {
+            return Err(ErrorKind::NotConnected.into());
+        };
+        let (stream, _peer) = listener.accept()?;
+        prepare(&stream)?;
+        let other = stream.try_clone()?;
+        Ok((stream, other))
+    }
+
+    /// Counts an accept that failed, and waits for a while: the next one would most likely fail too,
+    /// at once.
+    fn pause(&mut self) {
+        self.failed = self.failed.saturating_add(1);
+        if let Some(quiet) = &self.quiet {
+            let _nothing = quiet.recv(&mut [0]);
+        }
     }
 }
 
@@ -89,6 +133,7 @@ impl<'a> Listener for TcpClients<'a> {
             return Err(ServerFault::CannotListen);
         };
         self.listener = Some(listener);
+        self.quiet = quiet_socket(self.rt).ok();
         let port = self.port;
         if println!(self.rt; "listening 127.0.0.1:{port}").is_err() {
             return Err(ServerFault::WriteFault);
@@ -97,17 +142,19 @@ impl<'a> Listener for TcpClients<'a> {
     }
 
     fn accept(&mut self) -> io::Result<(TcpClient<'a>, TcpClient<'a>)> {
-        let Some(listener) = &self.listener else {
-            return Err(ErrorKind::NotConnected.into());
-        };
-        let (stream, _peer) = listener.accept()?;
-        prepare(&stream)?;
-        let other = stream.try_clone()?;
-        self.waiting.restart();
-        Ok((
-            Client::new(stream, self.waiting),
-            Client::new(other, self.waiting),
-        ))
+        match self.accepted() {
+            Ok((stream, other)) => {
+                self.waiting.restart();
+                Ok((
+                    Client::new(stream, self.waiting),
+                    Client::new(other, self.waiting),
+                ))
+            }
+            Err(error) => {
+                self.pause();
+                Err(error)
+            }
+        }
     }
 
     fn close(&mut self, reader: TcpClient<'a>, _writer: TcpClient<'a>) {

@@ -132,6 +132,16 @@ fn check_file<R: AllocGlobal + Files + Print>(rt: &R, path: &str) -> Result<Exit
     }
 }
 
+/// Writes to standard error how many connections couldn't be accepted, where these are most.
+fn tell_of_failed<R: Eprint>(rt: &R, failed: u32, connections: u32) {
+    if failed > connections / 2 {
+        // the server has ended, whether or not this is written
+        let _written = eprintln!(rt;
+            "crushcalc: {failed} of {connections} connections not accepted"
+        );
+    }
+}
+
 /// Runs the command that the arguments name, and returns the exit status.
 fn run(rt: &HostRuntime) -> Result<ExitCode, Stop> {
     let Ok(given) = env::args(rt) else {
@@ -163,6 +173,7 @@ fn run(rt: &HostRuntime) -> Result<ExitCode, Stop> {
                 &mut clients,
                 connections,
             )?;
+            tell_of_failed(rt, clients.failed(), connections);
             served?;
             closed.copied?;
             Ok(ExitCode::SUCCESS)
