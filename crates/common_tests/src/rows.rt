@@ -1,7 +1,7 @@
 //! Calls with their replies: some that several tests make, and what asks them. A crate below others
 //! can't end a failed test itself, so what differs is an error, with which the test ends.
 
-use crate::imports::{FIRST, OTHER};
+use crate::imports::FIRST;
 use crush_map::Text;
 use std::alloc::{AllocError, Global};
 use tenant_core::TenantStore;
@@ -14,8 +14,6 @@ pub type Row = (&'static str, &'static str, &'static str, u16, &'static str);
 
 pub const CREATION_OF_A: Row = ("PUT", "/t/a", "", 201, "{\"epoch\":0,\"tenant\":\"a\"}");
 
-pub const CREATION_OF_B: Row = ("PUT", "/t/b", "", 201, "{\"epoch\":0,\"tenant\":\"b\"}");
-
 /// The first import of tenant a.
 pub const IMPORT_BY_A: Row = (
     "POST",
@@ -24,33 +22,6 @@ pub const IMPORT_BY_A: Row = (
     201,
     "{\"epoch\":1,\"version\":1}",
 );
-
-/// The first import of tenant b, of another map.
-pub const IMPORT_BY_B: Row = (
-    "POST",
-    "/t/b/maps",
-    OTHER,
-    201,
-    "{\"epoch\":1,\"version\":1}",
-);
-
-/// The body that adds a replicated pool 1 by rule 0, with so many items in each of so many groups.
-#[macro_export]
-macro_rules! pool {
-    ($size:literal, $groups:literal) => {
-        concat!(
-            "{\"request\":\"p1\",\"id\":1,\"name\":\"p\",\"kind\":\"replicated\",\"size\":",
-            $size,
-            ",\"rule\":0,\"pg_num\":",
-            $groups,
-            ",\"pgp_num\":",
-            $groups,
-            ",\"hashpspool\":true}"
-        )
-    };
-}
-
-pub use crate::pool;
 
 /// How replies differ from their rows, or why they couldn't be looked at.
 #[derive(Debug, Drop)]
@@ -118,26 +89,6 @@ pub fn check_run(alloc: Global, rows: &[Row]) -> Result<(), Mismatch> {
     }
     for (reply, row) in replies.iter().zip(rows) {
         check_reply(reply, row)?;
-    }
-    Ok(())
-}
-
-/// The rows whose paths begin with this one.
-fn rows_below(alloc: Global, rows: &[Row], path: &str) -> Result<Vec<Row>, AllocError> {
-    let mut below = Vec::new(alloc);
-    for row in rows {
-        if row.1.starts_with(path) {
-            below.push(*row)?;
-        }
-    }
-    Ok(below)
-}
-
-/// Whether the calls of the tenants a and b in turn, and those of each alone, have the replies of
-/// their rows.
-pub fn check_each_alone(alloc: Global, rows: &[Row]) -> Result<(), Mismatch> {
-    for path in ["/t/", "/t/a", "/t/b"] {
-        check_run(alloc, &rows_below(alloc, rows, path)?)?;
     }
     Ok(())
 }

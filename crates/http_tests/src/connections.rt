@@ -1,5 +1,6 @@
 //! A connection to a new service over a store in memory.
 
+use crate::streams::Stream;
 use common_tests::streams::{Cuts, MANY, Reader, Writer};
 use crush_http::{Buffers, Ended, serve, serve_with};
 use std::alloc::{AllocError, Global};
@@ -48,18 +49,21 @@ pub(crate) fn connect(
     Ok((ended, taken))
 }
 
-/// The input is answered so, and the connection ends so, at several lengths of a read.
+/// Asserts that a stream is answered so, and that its connection ends so, at several lengths of a
+/// read.
 pub(crate) fn assert_replies(
     rt: &impl Abort,
     alloc: Global,
-    input: &[u8],
-    ended: Ended,
-    replies: &[u8],
+    buffers: &mut Buffers,
+    stream: &Stream,
 ) -> Result<(), AllocError> {
+    let (input, ended, replies) = *stream;
     for cut in [1, 50, 20_000] {
-        let (found, written) = connect(alloc, input, Cuts::each(cut), MANY, MANY)?;
-        assert_eq!(rt; found, ended, "{cut} bytes a read");
-        assert_eq!(rt; written.as_slice(), replies, "{cut} bytes a read");
+        let mut service = Service::in_memory(alloc)?;
+        let cuts = Cuts::each(cut);
+        let (found, written) = connect_to(alloc, buffers, &mut service, input, cuts, MANY, MANY);
+        assert!(rt; found == ended, "{cut} bytes a read: {found:?}");
+        assert!(rt; written.as_slice() == replies, "{cut} bytes a read");
     }
     Ok(())
 }

@@ -1,8 +1,10 @@
 //! Heads that are refused.
 
 use crate::connections::{assert_replies, connect};
+use crate::streams::{NO_PATH, Stream};
 use common_tests::streams::{Cuts, MANY};
-use crush_http::Ended;
+use crush_http::{Buffers, Ended};
+use std::alloc::{AllocError, Global};
 use std::test::Fail;
 
 const BAD_REQUEST: &[u8] =
@@ -11,87 +13,102 @@ const BAD_REQUEST: &[u8] =
 const LENGTH: &[u8] =
     b"HTTP/1.1 501 Not Implemented\r\nContent-Length: 18\r\nContent-Type: application/json\r\nConnection: close\r\n\r\n{\"error\":\"length\"}";
 
-#[test]
-fn bytes_that_are_no_head_are_refused(rt: HostRuntime) -> Result<(), Fail> {
-    assert_replies(
-        &rt,
-        rt.alloc(),
-        b"GET  /x HTTP/1.1\r\n\r\n",
-        Ended::Bad,
-        BAD_REQUEST,
-    )?;
-    Ok(())
-}
-
-#[test]
-fn two_lengths_are_refused(rt: HostRuntime) -> Result<(), Fail> {
-    assert_replies(
-        &rt,
-        rt.alloc(),
+/// Bytes that are no head, two lengths, a length of eleven digits, and a transfer encoding, which
+/// is refused before a length past the limit.
+const REFUSED: [Stream; 4] = [
+    (b"GET  /x HTTP/1.1\r\n\r\n", Ended::Bad, BAD_REQUEST),
+    (
         b"GET /x HTTP/1.1\r\nContent-Length: 0\r\nContent-Length: 0\r\n\r\n",
         Ended::Bad,
         BAD_REQUEST,
-    )?;
-    Ok(())
-}
-
-#[test]
-fn a_length_of_eleven_digits_is_refused(rt: HostRuntime) -> Result<(), Fail> {
-    assert_replies(
-        &rt,
-        rt.alloc(),
+    ),
+    (
         b"GET /x HTTP/1.1\r\nContent-Length: 12345678901\r\n\r\n",
         Ended::Bad,
         BAD_REQUEST,
-    )?;
-    Ok(())
-}
-
-#[test]
-fn a_transfer_encoding_is_refused_before_a_length(rt: HostRuntime) -> Result<(), Fail> {
-    assert_replies(
-        &rt,
-        rt.alloc(),
+    ),
+    (
         b"GET /x HTTP/1.1\r\nTransfer-Encoding: chunked\r\nContent-Length: 5242881\r\n\r\n",
         Ended::Bad,
         LENGTH,
-    )?;
+    ),
+];
+
+#[test]
+fn heads_are_refused(rt: HostRuntime) -> Result<(), Fail> {
+    let mut buffers = Buffers::new(rt.alloc())?;
+    for stream in &REFUSED {
+        assert_replies(&rt, rt.alloc(), &mut buffers, stream)?;
+    }
     Ok(())
 }
 
-#[test]
-fn a_head_has_32_headers_at_most(rt: HostRuntime) -> Result<(), Fail> {
-    let mut input = Vec::new(rt.alloc());
-    input.extend_from_slice(b"GET /x HTTP/1.1\r\n")?;
-    for _ in 0..32 {
-        input.extend_from_slice(b"A: b\r\n")?;
+/// The front of a head, a part that stands in it so many times, and its end; how its connection
+/// ends, and the reply.
+type Long = (
+    &'static [u8],
+    &'static [u8],
+    usize,
+    &'static [u8],
+    Ended,
+    &'static [u8],
+);
+
+/// Heads of 32 headers and of 8,192 bytes, and of one more.
+const AT_LIMITS: [Long; 4] = [
+    (
+        b"GET /x HTTP/1.1\r\n",
+        b"A: b\r\n",
+        32,
+        b"\r\n",
+        Ended::Closed,
+        NO_PATH,
+    ),
+    (
+        b"GET /x HTTP/1.1\r\n",
+        b"A: b\r\n",
+        33,
+        b"\r\n",
+        Ended::Bad,
+        BAD_REQUEST,
+    ),
+    (
+        b"GET /x HTTP/1.1\r\nA: ",
+        b"b",
+        8_192 - 24,
+        b"\r\n\r\n",
+        Ended::Closed,
+        NO_PATH,
+    ),
+    (
+        b"GET /x HTTP/1.1\r\nA: ",
+        b"b",
+        8_193 - 24,
+        b"\r\n\r\n",
+        Ended::Bad,
+        BAD_REQUEST,
+    ),
+];
+
+/// The bytes of such a head.
+fn long_head(alloc: Global, long: &Long) -> Result<Vec<u8>, AllocError> {
+    let (front, part, count, end, _, _) = *long;
+    let mut head = Vec::new(alloc);
+    head.extend_from_slice(front)?;
+    for _ in 0..count {
+        head.extend_from_slice(part)?;
     }
-    let mut more = input.clone()?;
-    input.extend_from_slice(b"\r\n")?;
-    more.extend_from_slice(b"A: b\r\n\r\n")?;
-    let (ended, _) = connect(rt.alloc(), &input, Cuts::each(20_000), MANY, MANY)?;
-    assert_eq!(rt; ended, Ended::Closed);
-    let (ended, written) = connect(rt.alloc(), &more, Cuts::each(20_000), MANY, MANY)?;
-    assert_eq!(rt; ended, Ended::Bad);
-    assert_eq!(rt; written.as_slice(), BAD_REQUEST);
-    Ok(())
+    head.extend_from_slice(end)?;
+    Ok(head)
 }
 
 #[test]
-fn a_head_has_8192_bytes_at_most(rt: HostRuntime) -> Result<(), Fail> {
-    let mut input = Vec::new(rt.alloc());
-    input.extend_from_slice(b"GET /x HTTP/1.1\r\nA: ")?;
-    for _ in 0..8_192 - 24 {
-        input.push(b'b')?;
+fn a_head_has_32_headers_and_8192_bytes_at_most(rt: HostRuntime) -> Result<(), Fail> {
+    for (place, long) in AT_LIMITS.iter().enumerate() {
+        let head = long_head(rt.alloc(), long)?;
+        let (ended, written) = connect(rt.alloc(), &head, Cuts::each(20_000), MANY, MANY)?;
+        assert!(rt; ended == long.4, "the head {place}");
+        assert!(rt; written.as_slice() == long.5, "the head {place}");
     }
-    let mut more = input.clone()?;
-    input.extend_from_slice(b"\r\n\r\n")?;
-    more.extend_from_slice(b"b\r\n\r\n")?;
-    assert_eq!(rt; input.len(), 8_192);
-    let (ended, _) = connect(rt.alloc(), &input, Cuts::each(20_000), MANY, MANY)?;
-    assert_eq!(rt; ended, Ended::Closed);
-    let (ended, written) = connect(rt.alloc(), &more, Cuts::each(20_000), MANY, MANY)?;
-    assert_eq!(rt; ended, Ended::Bad);
-    assert_eq!(rt; written.as_slice(), BAD_REQUEST);
     Ok(())
 }

@@ -1,6 +1,6 @@
 //! When replies are written: together, before a read, at the end, and a long body at once.
 
-use crate::streams::{REPLIES, STREAM};
+use crate::streams::{NO_PATH, REPLIES, STREAM};
 use common_tests::streams::{Cuts, MANY, Reader};
 use crush_http::limits::HELD_LIMIT;
 use crush_http::{Buffers, Ended, serve_with};
@@ -12,10 +12,6 @@ use tenant_service::Service;
 
 /// A message for a path that there isn't.
 const ASKS: &[u8] = b"GET /x HTTP/1.1\r\n\r\n";
-
-/// Its reply.
-const NO_PATH: &[u8] =
-    b"HTTP/1.1 404 Not Found\r\nContent-Length: 19\r\nContent-Type: application/json\r\n\r\n{\"error\":\"no_path\"}";
 
 /// The length of the two whole messages of the stream.
 const TWO: usize = 60;

@@ -5,8 +5,6 @@
 #[cfg(test)]
 mod connections;
 #[cfg(test)]
-mod exceptions;
-#[cfg(test)]
 mod faults;
 #[cfg(test)]
 mod heads;

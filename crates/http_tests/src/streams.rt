@@ -14,58 +14,47 @@ pub(crate) const STREAM: &[u8] =
 pub(crate) const REPLIES: &[u8] =
     b"HTTP/1.1 201 Created\r\nContent-Length: 24\r\nContent-Type: application/json\r\n\r\n{\"epoch\":0,\"tenant\":\"a\"}HTTP/1.1 200 OK\r\nContent-Length: 59\r\nContent-Type: application/json\r\n\r\n{\"devices\":0,\"epoch\":0,\"pools\":0,\"tenant\":\"a\",\"versions\":0}";
 
-#[test]
-fn a_message_that_is_not_whole_has_no_reply(rt: HostRuntime) -> Result<(), Fail> {
-    assert_replies(&rt, rt.alloc(), STREAM, Ended::Closed, REPLIES)?;
-    Ok(())
-}
+/// The reply to a message for a path that there isn't.
+pub(crate) const NO_PATH: &[u8] =
+    b"HTTP/1.1 404 Not Found\r\nContent-Length: 19\r\nContent-Type: application/json\r\n\r\n{\"error\":\"no_path\"}";
 
-/// The same where the third message has a body of the limit.
-#[test]
-fn a_body_of_the_limit_that_is_not_whole_has_no_reply(rt: HostRuntime) -> Result<(), Fail> {
-    assert_replies(
-        &rt,
-        rt.alloc(),
+/// The bytes of a connection, how it ends, and what is written to it.
+pub(crate) type Stream = (&'static [u8], Ended, &'static [u8]);
+
+const STREAMS: [Stream; 5] = [
+    (STREAM, Ended::Closed, REPLIES),
+    // the third message has a body of the limit, which isn't whole
+    (
         b"PUT /t/a HTTP/1.1\r\nHost: l\r\n\r\nGET /t/a HTTP/1.1\r\nHost: l\r\n\r\nPOST /t/a/test HTTP/1.1\r\nContent-Length: 5242880\r\n\r\n{\"ru",
         Ended::Closed,
         REPLIES,
-    )?;
-    Ok(())
-}
-
-#[test]
-fn a_body_over_the_limit_is_refused_by_its_length(rt: HostRuntime) -> Result<(), Fail> {
-    assert_replies(
-        &rt,
-        rt.alloc(),
+    ),
+    // a body over the limit is refused by its length
+    (
         b"PUT /t/a HTTP/1.1\r\nHost: l\r\n\r\nGET /t/a HTTP/1.1\r\nHost: l\r\n\r\nPOST /t/a/test HTTP/1.1\r\nContent-Length: 5242881\r\n\r\n{\"ru",
         Ended::Bad,
         b"HTTP/1.1 201 Created\r\nContent-Length: 24\r\nContent-Type: application/json\r\n\r\n{\"epoch\":0,\"tenant\":\"a\"}HTTP/1.1 200 OK\r\nContent-Length: 59\r\nContent-Type: application/json\r\n\r\n{\"devices\":0,\"epoch\":0,\"pools\":0,\"tenant\":\"a\",\"versions\":0}HTTP/1.1 413 Payload Too Large\r\nContent-Length: 21\r\nContent-Type: application/json\r\nConnection: close\r\n\r\n{\"error\":\"too_large\"}",
-    )?;
-    Ok(())
-}
-
-#[test]
-fn a_body_is_read_and_the_next_message_after_it(rt: HostRuntime) -> Result<(), Fail> {
-    assert_replies(
-        &rt,
-        rt.alloc(),
+    ),
+    // a body is read, and the next message after it, which is the last one
+    (
         b"POST /t/a/pick HTTP/1.1\r\ncontent-LENGTH: 104\r\nExpect: 100-continue\r\n\r\n{\"bucket\":{\"id\":-1,\"items\":[{\"item\":4,\"weight\":0},{\"item\":9,\"weight\":65536}],\"kind\":\"list\"},\"r\":0,\"x\":5}GET /x HTTP/1.1\r\nConnection: CLOSE\r\n\r\nGET /x HTTP/1.1\r\n\r\n",
         Ended::Closed,
         b"HTTP/1.1 404 Not Found\r\nContent-Length: 21\r\nContent-Type: application/json\r\n\r\n{\"error\":\"no_tenant\"}HTTP/1.1 404 Not Found\r\nContent-Length: 19\r\nContent-Type: application/json\r\nConnection: close\r\n\r\n{\"error\":\"no_path\"}",
-    )?;
-    Ok(())
-}
-
-#[test]
-fn a_connection_of_the_older_version_ends_after_the_reply(rt: HostRuntime) -> Result<(), Fail> {
-    assert_replies(
-        &rt,
-        rt.alloc(),
+    ),
+    // a connection of the older version ends after the reply
+    (
         b"GET /x HTTP/1.0\r\n\r\nGET /x HTTP/1.1\r\n\r\n",
         Ended::Closed,
         b"HTTP/1.1 404 Not Found\r\nContent-Length: 19\r\nContent-Type: application/json\r\nConnection: close\r\n\r\n{\"error\":\"no_path\"}",
-    )?;
+    ),
+];
+
+#[test]
+fn streams_have_the_replies_to_their_whole_messages(rt: HostRuntime) -> Result<(), Fail> {
+    let mut buffers = Buffers::new(rt.alloc())?;
+    for stream in &STREAMS {
+        assert_replies(&rt, rt.alloc(), &mut buffers, stream)?;
+    }
     Ok(())
 }
 

@@ -1,6 +1,6 @@
 //! Scripts and runs on the service over a store in memory.
 
-use common_tests::rows::{CREATION_OF_A, CREATION_OF_B, Row, check_run};
+use common_tests::rows::{CREATION_OF_A, Row, check_run};
 use common_tests::streams::{Cuts, MANY, Reader, Writer};
 use crush_app::{ScriptEnd, script_in_memory, script_run};
 use std::alloc::{AllocError, Global};
@@ -54,6 +54,8 @@ fn a_script_is_played_in_memory_from_nothing(rt: HostRuntime) -> Result<(), Fail
     assert_eq!(rt; writer.taken.as_slice(), REPLIES.as_bytes());
     Ok(())
 }
+
+const CREATION_OF_B: Row = ("PUT", "/t/b", "", 201, "{\"epoch\":0,\"tenant\":\"b\"}");
 
 const FRESH_B: Row = (
     "GET",

@@ -4,7 +4,6 @@
 use crate::disks::{Disks, Stop, crashed_with, new_files};
 use crate::session::session;
 use common_tests::imports::{FIRST, OTHER, SECOND};
-use common_tests::rows::pool;
 use crush_map::Text;
 use std::alloc::{AllocError, Global};
 use std::process::Abort;
@@ -26,6 +25,10 @@ const TENANTS: [&str; 5] = ["/t/a", "/t/b", "/t/c", "/t/d", "/t/e"];
 /// A method, a path behind the tenant's, and a body.
 type Asked = (&'static str, &'static str, &'static str);
 
+/// The body that adds a pool of eight groups.
+const POOL: &str =
+    "{\"request\":\"p1\",\"id\":1,\"name\":\"p\",\"kind\":\"replicated\",\"size\":1,\"rule\":0,\"pg_num\":8,\"pgp_num\":8,\"hashpspool\":true}";
+
 /// What is asked for, beside changes of devices with a number of their own.
 const ASKED: [Asked; 12] = [
     ("PUT", "", ""),
@@ -34,7 +37,7 @@ const ASKED: [Asked; 12] = [
     ("POST", "/maps", FIRST),
     ("POST", "/maps", SECOND),
     ("POST", "/maps", OTHER),
-    ("POST", "/pools", pool!(1, 8)),
+    ("POST", "/pools", POOL),
     ("POST", "/pools/remove", "{\"request\":\"r1\",\"id\":1}"),
     ("GET", "", ""),
     ("GET", "/maps/2", ""),
