@@ -45,7 +45,7 @@ help:
 ##                (AVX2): quicker reports, and on an older one it ends with status 127
 ## make try       plays examples/first.script, or SCRIPT=FILE, with no proof, in a minute: each
 ##                request with its reply
-## make cases     plays the scripts of tests/cases, or those with CASES=WORD in their names, with no
+## make cases     plays the scripts of tests/program/cases, or those with CASES=WORD in their names, with no
 ##                proof, in a minute, and compares their replies
 ## make run       builds, and serves examples/first.script or SCRIPT=FILE: each request with its reply
 ## make serve     builds, and serves HTTP on 127.0.0.1:8080, or PORT=N, with the tenants in
@@ -98,7 +98,7 @@ help:
 ## make kill-check      kills the program at 1,000 random moments, or KILLS=N, as a script and as a
 ##                server, and compares what its files hold
 
-# rt is itself a python3 program; tests/refuse.c, stop.c and record.c need a C compiler
+# rt is itself a python3 program; tests/allocations/refuse.c, stop.c and record.c need a C compiler
 tools:
 	@command -v python3 >/dev/null || sh tools/need python3
 	@[ -z '$(filter test test-all release,$(MAKECMDGOALS))' ] || sh tools/need cc=gcc /usr/include/stdio.h=libc6-dev
@@ -146,9 +146,9 @@ try: tools
 # rt try takes a folder of inputs, each beside what has to be written
 cases: tools
 	@rm -rf build/cases && mkdir -p build/cases
-	@for it in tests/cases/*$(CASES)*.in; do name=$$(basename "$$it" .in); \
-	  cp "tests/cases/$$name.in" "build/cases/$$name" && cp "tests/cases/$$name.out" "build/cases/$$name.stdout" || exit 1; done
-	@echo 'Playing $(if $(CASES),the scripts of tests/cases with $(CASES) in their names,the scripts of tests/cases) with no proof: a minute.'
+	@for it in tests/program/cases/*$(CASES)*.in; do name=$$(basename "$$it" .in); \
+	  cp "tests/program/cases/$$name.in" "build/cases/$$name" && cp "tests/program/cases/$$name.out" "build/cases/$$name.stdout" || exit 1; done
+	@echo 'Playing $(if $(CASES),the scripts of tests/program/cases with $(CASES) in their names,the scripts of tests/program/cases) with no proof: a minute.'
 	@RT='$(RT)' python3 tools/played --cases "$$PWD/build/cases"
 
 run: build
@@ -224,18 +224,18 @@ CHECK_cluster = python3 tests/cluster/check ./crushcalc --seed $(SEED)
 CHECK_http = python3 tests/http/check ./crushcalc
 CHECK_page = /usr/bin/python3 tests/page/check ./crushcalc
 CHECK_package = python3 package/check build/package/*.deb $(BEFORE)
-CHECK_sqlite = python3 tests/with_sqlite3 ./crushcalc
-CHECK_refused = python3 tests/refused ./crushcalc 0
-CHECK_fuzz = python3 tests/fuzz ./crushcalc --inputs $(INPUTS) --seed $(SEED)
+CHECK_sqlite = python3 tests/files/with_sqlite3 ./crushcalc
+CHECK_refused = python3 tests/allocations/check ./crushcalc 0
+CHECK_fuzz = python3 tests/fuzz/check ./crushcalc --inputs $(INPUTS) --seed $(SEED)
 define CHECK_stops
-python3 tests/stops ./crushcalc --logs $(SECONDS) $(SEED)
-python3 tests/sessions ./crushcalc $(HISTORIES) $(SEED)
+python3 tests/stops/check ./crushcalc --logs $(SECONDS) $(SEED)
+python3 tests/stops/sessions ./crushcalc $(HISTORIES) $(SEED)
 endef
-CHECK_kill = python3 tests/stops ./crushcalc $(KILLS) $(SEED)
+CHECK_kill = python3 tests/stops/check ./crushcalc $(KILLS) $(SEED)
 # rt try compiles with AddressSanitizer, and with checks of indexes and numbers
 define CHECK_sanitized
 rm -rf build/sanitized && mkdir -p build/sanitized
-python3 tests/fuzz ./crushcalc --inputs 20000 --seed $(SEED) --cases build/sanitized
+python3 tests/fuzz/check ./crushcalc --inputs 20000 --seed $(SEED) --cases build/sanitized
 cd crates/crushcalc && $(RT) try --cases ../../build/sanitized -- script
 endef
 

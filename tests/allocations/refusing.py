@@ -26,8 +26,8 @@ class Unfit(Exception):
 
 @functools.lru_cache(maxsize=None)
 def compiled(name):
-    """The folder to run in, and the path from there of tests/FOLDER/NAME.c compiled (LD_PRELOAD splits at
-    blanks and colons)."""
+    """The folder to run in, and the path from there of tests/FOLDER/NAME.c compiled (LD_PRELOAD
+    splits at blanks and colons)."""
     compiler = next(filter(None, map(shutil.which, ("cc", "gcc", "clang"))), None)
     if compiler is None:
         raise Unfit(f"there is no C compiler for {name}.c: install the package gcc, as by 'apt-get install gcc libc6-dev'")

@@ -1,9 +1,9 @@
 #!/usr/bin/env python3
 """Lists the definitions that public clauses cite, by crate and file, in docs/DEFINITIONS.md.
 
-usage: tests/cited.py            compares the list between the two marks of the page with the
-    sources
-       tests/cited.py --write    writes it there
+usage: tests/documents/cited.py            compares the list between the two marks of the page with
+    the sources
+       tests/documents/cited.py --write    writes it there
 
 A public clause is a `requires` or `ensures` of a public function, of a method of a public trait or
 of a trait's method on a public type, or what such a type is in contracts (`ghost Value`, the
@@ -18,7 +18,7 @@ import textwrap
 
 TOP = pathlib.Path(__file__).resolve().parent.parent.parent
 PAGE = TOP / "docs" / "DEFINITIONS.md"
-BEGIN, END = "<!-- written by tests/cited.py -->", "<!-- end -->"
+BEGIN, END = "<!-- written by tests/documents/cited.py -->", "<!-- end -->"
 USE = re.compile(r"ghost use Rattle\.(\w+)\.specs\.([\w.]+?)(?:\.\{([^}]*)\})?(?: as (\w+))?;")
 NAMES = re.compile(r"(?<![\w.])([A-Za-z_]\w*)(?:\.([A-Za-z_]\w*))?")
 CLAUSE = re.compile(r"\s*(requires|ensures)\b")
@@ -148,7 +148,7 @@ def wrong():
     have = text[text.index(BEGIN) + len(BEGIN) : text.index(END)].strip("\n").splitlines()
     for number, (line, other) in enumerate(zip([*have, None], [*listed().splitlines(), None]), first + 1):
         if line != other:
-            return f"line {number}: the list of cited definitions isn't that of the sources: it has {line!r}, and they have {other!r}; tests/cited.py --write mends it"
+            return f"line {number}: the list of cited definitions isn't that of the sources: it has {line!r}, and they have {other!r}; tests/documents/cited.py --write mends it"
     return None
 
 

@@ -1,8 +1,8 @@
 #!/usr/bin/env python3
 """Checks the pages (*.md) and the comments of the sources, which needs no built program.
 
-usage: tests/pages.py [WORD..]      with WORDs only the checks whose names have one, as REQUESTS,
-    limits or crush_map
+usage: tests/documents/pages.py [WORD..]      with WORDs only the checks whose names have one, as
+    REQUESTS, limits or crush_map
 
 - A line has at most 100 characters. Tables, code and a line that is one link may be longer.
 - A fenced block whose first line ends in 'from FILE', as in ```rust from
@@ -19,8 +19,8 @@ usage: tests/pages.py [WORD..]      with WORDs only the checks whose names have 
   100 characters a line, and so has a docstring.
 - docs/DEFINITIONS.md lists the definitions that public clauses cite (cited.py).
 
-tests/run runs these checks with its own. The last line is 'N passed, M failed': pages, the limits,
-the help, crates, and the list of definitions.
+tests/program/check runs these checks with its own. The last line is 'N passed, M failed': pages,
+the limits, the help, crates, and the list of definitions.
 """
 import ast
 import pathlib

@@ -1,4 +1,5 @@
-"""Texts of small maps, each for one thing, and their canonical texts where these are written by hand."""
+"""Texts of small maps, each for one thing, and their canonical texts where these are written by
+hand."""
 import pathlib
 
 CASES = pathlib.Path(__file__).resolve().parent.parent / "program" / "cases"

@@ -1,8 +1,8 @@
 #!/usr/bin/env python3
 """Writes schema_1.db anew: a file of schema 1, which a later program has to take over.
 
-usage: tests/data/schema_1.py PROGRAM      PROGRAM is a crushcalc that still makes schema 1, such as
-    one built at commit 5ac55101
+usage: tests/files/data/schema_1.py PROGRAM      PROGRAM is a crushcalc that still makes schema 1,
+    such as one built at commit 5ac55101
 
 Its tenants: a has maps of two versions, states of devices, pools of both kinds of which one was
 removed, and their receipts; b has a map and its receipt; c has no row but its own; d was dropped.
