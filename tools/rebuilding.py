@@ -8,7 +8,7 @@ import sys
 
 TOP = pathlib.Path(__file__).resolve().parent.parent
 sys.path.insert(0, str(TOP / "tests"))
-import stamped  # noqa: E402
+from documents import stamped  # noqa: E402
 
 RT = os.environ.get("RT", "rt")
 

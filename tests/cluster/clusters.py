@@ -6,7 +6,7 @@ import sys
 
 HERE = pathlib.Path(__file__).resolve().parent
 sys.path[:0] = [str(HERE.parent), str(HERE.parent / "ceph")]
-import crush  # noqa: E402
+from model import crush  # noqa: E402
 from make_maps import HOST, ONE, RACK, ROOT, Map  # noqa: E402
 
 # of each kind of cluster the kinds of its root, racks and hosts

@@ -6,7 +6,7 @@ import random
 import subprocess
 
 from made import ONE, STEPS, bucket, crush_dump, osd_dump, pool, rule, text_of, write
-from placed import Placed
+from model.placed import Placed
 from running import equals, wants
 
 

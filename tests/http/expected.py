@@ -7,12 +7,9 @@ import sys
 
 TOP = pathlib.Path(__file__).resolve().parent.parent.parent
 sys.path.insert(0, str(TOP / "tests"))
-import exception_cases  # noqa: E402
-import map_cases  # noqa: E402
-import pool_cases  # noqa: E402
-import report_cases  # noqa: E402
-from replies import body  # noqa: E402
-from served import Unserved, script_replies  # noqa: E402
+from model import maps, messages  # noqa: E402
+from model.messages import body  # noqa: E402
+from server.served import Unserved, script_replies  # noqa: E402
 
 ROUTE = re.compile(r"^\| `([A-Z]+) (/t/[^`]*)`", re.M)
 
@@ -20,15 +17,15 @@ ROUTE = re.compile(r"^\| `([A-Z]+) (/t/[^`]*)`", re.M)
 def session(tenant="a"):
     """The lines, for a tenant that isn't there yet. The last of them drops it."""
     lines = [
-        b"PUT /t/a", map_cases.import_of(pool_cases.duo(), "m1"), map_cases.import_of((TOP / "examples" / "three_hosts.txt").read_text(), "m2"), b"GET /t/a/maps/2",
-        pool_cases.devices_of("d1", pool_cases.state(1, reweight=40000, up=False)), report_cases.csv_of("d2", report_cases.lines_of("0,30000,1", end="\r\n")),
-        pool_cases.pool_of("p1", pg_num=64, pgp_num=64), pool_cases.pool_of("p2", id=2, name="q"), pool_cases.removal_of("p3", 2), b"GET /t/a/pools/1/groups/5",
-        b"POST /t/a/pools/1/locate " + json.dumps({"name": "Äpfel.jpg"}, ensure_ascii=False).encode(), report_cases.usage_of(), report_cases.moves_of(1, 2), report_cases.impact_of(0),
-        exception_cases.exceptions_of("x1", (5, 4, 3), (63, 0, 1)), exception_cases.shown_of(), b"GET /t/a/pools/1/groups/5", exception_cases.exceptions_of("x2", (64, 0, 1)),
-        b"POST /t/a/pick " + body([(4, 65536), (9, 131072)]), map_cases.test_of(x=4294967295, size=2), b"GET /t/a",
+        b"PUT /t/a", messages.import_of(maps.duo(), "m1"), messages.import_of((TOP / "examples" / "three_hosts.txt").read_text(), "m2"), b"GET /t/a/maps/2",
+        messages.devices_of("d1", messages.state(1, reweight=40000, up=False)), messages.csv_of("d2", messages.lines_of("0,30000,1", end="\r\n")),
+        messages.pool_of("p1", pg_num=64, pgp_num=64), messages.pool_of("p2", id=2, name="q"), messages.removal_of("p3", 2), b"GET /t/a/pools/1/groups/5",
+        b"POST /t/a/pools/1/locate " + json.dumps({"name": "Äpfel.jpg"}, ensure_ascii=False).encode(), messages.usage_of(), messages.moves_of(1, 2), messages.impact_of(0),
+        messages.exceptions_of("x1", (5, 4, 3), (63, 0, 1)), messages.shown_of(), b"GET /t/a/pools/1/groups/5", messages.exceptions_of("x2", (64, 0, 1)),
+        b"POST /t/a/pick " + body([(4, 65536), (9, 131072)]), messages.test_of(x=4294967295, size=2), b"GET /t/a",
         # an import again, and refusals
-        map_cases.import_of(pool_cases.duo(), "m1"), b"PUT /t/a", b"GET /t/a/maps/3", b"GET /", b"GET /t/a?all=1", b"GET /t/%61", b"PATCH /t/a", b"OPTIONS /t/a", b"POST /t/a/test {}",
-        map_cases.import_of("host {", "m3"), b"GET /t/nobody", b"DELETE /t/a", b"GET /t/a",
+        messages.import_of(maps.duo(), "m1"), b"PUT /t/a", b"GET /t/a/maps/3", b"GET /", b"GET /t/a?all=1", b"GET /t/%61", b"PATCH /t/a", b"OPTIONS /t/a", b"POST /t/a/test {}",
+        messages.import_of("host {", "m3"), b"GET /t/nobody", b"DELETE /t/a", b"GET /t/a",
     ]
     return [it.replace(b"/t/a", b"/t/" + tenant.encode(), 1) for it in lines]
 

@@ -6,11 +6,10 @@ import socket
 import ssl
 import time
 
-from map_cases import import_of, tiny, with_line
-from pool_cases import pool_of
 from proxy import Client, authorization, nginx
-from replies import there
-from served import SECONDS, Server, Unserved
+from model.maps import tiny, with_line
+from model.messages import import_of, pool_of, there
+from server.served import SECONDS, Server, Unserved
 
 GIVEN_UP, TOGETHER, AT_ONCE = 40, 8, 20
 DEVICES, SIZE, GROUPS = 100, 32, 8_192

@@ -5,19 +5,18 @@ import socket
 import threading
 import time
 
-import map_cases
-import pool_cases
-from connection_cases import LITTLE
-from hostile_cases import BODY_LIMIT
-from replies import BAD, made, there
-from served import Server, asked, message, replies_on, reset
+from model import maps, messages
+from server.connection_cases import LITTLE
+from program.hostile_cases import BODY_LIMIT
+from model.messages import BAD, made, there
+from server.served import Server, asked, message, replies_on, reset
 
 # what a client may take: for one read or write, and for a message with its reply; and what a busy
 # machine adds
 WAIT, WHOLE, SLACK = 5, 30, 10
 CLIENTS, MANY = 50, 9_000
 # the text of this map is a reply of some 60 kB
-IMPORT = map_cases.import_of(pool_cases.with_devices(1000))
+IMPORT = messages.import_of(maps.with_devices(1000))
 
 
 def goes_on(server, within=SLACK):

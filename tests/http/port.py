@@ -7,7 +7,7 @@ import shutil
 import subprocess
 
 from expected import TOP
-from served import SECONDS, Unserved
+from server.served import SECONDS, Unserved
 
 BLOCK = re.compile(r"^```text\n(table inet crushcalc .*?)^```$", re.M | re.S)
 PORT, USERS = 8081, ("root", "www-data", "nobody")

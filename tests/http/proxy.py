@@ -10,7 +10,7 @@ import subprocess
 import time
 
 from expected import TOP
-from served import SECONDS, Server, Unserved, free_port
+from server.served import SECONDS, Server, Unserved, free_port
 
 TENANTS = 64
 # keys of RSA take long on a busy machine

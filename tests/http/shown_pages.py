@@ -7,9 +7,9 @@ import signal
 import subprocess
 import time
 
-import shown
+from documents import shown
 from expected import TOP
-from served import SECONDS, free_port
+from server.served import SECONDS, free_port
 
 PAGE, README, PORT, ROOT = "docs/SERVING.md", "README.md", "8080", "    # "
 PLACES = ("/etc/nginx/crushcalc", "/etc/nginx/conf.d", "/etc/systemd/system", "/usr/local/bin", "/usr/local/share/crushcalc/web")

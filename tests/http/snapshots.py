@@ -5,9 +5,9 @@ import pathlib
 import subprocess
 import threading
 
-import map_cases
+from model import maps, messages
 from proxy import run
-from served import Server, message, read_reply, run_to_end
+from server.served import Server, message, read_reply, run_to_end
 
 COUNT, SIZE = 3, 256 << 20
 
@@ -18,8 +18,8 @@ def imports(server, answered, ends):
         connection.sendall(message(b"PUT /t/a"))
         read_reply(stream)
         while not ends.is_set() and len(answered) < 200:
-            connection.sendall(message(map_cases.import_of(map_cases.tiny(), f"m{len(answered) + 1}")))
-            if read_reply(stream)[0] != map_cases.imported(len(answered) + 1, len(answered) + 1):
+            connection.sendall(message(messages.import_of(maps.tiny(), f"m{len(answered) + 1}")))
+            if read_reply(stream)[0] != messages.imported(len(answered) + 1, len(answered) + 1):
                 return
             answered.append(None)
 
@@ -42,7 +42,7 @@ def snapshots(program, at):
         client.join()
     for place, (least, most) in enumerate(bounds):
         _, out, err = run_to_end(program, "script", "--db", f"{at}/held-{place}/t.db", data=b"GET /t/a\n")
-        if least == 0 or out.strip() not in (map_cases.summary(it, it) for it in range(least, most + 1)) or err:
+        if least == 0 or out.strip() not in (messages.summary(it, it) for it in range(least, most + 1)) or err:
             return f"snapshot {place + 1} between {least} and {most} imports: {out!r}, {err!r}"
     return None
 

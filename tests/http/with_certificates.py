@@ -6,8 +6,8 @@ import subprocess
 
 from expected import TOP
 from proxy import KEY, Client, nginx, run
-from replies import NO_TENANT, there
-from served import Server, Unserved
+from model.messages import NO_TENANT, there
+from server.served import Server, Unserved
 
 REQUESTS = 500
 BLOCK = re.compile(r"^```text\n(map \"\$ssl_client_verify.*?)^```$", re.M | re.S)

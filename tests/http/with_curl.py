@@ -5,10 +5,10 @@ import pathlib
 import subprocess
 import time
 
-import map_cases
+from model import maps, messages
 from expected import expected, unlike
-from replies import TOO_LARGE, made, there
-from served import Server, asked
+from model.messages import TOO_LARGE, made, there
+from server.served import Server, asked
 
 LONG = 6 << 20
 STATUS = "\n%{http_code} %{num_connects}\n"
@@ -48,7 +48,7 @@ def one_connection(server, folder, pairs):
 def expect(server, folder):
     """With Expect: 100-continue curl waits a second for a word that doesn't come, and then sends
     the body; without it nothing waits."""
-    lines = [map_cases.import_of(map_cases.tiny(), it) for it in ("e1", "e2")]
+    lines = [messages.import_of(maps.tiny(), it) for it in ("e1", "e2")]
     spent = []
     for line, header in zip(lines, ("Expect: 100-continue", "Expect:")):
         start = time.monotonic()
@@ -72,7 +72,7 @@ def too_long(server, folder):
 
 def chunks(server, folder):
     """A body without its length is refused."""
-    words = words_of(server, map_cases.import_of(map_cases.tiny(), "c1"), folder, "-H", "Transfer-Encoding: chunked")
+    words = words_of(server, messages.import_of(maps.tiny(), "c1"), folder, "-H", "Transfer-Encoding: chunked")
     found = curl(*words)[0][0]
     return None if found == b'501 {"error":"length"}' else f"it is {found!r}"
 

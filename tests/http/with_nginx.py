@@ -5,12 +5,12 @@ import pathlib
 import re
 import shutil
 
-import map_cases
+from model import maps, messages
 from expected import expected, unlike
-from hostile_cases import BODY_LIMIT
+from program.hostile_cases import BODY_LIMIT
 from proxy import TENANTS, Client, nginx, processes, run
-from replies import BAD, NO_TENANT, made
-from served import Server, asked
+from model.messages import BAD, NO_TENANT, made
+from server.served import Server, asked
 
 # what measures the load: so many users, each with two connections
 USERS, CONNECTIONS, SECONDS = 32, 2, 5
@@ -56,12 +56,12 @@ def clients_at_once(port, folder):
     """Each of 64 clients makes a tenant and imports a map into it; then each asks for another's."""
     def own(place):
         client = Client(port, folder, f"u{place}")
-        return [client.ask(it.replace(b"/t/a", b"/t/t%d" % place)) for it in (b"PUT /t/a", map_cases.import_of(map_cases.tiny(place)), b"GET /t/a", map_cases.test_of(x=place))]
+        return [client.ask(it.replace(b"/t/a", b"/t/t%d" % place)) for it in (b"PUT /t/a", messages.import_of(maps.tiny(place)), b"GET /t/a", messages.test_of(x=place))]
 
     with concurrent.futures.ThreadPoolExecutor(TENANTS) as pool:
         found = list(pool.map(own, range(TENANTS)))
     for place, it in enumerate(found):
-        want = [made(b"t%d" % place), map_cases.imported(1, 1), map_cases.summary(1, 1, b"t%d" % place), map_cases.tested([place], [place])]
+        want = [made(b"t%d" % place), messages.imported(1, 1), messages.summary(1, 1, tenant="t%d" % place), messages.tested([place], [place])]
         if it != want:
             return f"client {place + 1}: {it}"
     return None
@@ -108,11 +108,11 @@ def a_process_is_down(port, folder, servers, program):
     servers[0].stop()
     client, other = Client(port, folder, f"u{held[0]}"), next(it for it in range(TENANTS) if it not in held)
     found = [client.ask(b"PUT /t/t%d" % held[0]), Client(port, folder, f"u{other}").ask(b"GET /t/t%d" % other)]
-    if not found[0].startswith(b"502 ") or found[1] != map_cases.summary(1, 1, b"t%d" % other):
+    if not found[0].startswith(b"502 ") or found[1] != messages.summary(1, 1, tenant="t%d" % other):
         return f"while it is down: {found}"
     with Server(program, pathlib.Path(folder, "0.db"), port=servers[0].port):
         found = client.ask(b"GET /t/t%d" % held[0])
-    return None if found == map_cases.summary(1, 1, b"t%d" % held[0]) else f"when it is back: {found!r}"
+    return None if found == messages.summary(1, 1, tenant="t%d" % held[0]) else f"when it is back: {found!r}"
 
 
 def twice_as_many(program, folder):
@@ -124,7 +124,7 @@ def twice_as_many(program, folder):
                 shutil.copyfile(f"{folder}/{it}.db{end}", f"{folder}/{it + 2}.db{end}")
     with processes(program, folder, 4) as servers, nginx(folder, [it.port for it in servers]) as port:
         found = [Client(port, folder, f"u{it}").ask(b"GET /t/t%d" % it) for it in range(TENANTS)]
-        return None if found == [map_cases.summary(1, 1, b"t%d" % it) for it in range(TENANTS)] else f"the replies are {found[:4]} .."
+        return None if found == [messages.summary(1, 1, tenant="t%d" % it) for it in range(TENANTS)] else f"the replies are {found[:4]} .."
 
 
 def checks(program, top):

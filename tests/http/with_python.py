@@ -6,7 +6,7 @@ import threading
 import time
 
 from expected import expected, unlike
-from served import Server, asked, message, read_reply
+from server.served import Server, asked, message, read_reply
 
 BROWSER = (
     b"User-Agent: Mozilla/5.0 (X11; Linux x86_64; rv:128.0) Gecko/20100101 Firefox/128.0", b"Accept: text/html,application/xhtml+xml,application/xml;q=0.9,*/*;q=0.8",

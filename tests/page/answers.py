@@ -2,9 +2,9 @@
 tried. Where groups lie is computed by placed.py, and shares here, in fractions."""
 from fractions import Fraction
 
-import map_text
+from model import map_text
 from page import example, first, unlike
-from placed import WHOLE, Placed
+from model.placed import WHOLE, Placed
 
 THREE, FOUR, CLUSTER = (example(it) for it in ("three_hosts.txt", "four_hosts.txt", "cluster.txt"))
 

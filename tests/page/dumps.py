@@ -2,13 +2,13 @@
 in two clicks; what isn't computed is named; and what another browser knows."""
 import json
 
-import map_text
+from model import map_text
 from selenium.webdriver.common.action_chains import ActionChains
 
 from answers import Change, parts_of, rounded, wanted_figures
 from clusters import Cluster
 from page import first, unlike
-from placed import Placed
+from model.placed import Placed
 
 SMALL = Cluster(2, 3, 4)
 POOLS = (("photos", 3, 2, 0, 64), ("meta", 2, 1, 1, 32))

@@ -6,7 +6,7 @@ import pathlib
 import subprocess
 import time
 
-from served import SECONDS, free_port
+from server.served import SECONDS, free_port
 
 TOP = pathlib.Path(__file__).resolve().parent.parent.parent
 PICTURES = TOP / "build" / "page-check"

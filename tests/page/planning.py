@@ -6,12 +6,11 @@ import re
 import subprocess
 import tempfile
 
-import crush
-import map_text
-import shown
+from model import crush, map_text
+from documents import shown
 from clusters import Cluster
 from page import DRAINED, EXAMPLES, TOP, example, first, unlike
-from placed import Placed
+from model.placed import Placed
 
 CLICKS = 3
 STRAW = "Nothing is wrong with such a map: Ceph computes these buckets"

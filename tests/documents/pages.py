@@ -1,0 +1,255 @@
+#!/usr/bin/env python3
+"""Checks the pages (*.md) and the comments of the sources, which needs no built program.
+
+usage: tests/documents/pages.py [WORD..]      with WORDs only the checks whose names have one, as
+    REQUESTS, limits or crush_map
+
+- A line has at most 100 characters. Tables, code and a line that is one link may be longer.
+- A fenced block whose first line ends in 'from FILE', as in ```rust from
+  crates/crush_app/src/play.rt, is a quote. Its lines stand together in that file, whose path begins
+  at the top of the repository, blanks and all.
+- A link to a file, or to a heading of a page, leads to one that is there.
+- The table of limits in docs/REQUESTS.md has a row for each limit, with its const and crate: `pub
+  const NAME: TYPE = NUMBER;` in crates/CRATE/src/limits.rt. The numbers are the same. (A const that
+  is computed from others has no row.)
+- The help of `crushcalc check` has a limit's number in the line of each code of HELPED.
+- README and some pages of docs/ have a greatest number of lines, and the table of words in
+  docs/ARCHITECTURE.md one of rows.
+- A comment in crates/*/src, specs and proofs, or in tests, bench, tools and examples, has at most
+  100 characters a line, and so has a docstring.
+- docs/DEFINITIONS.md lists the definitions that public clauses cite (cited.py).
+
+tests/program/check runs these checks with its own. The last line is 'N passed, M failed': pages,
+the limits, the help, crates, and the list of definitions.
+"""
+import ast
+import pathlib
+import re
+import sys
+
+sys.dont_write_bytecode = True
+sys.path.insert(0, str(pathlib.Path(__file__).resolve().parent.parent))
+from documents import cited  # noqa: E402
+
+TOP = pathlib.Path(__file__).resolve().parent.parent.parent
+FOLDERS = ("docs", "examples", "bench", "tests")
+LONGEST = 100
+FENCE, INDENT = "```", ("    ", "\t")
+QUOTED = re.compile(r"^```\w* from (\S+)$")
+LINK = re.compile(r"\[[^\]]*\]\(([^)\s]*)\)")
+CONST = re.compile(r"^pub const (\w+): \w+ = (-?[\d_]+);$")
+LIMITED = re.compile(r"^\|[^|]*\| (-?[\d,]+) \| `(\w+)` \| `(\w+)` \|$")
+LIMITS = "docs/REQUESTS.md"
+HELP = "crates/crushcalc/src/arguments.rt"
+# the code of a fault: the crate and the const of its limit, and the number that its line of the
+# help has
+HELPED = {
+    "X7": ("crush_text", "TEXT_LIMIT", lambda limit: f"{limit:,}"),
+    "M7": ("crush_map", "TOTAL_WEIGHT_LIMIT", lambda limit: str((limit + 1) // 65536)),  # the first whole weight past it
+    "M15": ("crush_map", "NAME_LIMIT", lambda limit: f"{limit:,}"),
+}
+WORDS = "## Words that mean something special here"
+MOST_LINES = {"README.md": 110, "docs/ARCHITECTURE.md": 130, "docs/STATUS.md": 40}
+MOST_WORDS = 25
+COMMENTS = {".rt": ("//",), ".antt": ("--",)}
+TOOLS, NO_TOOLS = ("tests", "bench", "tools", "examples", "web"), {".md", ".in", ".out", ".pyc", ".json", ".script"}
+LINK_ALONE = re.compile(r"^[-\s]*\[[^\]]*\]\([^)]*\)[.,;:]?$")
+
+
+def pages():
+    """Every page, by its path from the top."""
+    found = [*TOP.glob("*.md"), *(page for folder in FOLDERS for page in (TOP / folder).rglob("*.md"))]
+    return sorted(str(page.relative_to(TOP)) for page in found)
+
+
+def parts(text):
+    """The lines outside fenced blocks, each with its number; and the blocks: the number and text of
+    the first line, and the lines inside."""
+    prose, blocks, block = [], [], None
+    for number, line in enumerate(text.splitlines(), 1):
+        if line.startswith(FENCE):
+            if block is None:
+                block = (number, line, [])
+                blocks.append(block)
+            else:
+                block = None
+        elif block is None:
+            prose.append((number, line))
+        else:
+            block[2].append(line)
+    return prose, blocks
+
+
+def long_lines(prose):
+    for number, line in prose:
+        if len(line) > LONGEST and not line.startswith(("|", *INDENT)) and not LINK_ALONE.match(line):
+            yield f"line {number} has {len(line)} characters"
+
+
+def wrong_quotes(blocks):
+    for number, first, lines in blocks:
+        quoted = QUOTED.match(first)
+        if quoted is None:
+            continue
+        source = TOP / quoted[1]
+        if not source.is_file():
+            yield f"line {number}: there is no file {quoted[1]}"
+            continue
+        text = source.read_text()
+        if "\n" + "\n".join(lines) + "\n" not in "\n" + text:
+            other = next((line for line in lines if line not in text.splitlines()), None)
+            yield f"line {number}: the block isn't in {quoted[1]}" + ("" if other is None else f", which has no line {other!r}")
+
+
+def anchors(text):
+    """The names by which links know the headings of a page."""
+    headings = (line.lstrip("#") for _, line in parts(text)[0] if line.startswith("#"))
+    return {re.sub(r"[^\w\- ]", "", it.strip().lower()).replace(" ", "-") for it in headings}
+
+
+def wrong_links(page, prose):
+    for number, line in prose:
+        if line.startswith(INDENT):
+            continue
+        for target in LINK.findall(re.sub(r"`[^`]*`", "", line)):
+            path, _, anchor = target.partition("#")
+            if "://" in target:
+                continue
+            file = (TOP / page).parent / path if path else TOP / page
+            if not file.exists():
+                yield f"line {number}: the link {target} leads to no file"
+            elif anchor and anchor not in anchors(file.read_text()):
+                yield f"line {number}: the link {target} leads to no heading"
+
+
+def long_page(page, text):
+    lines = len(text.splitlines())
+    if lines > MOST_LINES.get(page, lines):
+        yield f"line {lines}: the page may have {MOST_LINES[page]} lines"
+    if WORDS in text:
+        first = text[: text.index(WORDS)].count("\n") + 1
+        rows = [line for line in text.split(WORDS)[1].split("\n## ")[0].splitlines() if line.startswith("|")][2:]
+        words = [word for row in rows for word in row.split("|")[1].split(",")]
+        if len(words) > MOST_WORDS:
+            yield f"line {first}: the table has {len(words)} words, of which it may have {MOST_WORDS}"
+
+
+def page_faults(page):
+    text = (TOP / page).read_text()
+    prose, blocks = parts(text)
+    yield from long_lines(prose)
+    yield from wrong_quotes(blocks)
+    yield from wrong_links(page, prose)
+    yield from long_page(page, text)
+
+
+def limits():
+    """The limits of the sources: of each crate and const, where it stands and its number."""
+    for source in sorted(TOP.glob("crates/*/src/limits.rt")):
+        for number, line in enumerate(source.read_text().splitlines(), 1):
+            const = CONST.match(line)
+            if const:
+                yield (source.parts[-3], const[1]), (f"{source.relative_to(TOP)}: line {number}", int(const[2]))
+
+
+def limit_faults():
+    there, listed = dict(limits()), set()
+    for number, line in enumerate((TOP / LIMITS).read_text().splitlines(), 1):
+        row = LIMITED.match(line)
+        if row is None:
+            continue
+        place, value, key = f"{LIMITS}: line {number}", int(row[1].replace(",", "")), (row[3], row[2])
+        if key in listed:
+            yield f"{place}: {row[2]} of {row[3]} has a second row"
+        elif key not in there:
+            yield f"{place}: there is no number {row[2]} in crates/{row[3]}/src/limits.rt"
+        elif there[key][1] != value:
+            yield f"{place}: {row[2]} is {there[key][1]:,} in {there[key][0]}"
+        listed.add(key)
+    for (crate, name), (place, _) in there.items():
+        if (crate, name) not in listed:
+            yield f"{place}: {name} of {crate} has no row in {LIMITS}"
+
+
+def help_faults():
+    there = dict(limits())
+    lines = list(enumerate((TOP / HELP).read_text().splitlines(), 1))
+    for code, (crate, name, written) in HELPED.items():
+        number, line = next(((number, line) for number, line in lines if line.split()[:1] == [code]), (None, ""))
+        if number is None:
+            yield f"{HELP}: there is no line of {code}"
+        elif written(there[crate, name][1]) not in re.findall(r"\d[\d,]*", line):
+            yield f"{HELP}: line {number} hasn't the number {written(there[crate, name][1])} of {name}"
+
+
+def comment_faults(crate):
+    """Lines of comments that are too long, in the sources, definitions and proofs of a crate."""
+    for part in ("src", "specs", "proofs"):
+        for source in sorted((TOP / "crates" / crate / part).rglob("*")):
+            for number, line in enumerate(source.read_text().splitlines() if source.suffix in COMMENTS else (), 1):
+                if len(line) > LONGEST and line.lstrip().startswith(COMMENTS[source.suffix]):
+                    yield f"{source.relative_to(TOP)}: line {number} is a comment of {len(line)} characters"
+
+
+def tool_faults():
+    """Lines of comments and docstrings that are too long, in what tests, measures and builds."""
+    files = [TOP / "Makefile", TOP / ".ci/run", *(it for folder in TOOLS for it in (TOP / folder).rglob("*"))]
+    for file in sorted(it for it in files if it.is_file() and it.suffix not in NO_TOOLS):
+        text = file.read_text(errors="replace")
+        spoken = docstring_lines(text) if '"""' in text else set()
+        for number, line in enumerate(text.splitlines(), 1):
+            if len(line) > LONGEST and (number in spoken or line.lstrip().startswith(("# ", "//", "/*", "* "))):
+                yield f"{file.relative_to(TOP)}: line {number} is a comment of {len(line)} characters"
+
+
+def docstring_lines(text):
+    """The numbers of the lines of a program's docstrings; none where it isn't one of Python."""
+    try:
+        nodes = list(ast.walk(ast.parse(text)))
+    except SyntaxError:
+        return set()
+    owners = (it for it in nodes if isinstance(it, (ast.Module, ast.FunctionDef, ast.ClassDef)) and ast.get_docstring(it))
+    return {number for it in owners for number in range(it.body[0].lineno, it.body[0].end_lineno + 1)}
+
+
+def cited_faults():
+    why = cited.wrong()
+    if why:
+        yield f"docs/DEFINITIONS.md: {why}"
+
+
+def checks():
+    """What is checked: its name, and its faults, each with its place."""
+    for page in pages():
+        yield f"the page {page}", (f"{page}: {why}" for why in page_faults(page))
+    yield "the table of limits", limit_faults()
+    yield "the limits in the help", help_faults()
+    yield "the definitions that are cited", cited_faults()
+    yield "the comments of tests, measurements and tools", tool_faults()
+    for crate in sorted(path.name for path in (TOP / "crates").iterdir() if path.is_dir()):
+        yield f"the comments of {crate}", comment_faults(crate)
+
+
+def outcomes(words):
+    """Each check, or those whose names have one of the words: what is checked, and its first fault,
+    or None."""
+    for name, faults in checks():
+        if not words or any(it in name for it in words):
+            yield name, next(faults, None)
+
+
+def main(words):
+    passed = failed = 0
+    for name, faults in checks():
+        if words and not any(it in name for it in words):
+            continue
+        found = list(faults)
+        passed, failed = passed + (not found), failed + bool(found)
+        for why in found:
+            print(f"FAIL {why}")
+    print(f"{passed} passed, {failed} failed")
+    return 1 if failed or not passed else 0
+
+
+if __name__ == "__main__":
+    sys.exit(main(sys.argv[1:]))

@@ -1,0 +1,171 @@
+"""Connections to the program as a server, each with what it has to send back by the rules of
+requests."""
+import pathlib
+import socket
+import threading
+import time
+
+from program.hostile_cases import BODIES, BODY_LIMIT, HEADS, exceptions
+from model.messages import EXISTS, TOO_LARGE, dropped, made, short, there
+from server.served import Server, asked, message, replies_on, reset
+
+HERE = pathlib.Path(__file__).resolve().parent
+
+WAIT = 5
+MESSAGES = 10_000
+LITTLE = 1 << 20  # bytes that may come and go without a body
+
+
+def unlike(got, want):
+    """Where something isn't what it has to be, or None."""
+    return None if got == want else f"it is {short(got)}, not {short(want)}"
+
+
+def first(*whys):
+    return next((it for it in whys if it), None)
+
+
+def goes_on(server):
+    """Why the next client isn't served as ever, or None."""
+    return unlike(asked(server, [b"PUT /t/next", b"GET /t/next", b"DELETE /t/next"])[:2], [made(b"next"), there(b"next")])
+
+
+def two_messages(program, db):
+    """Two messages of one connection, and the replies before the client says that nothing more
+    comes."""
+    with Server(program, db) as server, server.connect() as connection:
+        connection.sendall(message(b"PUT /t/a") + message(b"GET /t/a"))
+        connection.settimeout(WAIT - 1)
+        want = [b"HTTP/1.1 201 Created\r\nContent-Length: 24\r\nContent-Type: application/json\r\n\r\n" b'{"epoch":0,"tenant":"a"}',
+                b"HTTP/1.1 200 OK\r\nContent-Length: 59\r\nContent-Type: application/json\r\n\r\n" b'{"devices":0,"epoch":0,"pools":0,"tenant":"a","versions":0}']
+        got = b""
+        while len(got) < len(b"".join(want)):
+            got += connection.recv(4096)
+        connection.shutdown(socket.SHUT_WR)
+        return unlike(got, b"".join(want)) or unlike(replies_on(connection), ([], False))
+
+
+def byte_by_byte(program, db):
+    """Each byte in a segment of its own."""
+    with Server(program, db) as server, server.connect() as connection:
+        for byte in message(b"PUT /t/a") + message(b'POST /t/a/pick {"bucket":{"id":-1,"items":[{"item":4,"weight":65536}],"kind":"list"},"r":0,"x":0}'):
+            connection.send(bytes([byte]))
+        connection.shutdown(socket.SHUT_WR)
+        return unlike(replies_on(connection), ([made(b"a"), b'200 {"item":4}'], False))
+
+
+def examples(program, db):
+    """Stored scripts over one connection each, to a server that is begun anew for each."""
+    cases = [path for it in ("exceptions", "maps", "pools", "reports") for path in (HERE.parent / "program" / "cases").glob(f"{it}*.in")]
+    for path in sorted([*(HERE.parent.parent / "examples").glob("*.script"), *cases]):
+        with Server(program, db.with_name(f"{path.stem}.db")) as server:
+            if why := unlike(asked(server, path.read_bytes().splitlines()), path.with_suffix(".out").read_bytes().splitlines()):
+                return f"{path.name}: {why}"
+    return None
+
+
+def heads(program, db):
+    """Each head has its reply. What ends its connection ends it behind the reply, and nothing after
+    it is read."""
+    with Server(program, db) as server:
+        asked(server, [b"PUT /t/a"])
+        for name, data, want, ends in HEADS:
+            with server.connect() as connection:
+                connection.sendall(message(b"PUT /t/a") + data + message(b"DELETE /t/a" if ends else b"GET /t/a"))
+                connection.shutdown(socket.SHUT_WR)
+                found = replies_on(connection)
+            if found != ([EXISTS, want] if ends else [EXISTS, want, there(b"a")], ends):
+                return f"{name}: the replies are {found}"
+        return unlike(asked(server, [b"GET /t/a"]), [there(b"a")])
+
+
+def bodies(program, db):
+    """Each body has its reply, and the connection goes on."""
+    with Server(program, db) as server:
+        lines = [b"PUT /t/a", *(b"POST /t/a/pick " + sent for _, sent, _ in BODIES), b"GET /t/a"]
+        found, wanted = asked(server, lines), [made(b"a"), *(reply for _, _, reply in BODIES), there(b"a")]
+        wrong = next((name for (name, _, reply), it in zip(BODIES, found[1:]) if it != reply), None)
+        if wrong or found != wanted:
+            return f"{wrong}: the reply isn't as it has to be" if wrong else unlike(found, wanted)
+        lines = [(b"DELETE /t/a", dropped(b"a")), *exceptions()]
+        found = asked(server, [it for it, _ in lines])
+        return next((f"{short(line)}: {short(it)}, not {short(reply)}" for (line, reply), it in zip(lines, found) if it != reply), None)
+
+
+def third_messages(program, db):
+    """Of a third message whose body isn't whole there is no reply, unless its length is past the
+    limit."""
+    two = message(b"PUT /t/a") + message(b"GET /t/a")
+    with Server(program, db) as server:
+        for size, more in ((30, []), (BODY_LIMIT, []), (BODY_LIMIT + 1, [TOO_LARGE])):
+            with server.connect() as connection:
+                connection.sendall(two + b'POST /t/a/test HTTP/1.1\r\nContent-Length: %d\r\n\r\n{"ru' % size)
+                connection.shutdown(socket.SHUT_WR)
+                found = replies_on(connection)
+            asked(server, [b"DELETE /t/a"])
+            if found != ([made(b"a"), there(b"a"), *more], bool(more)):
+                return f"a body of {size} bytes: {found}"
+    return None
+
+
+def last_messages(program, db):
+    """Connection: close, HTTP/1.0 and the last message that a connection may have end it; what
+    follows is not served."""
+    more = message(b"DELETE /t/a")
+    with Server(program, db) as server:
+        asked(server, [b"PUT /t/a"])
+        for last in (message(b"GET /t/a", b"connection: CLOSE"), message(b"GET /t/a", version=b"1.0"), message(b"GET /t/a") * MESSAGES):
+            with server.connect() as connection:
+                sender = threading.Thread(target=lambda: connection.sendall(last + more))
+                sender.start()
+                found, ended = replies_on(connection)
+                sender.join()
+            if set(found) != {there(b"a")} or len(found) != (MESSAGES if len(last) > 1000 else 1) or not ended:
+                return f"{last[:60]!r}: there are {len(found)} replies, of which the last is {found[-1:]}"
+        return unlike(asked(server, [b"GET /t/a"]), [there(b"a")])
+
+
+def silent_clients(program, db):
+    """A client that says nothing, or nothing more of a body of the limit, is let go after five
+    seconds, and then the next is served. No memory is taken for the body."""
+    with Server(program, db) as one, Server(program, db.with_name("u.db")) as other:
+        peak = asked(other, [b"PUT /t/a"]) and other.peak()
+        with one.connect() as silent, other.connect() as silent_in_a_body:
+            silent_in_a_body.sendall(b"POST /t/a/maps HTTP/1.1\r\nContent-Length: %d\r\n\r\n{\"r" % BODY_LIMIT)
+            start = time.monotonic()
+            why, spent = goes_on(one) or goes_on(other), time.monotonic() - start
+            why = why or unlike(silent.recv(1), b"") or unlike(silent_in_a_body.recv(1), b"")
+        more = other.peak() - peak
+        return why or (None if WAIT - 1 < spent < WAIT + 5 else f"the next waited {spent:.1f} seconds") or (None if more < LITTLE else f"it took {more:,} bytes")
+
+
+def resets(program, db):
+    """A client that resets its connection, before a message, in one, and with replies on their way,
+    does no harm."""
+    whole = message(b"GET /t/a")
+    with Server(program, db) as server:
+        for data in (b"", whole[:10], message(b'POST /t/a/pick {"x":1}')[:-3], whole, whole * 2000):
+            connection = server.connect()
+            connection.sendall(data)
+            reset(connection)
+            if why := goes_on(server):
+                return f"after {len(data)} bytes: {why}"
+        return None
+
+
+def half_closes(program, db):
+    """A client that shuts its writing side gets the replies to what was whole, and nothing else."""
+    data = message(b"PUT /t/a") + message(b"GET /t/a")
+    with Server(program, db) as server:
+        for cut in (0, 10, len(message(b"PUT /t/a")), len(data) - 1):
+            with server.connect() as connection:
+                connection.sendall(data[:cut])
+                connection.shutdown(socket.SHUT_WR)
+                found, ended = replies_on(connection)
+            if ended or len(found) != (cut >= len(message(b"PUT /t/a"))) or not set(found) <= {made(b"a"), EXISTS}:
+                return f"cut at {cut}: {found}"
+        return goes_on(server)
+
+
+def cases():
+    return (two_messages, byte_by_byte, examples, heads, bodies, third_messages, last_messages, silent_clients, resets, half_closes)
