@@ -17,10 +17,10 @@ usage: tests/documents/pages.py [WORD..]      with WORDs only the checks whose n
   docs/ARCHITECTURE.md one of rows.
 - A comment in crates/*/src, specs and proofs, or in tests, bench, tools and examples, has at most
   100 characters a line, and so has a docstring.
-- docs/DEFINITIONS.md lists the definitions that public clauses cite (cited.py).
+- `tools/contracts` prints what the sources have (contracts.py).
 
 tests/program/check runs these checks with its own. The last line is 'N passed, M failed': pages,
-the limits, the help, crates, and the list of definitions.
+the limits, the help, crates, and the index of contracts.
 """
 import ast
 import pathlib
@@ -29,7 +29,7 @@ import sys
 
 sys.dont_write_bytecode = True
 sys.path.insert(0, str(pathlib.Path(__file__).resolve().parent.parent))
-from documents import cited  # noqa: E402
+from documents import contracts  # noqa: E402
 
 TOP = pathlib.Path(__file__).resolve().parent.parent.parent
 FOLDERS = ("docs", "examples", "bench", "tests")
@@ -212,19 +212,13 @@ def docstring_lines(text):
     return {number for it in owners for number in range(it.body[0].lineno, it.body[0].end_lineno + 1)}
 
 
-def cited_faults():
-    why = cited.wrong()
-    if why:
-        yield f"docs/DEFINITIONS.md: {why}"
-
-
 def checks():
     """What is checked: its name, and its faults, each with its place."""
     for page in pages():
         yield f"the page {page}", (f"{page}: {why}" for why in page_faults(page))
     yield "the table of limits", limit_faults()
     yield "the limits in the help", help_faults()
-    yield "the definitions that are cited", cited_faults()
+    yield "the index of contracts", contracts.faults()
     yield "the comments of tests, measurements and tools", tool_faults()
     for crate in sorted(path.name for path in (TOP / "crates").iterdir() if path.is_dir()):
         yield f"the comments of {crate}", comment_faults(crate)

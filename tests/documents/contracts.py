@@ -1,0 +1,157 @@
+#!/usr/bin/env python3
+"""Checks what `tools/contracts` prints, and that docs/DEFINITIONS.md says something of each crate
+whose definitions it prints.
+
+usage: tests/documents/contracts.py        needs no built program; `pages.py` runs it too
+
+- A small source has the calls that are written here beside it.
+- Some crates have the calls that are written here, and no others.
+- A public clause cites no definition of `specs/Private`, which is for private clauses alone.
+- The page names each crate whose definitions public clauses cite.
+"""
+import pathlib
+import sys
+
+sys.dont_write_bytecode = True
+TOP = pathlib.Path(__file__).resolve().parent.parent.parent
+sys.path.insert(0, str(TOP / "tools"))
+import contracting  # noqa: E402
+
+PAGE = "docs/DEFINITIONS.md"
+
+# ---- a source, of a module whose names LIB shows in part
+LIB = """mod store;
+pub use store::{Store, Kept, open, law};
+"""
+SOURCE = """ghost use Rattle.one.specs.Held.{Holds as Has, IsOpen};
+ghost use Rattle.two.specs.Rows as rows;
+
+impl Model for Store {
+    ghost Value = { rows.Row };
+}
+
+impl Store {
+    /// Reads a row.
+    ///
+    /// `None`: there is none.
+    #[tactic(auto)]
+    pub fn read(
+        &self,
+        key: &str, // its name
+    ) -> Option<Row>
+        requires open { IsOpen self.now }
+        // a comment
+        requires { length key.now
+            < 2 ^ 32 }
+        ensures { Has self.now key.now result }
+    {
+        None
+    }
+
+    fn look(&self) -> bool
+        ensures { rows.hidden self.now }
+    {
+        true
+    }
+}
+
+impl Kept for Store {
+    fn kept(&self) -> bool {
+        true
+    }
+}
+
+impl Other {
+    pub fn other(&self) {}
+}
+
+pub trait Kept {
+    ghost is_kept: { Self → rows.Kind };
+
+    fn kept(&self) -> bool;
+}
+
+/// Opens a store.
+pub fn open<T: Disk>(disk: T) -> Store
+    requires { rows.fits disk }
+{
+    Store::over(disk)
+}
+
+pub fn hidden()
+    ensures { rows.hidden }
+{}
+
+/// A law.
+pub fn law()
+    ensures { Has [] [] None }
+{}
+"""
+CALLS = [
+    ("Store::read(&self, key: &str) -> Option<Row>", ["requires open { IsOpen self.now }", "requires { length key.now < 2 ^ 32 }"], "Reads a row. `None`: there is none."),
+    ("Store::kept(&self) -> bool", [], ""),
+    ("Kept::kept(&self) -> bool", [], ""),
+    ("open<T: Disk>(disk: T) -> Store", ["requires { rows.fits disk }"], "Opens a store."),
+    ("law()", [], "A law."),
+]
+CITED = {("one", "Held", "Holds"), ("one", "Held", "IsOpen"), ("two", "Rows", "Row"), ("two", "Rows", "Kind"), ("two", "Rows", "fits")}
+
+# ---- the calls of some crates
+KNOWN = {
+    "crush_hash": "hash1 hash2 hash3 hash4 hash5 name_hash hash3_lanes hash3_each hash4_each hash4_lanes",
+    "crush_permutation": "Perm::build Perm::member Perm::kept Perms::build Perms::member eight_members permutation_has_each_place a_perm_keeps_few_places",
+    "crush_writing": "write_map",
+    "reply_texts": "push_number push_slot push_slots done",
+    "tenant_picks": "read_pick answer AskedBucket::new AskedBucket::pick picks_are_of_the_form",
+    "tenant_history": "history a_number_with_a_receipt_changes_nothing only_a_drop_takes_a_receipt_away a_changing_request_has_the_path_and_the_body_of_its_call",
+}
+
+
+def example_faults():
+    """Where the calls of the small source, or what they cite, aren't those beside it."""
+    shown = contracting.shown_in(LIB)
+    calls, _ = contracting.read(SOURCE, "store" in shown[0], shown[1])
+    found = [(it.shown(), it.requires(), it.comment) for it in calls]
+    for have, wanted in zip([*found, *[None] * len(CALLS)], [*CALLS, *[None] * len(found)]):
+        if have != wanted:
+            yield f"the example has the call {wanted}, and {have} was read"
+    laws = [it.name for it in calls if it.is_law()]
+    if laws != ["law"]:
+        yield f"the example has one law, and {laws} were read"
+    cited = set(contracting.cited_in(SOURCE, "store" in shown[0], shown[1]))
+    if cited != CITED:
+        yield f"the example cites {sorted(CITED)}, and {sorted(cited)} were read"
+
+
+def known_faults():
+    for crate, names in KNOWN.items():
+        found = {(f"{call.owner}::" if call.owner else "") + call.name for _, calls in contracting.calls_of(crate) for call in calls}
+        if found != set(names.split()):
+            yield f"the calls of {crate} differ from those in tests/documents/contracts.py: {sorted(found ^ set(names.split()))}"
+
+
+def cited_faults():
+    text = (TOP / PAGE).read_text()
+    for (crate, file), names in contracting.cited().items():
+        if file.startswith("Private"):
+            yield f"a public clause cites {names[0]} of crates/{crate}/specs/{file}, which only private clauses may cite"
+        if f"`{crate}`" not in text and f"`{crate}/specs" not in text:
+            yield f"{PAGE} doesn't name {crate}, of which public clauses cite {names[0]}"
+
+
+def faults():
+    yield from example_faults()
+    yield from known_faults()
+    yield from cited_faults()
+
+
+def main():
+    found = list(faults())
+    for why in found:
+        print(f"FAIL {why}")
+    print(f"{not found:d} passed, {len(found)} failed")
+    return 1 if found else 0
+
+
+if __name__ == "__main__":
+    sys.exit(main())
