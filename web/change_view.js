@@ -3,7 +3,7 @@
 import { counted, csv, el } from "./dom.js";
 import { count, figures, many } from "./figures.js";
 import { groupTable } from "./group_table.js";
-import { DEVICE_HEADS, deviceFields, placesTable } from "./places.js";
+import { DEVICE_HEADS, deviceFields, isPlaced, placesTable } from "./places.js";
 import { decimals, expectedOf, partText, percent, percentText } from "./shares.js";
 import { picture } from "./picture.js";
 import { some } from "./dump.js";
@@ -56,16 +56,25 @@ export function answerRow(cluster, all) {
 
 // The answer in one sentence: whether every copy has room, and how many groups move. `stopped` is
 // how many groups stop while devices are down, `keeping` how many copies stay on devices that a
-// rule takes by name.
-export function verdict(found, all, { stopped = 0, keeping = 0 } = {}) {
+// rule takes by name, `broken` how many groups have exceptions that break their rule, `unknown` how
+// much isn't computed that may have to do with it.
+export function verdict(found, all, { stopped = 0, keeping = 0, broken = 0, unknown = 0 } = {}) {
     const lacking = found.filter((it) => it.lacks.copies).map((it) => it.pool.name), moved = `${many(all.moved, "group")} ${all.moved === 1 ? "moves" : "move"}`, has = (it) => (it === 1 ? "has" : "have");
     const why = [
         stopped && `${many(stopped, "group")} ${has(stopped)} fewer copies than min_size while the devices are down, so ${stopped === 1 ? "its" : "their"} I/O stops`,
         all.missing && `${many(all.missing, "copy", "copies")} of ${lacking.length === 1 ? "pool" : "the pools"} ${some(lacking, 3)} ${has(all.missing)} no room`,
+        broken && `${many(broken, "group")} would break the rule, and Ceph removes such items`,
         keeping && `${many(keeping, "copy", "copies")} ${keeping === 1 ? "stays" : "stay"}: a rule takes the device by name`,
     ].filter(Boolean);
     if (why.length) return el("p", { class: "verdict bad", id: "verdict" }, el("strong", {}, "No"), `: ${why.join("; ")}; ${moved}.`);
+    if (unknown) return el("p", { class: "verdict unknown", id: "verdict" }, el("strong", {}, "Unknown"), `: not all of it can be computed; of what can, ${moved}.`);
     return el("p", { class: "verdict good", id: "verdict" }, el("strong", {}, "Yes"), `: ${all.moved ? moved : "no group moves"}, and every copy has room.`);
+}
+
+// What isn't computed and may have to do with the answer.
+export function leftOutNote(pools, groups = 0) {
+    const lines = [...pools.map((it) => it.text), groups && `${many(groups, "group")} with whole upmap lists may have to do with these devices, and where they lie isn't computed`].filter(Boolean);
+    return lines.length ? el("div", { class: "note", id: "left-out" }, el("p", {}, "The answer lacks this:"), el("ul", {}, lines.map((it) => el("li", {}, it)))) : null;
 }
 
 // One line for each pool, where there are several.
@@ -93,7 +102,7 @@ export function beforeAfter(cluster, all, name, marked) {
     }
     const orders = [["most", "most of its share first", ({ has, will }) => percent(has, will) ?? -1], ["gain", "greatest gain first", ({ had, has }) => has - had], ["copies", "most copies first", ({ has }) => has]];
     const heads = [...DEVICE_HEADS, "copies_before", "copies_after", "expected_before", "expected_after", "percent_before", "percent_after"];
-    const rows = () => [...cluster.map.byId.keys()].map((id) => [...deviceFields(cluster, id), all.had(id), all.has(id), decimals(all.expectedBefore.get(id) ?? 0, 2), decimals(all.expectedAfter.get(id) ?? 0, 2),
+    const rows = () => [...cluster.map.byId.keys()].filter((id) => isPlaced(cluster, id) || all.had(id) || all.has(id)).map((id) => [...deviceFields(cluster, id), all.had(id), all.has(id), decimals(all.expectedBefore.get(id) ?? 0, 2), decimals(all.expectedAfter.get(id) ?? 0, 2),
         partText(all.had(id), all.expectedBefore.get(id) ?? 0), partText(all.has(id), all.expectedAfter.get(id) ?? 0)]);
     return placesTable(cluster, {
         values, columns, draw, orders, top: ({ had, has, will }) => Math.max(had, has, will), id: "usages", mark: marked,

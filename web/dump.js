@@ -76,28 +76,38 @@ function bucketOf(it, where) {
     return { id, name, type: field(it, "type_id", "number", where), alg: field(it, "alg", "text", where), hash: it.hash ?? "rjenkins1", items, shadow: name.split("~")[1] ?? null };
 }
 
-// The map of a dump, whether the service computes it or not.
-export function readCrush(whole, file) {
+// The map of a dump, whether the service computes it or not. `there` says whether the cluster has a
+// device of an id, where that is known.
+export function readCrush(whole, file, there) {
     const named = (key) => (it, where) => [field(it, key, "number", where), it.name];
     const map = { file, types: new Map(each(whole, "types", file, named("type_id"))), devices: new Map(each(whole, "devices", file, named("id"))), tunables: TUNABLES.filter((it) => it in whole.tunables).map((it) => [it, whole.tunables[it]]) };
     map.buckets = new Map(each(whole, "buckets", file, bucketOf).map((it) => [it.id, it]));
     map.rules = new Map(each(whole, "rules", file, (it, where) => ruleOf(it, where, map.buckets)).map((it) => [it.id, it]));
     map.weightSets = Object.keys(whole.choose_args ?? {});
-    markHoles(map);
+    markHoles(map, there?.(0) ?? true);
+    dropGone(map, there);
     return map;
 }
 
 // Makes holes of the items that a removal left in tree buckets: a dump shows them as the device 0
 // with the weight 0. Where that may be the device 0 itself, the first one is; a tree bucket never
-// picks a weight of 0, so which it is changes no placement.
-function markHoles({ buckets, devices }) {
+// picks a weight of 0, so which it is changes no placement. `zero` is whether there is a device 0.
+function markHoles({ buckets, devices }, zero) {
     for (const bucket of buckets.values()) {
         const places = bucket.alg === "tree" ? bucket.items.filter((it) => it.id === 0 && it.weight === 0) : [];
         if (!places.length) continue;
         const weighed = [...buckets.values()].some((it) => (it === bucket || !it.shadow) && it.items.some((one) => one.id === 0 && one.weight > 0));
-        const itself = !weighed && !bucket.items.some((it) => it.id < 0) && devices.has(0) && devices.get(0) !== "device0";
+        const itself = zero && !weighed && !bucket.items.some((it) => it.id < 0) && devices.has(0) && devices.get(0) !== "device0";
         for (const it of places.slice(itself ? 1 : 0)) it.id = null;
     }
+}
+
+// Takes away what is in no bucket and no device: Ceph writes the ids that were never used too, as
+// device7, and keeps the name osd.0 for holes. What a rule takes by name stays.
+function dropGone({ buckets, devices, rules }, there) {
+    const placed = new Set([...buckets.values()].flatMap((it) => it.items.map((one) => one.id)));
+    for (const it of rules.values()) for (const [op, item] of it.steps) if (op === "take") placed.add(item);
+    for (const [id, name] of devices) if (!placed.has(id) && (name === `device${id}` || there?.(id) === false)) devices.delete(id);
 }
 
 // A weight of 65536ths with all its decimals, of which there are 16 at most.
@@ -125,6 +135,13 @@ function reach(map, item, found = { devices: new Set(), buckets: new Set() }) {
     found.buckets.add(item);
     for (const it of map.buckets.get(item).items) reach(map, it.id, found);
     return found;
+}
+
+// The devices below what a rule takes.
+export function devicesOf(map, rule) {
+    const found = { devices: new Set(), buckets: new Set() };
+    for (const [op, item] of rule.steps) if (op === "take") reach(map, item, found);
+    return found.devices;
 }
 
 const some = (all, most = 6) => (all.length > most ? `${all.slice(0, most).join(", ")} and ${all.length - most} more` : all.join(", "));
@@ -226,7 +243,8 @@ export function readOsd(whole, file) {
     });
     const groups = (name) => each(whole, name, file, (it, where) => groupOf(field(it, "pgid", "text", where), `${where}: pgid`), []);
     const upmaps = each(whole, "pg_upmap_items", file, (it, where) => ({ at: groupOf(field(it, "pgid", "text", where), `${where}: pgid`), pairs: each(it, "mappings", where, (pair, at) => [field(pair, "from", "number", at), field(pair, "to", "number", at)]) }), []);
-    return { file, pools: each(whole, "pools", file, poolOf), states, affine, upmaps, lists: groups("pg_upmap"), temporary: { lists: groups("pg_temp"), primaries: groups("primary_temp") } };
+    const lists = each(whole, "pg_upmap", file, (it, where) => ({ at: groupOf(field(it, "pgid", "text", where), `${where}: pgid`), devices: it.osds ?? [] }), []);
+    return { file, pools: each(whole, "pools", file, poolOf), states, affine, upmaps, lists, temporary: { lists: groups("pg_temp"), primaries: groups("primary_temp") } };
 }
 
 export { RJENKINS, some };

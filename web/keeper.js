@@ -23,9 +23,11 @@ function bucketsOfType(map, bucket, type) {
     return map.types.get(bucket.type) < map.types.get(type) ? [] : bucket.items.filter((it) => it.bucket).flatMap((it) => bucketsOfType(map, it.bucket, type));
 }
 
-// What the monitors keep on a map, with states: `mayBe` says whether a device is in.
+// What the monitors keep on a map, with states: `mayBe` says whether a device is in. `kept` gives the
+// pairs of a group that stay once nothing more is removed, `breaks` says whether they break the
+// pool's rule, where CRUSH gives the group a raw list.
 export function keeper(map, mayBe) {
-    const kept = new Map(), once = (key, make) => kept.get(key) ?? kept.set(key, make()).get(key);
+    const made = new Map(), once = (key, make) => made.get(key) ?? made.set(key, make()).get(key);
     const takes = (rule) => rule.steps.filter(([op]) => op === "take").map((it) => it[1]);
     const below = (name) => once(`below ${name}`, () => devicesOf(map, map.buckets.get(name)));
     const domains = (rule, type) => once(`type ${rule.id} ${type}`, () => {
@@ -77,13 +79,13 @@ export function keeper(map, mayBe) {
     function keptOnce(rule, pool, raw, pairs) {
         return broken(rule, pool, paired(raw, pairs, mayBe)) ? [] : pairs.filter(([from, to]) => raw.includes(from) && mayBe(to));
     }
-    // the pairs of a group that stay once nothing more is removed
-    return (pool, raw, pairs) => {
-        const rule = map.rules.find((it) => it.id === pool.rule);
+    const ruleOf = (pool) => map.rules.find((it) => it.id === pool.rule);
+    function kept(pool, raw, pairs) {
         for (let now = pairs; ;) {
-            const next = keptOnce(rule, pool, raw, now);
+            const next = keptOnce(ruleOf(pool), pool, raw, now);
             if (next.length === now.length) return next;
             now = next;
         }
-    };
+    }
+    return { kept, breaks: (pool, raw, pairs) => broken(ruleOf(pool), pool, paired(raw, pairs, mayBe)) };
 }

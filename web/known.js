@@ -1,6 +1,7 @@
 // What this browser knows of a tenant beside the service's replies: the pools and the states of
 // devices that it set, since no request lists these, the names of files that were imported, and
-// what of a dump isn't computed.
+// what of a dump isn't computed: in words (`notes`), the pools that are left out with the devices
+// that they may have (`left`), and groups with whole upmap lists, by pool (`whole`).
 
 const KNOWN = "crushcalc.tenant.";
 
@@ -9,7 +10,7 @@ export function tenants() {
 }
 
 export function known(tenant) {
-    const empty = { epoch: 0, seen: 0, pools: [], states: {}, files: {}, notes: [], skipped: {}, pool: 0, one: false };
+    const empty = { epoch: 0, seen: 0, pools: [], states: {}, files: {}, notes: [], left: [], whole: {}, pool: 0, one: false };
     try {
         return { ...empty, ...JSON.parse(localStorage.getItem(KNOWN + tenant) ?? "{}") };
     } catch {

@@ -36,11 +36,18 @@ export function present(list) {
     return list.reduce((count, it, place) => count + (it !== -1 && list.indexOf(it) === place), 0);
 }
 
+// The lists of after, where these groups have what they had before.
+export function staying(before, after, groups) {
+    const own = new Set(groups);
+    return flat(Array.from({ length: after.starts.length - 1 }, (_, group) => listAt(own.has(group) ? before : after, group)));
+}
+
 // How many groups have fewer copies than the pool's size, how many copies these lack, and how many
-// groups have fewer than its min_size.
-export function lacking(pool, lists) {
-    const found = { groups: 0, copies: 0, stopped: 0 };
+// groups have fewer than its min_size; `but` are groups that aren't counted.
+export function lacking(pool, lists, but = []) {
+    const found = { groups: 0, copies: 0, stopped: 0 }, without = new Set(but);
     for (let group = 0; group < pool.pg_num; group += 1) {
+        if (without.has(group)) continue;
         const has = present(listAt(lists, group));
         if (has < pool.size) found.groups += 1;
         found.copies += Math.max(0, pool.size - has);
@@ -84,10 +91,11 @@ export function movesOf(pool, rows) {
 }
 
 // What differs between the lists of a pool before and after: the groups that move with their
-// lists, what each device has before and after, gains and loses, and what has no room.
-export function differences(pool, before, after) {
+// lists, what each device has before and after, gains and loses, and what has no room, but for some
+// groups.
+export function differences(pool, before, after, but) {
     const groups = [];
     for (let group = 0; group < pool.pg_num; group += 1) if (!same(listAt(before, group), listAt(after, group))) groups.push(group);
     const of = (lists) => flat(groups.map((group) => [...listAt(lists, group)])), ids = greatest(before.items, after.items) + 1;
-    return { ...moves(pool, Int32Array.from(groups), of(before), of(after)), had: counted(before, ids), has: counted(after, ids), lackedBefore: lacking(pool, before), lacks: lacking(pool, after) };
+    return { ...moves(pool, Int32Array.from(groups), of(before), of(after)), had: counted(before, ids), has: counted(after, ids), lackedBefore: lacking(pool, before), lacks: lacking(pool, after, but) };
 }

@@ -1,6 +1,8 @@
 // A map, read from the canonical text that the service gives: what contains what, with weights as
 // they are written there, and the rules.
 
+const ONE = 65536;
+
 export function readMap(text) {
     const devices = new Map(), buckets = new Map(), rules = [], types = new Map();
     let open = null;
@@ -23,12 +25,17 @@ export function readMap(text) {
         } else if (words[0] === "type") {
             open.kind = words[1];
         } else if (words[0] === "item") {
-            open.items.push({ name: words[1], weight: words[3], number: Number(words[3]) });
+            open.items.push({ name: words[1], weight: words[3], number: weightIn(words[3]) });
         } else if (words[0] === "step") {
             open.steps.push(words.slice(1));
         }
     }
     return joined(devices, buckets, rules, types);
+}
+
+// A weight as the service has it, in 65536ths: its text has five decimals, rounded up.
+function weightIn(text) {
+    return Math.floor(Number(text) * ONE + 0.01) / ONE;
 }
 
 // Each bucket and device with the buckets that have it as an item; the roots are in none.

@@ -230,7 +230,7 @@ async function takeWhole(tenant, map, osd, work, fresh) {
 async function takeMore(tenant, files, work) {
     if (files.saved) return { said: takeSaved(files.saved, cluster.summary) };
     if (files.states) return { said: await takeStates(tenant, files.states) };
-    const osd = osdIn(files), map = mapIn(files, osd);
+    const osd = osdIn(files), map = mapIn(files, osd, (id) => cluster.map.byId.has(id));
     if (map && osd) {
         if (signature(readMap(map.text)) !== signature(cluster.map)) await importMap(tenant, map, (file) => take([file]));
         return takeWhole(tenant, map, osd, work, false);

@@ -14,6 +14,15 @@ function placesOf(map, level) {
     return [...map.devices.values()].map(deviceOf);
 }
 
+// Devices that are in no bucket and have nothing are in no table.
+function isShown({ place, sums }) {
+    return place.bucket || place.device.buckets.length > 0 || Object.values(sums).some((it) => it !== 0);
+}
+
+export function isPlaced(cluster, id) {
+    return Boolean(cluster.map.byId.get(id)?.buckets.length);
+}
+
 function deviceOf(device) {
     const host = device.buckets[0];
     return { name: device.name, type: "device", id: device.id, above: host ? [host.name, pathOf(host)].filter(Boolean).join(", ") : "in no bucket", devices: [device.id], device };
@@ -77,7 +86,7 @@ export function placesTable(cluster, { values, columns, draw, top, orders, mark 
     function rows() {
         const word = search.value.trim().toLowerCase(), first = orders.find(([key]) => key === order.value)?.[2];
         const has = (it) => !word || it.name.toLowerCase().includes(word) || it.above.toLowerCase().includes(word) || it.bucket && devicesBelow(it.bucket).some((one) => one.name.toLowerCase() === word);
-        const found = placesOf(map, level.value).filter((it) => it.devices.length && has(it) && it.devices.some(only)).map((it) => summed(it, values));
+        const found = placesOf(map, level.value).filter((it) => it.devices.length && has(it) && it.devices.some(only)).map((it) => summed(it, values)).filter(isShown);
         if (first) found.sort((a, b) => first(b.sums) - first(a.sums));
         return found;
     }

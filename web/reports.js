@@ -1,7 +1,7 @@
 // A worker that reads long replies, so that the page never waits for one: moves and impacts have up
 // to 65,536 groups. Lists are handed over as arrays of numbers, without a copy. An empty place is
 // -1.
-import { differences, lacking, listsOf, movesOf } from "./lists.js";
+import { differences, listsOf, movesOf } from "./lists.js";
 
 const decoder = new TextDecoder();
 
@@ -14,17 +14,16 @@ const READERS = {
         const { groups, ...head } = json(bytes);
         return { ...head, groups: Int32Array.from(groups) };
     },
-    moves: ([bytes], pool) => {
-        const { rows, ...head } = json(bytes);
-        return { ...head, ...movesOf(pool, rows) };
+    moves: ([bytes], { pool, but }) => {
+        const { rows, ...head } = json(bytes), without = new Set(but);
+        return { ...head, ...movesOf(pool, rows.filter((it) => !without.has(it.group))) };
     },
     // the lists of a pool's groups, of moves from a map on which all are empty
     lists: ([bytes], pool) => {
         const { rows, epoch } = json(bytes);
         return { epoch, ...listsOf(rows, pool.pg_num) };
     },
-    differences: ([], { pool, before, after }) => differences(pool, before, after),
-    lacking: ([], { pool, lists }) => lacking(pool, lists),
+    differences: ([], { pool, before, after, but }) => differences(pool, before, after, but),
 };
 
 // The memory of the arrays in what is handed over.

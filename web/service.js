@@ -5,6 +5,11 @@ import { meaning } from "./codes.js";
 
 const PENDING = "crushcalc.pending.";
 const NO_ANSWER = new Set([0, 502, 503, 504]);
+// how many requests are under way at a time: a web server may let a tenant and a user have no more
+// (examples/nginx.conf)
+const AT_ONCE = 2;
+// how often one that the web server refuses for that is sent again by itself, and after how long
+const TRIES = 8, AGAIN_MS = 500;
 const decoder = new TextDecoder();
 
 export class GivenUp extends Error {}
@@ -23,7 +28,46 @@ export function hex(bytes) {
     return Array.from(crypto.getRandomValues(new Uint8Array(bytes)), (it) => it.toString(16).padStart(2, "0")).join("");
 }
 
+// Those that wait for their turn, the first one first.
+const waiting = [];
+let underWay = 0;
+
+function begin() {
+    while (underWay < AT_ONCE && waiting.length) {
+        underWay += 1;
+        waiting.shift()();
+    }
+}
+
+// Ends when it is one's turn. One that is stopped before goes out of the line.
+function turn(signal) {
+    return new Promise((go, stop) => {
+        const leave = () => {
+            waiting.splice(waiting.indexOf(mine), 1);
+            stop(signal.reason);
+        };
+        const mine = () => {
+            signal?.removeEventListener("abort", leave);
+            go();
+        };
+        if (signal?.aborted) return stop(signal.reason);
+        signal?.addEventListener("abort", leave);
+        waiting.push(mine);
+        return begin();
+    });
+}
+
 async function send(method, path, body, signal) {
+    await turn(signal);
+    try {
+        return await sent(method, path, body, signal);
+    } finally {
+        underWay -= 1;
+        begin();
+    }
+}
+
+async function sent(method, path, body, signal) {
     try {
         const reply = await fetch(path, { method, body, signal, cache: "no-store", redirect: "error" });
         return { status: reply.status, bytes: await reply.arrayBuffer() };
@@ -42,18 +86,23 @@ function said(bytes) {
     }
 }
 
-// Sends until there is an answer: after a lost reply once more by itself, and then, as after a 503,
-// when the planner says so.
+// Sends until there is an answer: after a lost reply once more by itself, some times where the web
+// server has too many under way, as where one that was stopped still runs, and then, as after a 503
+// of the service, when the planner says so. `again` is whether a reply was lost.
 async function answer(what, method, path, body, changes, signal) {
-    for (let itself = true, tries = 1; ; tries += 1) {
+    let lost = 0, busy = 0, again = false;
+    for (;;) {
         const { status, bytes } = await send(method, path, body, signal);
-        if (!NO_ANSWER.has(status)) return { status, bytes, again: tries > 1 };
-        if (status !== 503 && itself) {
-            itself = false;
-            await new Promise((go) => setTimeout(go, 500));
+        if (!NO_ANSWER.has(status)) return { status, bytes, again };
+        const { error } = said(bytes);
+        again ||= status !== 503;
+        if (status === 503 ? !error && busy < TRIES : !lost) {
+            if (status === 503) busy += 1;
+            else lost += 1;
+            await new Promise((go) => setTimeout(go, AGAIN_MS));
         } else {
-            await decide({ what, why: meaning(status, said(bytes).error, method !== "GET"), changes, signal });
-            itself = true;
+            await decide({ what, why: meaning(status, error, method !== "GET"), changes, signal });
+            [lost, busy] = [0, 0];
         }
     }
 }

@@ -3,10 +3,11 @@
 import { change } from "./service.js";
 import { meaning } from "./codes.js";
 import { good, parts, poolBody } from "./copies.js";
-import { Fault, RJENKINS, kindOf, readCrush, readOsd, ruleFault, some, textOf } from "./dump.js";
+import { Fault, RJENKINS, devicesOf, kindOf, readCrush, readOsd, ruleFault, some, textOf } from "./dump.js";
 import { el, fault } from "./dom.js";
-import { many } from "./figures.js";
+import { count, many } from "./figures.js";
 import { known, note } from "./known.js";
+import { devicesBelow } from "./map.js";
 import { faultOf } from "./refused.js";
 
 const LONGEST_FILE = 16_777_216, LONGEST_BODY = 5_242_880, PAIRS = 1024, SIZE = 32, GROUPS = 65536;
@@ -30,20 +31,22 @@ export async function filesOf(list) {
     return found;
 }
 
-// What osd.json and crush.json say, where they are among the files. Each is read once.
+// What osd.json and crush.json say, where they are among the files. Each is read once. `there` says
+// whether the cluster has a device, where no osd.json does.
 export function osdIn({ osd }) {
     if (osd) osd.read ??= readOsd(osd.whole, osd.name);
     return osd?.read;
 }
 
-export function crushIn({ crush }) {
-    if (crush) crush.read ??= readCrush(crush.whole, crush.name);
+export function crushIn(files, there) {
+    const { crush } = files, osd = osdIn(files);
+    if (crush) crush.read ??= readCrush(crush.whole, crush.name, osd ? (id) => osd.states.has(id) : there);
     return crush?.read;
 }
 
 // The map of the files: its text for the service, and the dump where it is one.
-export function mapIn(files, osd) {
-    const dump = crushIn(files);
+export function mapIn(files, osd, there) {
+    const dump = crushIn(files, there);
     if (!dump) return files.text && { ...files.text, dump: null };
     return { name: files.crush.name, text: textOf(dump, osd ? [...osd.states.keys()].filter((id) => !dump.devices.has(id)) : []), dump };
 }
@@ -65,13 +68,15 @@ export async function importMap(tenant, { name, text }, take) {
 
 // ---- pools, states and upmap items of osd.json
 
-// Why a pool isn't computed, or null. `rules` are those of the map that the service has.
-function poolFault(pool, dump, rules, file) {
+// Why a pool isn't computed, or null. `rules` are those of the map that the service has, `pairs` the
+// pool's upmap items.
+function poolFault(pool, dump, rules, file, pairs) {
+    if (pairs.length > PAIRS) return `it has ${many(pairs.length, "pair")} of upmap items, and the service takes ${count(PAIRS)} at once; crushplan sets them part by part`;
     const rule = dump ? dump.rules.get(pool.rule) : rules.get(pool.rule);
     if (!rule) return `${file} lacks its rule ${pool.rule}`;
     if (pool.kind.startsWith("of type")) return `it is a pool ${pool.kind}`;
     if (!(pool.size >= 1 && pool.size <= SIZE)) return `its size is ${pool.size}, and crushcalc takes 1 to ${SIZE}`;
-    if (!(pool.pg_num >= 1 && pool.pg_num <= GROUPS && pool.pgp_num >= 1 && pool.pgp_num <= pool.pg_num)) return `it has ${pool.pg_num} groups, ${pool.pgp_num} by pgp_num, and crushcalc takes 1 to ${many(GROUPS, "").trim()}`;
+    if (!(pool.pg_num >= 1 && pool.pg_num <= GROUPS && pool.pgp_num >= 1 && pool.pgp_num <= pool.pg_num)) return `it has ${pool.pg_num} groups, ${pool.pgp_num} by pgp_num, and crushcalc takes 1 to ${count(GROUPS)}`;
     if (pool.kind !== rule.kind) return `it is ${pool.kind}, and its rule ${rule.name} is for ${rule.kind} pools: Ceph then finds no rule`;
     if (rule.sizes && (pool.size < rule.sizes[0] || pool.size > rule.sizes[1])) return `its size ${pool.size} isn't within ${rule.sizes[0]} to ${rule.sizes[1]} of its rule ${rule.name}: Ceph then finds no rule`;
     return dump && ruleFault(dump, rule);
@@ -85,7 +90,7 @@ function oddities(osd, dump) {
         if (it.splits) lines.push(`pool ${it.name} is being split or merged (pg_num ${it.pg_num} on its way to ${it.splits[0]}, pgp_num ${it.pgp_num} to ${it.splits[1]}): it is computed as it is now, and its groups move by themselves`);
         if (it.hash !== RJENKINS) lines.push(`pool ${it.name} has another object hash than rjenkins: where its groups lie is computed, where its objects lie isn't`);
     }
-    note(osd.lists, "whole upmap lists (pg_upmap)", "where they lie isn't computed: they count where their rule puts them, and stand in no list of moves");
+    note(osd.lists.map((it) => it.at), "whole upmap lists (pg_upmap)", "where they lie isn't computed: they count where their rule puts them, and stand in no list of moves");
     note(osd.temporary.lists, "a temporary list (pg_temp)", "what is said is where they lie once that is over");
     note(osd.temporary.primaries, "a temporary primary (primary_temp)", "what is said is where they lie once that is over");
     if (osd.affine.length) lines.push(`${some(osd.affine.map((it) => `osd.${it}`))} ${osd.affine.length === 1 ? "has" : "have"} a primary affinity other than 1: the primaries of their groups, and the order of the lists of replicated pools, are others in the cluster`);
@@ -124,25 +129,39 @@ function pairsOf(osd, pool, map) {
     return osd.upmaps.filter(({ at: [id, group] }) => id === pool.id && group < pool.pg_num).flatMap(({ at: [, group], pairs }) => pairs.filter(([from, to]) => from !== to && map.byId.has(from) && map.byId.has(to)).map(([from, to]) => ({ group, from, to })));
 }
 
+// The devices that a pool which isn't computed may have: those below what its rule takes; none
+// where that isn't known, and then it may have any.
+function reached({ rule }, map, dump) {
+    if (dump) return dump.rules.has(rule) ? [...devicesOf(dump, dump.rules.get(rule))] : [];
+    const takes = map.rules.find((it) => it.id === rule)?.steps.filter(([op]) => op === "take").map((it) => it[1]) ?? [];
+    return takes.flatMap((it) => (map.buckets.has(it) ? devicesBelow(map.buckets.get(it)).map((one) => one.id) : [map.devices.get(it)?.id].filter((id) => id !== undefined)));
+}
+
 // Sets what osd.json says on a tenant that has its map.
 export async function takeOsd(tenant, map, osd, dump, fresh, work) {
-    const rules = new Map(map.rules.map((it) => [it.id, it])), fault = (it) => poolFault(it, dump, rules, dump?.file ?? "the map");
-    const lines = [...osd.pools.filter(fault).map((it) => `pool ${it.name} (${it.id}) isn't computed: ${fault(it)}`), ...oddities(osd, dump)];
+    const rules = new Map(map.rules.map((it) => [it.id, it])), pairs = new Map(osd.pools.map((it) => [it, pairsOf(osd, it, map)]));
+    const faults = new Map(osd.pools.map((it) => [it, poolFault(it, dump, rules, dump?.file ?? "the map", pairs.get(it))]).filter(([, why]) => why));
+    const left = [...faults].map(([it, why]) => ({ pool: it.id, devices: reached(it, map, dump), text: `pool ${it.name} (${it.id}) isn't computed: ${why}` })), lines = [...left.map((it) => it.text), ...oddities(osd, dump)];
     work.step("Setting the states of devices");
     const states = await setStates(tenant, statesOf(osd, map), map, { whole: fresh }), lacking = [...osd.states.keys()].filter((id) => !map.byId.has(id));
     if (lacking.length) lines.push(`${osd.file} has devices that the map lacks; they hold nothing: ${some(lacking.map((it) => `osd.${it}`))}`);
-    const pools = osd.pools.filter((it) => !fault(it)), skipped = Object.fromEntries(pools.map((it) => [it.id, osd.lists.filter(([pool]) => pool === it.id).map(([, group]) => group)]).filter(([, groups]) => groups.length));
-    let pairs = 0;
+    const pools = osd.pools.filter((it) => !faults.has(it));
+    const wholeOf = (pool) => osd.lists.filter(({ at }) => at[0] === pool.id && at[1] < pool.pg_num).map(({ at, devices }) => ({ group: at[1], devices }));
+    let set = 0;
+    // the tenant has the pools of the dump then, and no other
+    for (const it of known(tenant).pools.filter((one) => !pools.some((pool) => pool.id === one.id))) {
+        work.step(`Removing the pool ${it.name}`);
+        good(await change(`Remove the pool ${it.name}`, tenant, "pools/remove", { id: it.id }, {}), `The pool ${it.name}`);
+    }
     for (const pool of pools) {
         work.step(`Making the pool ${pool.name}`);
         await makePool(tenant, pool);
-        const all = pairsOf(osd, pool, map);
-        if (all.length > PAIRS) lines.push(`Pool ${pool.name} has ${many(all.length, "pair")} of upmap items, and the service takes ${many(PAIRS, "pair")}: they aren't set`);
-        else if (all.length || !fresh) good(await change(`Set the upmap items of ${pool.name}`, tenant, "pools/exceptions", { id: pool.id, exceptions: all }, {}), `The upmap items of ${pool.name}`);
-        pairs += all.length > PAIRS ? 0 : all.length;
+        const all = pairs.get(pool);
+        if (all.length || !fresh) good(await change(`Set the upmap items of ${pool.name}`, tenant, "pools/exceptions", { id: pool.id, exceptions: all }, {}), `The upmap items of ${pool.name}`);
+        set += all.length;
     }
-    note(tenant, { notes: lines, skipped });
-    return `${many(pools.length, "pool")}, ${many(states, "device")} with a reweight or down, ${many(pairs, "upmap item")}`;
+    note(tenant, { notes: lines, left, whole: Object.fromEntries(pools.map((it) => [it.id, wholeOf(it)]).filter(([, own]) => own.length)) });
+    return `${many(pools.length, "pool")}, ${many(states, "device")} with a reweight or down, ${many(set, "upmap item")}`;
 }
 
 // ---- the other files
@@ -155,8 +174,8 @@ export async function takeStates(tenant, { name, text }) {
 
 // What this browser knows of a tenant, as a file for another one.
 export function savedOf(tenant) {
-    const { pools, states, files, seen, notes } = known(tenant);
-    return JSON.stringify({ crushcalc: 1, tenant, seen, pools, states, files, notes }, null, 1);
+    const { pools, states, files, seen, notes, left, whole } = known(tenant);
+    return JSON.stringify({ crushcalc: 1, tenant, seen, pools, states, files, notes, left, whole }, null, 1);
 }
 
 // Takes over what another browser knew: it is confirmed where the cluster wasn't changed since.
@@ -164,6 +183,6 @@ export function takeSaved({ name, text }, summary) {
     const it = JSON.parse(text);
     if (it.crushcalc !== 1 || !Array.isArray(it.pools) || typeof it.states !== "object") throw new Fault(`${name} isn't a file that this page saved.`);
     if (it.tenant !== summary.tenant) throw new Fault(`${name} is of the cluster ${it.tenant}, not of ${summary.tenant}.`);
-    note(summary.tenant, { pools: it.pools, states: it.states, files: it.files ?? {}, notes: it.notes ?? [], seen: it.seen });
+    note(summary.tenant, { pools: it.pools, states: it.states, files: it.files ?? {}, notes: it.notes ?? [], left: it.left ?? [], whole: it.whole ?? {}, seen: it.seen });
     return el("p", { class: "done" }, `${name} is read: ${many(it.pools.length, "pool")} and the states of ${many(Object.keys(it.states).length, "device")}.`);
 }

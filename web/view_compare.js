@@ -1,15 +1,15 @@
 // Two maps compared: two versions, or the newest one and a map that is tried in a copy and doesn't
 // become a version. What moves in all, and what each place gains and loses.
 import { ask, change } from "./service.js";
-import { good, report, stagesOf } from "./answer.js";
+import { good, report, stagesOf, wholeLists } from "./answer.js";
 import { meaning } from "./codes.js";
 import { button, csv, el, fault, labelled, options } from "./dom.js";
-import { answerRow, beforeAfter, changePicture, groupsFolded, legend, poolLines, totals, verdict } from "./change_view.js";
+import { answerRow, beforeAfter, changePicture, groupsFolded, leftOutNote, legend, poolLines, totals, verdict } from "./change_view.js";
 import { count, figures } from "./figures.js";
 import { faultOf } from "./refused.js";
 import { readMap } from "./map.js";
 import { DEVICE_HEADS, deviceFields, placesTable } from "./places.js";
-import { missing, poolPicker, poolsChosen } from "./view_pools.js";
+import { leftOut, missing, poolPicker, poolsChosen } from "./view_pools.js";
 import { filling } from "./waiting.js";
 
 // What each place gains and loses, of parts that have only that.
@@ -39,7 +39,7 @@ async function versions(cluster, from, to, work) {
     const pools = poolsChosen(cluster), found = [], name = `${cluster.tenant}-${from}-${to}`;
     for (const pool of pools) {
         work.step(`What moves: ${pool.name}`);
-        const said = await report("moves", "Compare two versions", `/t/${cluster.tenant}/pools/${pool.id}/moves/${from}/${to}`, pool, work.signal);
+        const but = wholeLists(cluster, pool).map((it) => it.group), said = await report("moves", "Compare two versions", `/t/${cluster.tenant}/pools/${pool.id}/moves/${from}/${to}`, { pool, but }, work.signal);
         // the report has the pool's number in a field of this name
         found.push({ ...said, pool });
     }
@@ -61,6 +61,7 @@ async function tried(cluster, { name, text }, refresh, work) {
             other = readMap(good(await ask(`Read ${name} as the service has it`, "GET", `/t/${copy.name}/maps/${reply.version}`), name).text);
             return reply.version;
         },
+        then: () => ({ states, map: other }),
     }], work).catch((why) => {
         if (refusals.length) return [null];
         throw why;
@@ -76,7 +77,7 @@ async function tried(cluster, { name, text }, refresh, work) {
         return undefined;
     }, { id: "keep" });
     return [el("h2", { class: "title" }, `Version ${cluster.summary.versions} and ${name}`), el("p", { class: "hint" }, `${name} was tried in a copy: the newest version is ${cluster.summary.versions} as before. `, keep),
-        verdict(found, all), answerRow(both, all), poolLines(found), changePicture(both, all), beforeAfter(both, all, file), groupsFolded(both, found, ["now", `by ${name}`], file)];
+        verdict(found, all, { unknown: leftOut(cluster).length }), leftOutNote(leftOut(cluster)), answerRow(both, all), poolLines(found), changePicture(both, all), beforeAfter(both, all, file), groupsFolded(both, found, ["now", `by ${name}`], file)];
 }
 
 // The places of both maps: those of the other one, and what it lacks of the first.

@@ -1,11 +1,11 @@
 // A drain or a failure on paper: the answer first, then the usage before and after, then the
 // groups.
 import { button, el, fault, labelled, options, pause, sayDone } from "./dom.js";
-import { canMove, stagesOf } from "./answer.js";
-import { answerRow, beforeAfter, changePicture, groupsFolded, poolLines, totals, verdict } from "./change_view.js";
+import { canMove, stagesOf, unknownGroups, wholeLists } from "./answer.js";
+import { answerRow, beforeAfter, changePicture, groupsFolded, leftOutNote, poolLines, totals, verdict } from "./change_view.js";
 import { count, figures, many } from "./figures.js";
 import { namesOf, picker } from "./picker.js";
-import { missing, poolsChosen, poolPicker } from "./view_pools.js";
+import { leftOut, missing, poolsChosen, poolPicker } from "./view_pools.js";
 import { Stopped, working } from "./waiting.js";
 
 const WAYS = { drain: "Drain: they are taken out, as by ceph osd out", fail: "Fail: they go down at once, and are taken out later" };
@@ -18,7 +18,7 @@ function statesAfter(cluster, ids, down) {
 }
 
 function stages(cluster, ids, fails) {
-    const out = { words: "With the devices out", change: (copy) => copy.states(ids.map((id) => ({ id, reweight: 0 }))), out: { ids: new Set(ids), states: statesAfter(cluster, ids, fails) } };
+    const out = { words: "With the devices out", change: (copy) => copy.states(ids.map((id) => ({ id, reweight: 0 }))), then: () => ({ ids: new Set(ids), states: statesAfter(cluster, ids, fails) }) };
     const down = { words: "With the devices down", change: (copy) => copy.states(ids.map((id) => ({ id, up: false }))) };
     return fails ? [down, out] : [out];
 }
@@ -42,6 +42,7 @@ function proved(cluster, pools, ids) {
         return canMove(cluster, pools, ids, work, () => said.isConnected);
     };
     working("Which groups can move", asks).then((lists) => {
+        for (const pool of pools) for (const { group } of wholeLists(cluster, pool)) lists.get(pool.id).delete(group);
         const all = [...lists.values()].reduce((sum, it) => sum + it.size, 0);
         said.replaceChildren(`Proved: no group moves but the ${count(all)} of the impact lists, while only the reweights of these devices are lowered.`);
     }).catch((why) => said.replaceChildren(fault(why.message)));
@@ -54,15 +55,15 @@ function stay(cluster, ids, found) {
     return found.reduce((all, it) => all + ids.filter((id) => taken(it).has(id)).reduce((sum, id) => sum + (it.has[id] ?? 0), 0), 0);
 }
 
-function shown(cluster, pools, ids, fails, results) {
-    const found = results.at(-1), names = namesOf(cluster, ids).join(", "), chosen = new Set(ids);
+function shown(cluster, pools, ids, fails, results, groups) {
+    const lacks = leftOut(cluster, ids), found = results.at(-1), names = namesOf(cluster, ids).join(", "), chosen = new Set(ids);
     const all = totals(cluster, found, { before: cluster.known.states, after: statesAfter(cluster, ids, fails) });
     const mark = (place) => {
         const within = place.devices.filter((it) => chosen.has(it)).length, word = fails ? "failed" : "drained";
         return within > 0 && el("span", { class: "badge out" }, within === place.devices.length ? word : `${word} in part`);
     };
     const file = `${cluster.tenant}-${namesOf(cluster, ids)[0]}`, stopped = fails ? results[0].reduce((sum, it) => sum + it.lacks.stopped, 0) : 0;
-    return [el("h2", { class: "title", id: "answered", tabindex: "-1" }, `${fails ? "Failure" : "Drain"} of ${names}`), verdict(found, all, { stopped, keeping: stay(cluster, ids, found) }), fails && atOnce(results[0]), answerRow(cluster, all), proved(cluster, pools, ids),
+    return [el("h2", { class: "title", id: "answered", tabindex: "-1" }, `${fails ? "Failure" : "Drain"} of ${names}`), verdict(found, all, { stopped, keeping: stay(cluster, ids, found), unknown: lacks.length + groups }), leftOutNote(lacks, groups), fails && atOnce(results[0]), answerRow(cluster, all), proved(cluster, pools, ids),
         all.shortBefore > 0 && el("p", { class: "note" }, `${many(all.shortBefore, "group has", "groups have")} fewer copies than the pool's size already now.`), poolLines(found), el("h2", {}, "Usage before and after"), changePicture(cluster, all), beforeAfter(cluster, all, file, mark),
         groupsFolded(cluster, found, ["before", "after"], file),
         el("p", { class: "hint" }, `Computed on a copy of the cluster on the service, which is dropped: neither your Ceph cluster nor what is kept here is changed. ${count(ids.length)} devices, ${many(pools.length, "pool")}.`)].flat();
@@ -96,9 +97,9 @@ export function showDrain(cluster, wanted = {}) {
         try {
             await working(fails ? "A failure on a copy" : "A drain on a copy", async (work) => {
                 running = work;
-                const results = await stagesOf(cluster, pools, stages(cluster, ids, fails), work);
+                const results = await stagesOf(cluster, pools, stages(cluster, ids, fails), work), groups = await unknownGroups(cluster, pools, ids, work);
                 work.goesOn();
-                at.replaceChildren(...shown(cluster, pools, ids, fails, results).filter(Boolean));
+                at.replaceChildren(...shown(cluster, pools, ids, fails, results, groups).filter(Boolean));
             });
             sayDone("The answer is there");
             if (at.getBoundingClientRect().top > window.innerHeight * 0.5) at.querySelector(".title").focus();

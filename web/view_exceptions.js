@@ -1,7 +1,7 @@
 // The exceptions of a pool, as Ceph has upmap items: written as lines, tried in a copy, set, and
 // taken back.
 import { ask, change } from "./service.js";
-import { good, stagesOf } from "./answer.js";
+import { breaking, good, stagesOf } from "./answer.js";
 import { meaning } from "./codes.js";
 import { answerRow, beforeAfter, groupsFolded, totals, verdict } from "./change_view.js";
 import { button, counted, el, fault, labelled } from "./dom.js";
@@ -80,7 +80,7 @@ function editor(cluster, pool, key, pairs, refresh) {
     }
     const tries = () => {
         const list = read();
-        if (list) filling(result, "Trying them in a copy", (work) => tried(cluster, pool, list, work));
+        if (list) filling(result, "Trying them in a copy", (work) => tried(cluster, pool, pairs, list, work));
     };
     const sets = () => {
         const list = read();
@@ -93,8 +93,28 @@ function editor(cluster, pool, key, pairs, refresh) {
         el("div", { class: "buttons" }, button("Try them in a copy", tries, { id: "try", class: "main" }), button("Set them", sets, { id: "set" }), earlier && button("Take back what was set last", () => set(earlier, null, "The earlier ones are set again."), { id: "take-back" })), result];
 }
 
-async function tried(cluster, pool, list, work) {
-    const [found] = await stagesOf(cluster, [pool], [{ words: "With the exceptions", change: (copy) => copy.exceptions(pool, list).then(() => undefined) }], work);
+// The pairs of each group, as they are written.
+function byGroup(pairs) {
+    const found = new Map();
+    for (const { group, from, to } of pairs) found.set(group, [...found.get(group) ?? [], [from, to]]);
+    return found;
+}
+
+// Those groups that have other pairs than before, and not none.
+function changed(before, now) {
+    const old = byGroup(before);
+    return [...byGroup(now)].filter(([group, own]) => String(old.get(group)) !== String(own));
+}
+
+async function tried(cluster, pool, before, list, work) {
+    let broken = 0;
+    const [found] = await stagesOf(cluster, [pool], [{
+        words: "With the exceptions",
+        async change(copy) {
+            await copy.exceptions(pool, list);
+            broken = await breaking(cluster, copy, pool, changed(before, list), work);
+        },
+    }], work);
     const states = cluster.known.states, all = totals(cluster, found, { before: states, after: states }), name = `${cluster.tenant}-${pool.name}-exceptions`;
-    return [el("h2", {}, "Beside what is set now"), verdict(found, all), answerRow(cluster, all), beforeAfter(cluster, all, name), groupsFolded(cluster, found, ["now", "with them"], name)];
+    return [el("h2", {}, "Beside what is set now"), verdict(found, all, { broken }), answerRow(cluster, all), beforeAfter(cluster, all, name), groupsFolded(cluster, found, ["now", "with them"], name)];
 }

@@ -27,6 +27,12 @@ export function poolsChosen(cluster) {
     return cluster.known.one ? [poolOf(cluster)] : cluster.known.pools;
 }
 
+// The pools of the cluster that aren't computed and are looked at with all others; with `devices`
+// those that may have copies on one of them.
+export function leftOut({ known }, devices) {
+    return known.one ? [] : known.left.filter((it) => !devices || !it.devices.length || it.devices.some((id) => devices.includes(id)));
+}
+
 export function poolOf(cluster) {
     return cluster.known.pools.find((it) => it.id === cluster.known.pool) ?? cluster.known.pools[0];
 }

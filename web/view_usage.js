@@ -4,7 +4,7 @@ import { csv, el } from "./dom.js";
 import { legend } from "./change_view.js";
 import { count, figures } from "./figures.js";
 import { picture } from "./picture.js";
-import { DEVICE_HEADS, deviceFields, placesTable } from "./places.js";
+import { DEVICE_HEADS, deviceFields, isPlaced, placesTable } from "./places.js";
 import { decimals, expectedOf, partText, partsOf, percent, percentText } from "./shares.js";
 import { copiesByDevice, copiesIn, usageOf } from "./usage.js";
 import { missing, poolPicker, poolsChosen } from "./view_pools.js";
@@ -24,7 +24,7 @@ function usageCsv(cluster, pools, usages) {
     const heads = ["pool", "pool_name", ...DEVICE_HEADS, "copies", "expected", "percent", "groups", "primaries", "permille"];
     const rows = pools.flatMap((pool, place) => {
         const parts = partsOf(cluster.map, pool, cluster.known.states), whole = copiesIn(usages[place]);
-        return usages[place].rows.filter((it) => cluster.map.byId.has(it.device)).map((it) => {
+        return usages[place].rows.filter((it) => isPlaced(cluster, it.device) || it.entries).map((it) => {
             const expected = (parts.get(it.device) ?? 0) * whole;
             return [pool.id, pool.name, ...deviceFields(cluster, it.device), it.entries, decimals(expected, 2), partText(it.entries, expected), it.groups, it.primaries, it.permille];
         });

@@ -35,8 +35,8 @@ def serving(program, folder):
 
 
 class Page:
-    def __init__(self, browser, port, proxy, downloads):
-        self.browser, self.port, self.proxy, self.downloads = browser, port, proxy, downloads
+    def __init__(self, browser, port, proxy, downloads, program=None):
+        self.browser, self.port, self.proxy, self.downloads, self.program = browser, port, proxy, downloads, program
         self.made = 0
         self.copies = []
 

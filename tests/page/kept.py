@@ -1,0 +1,219 @@
+"""Each number that the page shows is the one that crushplan prints: the kept clusters of
+tests/crushplan, of which crushplan's answers are compared with Ceph's, are dropped on the page, and
+what it shows of drains, failures, usage, another map and upmap items is compared with crushplan's
+JSON."""
+import json
+import os
+import pathlib
+import subprocess
+from collections import defaultdict
+
+from page import TOP, first, unlike
+
+CLUSTERS = TOP / "tests" / "crushplan" / "clusters"
+
+
+def counted(number):
+    """A whole number as the page writes it."""
+    return f"{number:,}"
+
+
+def signed(number):
+    return f"+{number:,}" if number > 0 else f"−{-number:,}" if number < 0 else "0"
+
+
+def share(number):
+    return f"{number:.2f}"
+
+
+def percent(of, copies):
+    return f"{of:.1f} %" if of is not None else "none expected" if copies else "–"
+
+
+def plan(program, folder, command, *words):
+    """What crushplan answers: its JSON."""
+    words = ["python3", str(TOP / "tools" / "crushplan"), command, str(folder), *map(str, words), "--json"]
+    ran = subprocess.run(words, stdout=subprocess.PIPE, stderr=subprocess.PIPE, text=True, env={**os.environ, "CRUSHCALC": str(program)}, timeout=300)
+    if not ran.stdout:
+        raise OSError(f"crushplan {command} says {ran.stderr[-300:]!r}")
+    return json.loads(ran.stdout)
+
+
+def dropped(page, folder):
+    """A new tenant of the cluster's two dumps."""
+    page.fresh()
+    page.browser.drop((folder / "crush.json").read_text(), "crush.json", ((folder / "osd.json").read_text(), "osd.json"))
+    page.browser.until(lambda: "The cluster is there" in page.browser.text("#said"), "the dumps aren't taken")
+    page.settled()
+
+
+def shown_by(page, level, table):
+    """The rows of a table of places by a level: of each name the texts of its figures."""
+    page.by(level, table)
+    page.browser.until(lambda: all_rows(page, table), "not all rows are shown")
+    script = "return [...document.querySelectorAll(arguments[0])].map((row) => [row.querySelector('th').firstChild.textContent, [...row.querySelectorAll('td.number')].map((it) => it.textContent)])"
+    return dict(page.browser.run(script, f"#{table} tbody tr"))
+
+
+def all_rows(page, table):
+    """Asks for the rows that aren't shown yet."""
+    return page.browser.run("const more = [...document.querySelectorAll(`#${arguments[0]} .cut button`)]; more.forEach((it) => it.click()); return !more.length", table)
+
+
+# ---- usage
+
+
+def same_usage(page, program, folder):
+    page.browser.tab("Usage")
+    page.browser.one("#answer")
+    page.settled()
+    whys, said = [], plan(program, folder, "usage")
+    copies, wanted = sum(it["copies"] for it in said["pools"]), sum(it["wanted"] for it in said["pools"])
+    ends = {"most": said["greatest"]["percent"], "least": said["least"]["percent"]}
+    whys.append(unlike(page.figures(), {"copies": counted(copies), **({"missing": counted(wanted - copies)} if wanted > copies else {}), **{key: percent(it, 1) for key, it in ends.items()}}, "usage:"))
+    for level in ("device", "host", "rack"):
+        rows = plan(program, folder, "usage", *(["--by", level] if level != "device" else []))["rows"]
+        here = shown_by(page, level, "places")
+        whys.append(unlike(here, {it["name"]: [counted(it["copies"]), share(it["share"]), percent(it["percent"], it["copies"])] for it in rows if it["name"] != "-"}, f"usage by {level}:"))
+    lines = [it.split(",") for it in page.saved("#places-csv").splitlines()]
+    found = defaultdict(lambda: [0, 0.0, 0])
+    for pool, _, device, *_, own, _, _, _, primaries, _ in lines[1:]:
+        one = found[int(device)]
+        one[0], one[2] = one[0] + int(own), one[2] + int(primaries)
+    whys.append(unlike({it: (own[0], own[2]) for it, own in found.items()}, {it["device"]: (it["copies"], it["primaries"]) for it in plan(program, folder, "usage")["rows"]}, "the CSV of usage:"))
+    return first(*whys)
+
+
+# ---- drains and failures
+
+
+def same_change(page, what, said, devices_said=True):
+    """The figures, the pools, the devices and the groups of an answer."""
+    names = {it["device"]: it["name"] for it in said["usage"]}
+    row = lambda it: [counted(it["copies_before"]), counted(it["copies_after"]), signed(it["copies_after"] - it["copies_before"]), percent(it["percent_after"], it["copies_after"])]
+    here = {name: [*own[:3], own[4]] for name, own in shown_by(page, "device", "usages").items()}
+    figures = {"short": counted(said["short"]["groups"]), "moved": counted(said["moved"]), "anew": counted(said["copies"]), "fullest": percent(said["fullest"]["percent_after"], 1)}
+    pools = [[cell.text for cell in it.find_elements("css selector", "th, td")] for it in page.browser.all("#by-pool tbody tr")]
+    lines = [it.split(",") for it in page.saved("#usages-csv").splitlines()][1:]
+    csv = {int(it[0]): (it[1], it[2], *map(int, it[6:8]), *map(float, it[8:10])) for it in lines}
+    wanted_csv = {it["device"]: (it["name"], it["host"], it["copies_before"], it["copies_after"], it["share_before"], it["share_after"]) for it in said["usage"]}
+    return first(
+        unlike(page.figures(), figures, f"{what}:"), unlike(pools, [[it["name"], *(counted(it[key]) for key in ("short_groups", "missing_copies", "moved", "copies"))] for it in said["pools"]], f"{what}, pools:"),
+        unlike({it: own for it, own in here.items() if it in names.values()}, {it["name"]: row(it) for it in said["usage"]}, f"{what}, devices:"), unlike({it: own for it, own in csv.items() if it in names}, wanted_csv, f"{what}, the CSV:"),
+        same_hosts(page, what, said), same_groups(page, what, said, names),
+    )
+
+
+def same_hosts(page, what, said):
+    """Sums of hosts."""
+    wanted = defaultdict(lambda: [0, 0])
+    for it in said["usage"]:
+        own = wanted[it["host"]]
+        own[0], own[1] = own[0] + it["copies_before"], own[1] + it["copies_after"]
+    here = shown_by(page, "host", "usages")
+    return unlike({it: own[:3] for it, own in here.items()}, {it: [counted(own[0]), counted(own[1]), signed(own[1] - own[0])] for it, own in wanted.items() if it in here}, f"{what}, hosts:") or (None if here else f"{what}: no host")
+
+
+def same_groups(page, what, said, names):
+    """Each group that moves, by its id, with both lists, as in the CSV of groups."""
+    page.browser.click("#which summary")
+    page.browser.one("#groups-csv")
+    lines = [it.split(",") for it in page.saved("#groups-csv").splitlines()][1:]
+    field = lambda items: " ".join("-" if it is None else str(it) for it in items)
+    wanted = {it["id"]: [field(it["before"]), field(it["after"])] for it in said["groups"]}
+    return unlike({it[3]: it[4:6] for it in lines}, wanted, f"{what}, groups:")
+
+
+def answered(page, names, way):
+    """The answer for these names, with nothing ticked before."""
+    page.browser.tab("Map")
+    page.drained(*names, way=way)
+    page.browser.until(lambda: page.browser.text("#proved").startswith("Proved"), "what is proved isn't said")
+
+
+def verdict_of(said, why=""):
+    """The answer as the page says it."""
+    return f"{said['answer'][0].upper()}{said['answer'][1:]}"
+
+
+def same_drain(page, program, folder, names):
+    said = plan(program, folder, "drain", *names, "--groups")
+    answered(page, names, "drain")
+    what = f"drain {' '.join(names)}"
+    return first(
+        unlike(page.browser.text("#verdict"), verdict_of(said), f"{what}:"), unlike(page.browser.text("#proved").split(" but the ")[1].split(" of ")[0], counted(said["can_move"]), f"{what}, proved:"), same_change(page, what, said),
+    )
+
+
+def same_failure(page, program, folder, names):
+    said = plan(program, folder, "fail", *names, "--groups")
+    answered(page, names, "fail")
+    what = f"fail {' '.join(names)}"
+    return first(
+        unlike(page.figures("at-once"), {"stopped": counted(said["down"]["below_min_size"]), "degraded": counted(said["down"]["short"])}, f"{what}, at once:"),
+        unlike(page.browser.text("#verdict"), verdict_of(said), f"{what}:"), same_change(page, what, said["out"]),
+    )
+
+
+# ---- another map, upmap items
+
+
+def same_compare(page, program, folder, name):
+    said = plan(program, folder, "compare", folder / name, "--groups")
+    page.browser.tab("Map")
+    page.browser.drop((folder / name).read_text(), name)
+    page.browser.one("#answer")
+    page.settled()
+    figures, what = page.figures(), f"compare {name}"
+    missing = sum(it["missing_copies"] for it in said["pools"])
+    verdict = page.browser.text("#verdict")
+    wanted = {it["name"]: signed(it["gained"] - it["lost"]) for it in said["hosts"]}
+    here = {it: own[2] for it, own in shown_by(page, "host", "usages").items()}
+    return first(
+        unlike({key: figures[key] for key in ("moved", "anew")}, {"moved": counted(said["moved"]), "anew": counted(said["copies"])}, f"{what}:"),
+        None if (counted(missing) in verdict and verdict.startswith("No") if missing else verdict.startswith("Yes")) else f"{what}: {verdict}",
+        unlike({it: own for it, own in here.items() if it in wanted or own != "0"}, wanted, f"{what}, hosts:"), same_groups(page, what, said, {}),
+    )
+
+
+def same_upmap(page, program, folder):
+    """The lines of the cluster's file of commands that are of one pool, tried beside its others."""
+    said = plan(program, folder, "upmap", folder / "commands")
+    lines = [it for it in (folder / "commands").read_text().splitlines() if it.split()[3].startswith("1.")]
+    page.browser.tab("Pools")
+    page.browser.until(lambda: page.browser.all("main tbody tr[data-pool='1'] a"), "the number of exceptions isn't shown")
+    page.browser.click("main tbody tr[data-pool='1'] a")
+    own = page.browser.one("#pairs").get_property("value")
+    page.browser.run("document.getElementById('pairs').value = arguments[0]", "\n".join([own, *lines]))
+    page.browser.click("#try")
+    page.browser.one("#answer")
+    page.settled()
+    groups = [it for it in said["groups"] if it["pool"] == 1]
+    moved = {it["id"]: it for it in groups if it["before"] != it["after"]}
+    page.browser.click("#which summary")
+    page.browser.one("#groups-csv")
+    found = {it.split(",")[3]: it.split(",")[4:6] for it in page.saved("#groups-csv").splitlines()[1:]}
+    field = lambda items: " ".join("-" if it is None else str(it) for it in items)
+    figures = page.figures()
+    return first(
+        unlike((figures["moved"], figures["anew"]), (counted(len(moved)), counted(sum(it["copies"] for it in groups))), "upmap:"),
+        unlike(found, {id_: [field(it["before"]), field(it["after"])] for id_, it in moved.items()}, "upmap, groups:"), None if moved else "no group of pool 1 moves",
+    )
+
+
+def compared(folder):
+    def case(page):
+        answers = json.loads((folder / "answers.json").read_text())
+        dropped(page, folder)
+        program = page.program
+        return first(
+            same_usage(page, program, folder), *(same_drain(page, program, folder, it["names"]) for it in answers["drains"]), *(same_failure(page, program, folder, it["names"]) for it in answers["drains"]),
+            same_upmap(page, program, folder), *(same_compare(page, program, folder, it) for it in answers["maps"]),
+        )
+
+    case.__name__ = f"crushplan_says_the_same_of_{folder.name.replace('-', '_')}"
+    return case
+
+
+def cases():
+    return tuple(compared(it) for it in sorted(CLUSTERS.iterdir()) if (it / "answers.json").exists())
