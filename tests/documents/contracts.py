@@ -8,8 +8,11 @@ usage: tests/documents/contracts.py        needs no built program; `pages.py` ru
 - Some crates have the calls that are written here, and no others.
 - A public clause cites no definition of `specs/Private`, which is for private clauses alone.
 - The page names each crate whose definitions public clauses cite.
+- Each name in backticks on the page is a word of the sources or definitions of crates, or one of
+  ELSEWHERE.
 """
 import pathlib
+import re
 import sys
 
 sys.dont_write_bytecode = True
@@ -18,6 +21,10 @@ sys.path.insert(0, str(TOP / "tools"))
 import contracting  # noqa: E402
 
 PAGE = "docs/DEFINITIONS.md"
+
+# functions of Ceph that no comment names, the crate server_tests, and words of commands
+ELSEWHERE = {"_remove_nonexistent_osds", "bucket_list_choose", "bucket_tree_choose", "find_rule", "raw_pg_to_pg"}
+ELSEWHERE |= {"server_tests", "tools", "contracts", "CRATE", "plant", "_of_the_form"}
 
 # ---- a source, of a module whose names LIB shows in part
 LIB = """mod store;
@@ -139,10 +146,23 @@ def cited_faults():
             yield f"{PAGE} doesn't name {crate}, of which public clauses cite {names[0]}"
 
 
+def name_faults():
+    known = set(ELSEWHERE)
+    for part in ("src", "specs"):
+        for source in (TOP / "crates").glob(f"*/{part}/**/*"):
+            if source.suffix in (".rt", ".antt"):
+                known |= set(re.findall(r"\w+", source.read_text()))
+    text = (TOP / PAGE).read_text()
+    for quoted in re.finditer(r"`([^`]+)`", text):
+        for name in set(re.findall(r"[A-Za-z_]\w+", quoted[1])) - known:
+            yield f"{PAGE}: line {text[: quoted.start()].count(chr(10)) + 1}: no source and no definition has the name {name}"
+
+
 def faults():
     yield from example_faults()
     yield from known_faults()
     yield from cited_faults()
+    yield from name_faults()
 
 
 def main():
