@@ -17,8 +17,8 @@ usage: tests/pages.py [WORD..]      with WORDs only the checks whose names have 
   docs/ARCHITECTURE.md one of rows.
 - Each page has a greatest number of words (`wc -w`), alone or with others, but generated ones.
 - No page has a word of the right column of the glossary of docs/CHANGING.md.
-- Files and names that docs/CHANGING.md and docs/ARCHITECTURE.md have between backticks are in the
-  tree. Commands, placeholders (as NAME or `things`) and paths of requests are passed over.
+- Files and names between backticks are in the tree, on the pages of NAMING. Commands, placeholders
+  (as NAME or `things`), what is built and paths of requests are passed over.
 - A comment in crates/*/src, specs and proofs, or in tests, bench, tools and examples, has at most
   100 characters a line, and so has a docstring.
 - docs/DEFINITIONS.md lists the definitions that public clauses cite (cited.py).
@@ -66,10 +66,10 @@ MOST_WORDS = (
 )
 GENERATED = ("docs/PROOFS.md", "tests/only_tested/REFUSED.md")
 GLOSSARY, GLOSSARY_HEAD = "docs/CHANGING.md", "## Words\n"
-NAMING = ("docs/CHANGING.md", "docs/ARCHITECTURE.md")
+NAMING = ("docs/CHANGING.md", "docs/ARCHITECTURE.md", "docs/DECISIONS.md", "docs/PERFORMANCE.md", "docs/STATUS.md", "bench/README.md", "tests/README.md", "tests/ceph/README.md")
 CODE = re.compile(r"`([^`]+)`")
 FILE, NAME = re.compile(r"[\w./*-]+\.(?:rt|antt|py|js|md|c|json|yaml|txt|conf|edit|1)|[\w.-]+(?:/[\w.*-]+)+"), re.compile(r"[A-Za-z_][\w:]*")
-PLACEHOLDER = re.compile(r"NAME|FILE|TEXT|CRATE|FUNCTION|WHAT_IT_DOES|[Tt]hings|\.\.|^/|[{}]")
+PLACEHOLDER = re.compile(r"NAME|FILE|TEXT|CRATE|FUNCTION|WHAT_IT_DOES|[Tt]hings|\.\.|^/|^\./|^build/|[{}]")
 SOURCES = ("crates", "tests", "tools", "web", "bench", "examples", "package")
 COMMENTS = {".rt": ("//",), ".antt": ("--",)}
 TOOLS, NO_TOOLS = ("tests", "bench", "tools", "examples", "web"), {".md", ".in", ".out", ".pyc", ".json", ".script"}
