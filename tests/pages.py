@@ -18,13 +18,14 @@ usage: tests/pages.py [WORD..]      with WORDs only the checks whose names have 
 - Each page has a greatest number of words (`wc -w`), alone or with others, but generated ones.
 - No page has a word of the right column of the glossary of docs/CHANGING.md.
 - Files and names between backticks are in the tree, on the pages of NAMING. Commands, placeholders
-  (as NAME or `things`), what is built and paths of requests are passed over.
+  (as NAME or `things`), what is built and paths of requests are passed over. (tests/gate/check
+  shows that these three can fail.)
 - A comment in crates/*/src, specs and proofs, or in tests, bench, tools and examples, has at most
   100 characters a line, and so has a docstring.
 - docs/DEFINITIONS.md lists the definitions that public clauses cite (cited.py).
 
-tests/run runs these checks with its own, and tests/gate/check shows that they can fail. The last
-line is 'N passed, M failed': pages, the limits, the help, crates, and the list of definitions.
+tests/run runs these checks with its own. The last line is 'N passed, M failed': pages, the limits,
+the help, crates, and the list of definitions.
 """
 import ast
 import fnmatch
