@@ -15,6 +15,11 @@ usage: tests/documents/pages.py [WORD..]      with WORDs only the checks whose n
 - The help of `crushcalc check` has a limit's number in the line of each code of HELPED.
 - README and some pages of docs/ have a greatest number of lines, and the table of words in
   docs/ARCHITECTURE.md one of rows.
+- Each page has a greatest number of words (`wc -w`), alone or with others, but generated ones.
+- No page has a word of the right column of the glossary of docs/CHANGING.md.
+- Files and names between backticks are in the tree, on the pages of NAMING. Commands, placeholders
+  (as NAME or `things`), what is built and paths of requests are passed over. (tests/gate/check
+  shows that these three can fail.)
 - A comment in crates/*/src, specs and proofs, or in tests, bench, tools and examples, has at most
   100 characters a line, and so has a docstring.
 - `tools/contracts` prints what the sources have (contracts.py).
@@ -23,6 +28,7 @@ tests/program/check runs these checks with its own. The last line is 'N passed, 
 the limits, the help, crates, and the index of contracts.
 """
 import ast
+import fnmatch
 import pathlib
 import re
 import sys
@@ -50,7 +56,22 @@ HELPED = {
 }
 WORDS = "## Words that mean something special here"
 MOST_LINES = {"README.md": 110, "docs/ARCHITECTURE.md": 130, "docs/STATUS.md": 40}
-MOST_WORDS = 25
+MOST_DEFINED = 25
+# how many words a page may have, or some pages together
+MOST_WORDS = (
+    (1_100, "README.md"), (2_000, "CHANGELOG.md"),
+    (2_500, "docs/PERFORMANCE.md", "docs/STATUS.md"), (4_500, "docs/ARCHITECTURE.md", "docs/DECISIONS.md"), (1_800, "docs/CHANGING.md"),
+    (2_000, "bench/README.md", "tests/ceph/README.md"), (1_200, "tests/README.md"), (220, "tests/crushplan/README.md"),
+    (6_930, "docs/BELIEVE.md"), (13_610, "docs/DEFINITIONS.md"), (4_970, "docs/CONTRACTS.md"), (5_980, "docs/SERVING.md", "docs/STORE.md"),
+    (2_640, "docs/MAPS.md"), (2_940, "docs/REQUESTS.md"), (1_710, "docs/PLANNING.md"), (780, "docs/CRUSHPLAN.md"), (920, "docs/RELEASES.md"), (1_270, "examples/README.md"),
+)
+GENERATED = ("docs/PROOFS.md", "tests/only_tested/REFUSED.md")
+GLOSSARY, GLOSSARY_HEAD = "docs/CHANGING.md", "## Words\n"
+NAMING = ("docs/CHANGING.md", "docs/ARCHITECTURE.md", "docs/DECISIONS.md", "docs/PERFORMANCE.md", "docs/STATUS.md", "bench/README.md", "tests/README.md", "tests/ceph/README.md")
+CODE = re.compile(r"`([^`]+)`")
+FILE, NAME = re.compile(r"[\w./*-]+\.(?:rt|antt|py|js|md|c|json|yaml|txt|conf|edit|1)|[\w.-]+(?:/[\w.*-]+)+"), re.compile(r"[A-Za-z_][\w:]*")
+PLACEHOLDER = re.compile(r"NAME|FILE|TEXT|CRATE|FUNCTION|WHAT_IT_DOES|[Tt]hings|\.\.|^/|^\./|^build/|[{}]")
+SOURCES = ("crates", "tests", "tools", "web", "bench", "examples", "package")
 COMMENTS = {".rt": ("//",), ".antt": ("--",)}
 TOOLS, NO_TOOLS = ("tests", "bench", "tools", "examples", "web"), {".md", ".in", ".out", ".pyc", ".json", ".script"}
 LINK_ALONE = re.compile(r"^[-\s]*\[[^\]]*\]\([^)]*\)[.,;:]?$")
@@ -130,8 +151,61 @@ def long_page(page, text):
         first = text[: text.index(WORDS)].count("\n") + 1
         rows = [line for line in text.split(WORDS)[1].split("\n## ")[0].splitlines() if line.startswith("|")][2:]
         words = [word for row in rows for word in row.split("|")[1].split(",")]
-        if len(words) > MOST_WORDS:
-            yield f"line {first}: the table has {len(words)} words, of which it may have {MOST_WORDS}"
+        if len(words) > MOST_DEFINED:
+            yield f"line {first}: the table has {len(words)} words, of which it may have {MOST_DEFINED}"
+
+
+def long_pages(texts, most=MOST_WORDS, generated=GENERATED):
+    """Pages, by their path, that have more words than they may, or no number of them."""
+    for greatest, *together in most:
+        words = sum(len(texts.get(it, "").split()) for it in together)
+        if words > greatest:
+            yield f"{' and '.join(together)}: {words:,} words, and at most {greatest:,} are allowed"
+    limited = {it for _, *together in most for it in together}
+    for page in texts:
+        if page not in limited and page not in generated:
+            yield f"{page} has no greatest number of words"
+
+
+def glossary(text):
+    """What the glossary of a page refuses, each with what it has in its place; and the page without
+    it."""
+    before, _, rest = text.partition(GLOSSARY_HEAD)
+    part, heading, behind = rest.partition("\n## ")
+    rows = [line.strip("|").split("|") for line in part.splitlines() if line.startswith("|")][2:]
+    return {word.strip(): cells[0].strip() for cells in rows for word in cells[1].split(",")}, before + heading + behind
+
+
+def refused_words(text, refused):
+    """Words of a page's prose, over ends of lines too, that the glossary refuses."""
+    kept = dict(parts(text)[0])
+    prose = "\n".join(kept.get(number, "") for number in range(1, max(kept, default=0) + 1))
+    prose = CODE.sub(lambda it: re.sub(r"\S", " ", it[0]), "\n".join("" if it.startswith(INDENT) else it for it in prose.split("\n")))
+    for word, better in refused.items():
+        for found in re.finditer(r"\b" + word.replace(" ", r"\s+") + r"\b", prose, re.IGNORECASE):
+            yield f"line {prose.count(chr(10), 0, found.start()) + 1}: {' '.join(found[0].split())!r}, for which the glossary has: {better}"
+
+
+def tree():
+    """The paths of the repository's files and folders, and the words of its sources."""
+    files = [it for folder in SOURCES for it in (TOP / folder).rglob("*") if it.is_file() and "out" not in it.relative_to(TOP).parts and it.suffix != ".pyc"]
+    paths = {f"/{it.relative_to(TOP)}" for it in [*files, *TOP.glob("*"), *TOP.glob("docs/*")]}
+    sources = [*(it for it in files if it.suffix != ".md"), TOP / "Makefile", TOP / "crates.txt"]
+    words = set(re.findall(r"\w+", "\n".join(it.read_text(errors="replace") for it in sources)))
+    return paths | {str(folder) for it in paths for folder in pathlib.PurePath(it).parents}, words
+
+
+def unknown_names(text, paths, words):
+    """Files and names between backticks that aren't in the tree."""
+    for number, line in parts(text)[0]:
+        for span in CODE.findall("" if line.startswith(INDENT) else line):
+            if " " in span or PLACEHOLDER.search(span):
+                continue
+            if FILE.fullmatch(span):
+                if not any(fnmatch.fnmatchcase(it, f"*/{span}") for it in paths):
+                    yield f"line {number}: there is no file {span}"
+            elif NAME.fullmatch(span) and span.split("::")[-1] not in words:
+                yield f"line {number}: no source has {span}"
 
 
 def page_faults(page):
@@ -216,6 +290,13 @@ def checks():
     """What is checked: its name, and its faults, each with its place."""
     for page in pages():
         yield f"the page {page}", (f"{page}: {why}" for why in page_faults(page))
+    texts = {page: (TOP / page).read_text() for page in pages()}
+    yield "the words of all pages", long_pages(texts)
+    refused, texts[GLOSSARY] = glossary(texts[GLOSSARY])
+    yield "the glossary", (f"{page}: {why}" for page, text in texts.items() for why in refused_words(text, refused))
+    paths, words = tree()
+    for page in NAMING:
+        yield f"the names of {page}", (f"{page}: {why}" for why in unknown_names(texts[page], paths, words))
     yield "the table of limits", limit_faults()
     yield "the limits in the help", help_faults()
     yield "the index of contracts", contracts.faults()
