@@ -18,8 +18,9 @@ usage: tests/documents/pages.py [WORD..]      with WORDs only the checks whose n
 - Each page has a greatest number of words (`wc -w`), alone or with others, but generated ones.
 - No page has a word of the right column of the glossary of docs/CHANGING.md.
 - Files and names between backticks are in the tree, on the pages of NAMING. Commands, placeholders
-  (as NAME or `things`), what is built and paths of requests are passed over. (tests/gate/check
-  shows that these three can fail.)
+  (as NAME or `things`), what is built and paths of requests are passed over.
+- A recipe of docs/CHANGING.md names each file in which an example of it stands (RECIPES).
+  tests/gate/check shows that these four checks can fail.
 - A comment in crates/*/src, specs and proofs, or in tests, bench, tools and examples, has at most
   100 characters a line, and so has a docstring.
 - `tools/contracts` prints what the sources have (contracts.py).
@@ -72,6 +73,19 @@ CODE = re.compile(r"`([^`]+)`")
 FILE, NAME = re.compile(r"[\w./*-]+\.(?:rt|antt|py|js|md|c|json|yaml|txt|conf|edit|1)|[\w.-]+(?:/[\w.*-]+)+"), re.compile(r"[A-Za-z_][\w:]*")
 PLACEHOLDER = re.compile(r"NAME|FILE|TEXT|CRATE|FUNCTION|WHAT_IT_DOES|[Tt]hings|\.\.|^/|^\./|^build/|[{}]")
 SOURCES = ("crates", "tests", "tools", "web", "bench", "examples", "package")
+# of a recipe of docs/CHANGING.md: what names an example of it in sources, definitions and proofs of
+# the product, below these paths. Each such file is one that the recipe names
+RECIPES = {
+    "A reading route": (r"\b[Rr]oute(::|\.)Usage\b|\b[Qq]uery(::|\.)Usage\b|\(Usage q\)", "crates"),
+    "A changing route": (r"\bOrder::RemovePool\b|\(RemovePool id\) (inventory|s)|\bMade::NoPool\b|\bRemovedPool\b", "crates"),
+    "A column of a report": (r"\bpermille\b", "crates"),
+    "A table or column of the file": (r"\bhashpspool\b", "crates/table_", "crates/tenant_tables", "crates/tenant_rows"),
+    "A bucket kind": (r"\bKind::Tree\b|\bListKind\b|\bByKind::Tree\b", "crates"),
+    "A fault of maps": (r"\bM15\b", "crates"),
+    "A limit, a timeout, an option": (r"\bWAIT_SECONDS\b|\bMESSAGE_SECONDS\b|\"cache\"|--cache|\\-\\-cache", "crates", "package"),
+}
+# proofs of single functions, of whose goals a recipe says nothing
+OF_FUNCTIONS = ("Answers.antt", "Invariants.antt")
 COMMENTS = {".rt": ("//",), ".antt": ("--",)}
 TOOLS, NO_TOOLS = ("tests", "bench", "tools", "examples", "web"), {".md", ".in", ".out", ".pyc", ".json", ".script"}
 LINK_ALONE = re.compile(r"^[-\s]*\[[^\]]*\]\([^)]*\)[.,;:]?$")
@@ -186,6 +200,27 @@ def refused_words(text, refused):
             yield f"line {prose.count(chr(10), 0, found.start()) + 1}: {' '.join(found[0].split())!r}, for which the glossary has: {better}"
 
 
+def unnamed_files(recipe, example, files):
+    """Files, by path, in which an example of a recipe stands, and which the recipe doesn't name."""
+    for path, text in files.items():
+        name = path.rpartition("/")[2]
+        if name not in recipe and name not in OF_FUNCTIONS and re.search(example, text):
+            yield path
+
+
+def recipe_faults(page):
+    found = {}
+    for it in sorted(it for folder in ("crates", "package") for it in (TOP / folder).rglob("*") if it.is_file()):
+        path = it.relative_to(TOP)
+        if path.parts[0] == "package" or path.parts[2] in ("src", "specs", "proofs") and not path.parts[1].endswith("_tests") and path.parts[1] != "crush_bench":
+            found[str(path)] = it.read_text(errors="replace")
+    recipes = dict(part.partition("\n")[::2] for part in page.split("\n## "))
+    for heading, (example, *folders) in RECIPES.items():
+        below = {path: text for path, text in found.items() if path.startswith(tuple(folders))}
+        for path in unnamed_files(recipes.get(heading, ""), example, below):
+            yield f"{GLOSSARY}: the recipe {heading!r} doesn't name {path}"
+
+
 def tree():
     """The paths of the repository's files and folders, and the words of its sources."""
     files = [it for folder in SOURCES for it in (TOP / folder).rglob("*") if it.is_file() and "out" not in it.relative_to(TOP).parts and it.suffix != ".pyc"]
@@ -294,6 +329,7 @@ def checks():
     yield "the words of all pages", long_pages(texts)
     refused, texts[GLOSSARY] = glossary(texts[GLOSSARY])
     yield "the glossary", (f"{page}: {why}" for page, text in texts.items() for why in refused_words(text, refused))
+    yield "the recipes", recipe_faults(texts[GLOSSARY])
     paths, words = tree()
     for page in NAMING:
         yield f"the names of {page}", (f"{page}: {why}" for why in unknown_names(texts[page], paths, words))
