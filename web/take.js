@@ -134,7 +134,7 @@ function pairsOf(osd, pool, map) {
 function reached({ rule }, map, dump) {
     if (dump) return dump.rules.has(rule) ? [...devicesOf(dump, dump.rules.get(rule))] : [];
     const takes = map.rules.find((it) => it.id === rule)?.steps.filter(([op]) => op === "take").map((it) => it[1]) ?? [];
-    return takes.flatMap((it) => (map.buckets.has(it) ? devicesBelow(map.buckets.get(it)).map((one) => one.id) : [map.devices.get(it)?.id].filter((id) => id !== undefined)));
+    return takes.flatMap((it) => (map.all.has(it) ? devicesBelow(map.all.get(it)).map((one) => one.id) : [map.devices.get(it)?.id].filter((id) => id !== undefined)));
 }
 
 // Sets what osd.json says on a tenant that has its map.
@@ -161,7 +161,7 @@ export async function takeOsd(tenant, map, osd, dump, fresh, work) {
         set += all.length;
     }
     note(tenant, { notes: lines, left, whole: Object.fromEntries(pools.map((it) => [it.id, wholeOf(it)]).filter(([, own]) => own.length)) });
-    return `${many(pools.length, "pool")}, ${many(states, "device")} with a reweight or down, ${many(set, "upmap item")}`;
+    return `${pools.length < osd.pools.length ? `${count(pools.length)} of ` : ""}${many(osd.pools.length, "pool")}, ${many(states, "device")} with a reweight or down, ${many(set, "upmap item")}`;
 }
 
 // ---- the other files
