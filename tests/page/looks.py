@@ -24,6 +24,21 @@ return [...found.values()];
 """
 
 
+# words of up to twelve letters that are broken over lines, of what is shown
+BROKEN = """
+const found = new Set(), walker = document.createTreeWalker(document.body, NodeFilter.SHOW_TEXT), range = document.createRange();
+for (let it = walker.nextNode(); it; it = walker.nextNode()) {
+    if (!it.parentElement.checkVisibility({ visibilityProperty: true }) || it.parentElement.closest("script, .sr, .skip, noscript, option, pre, code")) continue;
+    for (const word of it.data.matchAll(/(?<![^\\s-])[^\\s-]{2,12}(?![^\\s-])/g)) {
+        range.setStart(it, word.index);
+        range.setEnd(it, word.index + word[0].length);
+        if (new Set([...range.getClientRects()].map((at) => Math.round(at.top))).size > 1) found.add(word[0]);
+    }
+}
+return [...found];
+"""
+
+
 def full(page):
     """A tenant with two versions and a pool."""
     tenant = page.planned()
@@ -60,6 +75,8 @@ def it_fits_both_widths(page):
             page.browser.picture(PICTURES / f"{view.lower()}-{width}.png")
             if over > 0:
                 whys.append(f"{view} is {over} pixels wider than {width}")
+            if broken := page.browser.run(BROKEN):
+                whys.append(f"{view} at {width} breaks {broken[:5]}")
     page.browser.size(1280)
     return first(*whys)
 
