@@ -23,9 +23,9 @@ function bucketsOfType(map, bucket, type) {
     return map.types.get(bucket.type) < map.types.get(type) ? [] : bucket.items.filter((it) => it.bucket).flatMap((it) => bucketsOfType(map, it.bucket, type));
 }
 
-// What the monitors keep on a map, with states: `mayBe` says whether a device is in. `kept` gives the
-// pairs of a group that stay once nothing more is removed, `breaks` says whether they break the
-// pool's rule, where CRUSH gives the group a raw list.
+// What the monitors keep on a map, with states: `mayBe` says whether a device is in. Of a group to
+// which CRUSH gives a raw list `kept` gives the pairs that stay once nothing more is removed, and
+// `breaks` says whether they break the pool's rule.
 export function keeper(map, mayBe) {
     const made = new Map(), once = (key, make) => made.get(key) ?? made.set(key, make()).get(key);
     const takes = (rule) => rule.steps.filter(([op]) => op === "take").map((it) => it[1]);

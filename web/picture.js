@@ -54,8 +54,8 @@ function devicesOf(place) {
 }
 
 // The picture. `colour` gives of sums a number (percent of a share), or "same", or a kind with how
-// much of it; `words` says them; `actions` gives what can be done with a place. `earlier` is a picture
-// in whose place it is put: it shows what that one does.
+// much of it; `words` says them; `actions` gives what can be done with a place. `earlier` is a
+// picture in whose place it is put: it shows what that one does.
 export function picture(cluster, { values, colour, words, keys, actions, earlier }) {
     const { map } = cluster, canvas = el("canvas", { role: "img" }), said = el("p", { class: "said" }), way = el("nav", { class: "way", "aria-label": "Where the picture is" }), doing = el("div", { class: "buttons" });
     const into = el("select", { id: "into" }), top = map.roots.length === 1 ? map.roots[0] : { name: cluster.tenant, type: "", items: map.roots.map((it) => ({ bucket: it, number: it.items.reduce((sum, at) => sum + at.number, 0) })) };

@@ -68,8 +68,8 @@ export async function importMap(tenant, { name, text }, take) {
 
 // ---- pools, states and upmap items of osd.json
 
-// Why a pool isn't computed, or null. `rules` are those of the map that the service has, `pairs` the
-// pool's upmap items.
+// Why a pool isn't computed, or null. `rules` are those of the map that the service has, `pairs`
+// the pool's upmap items.
 function poolFault(pool, dump, rules, file, pairs) {
     if (pairs.length > PAIRS) return `it has ${many(pairs.length, "pair")} of upmap items, and the service takes ${count(PAIRS)} at once; crushplan sets them part by part`;
     const rule = dump ? dump.rules.get(pool.rule) : rules.get(pool.rule);

@@ -12,9 +12,9 @@ class Between(http.server.ThreadingHTTPServer):
     """loses: how many replies to come are lost, after their requests are done. refuses: how many
     requests to come are answered 503 and not passed on. Both look at changing requests alone.
     keeps: how many DELETE to come are answered 503. holds: the seconds that a GET is held up whose
-    path ends with `held`. drops: how many GET of usage to come get no reply. busy: how many requests
-    to come are answered as nginx does where too many are under way. most: how many were under way at
-    a time at most."""
+    path ends with `held`. drops: how many GET of usage to come get no reply. busy: how many
+    requests to come are answered as nginx does where too many are under way. most: how many were
+    under way at a time at most."""
 
     daemon_threads = True
 
