@@ -137,14 +137,16 @@ function reached({ rule }, map, dump) {
     return takes.flatMap((it) => (map.all.has(it) ? devicesBelow(map.all.get(it)).map((one) => one.id) : [map.devices.get(it)?.id].filter((id) => id !== undefined)));
 }
 
-// Sets what osd.json says on a tenant that has its map.
-export async function takeOsd(tenant, map, osd, dump, fresh, work) {
+// Sets what osd.json says on a tenant that has its map. `name` is the file of the map that came with
+// it, and `dump` what that says, where it is a dump.
+export async function takeOsd(tenant, map, osd, { dump, name }, fresh, work) {
     const rules = new Map(map.rules.map((it) => [it.id, it])), pairs = new Map(osd.pools.map((it) => [it, pairsOf(osd, it, map)]));
     const faults = new Map(osd.pools.map((it) => [it, poolFault(it, dump, rules, dump?.file ?? "the map", pairs.get(it))]).filter(([, why]) => why));
     const left = [...faults].map(([it, why]) => ({ pool: it.id, devices: reached(it, map, dump), text: `pool ${it.name} (${it.id}) isn't computed: ${why}` })), lines = [...left.map((it) => it.text), ...oddities(osd, dump)];
     work.step("Setting the states of devices");
     const states = await setStates(tenant, statesOf(osd, map), map, { whole: fresh }), lacking = [...osd.states.keys()].filter((id) => !map.byId.has(id));
     if (lacking.length) lines.push(`${osd.file} has devices that the map lacks; they hold nothing: ${some(lacking.map((it) => `osd.${it}`))}`);
+    if (name && !dump) lines.push(`${name} has weights that 'crushtool -d' rounded to three decimals; crush.json ('ceph osd crush dump -f json') has exact ones`);
     const pools = osd.pools.filter((it) => !faults.has(it));
     const wholeOf = (pool) => osd.lists.filter(({ at }) => at[0] === pool.id && at[1] < pool.pg_num).map(({ at, devices }) => ({ group: at[1], devices }));
     let set = 0;
