@@ -132,7 +132,7 @@ export async function canMove(cluster, pools, devices, work, wanted = () => true
     return found;
 }
 
-// How many of these groups have pairs that break the pool's rule: Ceph's monitors remove such items.
+// How many of these groups have pairs that break the pool's rule; Ceph's monitors remove these.
 export async function breaking(cluster, copy, pool, groups, work) {
     const { breaks } = keeper(cluster.map, (id) => stateOf(cluster.known.states, id).reweight > 0);
     let found = 0;

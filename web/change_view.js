@@ -48,7 +48,7 @@ export function fullest(cluster, all) {
 export function answerRow(cluster, all) {
     const top = fullest(cluster, all);
     return figures([
-        [all.short, `${all.short === 1 ? "group gets" : "groups get"} fewer copies than the pool's size`, all.short ? "bad" : "good", "short"],
+        [all.short, `${all.short === 1 ? "group has" : "groups have"} fewer copies than the pool's size afterwards${all.shortBefore ? `, and ${count(all.shortBefore)} now` : ""}`, all.short ? "bad" : "good", "short"],
         [all.moved, `${all.moved === 1 ? "group moves" : "groups move"}`, "", "moved"], [all.anew, `${all.anew === 1 ? "copy is" : "copies are"} written anew`, "", "anew"],
         top && [percentText(all.has(top.id), all.expectedAfter.get(top.id)), `of its share has ${cluster.name(top.id)}, the fullest device afterwards`, "", "fullest"],
     ], "answer");

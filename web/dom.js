@@ -1,7 +1,7 @@
 // Elements of the page. Text enters as text nodes only, so that no name and no map is ever taken
 // for markup.
 
-const SLICE = 2048;
+const SLICE_MS = 30;
 
 export function el(tag, fields, ...children) {
     const made = document.createElement(tag);
@@ -111,19 +111,22 @@ export function csv(heads, rows) {
     return [heads, ...rows].map((it) => `${it.join(",")}\n`).join("");
 }
 
-// The same of many rows, some thousands at a time, so that the page never waits for them.
+// The same of many rows as texts one after the other, each made in a moment, so that the page never
+// waits for them.
 export async function longCsv(heads, count, row) {
-    const lines = [csv(heads, [])];
-    for (let first = 0; first < count; first += SLICE) {
-        for (let it = first; it < Math.min(first + SLICE, count); it += 1) lines.push(`${row(it).join(",")}\n`);
+    const texts = [csv(heads, [])];
+    for (let at = 0; at < count;) {
+        const lines = [];
+        for (const end = performance.now() + SLICE_MS; at < count && performance.now() < end; at += 1) lines.push(`${row(at).join(",")}\n`);
+        texts.push(lines.join(""));
         await pause();
     }
-    return lines.join("");
+    return texts;
 }
 
-// A file for the planner, made of text.
+// A file for the planner, made of text or of texts one after the other.
 export function save(name, text, type = "text/csv") {
-    const address = URL.createObjectURL(new Blob([text], { type }));
+    const address = URL.createObjectURL(new Blob([text].flat(), { type }));
     el("a", { href: address, download: name }).click();
     setTimeout(() => URL.revokeObjectURL(address), 10000);
 }

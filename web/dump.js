@@ -201,7 +201,7 @@ export function textOf(map, more = []) {
     }
     for (const [number, name] of [...types].sort((a, b) => a[0] - b[0])) lines.push(`type ${number} ${name}`);
     for (const bucket of inOrder(map, wanted)) {
-        called.set(bucket.id, give(bucket.name, `bucket${bucket.id}`));
+        called.set(bucket.id, give(bucket.shadow ? `class.${bucket.shadow}.${-bucket.id}` : bucket.name, `bucket${bucket.id}`));
         lines.push(`${types.get(bucket.type) ?? "unknown"} ${called.get(bucket.id)} {`, `\tid ${bucket.id}`, `\talg ${bucket.alg}`, "\thash 0",
             ...bucket.items.map((it, place) => `\titem ${called.get(it.id ?? filled.get(it))} weight ${exact(it.weight)}${bucket.alg === "tree" ? ` pos ${place}` : ""}`), "}");
     }

@@ -23,17 +23,17 @@ function bucketsOfType(map, bucket, type) {
     return map.types.get(bucket.type) < map.types.get(type) ? [] : bucket.items.filter((it) => it.bucket).flatMap((it) => bucketsOfType(map, it.bucket, type));
 }
 
-// What the monitors keep on a map, with states: `mayBe` says whether a device is in. `kept` gives the
-// pairs of a group that stay once nothing more is removed, `breaks` says whether they break the
-// pool's rule, where CRUSH gives the group a raw list.
+// What the monitors keep on a map, with states: `mayBe` says whether a device is in. Of a group to
+// which CRUSH gives a raw list `kept` gives the pairs that stay once nothing more is removed, and
+// `breaks` says whether they break the pool's rule.
 export function keeper(map, mayBe) {
     const made = new Map(), once = (key, make) => made.get(key) ?? made.set(key, make()).get(key);
     const takes = (rule) => rule.steps.filter(([op]) => op === "take").map((it) => it[1]);
-    const below = (name) => once(`below ${name}`, () => devicesOf(map, map.buckets.get(name)));
+    const below = (name) => once(`below ${name}`, () => devicesOf(map, map.all.get(name)));
     const domains = (rule, type) => once(`type ${rule.id} ${type}`, () => {
         const found = new Map();
         for (const name of new Set(takes(rule))) {
-            for (const bucket of map.buckets.has(name) ? bucketsOfType(map, map.buckets.get(name), type) : []) for (const id of below(bucket.name)) if (!found.has(id)) found.set(id, bucket.name);
+            for (const bucket of map.all.has(name) ? bucketsOfType(map, map.all.get(name), type) : []) for (const id of below(bucket.name)) if (!found.has(id)) found.set(id, bucket.name);
         }
         return found;
     });
@@ -41,7 +41,7 @@ export function keeper(map, mayBe) {
     const weights = (rule) => once(`weights ${rule.id}`, () => {
         const found = new Map();
         for (const name of takes(rule)) {
-            const own = new Map(), queue = map.buckets.has(name) ? [map.buckets.get(name)] : [];
+            const own = new Map(), queue = map.all.has(name) ? [map.all.get(name)] : [];
             if (!queue.length) own.set(map.devices.get(name)?.id, 1);
             for (const bucket of queue) for (const it of bucket.whole) if (it.bucket) queue.push(it.bucket); else own.set(it.hole ? 0 : it.device.id, it.number);
             for (const [id, weight] of own) found.set(id, (found.get(id) ?? 0) + weight);
@@ -64,7 +64,7 @@ export function keeper(map, mayBe) {
             else if (op === "choose" || op === "chooseleaf") types.has(words[3]) || types.set(words[3], wants(pool, words[1]));
             else if (op === "emit") {
                 const places = Math.max(0, [...types.values()].reduce((all, it) => all * it, 1));
-                if (root !== null && map.buckets.has(root)) {
+                if (root !== null && map.all.has(root)) {
                     if (items.slice(cursor, cursor + places).some((it) => !below(root).has(it))) return true;
                     cursor += Math.min(places, items.length - cursor);
                 }

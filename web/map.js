@@ -38,34 +38,35 @@ function weightIn(text) {
     return Math.floor(Number(text) * ONE + 0.01) / ONE;
 }
 
-// Each bucket and device with the buckets that have it as an item; the roots are in none.
+// Each bucket and device with the buckets that have it as an item; the roots are in none. `buckets`
+// are those that people see, `all` has the trees of single classes too, from which rules take.
 function joined(devices, buckets, rules, types) {
     const byId = new Map();
     for (const it of devices.values()) byId.set(it.id, it);
-    const all = [...buckets.values()];
-    for (const bucket of all) for (const item of bucket.items) Object.assign(item, { device: devices.get(item.name), bucket: buckets.get(item.name) });
+    const every = [...buckets.values()], all = every.filter((it) => !isOfClass(it));
+    for (const bucket of every) for (const item of bucket.items) Object.assign(item, { device: devices.get(item.name), bucket: buckets.get(item.name) });
     const places = new Map();
-    for (const it of all.flatMap((bucket) => bucket.items)) places.set(it.name, (places.get(it.name) ?? 0) + 1);
-    for (const bucket of all) {
+    for (const it of every.flatMap((bucket) => bucket.items)) places.set(it.name, (places.get(it.name) ?? 0) + 1);
+    for (const bucket of every) {
         // `whole` has the holes too
         bucket.whole = bucket.items;
         for (const it of bucket.whole) it.hole = isHole(bucket, it, places);
         bucket.items = bucket.items.filter((it) => !it.hole);
-        for (const it of bucket.items) ((it.device ?? it.bucket).buckets ??= []).push(bucket);
     }
+    for (const bucket of all) for (const it of bucket.items) ((it.device ?? it.bucket).buckets ??= []).push(bucket);
     const fillers = [...devices.values()].filter((it) => isFiller(it) && !it.buckets.length && places.has(it.name));
     for (const it of fillers) {
         devices.delete(it.name);
         byId.delete(it.id);
     }
-    const roots = all.filter((it) => !it.buckets?.length);
-    return { devices, fillers, buckets, rules, types, byId, roots, hosts: hostsOf(devices, buckets), levels: levelsOf(all, types) };
+    const roots = all.filter((it) => !it.buckets?.length), seen = new Map(all.map((it) => [it.name, it]));
+    return { devices, fillers, buckets: seen, all: buckets, rules, types, byId, roots, hosts: hostsOf(devices, seen), levels: levelsOf(all, types) };
 }
 
 // What a map says, to be compared with another one: weights as numbers.
-export function signature({ devices, buckets, rules }) {
+export function signature({ devices, all, rules }) {
     const items = (it) => it.whole.map(({ name, number }) => [name, number]);
-    return JSON.stringify([[...devices.values()].map((it) => [it.id, it.name]).sort(), [...buckets.values()].map((it) => [it.id, it.name, it.type, it.alg, items(it)]).sort(), rules.map((it) => [it.id, it.kind, it.steps]).sort()]);
+    return JSON.stringify([[...devices.values()].map((it) => [it.id, it.name]).sort(), [...all.values()].map((it) => [it.id, it.name, it.type, it.alg, items(it)]).sort(), rules.map((it) => [it.id, it.kind, it.steps]).sort()]);
 }
 
 // Where a device was removed from a tree bucket Ceph leaves the device 0 with the weight 0, which
@@ -73,6 +74,12 @@ export function signature({ devices, buckets, rules }) {
 // neither is there.
 function isHole(bucket, { device, name, number }, places) {
     return bucket.alg === "tree" && number === 0 && device && (device.id === 0 && places.get(name) > 1 || isFiller(device));
+}
+
+// Whether a bucket has the name of those in the tree of a class alone, which Ceph writes as
+// default~hdd, and a text can't.
+function isOfClass({ id, name }) {
+    return name.startsWith("class.") && name.endsWith(`.${-id}`);
 }
 
 // Whether a device has the name of those that fill holes.

@@ -222,7 +222,7 @@ function done(tenant, text, first, later, version, before = "") {
 // The cluster's own dump, after its map: pools, states, upmap items.
 async function takeWhole(tenant, map, osd, work, fresh) {
     await openTenant(tenant, work);
-    const taken = await takeOsd(tenant, cluster.map, osd, map.dump, fresh, work);
+    const taken = await takeOsd(tenant, cluster.map, osd, map, fresh, work);
     return done(tenant, `The cluster is there: ${taken}. `, ["drain", "choose what is drained or fails"], null, 1, "Click on a host or rack in the picture, or ");
 }
 

@@ -54,11 +54,12 @@ function devicesOf(place) {
 }
 
 // The picture. `colour` gives of sums a number (percent of a share), or "same", or a kind with how
-// much of it; `words` says them; `actions` gives what can be done with a place.
-export function picture(cluster, { values, colour, words, keys, actions }) {
+// much of it; `words` says them; `actions` gives what can be done with a place. `earlier` is a
+// picture in whose place it is put: it shows what that one does.
+export function picture(cluster, { values, colour, words, keys, actions, earlier }) {
     const { map } = cluster, canvas = el("canvas", { role: "img" }), said = el("p", { class: "said" }), way = el("nav", { class: "way", "aria-label": "Where the picture is" }), doing = el("div", { class: "buttons" });
     const into = el("select", { id: "into" }), top = map.roots.length === 1 ? map.roots[0] : { name: cluster.tenant, type: "", items: map.roots.map((it) => ({ bucket: it, number: it.items.reduce((sum, at) => sum + at.number, 0) })) };
-    let path = [top], shapes = [];
+    let path = [top, ...earlier?.path().slice(1) ?? []], shapes = [];
     const keysOf = Object.keys(values), sums = new Map();
     const added = (place) => Object.fromEntries(keysOf.map((key) => [key, devicesOf(place).reduce((sum, it) => sum + (values[key](it.id) ?? 0), 0)]));
     const sumsOf = (place) => sums.get(place) ?? sums.set(place, added(place)).get(place);
@@ -90,8 +91,9 @@ export function picture(cluster, { values, colour, words, keys, actions }) {
         }
     }
     function write(to, it, ink, room) {
-        // where the name has no room, its number may have
-        const name = [it.place.name, /\d+$/.exec(it.place.name)?.[0]].find((text) => text && to.measureText(text).width <= it.width - 6);
+        // where the name has no room, that before its domain may have, or what tells it from others
+        const short = it.place.name.split(".", 1)[0], last = it.place.items ? short : it.place.name;
+        const name = [it.place.name, last, /[A-Za-z]?\d+[a-z]?$/.exec(last)?.[0], /\d+[a-z]?$/.exec(last)?.[0]].find((text) => text && to.measureText(text).width <= it.width - 6);
         if (!name) return;
         to.save();
         to.beginPath();
@@ -138,8 +140,9 @@ export function picture(cluster, { values, colour, words, keys, actions }) {
     new ResizeObserver(draw).observe(box);
     matchMedia("(prefers-color-scheme: dark)").addEventListener("change", () => box.isConnected && draw());
     show();
-    return el("div", { class: "card picture", id: "picture" }, el("div", { class: "bar-line" }, way, el("ul", { class: "legend" }, keys.map(([kind, text]) => el("li", {}, el("span", { class: `key ${kind}`, "aria-hidden": "true" }), text)))),
+    const whole = el("div", { class: "card picture", id: "picture" }, el("div", { class: "bar-line" }, way, el("ul", { class: "legend" }, keys.map(([kind, text]) => el("li", {}, el("span", { class: `key ${kind}`, "aria-hidden": "true" }), text)))),
         box, said, el("div", { class: "controls" }, labelled("Look into", into), doing));
+    return Object.assign(whole, { path: () => path });
 }
 
 // The places from one to another that is below it, without the first.

@@ -41,7 +41,7 @@ function blocksOf(rule, size) {
 // Of each device below an item that is up and in, its part of what the item gets.
 function blockParts(map, item, states) {
     const found = new Map();
-    if (map.buckets.has(item)) goDown(map.buckets.get(item), 1, found);
+    if (map.all.has(item)) goDown(map.all.get(item), 1, found);
     else if (map.devices.has(item)) found.set(map.devices.get(item).id, 1);
     for (const [id, part] of found) {
         const { reweight, up } = stateOf(states, id);

@@ -68,8 +68,8 @@ export async function importMap(tenant, { name, text }, take) {
 
 // ---- pools, states and upmap items of osd.json
 
-// Why a pool isn't computed, or null. `rules` are those of the map that the service has, `pairs` the
-// pool's upmap items.
+// Why a pool isn't computed, or null. `rules` are those of the map that the service has, `pairs`
+// the pool's upmap items.
 function poolFault(pool, dump, rules, file, pairs) {
     if (pairs.length > PAIRS) return `it has ${many(pairs.length, "pair")} of upmap items, and the service takes ${count(PAIRS)} at once; crushplan sets them part by part`;
     const rule = dump ? dump.rules.get(pool.rule) : rules.get(pool.rule);
@@ -134,17 +134,19 @@ function pairsOf(osd, pool, map) {
 function reached({ rule }, map, dump) {
     if (dump) return dump.rules.has(rule) ? [...devicesOf(dump, dump.rules.get(rule))] : [];
     const takes = map.rules.find((it) => it.id === rule)?.steps.filter(([op]) => op === "take").map((it) => it[1]) ?? [];
-    return takes.flatMap((it) => (map.buckets.has(it) ? devicesBelow(map.buckets.get(it)).map((one) => one.id) : [map.devices.get(it)?.id].filter((id) => id !== undefined)));
+    return takes.flatMap((it) => (map.all.has(it) ? devicesBelow(map.all.get(it)).map((one) => one.id) : [map.devices.get(it)?.id].filter((id) => id !== undefined)));
 }
 
-// Sets what osd.json says on a tenant that has its map.
-export async function takeOsd(tenant, map, osd, dump, fresh, work) {
+// Sets what osd.json says on a tenant that has its map. `name` is the file of the map that came with
+// it, and `dump` what that says, where it is a dump.
+export async function takeOsd(tenant, map, osd, { dump, name }, fresh, work) {
     const rules = new Map(map.rules.map((it) => [it.id, it])), pairs = new Map(osd.pools.map((it) => [it, pairsOf(osd, it, map)]));
     const faults = new Map(osd.pools.map((it) => [it, poolFault(it, dump, rules, dump?.file ?? "the map", pairs.get(it))]).filter(([, why]) => why));
     const left = [...faults].map(([it, why]) => ({ pool: it.id, devices: reached(it, map, dump), text: `pool ${it.name} (${it.id}) isn't computed: ${why}` })), lines = [...left.map((it) => it.text), ...oddities(osd, dump)];
     work.step("Setting the states of devices");
     const states = await setStates(tenant, statesOf(osd, map), map, { whole: fresh }), lacking = [...osd.states.keys()].filter((id) => !map.byId.has(id));
     if (lacking.length) lines.push(`${osd.file} has devices that the map lacks; they hold nothing: ${some(lacking.map((it) => `osd.${it}`))}`);
+    if (name && !dump) lines.push(`${name} has weights that 'crushtool -d' rounded to three decimals; crush.json ('ceph osd crush dump -f json') has exact ones`);
     const pools = osd.pools.filter((it) => !faults.has(it));
     const wholeOf = (pool) => osd.lists.filter(({ at }) => at[0] === pool.id && at[1] < pool.pg_num).map(({ at, devices }) => ({ group: at[1], devices }));
     let set = 0;
@@ -161,7 +163,7 @@ export async function takeOsd(tenant, map, osd, dump, fresh, work) {
         set += all.length;
     }
     note(tenant, { notes: lines, left, whole: Object.fromEntries(pools.map((it) => [it.id, wholeOf(it)]).filter(([, own]) => own.length)) });
-    return `${many(pools.length, "pool")}, ${many(states, "device")} with a reweight or down, ${many(set, "upmap item")}`;
+    return `${pools.length < osd.pools.length ? `${count(pools.length)} of ` : ""}${many(osd.pools.length, "pool")}, ${many(states, "device")} with a reweight or down, ${many(set, "upmap item")}`;
 }
 
 // ---- the other files

@@ -9,11 +9,14 @@ import { count, figures } from "./figures.js";
 import { faultOf } from "./refused.js";
 import { readMap } from "./map.js";
 import { DEVICE_HEADS, deviceFields, placesTable } from "./places.js";
+import { decimals } from "./shares.js";
+import { usagesOf } from "./usage.js";
 import { leftOut, missing, poolPicker, poolsChosen } from "./view_pools.js";
 import { filling } from "./waiting.js";
 
-// What each place gains and loses, of parts that have only that.
-function gainsAndLosses(cluster, found, name) {
+// What each place gains and loses, of parts that have only that. `expected` is what devices are
+// expected to have now.
+function gainsAndLosses(cluster, found, name, expected) {
     const added = (key) => {
         const all = new Map();
         for (const part of found) part[key].forEach((it, id) => it && all.set(id, (all.get(id) ?? 0) + it));
@@ -29,7 +32,7 @@ function gainsAndLosses(cluster, found, name) {
             block("gain", it.losses, it.losses + it.gains);
         },
         orders: [["gain", "greatest gain first", net], ["loss", "greatest loss first", (it) => -net(it)]], legend: legend(["gain", "copies gained"], ["loss", "copies lost"]),
-        file: { name: `gains-${name}.csv`, title: "Copies gained and lost", text: () => csv([...DEVICE_HEADS, "gained", "lost"], ids.map((id) => [...deviceFields(cluster, id), gains.get(id) ?? 0, losses.get(id) ?? 0])) },
+        file: { name: `gains-${name}.csv`, title: "Copies gained and lost", text: () => csv([...DEVICE_HEADS, "gained", "lost", "expected"], ids.map((id) => [...deviceFields(cluster, id), gains.get(id) ?? 0, losses.get(id) ?? 0, decimals(expected.get(id) ?? 0, 2)])) },
     });
     return [gone.length > 0 && el("p", { class: "note" }, `Devices that the newest version doesn't have: ${gone.map((id) => `${cluster.name(id)} (loses ${losses.get(id) ?? 0}, gains ${gains.get(id) ?? 0})`).join(", ")}.`), table];
 }
@@ -43,9 +46,10 @@ async function versions(cluster, from, to, work) {
         // the report has the pool's number in a field of this name
         found.push({ ...said, pool });
     }
+    const { expected } = await usagesOf(cluster, pools, work);
     const moved = found.reduce((sum, it) => sum + it.moved, 0), anew = found.reduce((sum, it) => sum + it.anew, 0);
     return [figures([[moved, moved === 1 ? "group moves" : "groups move", "", "moved"], [anew, anew === 1 ? "copy is written anew" : "copies are written anew", "", "anew"]], "answer"),
-        ...moved ? [...gainsAndLosses(cluster, found, name), groupsFolded(cluster, found, [`on version ${from}`, `on version ${to}`], name)] : [el("p", { class: "done" }, "No group moves: each lies as before.")]];
+        ...moved ? [...gainsAndLosses(cluster, found, name, expected), groupsFolded(cluster, found, [`on version ${from}`, `on version ${to}`], name)] : [el("p", { class: "done" }, "No group moves: each lies as before.")]];
 }
 
 // A map that is tried in a copy, beside the newest version.

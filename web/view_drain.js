@@ -63,10 +63,9 @@ function shown(cluster, pools, ids, fails, results, groups) {
         return within > 0 && el("span", { class: "badge out" }, within === place.devices.length ? word : `${word} in part`);
     };
     const file = `${cluster.tenant}-${namesOf(cluster, ids)[0]}`, stopped = fails ? results[0].reduce((sum, it) => sum + it.lacks.stopped, 0) : 0;
-    return [el("h2", { class: "title", id: "answered", tabindex: "-1" }, `${fails ? "Failure" : "Drain"} of ${names}`), verdict(found, all, { stopped, keeping: stay(cluster, ids, found), unknown: lacks.length + groups }), leftOutNote(lacks, groups), fails && atOnce(results[0]), answerRow(cluster, all), proved(cluster, pools, ids),
-        all.shortBefore > 0 && el("p", { class: "note" }, `${many(all.shortBefore, "group has", "groups have")} fewer copies than the pool's size already now.`), poolLines(found), el("h2", {}, "Usage before and after"), changePicture(cluster, all), beforeAfter(cluster, all, file, mark),
+    return [el("h2", { class: "title", id: "answered", tabindex: "-1" }, `${fails ? "Failure" : "Drain"} of ${names}`), verdict(found, all, { stopped, keeping: stay(cluster, ids, found), unknown: lacks.length + groups }), leftOutNote(lacks, groups), fails && atOnce(results[0]), answerRow(cluster, all), proved(cluster, pools, ids), poolLines(found), el("h2", {}, "Usage before and after"), changePicture(cluster, all), beforeAfter(cluster, all, file, mark),
         groupsFolded(cluster, found, ["before", "after"], file),
-        el("p", { class: "hint" }, `Computed on a copy of the cluster on the service, which is dropped: neither your Ceph cluster nor what is kept here is changed. ${count(ids.length)} devices, ${many(pools.length, "pool")}.`)].flat();
+        el("p", { class: "hint" }, `Computed on a copy of the cluster on the service, which is dropped: neither your Ceph cluster nor what is kept here is changed. ${many(ids.length, "device")}, ${many(pools.length, "pool")}.`)].flat();
 }
 
 export function showDrain(cluster, wanted = {}) {

@@ -158,11 +158,11 @@ function mapPicture(cluster) {
 
 // The picture by states at once; by shares where there are pools, once these are known.
 function pictureOf(cluster, section) {
-    const at = el("div", {}, mapPicture(cluster));
+    const first = mapPicture(cluster), at = el("div", {}, first);
     if (cluster.known.pools.length) {
         filling(at, "Usage of the pools", (work) => {
             section.addEventListener("left", work.stop);
-            return sharePicture(cluster, work, placeActions(cluster));
+            return sharePicture(cluster, work, placeActions(cluster), cluster.known.pools, first);
         });
     }
     return at;

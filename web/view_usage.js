@@ -5,8 +5,8 @@ import { legend } from "./change_view.js";
 import { count, figures } from "./figures.js";
 import { picture } from "./picture.js";
 import { DEVICE_HEADS, deviceFields, isPlaced, placesTable } from "./places.js";
-import { decimals, expectedOf, partText, partsOf, percent, percentText } from "./shares.js";
-import { copiesByDevice, copiesIn, usageOf } from "./usage.js";
+import { decimals, partText, partsOf, percent, percentText } from "./shares.js";
+import { copiesIn, usagesOf } from "./usage.js";
 import { missing, poolPicker, poolsChosen } from "./view_pools.js";
 import { placeActions } from "./actions.js";
 import { filling } from "./waiting.js";
@@ -32,20 +32,12 @@ function usageCsv(cluster, pools, usages) {
     return csv(heads, rows);
 }
 
-// The usages of several pools, the copies of each device, and what it is expected to have.
-async function usagesOf(cluster, pools, work) {
-    const usages = [];
-    for (const it of pools) usages.push(await usageOf(cluster, it, work));
-    const whole = new Map(pools.map((pool, place) => [pool, copiesIn(usages[place])]));
-    return { usages, copies: copiesByDevice(usages), expected: expectedOf(cluster.map, pools, cluster.known.states, (pool) => whole.get(pool)), whole: [...whole.values()].reduce((sum, it) => sum + it, 0) };
-}
-
 // The cluster's picture, coloured by percent of the shares in all pools that are known.
-export async function sharePicture(cluster, work, actions, pools = cluster.known.pools) {
+export async function sharePicture(cluster, work, actions, pools = cluster.known.pools, earlier = undefined) {
     const { copies, expected } = await usagesOf(cluster, pools, work);
     return picture(cluster, {
         values: { copies: (id) => copies.get(id), expected: (id) => expected.get(id) }, colour: (it) => percent(it.copies, it.expected), words: (it) => `${count(it.copies)} copies, ${percentText(it.copies, it.expected)} of its share`,
-        keys: [["low", "50 % of its share"], ["even-ground", "100 %"], ["high", "150 %"]], actions,
+        keys: [["low", "50 % of its share"], ["even-ground", "100 %"], ["high", "150 %"]], actions, earlier,
     });
 }
 

@@ -34,7 +34,7 @@ def fault(command, wanted, folder, port):
     """Why a command doesn't print what is shown, or None. The port of the page is one that is
     free."""
     command, wanted = command.replace(PORT, port), wanted.replace(PORT, port).encode()
-    status, said = said_by(command, wanted, folder)
+    status, said = said_by(command, wanted, folder, {**os.environ, "CRUSHCALC": str(folder / "crushcalc")})
     if "kill $(" in command:
         # the shell's kill doesn't wait
         time.sleep(0.5)
@@ -53,7 +53,7 @@ def folder_for(top, name, program):
     at = pathlib.Path(top, name)
     at.mkdir()
     (at / "crushcalc").symlink_to(program)
-    for it in ("examples", "web"):
+    for it in ("examples", "tools", "web"):
         (at / it).symlink_to(TOP / it)
     return at
 

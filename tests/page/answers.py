@@ -367,6 +367,8 @@ def two_versions_are_compared(page):
     order = list(page.rows("#places tr[data-place]"))
     page.by("device")
     found = {it: row[2:] for it, row in page.rows("#places tr[data-device]").items()}
+    text, parts = page.saved("#places-csv").splitlines(), parts_of(FOUR)
+    lines = [f"{it},osd.{it},host{it // 2},1.00000,65536,1,{gains[it]},{losses[it]},{rounded(32 * parts[it], 2)}" for it in range(8) if gains[it] or losses[it]]
     add = lambda of, host: of[2 * host] + of[2 * host + 1]
     net = {f"host{it}": add(gains, it) - add(losses, it) for it in range(4)}
     page.browser.click("#which summary")
@@ -375,7 +377,7 @@ def two_versions_are_compared(page):
     return first(
         unlike(page.figures(), {"moved": str(len(moves)), "anew": str(Change(old, new, 2).anew)}), unlike(hosts, {f"host{it}": [str(add(gains, it)), str(add(losses, it)), signed(net[f"host{it}"])] for it in range(4) if add(gains, it) or add(losses, it)}),
         unlike([net[it] for it in order], sorted((net[it] for it in order), reverse=True)), unlike(found, {it: [str(gains[it]), str(losses[it]), signed(gains[it] - losses[it])] for it in range(8) if gains[it] or losses[it]}),
-        unlike(page.rows("#groups tbody tr"), {group: [f"1.{group:x}", names(before), names(after)] for group, before, after in moves}),
+        unlike(page.rows("#groups tbody tr"), {group: [f"1.{group:x}", names(before), names(after)] for group, before, after in moves}), unlike(text, ["device,name,host,weight,reweight,up,gained,lost,expected", *lines]),
     )
 
 

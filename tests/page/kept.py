@@ -4,7 +4,6 @@ what it shows of drains, failures, usage, another map and upmap items is compare
 JSON."""
 import json
 import os
-import pathlib
 import subprocess
 from collections import defaultdict
 
@@ -60,10 +59,23 @@ def all_rows(page, table):
     return page.browser.run("const more = [...document.querySelectorAll(`#${arguments[0]} .cut button`)]; more.forEach((it) => it.click()); return !more.length", table)
 
 
+def field(items):
+    """An up list in a CSV of groups."""
+    return " ".join("-" if it is None else str(it) for it in items)
+
+
+def groups_shown(page):
+    """Of each group that moves, by its id, both lists, as the CSV of groups has them."""
+    page.browser.click("#which summary")
+    page.browser.one("#groups-csv")
+    return {it.split(",")[3]: it.split(",")[4:6] for it in page.saved("#groups-csv").splitlines()[1:]}
+
+
 # ---- usage
 
 
 def same_usage(page, program, folder):
+    """The large numbers, the tables by device, host and rack, and the CSV."""
     page.browser.tab("Usage")
     page.browser.one("#answer")
     page.settled()
@@ -75,32 +87,29 @@ def same_usage(page, program, folder):
         rows = plan(program, folder, "usage", *(["--by", level] if level != "device" else []))["rows"]
         here = shown_by(page, level, "places")
         whys.append(unlike(here, {it["name"]: [counted(it["copies"]), share(it["share"]), percent(it["percent"], it["copies"])] for it in rows if it["name"] != "-"}, f"usage by {level}:"))
-    lines = [it.split(",") for it in page.saved("#places-csv").splitlines()]
-    found = defaultdict(lambda: [0, 0.0, 0])
-    for pool, _, device, *_, own, _, _, _, primaries, _ in lines[1:]:
+    found = defaultdict(lambda: [0, 0])
+    for _, _, device, *_, own, _, _, _, primaries, _ in (it.split(",") for it in page.saved("#places-csv").splitlines()[1:]):
         one = found[int(device)]
-        one[0], one[2] = one[0] + int(own), one[2] + int(primaries)
-    whys.append(unlike({it: (own[0], own[2]) for it, own in found.items()}, {it["device"]: (it["copies"], it["primaries"]) for it in plan(program, folder, "usage")["rows"]}, "the CSV of usage:"))
+        one[:] = one[0] + int(own), one[1] + int(primaries)
+    whys.append(unlike(dict(found), {it["device"]: [it["copies"], it["primaries"]] for it in said["rows"]}, "the CSV of usage:"))
     return first(*whys)
 
 
 # ---- drains and failures
 
 
-def same_change(page, what, said, devices_said=True):
-    """The figures, the pools, the devices and the groups of an answer."""
-    names = {it["device"]: it["name"] for it in said["usage"]}
+def same_change(page, what, said):
+    """The figures, the pools, the devices and hosts, and the groups of an answer."""
     row = lambda it: [counted(it["copies_before"]), counted(it["copies_after"]), signed(it["copies_after"] - it["copies_before"]), percent(it["percent_after"], it["copies_after"])]
     here = {name: [*own[:3], own[4]] for name, own in shown_by(page, "device", "usages").items()}
     figures = {"short": counted(said["short"]["groups"]), "moved": counted(said["moved"]), "anew": counted(said["copies"]), "fullest": percent(said["fullest"]["percent_after"], 1)}
     pools = [[cell.text for cell in it.find_elements("css selector", "th, td")] for it in page.browser.all("#by-pool tbody tr")]
     lines = [it.split(",") for it in page.saved("#usages-csv").splitlines()][1:]
     csv = {int(it[0]): (it[1], it[2], *map(int, it[6:8]), *map(float, it[8:10])) for it in lines}
-    wanted_csv = {it["device"]: (it["name"], it["host"], it["copies_before"], it["copies_after"], it["share_before"], it["share_after"]) for it in said["usage"]}
+    wanted = {it["device"]: (it["name"], it["host"], it["copies_before"], it["copies_after"], it["share_before"], it["share_after"]) for it in said["usage"]}
     return first(
         unlike(page.figures(), figures, f"{what}:"), unlike(pools, [[it["name"], *(counted(it[key]) for key in ("short_groups", "missing_copies", "moved", "copies"))] for it in said["pools"]], f"{what}, pools:"),
-        unlike({it: own for it, own in here.items() if it in names.values()}, {it["name"]: row(it) for it in said["usage"]}, f"{what}, devices:"), unlike({it: own for it, own in csv.items() if it in names}, wanted_csv, f"{what}, the CSV:"),
-        same_hosts(page, what, said), same_groups(page, what, said, names),
+        unlike(here, {it["name"]: row(it) for it in said["usage"]}, f"{what}, devices:"), unlike(csv, wanted, f"{what}, the CSV:"), same_hosts(page, what, said), same_groups(page, what, said),
     )
 
 
@@ -110,18 +119,12 @@ def same_hosts(page, what, said):
     for it in said["usage"]:
         own = wanted[it["host"]]
         own[0], own[1] = own[0] + it["copies_before"], own[1] + it["copies_after"]
-    here = shown_by(page, "host", "usages")
-    return unlike({it: own[:3] for it, own in here.items()}, {it: [counted(own[0]), counted(own[1]), signed(own[1] - own[0])] for it, own in wanted.items() if it in here}, f"{what}, hosts:") or (None if here else f"{what}: no host")
+    here = {name: own[:3] for name, own in shown_by(page, "host", "usages").items()}
+    return unlike(here, {name: [counted(had), counted(has), signed(has - had)] for name, (had, has) in wanted.items()}, f"{what}, hosts:")
 
 
-def same_groups(page, what, said, names):
-    """Each group that moves, by its id, with both lists, as in the CSV of groups."""
-    page.browser.click("#which summary")
-    page.browser.one("#groups-csv")
-    lines = [it.split(",") for it in page.saved("#groups-csv").splitlines()][1:]
-    field = lambda items: " ".join("-" if it is None else str(it) for it in items)
-    wanted = {it["id"]: [field(it["before"]), field(it["after"])] for it in said["groups"]}
-    return unlike({it[3]: it[4:6] for it in lines}, wanted, f"{what}, groups:")
+def same_groups(page, what, said):
+    return unlike(groups_shown(page), {it["id"]: [field(it["before"]), field(it["after"])] for it in said["groups"]}, f"{what}, groups:")
 
 
 def answered(page, names, way):
@@ -131,7 +134,7 @@ def answered(page, names, way):
     page.browser.until(lambda: page.browser.text("#proved").startswith("Proved"), "what is proved isn't said")
 
 
-def verdict_of(said, why=""):
+def verdict_of(said):
     """The answer as the page says it."""
     return f"{said['answer'][0].upper()}{said['answer'][1:]}"
 
@@ -172,7 +175,7 @@ def same_compare(page, program, folder, name):
     return first(
         unlike({key: figures[key] for key in ("moved", "anew")}, {"moved": counted(said["moved"]), "anew": counted(said["copies"])}, f"{what}:"),
         None if (counted(missing) in verdict and verdict.startswith("No") if missing else verdict.startswith("Yes")) else f"{what}: {verdict}",
-        unlike({it: own for it, own in here.items() if it in wanted or own != "0"}, wanted, f"{what}, hosts:"), same_groups(page, what, said, {}),
+        unlike({it: own for it, own in here.items() if it in wanted or own != "0"}, wanted, f"{what}, hosts:"), same_groups(page, what, said),
     )
 
 
@@ -190,12 +193,9 @@ def same_upmap(page, program, folder):
     page.settled()
     groups = [it for it in said["groups"] if it["pool"] == 1]
     moved = {it["id"]: it for it in groups if it["before"] != it["after"]}
-    page.browser.click("#which summary")
-    page.browser.one("#groups-csv")
-    found = {it.split(",")[3]: it.split(",")[4:6] for it in page.saved("#groups-csv").splitlines()[1:]}
-    field = lambda items: " ".join("-" if it is None else str(it) for it in items)
-    figures = page.figures()
+    found, figures, verdict, broken = groups_shown(page), page.figures(), page.browser.text("#verdict"), sum(it["breaks"] is not None for it in groups)
     return first(
+        None if (f"{broken} group{'s' if broken > 1 else ''} would break the rule" in verdict if broken else "break the rule" not in verdict) else f"upmap: {verdict}, and {broken} groups break it",
         unlike((figures["moved"], figures["anew"]), (counted(len(moved)), counted(sum(it["copies"] for it in groups))), "upmap:"),
         unlike(found, {id_: [field(it["before"]), field(it["after"])] for id_, it in moved.items()}, "upmap, groups:"), None if moved else "no group of pool 1 moves",
     )

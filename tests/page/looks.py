@@ -6,6 +6,7 @@ from selenium.webdriver.common.action_chains import ActionChains
 from selenium.webdriver.common.keys import Keys
 
 from page import DRAINED, PICTURES, example, first, unlike
+from placed import Placed
 
 WIDTHS, VIEWS = (360, 1440, 1920), ("Map", "Pools", "Usage", "Compare", "Drain", "Object")
 CONTRAST, MOST_TABS = 4.5, 80
@@ -20,6 +21,21 @@ for (const it of document.querySelectorAll("body *")) {
     found.set(getComputedStyle(it).color + below, [it.tagName + "." + it.className, getComputedStyle(it).color, below]);
 }
 return [...found.values()];
+"""
+
+
+# words of up to twelve letters that are broken over lines, of what is shown
+BROKEN = """
+const found = new Set(), walker = document.createTreeWalker(document.body, NodeFilter.SHOW_TEXT), range = document.createRange();
+for (let it = walker.nextNode(); it; it = walker.nextNode()) {
+    if (!it.parentElement.checkVisibility({ visibilityProperty: true }) || it.parentElement.closest("script, .sr, .skip, noscript, option, pre, code")) continue;
+    for (const word of it.data.matchAll(/(?<![^\\s-])[^\\s-]{2,12}(?![^\\s-])/g)) {
+        range.setStart(it, word.index);
+        range.setEnd(it, word.index + word[0].length);
+        if (new Set([...range.getClientRects()].map((at) => Math.round(at.top))).size > 1) found.add(word[0]);
+    }
+}
+return [...found];
 """
 
 
@@ -59,8 +75,29 @@ def it_fits_both_widths(page):
             page.browser.picture(PICTURES / f"{view.lower()}-{width}.png")
             if over > 0:
                 whys.append(f"{view} is {over} pixels wider than {width}")
+            if broken := page.browser.run(BROKEN):
+                whys.append(f"{view} at {width} breaks {broken[:5]}")
     page.browser.size(1280)
     return first(*whys)
+
+
+def one_group_is_chosen_on_a_phone(page):
+    """At 360 pixels: a drain of a host, and one group of it by its id."""
+    page.planned()
+    page.browser.size(360, 740)
+    page.drained("host0")
+    page.browser.click("#which summary")
+    page.browser.has("#groups tbody tr")
+    before = Placed(example("three_hosts.txt"), pool=1, size=2, pg_num=16)
+    group = before.moves(Placed(example("three_hosts.txt"), pool=1, size=2, pg_num=16, reweights={0: 0, 1: 0}))[-1][0]
+    page.browser.fill("#group-search", f"1.{group:x}")
+    page.browser.until(lambda: list(page.rows("#groups tbody tr")) == [group], "not one group is shown")
+    page.browser.run("document.querySelector('#groups tbody tr').scrollIntoView({ block: 'center' })")
+    sides = page.browser.run("return [...document.querySelectorAll('#groups tbody tr > *')].flatMap((it) => [it.getBoundingClientRect().left, it.getBoundingClientRect().right])")
+    lines = page.browser.run("return Math.round(document.querySelector('#groups tbody .id').getClientRects().length)")
+    page.browser.picture(PICTURES / "one-group-360.png")
+    page.browser.size(1280)
+    return first(None if min(sides) >= 0 and max(sides) <= 360 else f"it lies from {min(sides)} to {max(sides)}", unlike(lines, 1, "lines of its id:"))
 
 
 def the_longest_names_fit(page):
@@ -296,4 +333,4 @@ def a_screen_reader_has_names_for_all(page):
 
 
 def cases():
-    return it_fits_both_widths, the_first_view_a_refused_map_and_a_question, the_longest_names_fit, it_is_read_well_in_light_and_dark, a_drain_by_keyboard_alone, the_list_of_hosts_is_skipped, the_content_is_skipped_to, a_screen_reader_has_names_for_all
+    return it_fits_both_widths, one_group_is_chosen_on_a_phone, the_first_view_a_refused_map_and_a_question, the_longest_names_fit, it_is_read_well_in_light_and_dark, a_drain_by_keyboard_alone, the_list_of_hosts_is_skipped, the_content_is_skipped_to, a_screen_reader_has_names_for_all

@@ -317,7 +317,8 @@ def states_are_set_by_a_click(page):
     page.browser.until(lambda: states_known(page, tenant).get(1) == (16384, True), "the reweight isn't set")
     wanted = Placed(example("three_hosts.txt"), pool=1, size=2, pg_num=16, reweights={1: 16384}, down={3}).usage()
     found = {it["device"]: it["entries"] for it in page.ask("GET", f"/t/{tenant}/pools/1/usage")[1]["rows"]}
-    return first(unlike(found, {it: row[0] for it, row in wanted.items()}), unlike(lines_of_the_tree(page)["osd.1"][1][1:], ["reweight 0.25", "up"]))
+    page.browser.until(lambda: lines_of_the_tree(page)["osd.1"][1][1:] == ["reweight 0.25", "up"], "the reweight isn't shown")
+    return unlike(found, {it: row[0] for it, row in wanted.items()})
 
 
 def states_known(page, tenant):

@@ -67,6 +67,22 @@ def a_503_is_shown_and_repeated(page):
     )
 
 
+def what_the_web_server_refuses_is_sent_again(page):
+    """Where too many are under way nginx answers 503 itself, with nothing done: after a moment the
+    same bytes are sent again, and nothing is asked."""
+    tenant = page.imported(example("three_hosts.txt"), port=through(page))
+    page.proxy.busy = 3
+    page.drop(example("four_hosts.txt"), "four_hosts.txt", "version 2")
+    bodies, left = [it for it in posts(page, f"/t/{tenant}/maps") if b"osd.7" in it], page.proxy.busy
+    page.proxy.busy = 1000
+    page.browser.named("nav a", "Pools").click()
+    notice = page.browser.text(".notice")
+    page.proxy.busy = 0
+    page.browser.named(".notice button", "Repeat").click()
+    page.browser.until(lambda: page.browser.text("h1") == "Pools", "no view")
+    return first(unlike(left, 0, "left:"), unlike(len(set(bodies)), 1, "bodies:"), unlike(page.summary(tenant)["versions"], 2, "versions:"), None if "503" in notice else notice)
+
+
 def what_is_given_up_is_forgotten(page):
     tenant = page.imported(example("three_hosts.txt"), port=through(page))
     page.proxy.refuses = 1
@@ -166,4 +182,4 @@ def a_copy_that_was_left_is_dropped(page):
 
 
 def cases():
-    return (a_lost_reply_is_asked_for_again, a_reload_repeats_what_had_no_reply, a_503_is_shown_and_repeated, what_is_given_up_is_forgotten, a_drain_with_lost_replies_and_a_503, a_copy_goes_with_its_page, a_cluster_is_deleted_at_the_second_try, a_drain_is_stopped, a_copy_that_was_left_is_dropped)
+    return (a_lost_reply_is_asked_for_again, a_reload_repeats_what_had_no_reply, a_503_is_shown_and_repeated, what_the_web_server_refuses_is_sent_again, what_is_given_up_is_forgotten, a_drain_with_lost_replies_and_a_503, a_copy_goes_with_its_page, a_cluster_is_deleted_at_the_second_try, a_drain_is_stopped, a_copy_that_was_left_is_dropped)

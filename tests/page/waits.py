@@ -47,5 +47,31 @@ def a_failed_get_is_no_change(page):
     return None if "no reply came" in said and "may be done" not in said else said
 
 
+ASKS = """
+const done = arguments[arguments.length - 1], [tenant, count] = arguments;
+import("./service.js").then(({ ask }) => {
+    const control = new AbortController(), asked = Array.from({ length: count }, () => ask("Look", "GET", `/t/${tenant}`));
+    const began = performance.now(), stopped = ask("Look", "GET", `/t/${tenant}/maps/1`, undefined, control.signal).then(() => "answered", (why) => [why, performance.now() - began]);
+    control.abort("stopped");
+    Promise.all([stopped, ...asked]).then(([one, ...others]) => done([one, others.map((it) => it.status)]));
+});
+"""
+
+
+def two_are_under_way_at_a_time(page):
+    """Of requests at once, all of which are answered; one that waits for its turn is stopped at
+    once and isn't sent."""
+    page.planned(port=page.proxy.server_port)
+    page.settled()
+    tenant = f"plan-{page.made}"
+    page.proxy.holds, page.proxy.held, page.proxy.most = 0.5, tenant, 0
+    page.browser.driver.set_script_timeout(60)
+    page.browser.loaded()
+    (why, after), others = page.browser.driver.execute_async_script(ASKS, tenant, 6)
+    page.proxy.holds = 0
+    asked = [it for it in page.browser.loaded() if "/t/" in it]
+    return first(unlike(page.proxy.most, 2, "under way:"), unlike(others, [200] * 6), unlike(why, "stopped"), None if after < 400 else f"it was stopped after {after:.0f} ms", unlike(len(asked), 6, "requests:"))
+
+
 def cases():
-    return a_view_that_waits_says_so, the_old_view_is_dimmed_under_its_own_name, a_failed_get_is_no_change
+    return two_are_under_way_at_a_time, a_view_that_waits_says_so, the_old_view_is_dimmed_under_its_own_name, a_failed_get_is_no_change
