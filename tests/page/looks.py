@@ -6,7 +6,7 @@ from selenium.webdriver.common.action_chains import ActionChains
 from selenium.webdriver.common.keys import Keys
 
 from page import DRAINED, PICTURES, example, first, unlike
-from placed import Placed
+from model.placed import Placed
 
 WIDTHS, VIEWS = (360, 1440, 1920), ("Map", "Pools", "Usage", "Compare", "Drain", "Object")
 CONTRAST, MOST_TABS = 4.5, 80
