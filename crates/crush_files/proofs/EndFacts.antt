@@ -1,5 +1,5 @@
 -- How a script over a file ends, from how it ends over the store below.
-use Rattle.std.proofs.Common.{◌≡◌, ◌∙◌, ℕ, List, Bool, true, Option, Result, Ok, ap, subst, sym}
+use Rattle.std.proofs.Common.{◌≡◌, ◌∙◌, ◌||◌, ℕ, List, Bool, true, Option, Result, Ok, ap, subst, sym}
 use Rattle.std.specs.declared.alloc.AllocError.{AllocError}
 use Rattle.sqlite_disk.specs.declared.Disk as disk
 use Rattle.sqlite_disk.specs.declared.Files.{Files}
@@ -34,22 +34,22 @@ use Rattle.crush_files.specs.Ended.{EndsOnFile, EndsOnFiles}
 
 -- ---- over tables
 
-module _ {S : Type 0} (g : Ghosts S) (first start last : Held S × Bool) (conn : Held S) (end : Result ScriptEnd AllocError) (reads left from to : Option (List ℕ)) where
+module _ {S F : Type 0} (g : Ghosts S) (first last : ((Held S × Bool) × F) × Bool) (start : Held S × Bool) (conn : Held S) (end : Result ScriptEnd AllocError) (reads left from to : Option (List ℕ)) where
   abbrev OnStore : ScriptEnd → List (Option Call) → Type 0
-  OnStore how ms = IsHonest g last → PlaysScript how last.1 (HasState g first) (HasState g last) (MayLeave g last) ms from to
+  OnStore how ms = IsHonest g last.0.0 → PlaysScript how (last.0.0.1 || last.1) (HasState g first.0.0) (HasState g last.0.0) (MayLeave g last.0.0) ms from to
 
   abbrev OnRows : ScriptEnd → List (Option Call) → Type 0
   OnRows how ms = HasCleanDisk (state g conn) → PlaysScript how true (StandsFor (state g start.0).now.trees) (StandsFor (state g conn).now.trees) (MayStandFor g conn) ms from to
 
-  pub ends_on_tables : first ≡ start → last.0 ≡ conn → (HasCleanDisk (state g conn) → IsHonest g last) → EndsScript (last ≡ first) OnStore end reads left from to
+  pub ends_on_tables : first.0.0 ≡ start → last.0.0.0 ≡ conn → (HasCleanDisk (state g conn) → IsHonest g last.0.0) → EndsScript (last ≡ first) OnStore end reads left from to
       → EndsScript (conn ≡ start.0) OnRows end reads left from to
   ends_on_tables begun ended honest said =
-      ends_map (last ≡ first) (conn ≡ start.0) OnStore OnRows end reads left from to (λ same. sym ended ∙ ap (λ x. x.0) (same ∙ begun))
+      ends_map (last ≡ first) (conn ≡ start.0) OnStore OnRows end reads left from to (λ same. sym ended ∙ ap (λ x. x.0.0.0) same ∙ ap (λ x. x.0) begun)
       (λ how ms is plays clean.
       let old = StandsFor (state g start.0).now.trees in
       let new = StandsFor (state g conn).now.trees in
-      script_same how last.1 old old new new (MayStandFor g conn) ms from to (same_states old) (λ _. same_states new)
-      (of_store g (λ a b l. PlaysScript how last.1 a b l ms from to) first start last conn begun ended (plays (honest clean))))
+      script_same how (last.0.0.1 || last.1) old old new new (MayStandFor g conn) ms from to (same_states old) (λ _. same_states new)
+      (of_store g (λ a b l. PlaysScript how (last.0.0.1 || last.1) a b l ms from to) first.0.0 start last.0.0 conn begun ended (plays (honest clean))))
       said
 
 -- ---- over files

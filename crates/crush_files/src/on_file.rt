@@ -12,7 +12,7 @@ use std::alloc::AllocError;
 use std::io::{Read, Write};
 use std::num::NonZeroUsize;
 use std::rt::HostRuntime;
-use tenant_files::{Closed, FileFault, open_store};
+use tenant_files::{Closed, FileFault, FileWatch, open_store};
 
 /// Plays a script on the tenants in a database file, of whose groups so many placements are kept,
 /// and returns how that ended, with what was given back of the file. A file that is missing or
@@ -22,7 +22,8 @@ use tenant_files::{Closed, FileFault, open_store};
 /// have the premise that the disk returned what was written (`AreClean`).
 ///
 /// `Err(FileFault::Store)`: the file can't be opened, or isn't a database with the tables of this
-/// service; it is then as it was. `Err(FileFault::NoMemory)`: an allocation of the opening failed.
+/// service; it is then as it was. The same where it is moved or removed meanwhile.
+/// `Err(FileFault::NoMemory)`: an allocation of the opening failed.
 pub fn script_on_file<S: Start, R: Read, W: Write>(
     rt: &HostRuntime,
     path: &str,
@@ -39,5 +40,6 @@ pub fn script_on_file<S: Start, R: Read, W: Write>(
     ensures unopened { OnErr result ((reader.new ≡ reader.old) × (writer.new ≡ writer.old)) }
 {
     let store = open_store(rt, path, start)?;
-    Ok(script_on_files(rt.alloc(), store, placements, reader, writer))
+    let watch = FileWatch::new(rt, path)?;
+    Ok(script_on_files(rt.alloc(), store, watch, placements, reader, writer))
 }

@@ -21,12 +21,15 @@ use std::num::NonZeroUsize;
 use tenant_files::{Closed, FileFault, READY_BYTES, close_files, give_up};
 use tenant_ready::ReadyStore;
 use tenant_store::Store;
+use tenant_watched::{Watch, WatchedStore};
 
 /// Plays a script on the tenants of a store over tables, and gives the connection back. What
-/// tenants have is kept ready, within `READY_BYTES`, and so many placements of their groups.
-fn script_on_tables<S: Alter + Drop, R: Read, W: Write>(
+/// tenants have is kept ready, within `READY_BYTES`, and so many placements of their groups. No
+/// change is acknowledged once the files that are watched are missed.
+fn script_on_tables<S: Alter + Drop, F: Watch + Drop, R: Read, W: Write>(
     alloc: Global,
     store: Store<S>,
+    watch: F,
     placements: NonZeroUsize,
     reader: &mut R,
     writer: &mut W,
@@ -38,12 +41,15 @@ fn script_on_tables<S: Alter + Drop, R: Read, W: Write>(
     ensures ready { HasCleanDisk (state S.Store result.1) → result.0 ≡ Ok ScriptEnd.Done → IsReady (state S.Store result.1) }
     ensures honest { HasCleanDisk (state S.Store result.1) → IsHonest S.Store store }
 {
-    let ready = match ReadyStore::over(alloc, store, READY_BYTES, placements) {
+    let watched = WatchedStore::over(store, watch);
+    let ready = match ReadyStore::over(alloc, watched, READY_BYTES, placements) {
         Ok(ready) => ready,
-        Err((error, store)) => return (Err(error), store.close()),
+        Err((error, watched)) => return (Err(error), watched.into_below().close()),
     };
     let (end, ready) = script_on_store(alloc, ready, reader, writer);
-    let conn = ready.into_below().close();
+    let watched = ready.into_below();
+    let store = watched.into_below();
+    let conn = store.close();
     (end, conn)
 }
 
@@ -66,9 +72,10 @@ fn close_after<D: Disk + Drop>(
 ///
 /// The clauses have the premise that the disk returned what was written (`AreClean`).
 /// `Err(AllocError)`: an allocation outside a request failed; no line was served.
-pub fn script_on_files<D: Disk + Drop, R: Read, W: Write>(
+pub fn script_on_files<D: Disk + Drop, F: Watch + Drop, R: Read, W: Write>(
     alloc: Global,
     store: Store<FileStore<D>>,
+    watch: F,
     placements: NonZeroUsize,
     reader: &mut R,
     writer: &mut W,
@@ -82,7 +89,7 @@ pub fn script_on_files<D: Disk + Drop, R: Read, W: Write>(
     // Where the file failed for good, it isn't closed.
     ensures failed { result.0 ≡ Ok ScriptEnd.Latched → result.1.copied ≡ Err FileFault.Store }
 {
-    let (end, conn) = script_on_tables(alloc, store, placements, reader, writer);
+    let (end, conn) = script_on_tables(alloc, store, watch, placements, reader, writer);
     let closed = close_after(&end, conn);
     (end, closed)
 }

@@ -1,5 +1,5 @@
 -- How serving clients over a file ends, from how it ends over the store below.
-use Rattle.std.proofs.Common.{◌≡◌, ◌≢◌, ◌∙◌, ℕ, ◌<◌, ◌≤◌, List, Bool, true, false, Option, Result, Ok, Err, ap, refl, subst, sym}
+use Rattle.std.proofs.Common.{◌≡◌, ◌≢◌, ◌∙◌, ◌||◌, ℕ, ◌<◌, ◌≤◌, List, Bool, true, false, Option, Result, Ok, Err, ap, refl, subst, sym}
 use Rattle.std.specs.Prelude.{⊤}
 use Rattle.sqlite_disk.specs.declared.Disk as disk
 use Rattle.sqlite_disk.specs.declared.Files.{Files}
@@ -26,6 +26,7 @@ use Rattle.tenant_messages.specs.declared.call.Call.{Call}
 use Rattle.tenant_messages.specs.declared.reply.Reply.{Reply}
 use Rattle.tenant_rows.specs.Rows.{StandsFor, StatesIn}
 use Rattle.tenant_store.specs.Shown.{HasState, IsHonest, MayLeave}
+use Rattle.tenant_watched.specs.Laws.{works_below}
 use Rattle.crush_server.proofs.Each.{clients_map}
 use Rattle.crush_server.specs.Clients.{Clients}
 use Rattle.crush_server.specs.Ended.{EndsServing, LatchesAs, ServesOnFile, ServesOnFiles, has_failed}
@@ -83,28 +84,28 @@ serves_same is a b c d left cs rs before after s =
 
 -- ---- over tables
 
-module _ {S : Type 0} (g : Ghosts S) (first start last : Held S × Bool) (conn : Held S) (end : Result (Unit {0}) ServerFault) (Unheard : Type 0) (most : ℕ) (from to : Option Clients) where
+module _ {S F : Type 0} (g : Ghosts S) (first last : ((Held S × Bool) × F) × Bool) (start : Held S × Bool) (conn : Held S) (end : Result (Unit {0}) ServerFault) (Unheard : Type 0) (most : ℕ) (from to : Option Clients) where
   abbrev OnStore : List Call → List Reply → Type 0
-  OnStore calls replies = IsHonest g last → ServesSession false last.1 (HasState g first) (HasState g last) (MayLeave g last) calls replies
+  OnStore calls replies = IsHonest g last.0.0 → ServesSession false (last.0.0.1 || last.1) (HasState g first.0.0) (HasState g last.0.0) (MayLeave g last.0.0) calls replies
 
   abbrev OnRows : List Call → List Reply → Type 0
   OnRows calls replies =
       HasCleanDisk (state g conn) → ServesSession false (has_failed end) (StandsFor (state g start.0).now.trees) (StandsFor (state g conn).now.trees) (MayStandFor g conn) calls replies
 
-  pub ends_on_tables : first ≡ start → last.0 ≡ conn → (HasCleanDisk (state g conn) → IsHonest g last) → LatchesAs end last.1 → EndsServing ((last ≡ first) × Unheard) OnStore end most from to
+  pub ends_on_tables : first.0.0 ≡ start → last.0.0.0 ≡ conn → (HasCleanDisk (state g conn) → IsHonest g last.0.0) → LatchesAs end (last.0.0.1 || last.1) → EndsServing ((last ≡ first) × Unheard) OnStore end most from to
       → EndsServing ((conn ≡ start.0) × Unheard) OnRows end most from to
   ends_on_tables begun ended honest latch said =
-      serving_map ((last ≡ first) × Unheard) ((conn ≡ start.0) × Unheard) OnStore OnRows end most from to (λ u. (sym ended ∙ ap (λ x. x.0) (u.0 ∙ begun), u.1))
+      serving_map ((last ≡ first) × Unheard) ((conn ≡ start.0) × Unheard) OnStore OnRows end most from to (λ u. (sym ended ∙ ap (λ x. x.0.0.0) u.0 ∙ ap (λ x. x.0) begun, u.1))
       (λ is cs rs serves clean.
-      of_store g (λ a b l. ServesSession false (has_failed end) a b l cs rs) first start last conn begun ended
-      (subst (λ (b : Bool). ServesSession false b (HasState g first) (HasState g last) (MayLeave g last) cs rs) (latched_is end last.1 is latch) (serves (honest clean))))
+      of_store g (λ a b l. ServesSession false (has_failed end) a b l cs rs) first.0.0 start last.0.0 conn begun ended
+      (subst (λ (b : Bool). ServesSession false b (HasState g first.0.0) (HasState g last.0.0) (MayLeave g last.0.0) cs rs) (latched_is end (last.0.0.1 || last.1) is latch) (serves (honest clean))))
       said
 
 -- after so many clients the tables are ready
-pub ready_then : {S : Type 0} (g : Ghosts S) (last : Held S × Bool) (conn : Held S) (end : Result (Unit {0}) ServerFault) → last.0 ≡ conn → (HasCleanDisk (state g conn) → IsHonest g last) → LatchesAs end last.1
+pub ready_then : {S F : Type 0} (g : Ghosts S) (last : ((Held S × Bool) × F) × Bool) (conn : Held S) (end : Result (Unit {0}) ServerFault) → last.0.0.0 ≡ conn → (HasCleanDisk (state g conn) → IsHonest g last.0.0) → LatchesAs end (last.0.0.1 || last.1)
     → HasCleanDisk (state g conn) → has_failed end ≡ false → IsReady (state g conn)
 ready_then {S = S} g last conn end ended honest latch clean works =
-    subst (λ (x : Held S). IsReady (state g x)) ended ((honest clean).ready (latched_false end last.1 latch works))
+    subst (λ (x : Held S). IsReady (state g x)) ended ((honest clean).ready (works_below last.0.0.1 last.1 (latched_false end (last.0.0.1 || last.1) latch works)))
 
 -- ---- over files
 

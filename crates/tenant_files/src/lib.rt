@@ -1,11 +1,13 @@
-//! Database files of tenants: opening and closing.
+//! Database files of tenants: opening and closing, and whether they are where they were.
 #![tactic(auto)]
 
 mod closing;
 mod fault;
 mod log;
 mod opening;
+mod watch;
 
 pub use closing::{Closed, close_files, give_up};
 pub use fault::FileFault;
 pub use opening::{READY_BYTES, open_store};
+pub use watch::FileWatch;

@@ -1,0 +1,119 @@
+//! Whether a database file and its log are where they were.
+
+use crate::fault::FileFault;
+use std::fs::{self, Metadata};
+use std::io::{self, ErrorKind};
+use std::os::unix::fs::MetadataExt;
+use std::rt::HostRuntime;
+use tenant_watched::Watch;
+
+/// Which file was found, and how long it was.
+#[derive(Clone, Copy)]
+struct Seen {
+    device: u64,
+    node: u64,
+    length: u64,
+}
+
+impl Seen {
+    /// What was found.
+    fn of(found: Metadata) -> Self {
+        Seen {
+            device: found.dev(),
+            node: found.ino(),
+            length: found.len(),
+        }
+    }
+
+    /// Whether it is this file, of whatever length.
+    fn is(self, other: Seen) -> bool {
+        self.device == other.device && self.node == other.node
+    }
+}
+
+/// A database file and its log, as they were found last.
+#[derive(Clone, Copy)]
+struct Pair {
+    db: Seen,
+    log: Seen,
+}
+
+/// Looks whether a database file and its log are found where the next opening by the same path
+/// looks for them. Contracts know nothing of it.
+#[derive(Drop)]
+pub struct FileWatch<'a> {
+    rt: &'a HostRuntime,
+    path: &'a str,
+    /// Where the file lies, with no link on the way.
+    real: String,
+    /// Where its log lies.
+    log: String,
+    last: Pair,
+}
+
+/// The files at these paths. `Err`: they aren't there, or links don't lead to the one any more.
+fn find(rt: &HostRuntime, path: &str, real: &str, log: &str) -> io::Result<Pair> {
+    let named = Seen::of(fs::metadata(rt, path)?);
+    let db = Seen::of(fs::symlink_metadata(rt, real)?);
+    if !named.is(db) {
+        return Err(ErrorKind::NotFound.into());
+    }
+    let log = Seen::of(fs::symlink_metadata(rt, log)?);
+    Ok(Pair { db, log })
+}
+
+/// A watch over the file at a path, which is open, and over its log.
+fn watch_at<'a>(rt: &'a HostRuntime, path: &'a str) -> io::Result<FileWatch<'a>> {
+    let real = fs::canonicalize(rt, path)?;
+    let log = format!(in rt.alloc(); "{}-wal", real.as_str())?;
+    let real = String::from_str(rt.alloc(), real.as_str())?;
+    let last = find(rt, path, real.as_str(), log.as_str())?;
+    Ok(FileWatch {
+        rt,
+        path,
+        real,
+        log,
+        last,
+    })
+}
+
+impl<'a> FileWatch<'a> {
+    /// A watch over the file at a path, which is open, and over its log. `Err(FileFault::NoMemory)`:
+    /// an allocation failed. `Err(FileFault::Store)`: they aren't there any more.
+    pub fn new(rt: &'a HostRuntime, path: &'a str) -> Result<Self, FileFault> {
+        match watch_at(rt, path) {
+            Ok(watch) => Ok(watch),
+            Err(error) if error.kind() == ErrorKind::OutOfMemory => Err(FileFault::NoMemory),
+            Err(_) => Err(FileFault::Store),
+        }
+    }
+
+    /// The files as they are found now, if they are those that were opened.
+    fn found(&self) -> Option<Pair> {
+        match find(self.rt, self.path, self.real.as_str(), self.log.as_str()) {
+            Ok(found) if found.db.is(self.last.db) && found.log.is(self.last.log) => Some(found),
+            _ => None,
+        }
+    }
+}
+
+impl Watch for FileWatch<'_> {
+    fn is_whole(&mut self) -> bool {
+        match self.found() {
+            Some(found) => {
+                found.db.length >= self.last.db.length && found.log.length >= self.last.log.length
+            }
+            None => false,
+        }
+    }
+
+    fn is_there(&mut self) -> bool {
+        match self.found() {
+            Some(found) => {
+                self.last = found;
+                true
+            }
+            None => false,
+        }
+    }
+}

@@ -1,0 +1,8 @@
+-- What holds of a store that is watched holds of the store below.
+use Rattle.std.proofs.Common.{refl}
+use Rattle.std.specs.Prelude.{◌≡◌, ◌||◌, Bool, true, false}
+
+-- where it works, the store below does
+pub works_below : (below gone : Bool) → (below || gone) ≡ false → below ≡ false
+works_below false gone works = refl
+works_below true gone works = works

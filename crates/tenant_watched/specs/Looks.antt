@@ -1,0 +1,15 @@
+-- What looks at the files of a store find.
+use Rattle.std.specs.Prelude.{◌≡◌, List, [], ◌∷◌, Bool, true, false, drop, Option, Some, IfSome}
+
+-- what the next look finds. Where none is told, nothing is there
+abbrev pub next_look : List Bool → Bool
+next_look [] = false
+next_look (look ∷ later) = look
+
+-- a look found this, and the later ones are still to come
+abbrev pub Looks : Bool → Option (List Bool) → Option (List Bool) → Type 0
+Looks is_there old new = IfSome old (λ looks. (is_there ≡ next_look looks) × (new ≡ Some (drop 1 looks)))
+
+-- the next two looks find the files
+abbrev pub FindsTwice : List Bool → Type 0
+FindsTwice looks = (next_look looks ≡ true) × (next_look (drop 1 looks) ≡ true)
