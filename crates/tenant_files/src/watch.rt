@@ -78,8 +78,10 @@ fn watch_at<'a>(rt: &'a HostRuntime, path: &'a str) -> io::Result<FileWatch<'a>>
 }
 
 impl<'a> FileWatch<'a> {
-    /// A watch over the file at a path, which is open, and over its log. `Err(FileFault::NoMemory)`:
-    /// an allocation failed. `Err(FileFault::Store)`: they aren't there any more.
+    /// A watch over the file at a path, which is open, and over its log.
+    ///
+    /// `Err(FileFault::NoMemory)`: an allocation failed. `Err(FileFault::Store)`: they aren't there
+    /// any more.
     pub fn new(rt: &'a HostRuntime, path: &'a str) -> Result<Self, FileFault> {
         match watch_at(rt, path) {
             Ok(watch) => Ok(watch),
