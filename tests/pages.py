@@ -30,6 +30,7 @@ the help, crates, and the list of definitions.
 """
 import ast
 import fnmatch
+import functools
 import pathlib
 import re
 import sys
@@ -221,6 +222,7 @@ def recipe_faults(page):
             yield f"{GLOSSARY}: the recipe {heading!r} doesn't name {path}"
 
 
+@functools.cache
 def tree():
     """The paths of the repository's files and folders, and the words of its sources."""
     files = [it for folder in SOURCES for it in (TOP / folder).rglob("*") if it.is_file() and "out" not in it.relative_to(TOP).parts and it.suffix != ".pyc"]
@@ -241,6 +243,10 @@ def unknown_names(text, paths, words):
                     yield f"line {number}: there is no file {span}"
             elif NAME.fullmatch(span) and span.split("::")[-1] not in words:
                 yield f"line {number}: no source has {span}"
+
+
+def name_faults(page, text):
+    yield from (f"{page}: {why}" for why in unknown_names(text, *tree()))
 
 
 def page_faults(page):
@@ -336,9 +342,8 @@ def checks():
     refused, texts[GLOSSARY] = glossary(texts[GLOSSARY])
     yield "the glossary", (f"{page}: {why}" for page, text in texts.items() for why in refused_words(text, refused))
     yield "the recipes", recipe_faults(texts[GLOSSARY])
-    paths, words = tree()
     for page in NAMING:
-        yield f"the names of {page}", (f"{page}: {why}" for why in unknown_names(texts[page], paths, words))
+        yield f"the names of {page}", name_faults(page, texts[page])
     yield "the table of limits", limit_faults()
     yield "the limits in the help", help_faults()
     yield "the definitions that are cited", cited_faults()
