@@ -18,7 +18,7 @@ usage: tests/pages.py [WORD..]      with WORDs only the checks whose names have 
 - Each page has a greatest number of words (`wc -w`), alone or with others, but generated ones.
 - No page has a word of the right column of the glossary of docs/CHANGING.md.
 - Files and names between backticks are in the tree, on the pages of NAMING. Commands, placeholders
-  (as NAME or `things`), what is built and paths of requests are passed over.
+  (as NAME), what is built and paths of requests are passed over.
 - A recipe of docs/CHANGING.md names each file in which an example of it stands (RECIPES).
   tests/gate/check shows that these four checks can fail.
 - A comment in crates/*/src, specs and proofs, or in tests, bench, tools and examples, has at most
@@ -72,7 +72,7 @@ GLOSSARY, GLOSSARY_HEAD = "docs/CHANGING.md", "## Words\n"
 NAMING = ("docs/CHANGING.md", "docs/ARCHITECTURE.md", "docs/DECISIONS.md", "docs/PERFORMANCE.md", "docs/STATUS.md", "bench/README.md", "tests/README.md", "tests/ceph/README.md")
 CODE = re.compile(r"`([^`]+)`")
 FILE, NAME = re.compile(r"[\w./*-]+\.(?:rt|antt|py|js|md|c|json|yaml|txt|conf|edit|1)|[\w.-]+(?:/[\w.*-]+)+"), re.compile(r"[A-Za-z_][\w:]*")
-PLACEHOLDER = re.compile(r"NAME|FILE|TEXT|CRATE|FUNCTION|WHAT_IT_DOES|[Tt]hings|\.\.|^/|^\./|^build/|[{}]")
+PLACEHOLDER = re.compile(r"(?:\b|_)(?:NAME|FILE|TEXT|CRATE|FUNCTION|WHAT_IT_DOES)\b|\.\.|^/|^\./|^build/|[{}]")
 SOURCES = ("crates", "tests", "tools", "web", "bench", "examples", "package")
 # of a recipe of docs/CHANGING.md: what names an example of it in sources, definitions and proofs of
 # the product, below these paths. Each such file is one that the recipe names
