@@ -18,7 +18,7 @@ usage: tests/documents/pages.py [WORD..]      with WORDs only the checks whose n
 - Each page has a greatest number of words (`wc -w`), alone or with others, but generated ones.
 - No page has a word of the right column of the glossary of docs/CHANGING.md.
 - Files and names between backticks are in the tree, on the pages of NAMING. Commands, placeholders
-  (as NAME or `things`), what is built and paths of requests are passed over.
+  (as NAME), what is built and paths of requests are passed over.
 - A recipe of docs/CHANGING.md names each file in which an example of it stands (RECIPES).
   tests/gate/check shows that these four checks can fail.
 - A comment in crates/*/src, specs and proofs, or in tests, bench, tools and examples, has at most
@@ -30,6 +30,7 @@ the limits, the help, crates, and the index of contracts.
 """
 import ast
 import fnmatch
+import functools
 import pathlib
 import re
 import sys
@@ -71,7 +72,7 @@ GLOSSARY, GLOSSARY_HEAD = "docs/CHANGING.md", "## Words\n"
 NAMING = ("docs/CHANGING.md", "docs/ARCHITECTURE.md", "docs/DECISIONS.md", "docs/PERFORMANCE.md", "docs/STATUS.md", "bench/README.md", "tests/README.md", "tests/ceph/README.md")
 CODE = re.compile(r"`([^`]+)`")
 FILE, NAME = re.compile(r"[\w./*-]+\.(?:rt|antt|py|js|md|c|json|yaml|txt|conf|edit|1)|[\w.-]+(?:/[\w.*-]+)+"), re.compile(r"[A-Za-z_][\w:]*")
-PLACEHOLDER = re.compile(r"NAME|FILE|TEXT|CRATE|FUNCTION|WHAT_IT_DOES|[Tt]hings|\.\.|^/|^\./|^build/|[{}]")
+PLACEHOLDER = re.compile(r"(?:\b|_)(?:NAME|FILE|TEXT|CRATE|FUNCTION|WHAT_IT_DOES)\b|\.\.|^/|^\./|^build/|[{}]")
 SOURCES = ("crates", "tests", "tools", "web", "bench", "examples", "package")
 # of a recipe of docs/CHANGING.md: what names an example of it in sources, definitions and proofs of
 # the product, below these paths. Each such file is one that the recipe names
@@ -221,6 +222,7 @@ def recipe_faults(page):
             yield f"{GLOSSARY}: the recipe {heading!r} doesn't name {path}"
 
 
+@functools.cache
 def tree():
     """The paths of the repository's files and folders, and the words of its sources."""
     files = [it for folder in SOURCES for it in (TOP / folder).rglob("*") if it.is_file() and "out" not in it.relative_to(TOP).parts and it.suffix != ".pyc"]
@@ -241,6 +243,10 @@ def unknown_names(text, paths, words):
                     yield f"line {number}: there is no file {span}"
             elif NAME.fullmatch(span) and span.split("::")[-1] not in words:
                 yield f"line {number}: no source has {span}"
+
+
+def name_faults(page, text):
+    yield from (f"{page}: {why}" for why in unknown_names(text, *tree()))
 
 
 def page_faults(page):
@@ -330,9 +336,8 @@ def checks():
     refused, texts[GLOSSARY] = glossary(texts[GLOSSARY])
     yield "the glossary", (f"{page}: {why}" for page, text in texts.items() for why in refused_words(text, refused))
     yield "the recipes", recipe_faults(texts[GLOSSARY])
-    paths, words = tree()
     for page in NAMING:
-        yield f"the names of {page}", (f"{page}: {why}" for why in unknown_names(texts[page], paths, words))
+        yield f"the names of {page}", name_faults(page, texts[page])
     yield "the table of limits", limit_faults()
     yield "the limits in the help", help_faults()
     yield "the index of contracts", contracts.faults()
