@@ -24,11 +24,12 @@ return [...found.values()];
 """
 
 
-# words of up to twelve letters that are broken over lines, of what is shown
+# words of up to twelve letters that are broken over lines, of what is seen
 BROKEN = """
+const clipped = (it) => it && (getComputedStyle(it).clipPath !== "none" || clipped(it.parentElement));
 const found = new Set(), walker = document.createTreeWalker(document.body, NodeFilter.SHOW_TEXT), range = document.createRange();
 for (let it = walker.nextNode(); it; it = walker.nextNode()) {
-    if (!it.parentElement.checkVisibility({ visibilityProperty: true }) || it.parentElement.closest("script, .sr, .skip, noscript, option, pre, code")) continue;
+    if (!it.parentElement.checkVisibility({ visibilityProperty: true }) || it.parentElement.closest("script, .skip, noscript, option, pre, code") || clipped(it.parentElement)) continue;
     for (const word of it.data.matchAll(/(?<![^\\s-])[^\\s-]{2,12}(?![^\\s-])/g)) {
         range.setStart(it, word.index);
         range.setEnd(it, word.index + word[0].length);
