@@ -53,7 +53,7 @@ def folder_for(top, name, program):
     at = pathlib.Path(top, name)
     at.mkdir()
     (at / "crushcalc").symlink_to(program)
-    for it in ("examples", "web"):
+    for it in ("examples", "tools", "web"):
         (at / it).symlink_to(TOP / it)
     return at
 
