@@ -46,8 +46,8 @@ fn finish(mut stream: &TcpStream, taken: &mut [u8]) -> io::Result<()> {
     Ok(())
 }
 
-/// A socket to which nobody sends, so that a read of it takes `PAUSE_MILLISECONDS`. It is made before
-/// the first accept, since an accept fails where no further socket can be made.
+/// A socket to which nobody sends, so that a read of it takes `PAUSE_MILLISECONDS`. It is made
+/// before the first accept, since an accept fails where no further socket can be made.
 fn quiet_socket(rt: &HostRuntime) -> io::Result<UdpSocket> {
     let socket = UdpSocket::bind(rt, (Ipv4Addr::LOCALHOST, 0))?;
     // its one peer is itself, so that nothing comes from elsewhere
@@ -112,8 +112,8 @@ impl<'a> TcpClients<'a> {
         Ok((stream, other))
     }
 
-    /// Counts an accept that failed, and waits for a while: the next one would most likely fail too,
-    /// at once.
+    /// Counts an accept that failed, and waits for a while: the next one would most likely fail
+    /// too, at once.
     fn pause(&mut self) {
         self.failed = self.failed.saturating_add(1);
         if let Some(quiet) = &self.quiet {

@@ -5,7 +5,7 @@ use std::alloc::Global;
 use std::num::NonZeroUsize;
 
 /// The program's version, and the logic of the toolchain that proves it, which its `rt version`
-/// names (`tests/run` compares it).
+/// names (`tests/program/check` compares it).
 const VERSION: &str = "0.1.0\nRattle logic dac8208d650f15bf";
 
 /// The end of the help of `check`: its line, and each code in a line of its own (`docs/MAPS.md` has
