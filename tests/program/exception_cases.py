@@ -408,6 +408,20 @@ def usage_with_exceptions():
     ]
 
 
+def groups_of_one_place():
+    """Where groups share what the rule answers, since pgp_num is less than pg_num, a pair is still
+    of its own group alone."""
+    rows = START + [(import_of(with_devices(2)), imported(1, 1)), (pool_of("p1", pg_num=4, pgp_num=1), created(2)), (exceptions_of("x1", (3, 0, 1)), excepted(3, 1))]
+    rows += [(group_of(it), lies(3, it, SEED, [int(it == 3)], [0])) for it in range(4)]
+    return rows + [
+        (usage_of(), used(3, (0, 3, 3, 3, 750), (1, 1, 1, 1, 250))),
+        (impact_of(0), touched(3, 0, [0, 1, 2, 3])),
+        (impact_of(1), touched(3, 1, [3])),
+        (import_of(with_devices(2, 1), "m2"), imported(4, 2)),
+        (moves_of(1, 2), moved(4, 1, 2, *((it, 1, [0], [1]) for it in range(3)))),
+    ]
+
+
 def moves_with_exceptions():
     """The pairs as they are now hold for both versions, by the devices of each; so do states."""
     return START + [
@@ -498,6 +512,6 @@ def clusters():
 def cases():
     for make in (
         first_exceptions, pairs_in_their_order, devices_of_a_list, a_device_that_is_out, a_device_that_is_down, no_device_in_a_list, a_device_that_a_version_lacks, objects, lists_of_pools,
-        checks_of_exceptions, repeats_of_exceptions, pair_limit, forms_of_exceptions, usage_with_exceptions, moves_with_exceptions, impact_with_exceptions, clusters,
+        checks_of_exceptions, repeats_of_exceptions, pair_limit, forms_of_exceptions, usage_with_exceptions, groups_of_one_place, moves_with_exceptions, impact_with_exceptions, clusters,
     ):
         yield make.__name__, make()

@@ -1,7 +1,7 @@
 """Texts of maps, heads and bodies at both sides of what is refused, each with what the rules of
 requests give: for texts, run and serve."""
 from model import maps, messages
-from model.messages import BAD, TOO_LARGE, body, dropped, item, made, there
+from model.messages import BAD, METHOD, NO_PATH, TOO_LARGE, body, dropped, item, made, there
 
 LENGTH = b'501 {"error":"length"}'
 REUSED = messages.REUSED
@@ -141,6 +141,21 @@ HEADS = [
     ("Connection: close and more", GET + b"Connection: close, te\r\n\r\n", HERE_IS_A, False),
     ("Expect", GET + b"Expect: 100-continue\r\n\r\n", HERE_IS_A, False),
     ("empty lines before", b"\r\n\r\n" + GET + b"\r\n", HERE_IS_A, False),
+    ("two Connection headers, the first close", GET + b"Connection: close\r\nConnection: keep-alive\r\n\r\n", HERE_IS_A, True),
+    ("two Connection headers, the second close", GET + b"Connection: keep-alive\r\nConnection: close\r\n\r\n", HERE_IS_A, True),
+    ("HTTP/1.0 with keep-alive", b"GET /t/a HTTP/1.0\r\nConnection: keep-alive\r\n\r\n", HERE_IS_A, True),
+    ("an empty line in 8,192 bytes", b"\r\n" + FULL_HEAD[:-2] + b"\r\n\r\n", HERE_IS_A, False),
+    ("an empty line in 8,193 bytes", b"\r\n" + FULL_HEAD[:-1] + b"\r\n\r\n", BAD, True),
+    ("32 headers, one of them without a value", GET + b"A: b\r\n" * (HEADER_LIMIT - 1) + b"A:\r\n\r\n", HERE_IS_A, False),
+    ("33 headers, one of them without a value", GET + b"A: b\r\n" * HEADER_LIMIT + b"A:\r\n\r\n", BAD, True),
+    ("an empty Transfer-Encoding", POST + b"Transfer-Encoding: \r\nContent-Length: 2\r\n\r\n{}", LENGTH, True),
+    ("tabs around a length", POST + b"Content-Length:\t2\t\r\n\r\n{}", BAD, False),
+    ("a body by GET", GET + b"Content-Length: 2\r\n\r\n{}", BAD, False),
+    ("a body by HTTP/1.0", b"POST /t/a/pick HTTP/1.0\r\nContent-Length: 2\r\n\r\n{}", BAD, True),
+    ("an escape in a target", b"GET /t/%61 HTTP/1.1\r\n\r\n", BAD, False),
+    ("a query in a target", b"GET /t/a?x HTTP/1.1\r\n\r\n", BAD, False),
+    ("an absolute target", b"GET http://l/t/a HTTP/1.1\r\n\r\n", NO_PATH, False),
+    ("a method in lower case", b"get /t/a HTTP/1.1\r\n\r\n", METHOD, False),
     ("a header without a colon", GET + b"A\r\n\r\n", BAD, True),
     ("a blank before a colon", GET + b"A : b\r\n\r\n", BAD, True),
     ("a NUL in a header", GET + b"A: \x00\r\n\r\n", BAD, True),
