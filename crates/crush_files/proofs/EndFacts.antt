@@ -1,5 +1,5 @@
 -- How a script over a file ends, from how it ends over the store below.
-use Rattle.std.proofs.Common.{◌≡◌, ◌∙◌, ◌||◌, ℕ, List, Bool, true, Option, Result, Ok, ap, subst, sym}
+use Rattle.std.proofs.Common.{◌≡◌, ◌∙◌, ◌||◌, ℕ, List, Bool, true, false, Option, Result, Ok, ap, subst, sym}
 use Rattle.std.specs.declared.alloc.AllocError.{AllocError}
 use Rattle.sqlite_disk.specs.declared.Disk as disk
 use Rattle.sqlite_disk.specs.declared.Files.{Files}
@@ -24,8 +24,9 @@ use Rattle.tenant_files.specs.Stored.{MayStandFor}
 use Rattle.tenant_files.specs.declared.fault.FileFault.{FileFault}
 use Rattle.tenant_rows.specs.Rows.{StandsFor, StatesIn}
 use Rattle.tenant_store.specs.Shown.{HasState, IsHonest, MayLeave}
+use Rattle.tenant_watched.specs.Laws.{works_below}
 use Rattle.crush_app.proofs.Ending.{ends_map}
-use Rattle.crush_app.specs.End.{EndsScript}
+use Rattle.crush_app.specs.End.{EndsScript, LatchesAs}
 use Rattle.crush_app.specs.Play.{PlaysScript}
 use Rattle.crush_app.specs.declared.play.ScriptEnd.{ScriptEnd}
 use Rattle.crush_app.specs.declared.play.ScriptEnd.TheVariants.{Done}
@@ -51,6 +52,14 @@ module _ {S F : Type 0} (g : Ghosts S) (first last : ((Held S × Bool) × F) × 
       script_same how (last.0.0.1 || last.1) old old new new (MayStandFor g conn) ms from to (same_states old) (λ _. same_states new)
       (of_store g (λ a b l. PlaysScript how (last.0.0.1 || last.1) a b l ms from to) first.0.0 start last.0.0 conn begun ended (plays (honest clean))))
       said
+
+-- after a whole script the tables are ready
+pub ready_then : {S F : Type 0} (g : Ghosts S) (last : ((Held S × Bool) × F) × Bool) (conn : Held S) (end : Result ScriptEnd AllocError) → last.0.0.0 ≡ conn
+    → (HasCleanDisk (state g conn) → IsHonest g last.0.0) → LatchesAs end (last.0.0.1 || last.1) → HasCleanDisk (state g conn) → end ≡ Ok Done → IsReady (state g conn)
+ready_then {S = S} g last conn end ended honest latch clean is =
+    let latched : Bool = last.0.0.1 || last.1 in
+    let works : latched ≡ false = subst (λ (e : Result ScriptEnd AllocError). LatchesAs e latched) is latch in
+    subst (λ (x : Held S). IsReady (state g x)) ended ((honest clean).ready (works_below last.0.0.1 last.1 works))
 
 -- ---- over files
 

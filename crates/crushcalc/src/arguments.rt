@@ -66,7 +66,7 @@ fn cache_option<'a>(alloc: Global) -> Arg<'a> {
         .action(ArgAction::Set)
         .value_parser(value_parser!(u32).range(1..=65_536))
         .default_value("1024")
-        .help("Keeps the placements of so many groups, those asked for last")
+        .help("Keeps the placements of at most so many groups")
 }
 
 /// How many placements that option says.
