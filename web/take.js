@@ -137,8 +137,8 @@ function reached({ rule }, map, dump) {
     return takes.flatMap((it) => (map.all.has(it) ? devicesBelow(map.all.get(it)).map((one) => one.id) : [map.devices.get(it)?.id].filter((id) => id !== undefined)));
 }
 
-// Sets what osd.json says on a tenant that has its map. `name` is the file of the map that came with
-// it, and `dump` what that says, where it is a dump.
+// Sets what osd.json says on a tenant that has its map. `name` is the file of the map that came
+// with it, and `dump` what that says, where it is a dump.
 export async function takeOsd(tenant, map, osd, { dump, name }, fresh, work) {
     const rules = new Map(map.rules.map((it) => [it.id, it])), pairs = new Map(osd.pools.map((it) => [it, pairsOf(osd, it, map)]));
     const faults = new Map(osd.pools.map((it) => [it, poolFault(it, dump, rules, dump?.file ?? "the map", pairs.get(it))]).filter(([, why]) => why));
