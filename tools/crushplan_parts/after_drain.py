@@ -57,6 +57,7 @@ class AfterDrain:
 
     def take(self, changes, purge, first, second):
         """Takes what was answered. `changes` are those of the drain."""
+        self.drained = sum(it.copies for it in changes if it.pool not in self.without)
         changes = [it for it in changes if it.pool.id in self.pools]
         self.purge, self.weight_first, self.then_purge = (self.steps(changes, it) for it in (purge, first, second))
 
@@ -70,6 +71,7 @@ class AfterDrain:
             return None
         return Note("class", f"what a purge moves isn't computed in pools whose rules take a class: {', '.join(it.name for it in self.without)}", pools=[it.id for it in self.without], open_=False)
 
-    def compared(self, drained_copies):
-        """Returns the copies in all: drained and then removed, and by the CRUSH weight first."""
-        return drained_copies + self.purge.copies, self.weight_first.copies + self.then_purge.copies
+    def compared(self):
+        """Returns the copies in all, of the pools of which both are known: drained and then removed,
+        and by the CRUSH weight first."""
+        return self.drained + self.purge.copies, self.weight_first.copies + self.then_purge.copies

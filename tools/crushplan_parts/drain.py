@@ -30,7 +30,7 @@ def drain(plan, asked):
         "devices": devices, **summary.said(asked.groups), "stay": stay.said(),
         "purge": later.purge.said(), "weight_first": {**later.weight_first.said(), "then_purge": later.then_purge.said()},
     }  # fmt: skip
-    blocks = [summary_table(plan, summary, stay), pools_table(summary), usage_table(plan, summary, asked.by), purge_text(summary, later, devices)]
+    blocks = [summary_table(plan, summary, stay), pools_table(summary), usage_table(plan, summary, asked.by), purge_text(later, devices)]
     if asked.groups:
         blocks.append(groups_table(summary.moves))
     return Answer(status, verdict(summary, stay, status), fields, blocks, groups_rows(plan, summary.moves) if asked.groups else usage_rows(summary))
@@ -40,10 +40,12 @@ def in_bytes(value):
     return f" ({sized(value)})" if value is not None else ""
 
 
-def purge_text(summary, later, devices):
+def purge_text(later, devices):
     """Says what removing the devices moves afterwards, and whether it is less by their CRUSH weight
-    first."""
-    first, other = later.compared(summary.copies)
+    first; nothing where neither is computed."""
+    if later.without and not later.pools:
+        return ""
+    first, other = later.compared()
     ids = " ".join(map(str, devices[:3])) + (" .." if len(devices) > 3 else "")
     lines = [
         f"Afterwards 'ceph osd purge' of {counted(len(devices), 'device')} ({ids}) would move {counted(later.purge.moved, 'group')} again: {counted(later.purge.copies, 'copy', 'copies')}{in_bytes(later.purge.bytes)}, in all {first:,}.",

@@ -124,7 +124,7 @@ def people_text(answer, notes, warnings):
     for it in answer.blocks:
         blocks.append(it.text(width()) if isinstance(it, Table) else it)
     text = "\n\n".join(it for it in blocks if it)
-    remarks = [f"not computed: {it.text}" for it in notes if it.open] + [f"note: {it}" for it in warnings] + [f"note: {it.text}" for it in notes if not it.open]
+    remarks = [f"not computed: {it.short}" for it in notes if it.open] + [f"note: {it}" for it in warnings] + [f"note: {it.text}" for it in notes if not it.open]
     return text + "\n" + ("\n" + "\n".join(remarks) + "\n" if remarks else "")
 
 
