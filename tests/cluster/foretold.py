@@ -184,11 +184,13 @@ def drain(step, said):
 def short_of_cluster(step, short, groups, before, ended=False):
     """Returns why the groups a copy short aren't those that a settled cluster calls undersized, or
     remapped, where a device outside the list is up and keeps the copy; or None. The drained devices
-    do that until they end; then only those of an earlier change."""
+    do that until they end; then only others that had the copy before."""
     undersized, kept = with_state(groups, "undersized"), with_state(groups, "remapped")
-    first = kept if ended else undersized
-    earlier = with_state(before, "remapped" if ended else "undersized")
-    return same(short, undersized | kept, "crushplan's lists") or same(first | earlier, earlier, "new ones")
+    if ended:
+        new = {it for it in kept if not set(groups[it]["acting"]) - set(groups[it]["up"]) <= set(before[it]["acting"])}
+        return same(short, undersized | kept, "crushplan's lists") or same(set(), new, "no group")
+    earlier = with_state(before, "undersized")
+    return same(short, undersized | kept, "crushplan's lists") or same(undersized | earlier, earlier, "new ones")
 
 
 def moved_and_copies(step, old, new):
