@@ -8,7 +8,7 @@ import select
 import subprocess
 import sys
 
-from made import crush_dump, osd_dump, pool, write
+from made import crush_dump, osd_dump, pool, text_of, write
 from running import PLAN, SECONDS, equals, wants
 
 COMMANDS = ("fetch", "check", "usage", "compare", "drain", "fail", "upmap", "locate")
@@ -91,6 +91,10 @@ def terminals(runner, folder):
     wants(said.startswith("yes:") and "\033" not in said, f"a colour: {said[:60]!r}")
     narrow = on_terminal(("usage", folder), {**environment, "NO_COLOR": "1"}, 50)
     wants(max(len(it) for it in narrow.splitlines() if it.startswith("  ")) <= 50, "a table is wider than the terminal")
+    narrow = on_terminal(("drain", folder, "host0"), {**environment, "NO_COLOR": "1"}, 72).split("Copies before")[0]
+    wants(max(len(it) for it in narrow.splitlines() if it.startswith("  ")) <= 72, f"the summary is wider than the terminal: {narrow}")
+    whole = runner.run("drain", folder, "host0")[1].split("Copies before")[0]
+    equals("the summary's words on a narrow terminal", sorted(narrow.split()), sorted(whole.split()))
     said = on_terminal(("fail", folder, "--each", "host"), environment)
     wants("1 of 4 hosts" in said and "s left" in said, f"no progress: {said[:200]!r}")
     _, _, err = runner.run("fail", folder, "--each", "host")
@@ -111,13 +115,17 @@ def helps(runner, folder):
             wants(option in text.split("example: ")[0] or option == "--cluster", f"{name}: the example has {option}, which its help hasn't")
 
 
+# the files of the help's examples, as they are made here
+EXAMPLE_FILES = {"july": "july", "mended.txt": "mended.txt", "new.txt": "new.txt", "commands.sh": "july/list"}
+
+
 def examples(runner, folder):
     """The examples of the help, on a folder july, do what the help says."""
     usual(folder / "july")
     crush = crush_dump()
     crush["buckets"][1]["alg"] = "tree"
     write(folder / "july", crush)
-    (folder / "july" / "new.txt").write_text("device 0 osd.0\n")
+    (folder / "new.txt").write_text(text_of(crush_dump(devices=2)))
     text = runner.run("--help")[1]
     found = re.findall(r"^  crushplan (\S.*?)(?:   .*)?$", text, re.M)
     wants(len(found) >= 4, f"too few examples: {found}")
@@ -126,6 +134,11 @@ def examples(runner, folder):
             continue
         code, out, err = runner.run(*it.replace("july", str(folder / "july")).replace("--each rack", "--each host").split())
         wants(code in (0, 1) and out and not err, f"{it}: {code} {err}")
+    for name in COMMANDS[1:]:
+        words = re.search(r"^example: crushplan (.*)$", runner.run(name, "--help")[1], re.M)[1].split()
+        code, out, err = runner.run(*(str(folder / EXAMPLE_FILES[it]) if it in EXAMPLE_FILES else it.replace("osd.17", "osd.1") for it in words))
+        wants(code in (0, 1) and out and not err, f"{words}: {code} {err}")
+    wants(text_of(crush_dump()) != (folder / "mended.txt").read_text() != "", "check --mend wrote no other text")
 
 
 def completion(runner, folder):

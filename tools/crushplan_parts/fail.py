@@ -120,12 +120,13 @@ def fail_each(plan, asked):
     name = asked.each
     rows = [each_said(plan, *it, own) for it, own in zip(found, statuses)]
     table = [(it["name"], it["devices"], it["below_min_size"], it["short_down"], it["missing_copies"], it["moved"], it["copies"], sized(it["bytes"]), each_fullest(it)) for it in rows]
-    heads = (name, "devices", "I/O stops", "short", "no room", "move", "copies", "bytes", "fullest afterwards")
+    heads = (name, "devices", "stops", "short", "no room", "move", "copies", "bytes", "fullest")
     if any(stay.is_unknown() for _, _, stay in found):
         heads = (*heads, "computed")
         table = [(*row, "in part" if stay.is_unknown() else "all") for row, (_, _, stay) in zip(table, found)]
     own = [list(rows[0])[:-1] + ["fullest", "fullest_percent"]] + [[*list(it.values())[:-1], it["fullest"] and it["fullest"]["name"], it["fullest"] and it["fullest"]["percent_after"]] for it in rows]
-    text = "I/O stops: groups below min_size while it is down; short: groups below size then; no room: copies that\nhave no device once it is out; move, copies: groups that then move, and copies written anew."
+    of = "its percent of its share" if all(it["fullest"] is None or it["fullest"]["used_after"] is None for it in rows) else "how much of its room is used"
+    text = f"stops: groups below min_size while it is down, whose I/O stops; short: groups below size then; no room:\ncopies that have no device once it is out; move, copies: groups that then move, and copies written anew;\nfullest: the fullest device then, and {of}."
     return Answer(status, each_sentence(plan, name, statuses), {"type": name, "each": rows}, [Table(heads, table), text], own)
 
 
@@ -146,7 +147,7 @@ def each_fullest(it):
     if it["fullest"] is None:
         return "-"
     of = it["fullest"]["used_after"]
-    return f"{it['fullest']['name']} {shown(it['fullest']['percent_after'])}%" if of is None else f"{it['fullest']['name']} {hundredths(of)}% used"
+    return f"{it['fullest']['name']} {shown(it['fullest']['percent_after']) if of is None else hundredths(of)}%"
 
 
 def each_said(plan, item, it, stay, status):
