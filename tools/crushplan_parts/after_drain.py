@@ -72,6 +72,6 @@ class AfterDrain:
         return Note("class", f"what a purge moves isn't computed in pools whose rules take a class: {', '.join(it.name for it in self.without)}", pools=[it.id for it in self.without], open_=False)
 
     def compared(self):
-        """Returns the copies in all, of the pools of which both are known: drained and then removed,
-        and by the CRUSH weight first."""
+        """Returns the copies in all, of the pools of which both are known: drained and then
+        removed, and by the CRUSH weight first."""
         return self.drained + self.purge.copies, self.weight_first.copies + self.then_purge.copies
