@@ -49,11 +49,15 @@ class AfterDrain:
         return Stages(self.plan, self.pools, {**self.plan.pairs, **pairs}, drained).set_map(self.gone, self.texts[0])
 
     def ask_weight_first(self):
-        """Asks what the CRUSH weight of 0 moves, and then the removal."""
+        """Asks what the CRUSH weight of 0 moves, and then the removal: side by side where no upmap
+        items are there, of which the first could remove some."""
         if not self.pools:
             return {}, {}
         stages = Stages(self.plan, self.pools)
-        return stages.set_map(self.weightless, self.texts[1]), stages.set_map(self.gone, self.texts[0])
+        if any(stages.pairs.values()):
+            return stages.set_map(self.weightless, self.texts[1]), stages.set_map(self.gone, self.texts[0])
+        later = Stages(self.plan, self.pools, texts=[self.texts[1]])
+        return self.plan.side_by_side(lambda: stages.set_map(self.weightless, self.texts[1]), lambda: later.set_map(self.gone, self.texts[0]))
 
     def take(self, changes, purge, first, second):
         """Takes what was answered. `changes` are those of the drain."""

@@ -11,15 +11,16 @@ from .summary import Summary
 def drain(plan, asked):
     """Answers what a drain does: the reweights of devices become 0."""
     devices = plan.tree.devices_of(asked.names)
-    start, later = Start(plan, devices), AfterDrain(plan, devices)
+    later = AfterDrain(plan, devices)
     states, drained = states_after(plan, devices, reweight=0)
 
     def drain_then_purge():
+        start = Start(plan, devices)
         stages = Stages(plan, start.touched)
         lists = stages.set_states([drained], start.wanted(devices))
-        return lists, later.ask_purge(drained, stages.pairs)
+        return start, lists, later.ask_purge(drained, stages.pairs)
 
-    ((before, after), purge), (first, second) = plan.side_by_side(drain_then_purge, later.ask_weight_first)
+    (start, (before, after), purge), (first, second) = plan.side_by_side(drain_then_purge, later.ask_weight_first)
     changes = pool_changes(plan, start, devices, before, after)
     later.take(changes, purge, first, second)
     summary, stay = Summary(plan, changes, states), Stay(plan, start, devices, changes)
