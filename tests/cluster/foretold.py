@@ -176,7 +176,9 @@ def drain(step, said):
     yield "no more moves once they end", same(set(), moved_between(out, ended))
     yield "exit status", same(said["status"], 1 if short else 0)
     if purged:
-        yield "groups that purge moves", same((said["purge"]["moved"], said["purge"]["copies"]), moved_and_copies(step, ended, purged[0]))
+        moved = {it: (ended[it]["up"], purged[0][it]["up"]) for it in moved_between(ended, purged[0])}
+        yield f"{len(moved)} groups that purge moves", same({it["id"]: (it["before"], it["after"]) for it in said["purge"]["groups"]}, moved)
+        yield "copies that purge writes", same((said["purge"]["moved"], said["purge"]["copies"]), moved_and_copies(step, ended, purged[0]))
     if "stores" in step.record:
         yield from stores(step, ended)
 

@@ -7,18 +7,22 @@ from .summary import total, whole, written_anew
 
 
 class Steps:
-    """Copies that a step writes, over all pools."""
+    """Groups that a step moves, over all pools, and copies that it writes."""
 
     def __init__(self, changes):
         """Takes of each change of a pool its PoolChange, and the moved groups: up before and
         after."""
         self.moved = sum(len(moves) for _, moves in changes)
+        self.groups = [(change.pool, group, *both) for change, moves in changes for group, both in sorted(moves.items())]
         self.by_pool = [(change, sum(written_anew(change.pool, old, new) for old, new in moves.values())) for change, moves in changes]
         self.copies = sum(it for _, it in self.by_pool)
         self.bytes = total(change.bytes_of(copies) for change, copies in self.by_pool)
 
-    def said(self):
-        return {"moved": self.moved, "copies": self.copies, "bytes": whole(self.bytes)}
+    def said(self, with_groups):
+        found = {"moved": self.moved, "copies": self.copies, "bytes": whole(self.bytes)}
+        if with_groups:
+            found["groups"] = [{"pool": pool.id, "group": group, "id": pool.group_name(group), "before": old, "after": new} for pool, group, old, new in self.groups]
+        return found
 
 
 class AfterDrain:

@@ -29,7 +29,7 @@ def drain(plan, asked):
     status = status_of(plan, summary, stay)
     fields = {
         "devices": devices, **summary.said(asked.groups), "stay": stay.said(),
-        "purge": later.purge.said(), "weight_first": {**later.weight_first.said(), "then_purge": later.then_purge.said()},
+        "purge": later.purge.said(asked.groups), "weight_first": {**later.weight_first.said(asked.groups), "then_purge": later.then_purge.said(asked.groups)},
     }  # fmt: skip
     blocks = [summary_table(plan, summary, stay), pools_table(summary), usage_table(plan, summary, asked.by), purge_text(later, devices)]
     if asked.groups:
