@@ -46,6 +46,25 @@ def forms(runner, folder):
             wants(key in said, f"{words}: no field {key}")
 
 
+def documented(runner, folder):
+    """Each field of each command's JSON stands in docs/CRUSHPLAN.md."""
+    usual(folder)
+    words = set(re.findall(r"`([a-z_0-9]+)`", (PLAN.parent.parent / "docs" / "CRUSHPLAN.md").read_text()))
+    for it in words_of(folder):
+        missing = sorted(name for name in fields_in(runner.said(*it)) if not {name, re.sub("_(before|after)$", "", name)} & words)
+        equals(f"{it[0]}: fields that the page lacks", missing, [])
+
+
+def fields_in(value):
+    """Yields the names of all fields of a value; members named by files and types are left out."""
+    for inner in value if isinstance(value, list) else ():
+        yield from fields_in(inner)
+    for name, inner in value.items() if isinstance(value, dict) else ():
+        yield name
+        if name not in ("files", "above"):
+            yield from fields_in(inner)
+
+
 def rows(runner, folder):
     """The rows of a CSV are those of the JSON."""
     usual(folder)
@@ -188,4 +207,4 @@ def fetched(runner, folder):
 
 
 def cases():
-    return [(it.__name__, it) for it in (forms, rows, terminals, helps, examples, completion, fetched)]
+    return [(it.__name__, it) for it in (forms, documented, rows, terminals, helps, examples, completion, fetched)]
