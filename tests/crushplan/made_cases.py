@@ -139,12 +139,14 @@ def oddities(runner, folder):
     said = runner.said("drain", folder, "host3", status=0)
     notes = {it["kind"]: it for it in said["notes"]}
     equals("kinds", sorted(notes), ["object hash", "pg_temp", "primary affinity", "primary_temp", "split", "weight set"])
-    equals("pg_temp", (notes["pg_temp"]["pools"], notes["pg_temp"]["groups"]), ([1], ["1.3"]))
-    equals("primary_temp", notes["primary_temp"]["groups"], ["1.1c"])
+    equals("pg_temp", [notes["pg_temp"][it] for it in ("pools", "groups", "devices")], [[1], ["1.3"], [0, 4, 7]])
+    equals("primary_temp", [notes["primary_temp"][it] for it in ("pools", "groups", "devices")], [[1], ["1.1c"], [4]])
+    equals("split", [notes["split"][it] for it in ("pools", "devices")], [[1], list(range(12))])
+    equals("object hash", [notes["object hash"][it] for it in ("pools", "devices")], [[1], list(range(12))])
     equals("primary affinity", (notes["primary affinity"]["pools"], notes["primary affinity"]["devices"]), ([1], [4]))
     equals("weight set", (notes["weight set"]["pools"], notes["weight set"]["devices"]), ([1], list(range(12))))
     text = runner.run("drain", folder, "host3")[1]
-    for words in ("osd.4 has a primary affinity other than 1: in pool photos ", "a weight set (choose_args -1), of pool photos and of osd.0, osd.1, osd.2, osd.3 and 8 more;"):
+    for words in ("1.3, of pool photos and osd.0, osd.4, osd.7; what", "osd.4 has a primary affinity other than 1: in pool photos ", "a weight set (choose_args -1), of pool photos and of osd.0, osd.1, osd.2, osd.3 and 8 more;"):
         wants(words in text, f"the text doesn't say {words!r}: {text}")
     wants("128" in notes["split"]["text"], notes["split"]["text"])
     runner.refused("locate", folder, "photos", "a", has="another object hash")
