@@ -3,6 +3,7 @@ request takes, holes, bytes and ratios, devices that a rule takes by name."""
 import copy
 import json
 import random
+import re
 import subprocess
 
 from made import ONE, STEPS, bucket, crush_dump, osd_dump, pool, rule, text_of, write
@@ -309,6 +310,8 @@ def taken_by_name(runner, folder):
     said = runner.said("fail", folder, "osd.0", "--groups", status=1)
     equals("while it is down", said["down"]["short"], 64)
     wants(all(0 not in it["up"] for it in said["down"]["groups"]), "osd.0 is up")
+    text = runner.run("fail", folder, "osd.0")[1]
+    equals("groups that are in no impact list", said["out"]["moved"] - said["out"]["can_move"], int(re.search(r"impact lists, and (\d+) whose rule takes a device by name", text)[1]))
 
 
 def described(runner, folder):

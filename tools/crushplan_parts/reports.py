@@ -85,7 +85,7 @@ def summary_table(plan, summary, stay, title=None):
         ("groups that move", f"{len(summary.moves):,} of {summary.groups:,}"),
         ("copies that are written anew", f"{summary.copies:,}" + (f", {sized(summary.bytes)}" if summary.bytes is not None else "")),
         ("fullest device afterwards", fullest_text(plan, summary)),
-        ("proved", f"no group moves but the {summary.can_move:,} of the impact lists" if summary.can_move else "no group moves: no impact list has one"),
+        ("proved", proved_text(summary)),
     ]
     if summary.fullest and summary.fullest.used_after is not None:
         rows.insert(4, ("its room", room_text(plan, summary.fullest)))
@@ -94,6 +94,16 @@ def summary_table(plan, summary, stay, title=None):
     if stay.keeping:
         rows.insert(1, ("copies that stay, by a rule that takes the device", some([f"osd.{device}: {copies:,}" for device, copies in sorted(stay.keeping.items())])))
     return Table(("", ""), rows, title)
+
+
+def proved_text(summary):
+    """Says which groups alone can move: those of the impact lists, and beside them, where devices
+    are down, groups whose rule takes one by name."""
+    listed = {(it.pool.id, group) for it in summary.changes for group in it.can_move}
+    others = sum((it.pool.id, it.group) not in listed for it in summary.moves)
+    if not listed and not others:
+        return "no group moves: no impact list has one"
+    return f"no group moves but the {len(listed):,} of the impact lists" + (f", and {others:,} whose rule takes a device by name" if others else "")
 
 
 def fullest_text(plan, summary):
