@@ -136,30 +136,52 @@ def compiled(folder, text):
     return path.with_suffix(".crush")
 
 
+SIMPLE = {}  # osdmaptool's own maps, by how many devices they have
+
+
+def simple(path, devices):
+    """Writes osdmaptool's own map of so many devices, which it makes once."""
+    if devices not in SIMPLE:
+        library.run(["osdmaptool", path, "--createsimple", devices, "--with-default-pool", "--clobber"])
+        SIMPLE[devices] = path.read_bytes()
+    path.write_bytes(SIMPLE[devices])
+
+
 class OsdMap:
     """A file in a folder with the OSD map of a CRUSH map's text, or of a compiled file, of pools
-    and of states."""
+    and of states. Without `read` it is for the caller to have it read once it is whole."""
 
-    def __init__(self, folder, text, pools, states, crush=None):
+    def __init__(self, folder, text, pools, states, crush=None, read=True):
         self.path = pathlib.Path(folder) / "osdmap"
+        self.pools, self.states, self.upmaps = sorted(pools, key=lambda of: of["id"]), states, {}
         crush = crush or compiled(folder, text)
-        library.run(["osdmaptool", self.path, "--createsimple", len(states), "--with-default-pool", "--clobber"])
-        pools = sorted(pools, key=lambda of: of["id"])
-        self.path.write_bytes(changed(self.path.read_bytes(), pools, states))
+        simple(self.path, len(states))
+        self.path.write_bytes(changed(self.path.read_bytes(), self.pools, states))
         library.run(["osdmaptool", self.path, "--import-crush", crush])
-        said = json.loads(self.ask("--dump", "json"))
-        if [{**self.pool_said(of), **{it: of[it] for it in ("min_size",) if it in pool}} for of, pool in zip(said["pools"], pools)] != pools:
-            raise library.Failed(f"osdmaptool reads other pools than {pools}")
-        if [self.state_said(of) for of in said["osds"]] != [(of, *it) for of, it in enumerate(states)]:
-            raise library.Failed(f"osdmaptool reads other states than {states}")
+        self.bare = self.path.read_bytes()
+        if read:
+            self.read()
 
-    def set_upmaps(self, upmaps):
-        """Sets the upmap items of a map that has none: of each group, by its pool and its number,
+    def set_upmaps(self, upmaps, read=True):
+        """Sets the upmap items, in the place of others: of each group, by its pool and its number,
         pairs of devices."""
-        self.path.write_bytes(with_upmaps(self.path.read_bytes(), upmaps))
-        said = {it["pgid"]: [(of["from"], of["to"]) for of in it["mappings"]] for it in json.loads(self.ask("--dump", "json"))["pg_upmap_items"]}
-        if said != {f"{pool}.{group:x}": list(pairs) for (pool, group), pairs in upmaps.items()}:
+        self.path.write_bytes(with_upmaps(self.bare, upmaps) if upmaps else self.bare)
+        self.upmaps = dict(upmaps)
+        if read:
+            self.read()
+
+    def read(self):
+        """What osdmaptool dumps of the map, which has to be what was wanted."""
+        text = self.ask("--dump", "json")
+        said = json.loads(text)
+        if [{**self.pool_said(of), **{it: of[it] for it in ("min_size",) if it in pool}} for of, pool in zip(said["pools"], self.pools)] != self.pools:
+            raise library.Failed(f"osdmaptool reads other pools than {self.pools}")
+        if [self.state_said(of) for of in said["osds"]] != [(of, *it) for of, it in enumerate(self.states)]:
+            raise library.Failed(f"osdmaptool reads other states than {self.states}")
+        items = {it["pgid"]: [(of["from"], of["to"]) for of in it["mappings"]] for it in said["pg_upmap_items"]}
+        if items != {f"{pool}.{group:x}": list(pairs) for (pool, group), pairs in self.upmaps.items()}:
             raise library.Failed("osdmaptool reads other upmap items than were set")
+        return text
 
     def ask(self, *words):
         return library.run(["osdmaptool", self.path, *words])[0]

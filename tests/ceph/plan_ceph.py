@@ -60,15 +60,12 @@ class Ceph:
         """The same by pool and group. Upmap items that the monitors don't keep are removed from the
         state first."""
         with tempfile.TemporaryDirectory() as folder:
-            map_ = OsdMap(folder, None, self.cluster.pools, state.states, state.crush)
-            bare = map_.path.read_bytes()
+            map_ = OsdMap(folder, None, self.cluster.pools, state.states, state.crush, read=False)
             while True:
-                map_.path.write_bytes(bare)
-                if state.upmaps:
-                    map_.set_upmaps(state.upmaps)
+                map_.set_upmaps(state.upmaps, read=False)
                 if not (clean and state.upmaps and self.removed_some(map_, state)):
                     break
-            self.dump = map_.ask("--dump", "json")
+            self.dump = map_.read()
             return map_.placements()
 
     def removed_some(self, map_, state):

@@ -28,8 +28,8 @@ POOLS = (
 )
 ODD_NAMES = ("with a blank", "a/b\\c\"d'e", "ä, 名前, 🦀", "0", "n" * 300)
 # pools whose groups have the same number of objects of one size: how many, and their bytes
-EVEN = {"even": (10, 4096), "parts": (6, 8192)}
-OBJECTS, LARGEST, ALIKE = 200, 30_000, "pairs"  # of the other pools; in one of them all are of one size
+EVEN = {"even": (30, 4096), "parts": (20, 8192)}
+OBJECTS, LARGEST, ALIKE = 800, 30_000, "pairs"  # of the other pools; in one of them all are of one size
 
 
 class Planned(Map):

@@ -176,7 +176,9 @@ def drain(step, said):
     yield "no more moves once they end", same(set(), moved_between(out, ended))
     yield "exit status", same(said["status"], 1 if short else 0)
     if purged:
-        yield "groups that purge moves", same((said["purge"]["moved"], said["purge"]["copies"]), moved_and_copies(step, ended, purged[0]))
+        moved = {it: (ended[it]["up"], purged[0][it]["up"]) for it in moved_between(ended, purged[0])}
+        yield f"{len(moved)} groups that purge moves", same({it["id"]: (it["before"], it["after"]) for it in said["purge"]["groups"]}, moved)
+        yield "copies that purge writes", same((said["purge"]["moved"], said["purge"]["copies"]), moved_and_copies(step, ended, purged[0]))
     if "stores" in step.record:
         yield from stores(step, ended)
 
@@ -184,11 +186,13 @@ def drain(step, said):
 def short_of_cluster(step, short, groups, before, ended=False):
     """Returns why the groups a copy short aren't those that a settled cluster calls undersized, or
     remapped, where a device outside the list is up and keeps the copy; or None. The drained devices
-    do that until they end; then only those of an earlier change."""
+    do that until they end; then only others that had the copy before."""
     undersized, kept = with_state(groups, "undersized"), with_state(groups, "remapped")
-    first = kept if ended else undersized
-    earlier = with_state(before, "remapped" if ended else "undersized")
-    return same(short, undersized | kept, "crushplan's lists") or same(first | earlier, earlier, "new ones")
+    if ended:
+        new = {it for it in kept if not set(groups[it]["acting"]) - set(groups[it]["up"]) <= set(before[it]["acting"])}
+        return same(short, undersized | kept, "crushplan's lists") or same(set(), new, "no group")
+    earlier = with_state(before, "undersized")
+    return same(short, undersized | kept, "crushplan's lists") or same(undersized | earlier, earlier, "new ones")
 
 
 def moved_and_copies(step, old, new):

@@ -46,6 +46,8 @@ mon osd min up ratio = 0
 mon osd adjust heartbeat grace = false
 osd heartbeat grace = 600
 osd heartbeat interval = 30
+# a group waits until what an OSD that ended was allowed to answer is over: 6 seconds, not 480
+osd pool default read lease ratio = 0.01
 osd crush update on start = false
 osd class update on start = false
 osd pool default pg autoscale mode = off
@@ -313,7 +315,8 @@ def why_at_work(group, up, acting):
         return None if "stale" in states else "not stale yet"
     if (group["up"], group["acting"]) != (up, acting):
         return f"its OSDs have {group['up']} {group['acting']}, the map has {up} {acting}"
-    if states & AT_WORK or not states & {"clean", "undersized"} or "undersized" in states and up != acting:
+    # an undersized group may keep a copy outside its list, if it has all that the list asks for
+    if states & AT_WORK or not states & {"clean", "undersized"} or "undersized" in states and not set(up) <= {*acting, None}:
         return "+".join(sorted(states))
     return None
 

@@ -110,7 +110,9 @@ class Comparison:
             self.same_step(f"{what}, then purge", said["weight_first"]["then_purge"], first, {**first, **it["purge"]["then_purge"]})
 
     def same_step(self, what, said, before, after):
-        same(what, (said["moved"], said["copies"]), (sum(before[at][1] != after[at][1] for at in before), self.anew(before, after)))
+        moved = {at: [before[at][1], after[at][1]] for at in before if before[at][1] != after[at][1]}
+        same(f"{what}, groups", {it["id"]: [it["before"], it["after"]] for it in said["groups"]}, moved)
+        same(what, (said["moved"], said["copies"]), (len(moved), self.anew(before, after)))
         self.counts["purged"] += said["moved"]
 
     def fail(self, it):

@@ -3,6 +3,7 @@ request takes, holes, bytes and ratios, devices that a rule takes by name."""
 import copy
 import json
 import random
+import re
 import subprocess
 
 from made import ONE, STEPS, bucket, crush_dump, osd_dump, pool, rule, text_of, write
@@ -33,7 +34,16 @@ def straw2(runner, folder):
     wants("fast" in note["text"], note["text"])
     equals("a drain that has nothing to do with it", runner.said("drain", folder, "host0")["status"], 0)
     equals("a drain that has", runner.said("drain", folder, "fast1")["status"], 2)
-    equals("each host", runner.said("fail", folder, "--each", "host")["status"], 2)
+    said = runner.said("drain", folder, "fast1", status=2)
+    equals("its answer", said["answer"], "unknown: pool index can't be computed; of what can, no group moves.")
+    said = runner.said("fail", folder, "--each", "host", status=2)
+    equals("each host", {it["name"]: it["status"] for it in said["each"]}, {**{f"host{it}": 0 for it in range(4)}, **{f"fast{it}": 2 for it in range(3)}})
+    equals("its answer", said["answer"], "unknown: of 7 hosts 4 can fail, and every copy has room; of 3 not all can be computed.")
+    rows = [it.split() for it in runner.run("fail", folder, "--each", "host")[1].splitlines()]
+    equals("which", {it[0]: it[-1] for it in rows if it and it[0].startswith("fast")}, {f"fast{it}": "part" for it in range(3)})
+    equals("usage has the devices of pools that are computed", [it["device"] for it in runner.said("usage", folder, status=0)["rows"]], list(range(12)))
+    wants("osd.12, osd.13, osd.14 have copies of pools alone that aren't computed" in runner.run("usage", folder)[1], "the others aren't named")
+    wants("not computed: pool index (2): below" in runner.run("usage", folder)[1] and "has to do with osd.12, osd.13, osd.14" in runner.run("usage", folder)[1], "nor the pool")
     runner.refused("usage", folder, "--pool", "index", has="pool index isn't computed: below its rule fast_rule are straw2 buckets")
     crush["buckets"] = [{**it, "alg": "straw2"} for it in crush["buckets"]]
     write(folder, crush)
@@ -56,6 +66,17 @@ def classes(runner, folder):
     equals("groups", [it["raw"] for it in said["groups"]], Placed(shadow_text(), pool=1, size=3, pg_num=64).raw)
     said = runner.said("drain", folder, "host1", status=0)
     equals("a purge isn't computed", kinds(said, "notes"), ["class"])
+    wants("osd purge" not in runner.run("drain", folder, "host1")[1], "a purge of which nothing is known")
+    crush["rules"].append(rule(1, "all", STEPS))
+    write(folder, crush, osd_dump(pools=[pool(1, "photos"), pool(2, "mail", crush_rule=1)]))
+    said, text = runner.said("drain", folder, "host1", status=0), runner.run("drain", folder, "host1")[1]
+    mail = next(it["copies"] for it in said["pools"] if it["name"] == "mail")
+    wants(0 < mail < said["copies"], said["pools"])
+    # the copies of photos, whose purge isn't known, stand in neither sum
+    for sentence, sum_ in (("osd purge", mail + said["purge"]["copies"]), ("crush reweight", said["weight_first"]["copies"] + said["weight_first"]["then_purge"]["copies"])):
+        wants(any(sentence in it and f"in all {sum_:,}" in it for it in text.splitlines()), f"no {sentence} with {sum_} in all: {text}")
+    crush["rules"].pop()
+    write(folder, crush, osd_dump())
     (folder / "crush.json").unlink()
     (folder / "map.txt").write_text(text_of(crush_dump()).replace("step take default", "step take default class hdd"))
     said = runner.said("drain", folder, "host1", status=2)
@@ -119,10 +140,15 @@ def oddities(runner, folder):
     said = runner.said("drain", folder, "host3", status=0)
     notes = {it["kind"]: it for it in said["notes"]}
     equals("kinds", sorted(notes), ["object hash", "pg_temp", "primary affinity", "primary_temp", "split", "weight set"])
-    equals("pg_temp", (notes["pg_temp"]["pools"], notes["pg_temp"]["groups"]), ([1], ["1.3"]))
-    equals("primary_temp", notes["primary_temp"]["groups"], ["1.1c"])
+    equals("pg_temp", [notes["pg_temp"][it] for it in ("pools", "groups", "devices")], [[1], ["1.3"], [0, 4, 7]])
+    equals("primary_temp", [notes["primary_temp"][it] for it in ("pools", "groups", "devices")], [[1], ["1.1c"], [4]])
+    equals("split", [notes["split"][it] for it in ("pools", "devices")], [[1], list(range(12))])
+    equals("object hash", [notes["object hash"][it] for it in ("pools", "devices")], [[1], list(range(12))])
     equals("primary affinity", (notes["primary affinity"]["pools"], notes["primary affinity"]["devices"]), ([1], [4]))
     equals("weight set", (notes["weight set"]["pools"], notes["weight set"]["devices"]), ([1], list(range(12))))
+    text = runner.run("drain", folder, "host3")[1]
+    for words in ("1.3, of pool photos and osd.0, osd.4, osd.7; what", "osd.4 has a primary affinity other than 1: in pool photos ", "a weight set (choose_args -1), of pool photos and of osd.0, osd.1, osd.2, osd.3 and 8 more;"):
+        wants(words in text, f"the text doesn't say {words!r}: {text}")
     wants("128" in notes["split"]["text"], notes["split"]["text"])
     runner.refused("locate", folder, "photos", "a", has="another object hash")
 
@@ -245,6 +271,9 @@ def already_short(runner, folder):
     write(folder, crush_dump(hosts=3), osd_dump(9, [pool(1, "photos", size=4)]))
     said = runner.said("drain", folder, "osd.0", status=1)
     equals("short", said["short"], {"groups": 64, "copies": 64, "groups_before": 64, "copies_before": 64})
+    wants(said["answer"].startswith("no: 64 copies of pool photos have no room (as many as before); "), said["answer"])
+    wants("64 of 64, by 64 copies (before: 64, by 64)" in runner.run("drain", folder, "osd.0")[1], "the summary doesn't say it")
+    wants(runner.said("drain", folder, "host0", status=1)["answer"].startswith("no: 128 copies of pool photos have no room (64 before); "), "nor does another")
     said = runner.said("fail", folder, "osd.0", status=1)
     equals("while it is down all are short", said["down"]["short"], 64)
 
@@ -264,6 +293,8 @@ def room(runner, folder):
         equals(f"{size}: past near-full", bool(answer["past_nearfull"]), most > 0.85)
         equals(f"{size}: status", answer["status"], int(most > 0.9))
     wants("past the backfill-full ratio" in runner.run("drain", folder, "host0")[1], "the sentence doesn't say it")
+    write(folder, osd={**osd_dump(), "nearfull_ratio": 0.8500000238418579})  # as a cluster writes it
+    wants("near-full is 85.0%" in runner.run("drain", folder, "host0")[1], "the ratio isn't said")
     wants("B" in runner.run("usage", folder)[1] and "used %" in runner.run("usage", folder)[1], "usage shows no bytes")
 
 
@@ -279,6 +310,8 @@ def taken_by_name(runner, folder):
     said = runner.said("fail", folder, "osd.0", "--groups", status=1)
     equals("while it is down", said["down"]["short"], 64)
     wants(all(0 not in it["up"] for it in said["down"]["groups"]), "osd.0 is up")
+    text = runner.run("fail", folder, "osd.0")[1]
+    equals("groups that are in no impact list", said["out"]["moved"] - said["out"]["can_move"], int(re.search(r"impact lists, and (\d+) whose rule takes a device by name", text)[1]))
 
 
 def described(runner, folder):
@@ -339,6 +372,7 @@ def upmaps(runner, folder):
     equals("1.9", (rows["1.9"]["after"], rows["1.9"]["copies"], rows["1.9"]["remarks"]), ([near, second, third], 1, []))
     equals("1.8", (rows["1.8"]["after"], len(rows["1.8"]["remarks"]), rows["1.8"]["breaks"]), (placed.up[8], 1, None))
     equals("1.7", (rows["1.7"]["pairs"], rows["1.7"]["copies"]), ([], 0))
+    equals("no commands", runner.run("upmap", folder, "-", given=b"\n")[:2], (0, "yes: no group moves, since standard input has no commands.\n"))
     code, out, _ = runner.run("upmap", folder, "-", given=f"ceph osd pg-upmap-items 1.9 {first} {beside}\n".encode())
     equals("two copies in one host", code, 1)
     wants(f"osd.{beside} and osd.{second} are in one host" in out or f"osd.{second} and osd.{beside} are in one host" in out, out)

@@ -8,7 +8,7 @@ import select
 import subprocess
 import sys
 
-from made import crush_dump, osd_dump, pool, write
+from made import crush_dump, osd_dump, pool, text_of, write
 from running import PLAN, SECONDS, equals, wants
 
 COMMANDS = ("fetch", "check", "usage", "compare", "drain", "fail", "upmap", "locate")
@@ -44,6 +44,25 @@ def forms(runner, folder):
         equals(f"{words}: fields of each row", {len(it) for it in read}, {len(read[0])})
         for key in ("crushplan", "command", "status", "answer", "map", "warnings", "uncomputed", "notes"):
             wants(key in said, f"{words}: no field {key}")
+
+
+def documented(runner, folder):
+    """Each field of each command's JSON stands in docs/CRUSHPLAN.md."""
+    usual(folder)
+    words = set(re.findall(r"`([a-z_0-9]+)`", (PLAN.parent.parent / "docs" / "CRUSHPLAN.md").read_text()))
+    for it in words_of(folder):
+        missing = sorted(name for name in fields_in(runner.said(*it)) if not {name, re.sub("_(before|after)$", "", name)} & words)
+        equals(f"{it[0]}: fields that the page lacks", missing, [])
+
+
+def fields_in(value):
+    """Yields the names of all fields of a value; members named by files and types are left out."""
+    for inner in value if isinstance(value, list) else ():
+        yield from fields_in(inner)
+    for name, inner in value.items() if isinstance(value, dict) else ():
+        yield name
+        if name not in ("files", "above"):
+            yield from fields_in(inner)
 
 
 def rows(runner, folder):
@@ -91,6 +110,10 @@ def terminals(runner, folder):
     wants(said.startswith("yes:") and "\033" not in said, f"a colour: {said[:60]!r}")
     narrow = on_terminal(("usage", folder), {**environment, "NO_COLOR": "1"}, 50)
     wants(max(len(it) for it in narrow.splitlines() if it.startswith("  ")) <= 50, "a table is wider than the terminal")
+    narrow = on_terminal(("drain", folder, "host0"), {**environment, "NO_COLOR": "1"}, 72).split("Copies before")[0]
+    wants(max(len(it) for it in narrow.splitlines() if it.startswith("  ")) <= 72, f"the summary is wider than the terminal: {narrow}")
+    whole = runner.run("drain", folder, "host0")[1].split("Copies before")[0]
+    equals("the summary's words on a narrow terminal", sorted(narrow.split()), sorted(whole.split()))
     said = on_terminal(("fail", folder, "--each", "host"), environment)
     wants("1 of 4 hosts" in said and "s left" in said, f"no progress: {said[:200]!r}")
     _, _, err = runner.run("fail", folder, "--each", "host")
@@ -111,13 +134,17 @@ def helps(runner, folder):
             wants(option in text.split("example: ")[0] or option == "--cluster", f"{name}: the example has {option}, which its help hasn't")
 
 
+# the files of the help's examples, as they are made here
+EXAMPLE_FILES = {"july": "july", "mended.txt": "mended.txt", "new.txt": "new.txt", "commands.sh": "july/list"}
+
+
 def examples(runner, folder):
     """The examples of the help, on a folder july, do what the help says."""
     usual(folder / "july")
     crush = crush_dump()
     crush["buckets"][1]["alg"] = "tree"
     write(folder / "july", crush)
-    (folder / "july" / "new.txt").write_text("device 0 osd.0\n")
+    (folder / "new.txt").write_text(text_of(crush_dump(devices=2)))
     text = runner.run("--help")[1]
     found = re.findall(r"^  crushplan (\S.*?)(?:   .*)?$", text, re.M)
     wants(len(found) >= 4, f"too few examples: {found}")
@@ -126,6 +153,11 @@ def examples(runner, folder):
             continue
         code, out, err = runner.run(*it.replace("july", str(folder / "july")).replace("--each rack", "--each host").split())
         wants(code in (0, 1) and out and not err, f"{it}: {code} {err}")
+    for name in COMMANDS[1:]:
+        words = re.search(r"^example: crushplan (.*)$", runner.run(name, "--help")[1], re.M)[1].split()
+        code, out, err = runner.run(*(str(folder / EXAMPLE_FILES[it]) if it in EXAMPLE_FILES else it.replace("osd.17", "osd.1") for it in words))
+        wants(code in (0, 1) and out and not err, f"{words}: {code} {err}")
+    wants(text_of(crush_dump()) != (folder / "mended.txt").read_text() != "", "check --mend wrote no other text")
 
 
 def completion(runner, folder):
@@ -175,4 +207,4 @@ def fetched(runner, folder):
 
 
 def cases():
-    return [(it.__name__, it) for it in (forms, rows, terminals, helps, examples, completion, fetched)]
+    return [(it.__name__, it) for it in (forms, documented, rows, terminals, helps, examples, completion, fetched)]

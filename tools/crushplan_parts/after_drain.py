@@ -7,18 +7,22 @@ from .summary import total, whole, written_anew
 
 
 class Steps:
-    """Copies that a step writes, over all pools."""
+    """Groups that a step moves, over all pools, and copies that it writes."""
 
     def __init__(self, changes):
         """Takes of each change of a pool its PoolChange, and the moved groups: up before and
         after."""
         self.moved = sum(len(moves) for _, moves in changes)
+        self.groups = [(change.pool, group, *both) for change, moves in changes for group, both in sorted(moves.items())]
         self.by_pool = [(change, sum(written_anew(change.pool, old, new) for old, new in moves.values())) for change, moves in changes]
         self.copies = sum(it for _, it in self.by_pool)
         self.bytes = total(change.bytes_of(copies) for change, copies in self.by_pool)
 
-    def said(self):
-        return {"moved": self.moved, "copies": self.copies, "bytes": whole(self.bytes)}
+    def said(self, with_groups):
+        found = {"moved": self.moved, "copies": self.copies, "bytes": whole(self.bytes)}
+        if with_groups:
+            found["groups"] = [{"pool": pool.id, "group": group, "id": pool.group_name(group), "before": old, "after": new} for pool, group, old, new in self.groups]
+        return found
 
 
 class AfterDrain:
@@ -49,14 +53,19 @@ class AfterDrain:
         return Stages(self.plan, self.pools, {**self.plan.pairs, **pairs}, drained).set_map(self.gone, self.texts[0])
 
     def ask_weight_first(self):
-        """Asks what the CRUSH weight of 0 moves, and then the removal."""
+        """Asks what the CRUSH weight of 0 moves, and then the removal: side by side where no upmap
+        items are there, of which the first could remove some."""
         if not self.pools:
             return {}, {}
         stages = Stages(self.plan, self.pools)
-        return stages.set_map(self.weightless, self.texts[1]), stages.set_map(self.gone, self.texts[0])
+        if any(stages.pairs.values()):
+            return stages.set_map(self.weightless, self.texts[1]), stages.set_map(self.gone, self.texts[0])
+        later = Stages(self.plan, self.pools, texts=[self.texts[1]])
+        return self.plan.side_by_side(lambda: stages.set_map(self.weightless, self.texts[1]), lambda: later.set_map(self.gone, self.texts[0]))
 
     def take(self, changes, purge, first, second):
         """Takes what was answered. `changes` are those of the drain."""
+        self.drained = sum(it.copies for it in changes if it.pool not in self.without)
         changes = [it for it in changes if it.pool.id in self.pools]
         self.purge, self.weight_first, self.then_purge = (self.steps(changes, it) for it in (purge, first, second))
 
@@ -70,6 +79,7 @@ class AfterDrain:
             return None
         return Note("class", f"what a purge moves isn't computed in pools whose rules take a class: {', '.join(it.name for it in self.without)}", pools=[it.id for it in self.without], open_=False)
 
-    def compared(self, drained_copies):
-        """Returns the copies in all: drained and then removed, and by the CRUSH weight first."""
-        return drained_copies + self.purge.copies, self.weight_first.copies + self.then_purge.copies
+    def compared(self):
+        """Returns the copies in all, of the pools of which both are known: drained and then
+        removed, and by the CRUSH weight first."""
+        return self.drained + self.purge.copies, self.weight_first.copies + self.then_purge.copies

@@ -12,7 +12,9 @@ DIR is a folder with files that the cluster writes:
                                                 without it each rule is a pool (--size, --pg-num)
   df.json, osd-df.json                          ceph df detail -f json, ceph osd df -f json: bytes; optional
 
-'crushplan fetch DIR' writes them where 'ceph' is there. Nothing here changes a cluster."""
+'crushplan fetch DIR' writes them where 'ceph' is there. Nothing here changes a cluster.
+Pools over list, tree and uniform buckets are computed, by the program crushcalc; pools over straw
+or straw2 buckets aren't, and are named."""
 END = """examples:
   crushplan fetch july                        the files of the cluster, into the folder july
   crushplan check july                        what of it can be computed, and what can't

@@ -70,7 +70,7 @@ class Cluster:
     states: dict
     pairs: dict  # upmap items: of each pool, of each group, its pairs of devices
     lists: dict  # whole upmap lists: of each pool, of each group, its devices
-    temporary: dict  # pg_temp and primary_temp: of each, the groups by pool
+    temporary: dict  # pg_temp and primary_temp: of each, of each pool, of each group, its devices
     affine: list  # devices of a primary affinity other than 1
     ratios: dict
     rooms: dict
@@ -162,7 +162,7 @@ def read_osd_dump(cluster, dump, asked):
         cluster.states[id_] = State(0, False)
     read_upmaps(cluster, dump)
     for name in ("pg_temp", "primary_temp"):
-        cluster.temporary[name] = groups_named(cluster, dump, name)
+        cluster.temporary[name] = groups_named(dump, name)
     cluster.affine = sorted(it.get("osd", int) for it in dump.each("osds") if it.has("primary_affinity") and fixed(it.at("primary_affinity").of_kind(Decimal)) != ONE)
     for name in ("full_ratio", "backfillfull_ratio", "nearfull_ratio"):
         if dump.has(name):
@@ -195,16 +195,21 @@ def read_upmaps(cluster, dump):
         cluster.pairs.setdefault(pool, {})[group] = pairs
     for it in dump.each("pg_upmap", ()):
         pool, group = group_of(it.get("pgid", str), f"{it.where}: pgid")
-        cluster.lists.setdefault(pool, {})[group] = {device.of_kind(int) for device in it.each("osds")}
+        cluster.lists.setdefault(pool, {})[group] = devices_in(it)
 
 
-def groups_named(cluster, dump, name):
-    """Returns the groups that a list of the dump names, by pool."""
+def groups_named(dump, name):
+    """Returns the groups that a list of the dump names, by pool, each with its devices."""
     found = {}
     for it in dump.each(name, ()):
         pool, group = group_of(it.get("pgid", str), f"{it.where}: pgid")
-        found.setdefault(pool, []).append(group)
+        found.setdefault(pool, {})[group] = devices_in(it) if it.has("osds") else {it.get("osd", int)}
     return found
+
+
+def devices_in(node):
+    """Returns the devices of a list of the dump, without places that have none."""
+    return {device.of_kind(int) for device in node.each("osds")} - {NONE}
 
 
 def describe_pools(cluster, asked):

@@ -103,12 +103,18 @@ def compare(plan, asked):
         "new": new.map.file, "moved": moved, "copies": copies, "bytes": whole(bytes_), "least": rounded(least.numerator, least.denominator, 2), "missing_copies": missing,
         "pools": [it.said() for it in changes], "hosts": [{"name": name, "lost": lost, "gained": gained} for name, lost, gained in hosts],
     }  # fmt: skip
-    own = [["pool", "group", "id", "before", "after", "copies"]] + [[pool.id, group, pool.group_name(group), listed(old), listed(now), count] for pool, group, old, now, count in groups]
+    heads = ["pool", "group", "id", "before", "after", "primary_before", "primary_after", "copies"]
+    own = [heads] + [[pool.id, group, pool.group_name(group), listed(old), listed(now), primary(old), primary(now), count] for pool, group, old, now, count in groups]
     if asked.groups:
-        fields["groups"] = [{"pool": pool.id, "group": group, "id": pool.group_name(group), "before": old, "after": now, "copies": count} for pool, group, old, now, count in groups]
+        fields["groups"] = [{"pool": pool.id, "group": group, "id": pool.group_name(group), "before": old, "after": now, "primary_before": primary(old), "primary_after": primary(now), "copies": count} for pool, group, old, now, count in groups]
     else:
         own = [["host", "lost", "gained"], *hosts]
     return Answer(status, sentence, fields, blocks, own)
+
+
+def primary(up):
+    """Returns the primary of an up list, its first device, or None."""
+    return next((it for it in up if it is not None), None)
 
 
 class Compared:

@@ -11,15 +11,16 @@ from .summary import Summary
 def drain(plan, asked):
     """Answers what a drain does: the reweights of devices become 0."""
     devices = plan.tree.devices_of(asked.names)
-    start, later = Start(plan, devices), AfterDrain(plan, devices)
+    later = AfterDrain(plan, devices)
     states, drained = states_after(plan, devices, reweight=0)
 
     def drain_then_purge():
+        start = Start(plan, devices)
         stages = Stages(plan, start.touched)
         lists = stages.set_states([drained], start.wanted(devices))
-        return lists, later.ask_purge(drained, stages.pairs)
+        return start, lists, later.ask_purge(drained, stages.pairs)
 
-    ((before, after), purge), (first, second) = plan.side_by_side(drain_then_purge, later.ask_weight_first)
+    (start, (before, after), purge), (first, second) = plan.side_by_side(drain_then_purge, later.ask_weight_first)
     changes = pool_changes(plan, start, devices, before, after)
     later.take(changes, purge, first, second)
     summary, stay = Summary(plan, changes, states), Stay(plan, start, devices, changes)
@@ -28,9 +29,9 @@ def drain(plan, asked):
     status = status_of(plan, summary, stay)
     fields = {
         "devices": devices, **summary.said(asked.groups), "stay": stay.said(),
-        "purge": later.purge.said(), "weight_first": {**later.weight_first.said(), "then_purge": later.then_purge.said()},
+        "purge": later.purge.said(asked.groups), "weight_first": {**later.weight_first.said(asked.groups), "then_purge": later.then_purge.said(asked.groups)},
     }  # fmt: skip
-    blocks = [summary_table(plan, summary, stay), pools_table(summary), usage_table(plan, summary, asked.by), purge_text(summary, later, devices)]
+    blocks = [summary_table(plan, summary, stay), pools_table(summary), usage_table(plan, summary, asked.by), purge_text(later, devices)]
     if asked.groups:
         blocks.append(groups_table(summary.moves))
     return Answer(status, verdict(summary, stay, status), fields, blocks, groups_rows(plan, summary.moves) if asked.groups else usage_rows(summary))
@@ -40,10 +41,12 @@ def in_bytes(value):
     return f" ({sized(value)})" if value is not None else ""
 
 
-def purge_text(summary, later, devices):
+def purge_text(later, devices):
     """Says what removing the devices moves afterwards, and whether it is less by their CRUSH weight
-    first."""
-    first, other = later.compared(summary.copies)
+    first; nothing where neither is computed."""
+    if later.without and not later.pools:
+        return ""
+    first, other = later.compared()
     ids = " ".join(map(str, devices[:3])) + (" .." if len(devices) > 3 else "")
     lines = [
         f"Afterwards 'ceph osd purge' of {counted(len(devices), 'device')} ({ids}) would move {counted(later.purge.moved, 'group')} again: {counted(later.purge.copies, 'copy', 'copies')}{in_bytes(later.purge.bytes)}, in all {first:,}.",

@@ -117,31 +117,43 @@ def fail_each(plan, asked):
     found.sort(key=lambda it: (-it[1].down.stopped, -it[1].summary.missing, -it[1].summary.copies, plan.map.name_of(it[0])))
     statuses = [status_of(plan, it.summary, stay, it.down.stopped) for _, it, stay in found]
     status = 1 if 1 in statuses else 2 if 2 in statuses else 0
-    bad = statuses.count(1)
     name = asked.each
-    sentence = (
-        f"no: of {counted(len(found), name)} {bad:,} can't fail without I/O that stops or copies that have no room." if bad
-        else f"unknown: not all of it can be computed." if status == 2 else f"yes: {'each' if len(found) > 1 else 'the one'} of {counted(len(found), name)} can fail, and every copy has room."
-    )  # fmt: skip
-    rows = [each_said(plan, *it) for it in found]
+    rows = [each_said(plan, *it, own) for it, own in zip(found, statuses)]
     table = [(it["name"], it["devices"], it["below_min_size"], it["short_down"], it["missing_copies"], it["moved"], it["copies"], sized(it["bytes"]), each_fullest(it)) for it in rows]
-    heads = (name, "devices", "I/O stops", "short", "no room", "move", "copies", "bytes", "fullest afterwards")
+    heads = (name, "devices", "stops", "short", "no room", "move", "copies", "bytes", "fullest")
+    if any(stay.is_unknown() for _, _, stay in found):
+        heads = (*heads, "computed")
+        table = [(*row, "in part" if stay.is_unknown() else "all") for row, (_, _, stay) in zip(table, found)]
     own = [list(rows[0])[:-1] + ["fullest", "fullest_percent"]] + [[*list(it.values())[:-1], it["fullest"] and it["fullest"]["name"], it["fullest"] and it["fullest"]["percent_after"]] for it in rows]
-    text = "I/O stops: groups below min_size while it is down; short: groups below size then; no room: copies that\nhave no device once it is out; move, copies: groups that then move, and copies written anew."
-    return Answer(status, sentence, {"type": name, "each": rows}, [Table(heads, table), text], own)
+    of = "its percent of its share" if all(it["fullest"] is None or it["fullest"]["used_after"] is None for it in rows) else "how much of its room is used"
+    text = f"stops: groups below min_size while it is down, whose I/O stops; short: groups below size then; no room:\ncopies that have no device once it is out; move, copies: groups that then move, and copies written anew;\nfullest: the fullest device then, and {of}."
+    return Answer(status, each_sentence(plan, name, statuses), {"type": name, "each": rows}, [Table(heads, table), text], own)
+
+
+def each_sentence(plan, name, statuses):
+    """Returns the answer in one sentence, from the status of each bucket of a type."""
+    all_, bad, unknown = counted(len(statuses), name), statuses.count(1), statuses.count(2)
+    if not plan.pools:
+        return "unknown: no pool can be computed."
+    rest = f"; of {unknown:,} not all can be computed." if unknown else "."
+    if bad:
+        return f"no: of {all_} {bad:,} can't fail without I/O that stops or copies that have no room{rest}"
+    if unknown:
+        return f"unknown: of {all_} {len(statuses) - unknown:,} can fail, and every copy has room{rest}"
+    return f"yes: {'each' if len(statuses) > 1 else 'the one'} of {all_} can fail, and every copy has room."
 
 
 def each_fullest(it):
     if it["fullest"] is None:
         return "-"
     of = it["fullest"]["used_after"]
-    return f"{it['fullest']['name']} {shown(it['fullest']['percent_after'])}%" if of is None else f"{it['fullest']['name']} {hundredths(of)}% used"
+    return f"{it['fullest']['name']} {shown(it['fullest']['percent_after']) if of is None else hundredths(of)}%"
 
 
-def each_said(plan, item, it, stay):
+def each_said(plan, item, it, stay, status):
     summary = it.summary
     said = summary.said(False)
     return {
         "name": plan.map.name_of(item), "devices": len(it.devices), "below_min_size": it.down.stopped, "short_down": it.down.short, "short_groups": summary.short,
-        "missing_copies": summary.missing, "moved": len(summary.moves), "can_move": summary.can_move, "copies": summary.copies, "bytes": said["bytes"], "fullest": said["fullest"],
+        "missing_copies": summary.missing, "moved": len(summary.moves), "can_move": summary.can_move, "copies": summary.copies, "bytes": said["bytes"], "status": status, "fullest": said["fullest"],
     }  # fmt: skip

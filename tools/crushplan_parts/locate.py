@@ -22,17 +22,17 @@ def locate(plan, asked):
     found = [row_of(plan, pool, name, run.replies[place]) for name, place in zip(asked.objects, places)]
     rows = []
     for it in found:
-        first = [it["name"], it["id"], devices_text(it["up"])]
+        first = [it["name"], it["id"], devices_text(it["raw"]), devices_text(it["up"])]
         for device in it["places"]:
             rows.append([*first, device["name"] + (" (primary)" if device["device"] == it["primary"] else ""), device["state"], ", ".join(f"{name}" for type_, name in device["above"].items())])
-            first = ["", "", ""]
+            first = [""] * len(first)
         if not it["places"]:
             rows.append([*first, "no device", "", ""])
     whole = [it["id"] for it in found if it["group"] in plan.whole_lists.get(pool.id, ())]
     sentence = f"unknown: {', '.join(whole)} has a whole upmap list, which isn't computed." if whole else ""
     heads = ["object", "pool", "group", "id", "raw", "up", "primary"]
     own = [heads] + [[it["name"], pool.id, it["group"], it["id"], listed(it["raw"]), listed(it["up"]), it["primary"]] for it in found]
-    return Answer(2 if whole else 0, sentence, {"pool": pool.id, "objects": found}, [Table(("object", "group", "up", "device", "state", "in"), rows)], own)
+    return Answer(2 if whole else 0, sentence, {"pool": pool.id, "objects": found}, [Table(("object", "group", "raw", "up", "device", "state", "in"), rows)], own)
 
 
 def row_of(plan, pool, name, said):

@@ -5,12 +5,14 @@ import json
 import os
 import shutil
 import sys
+import textwrap
 import time
 
 UNITS = ("B", "KiB", "MiB", "GiB", "TiB", "PiB", "EiB")
 RED, GREEN, YELLOW, BOLD, PLAIN = "\033[31m", "\033[32m", "\033[33m", "\033[1m", "\033[0m"
 COLOURS = {0: GREEN, 1: RED, 2: YELLOW}
 NARROWEST = 8  # of a column that is cut to fit
+NARROW = 20  # of a last column whose words go on in further lines
 
 
 class Answer:
@@ -22,7 +24,8 @@ class Answer:
 
 
 class Table:
-    """Rows under heads; numbers stand at the right. A title stands above."""
+    """Rows under heads; numbers stand at the right. A title stands above. Where a terminal is too
+    narrow, the words of a last column go on below, or columns are cut."""
 
     def __init__(self, heads, rows, title=None):
         self.heads, self.rows, self.title = heads, rows, title
@@ -31,6 +34,10 @@ class Table:
         cells = [[shown(it) for it in row] for row in self.rows]
         right = [all(is_number(row[place]) for row in self.rows) for place in range(len(self.heads))]
         widths = [max(len(head), *(len(row[place]) for row in cells)) if cells else len(head) for place, head in enumerate(self.heads)]
+        over = sum(widths) + 2 * len(widths) - width if width else 0
+        wrapped = over > 0 and not right[-1] and widths[-1] - over >= NARROW
+        if wrapped:
+            widths[-1] -= over
         while width and sum(widths) + 2 * len(widths) > width:
             widest = max(range(len(widths)), key=lambda it: widths[it])
             if widths[widest] <= NARROWEST:
@@ -38,8 +45,11 @@ class Table:
             widths[widest] -= 1
         lines = [self.title] if self.title else []
         for row in ([list(self.heads)] if any(self.heads) else []) + cells:
-            parts = [cut(it, size).rjust(size) if of else cut(it, size).ljust(size) for it, size, of in zip(row, widths, right)]
-            lines.append(("  " + "  ".join(parts)).rstrip())
+            *first, last = row
+            for part in textwrap.wrap(last, widths[-1]) or [""] if wrapped else [last]:
+                parts = [cut(it, size).rjust(size) if of else cut(it, size).ljust(size) for it, size, of in zip([*first, part], widths, right)]
+                lines.append(("  " + "  ".join(parts)).rstrip())
+                first = [""] * len(first)
         return "\n".join(lines)
 
 
@@ -124,7 +134,7 @@ def people_text(answer, notes, warnings):
     for it in answer.blocks:
         blocks.append(it.text(width()) if isinstance(it, Table) else it)
     text = "\n\n".join(it for it in blocks if it)
-    remarks = [f"not computed: {it.text}" for it in notes if it.open] + [f"note: {it}" for it in warnings] + [f"note: {it.text}" for it in notes if not it.open]
+    remarks = [f"not computed: {it.short}" for it in notes if it.open] + [f"note: {it}" for it in warnings] + [f"note: {it.text}" for it in notes if not it.open]
     return text + "\n" + ("\n" + "\n".join(remarks) + "\n" if remarks else "")
 
 

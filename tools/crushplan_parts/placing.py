@@ -11,16 +11,18 @@ from .write_text import Text
 
 MOST_PAIRS, MOST_CHANGES, MOST_SIZE, MOST_GROUPS, MOST_POOLS = 1024, 1024, 32, 65536, 256
 MOST_FAULTS = 200  # declarations that are left out of a map, one after the other
+MOST_NAMES = 4  # of devices in a note
 
 Placement = collections.namedtuple("Placement", "raw up primary")
 
 
 class Note:
     """Something that isn't computed, or is otherwise than it seems, with what it touches. `open`
-    is whether an answer lacks it."""
+    is whether an answer lacks it; `short` is the text where it stands under that head."""
 
-    def __init__(self, kind, text, *, pools=(), devices=(), groups=(), open_=True):
+    def __init__(self, kind, text, *, pools=(), devices=(), groups=(), open_=True, short=None):
         self.kind, self.text, self.pools, self.devices, self.groups, self.open = kind, text, sorted(pools), sorted(devices), list(groups), open_
+        self.short = short or text
 
     def said(self):
         return {"kind": self.kind, "text": self.text, "pools": self.pools, "devices": self.devices, "groups": self.groups}
@@ -48,11 +50,24 @@ class Plan:
     # ---- what is computed
 
     def leave_out(self, pool, kind, why):
-        rule = self.map.rules.get(pool.rule)
-        devices = self.map.reached(rule) if rule else ()
+        devices = self.devices_of(pool)
         self.left_out[pool.id] = (kind, why)
         self.pools.pop(pool.id, None)
-        self.notes.append(Note(kind, f"pool {pool.name} ({pool.id}) isn't computed: {why}", pools=[pool.id], devices=devices))
+        touched = f"; it has to do with {self.names_of(devices)}" if devices else ""
+        whole, short = (f"pool {pool.name} ({pool.id}){words}: {why}{touched}" for words in (" isn't computed", ""))
+        self.notes.append(Note(kind, whole, pools=[pool.id], devices=devices, short=short))
+
+    def devices_of(self, pool):
+        """Returns the devices that a pool's rule can answer; none where the map lacks the rule."""
+        rule = self.map.rules.get(pool.rule)
+        return self.map.reached(rule) if rule else set()
+
+    def names_of(self, devices):
+        """Returns devices in words, cut after some of them."""
+        return some([self.map.name_of(it) for it in sorted(devices)], MOST_NAMES)
+
+    def pools_text(self, pools):
+        return f"{'pool' if len(pools) == 1 else 'the pools'} {some([self.cluster.pools[it].name if it in self.cluster.pools else it for it in pools])}" if pools else "no pool"
 
     def more_pools(self):
         """Leaves out the pools that are more than a tenant has."""
@@ -150,26 +165,27 @@ class Plan:
         cluster = self.cluster
         for pool in cluster.pools.values():
             if pool.split_to:
-                self.notes.append(Note("split", f"pool {pool.name} is being split or merged (pg_num {pool.pg_num} on its way to {pool.split_to[0]}, pgp_num {pool.pgp_num} to {pool.split_to[1]}): it is computed as it is now, and its groups move by themselves", pools=[pool.id], open_=False))
+                self.notes.append(Note("split", f"pool {pool.name} is being split or merged (pg_num {pool.pg_num} on its way to {pool.split_to[0]}, pgp_num {pool.pgp_num} to {pool.split_to[1]}): it is computed as it is now, and its groups move by themselves", pools=[pool.id], devices=self.devices_of(pool), open_=False))
             if pool.object_hash != 2:
-                self.notes.append(Note("object hash", f"pool {pool.name} has another object hash than rjenkins: where its groups lie is computed, where its objects lie isn't", pools=[pool.id], open_=False))
-        names = [(pool, group) for pool, lists in sorted(cluster.lists.items()) for group in sorted(lists)]
-        self.note_groups("pg_upmap", names, "whole upmap lists (pg_upmap)", "where they lie isn't computed: they count where their rule puts them, and stand in no list of moves", False)
+                self.notes.append(Note("object hash", f"pool {pool.name} has another object hash than rjenkins: where its groups lie is computed, where its objects lie isn't", pools=[pool.id], devices=self.devices_of(pool), open_=False))
+        self.note_groups("pg_upmap", cluster.lists, "whole upmap lists (pg_upmap)", "where they lie isn't computed: they count where their rule puts them, and stand in no list of moves")
         for kind in ("pg_temp", "primary_temp"):
-            names = [(pool, group) for pool, groups in sorted(cluster.temporary.get(kind, {}).items()) for group in groups]
-            self.note_groups(kind, names, f"a temporary {'list' if kind == 'pg_temp' else 'primary'} ({kind})", "what is said is where they lie once that is over", False)
+            self.note_groups(kind, cluster.temporary.get(kind, {}), f"a temporary {'list' if kind == 'pg_temp' else 'primary'} ({kind})", "what is said is where they lie once that is over")
         if cluster.affine:
             pools = [it.id for it in self.pools.values() if self.map.reached(self.map.rules[it.rule]) & set(cluster.affine)]
-            self.notes.append(Note("primary affinity", f"{some([self.map.name_of(it) for it in cluster.affine])} {'has' if len(cluster.affine) == 1 else 'have'} a primary affinity other than 1: the primaries of their groups, and the order of the lists of replicated pools, are others in the cluster", pools=pools, devices=cluster.affine, open_=False))
+            self.notes.append(Note("primary affinity", f"{self.names_of(cluster.affine)} {'has' if len(cluster.affine) == 1 else 'have'} a primary affinity other than 1: in {self.pools_text(pools)} the primaries of their groups, and the order of the lists of replicated pools, are others in the cluster", pools=pools, devices=cluster.affine, open_=False))
         for key, buckets in sorted(self.map.weight_sets.items()):
             pools = [it for it in cluster.pools if it == key or key == -1]
             below = {device for bucket in buckets for device in self.map.below(bucket)}
-            self.notes.append(Note("weight set", f"there is a weight set (choose_args {key}); Ceph uses it in straw2 buckets alone, so it changes nothing in the pools that are computed", pools=pools, devices=below, open_=False))
+            self.notes.append(Note("weight set", f"there is a weight set (choose_args {key}), of {self.pools_text(pools)} and of {self.names_of(below) or 'no device'}; Ceph uses it in straw2 buckets alone, so it changes nothing in the pools that are computed", pools=pools, devices=below, open_=False))
 
-    def note_groups(self, kind, names, has, what, open_):
-        if names:
-            written = [f"{pool}.{group:x}" for pool, group in names]
-            self.notes.append(Note(kind, f"{counted(len(names), 'group')} with {has}: {some(written)}; {what}", pools={pool for pool, _ in names}, groups=written, open_=open_))
+    def note_groups(self, kind, lists, has, what):
+        """Notes groups that have something: of each pool, of each group, its devices."""
+        written = [f"{pool}.{group:x}" for pool, groups in sorted(lists.items()) for group in sorted(groups)]
+        devices = {it for groups in lists.values() for own in groups.values() for it in own}
+        if written:
+            of = f"{some(written)}, of {self.pools_text(sorted(lists))}" + (f" and {self.names_of(devices)}" if devices else "")
+            self.notes.append(Note(kind, f"{counted(len(written), 'group')} with {has}: {of}; {what}", pools=lists, devices=devices, groups=written, open_=False))
 
     # ---- what stands in the answers
 

@@ -4,7 +4,7 @@ import fractions
 from .faults import counted, some
 from .output import Table, devices_text, shown, sized
 from .placing import Note
-from .shares import percent, rounded
+from .shares import hundredths, percent, rounded
 from .summary import whole
 
 MOST_ROWS = 40  # devices in a table of usage; where there are more, hosts are shown
@@ -27,10 +27,16 @@ class Stay:
             plan.notes.append(Note("pg_upmap", f"{counted(len(names), 'group')} with whole upmap lists may have to do with these devices: {some(names)}", pools={pool for pool, _ in self.unknown}, devices=devices, groups=names))
         own = set(devices)
         self.left_out = [it for it in plan.notes if it.open and it.pools and it.kind != "pg_upmap" and (not it.devices or own & set(it.devices))]
+        self.pools = [plan.cluster.pools[pool].name for it in self.left_out for pool in it.pools]
         self.names = [plan.map.name_of(it) for it in self.keeping]
 
     def is_unknown(self):
         return bool(self.unknown or self.left_out)
+
+    def unknown_text(self):
+        """Says what isn't computed and has to do with the devices."""
+        pools = [f"{'pool' if len(self.pools) == 1 else 'the pools'} {some(self.pools, 3)}"] if self.pools else []
+        return " and ".join(pools + ([f"{counted(len(self.unknown), 'group')} with whole upmap lists"] if self.unknown else []))
 
     def said(self):
         return [{"device": device, "copies": copies} for device, copies in sorted(self.keeping.items())]
@@ -46,18 +52,19 @@ def status_of(plan, summary, stay, stopped=0):
 
 def verdict(summary, stay, status, stopped=0):
     """Returns the answer in one sentence."""
-    moved = f"{counted(len(summary.moves), 'group')} {'moves' if len(summary.moves) == 1 else 'move'}"
+    moved = f"{counted(len(summary.moves), 'group')} {'moves' if len(summary.moves) == 1 else 'move'}" if summary.moves else "no group moves"
     if status == 2:
-        return f"unknown: not all of it can be computed; of what can, {moved}."
+        return f"unknown: {stay.unknown_text()} can't be computed; of what can, {moved}." if summary.changes else "unknown: no pool can be computed."
     if status == 0:
-        return f"yes: {moved}, and every copy has room." if summary.moves else "yes: no group moves, and every copy has room."
+        return f"yes: {moved}, and every copy has room."
     why = []
     if stopped:
         why.append(f"{counted(stopped, 'group')} {'has' if stopped == 1 else 'have'} fewer copies than min_size while the devices are down, so {'its' if stopped == 1 else 'their'} I/O stops")
     lacking = [it for it in summary.changes if it.missing]
     if lacking:
         pools = some([it.pool.name for it in lacking], 3)
-        why.append(f"{counted(summary.missing, *COPY)} of {'pool' if len(lacking) == 1 else 'the pools'} {pools} {'has' if summary.missing == 1 else 'have'} no room")
+        before = " (as many as before)" if summary.missing_before == summary.missing else f" ({summary.missing_before:,} before)" if summary.missing_before else ""
+        why.append(f"{counted(summary.missing, *COPY)} of {'pool' if len(lacking) == 1 else 'the pools'} {pools} {'has' if summary.missing == 1 else 'have'} no room{before}")
     if summary.past["backfillfull_ratio"]:
         why.append(f"{some([shown_used(it) for it in summary.past['backfillfull_ratio']], 3)}, past the backfill-full ratio")
     if stay.keeping:
@@ -71,14 +78,14 @@ def shown_used(it):
 
 def summary_table(plan, summary, stay, title=None):
     """Returns the lines of a summary, in the order in which they matter."""
-    before = f", of which {summary.short_before:,} already lack one" if summary.short_before else ""
-    short = f"{summary.short:,} of {summary.groups:,}, by {counted(summary.missing, *COPY)}{before}" if summary.short else "none"
+    before = f" (before: {summary.short_before:,}, by {summary.missing_before:,})" if summary.short_before else ""
+    short = (f"{summary.short:,} of {summary.groups:,}, by {counted(summary.missing, *COPY)}" if summary.short else "none") + before
     rows = [
         ("groups with fewer copies than the pool's size", short),
         ("groups that move", f"{len(summary.moves):,} of {summary.groups:,}"),
         ("copies that are written anew", f"{summary.copies:,}" + (f", {sized(summary.bytes)}" if summary.bytes is not None else "")),
         ("fullest device afterwards", fullest_text(plan, summary)),
-        ("proved", f"no group moves but the {summary.can_move:,} of the impact lists"),
+        ("proved", proved_text(summary)),
     ]
     if summary.fullest and summary.fullest.used_after is not None:
         rows.insert(4, ("its room", room_text(plan, summary.fullest)))
@@ -87,6 +94,16 @@ def summary_table(plan, summary, stay, title=None):
     if stay.keeping:
         rows.insert(1, ("copies that stay, by a rule that takes the device", some([f"osd.{device}: {copies:,}" for device, copies in sorted(stay.keeping.items())])))
     return Table(("", ""), rows, title)
+
+
+def proved_text(summary):
+    """Says which groups alone can move: those of the impact lists, and beside them, where devices
+    are down, groups whose rule takes one by name."""
+    listed = {(it.pool.id, group) for it in summary.changes for group in it.can_move}
+    others = sum((it.pool.id, it.group) not in listed for it in summary.moves)
+    if not listed and not others:
+        return "no group moves: no impact list has one"
+    return f"no group moves but the {len(listed):,} of the impact lists" + (f", and {others:,} whose rule takes a device by name" if others else "")
 
 
 def fullest_text(plan, summary):
@@ -104,7 +121,7 @@ def room_text(plan, it):
     """Says how much of a device's room is used afterwards, beside the near-full ratio."""
     ratio = plan.cluster.ratios.get("nearfull_ratio")
     used = f"{rounded(it.used_after.numerator * 100, it.used_after.denominator, 1)}% used"
-    return used + (f"; near-full is {shown(float(ratio * 100))}%" if ratio is not None else "")
+    return used + (f"; near-full is {hundredths(ratio)}%" if ratio is not None else "")
 
 
 def pools_table(summary):

@@ -5,12 +5,13 @@ from .upmap_rules import Keeper
 
 
 class Stages:
-    """A cluster on its way. `pools` are ids; `pairs`, `states` and `maps` are what holds by now."""
+    """A cluster on its way. `pools` are ids; `pairs` and `changed`, the states of devices, are what
+    holds by now, and `texts` the maps that it had so far, beside its own."""
 
-    def __init__(self, plan, pools, pairs=None, changed=None):
+    def __init__(self, plan, pools, pairs=None, changed=None, texts=()):
         self.plan, self.pools = plan, sorted(pools)
         self.pairs = {it: dict((pairs or plan.pairs)[it]) for it in self.pools}
-        self.changed, self.texts, self.map = dict(changed or {}), [], plan.map
+        self.changed, self.texts, self.map = dict(changed or {}), list(texts), plan.map
 
     def begun(self, pools=None):
         """Returns a run on the cluster as it is by now, for some of the pools."""

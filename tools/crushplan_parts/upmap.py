@@ -89,8 +89,10 @@ def upmap(plan, asked):
     unknown = [it for pool, own in wanted.items() for it in own if it in plan.whole_lists.get(pool, ())]
     status = 1 if refused else 2 if unknown else 0
     sentence = ("no: " if refused else "unknown: " if unknown else "yes: ") + f"{counted(moved, 'group')} {'moves' if moved == 1 else 'move'}, and {counted(copies, *COPY)} {'is' if copies == 1 else 'are'} written anew"
+    if not rows:
+        sentence = f"yes: no group moves, since {'standard input' if asked.file == '-' else asked.file} has no commands"
     sentence += (f"; {counted(len(refused), 'group')} would break the rule, and Ceph removes such items" if refused else "") + (f"; of {counted(len(idle), 'group')} a pair has no effect" if idle else "") + "."
-    blocks = [Table(("group", "pairs", "before", "after", "copies", "remark"), [(it["id"], pairs_text(it["pairs"]), devices_text(it["before"]), devices_text(it["after"]), it["copies"], "; ".join(([it["breaks"]] if it["breaks"] else []) + it["remarks"])) for it in rows])]
+    blocks = [Table(("group", "pairs", "before", "after", "copies", "remark"), [(it["id"], pairs_text(it["pairs"]), devices_text(it["before"]), devices_text(it["after"]), it["copies"], "; ".join(([it["breaks"]] if it["breaks"] else []) + it["remarks"])) for it in rows]) if rows else ""]
     even = evenness(plan, changes)
     blocks.append(even_text(even) + (f" Bytes: {sized(bytes_)}." if bytes_ is not None else ""))
     fields = {"moved": moved, "copies": copies, "bytes": whole(bytes_), "groups": rows, "evenness": even}

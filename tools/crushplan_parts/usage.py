@@ -32,7 +32,8 @@ def usage(plan, asked):
     lists = {it.id: run.lists(it.id, range(it.pg_num)) for it in pools} if asked.groups else {}
     plan.answer(run)
     changes = [PoolChange(it, run.counted(places[it.id]), set(), []) for it in pools]
-    devices = [it for it in devices_of(plan, changes, plan.state, True) if it.after or it.expected_after[0] or not asked.pool]
+    others = devices_of_others(plan)
+    devices = [it for it in devices_of(plan, changes, plan.state, True) if it.after or it.expected_after[0] or not asked.pool and it.id not in others]
     type_ = plan.tree.type_number(asked.by or "osd")
     rows = [row_of(plan, type_, *it) for it in grouped(plan, devices, type_)]
     known = any(it["bytes"] is not None for it in rows)
@@ -46,6 +47,8 @@ def usage(plan, asked):
     if not pools:
         sentence = "unknown: no pool can be computed."
     text = f"Least: {extreme(least)}. Greatest: {extreme(greatest)}." if ranked else ""
+    if others and not asked.pool:
+        text += f"\n{plan.names_of(others)} {'has' if len(others) == 1 else 'have'} copies of pools alone that aren't computed."
     keys = ["name", "device", "host", "copies", "primaries", "share", "percent", "bytes", "used"]
     fields = {"by": heads[0], "pools": [{"pool": it.pool.id, "name": it.pool.name, "copies": it.before.total(), "wanted": it.pool.size * it.pool.pg_num, "bytes": it.pool.bytes} for it in changes], "rows": rows, "least": least, "greatest": greatest}
     blocks, own = [text, Table(heads, table)], [keys] + [[it[key] for key in keys] for it in rows]
@@ -55,6 +58,13 @@ def usage(plan, asked):
         blocks.append(Table(("group", "raw", "up", "primary"), [(it.group_name(group), devices_text(placement.raw), devices_text(placement.up), placement.primary) for it, group, placement in groups], "Groups:"))
         own = [["pool", "group", "id", "raw", "up", "primary"]] + [[it.id, group, it.group_name(group), listed(placement.raw), listed(placement.up), placement.primary] for it, group, placement in groups]
     return Answer(0 if pools else 2, sentence, fields, blocks, own)
+
+
+def devices_of_others(plan):
+    """Returns the devices that only pools reach that aren't computed."""
+    rules = [plan.map.rules.get(plan.cluster.pools[it].rule) for it in plan.left_out]
+    left_out = {device for it in rules if it for device in plan.map.reached(it)}
+    return left_out - {device for it in plan.pools.values() for device in plan.reach(it)}
 
 
 def extreme(row):
