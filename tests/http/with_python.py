@@ -6,7 +6,7 @@ import threading
 import time
 
 from expected import expected, unlike
-from served import Server, asked, message, read_reply
+from served import Server, asked, message, read_reply, script_replies
 
 BROWSER = (
     b"User-Agent: Mozilla/5.0 (X11; Linux x86_64; rv:128.0) Gecko/20100101 Firefox/128.0", b"Accept: text/html,application/xhtml+xml,application/xml;q=0.9,*/*;q=0.8",
@@ -59,6 +59,9 @@ def checks(program, folder):
     pairs = expected(program)
     with Server(program, pathlib.Path(folder, "python.db")) as server:
         yield "http.client over one connection", by_http_client(server, pairs)
-        asked(server, [it for it, _ in pairs[:-2]])
-        reading = [it for it in pairs[:-2] if it[0].startswith(b"GET /t/a/pools")]
-        yield "six connections opened at once", six_connections(server, reading)
+        lines = [it for it, _ in pairs[:-2]]
+        asked(server, lines)
+        # what they read after the whole session, whose later lines change the tenant
+        reading = [it for it in lines if it.startswith(b"GET /t/a/pools")]
+        replies = script_replies(program, lines + reading)[len(lines) :]
+        yield "six connections opened at once", six_connections(server, list(zip(reading, replies, strict=True)))
