@@ -15,6 +15,7 @@ PORT, USERS = 8081, ("root", "www-data", "nobody")
 SCRIPT = f"""
 ip link set lo up
 nft -f "$1" || exit 1
+rm -f "$3.said"
 "$2" serve --db "$3" --port {PORT} >"$3.said" &
 for turn in $(seq 600); do grep -q listening "$3.said" && break; sleep 0.1; done
 for user in {' '.join(USERS)}; do

@@ -64,7 +64,10 @@ def processor_time(folder):
 
 def time_of_requests(port, folder, **known):
     """The ticks that nginx takes for many small requests on one connection."""
-    client, start = Client(port, folder, **known), processor_time(folder)
+    client = Client(port, folder, **known)
+    # once it is answered nginx has its processes
+    client.ask(b"GET /t/shop")
+    start = processor_time(folder)
     found = {client.ask(b"GET /t/shop") for _ in range(REQUESTS)}
     if found != {there(b"shop")}:
         raise Unserved(f"the replies are {found}")
