@@ -9,7 +9,7 @@ import subprocess
 import tempfile
 
 TOP = pathlib.Path(__file__).resolve().parent.parent.parent
-DOCUMENTS = ("README.md", "examples/README.md", "docs/REQUESTS.md", "docs/MAPS.md", "docs/PLANNING.md", "docs/STORE.md")
+DOCUMENTS = ("README.md", "examples/README.md", "docs/REQUESTS.md", "docs/MAPS.md", "docs/PLANNING.md")
 INDENT, PROMPT = "    ", "    $ "
 # what a command's first line ends with that goes on, and what its last line begins with
 LONGER = {"<<'END'": "END", "; do": "done"}
