@@ -110,10 +110,16 @@ function dropGone({ buckets, devices, rules }, there) {
     for (const [id, name] of devices) if (!placed.has(id) && (name === `device${id}` || there?.(id) === false)) devices.delete(id);
 }
 
-// A weight of 65536ths with all its decimals, of which there are 16 at most.
+// A weight of 65536ths with all its decimals, of which there are 16 at most. Many items have the
+// same one.
+const decimals = new Map();
+
 export function exact(weight) {
-    const whole = Math.floor(weight / ONE), rest = BigInt(weight % ONE) * 10n ** 16n / BigInt(ONE);
-    return `${whole}.${rest.toString().padStart(16, "0").replace(/0+$/, "") || "0"}`;
+    if (!decimals.has(weight)) {
+        const rest = BigInt(weight % ONE) * 10n ** 16n / BigInt(ONE);
+        decimals.set(weight, `${Math.floor(weight / ONE)}.${rest.toString().padStart(16, "0").replace(/0+$/, "") || "0"}`);
+    }
+    return decimals.get(weight);
 }
 
 // Names that a text can have, each once: those of the map where they are such names.
@@ -176,11 +182,20 @@ function inOrder(map, wanted) {
     return found;
 }
 
+// Whether crushcalc computes a bucket and all that are below it; `known` is what was found before.
+function computed(map, id, known) {
+    if (!known.has(id)) {
+        const bucket = map.buckets.get(id);
+        known.set(id, !bucket || COMPUTED.has(bucket.alg) && bucket.items.every((it) => it.id === null || it.id >= 0 || computed(map, it.id, known)));
+    }
+    return known.get(id);
+}
+
 // The text of the map for the service: exact weights, the rules that can be computed, and the
 // buckets that it computes. A hole has a device of the weight 0.
 export function textOf(map, more = []) {
     const rules = [...map.rules.values()].filter((it) => !ruleFault(map, it)), taken = new Set(rules.flatMap((it) => it.steps.filter((step) => step[0] === "take").flatMap((step) => [...reach(map, step[1]).buckets])));
-    const wanted = new Set([...map.buckets.values()].filter((it) => taken.has(it.id) || !it.shadow && [...reach(map, it.id).buckets].every((id) => COMPUTED.has(map.buckets.get(id).alg))).map((it) => it.id));
+    const known = new Map(), wanted = new Set([...map.buckets.values()].filter((it) => taken.has(it.id) || !it.shadow && computed(map, it.id, known)).map((it) => it.id));
     const items = [...map.buckets.values()].flatMap((it) => it.items.map((one) => one.id)), ids = [...map.devices.keys(), ...more, ...items.filter((it) => it !== null && it >= 0)];
     let next = Math.max(-1, ...ids) + 1;
     const devices = new Map([...more.map((id) => [id, `osd.${id}`]), ...map.devices]), filled = new Map();

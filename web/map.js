@@ -1,13 +1,31 @@
 // A map, read from the canonical text that the service gives: what contains what, with weights as
 // they are written there, and the rules.
+import { pause } from "./dom.js";
 
-const ONE = 65536;
+const ONE = 65536, BLANKS = /\s+/;
+
+// The words of a line; nearly all lines have single blanks between them, and no remark.
+function wordsOf(line) {
+    const remark = line.indexOf("#"), said = (remark < 0 ? line : line.slice(0, remark)).trim();
+    return said.includes("\t") || said.includes("  ") ? said.split(BLANKS) : said.split(" ");
+}
 
 export function readMap(text) {
+    return joined(...parsed(text));
+}
+
+// The same of a long text, in parts, so that the browser can draw and listen between them.
+export async function readLongMap(text) {
+    const parts = parsed(text);
+    await pause();
+    return joined(...parts);
+}
+
+function parsed(text) {
     const devices = new Map(), buckets = new Map(), rules = [], types = new Map();
     let open = null;
     for (const line of text.split("\n")) {
-        const words = line.replace(/#.*/, "").trim().split(/\s+/);
+        const words = wordsOf(line);
         if (words[0] === "" || words[0] === "tunable") continue;
         if (words[0] === "type" && !open) {
             types.set(words[2], Number(words[1]));
@@ -30,7 +48,7 @@ export function readMap(text) {
             open.steps.push(words.slice(1));
         }
     }
-    return joined(devices, buckets, rules, types);
+    return [devices, buckets, rules, types];
 }
 
 // A weight as the service has it, in 65536ths: its text has five decimals, rounded up.

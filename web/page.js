@@ -3,7 +3,7 @@ import { GivenUp, NotKept, ask, connect, finish, kept } from "./service.js";
 import { meaning } from "./codes.js";
 import { button, el, fault, fresh, labelled, pause, say, sayDone } from "./dom.js";
 import { forgetTenant, known, learn, note, tenants } from "./known.js";
-import { devicesBelow, readMap, signature } from "./map.js";
+import { devicesBelow, readLongMap, readMap, signature } from "./map.js";
 import { LONGEST, dropLeft, leave } from "./copies.js";
 import { Refused, crushIn, filesOf, importMap, mapIn, osdIn, takeOsd, takeSaved, takeStates } from "./take.js";
 import { aboutStraw } from "./refused.js";
@@ -66,7 +66,8 @@ async function readNewest(it, work) {
     const reply = await ask("Read the newest version", "GET", `/t/${it.tenant}/maps/${it.summary.versions}`, undefined, work.signal);
     if (reply.status !== 200) throw new Error(meaning(reply.status, reply.error));
     it.text = reply.text;
-    it.map = readMap(reply.text);
+    await pause();
+    it.map = await readLongMap(reply.text);
 }
 
 class Taken extends Error {}
