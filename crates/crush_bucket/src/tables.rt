@@ -1,20 +1,16 @@
 //! The buckets of a map, ready to be asked.
 
 ghost use Rattle.std.specs.Prelude.{◌≡◌, ◌<◌, ◌<ℤ◌, ◌==◌, ◌^◌, pos, IfOk, IfSome, OnSome, All, length, map};
-ghost use Rattle.crush_bucket.specs.Bucket.{IsItemOf};
+ghost use Rattle.crush_kinds.specs.Bucket.{IsItemOf};
 ghost use Rattle.crush_bucket.specs.Private.Ahead.{ArePicks, IsWidest};
 ghost use Rattle.crush_bucket.specs.Private.Laid.{IsFit};
 ghost use Rattle.crush_bucket.specs.Tables.{tables_of, typed_bucket, bucket_numbered, bucket_at, type_at, kind_at, size_at, pick_at, has_device, perms_of, IsBelow, HasItemsBelow};
 
-use crate::any::{AnyBucket, ByKind};
 use crate::index::index_of;
 use crate::number::{BucketNo, index_place};
 use crate::scratch::Scratch;
 use crate::table_row::{Content, TableRow};
-use crate::tree::TreeBucket;
-use crate::uniform::UniformBucket;
-use crate::uniform_lanes::eight_picks;
-use crate::walks::eight_items;
+use crush_kinds::{AnyBucket, ByKind, TreeBucket, UniformBucket, eight_items, eight_picks};
 use crush_map::{Bucket, CrushMap, Device, ItemId, Kind, Tunables, Weight, buckets_are_sound};
 use std::alloc::{AllocError, Global};
 use std::marker::Model;
@@ -141,7 +137,7 @@ impl Tables {
     }
 
     /// Returns the same where all eight are trees: the lanes of one vector hash a level of each.
-    #[tactic(auto, unfolding(crate::specs::Tables::pick_at, crate::specs::Pick::pick))]
+    #[tactic(auto, unfolding(crate::specs::Tables::pick_at, crush_kinds::specs::Pick::pick))]
     fn pick_trees(&self, buckets: &[BucketNo; 8], xs: &[u32; 8], r: u32) -> Option<[ItemId; 8]>
         ensures { IfSome result (λ items. ArePicks self.now buckets.now xs.now r items) }
     {

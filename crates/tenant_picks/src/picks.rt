@@ -41,7 +41,7 @@ pub struct AskedBucket {
 impl Model for AskedBucket {
     ghost use Rattle.std.specs.Prelude.{◌≡◌};
     ghost use Rattle.crush_bucket.specs.Bucket.{BucketView, CanBeAsked, HasEqualWeights};
-    ghost use Rattle.crush_map.specs.declared.Kind.TheVariants.{Uniform};
+    ghost use Rattle.crush_values.specs.declared.Kind.TheVariants.{Uniform};
 
     ghost Value = { BucketView };
 

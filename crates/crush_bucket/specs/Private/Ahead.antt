@@ -1,10 +1,10 @@
 -- What a scratch has of the tables it is of.
 use Rattle.std.specs.Prelude.{◌≡◌, ℕ, ◌<◌, ◌≤◌, ◌^◌, List, length, slice_index, slice_index_or}
-use Rattle.crush_map.specs.declared.ItemId.{ItemId}
-use Rattle.crush_map.specs.declared.word.Kind.TheVariants.{Uniform}
-use Rattle.crush_bucket.specs.Bucket.{BucketView, IsItemOf}
+use Rattle.crush_values.specs.declared.ItemId.{ItemId}
+use Rattle.crush_values.specs.declared.Kind.TheVariants.{Uniform}
+use Rattle.crush_kinds.specs.Bucket.{BucketView, IsItemOf}
 use Rattle.crush_permutation.specs.Permutation.{no_id}
-use Rattle.crush_bucket.specs.Pick.{pick}
+use Rattle.crush_kinds.specs.Pick.{pick}
 use Rattle.crush_bucket.specs.Tables.{TypedBucket, TablesView, bucket_at, no_bucket, pick_at}
 use Rattle.crush_bucket.specs.declared.scratch.Step.{Step}
 
@@ -18,11 +18,6 @@ pub record IsUniformOf (t : TablesView) (b : BucketView) : Type 0 where
   pub number : ℕ
   pub within : number < length t.buckets
   pub is : bucket_at t number ≡ b
-
--- the item is what a bucket picks, and one of its items
-pub record IsPickedBy (b : BucketView) (x r : ℕ) (item : ItemId) : Type 0 where
-  pub picked : item ≡ pick b x r
-  pub is_item : IsItemOf b.items item
 
 -- the item is what the bucket with a number picks, and one of its items
 pub record IsPick (t : TablesView) (bucket x r : ℕ) (item : ItemId) : Type 0 where

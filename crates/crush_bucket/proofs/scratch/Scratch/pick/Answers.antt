@@ -1,8 +1,8 @@
 use Rattle.std.proofs.Common.{◌≡◌, ◌%◌, length, slice_index, ap, ◌∙◌}
 use Rattle.crush_permutation.specs.Permutation.{permutation}
-use Rattle.crush_bucket.specs.Bucket.{item_at}
-use Rattle.crush_bucket.specs.Kinds.{uniform_pick}
-use Rattle.crush_bucket.specs.Pick.{pick}
+use Rattle.crush_kinds.specs.Bucket.{item_at}
+use Rattle.crush_kinds.specs.Kinds.{uniform_pick}
+use Rattle.crush_kinds.specs.Pick.{pick}
 use Rattle.crush_bucket.proofs.scratch.Scratch.pick.Goals as goal
 
 pub returns-clause-picked : goal.returns-clause-picked

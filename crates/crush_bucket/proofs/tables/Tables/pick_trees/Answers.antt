@@ -1,15 +1,15 @@
 use Rattle.std.proofs.Common.{◌≡◌, ℕ, ◌<◌, arith, slice_index, slice_index_or, refl, ap, subst, ◌∙◌}
 use Rattle.std.proofs.lemmas.Grind.{get_or_default_zero}
-use Rattle.crush_map.specs.declared.ItemId.{ItemId}
-use Rattle.crush_map.specs.declared.Kind.TheVariants.{Tree}
-use Rattle.crush_bucket.specs.Bucket.{BucketView, IsItemOf}
-use Rattle.crush_bucket.specs.Kinds.{tree_pick}
-use Rattle.crush_bucket.specs.Pick.{pick}
+use Rattle.crush_values.specs.declared.ItemId.{ItemId}
+use Rattle.crush_values.specs.declared.Kind.TheVariants.{Tree}
+use Rattle.crush_kinds.specs.Bucket.{BucketView, IsItemOf}
+use Rattle.crush_kinds.specs.Kinds.{tree_pick}
+use Rattle.crush_kinds.specs.Pick.{pick}
 use Rattle.crush_bucket.specs.Tables.{TablesView, bucket_at, pick_at}
 use Rattle.crush_bucket.specs.Private.Ahead.{IsPick}
-use Rattle.crush_bucket.specs.Private.Walks.{IsWalk, IsPickOf}
+use Rattle.crush_kinds.specs.Private.Walks.{IsWalk, IsPickOf}
 use Rattle.crush_permutation.specs.Permutation.{no_id}
-use Rattle.crush_bucket.specs.declared.walks.Walk.{Walk}
+use Rattle.crush_kinds.specs.declared.walks.Walk.{Walk}
 use Rattle.crush_permutation.proofs.Lanes.{below_eight}
 use Rattle.crush_bucket.proofs.tables.Tables.pick_trees.Goals as goal
 

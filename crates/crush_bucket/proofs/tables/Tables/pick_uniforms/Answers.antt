@@ -1,8 +1,8 @@
 use Rattle.std.proofs.Common.{◌≡◌, ℕ, ◌<◌, arith, slice_index, slice_index_or, List, Option, None, Some, IfSome, ap, subst, ◌∙◌}
 use Rattle.std.proofs.lemmas.Grind.{get_or_default_zero}
-use Rattle.crush_map.specs.declared.ItemId.{ItemId}
-use Rattle.crush_bucket.specs.Bucket.{BucketView, IsItemOf}
-use Rattle.crush_bucket.specs.Pick.{pick}
+use Rattle.crush_values.specs.declared.ItemId.{ItemId}
+use Rattle.crush_kinds.specs.Bucket.{BucketView, IsItemOf}
+use Rattle.crush_kinds.specs.Pick.{pick}
 use Rattle.crush_bucket.specs.Tables.{TablesView, bucket_at, pick_at}
 use Rattle.crush_bucket.specs.Private.Ahead.{IsPick, IsPickedBy}
 use Rattle.crush_permutation.specs.Permutation.{no_id}
