@@ -1,8 +1,8 @@
 //! When pools are the same, and what of them is hashed.
 
 ghost use Rattle.std.specs.Prelude.{◌≡◌};
-ghost use Rattle.crush_cache.specs.Hashes.{fed_with, pool_writes};
-ghost use Rattle.crush_cache.specs.Contents.{pool_eq};
+ghost use Rattle.crush_content.specs.Hashes.{fed_with, pool_writes};
+ghost use Rattle.crush_content.specs.Contents.{pool_eq};
 
 use crush_pool::Pool;
 use std::hash::{FoldHasher, Hash, Hasher};

@@ -2,9 +2,10 @@
 
 ghost use Rattle.std.specs.Prelude.{◌≡◌};
 ghost use Rattle.crush_pool.specs.declared.pool.PoolParts.{PoolParts};
-ghost use Rattle.crush_cache.specs.Hashes.{joined_hash};
+ghost use Rattle.crush_content.specs.Hashes.{joined_hash};
 
 use crate::exceptions::SharedExceptions;
+use crate::limits::LONG_TEXT;
 use crate::pools::{feed_pool, is_same_pool};
 use crate::states::SharedStates;
 use crate::text::SharedText;
@@ -13,10 +14,6 @@ use std::alloc::AllocError;
 use std::hash::{FoldHasher, Hash, Hasher};
 use std::marker::Model;
 use std::rc::Rc;
-
-/// The bytes from which on a map's text is long: a placement by a map of one list bucket with as
-/// long a text, and names of 64 bytes, takes longer than all else of a request.
-const LONG_TEXT: usize = 65_536;
 
 /// What placements depend on: the canonical text of a map, all states of devices, a pool, and the
 /// exceptions of the pool. Contracts see these four, of the exceptions the pairs.
@@ -32,7 +29,7 @@ pub struct Content {
 
 impl Model for Content {
     ghost use Rattle.std.specs.Prelude.{◌≡◌};
-    ghost use Rattle.crush_cache.specs.Contents.{Content, content_hash};
+    ghost use Rattle.crush_content.specs.Contents.{Content, content_hash};
 
     ghost Value = { Content };
 
@@ -55,8 +52,8 @@ fn hash_of(text: u64, states: u64, pairs: u64, pool: &Pool) -> u64
 
 impl Content {
     ghost use Rattle.std.specs.Prelude.{◌≡◌, IfOk, length, nat_le};
-    ghost use Rattle.crush_cache.specs.Contents.{content_eq};
-    ghost use Rattle.crush_cache.specs.declared.content.TheConstants.{LONG_TEXT};
+    ghost use Rattle.crush_content.specs.Contents.{content_eq};
+    ghost use Rattle.crush_content.specs.declared.limits.TheConstants.{LONG_TEXT};
 
     /// The content of these. Takes no memory, and time that doesn't depend on the lengths of the
     /// text, of the states and of the exceptions.
@@ -79,7 +76,7 @@ impl Content {
     }
 
     /// Whether the text is long.
-    pub(crate) fn is_long(&self) -> bool
+    pub fn is_long(&self) -> bool
         ensures { result ≡ nat_le LONG_TEXT (length self.now.text) }
     {
         self.text.as_str().len() >= LONG_TEXT
@@ -111,8 +108,8 @@ impl Content {
 }
 
 impl PartialEq for Content {
-    ghost use Rattle.crush_cache.specs.Contents.{content_eq};
-    ghost use Rattle.crush_cache.specs.Laws.{content_laws};
+    ghost use Rattle.crush_content.specs.Contents.{content_eq};
+    ghost use Rattle.crush_content.specs.Laws.{content_laws};
 
     ghost eq = { content_eq };
 
@@ -125,14 +122,14 @@ impl PartialEq for Content {
 }
 
 impl Eq for Content {
-    ghost use Rattle.crush_cache.specs.Laws.{content_laws};
+    ghost use Rattle.crush_content.specs.Laws.{content_laws};
 
     ghost laws = { content_laws.1 };
 }
 
 impl Hash for Content {
-    ghost use Rattle.crush_cache.specs.Contents.{content_writes};
-    ghost use Rattle.crush_cache.specs.Laws.{content_respects};
+    ghost use Rattle.crush_content.specs.Contents.{content_writes};
+    ghost use Rattle.crush_content.specs.Laws.{content_respects};
 
     ghost hash_input = { content_writes };
 
