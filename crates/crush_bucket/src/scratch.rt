@@ -89,14 +89,14 @@ impl<'a> Scratch<'a> {
     ghost use Rattle.std.specs.Prelude.{◌≡◌, IfOk, IfSome};
     ghost use Rattle.crush_kinds.specs.Bucket.{IsItemOf};
     ghost use Rattle.crush_kinds.specs.Pick.{pick};
-    ghost use Rattle.crush_bucket.specs.Tables.{perms_of};
+    ghost use Rattle.crush_bucket.specs.Tables.{scratch_of};
     ghost use Rattle.crush_bucket.specs.Private.Ahead.{IsPick, IsUniformOf};
 
     /// Returns the scratch of tables, with few permutations of uniform buckets, for a few inputs.
     ///
     /// `Err(AllocError)`: an allocation failed; nothing is changed.
     pub fn build(alloc: Global, tables: &'a Tables) -> Result<Scratch<'a>, AllocError>
-        ensures { IfOk result (λ s. s ≡ perms_of tables.now) }
+        ensures { IfOk result (λ s. s ≡ scratch_of tables.now) }
     {
         Scratch::with_slots(alloc, tables, FEW_SLOTS, FEW_PAIRS)
     }
@@ -106,7 +106,7 @@ impl<'a> Scratch<'a> {
     ///
     /// `Err(AllocError)`: an allocation failed; nothing is changed.
     pub fn for_many(alloc: Global, tables: &'a Tables) -> Result<Scratch<'a>, AllocError>
-        ensures { IfOk result (λ s. s ≡ perms_of tables.now) }
+        ensures { IfOk result (λ s. s ≡ scratch_of tables.now) }
     {
         Scratch::with_slots(alloc, tables, tables.len(), MANY_PAIRS)
     }
@@ -118,7 +118,7 @@ impl<'a> Scratch<'a> {
         most: usize,
         pairs: usize,
     ) -> Result<Scratch<'a>, AllocError>
-        ensures { IfOk result (λ s. s ≡ perms_of tables.now) }
+        ensures { IfOk result (λ s. s ≡ scratch_of tables.now) }
     {
         let widest = tables.widest();
         let slots = (pairs / widest.max(1)).max(LEAST_SLOTS).min(most);

@@ -4,7 +4,7 @@ ghost use Rattle.std.specs.Prelude.{◌≡◌, ◌<◌, ◌<ℤ◌, ◌==◌, �
 ghost use Rattle.crush_kinds.specs.Bucket.{IsItemOf};
 ghost use Rattle.crush_bucket.specs.Private.Ahead.{ArePicks, IsWidest};
 ghost use Rattle.crush_bucket.specs.Private.Laid.{IsFit};
-ghost use Rattle.crush_bucket.specs.Tables.{tables_of, typed_bucket, bucket_numbered, bucket_at, type_at, kind_at, size_at, pick_at, has_device, perms_of, IsBelow, HasItemsBelow};
+ghost use Rattle.crush_bucket.specs.Tables.{tables_of, typed_bucket, bucket_numbered, bucket_at, type_at, kind_at, size_at, pick_at, has_device, scratch_of, IsBelow, HasItemsBelow};
 
 use crate::index::index_of;
 use crate::number::{BucketNo, index_place};
@@ -250,7 +250,7 @@ impl Tables {
     pub fn pick(&self, bucket: BucketNo, scratch: &mut Scratch, x: u32, r: u32) -> ItemId
         requires within { bucket < length self.now.buckets }
         requires some { 0 < size_at self.now bucket }
-        requires fits { scratch.old ≡ perms_of self.now }
+        requires fits { scratch.old ≡ scratch_of self.now }
         ensures picked { result ≡ pick_at self.now bucket x r }
         ensures item { IsItemOf (bucket_at self.now bucket).items result }
         ensures below { IsBelow self.now bucket result }

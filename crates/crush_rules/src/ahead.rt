@@ -4,7 +4,7 @@
 //! answer, only how soon it is there.
 
 ghost use Rattle.std.specs.Prelude.{◌≡◌};
-ghost use Rattle.crush_bucket.specs.Tables.{perms_of};
+ghost use Rattle.crush_bucket.specs.Tables.{scratch_of};
 
 use crate::rule::reps;
 use crush_bucket::{BucketNo, LANES, Scratch, Tables};
@@ -69,8 +69,8 @@ fn walk_ahead(
     r: u32,
     wanted: u32,
 ) -> Option<[BucketNo; LANES]>
-    requires { scratch.old ≡ perms_of tables.now }
-    ensures { scratch.new ≡ perms_of tables.now }
+    requires { scratch.old ≡ scratch_of tables.now }
+    ensures { scratch.new ≡ scratch_of tables.now }
 {
     let mut at = from;
     'down: for _ in 0..DEPTH_LIMIT {
@@ -94,8 +94,8 @@ fn walk_ahead(
 
 /// Picks ahead what a choose step asks for below a bucket.
 fn choose_ahead(tables: &Tables, scratch: &mut Scratch, guess: &Guess, bucket: BucketNo)
-    requires { scratch.old ≡ perms_of tables.now }
-    ensures { scratch.new ≡ perms_of tables.now }
+    requires { scratch.old ≡ scratch_of tables.now }
+    ensures { scratch.new ≡ scratch_of tables.now }
 {
     for rep in 0..guess.reps.min(REP_LIMIT) {
         let found = walk_ahead(tables, scratch, [bucket; LANES], rep, guess.wanted);
@@ -126,8 +126,8 @@ pub fn can_look_ahead(tables: &Tables, rule: &Rule) -> bool {
 /// `size` slots. What the rule answers afterwards is the same, for these inputs and for others. It
 /// may allocate; where that fails less is picked ahead.
 pub fn look_ahead(tables: &Tables, scratch: &mut Scratch, rule: &Rule, xs: [u32; LANES], size: u32)
-    requires { scratch.old ≡ perms_of tables.now }
-    ensures { scratch.new ≡ perms_of tables.now }
+    requires { scratch.old ≡ scratch_of tables.now }
+    ensures { scratch.new ≡ scratch_of tables.now }
 {
     scratch.turn_to(xs);
     let tunables = tables.tunables();

@@ -1,7 +1,7 @@
 //! Picks that are made ahead for eight inputs at once, beside their plain form.
 
 ghost use Rattle.std.specs.Prelude.{◌≡◌};
-ghost use Rattle.crush_bucket.specs.Tables.{perms_of};
+ghost use Rattle.crush_bucket.specs.Tables.{scratch_of};
 
 use crate::buckets::next;
 use crate::drafts::{ONE, SOUND, Short, draft, entries};
@@ -133,8 +133,8 @@ fn assert_pick(
     x: u32,
     r: u32,
 ) -> Result<(), AllocError>
-    requires { scratch.old ≡ perms_of tables.now }
-    ensures { scratch.new ≡ perms_of tables.now }
+    requires { scratch.old ≡ scratch_of tables.now }
+    ensures { scratch.new ≡ scratch_of tables.now }
 {
     let Some(bucket) = tables.bucket_of(ItemId(-1 - (n % COUNT) as i32)) else {
         return rt.abort();
@@ -161,8 +161,8 @@ fn assert_ahead(
     xs: [u32; LANES],
     r: u32,
 ) -> Result<(), AllocError>
-    requires { scratch.old ≡ perms_of tables.now }
-    ensures { scratch.new ≡ perms_of tables.now }
+    requires { scratch.old ≡ scratch_of tables.now }
+    ensures { scratch.new ≡ scratch_of tables.now }
 {
     let mut buckets = [BucketNo::new(0); LANES];
     for lane in 0..LANES {

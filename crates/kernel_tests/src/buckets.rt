@@ -2,7 +2,7 @@
 
 ghost use Rattle.std.specs.Prelude.{◌≡◌, ◌<◌, ◌^◌};
 ghost use Rattle.crush_bucket.specs.Pick.{perm_of};
-ghost use Rattle.crush_bucket.specs.Tables.{perms_of};
+ghost use Rattle.crush_bucket.specs.Tables.{scratch_of};
 
 use crate::drafts::{ONE, SOUND, Short, draft, entries};
 use crate::plain;
@@ -350,7 +350,7 @@ fn assert_picks(
     tables: &Tables,
     scratch: &mut Scratch,
 ) -> Result<(), AllocError>
-    requires fits { scratch.old ≡ perms_of tables.now }
+    requires fits { scratch.old ≡ scratch_of tables.now }
 {
     let (Some(root), Some(list)) = (tables.bucket_of(ItemId(-1)), tables.bucket_of(ItemId(-2)))
     else {
