@@ -1,9 +1,3 @@
-pub use Rattle.crush_kinds.specs.Appended
-pub use Rattle.crush_kinds.specs.Bucket
-pub use Rattle.crush_kinds.specs.Eight
-pub use Rattle.crush_kinds.specs.Kinds
-pub use Rattle.crush_kinds.specs.Pick
-pub use Rattle.crush_kinds.specs.Pickable
 pub mod Laws
 pub mod Private
 pub mod Tables

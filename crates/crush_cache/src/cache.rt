@@ -5,7 +5,7 @@ ghost use Rattle.crush_pool.specs.Placements.{placement};
 ghost use Rattle.crush_cache.specs.Caches.{IsNumberOf, KeepsNumbers, WasNumberOf};
 ghost use Rattle.crush_content.specs.Contents.{Content, content_eq, content_of};
 ghost use Rattle.crush_cache.specs.Private.Entries.{IsPlacementIn, IsPlacementOf};
-ghost use Rattle.crush_content.specs.declared.limits.TheConstants.{LONG_TEXT};
+ghost use Rattle.crush_content.specs.declared.content.TheConstants.{LONG_TEXT};
 ghost use Rattle.crush_cache.specs.declared.limits.TheConstants.{CONTENT_LIMIT};
 
 use crate::entries::{Entries, Key, keep, recall};

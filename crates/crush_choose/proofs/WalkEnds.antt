@@ -8,9 +8,9 @@ use Rattle.std.proofs.lemmas.List.{get_or-replicate, length-replicate}
 use Rattle.std.proofs.lemmas.List.Folds.{list_any_at}
 use Rattle.crush_values.specs.declared.ItemId.{ItemId}
 use Rattle.crush_map.specs.declared.limits.TheConstants.{BUCKET_LIMIT}
-use Rattle.crush_bucket.specs.Bucket.{BucketView, WeightedItem, no_item, item_at, IsItemOf}
-use Rattle.crush_bucket.specs.Pick.{pick}
-use Rattle.crush_bucket.specs.Pickable.{pickable}
+use Rattle.crush_kinds.specs.Bucket.{BucketView, WeightedItem, no_item, item_at, IsItemOf}
+use Rattle.crush_kinds.specs.Pick.{pick}
+use Rattle.crush_kinds.specs.Pickable.{pickable}
 use Rattle.crush_bucket.specs.Tables.{TablesView, bucket_at, type_at, size_at, pick_at, bucket_numbered, HasItemsBelow}
 use Rattle.crush_choose.specs.declared.walk.Reached.{Reached}
 use Rattle.crush_choose.specs.declared.walk.Reached.TheVariants.{Empty, Wrong, Found}

@@ -17,8 +17,8 @@ use crate::reachable::can_choose;
 use crate::row::{Row, Slot};
 use crate::walk::{Attempts, Reached, reach};
 use crate::weights::{Weights, is_device_in};
-use crush_bucket::laws::a_pick_is_pickable;
 use crush_bucket::{BucketNo, Scratch, Tables};
+use crush_kinds::laws::a_pick_is_pickable;
 use crush_map::ItemId;
 
 /// The parameters of a call of `choose_indep`.

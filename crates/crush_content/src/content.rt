@@ -5,7 +5,6 @@ ghost use Rattle.crush_pool.specs.declared.pool.PoolParts.{PoolParts};
 ghost use Rattle.crush_content.specs.Hashes.{joined_hash};
 
 use crate::exceptions::SharedExceptions;
-use crate::limits::LONG_TEXT;
 use crate::pools::{feed_pool, is_same_pool};
 use crate::states::SharedStates;
 use crate::text::SharedText;
@@ -14,6 +13,10 @@ use std::alloc::AllocError;
 use std::hash::{FoldHasher, Hash, Hasher};
 use std::marker::Model;
 use std::rc::Rc;
+
+/// The bytes from which on a map's text is long: a placement by a map of one list bucket with as
+/// long a text, and names of 64 bytes, takes longer than all else of a request.
+pub const LONG_TEXT: usize = 65_536;
 
 /// What placements depend on: the canonical text of a map, all states of devices, a pool, and the
 /// exceptions of the pool. Contracts see these four, of the exceptions the pairs.
@@ -53,7 +56,7 @@ fn hash_of(text: u64, states: u64, pairs: u64, pool: &Pool) -> u64
 impl Content {
     ghost use Rattle.std.specs.Prelude.{◌≡◌, IfOk, length, nat_le};
     ghost use Rattle.crush_content.specs.Contents.{content_eq};
-    ghost use Rattle.crush_content.specs.declared.limits.TheConstants.{LONG_TEXT};
+    ghost use Rattle.crush_content.specs.declared.content.TheConstants.{LONG_TEXT};
 
     /// The content of these. Takes no memory, and time that doesn't depend on the lengths of the
     /// text, of the states and of the exceptions.

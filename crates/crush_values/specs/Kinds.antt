@@ -1,8 +1,8 @@
 -- The names of the kinds of buckets, as Ceph's CRUSH map manual has them.
 use Rattle.std.specs.Prelude.{ℕ, List, Option, Some, None, codes, if◌then◌else◌}
 use Rattle.std.specs.Str.{bytes_eq}
-use Rattle.crush_values.specs.declared.Kind.{Kind}
-use Rattle.crush_values.specs.declared.Kind.TheVariants.{Uniform, List as ListKind, Tree}
+use Rattle.crush_values.specs.declared.word.Kind.{Kind}
+use Rattle.crush_values.specs.declared.word.Kind.TheVariants.{Uniform, List as ListKind, Tree}
 
 abbrev pub kind_name : Kind → List ℕ
 kind_name Uniform = codes "uniform"

@@ -1,8 +1,8 @@
 -- Weights of a bucket's items, in 16.16 fixed point.
 use Rattle.std.specs.Prelude.{ℕ, ◌==◌, Bool, true, List, [], ◌∷◌, sum_by}
 use Rattle.std.specs.List.{list_all}
-use Rattle.crush_values.specs.declared.ItemId.{ItemId}
-use Rattle.crush_values.specs.declared.Weight.{Weight}
+use Rattle.crush_values.specs.declared.word.ItemId.{ItemId}
+use Rattle.crush_values.specs.declared.word.Weight.{Weight}
 
 -- the sum of the weights
 abbrev pub total_weight : List (ItemId × Weight) → ℕ

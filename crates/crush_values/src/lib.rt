@@ -1,5 +1,5 @@
-//! Values that many crates share: ids of items, weights and kinds of buckets; and texts, lists and a
-//! value for each device, which contracts see without their memory.
+//! Values that many crates share: ids of items, weights and kinds of buckets; and texts, lists and
+//! a value for each device, which contracts see without their memory.
 //!
 //! The tests are in the crate `map_tests`.
 #![tactic(auto)]

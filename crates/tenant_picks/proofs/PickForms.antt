@@ -8,7 +8,7 @@ use Rattle.std.proofs.lemmas.Int.{ints}
 use Rattle.std.proofs.lemmas.Slice.Eq.{bytes_eq-Decides}
 use Rattle.serde_json.specs.Data.{Data}
 use Rattle.serde_json.specs.Find.{as_str}
-use Rattle.crush_bucket.specs.Bucket.{BucketView, WeightedItem, total_weight, HasEqualWeights}
+use Rattle.crush_kinds.specs.Bucket.{BucketView, WeightedItem, total_weight, HasEqualWeights}
 use Rattle.crush_map.specs.Faults.{is_uniform}
 use Rattle.crush_values.specs.Weights.{has_equal_weights}
 use Rattle.crush_map.specs.declared.limits.TheConstants.{ITEM_LIMIT, NUMBER_LIMIT, TOTAL_WEIGHT_LIMIT}

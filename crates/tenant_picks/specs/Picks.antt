@@ -4,8 +4,8 @@ use Rattle.std.specs.Prelude.{ℕ, ◌≡◌, ◌≢◌, ◌≤◌, ◌&&◌, �
 use Rattle.std.specs.List.{All, AllPairs, list_any}
 use Rattle.serde_json.specs.Data.{Data, number, object}
 use Rattle.serde_json.specs.Find.{as_str, of_integer}
-use Rattle.crush_bucket.specs.Bucket.{BucketView, WeightedItem, total_weight, HasEqualWeights}
-use Rattle.crush_bucket.specs.Pick.{pick}
+use Rattle.crush_kinds.specs.Bucket.{BucketView, WeightedItem, total_weight, HasEqualWeights}
+use Rattle.crush_kinds.specs.Pick.{pick}
 use Rattle.crush_map.specs.Faults.{is_uniform}
 use Rattle.crush_values.specs.Weights.{has_equal_weights}
 use Rattle.crush_values.specs.declared.ItemId.{ItemId}
