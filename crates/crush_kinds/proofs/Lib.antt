@@ -6,5 +6,6 @@ pub mod Lanes
 pub mod Nodes
 pub mod Pickable
 pub mod Picking
+pub mod Ways
 pub mod Weighed
 pub mod Weights

@@ -45,8 +45,15 @@ pub node_weight : (items : List WeightedItem) (nodes : List ℕ) (from h : ℕ) 
 node_weight items nodes from zero has = has
 node_weight items nodes from (suc h) has = has.0
 
-pub at_root : (id : ItemId) (items : List WeightedItem) (nodes : List ℕ) (x r height : ℕ) → HasNodes items nodes 0 height → AtNode id items nodes x r height height (2 ^ height)
-at_root id items nodes x r height has = record { from = 0; labelled = omega arith; within = omega arith; weighed = has; rest = refl }
+pub at_root : (id : ItemId) (items : List WeightedItem) (x r height : ℕ) → AtNode id items x r height height (2 ^ height)
+at_root id items x r height = record { from = 0; labelled = omega arith; within = omega arith; weighed = λ nodes has. has; rest = refl }
+
+-- the nodes of the halves of a range
+left_half : (items : List WeightedItem) (nodes : List ℕ) (from h : ℕ) → HasNodes items nodes from (suc h) → HasNodes items nodes from h
+left_half items nodes from h has = has.1
+
+right_half : (items : List WeightedItem) (nodes : List ℕ) (from h : ℕ) → HasNodes items nodes from (suc h) → HasNodes items nodes (from + 2 ^ h) h
+right_half items nodes from h has = has.2
 
 -- the draw as the walk makes it
 abbrev pub drawn : ItemId → List ℕ → ℕ → ℕ → ℕ → ℕ
@@ -64,34 +71,34 @@ goes_right : (id : ItemId) (items : List WeightedItem) (x r from h : ℕ) → we
 goes_right id items x r from h more =
     let not : nat_lt (tree_draw id items x r from (suc h)) (weight_within items from (2 ^ h)) ≡ false = grind (arith, nat_tests) in rw not refl
 
-pub at_left : (id : ItemId) (items : List WeightedItem) (nodes : List ℕ) (x r height h node : ℕ) → AtNode id items nodes x r height (suc h) node → drawn id nodes x r node < slice_index nodes (node - 2 ^ h) → AtNode id items nodes x r height h (node - 2 ^ h)
-at_left id items nodes x r height h node at less =
+pub at_left : (id : ItemId) (items : List WeightedItem) (nodes : List ℕ) (x r height h node : ℕ) → HasNodes items nodes 0 height → AtNode id items x r height (suc h) node → drawn id nodes x r node < slice_index nodes (node - 2 ^ h) → AtNode id items x r height h (node - 2 ^ h)
+at_left id items nodes x r height h node whole at less =
     let from = at.from in
     let double = pow-succ' 2 h in
     let lab : node ≡ label from (suc h) = at.labelled in
     let left : node - 2 ^ h ≡ label from h = omega (arith, lab, double) in
-    let has : HasNodes items nodes from (suc h) = at.weighed in
+    let has : HasNodes items nodes from (suc h) = at.weighed nodes whole in
     let draw = drawn_is id items nodes x r from (suc h) node lab has in
     let weight : slice_index nodes (node - 2 ^ h) ≡ weight_within items from (2 ^ h) = rw left (node_weight items nodes from h has.1) in
     let below : tree_draw id items x r from (suc h) < weight_within items from (2 ^ h) = omega (arith, less, draw, weight) in
-    record { from = from; labelled = left; within = omega (arith, at.within, double); weighed = has.1; rest = at.rest ∙ goes_left id items x r from h below }
+    record { from = from; labelled = left; within = omega (arith, at.within, double); weighed = λ all is. left_half items all from h (at.weighed all is); rest = at.rest ∙ goes_left id items x r from h below }
 
-pub at_right : (id : ItemId) (items : List WeightedItem) (nodes : List ℕ) (x r height h node : ℕ) → AtNode id items nodes x r height (suc h) node → slice_index nodes (node - 2 ^ h) ≤ drawn id nodes x r node → AtNode id items nodes x r height h (node + 2 ^ h)
-at_right id items nodes x r height h node at more =
+pub at_right : (id : ItemId) (items : List WeightedItem) (nodes : List ℕ) (x r height h node : ℕ) → HasNodes items nodes 0 height → AtNode id items x r height (suc h) node → slice_index nodes (node - 2 ^ h) ≤ drawn id nodes x r node → AtNode id items x r height h (node + 2 ^ h)
+at_right id items nodes x r height h node whole at more =
     let from = at.from in
     let double = pow-succ' 2 h in
     let lab : node ≡ label from (suc h) = at.labelled in
     let left : node - 2 ^ h ≡ label from h = omega (arith, lab, double) in
     let right : node + 2 ^ h ≡ label (from + 2 ^ h) h = omega (arith, lab, double) in
-    let has : HasNodes items nodes from (suc h) = at.weighed in
+    let has : HasNodes items nodes from (suc h) = at.weighed nodes whole in
     let draw = drawn_is id items nodes x r from (suc h) node lab has in
     let weight : slice_index nodes (node - 2 ^ h) ≡ weight_within items from (2 ^ h) = rw left (node_weight items nodes from h has.1) in
     let above : weight_within items from (2 ^ h) ≤ tree_draw id items x r from (suc h) = omega (arith, more, draw, weight) in
-    record { from = from + 2 ^ h; labelled = right; within = omega (arith, at.within, double); weighed = has.2; rest = at.rest ∙ goes_right id items x r from h above }
+    record { from = from + 2 ^ h; labelled = right; within = omega (arith, at.within, double); weighed = λ all is. right_half items all from h (at.weighed all is); rest = at.rest ∙ goes_right id items x r from h above }
 
 -- a node of a tree has a label in the list of nodes
-pub node_inside : (id : ItemId) (items : List WeightedItem) (nodes : List ℕ) (x r height h node : ℕ) → AtNode id items nodes x r height h node → (2 ^ h ≤ node) × (node + 2 ^ h ≤ 2 ^ suc height)
-node_inside id items nodes x r height h node at = let l = at.labelled in let w = at.within in (omega arith, omega (arith, pow-succ' 2 height))
+pub node_inside : (id : ItemId) (items : List WeightedItem) (x r height h node : ℕ) → AtNode id items x r height h node → (2 ^ h ≤ node) × (node + 2 ^ h ≤ 2 ^ suc height)
+node_inside id items x r height h node at = let l = at.labelled in let w = at.within in (omega arith, omega (arith, pow-succ' 2 height))
 
 -- the nodes of a range that has halves
 pub nodes_split : (items : List WeightedItem) (from h : ℕ) → 0 < h → node_weights items from h ≡ node_weights items from (h - 1) ++ weight_within items from (2 ^ h) ∷ node_weights items (from + 2 ^ (h - 1)) (h - 1)
@@ -107,25 +114,25 @@ joined old low high a b d w p q r =
 -- ---- levels at a time
 
 -- the child to which a node's hash leads
-pub step_down : (id : ItemId) (items : List WeightedItem) (nodes : List ℕ) (x r height h node : ℕ) → AtNode id items nodes x r height (suc h) node → AtNode id items nodes x r height h (child nodes (hash4 x node r (word id)) node (2 ^ h))
-step_down id items nodes x r height h node at =
-    let go : (b : Bool) → is_left nodes (hash4 x node r (word id)) node (2 ^ h) ≡ b → AtNode id items nodes x r height h (child nodes (hash4 x node r (word id)) node (2 ^ h)) = λ b. elim b as (λ b. is_left nodes (hash4 x node r (word id)) node (2 ^ h) ≡ b → AtNode id items nodes x r height h (child nodes (hash4 x node r (word id)) node (2 ^ h))) [
-      | true ↦ λ e. (let less : drawn id nodes x r node < slice_index nodes (node - 2 ^ h) = grind (arith, nat_tests, e) in rw e (at_left id items nodes x r height h node at less))
-      | false ↦ λ e. (let more : slice_index nodes (node - 2 ^ h) ≤ drawn id nodes x r node = grind (arith, nat_tests, e) in rw e (at_right id items nodes x r height h node at more))
+pub step_down : (id : ItemId) (items : List WeightedItem) (nodes : List ℕ) (x r height h node : ℕ) → HasNodes items nodes 0 height → AtNode id items x r height (suc h) node → AtNode id items x r height h (child nodes (hash4 x node r (word id)) node (2 ^ h))
+step_down id items nodes x r height h node whole at =
+    let go : (b : Bool) → is_left nodes (hash4 x node r (word id)) node (2 ^ h) ≡ b → AtNode id items x r height h (child nodes (hash4 x node r (word id)) node (2 ^ h)) = λ b. elim b as (λ b. is_left nodes (hash4 x node r (word id)) node (2 ^ h) ≡ b → AtNode id items x r height h (child nodes (hash4 x node r (word id)) node (2 ^ h))) [
+      | true ↦ λ e. (let less : drawn id nodes x r node < slice_index nodes (node - 2 ^ h) = grind (arith, nat_tests, e) in rw e (at_left id items nodes x r height h node whole at less))
+      | false ↦ λ e. (let more : slice_index nodes (node - 2 ^ h) ≤ drawn id nodes x r node = grind (arith, nat_tests, e) in rw e (at_right id items nodes x r height h node whole at more))
     ] in go (is_left nodes (hash4 x node r (word id)) node (2 ^ h)) refl
 
 -- the node so many levels below
-pub down_is : (id : ItemId) (items : List WeightedItem) (nodes : List ℕ) (x r height k level node : ℕ) → k ≤ level → AtNode id items nodes x r height level node → AtNode id items nodes x r height (level - k) (down_by id nodes x r k level node)
-down_is id items nodes x r height zero level node few at = let e : level - 0 ≡ level = omega arith in rw e at
-down_is id items nodes x r height (suc k) level node few at =
+pub down_is : (id : ItemId) (items : List WeightedItem) (nodes : List ℕ) (x r height k level node : ℕ) → k ≤ level → HasNodes items nodes 0 height → AtNode id items x r height level node → AtNode id items x r height (level - k) (down_by id nodes x r k level node)
+down_is id items nodes x r height zero level node few whole at = let e : level - 0 ≡ level = omega arith in rw e at
+down_is id items nodes x r height (suc k) level node few whole at =
     let e : level ≡ suc (level - 1) = omega arith in
-    let above : AtNode id items nodes x r height (suc (level - 1)) node = subst (λ (l : ℕ). AtNode id items nodes x r height l node) e at in
+    let above : AtNode id items x r height (suc (level - 1)) node = subst (λ (l : ℕ). AtNode id items x r height l node) e at in
     let left : level - suc k ≡ level - 1 - k = omega arith in
-    rw left (down_is id items nodes x r height k (level - 1) (child nodes (hash4 x node r (word id)) node (2 ^ (level - 1))) (omega arith) (step_down id items nodes x r height (level - 1) node above))
+    rw left (down_is id items nodes x r height k (level - 1) (child nodes (hash4 x node r (word id)) node (2 ^ (level - 1))) (omega arith) whole (step_down id items nodes x r height (level - 1) node whole above))
 
 -- the walk's end
-pub at_leaf : (id : ItemId) (items : List WeightedItem) (nodes : List ℕ) (x r height node : ℕ) → AtNode id items nodes x r height 0 node → node / 2 ≡ place_within id items x r 0 height
-at_leaf id items nodes x r height node at =
+pub at_leaf : (id : ItemId) (items : List WeightedItem) (x r height node : ℕ) → AtNode id items x r height 0 node → node / 2 ≡ place_within id items x r 0 height
+at_leaf id items x r height node at =
     let l = at.labelled in let here : node / 2 ≡ at.from = omega arith in here ∙ sym at.rest
 
 -- a range of 2^level places is four of two levels below, and a range of those two of three below

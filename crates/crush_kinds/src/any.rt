@@ -1,21 +1,22 @@
 //! A bucket of any kind.
 
-ghost use Rattle.std.specs.Prelude.{◌≡◌, ◌<◌, ◌^◌, IfOk, length};
-ghost use Rattle.crush_kinds.specs.Bucket.{HasEqualWeights, total_weight};
+ghost use Rattle.std.specs.Prelude.{◌≡◌, ◌<◌, ◌≤◌, ◌^◌, IfOk, IfSome, length};
+ghost use Rattle.crush_kinds.specs.Bucket.{HasEqualWeights, IsItemOf, total_weight};
+ghost use Rattle.crush_kinds.specs.Pick.{pick};
 ghost use Rattle.crush_kinds.specs.Private.ByKind.{bucket_of};
 
 use crate::list::ListBucket;
 use crate::picker::Picker;
 use crate::tree::TreeBucket;
 use crate::uniform::UniformBucket;
-use crush_permutation::Perm;
+use crush_permutation::{Perm, Perms};
 use crush_values::{ItemId, Kind, Weight};
 use std::alloc::{AllocError, Global};
 use std::marker::Model;
 
 /// A bucket that has an item, by its kind.
 #[derive(Drop)]
-pub enum ByKind {
+pub(crate) enum ByKind {
     Uniform(UniformBucket),
     List(ListBucket),
     Tree(TreeBucket),
@@ -106,12 +107,40 @@ impl AnyBucket {
         }
     }
 
-    /// The bucket, by its kind.
-    #[inline]
-    pub fn by_kind(&self) -> &ByKind
-        ensures { bucket_of result.now ≡ self.now }
+    /// The bucket, where it is a tree.
+    pub fn tree(&self) -> Option<&TreeBucket>
+        ensures { IfSome result (λ tree. tree.now ≡ self.now) }
     {
-        &self.by_kind
+        match &self.by_kind {
+            ByKind::Tree(bucket) => Some(bucket),
+            _ => None,
+        }
+    }
+
+    /// The bucket, where it is uniform.
+    pub fn uniform(&self) -> Option<&UniformBucket>
+        ensures { IfSome result (λ uniform. uniform.now ≡ self.now) }
+    {
+        match &self.by_kind {
+            ByKind::Uniform(bucket) => Some(bucket),
+            _ => None,
+        }
+    }
+
+    /// The item that is picked for an input and an attempt, by permutations of several buckets, of
+    /// which this one has a number, whatever they were asked before. Allocates nothing.
+    #[inline]
+    pub fn pick_by(&self, perms: &mut Perms, number: usize, x: u32, r: u32) -> ItemId
+        requires room { self.now.kind ≡ Kind.Uniform → length self.now.items ≤ perms.old }
+        ensures picked { result ≡ pick self.now x r }
+        ensures item { IsItemOf self.now.items result }
+        ensures same { perms.new ≡ perms.old }
+    {
+        match &self.by_kind {
+            ByKind::Uniform(bucket) => bucket.pick_by(perms, number, x, r),
+            ByKind::List(bucket) => bucket.item_for(x, r),
+            ByKind::Tree(bucket) => bucket.item_for(x, r),
+        }
     }
 }
 

@@ -17,12 +17,12 @@ mod uniform;
 mod uniform_lanes;
 mod walks;
 
-pub use any::{AnyBucket, ByKind};
+pub use any::AnyBucket;
 pub use crush_permutation::Perm;
 pub use list::ListBucket;
 pub use picker::Picker;
 pub use sums::can_be_asked;
 pub use tree::TreeBucket;
 pub use uniform::UniformBucket;
-pub use uniform_lanes::eight_picks;
-pub use walks::{Walk, eight_items};
+pub use uniform_lanes::pick_uniforms;
+pub use walks::pick_trees;

@@ -84,7 +84,7 @@ impl ListBucket {
 
     /// Returns the item that is picked.
     #[tactic(auto, unfolding(crate::specs::Kinds::list_pick, crate::specs::Pick::pick))]
-    pub fn item_for(&self, x: u32, r: u32) -> ItemId
+    pub(crate) fn item_for(&self, x: u32, r: u32) -> ItemId
         ensures picked { result ≡ pick self.now x r }
         ensures item { IsItemOf self.now.items result }
     {

@@ -4,13 +4,13 @@ ghost use Rattle.std.specs.Prelude.{◌≡◌, ◌<◌, ◌≤◌, ◌+◌, ◌*
 ghost use Rattle.crush_kinds.specs.Bucket.{CanBeAsked, IsItemOf, total_weight};
 ghost use Rattle.crush_kinds.specs.Pick.{pick};
 ghost use Rattle.crush_kinds.specs.Kinds.{height_of, place_within};
-ghost use Rattle.crush_kinds.specs.Private.Walks.{IsWalk};
+ghost use Rattle.crush_kinds.specs.Private.Walks.{tree_height, IsNode, GoesOn, IsPickAt};
 ghost use Rattle.crush_kinds.specs.Private.Kept.{AreNodes, HasNodes, node_weights};
 
-use crate::descent::{down, last_down, places};
+use crate::descent::{child, down, last_down, places};
 use crate::picker::Picker;
 use crate::sums::weight_within;
-use crate::walks::{Walk, eight_items};
+use crate::walks::pick_trees;
 use crush_permutation::Perm;
 use crush_values::{ItemId, Kind, Weight};
 use std::alloc::{AllocError, Global};
@@ -92,21 +92,66 @@ impl TreeBucket {
         self.items.as_slice()
     }
 
-    /// Returns the walk down the tree for x and r, at the root.
-    pub fn walk(&self, x: u32, r: u32) -> Walk<'_>
-        ensures walk { IsWalk self.now.id self.now.items x r result }
-        ensures kind { self.now.kind ≡ Kind.Tree }
+    /// Returns the height of the tree.
+    #[inline]
+    pub(crate) fn height(&self) -> u32
+        ensures { result ≡ tree_height self.now }
     {
-        Walk::new(self.id, &self.items, &self.nodes, self.height, x, r)
+        self.height
+    }
+
+    /// Returns the root.
+    #[inline]
+    pub(crate) fn root(&self) -> u32
+        ensures { result ≡ 2 ^ tree_height self.now }
+    {
+        places(self.height) as u32
+    }
+
+    /// Returns the child to which a node's hash leads where so many levels are left below it. The
+    /// walk down a tree that has fewer waits at the root.
+    #[inline]
+    pub(crate) fn child(&self, node: u32, hash: u32, left: u32) -> u32
+        requires { IsNode self.now (left + 1) node }
+        ensures { GoesOn self.now left node hash result }
+    {
+        if left >= self.height {
+            return node;
+        }
+        child(&self.nodes, hash, node as usize, places(left)) as u32
+    }
+
+    /// Returns the item at a leaf's place, or the last item where it lies past the end.
+    #[inline]
+    pub(crate) fn item_at(&self, leaf: u32) -> ItemId
+        ensures { IsPickAt self.now leaf result }
+    {
+        self.items[(leaf as usize / 2).min(self.items.len() - 1)].0
+    }
+
+    /// Returns the place at which the walk from the root ends.
+    fn place_for(&self, x: u32, r: u32) -> usize
+        ensures { result ≡ place_within self.now.id self.now.items x r 0 (tree_height self.now) }
+    {
+        let mut node = places(self.height);
+        let mut level = self.height;
+        while level > 1 {
+            node = down(self.id, &self.nodes, x, r, node, level);
+            level = level.saturating_sub(3);
+        }
+        if level == 1 {
+            node = last_down(self.id, &self.nodes, x, r, node);
+        }
+        node / 2
     }
 
     /// Returns the item that is picked.
     #[tactic(auto, unfolding(crate::specs::Kinds::tree_pick, crate::specs::Pick::pick))]
-    pub fn item_for(&self, x: u32, r: u32) -> ItemId
+    pub(crate) fn item_for(&self, x: u32, r: u32) -> ItemId
         ensures picked { result ≡ pick self.now x r }
         ensures item { IsItemOf self.now.items result }
     {
-        let place = walk(self.id, &self.items, &self.nodes, self.height, x, r);
+        let place = self.place_for(x, r);
         self.items[place.min(self.items.len() - 1)].0
     }
 }
@@ -119,18 +164,8 @@ impl Picker for TreeBucket {
         self.item_for(x, r)
     }
 
-    #[tactic(auto, unfolding(crate::specs::Kinds::tree_pick, crate::specs::Pick::pick))]
     fn pick_eight(&self, _perm: &mut Perm, xs: &[u32; 8], r: u32) -> [ItemId; 8] {
-        eight_items(
-            self.walk(xs[0], r),
-            self.walk(xs[1], r),
-            self.walk(xs[2], r),
-            self.walk(xs[3], r),
-            self.walk(xs[4], r),
-            self.walk(xs[5], r),
-            self.walk(xs[6], r),
-            self.walk(xs[7], r),
-        )
+        pick_trees(&[self; 8], xs, r)
     }
 }
 
@@ -188,21 +223,4 @@ fn push_nodes(
     nodes.push(weight_within(items, from, 2 * half))?;
     push_nodes(items, from + half, height - 1, nodes)?;
     Ok(())
-}
-
-/// Returns the place at which the walk from the root ends.
-fn walk(id: ItemId, items: &[(ItemId, Weight)], nodes: &[u32], height: u32, x: u32, r: u32) -> usize
-    requires nodes { AreNodes items.now height nodes.now }
-    ensures { result ≡ place_within id items.now x r 0 height }
-{
-    let mut node = places(height);
-    let mut level = height;
-    while level > 1 {
-        node = down(id, nodes, x, r, node, level);
-        level = level.saturating_sub(3);
-    }
-    if level == 1 {
-        node = last_down(id, nodes, x, r, node);
-    }
-    node / 2
 }

@@ -1,12 +1,12 @@
 //! Uniform buckets.
 
-ghost use Rattle.std.specs.Prelude.{◌≡◌, ◌<◌, ◌%◌, ◌^◌, IfOk, length};
+ghost use Rattle.std.specs.Prelude.{◌≡◌, ◌<◌, ◌≤◌, ◌%◌, ◌^◌, IfOk, length};
 ghost use Rattle.crush_kinds.specs.Bucket.{HasEqualWeights, IsItemOf, item_at, total_weight};
 ghost use Rattle.crush_kinds.specs.Pick.{pick};
 
-use crate::picker::Picker;
-use crate::uniform_lanes::eight_picks;
-use crush_permutation::Perm;
+use crate::picker::{Picker, one_by_one};
+use crate::uniform_lanes::pick_uniforms;
+use crush_permutation::{Perm, Perms};
 use crush_values::{ItemId, Kind, Weight};
 use std::alloc::{AllocError, Global};
 use std::marker::Model;
@@ -81,7 +81,7 @@ impl UniformBucket {
 
     /// Returns the place for which an attempt asks.
     #[inline]
-    pub fn asked_place(&self, r: u32) -> usize
+    pub(crate) fn asked_place(&self, r: u32) -> usize
         ensures value { result ≡ r % length self.now.items }
         ensures within { result < length self.now.items }
         ensures kind { self.now.kind ≡ Kind.Uniform }
@@ -91,12 +91,25 @@ impl UniformBucket {
 
     /// Returns the item at a place.
     #[inline]
-    pub fn item(&self, place: usize) -> ItemId
+    pub(crate) fn item(&self, place: usize) -> ItemId
         requires { place < length self.now.items }
         ensures value { result ≡ item_at self.now.items place }
         ensures item { IsItemOf self.now.items result }
     {
         self.items[place].0
+    }
+
+    /// Returns the item that is picked, by the bucket's permutation among those of several buckets,
+    /// of which it has a number.
+    #[inline]
+    pub(crate) fn pick_by(&self, perms: &mut Perms, number: usize, x: u32, r: u32) -> ItemId
+        requires room { self.now.kind ≡ Kind.Uniform → length self.now.items ≤ perms.old }
+        ensures picked { result ≡ pick self.now x r }
+        ensures item { IsItemOf self.now.items result }
+        ensures same { perms.new ≡ perms.old }
+    {
+        let place = self.asked_place(r);
+        self.item(perms.member(number, self.id(), self.size(), x, place))
     }
 }
 
@@ -109,19 +122,10 @@ impl Picker for UniformBucket {
     }
 
     fn pick_eight(&self, perm: &mut Perm, xs: &[u32; 8], r: u32) -> [ItemId; 8] {
-        if let Some(items) = eight_picks(self, self, self, self, self, self, self, self, xs, r) {
-            return items;
+        match pick_uniforms(&[self; 8], xs, r) {
+            Some(items) => items,
+            None => one_by_one(self, perm, xs, r),
         }
-        [
-            self.pick(perm, xs[0], r),
-            self.pick(perm, xs[1], r),
-            self.pick(perm, xs[2], r),
-            self.pick(perm, xs[3], r),
-            self.pick(perm, xs[4], r),
-            self.pick(perm, xs[5], r),
-            self.pick(perm, xs[6], r),
-            self.pick(perm, xs[7], r),
-        ]
     }
 }
 

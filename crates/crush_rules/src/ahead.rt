@@ -16,9 +16,10 @@ const REP_LIMIT: u32 = 12;
 /// How many buckets a walk goes down at most.
 const DEPTH_LIMIT: u32 = 8;
 
-/// What a choose step asks for at its first tries.
+/// What a choose step asks for at its first tries, for eight inputs.
 #[derive(Clone, Copy)]
 struct Guess {
+    xs: [u32; LANES],
     firstn: bool,
     leaf: bool,
     wanted: u32,
@@ -60,11 +61,12 @@ fn is_wanted(tables: &Tables, bucket: BucketNo, wanted: u32) -> bool {
     bucket.place() < tables.len() && tables.type_of(bucket) == wanted
 }
 
-/// Picks ahead down from eight buckets, for an attempt. Returns the buckets of the wanted type that
-/// are reached; `None` where the walks part or end before.
+/// Picks ahead down from eight buckets, for eight inputs and an attempt. Returns the buckets of the
+/// wanted type that are reached; `None` where the walks part or end before.
 fn walk_ahead(
     tables: &Tables,
     scratch: &mut Scratch,
+    xs: &[u32; LANES],
     from: [BucketNo; LANES],
     r: u32,
     wanted: u32,
@@ -74,7 +76,7 @@ fn walk_ahead(
 {
     let mut at = from;
     'down: for _ in 0..DEPTH_LIMIT {
-        let items = scratch.pick_ahead(at, r)?;
+        let items = scratch.pick_ahead(at, xs, r)?;
         at = buckets_of(tables, &items)?;
         let (mut all, mut some) = (true, false);
         for lane in 0..LANES {
@@ -98,10 +100,11 @@ fn choose_ahead(tables: &Tables, scratch: &mut Scratch, guess: &Guess, bucket: B
     ensures { scratch.new ≡ scratch_of tables.now }
 {
     for rep in 0..guess.reps.min(REP_LIMIT) {
-        let found = walk_ahead(tables, scratch, [bucket; LANES], rep, guess.wanted);
+        let from = [bucket; LANES];
+        let found = walk_ahead(tables, scratch, &guess.xs, from, rep, guess.wanted);
         if let Some(at) = found {
             if guess.leaf {
-                walk_ahead(tables, scratch, at, guess.leaf_attempt(rep), 0);
+                walk_ahead(tables, scratch, &guess.xs, at, guess.leaf_attempt(rep), 0);
             }
         }
     }
@@ -147,6 +150,7 @@ pub fn look_ahead(tables: &Tables, scratch: &mut Scratch, rule: &Rule, xs: [u32;
             } => {
                 if let Some(bucket) = from {
                     let guess = Guess {
+                        xs,
                         firstn,
                         leaf,
                         wanted,

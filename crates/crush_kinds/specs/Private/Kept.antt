@@ -27,9 +27,9 @@ pub record AreNodes (items : List WeightedItem) (height : ℕ) (nodes : List ℕ
   pub weights : HasNodes items nodes 0 height
 
 -- a walk that has come to the node of a range of 2^h places
-pub record AtNode (id : ItemId) (items : List WeightedItem) (nodes : List ℕ) (x r height h node : ℕ) : Type 0 where
+pub record AtNode (id : ItemId) (items : List WeightedItem) (x r height h node : ℕ) : Type 0 where
   pub from : ℕ
   pub labelled : node ≡ 2 * from + 2 ^ h
   pub within : from + 2 ^ h ≤ 2 ^ height
-  pub weighed : HasNodes items nodes from h
+  pub weighed : (nodes : List ℕ) → HasNodes items nodes 0 height → HasNodes items nodes from h
   pub rest : place_within id items x r 0 height ≡ place_within id items x r from h
