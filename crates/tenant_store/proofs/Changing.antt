@@ -9,7 +9,7 @@ use Rattle.tenant_rows.proofs.Whole.{has_rows, is_tenant}
 use Rattle.tenant_rows.specs.Changes.{IsChangeable, Turns}
 use Rattle.tenant_rows.specs.Rows.{StandsFor}
 use Rattle.tenant_state.specs.State.{CanMake, Change, TenantState, after, epoch}
-use Rattle.table_writes.specs.Change.{Drops, IsNumber}
+use Rattle.tenant_tables.specs.Change.{Drops, IsNumber}
 use Rattle.table_reads.specs.Found.{Names}
 use Rattle.table_schema.specs.Holds.{IsTenant}
 use Rattle.table_reads.specs.declared.find.Tenant.{Tenant}

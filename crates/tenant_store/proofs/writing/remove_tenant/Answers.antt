@@ -4,7 +4,7 @@ use mir.Val.{SFits}
 use Rattle.std.proofs.lemmas.Int.{to_z-of_z}
 use Rattle.sqlite.specs.Held.{state}
 use Rattle.sqlite.specs.State.{HasCleanDisk, Survives}
-use Rattle.table_writes.specs.Change.{Drops, IsNumber}
+use Rattle.tenant_tables.specs.Change.{Drops, IsNumber}
 use Rattle.tenant_store.proofs.Changing.{is_dropped, is_number, remove_survives}
 use Rattle.tenant_store.proofs.Refusing.{at_word}
 use Rattle.tenant_store.proofs.writing.remove_tenant.Goals as goal
