@@ -1,6 +1,6 @@
 //! Rules with so many tries that a call asks whether any can still succeed: where none can it gives
-//! up, and where one can, however late, it goes on. The answers are those of `tests/model/choosing.py`,
-//! which makes every try.
+//! up, and where one can, however late, it goes on. The answers are those of
+//! `tests/model/choosing.py`, which makes every try.
 
 use crate::drafts::{ONE, SOUND, Short, choose, draft, generated};
 use crate::examples::{Example, NOTHING, SEVEN};
