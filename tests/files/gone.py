@@ -65,6 +65,7 @@ def harmed_before_a_script(program, db, harm, path):
 def a_link_that_leads_elsewhere(program, db):
     """The path is a link, and another file is at its end."""
     real, other = db.with_name("real.db"), db.with_name("other.db")
+    real.touch()
     db.symlink_to(real)
     with Server(program, db) as server:
         why = unlike(asked(server, [b"PUT /t/a"]), [made(b"a")])
