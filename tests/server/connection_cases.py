@@ -1,13 +1,15 @@
 """Connections to the program as a server, each with what it has to send back by the rules of
 requests."""
 import pathlib
+import resource
 import socket
+import subprocess
 import threading
 import time
 
 from program.hostile_cases import BODIES, BODY_LIMIT, HEADS, exceptions
 from model.messages import EXISTS, TOO_LARGE, dropped, made, short, there
-from server.served import Server, asked, message, replies_on, reset
+from server.served import SECONDS, Server, asked, free_port, message, replies_on, reset
 
 HERE = pathlib.Path(__file__).resolve().parent
 
@@ -167,5 +169,33 @@ def half_closes(program, db):
         return goes_on(server)
 
 
+def accepts_that_fail(program, db):
+    """Where no file descriptor is free an accept fails: each counts as a connection and takes a tenth
+    of a second, and the end says how many there were. So it is with one descriptor more than the
+    server needs to listen: it has that for its waits."""
+    listens = False
+    for most in range(3, 20):
+        port = free_port()
+        words = [program, "serve", "--db", str(db), "--port", str(port), "--connections", "6"]
+        with subprocess.Popen(words, stdout=subprocess.PIPE, stderr=subprocess.PIPE, preexec_fn=lambda: resource.setrlimit(resource.RLIMIT_NOFILE, (most, most))) as run:
+            if not run.stdout.readline():
+                run.communicate(timeout=SECONDS)
+                continue
+            if not listens:
+                listens = True
+                run.kill()
+                continue
+            since = time.monotonic()
+            with socket.create_connection(("127.0.0.1", port)):
+                try:
+                    out, err = run.communicate(timeout=SECONDS)
+                except subprocess.TimeoutExpired:
+                    run.kill()
+                    return f"with {most} descriptors it doesn't end"
+            took = time.monotonic() - since
+            return unlike((run.returncode, out, err), (0, b"", b"crushcalc: 6 of 6 connections not accepted\n")) or (None if took >= 0.6 else f"it took {took} seconds")
+    return "it never listens"
+
+
 def cases():
-    return (two_messages, byte_by_byte, examples, heads, bodies, third_messages, last_messages, silent_clients, resets, half_closes)
+    return (accepts_that_fail, two_messages, byte_by_byte, examples, heads, bodies, third_messages, last_messages, silent_clients, resets, half_closes)
