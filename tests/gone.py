@@ -65,10 +65,11 @@ def harmed_before_a_script(program, db, harm, path):
 def a_link_that_leads_elsewhere(program, db):
     """The path is a link, and another file is at its end."""
     real, other = db.with_name("real.db"), db.with_name("other.db")
+    for path in (real, other):
+        path.write_bytes(b"")
     db.symlink_to(real)
     with Server(program, db) as server:
         why = unlike(asked(server, [b"PUT /t/a"]), [made(b"a")])
-        other.write_bytes(b"")
         db.unlink()
         db.symlink_to(other)
         return why or unlike(asked(server, [b"PUT /t/b"]), [STORE_FAILED]) or unlike(server.ended(), STORE_FAULT)
