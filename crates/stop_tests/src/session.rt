@@ -65,10 +65,10 @@ pub(crate) fn session<D: Disk + Drop>(
         Ok(store) => store,
         Err((_, store)) => return Ok((None, left(store))),
     };
-    let ready = ReadyStore::over(alloc, store, READY, NonZeroUsize::MIN).map_err(|(
-        error,
-        _below,
-    )| error)?;
+    let ready = match ReadyStore::over(alloc, store, READY, NonZeroUsize::MIN) {
+        Ok(ready) => ready,
+        Err((error, _below)) => return Err(error),
+    };
     let (end, ready) = serve(alloc, ready, calls)?;
     let conn = ready.into_below().close();
     let files = if closes {
