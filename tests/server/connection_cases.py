@@ -170,9 +170,9 @@ def half_closes(program, db):
 
 
 def accepts_that_fail(program, db):
-    """Where no file descriptor is free an accept fails: each counts as a connection and takes a tenth
-    of a second, and the end says how many there were. So it is with one descriptor more than the
-    server needs to listen: it has that for its waits."""
+    """Where no file descriptor is free an accept fails: each counts as a connection and takes a
+    tenth of a second, and the end says how many there were. So it is with one descriptor more than
+    the server needs to listen: it has that for its waits."""
     listens = False
     for most in range(3, 20):
         port = free_port()
