@@ -28,7 +28,7 @@ export function totals(cluster, found, { before, after, map = cluster.map }) {
     const pools = found.map((it) => it.pool), copies = (key) => (pool) => sum([...found.find((it) => it.pool === pool)[key]], (it) => it);
     return {
         moved: sum(found, (it) => it.moved), anew: sum(found, (it) => it.anew), short: sum(found, (it) => it.lacks.groups), missing: sum(found, (it) => it.lacks.copies), stopped: sum(found, (it) => it.lacks.stopped),
-        shortBefore: sum(found, (it) => it.lackedBefore.groups), had: added(found, "had"), has: added(found, "has"), gains: added(found, "gains"), losses: added(found, "losses"),
+        shortBefore: sum(found, (it) => it.lackedBefore.groups), missingBefore: sum(found, (it) => it.lackedBefore.copies), had: added(found, "had"), has: added(found, "has"), gains: added(found, "gains"), losses: added(found, "losses"),
         expectedBefore: expectedOf(cluster.map, pools, before, copies("had")), expectedAfter: expectedOf(map, pools, after, copies("has")),
     };
 }
@@ -60,9 +60,10 @@ export function answerRow(cluster, all) {
 // much isn't computed that may have to do with it.
 export function verdict(found, all, { stopped = 0, keeping = 0, broken = 0, unknown = 0 } = {}) {
     const lacking = found.filter((it) => it.lacks.copies).map((it) => it.pool.name), moved = `${many(all.moved, "group")} ${all.moved === 1 ? "moves" : "move"}`, has = (it) => (it === 1 ? "has" : "have");
+    const before = all.missingBefore === all.missing ? " (as many as before)" : all.missingBefore ? ` (${count(all.missingBefore)} before)` : "";
     const why = [
         stopped && `${many(stopped, "group")} ${has(stopped)} fewer copies than min_size while the devices are down, so ${stopped === 1 ? "its" : "their"} I/O stops`,
-        all.missing && `${many(all.missing, "copy", "copies")} of ${lacking.length === 1 ? "pool" : "the pools"} ${some(lacking, 3)} ${has(all.missing)} no room`,
+        all.missing && `${many(all.missing, "copy", "copies")} of ${lacking.length === 1 ? "pool" : "the pools"} ${some(lacking, 3)} ${has(all.missing)} no room${before}`,
         broken && `${many(broken, "group")} would break the rule, and Ceph removes such items`,
         keeping && `${many(keeping, "copy", "copies")} ${keeping === 1 ? "stays" : "stay"}: a rule takes the device by name`,
     ].filter(Boolean);

@@ -19,7 +19,7 @@ export const FAULTS = {
     M8: "the weights of a uniform bucket differ.",
     M9: "a bucket of type 0, which is that of devices.",
     M10: "a step takes what isn't declared before its rule: it is misspelt, or stands further down. The line is that of the rule.",
-    M11: "a choose step wants a type that isn't declared, or is misspelt. The line is that of the rule.",
+    M11: "a choose step names a type that isn't declared, or is misspelt. The line is that of the rule.",
     M12: "a number that is out of its range.",
     M13: "local tries or local fallback tries that aren't 0, in a tunable or a step; at the end of the text: one of the two tunables isn't named (Ceph's old values are 2 and 5).",
     M14: "chooseleaf indep of type 0; write choose indep.",
