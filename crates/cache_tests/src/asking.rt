@@ -4,12 +4,13 @@ ghost use Rattle.std.specs.Prelude.{◌≡◌, IfOk, true};
 ghost use Rattle.crush_writing.specs.Canonical.{canonical};
 ghost use Rattle.crush_pool.specs.Exceptions.{are_pairs};
 ghost use Rattle.crush_cache.specs.Caches.{KeepsNumbers, WasNumberOf};
-ghost use Rattle.crush_cache.specs.Contents.{content_of};
+ghost use Rattle.crush_content.specs.Contents.{content_of};
 ghost use Rattle.crush_choose.specs.Weights.{weights_of};
 ghost use Rattle.crush_pool.specs.States.{flags_of, reweights};
 
 use crush_bucket::Tables;
-use crush_cache::{Content, PlacementCache, SharedExceptions, SharedStates, SharedText};
+use crush_cache::PlacementCache;
+use crush_content::{Content, SharedExceptions, SharedStates, SharedText};
 use crush_choose::{Slot, Weights};
 use crush_map::{CrushMap, ItemId, Text};
 use crush_pool::{

@@ -1,7 +1,7 @@
 //! Rules that run on maps of drafts, and what Ceph 16's `crush_do_rule` answers.
 
 ghost use Rattle.std.specs.Prelude.{◌≡◌, ◌≤◌};
-ghost use Rattle.crush_bucket.specs.Tables.{perms_of, tables_of};
+ghost use Rattle.crush_bucket.specs.Tables.{scratch_of, tables_of};
 ghost use Rattle.crush_rules.specs.Rules.{CanRun};
 
 use crate::drafts::{JEWEL, ONE, SOUND, Short, bucket, choose, draft, generated, map_of};
@@ -40,7 +40,7 @@ fn ask_all(
     want: Wanted<'_>,
 ) -> u64
     requires rule { CanRun tables.now rule.now }
-    requires fits { scratch.old ≡ perms_of tables.now }
+    requires fits { scratch.old ≡ scratch_of tables.now }
     requires some { 1 ≤ size }
     requires few { size ≤ SIZE_LIMIT }
 {

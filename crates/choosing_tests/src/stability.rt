@@ -1,7 +1,7 @@
 //! Runs of a rule before and after a reweight is lowered, and which devices they touch.
 
 ghost use Rattle.std.specs.Prelude.{◌≡◌};
-ghost use Rattle.crush_bucket.specs.Tables.{perms_of};
+ghost use Rattle.crush_bucket.specs.Tables.{scratch_of};
 ghost use Rattle.crush_rules.specs.Rules.{CanRun};
 
 use crate::drafts::{ONE, SOUND, Short, choose, draft, map_of};
@@ -42,7 +42,7 @@ fn assert_all_move_from_0(
     out: &mut Out,
 )
     requires rule { CanRun tables.now rule.now }
-    requires fits { scratch.old ≡ perms_of tables.now }
+    requires fits { scratch.old ≡ scratch_of tables.now }
 {
     let mut moved: u32 = 0;
     'inputs: for x in 0..64 {
@@ -98,7 +98,7 @@ fn assert_one_is_touched(
     out: &mut Out,
 )
     requires rule { CanRun tables.now rule.now }
-    requires fits { scratch.old ≡ perms_of tables.now }
+    requires fits { scratch.old ≡ scratch_of tables.now }
 {
     'inputs: for x in 0..64 {
         run_rule(tables, scratch, rule, x, 1, full, out);

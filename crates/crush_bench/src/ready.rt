@@ -2,7 +2,7 @@
 
 ghost use Rattle.std.specs.Prelude.{◌≡◌};
 ghost use Rattle.crush_map.specs.Map.{IsMap};
-ghost use Rattle.crush_bucket.specs.Tables.{perms_of, tables_of};
+ghost use Rattle.crush_bucket.specs.Tables.{scratch_of, tables_of};
 
 use crate::size::Size;
 use crush_bucket::{Scratch, Tables};
@@ -22,7 +22,7 @@ pub struct Ready<'a> {
     out: Out,
     ghost sound: { IsMap map.now },
     ghost laid: { tables.now ≡ tables_of map.now },
-    ghost fits: { scratch ≡ perms_of tables.now },
+    ghost fits: { scratch ≡ scratch_of tables.now },
 }
 
 impl<'a> Ready<'a> {

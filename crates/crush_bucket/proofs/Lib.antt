@@ -1,12 +1,3 @@
-pub mod Greatest
-pub mod Appended
-pub mod Heights
-pub mod Lanes
-pub mod Nodes
 pub mod Numbered
 pub mod Picking
-pub mod Hashes
-pub mod Weighed
-pub mod Pickable
 pub mod Validity
-pub mod Weights

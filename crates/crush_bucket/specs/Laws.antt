@@ -1,17 +1,7 @@
--- What the laws say of the definitions.
-use Rattle.std.specs.Prelude.{◌≡◌, ◌≢◌, ℕ, ◌<◌, Bool, true, false, length, Some}
-use Rattle.crush_map.specs.declared.word.ItemId.{ItemId}
+-- What the laws say of the tables of a map.
+use Rattle.std.specs.Prelude.{◌≡◌, ◌≢◌, ℕ, ◌<◌, length, Some}
+use Rattle.crush_values.specs.declared.ItemId.{ItemId}
 use Rattle.crush_bucket.specs.Tables.{TablesView, pick_at, size_at, type_at, bucket_numbered, IsBelow}
-
--- i is the greatest number below n that passes
-pub record IsGreatest (p : ℕ → Bool) (n i : ℕ) : Type 0 where
-  pub below : i < n
-  pub passes : p i ≡ true
-  pub no_later : (j : ℕ) → i < j → j < n → p j ≡ false
-
--- no number below n passes
-abbrev pub NonePasses : (ℕ → Bool) → ℕ → Type 0
-NonePasses p n = (j : ℕ) → j < n → p j ≡ false
 
 -- a bucket that has items picks a device, or a bucket of a smaller number
 abbrev pub PicksBelow : TablesView → Type 0

@@ -1,8 +1,4 @@
-pub mod Bucket
-pub mod Kinds
+pub mod Ahead
 pub mod Laws
-pub mod Appended
-pub mod Pick
-pub mod Pickable
 pub mod Private
 pub mod Tables

@@ -2,14 +2,14 @@
 use Rattle.std.specs.Prelude.{◌≡◌, ℕ, pos, ◌<◌, ◌==◌, Bool, true, List, [], length, map, slice_index_or, Option, MatchOption}
 use Rattle.std.specs.List.{list_any, position_from}
 use Rattle.std.specs.Ordering.{int_eq}
-use Rattle.crush_map.specs.declared.word.ItemId.{ItemId}
-use Rattle.crush_map.specs.declared.word.Kind.{Kind}
-use Rattle.crush_map.specs.declared.word.Kind.TheVariants.{Uniform}
+use Rattle.crush_values.specs.declared.ItemId.{ItemId}
+use Rattle.crush_values.specs.declared.Kind.{Kind}
+use Rattle.crush_values.specs.declared.Kind.TheVariants.{Uniform}
 use Rattle.crush_map.specs.declared.draft.Bucket.{Bucket}
 use Rattle.crush_map.specs.declared.draft.Tunables.{Tunables}
 use Rattle.crush_map.specs.Map.{Map}
-use Rattle.crush_bucket.specs.Bucket.{BucketView, item_at}
-use Rattle.crush_bucket.specs.Pick.{pick}
+use Rattle.crush_kinds.specs.Bucket.{BucketView, item_at}
+use Rattle.crush_kinds.specs.Pick.{pick}
 
 -- a bucket and the number of its type
 pub record TypedBucket : Type 0 where
@@ -77,7 +77,7 @@ HasItemsBelow t = (number place : ℕ) → number < length t.buckets → place <
 
 -- ---- the scratch
 
--- what contracts see of a scratch of these tables: it has permutations, and picks that were made
--- ahead, of no other buckets
-abbrev pub perms_of : TablesView → TablesView
-perms_of t = t
+-- what contracts see of a scratch of these tables: the tables themselves. It has permutations, and
+-- picks that were made ahead, of no other buckets
+abbrev pub scratch_of : TablesView → TablesView
+scratch_of t = t

@@ -6,7 +6,7 @@ ghost use Rattle.crush_bucket.specs.declared.scratch.Step.{Step};
 
 use crate::number::BucketNo;
 use crate::tables::Tables;
-use crate::uniform::UniformBucket;
+use crush_kinds::AnyBucket;
 use crush_map::ItemId;
 use crush_permutation::Perms;
 use std::alloc::{AllocError, Global};
@@ -87,16 +87,17 @@ impl<'a> Model for Scratch<'a> {
 
 impl<'a> Scratch<'a> {
     ghost use Rattle.std.specs.Prelude.{◌≡◌, IfOk, IfSome};
-    ghost use Rattle.crush_bucket.specs.Bucket.{IsItemOf};
-    ghost use Rattle.crush_bucket.specs.Pick.{pick};
-    ghost use Rattle.crush_bucket.specs.Tables.{perms_of};
-    ghost use Rattle.crush_bucket.specs.Private.Ahead.{IsPick, IsUniformOf};
+    ghost use Rattle.crush_kinds.specs.Bucket.{IsItemOf};
+    ghost use Rattle.crush_kinds.specs.Pick.{pick};
+    ghost use Rattle.crush_bucket.specs.Tables.{scratch_of};
+    ghost use Rattle.crush_bucket.specs.Ahead.{ArePicks, IsPick};
+    ghost use Rattle.crush_bucket.specs.Private.Ahead.{IsBucketOf};
 
     /// Returns the scratch of tables, with few permutations of uniform buckets, for a few inputs.
     ///
     /// `Err(AllocError)`: an allocation failed; nothing is changed.
     pub fn build(alloc: Global, tables: &'a Tables) -> Result<Scratch<'a>, AllocError>
-        ensures { IfOk result (λ s. s ≡ perms_of tables.now) }
+        ensures { IfOk result (λ s. s ≡ scratch_of tables.now) }
     {
         Scratch::with_slots(alloc, tables, FEW_SLOTS, FEW_PAIRS)
     }
@@ -106,7 +107,7 @@ impl<'a> Scratch<'a> {
     ///
     /// `Err(AllocError)`: an allocation failed; nothing is changed.
     pub fn for_many(alloc: Global, tables: &'a Tables) -> Result<Scratch<'a>, AllocError>
-        ensures { IfOk result (λ s. s ≡ perms_of tables.now) }
+        ensures { IfOk result (λ s. s ≡ scratch_of tables.now) }
     {
         Scratch::with_slots(alloc, tables, tables.len(), MANY_PAIRS)
     }
@@ -118,7 +119,7 @@ impl<'a> Scratch<'a> {
         most: usize,
         pairs: usize,
     ) -> Result<Scratch<'a>, AllocError>
-        ensures { IfOk result (λ s. s ≡ perms_of tables.now) }
+        ensures { IfOk result (λ s. s ≡ scratch_of tables.now) }
     {
         let widest = tables.widest();
         let slots = (pairs / widest.max(1)).max(LEAST_SLOTS).min(most);
@@ -132,21 +133,18 @@ impl<'a> Scratch<'a> {
         })
     }
 
-    /// Returns the item that a uniform bucket with a number picks.
-    pub(crate) fn pick(&mut self, bucket: &UniformBucket, number: usize, x: u32, r: u32) -> ItemId
-        requires fits { IsUniformOf self.old bucket.now }
+    /// Returns the item that a bucket with a number picks.
+    #[inline]
+    pub(crate) fn pick(&mut self, bucket: &AnyBucket, number: usize, x: u32, r: u32) -> ItemId
+        requires fits { IsBucketOf self.old bucket.now }
         ensures picked { result ≡ pick bucket.now x r }
         ensures item { IsItemOf bucket.now.items result }
         ensures same { self.new ≡ self.old }
     {
-        let place = bucket.asked_place(r);
-        bucket.item(
-            self.perms
-                .member(number, bucket.id(), bucket.size(), x, place),
-        )
+        bucket.pick_by(&mut self.perms, number, x, r)
     }
 
-    /// Forgets what was picked ahead. What will be is for these inputs.
+    /// Forgets what was picked ahead. What will be is for these inputs alone.
     pub fn turn_to(&mut self, xs: [u32; LANES])
         ensures { self.new ≡ self.old }
     {
@@ -156,14 +154,21 @@ impl<'a> Scratch<'a> {
         self.next = 0;
     }
 
-    /// Picks ahead from a bucket for each of the eight inputs, side by side, where all are tree
-    /// buckets that have items, or all are uniform ones that are asked for the same of their first
-    /// four places; keeps what is picked, so that it isn't picked again, and returns it. `None`:
-    /// they aren't, or there is no room or no memory for more.
-    pub fn pick_ahead(&mut self, buckets: [BucketNo; LANES], r: u32) -> Option<[ItemId; LANES]>
-        ensures { self.new ≡ self.old }
+    /// Picks ahead from a bucket for each of the eight inputs that were turned to, side by side,
+    /// where all are tree buckets that have items, or all are uniform ones that are asked for the
+    /// same of their first four places; keeps what is picked, so that it isn't picked again, and
+    /// returns it. `None`: they aren't, these are other inputs, or there is no room or no memory
+    /// for more.
+    pub fn pick_ahead(
+        &mut self,
+        buckets: [BucketNo; LANES],
+        xs: &[u32; LANES],
+        r: u32,
+    ) -> Option<[ItemId; LANES]>
+        ensures picked { IfSome result (ArePicks self.old buckets xs.now r) }
+        ensures same { self.new ≡ self.old }
     {
-        if self.steps.len() >= STEP_LIMIT {
+        if self.steps.len() >= STEP_LIMIT || self.xs != *xs {
             return None;
         }
         let items = self.tables.pick_eight(&buckets, &self.xs, r)?;

@@ -5,7 +5,7 @@ ghost use Rattle.crush_bucket.specs.Tables.{typed_bucket};
 ghost use Rattle.crush_bucket.specs.Private.Laid.{IsFit};
 ghost use Rattle.crush_bucket.specs.Private.TableRows.{bucket_in};
 
-use crate::any::AnyBucket;
+use crush_kinds::AnyBucket;
 use crush_map::{Bucket, ItemId, Kind, Weight};
 use std::alloc::{AllocError, Global};
 use std::marker::Model;

@@ -1,20 +1,17 @@
 //! The buckets of a map, ready to be asked.
 
-ghost use Rattle.std.specs.Prelude.{◌≡◌, ◌<◌, ◌<ℤ◌, ◌==◌, ◌^◌, pos, IfOk, IfSome, OnSome, All, length, map};
-ghost use Rattle.crush_bucket.specs.Bucket.{IsItemOf};
-ghost use Rattle.crush_bucket.specs.Private.Ahead.{ArePicks, IsWidest};
+ghost use Rattle.std.specs.Prelude.{◌≡◌, ◌<◌, ◌<ℤ◌, ◌==◌, ◌^◌, ℕ, pos, IfOk, IfSome, OnSome, All, length, map, slice_index, slice_index_or};
+ghost use Rattle.crush_kinds.specs.Bucket.{IsItemOf};
+ghost use Rattle.crush_bucket.specs.Ahead.{ArePicks};
+ghost use Rattle.crush_bucket.specs.Private.Ahead.{IsWidest};
 ghost use Rattle.crush_bucket.specs.Private.Laid.{IsFit};
-ghost use Rattle.crush_bucket.specs.Tables.{tables_of, typed_bucket, bucket_numbered, bucket_at, type_at, kind_at, size_at, pick_at, has_device, perms_of, IsBelow, HasItemsBelow};
+ghost use Rattle.crush_bucket.specs.Tables.{tables_of, typed_bucket, bucket_numbered, bucket_at, type_at, kind_at, size_at, pick_at, has_device, scratch_of, IsBelow, HasItemsBelow};
 
-use crate::any::{AnyBucket, ByKind};
 use crate::index::index_of;
 use crate::number::{BucketNo, index_place};
 use crate::scratch::Scratch;
 use crate::table_row::{Content, TableRow};
-use crate::tree::TreeBucket;
-use crate::uniform::UniformBucket;
-use crate::uniform_lanes::eight_picks;
-use crate::walks::eight_items;
+use crush_kinds::{AnyBucket, TreeBucket, UniformBucket, pick_trees, pick_uniforms};
 use crush_map::{Bucket, CrushMap, Device, ItemId, Kind, Tunables, Weight, buckets_are_sound};
 use std::alloc::{AllocError, Global};
 use std::marker::Model;
@@ -87,24 +84,26 @@ impl Tables {
         }
     }
 
-    /// Returns the same where it is a tree bucket.
-    fn tree(&self, bucket: BucketNo) -> Option<&TreeBucket>
-        ensures { IfSome result (λ tree. tree.now ≡ bucket_at self.now bucket) }
+    /// Returns eight buckets, where all are trees that have items.
+    fn trees(&self, buckets: &[BucketNo; 8]) -> Option<[&TreeBucket; 8]>
+        ensures { IfSome result (λ trees. (lane : ℕ) (d : _) → lane < 8 → (slice_index_or trees lane d).now ≡ bucket_at self.now (slice_index buckets.now lane)) }
     {
-        match self.with_items(bucket)?.by_kind() {
-            ByKind::Tree(tree) => Some(tree),
-            _ => None,
+        let mut trees = [self.with_items(buckets[0])?.tree()?; 8];
+        for lane in 1..8 {
+            trees[lane] = self.with_items(buckets[lane])?.tree()?;
         }
+        Some(trees)
     }
 
-    /// Returns the same where it is a uniform bucket.
-    fn uniform(&self, bucket: BucketNo) -> Option<&UniformBucket>
-        ensures { IfSome result (λ uniform. uniform.now ≡ bucket_at self.now bucket) }
+    /// Returns the same where all are uniform.
+    fn uniforms(&self, buckets: &[BucketNo; 8]) -> Option<[&UniformBucket; 8]>
+        ensures { IfSome result (λ uniforms. (lane : ℕ) (d : _) → lane < 8 → (slice_index_or uniforms lane d).now ≡ bucket_at self.now (slice_index buckets.now lane)) }
     {
-        match self.with_items(bucket)?.by_kind() {
-            ByKind::Uniform(uniform) => Some(uniform),
-            _ => None,
+        let mut uniforms = [self.with_items(buckets[0])?.uniform()?; 8];
+        for lane in 1..8 {
+            uniforms[lane] = self.with_items(buckets[lane])?.uniform()?;
         }
+        Some(uniforms)
     }
 
     /// Returns the items that eight buckets pick for eight inputs and one attempt, side by side,
@@ -117,52 +116,10 @@ impl Tables {
     ) -> Option<[ItemId; 8]>
         ensures { IfSome result (λ items. ArePicks self.now buckets.now xs.now r items) }
     {
-        match self.pick_trees(buckets, xs, r) {
-            Some(items) => Some(items),
-            None => self.pick_uniforms(buckets, xs, r),
+        if let Some(trees) = self.trees(buckets) {
+            return Some(pick_trees(&trees, xs, r));
         }
-    }
-
-    /// Returns the same where all eight are uniform and asked for the same early place.
-    fn pick_uniforms(&self, buckets: &[BucketNo; 8], xs: &[u32; 8], r: u32) -> Option<[ItemId; 8]>
-        ensures { IfSome result (λ items. ArePicks self.now buckets.now xs.now r items) }
-    {
-        let first = self.uniform(buckets[0])?;
-        let second = self.uniform(buckets[1])?;
-        let third = self.uniform(buckets[2])?;
-        let fourth = self.uniform(buckets[3])?;
-        let fifth = self.uniform(buckets[4])?;
-        let sixth = self.uniform(buckets[5])?;
-        let seventh = self.uniform(buckets[6])?;
-        let eighth = self.uniform(buckets[7])?;
-        eight_picks(
-            first, second, third, fourth, fifth, sixth, seventh, eighth, xs, r,
-        )
-    }
-
-    /// Returns the same where all eight are trees: the lanes of one vector hash a level of each.
-    #[tactic(auto, unfolding(crate::specs::Tables::pick_at, crate::specs::Pick::pick))]
-    fn pick_trees(&self, buckets: &[BucketNo; 8], xs: &[u32; 8], r: u32) -> Option<[ItemId; 8]>
-        ensures { IfSome result (λ items. ArePicks self.now buckets.now xs.now r items) }
-    {
-        let first = self.tree(buckets[0])?;
-        let second = self.tree(buckets[1])?;
-        let third = self.tree(buckets[2])?;
-        let fourth = self.tree(buckets[3])?;
-        let fifth = self.tree(buckets[4])?;
-        let sixth = self.tree(buckets[5])?;
-        let seventh = self.tree(buckets[6])?;
-        let eighth = self.tree(buckets[7])?;
-        Some(eight_items(
-            first.walk(xs[0], r),
-            second.walk(xs[1], r),
-            third.walk(xs[2], r),
-            fourth.walk(xs[3], r),
-            fifth.walk(xs[4], r),
-            sixth.walk(xs[5], r),
-            seventh.walk(xs[6], r),
-            eighth.walk(xs[7], r),
-        ))
+        pick_uniforms(&self.uniforms(buckets)?, xs, r)
     }
 
     /// Returns how many buckets there are.
@@ -254,7 +211,7 @@ impl Tables {
     pub fn pick(&self, bucket: BucketNo, scratch: &mut Scratch, x: u32, r: u32) -> ItemId
         requires within { bucket < length self.now.buckets }
         requires some { 0 < size_at self.now bucket }
-        requires fits { scratch.old ≡ perms_of self.now }
+        requires fits { scratch.old ≡ scratch_of self.now }
         ensures picked { result ≡ pick_at self.now bucket x r }
         ensures item { IsItemOf (bucket_at self.now bucket).items result }
         ensures below { IsBelow self.now bucket result }
@@ -267,11 +224,7 @@ impl Tables {
         }
         match row.content() {
             Content::Empty { id: _, kind: _ } => unreachable!(),
-            Content::Bucket(any) => match any.by_kind() {
-                ByKind::Uniform(bucket) => scratch.pick(bucket, place, x, r),
-                ByKind::List(bucket) => bucket.item_for(x, r),
-                ByKind::Tree(bucket) => bucket.item_for(x, r),
-            },
+            Content::Bucket(any) => scratch.pick(any, place, x, r),
         }
     }
 }

@@ -3,16 +3,16 @@
 ghost use Rattle.std.specs.Prelude.{◌≡◌, ◌+◌, ◌<◌, [], ℕ, Some, IfOk, IfErr, IfSome, is_ok, length, nat_le, nat_lt, position};
 ghost use Rattle.crush_pool.specs.Placements.{placement};
 ghost use Rattle.crush_cache.specs.Caches.{IsNumberOf, KeepsNumbers, WasNumberOf};
-ghost use Rattle.crush_cache.specs.Contents.{Content, content_eq, content_of};
+ghost use Rattle.crush_content.specs.Contents.{Content, content_eq, content_of};
 ghost use Rattle.crush_cache.specs.Private.Entries.{IsPlacementIn, IsPlacementOf};
-ghost use Rattle.crush_cache.specs.declared.content.TheConstants.{LONG_TEXT};
+ghost use Rattle.crush_content.specs.declared.content.TheConstants.{LONG_TEXT};
 ghost use Rattle.crush_cache.specs.declared.limits.TheConstants.{CONTENT_LIMIT};
 
-use crate::content::Content;
 use crate::entries::{Entries, Key, keep, recall};
 use crate::limits::CONTENT_LIMIT;
 use crate::seen::Seen;
 use crush_bucket::Scratch;
+use crush_content::Content;
 use crush_pool::{Placement, Placer, PoolFault};
 use crush_rules::Out;
 use crush_text::canonical_texts_are_read;

@@ -5,18 +5,9 @@
 #![tactic(auto)]
 
 mod cache;
-mod content;
 mod entries;
-mod exceptions;
 pub mod limits;
-mod pools;
 mod seen;
-mod states;
-mod text;
 
 pub use cache::PlacementCache;
-pub use content::Content;
 pub use entries::{Entries, Key};
-pub use exceptions::SharedExceptions;
-pub use states::SharedStates;
-pub use text::SharedText;

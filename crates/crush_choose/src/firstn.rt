@@ -1,7 +1,7 @@
 //! `choose firstn`: items are chosen in order, without gaps.
 
 ghost use Rattle.std.specs.Prelude.{◌≡◌, ◌<◌, ◌≤◌, ◌+◌, ◌++◌, ◌∷◌, ◌||◌, [], ◌^◌, nat_le, length};
-ghost use Rattle.crush_bucket.specs.Tables.{perms_of, bucket_numbered};
+ghost use Rattle.crush_bucket.specs.Tables.{scratch_of, bucket_numbered};
 ghost use Rattle.crush_choose.specs.Firstn as spec;
 ghost use Rattle.crush_choose.specs.Firstn.{IsFirstnCall, IsFirstnAnswer};
 ghost use Rattle.crush_choose.specs.Marks.{Marks, items_of, leaves_of};
@@ -16,8 +16,8 @@ use crate::reachable::can_choose;
 use crate::row::{Row, Slot};
 use crate::walk::{Reached, reach_by};
 use crate::weights::{Weights, is_device_in};
-use crush_bucket::laws::a_pick_is_pickable;
 use crush_bucket::{BucketNo, Scratch, Tables};
+use crush_kinds::laws::a_pick_is_pickable;
 use crush_map::ItemId;
 
 /// The parameters of a call of `choose_firstn`.
@@ -73,10 +73,10 @@ fn leaf_by(
     effort: &mut Effort,
 ) -> Option<ItemId>
     requires bucket { bucket < length tables.now.buckets }
-    requires fits { scratch.old ≡ perms_of tables.now }
+    requires fits { scratch.old ≡ scratch_of tables.now }
     requires low { r < 2 ^ 31 }
     ensures value { result ≡ spec.leaf_by tables.now weights.now call.now leaves.now bucket r }
-    ensures fits { scratch.new ≡ perms_of tables.now }
+    ensures fits { scratch.new ≡ scratch_of tables.now }
 {
     match reach_by(tables, scratch, call.x, r, 0, bucket, effort) {
         Reached::Found(item, _) if is_device_in(weights, call.x, item) && !has(leaves, item) => {
@@ -117,12 +117,12 @@ fn leaf_below(
     effort: &mut Effort,
 ) -> Option<ItemId>
     requires bucket { bucket < length tables.now.buckets }
-    requires fits { scratch.old ≡ perms_of tables.now }
+    requires fits { scratch.old ≡ scratch_of tables.now }
     requires from { call.now.bucket < length tables.now.buckets }
     requires low { start < 2 ^ 17 }
     requires few { call.now.leaf_tries ≤ TRIES_LIMIT }
     ensures value { result ≡ spec.leaf_below tables.now weights.now call.now leaves.now bucket start }
-    ensures fits { scratch.new ≡ perms_of tables.now }
+    ensures fits { scratch.new ≡ scratch_of tables.now }
 {
     a_pick_is_pickable();
     let since = effort.spent();
@@ -156,11 +156,11 @@ fn leaf_of(
     effort: &mut Effort,
 ) -> Option<ItemId>
     requires call { IsFirstnCall tables.now call.now }
-    requires fits { scratch.old ≡ perms_of tables.now }
+    requires fits { scratch.old ≡ scratch_of tables.now }
     requires few { count ≤ SIZE_LIMIT }
     requires low { r < 2 ^ 16 }
     ensures value { result ≡ spec.leaf_of tables.now weights.now call.now leaves.now count item r (bucket_numbered tables.now item) }
-    ensures fits { scratch.new ≡ perms_of tables.now }
+    ensures fits { scratch.new ≡ scratch_of tables.now }
 {
     match tables.bucket_of(item) {
         None => is_device_in(weights, call.x, item).then_some(item),
@@ -188,12 +188,12 @@ fn firstn_try(
     effort: &mut Effort,
 ) -> Option<Mark>
     requires call { IsFirstnCall tables.now call.now }
-    requires fits { scratch.old ≡ perms_of tables.now }
+    requires fits { scratch.old ≡ scratch_of tables.now }
     requires few { length items.now ≤ SIZE_LIMIT }
     requires rep { rep ≤ COUNT_LIMIT }
     requires round { round ≤ TRIES_LIMIT }
     ensures value { result ≡ spec.firstn_try tables.now weights.now call.now items.now leaves.now rep round }
-    ensures fits { scratch.new ≡ perms_of tables.now }
+    ensures fits { scratch.new ≡ scratch_of tables.now }
 {
     let end = reach_by(
         tables,
@@ -266,11 +266,11 @@ fn decide(
     effort: &mut Effort,
 ) -> Decision
     requires call { IsFirstnCall tables.now call.now }
-    requires fits { scratch.old ≡ perms_of tables.now }
+    requires fits { scratch.old ≡ scratch_of tables.now }
     requires few { length items.now ≤ SIZE_LIMIT }
     requires rep { rep ≤ COUNT_LIMIT }
     ensures value { IsDecision tables.now weights.now call.now items.now leaves.now (spec.decided tables.now weights.now call.now items.now leaves.now rep) result }
-    ensures fits { scratch.new ≡ perms_of tables.now }
+    ensures fits { scratch.new ≡ scratch_of tables.now }
 {
     let since = effort.spent();
     let mut asked = false;
@@ -303,12 +303,12 @@ fn decide_with_room(
     effort: &mut Effort,
 ) -> Decision
     requires call { IsFirstnCall tables.now call.now }
-    requires fits { scratch.old ≡ perms_of tables.now }
+    requires fits { scratch.old ≡ scratch_of tables.now }
     requires few { length items.now ≤ call.now.room }
     requires rep { rep ≤ COUNT_LIMIT }
     ensures value { IsDecision tables.now weights.now call.now items.now leaves.now (spec.mark_beside tables.now weights.now call.now items.now leaves.now rep) result }
     ensures room { length items.now + length (items_of (mark_in result ∷ [])) ≤ call.now.room }
-    ensures fits { scratch.new ≡ perms_of tables.now }
+    ensures fits { scratch.new ≡ scratch_of tables.now }
 {
     if (items.len() as u32) < call.room {
         decide(tables, scratch, weights, call, items, leaves, rep, effort)
@@ -348,14 +348,14 @@ pub fn choose_firstn(
     leaves: &mut Row,
 )
     requires call { IsFirstnCall tables.now call.now }
-    requires fits { scratch.old ≡ perms_of tables.now }
+    requires fits { scratch.old ≡ scratch_of tables.now }
     ensures items { items.new ≡ items_of (spec.firstn tables.now weights.now call.now) }
     ensures leaves { leaves.new ≡ leaves_of (spec.firstn tables.now weights.now call.now) }
     ensures there { IsFirstnAnswer tables.now weights.now call.now (spec.firstn tables.now weights.now call.now) }
     ensures only { (marks : Marks) → IsFirstnAnswer tables.now weights.now call.now marks → (items.new ≡ items_of marks) × (leaves.new ≡ leaves_of marks) }
     ensures room { length items.new ≤ call.now.room }
     ensures even { length leaves.new ≡ length items.new }
-    ensures fits { scratch.new ≡ perms_of tables.now }
+    ensures fits { scratch.new ≡ scratch_of tables.now }
 {
     a_pick_is_pickable();
     items.clear();

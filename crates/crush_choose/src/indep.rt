@@ -2,7 +2,7 @@
 
 ghost use Rattle.std.specs.Prelude.{◌≡◌, ◌<◌, ◌≤◌, ◌+◌, ◌++◌, ◌||◌, ◌^◌, nat_le, length, map, None, is_some, replicate};
 ghost use Rattle.std.specs.List.{list_all};
-ghost use Rattle.crush_bucket.specs.Tables.{perms_of, bucket_numbered};
+ghost use Rattle.crush_bucket.specs.Tables.{scratch_of, bucket_numbered};
 ghost use Rattle.crush_choose.specs.Marks.{Marks, item_at, leaf_at};
 ghost use Rattle.crush_choose.specs.Indep as spec;
 ghost use Rattle.crush_choose.specs.Indep.{IsIndepCall, IsIndepAnswer};
@@ -17,8 +17,8 @@ use crate::reachable::can_choose;
 use crate::row::{Row, Slot};
 use crate::walk::{Attempts, Reached, reach};
 use crate::weights::{Weights, is_device_in};
-use crush_bucket::laws::a_pick_is_pickable;
 use crush_bucket::{BucketNo, Scratch, Tables};
+use crush_kinds::laws::a_pick_is_pickable;
 use crush_map::ItemId;
 
 /// The parameters of a call of `choose_indep`.
@@ -86,11 +86,11 @@ fn leaf_by(
 ) -> Option<ItemId>
     requires call { IsIndepCall tables.now call.now }
     requires bucket { bucket < length tables.now.buckets }
-    requires fits { scratch.old ≡ perms_of tables.now }
+    requires fits { scratch.old ≡ scratch_of tables.now }
     requires low { start < 2 ^ 20 }
     requires soon { round ≤ TRIES_LIMIT }
     ensures value { result ≡ spec.indep_leaf_by tables.now weights.now call.now bucket start round }
-    ensures fits { scratch.new ≡ perms_of tables.now }
+    ensures fits { scratch.new ≡ scratch_of tables.now }
 {
     let attempts = Attempts {
         start,
@@ -117,10 +117,10 @@ fn leaf_below(
 ) -> Option<ItemId>
     requires call { IsIndepCall tables.now call.now }
     requires bucket { bucket < length tables.now.buckets }
-    requires fits { scratch.old ≡ perms_of tables.now }
+    requires fits { scratch.old ≡ scratch_of tables.now }
     requires low { start < 2 ^ 20 }
     ensures value { result ≡ spec.indep_leaf tables.now weights.now call.now bucket start }
-    ensures fits { scratch.new ≡ perms_of tables.now }
+    ensures fits { scratch.new ≡ scratch_of tables.now }
 {
     a_pick_is_pickable();
     let since = effort.spent();
@@ -152,11 +152,11 @@ fn leaf_of(
     effort: &mut Effort,
 ) -> Option<ItemId>
     requires call { IsIndepCall tables.now call.now }
-    requires fits { scratch.old ≡ perms_of tables.now }
+    requires fits { scratch.old ≡ scratch_of tables.now }
     requires pos { pos < SIZE_LIMIT }
     requires low { r < 2 ^ 16 }
     ensures value { result ≡ spec.indep_leaf_of tables.now weights.now call.now pos item r (bucket_numbered tables.now item) }
-    ensures fits { scratch.new ≡ perms_of tables.now }
+    ensures fits { scratch.new ≡ scratch_of tables.now }
 {
     match tables.bucket_of(item) {
         None => is_device_in(weights, call.x, item).then_some(item),
@@ -178,12 +178,12 @@ fn indep_try(
     effort: &mut Effort,
 ) -> Option<Mark>
     requires call { IsIndepCall tables.now call.now }
-    requires fits { scratch.old ≡ perms_of tables.now }
+    requires fits { scratch.old ≡ scratch_of tables.now }
     requires few { length marks.now ≤ SIZE_LIMIT }
     requires pos { pos < SIZE_LIMIT }
     requires soon { round ≤ TRIES_LIMIT }
     ensures value { result ≡ spec.indep_try tables.now weights.now call.now marks.now pos round }
-    ensures fits { scratch.new ≡ perms_of tables.now }
+    ensures fits { scratch.new ≡ scratch_of tables.now }
 {
     let attempts = Attempts {
         start: pos,
@@ -223,12 +223,12 @@ fn try_position(
     effort: &mut Effort,
 )
     requires call { IsIndepCall tables.now call.now }
-    requires fits { scratch.old ≡ perms_of tables.now }
+    requires fits { scratch.old ≡ scratch_of tables.now }
     requires few { length marks.old ≤ SIZE_LIMIT }
     requires pos { pos < length marks.old }
     requires soon { round ≤ TRIES_LIMIT }
     ensures value { marks.new ≡ spec.after_try (spec.indep_try tables.now weights.now call.now) round pos marks.old }
-    ensures fits { scratch.new ≡ perms_of tables.now }
+    ensures fits { scratch.new ≡ scratch_of tables.now }
 {
     if marks[pos as usize].is_none() {
         marks[pos as usize] = indep_try(tables, scratch, weights, call, marks, pos, round, effort);
@@ -246,12 +246,12 @@ fn run_round(
     effort: &mut Effort,
 )
     requires call { IsIndepCall tables.now call.now }
-    requires fits { scratch.old ≡ perms_of tables.now }
+    requires fits { scratch.old ≡ scratch_of tables.now }
     requires places { length marks.old ≡ call.now.n }
     requires soon { round ≤ TRIES_LIMIT }
     ensures value { marks.new ≡ spec.in_round (spec.indep_try tables.now weights.now call.now) round call.now.n marks.old }
     ensures places { length marks.new ≡ call.now.n }
-    ensures fits { scratch.new ≡ perms_of tables.now }
+    ensures fits { scratch.new ≡ scratch_of tables.now }
 {
     for pos in 0..call.n {
         try_position(tables, scratch, weights, call, marks, pos, round, effort);
@@ -304,11 +304,11 @@ fn run_rounds(
     marks: &mut [Option<Mark>],
 )
     requires call { IsIndepCall tables.now call.now }
-    requires fits { scratch.old ≡ perms_of tables.now }
+    requires fits { scratch.old ≡ scratch_of tables.now }
     requires places { marks.old ≡ replicate call.now.n None }
     ensures value { PlaceTheSame marks.new (spec.indep tables.now weights.now call.now) }
     ensures places { length marks.new ≡ call.now.n }
-    ensures fits { scratch.new ≡ perms_of tables.now }
+    ensures fits { scratch.new ≡ scratch_of tables.now }
 {
     a_pick_is_pickable();
     let mut effort = Effort::new();
@@ -377,14 +377,14 @@ pub fn choose_indep(
     leaves: &mut Row,
 )
     requires call { IsIndepCall tables.now call.now }
-    requires fits { scratch.old ≡ perms_of tables.now }
+    requires fits { scratch.old ≡ scratch_of tables.now }
     ensures items { items.new ≡ map item_at (spec.indep tables.now weights.now call.now) }
     ensures leaves { leaves.new ≡ map leaf_at (spec.indep tables.now weights.now call.now) }
     ensures there { IsIndepAnswer tables.now weights.now call.now (spec.indep tables.now weights.now call.now) }
     ensures only { (marks : Marks) → IsIndepAnswer tables.now weights.now call.now marks → (items.new ≡ map item_at marks) × (leaves.new ≡ map leaf_at marks) }
     ensures places { length items.new ≡ call.now.n }
     ensures even { length leaves.new ≡ call.now.n }
-    ensures fits { scratch.new ≡ perms_of tables.now }
+    ensures fits { scratch.new ≡ scratch_of tables.now }
 {
     let mut row = [None; SIZE_LIMIT];
     let marks = &mut row[..call.n as usize];

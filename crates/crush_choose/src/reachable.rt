@@ -2,7 +2,7 @@
 
 ghost use Rattle.std.specs.Prelude.{◌≡◌, ℕ, ◌<◌, ◌+◌, ◌||◌, ◌&&◌, nat_le, length};
 ghost use Rattle.std.specs.List.{list_any};
-ghost use Rattle.crush_bucket.specs.Pickable.{pickable, weighs};
+ghost use Rattle.crush_kinds.specs.Pickable.{pickable, weighs};
 ghost use Rattle.crush_bucket.specs.Tables.{bucket_at, bucket_numbered};
 ghost use Rattle.crush_choose.specs.Private.Reachable as spec;
 ghost use Rattle.crush_choose.specs.Private.Reachable.{IsMarked, can_be_placed, can_end_at, marked};

@@ -1,7 +1,7 @@
 //! The walk down from a bucket to an item of a type.
 
 ghost use Rattle.std.specs.Prelude.{◌≡◌, ◌+◌, ◌*◌, ◌<◌, ◌≤◌, ◌^◌, length};
-ghost use Rattle.crush_bucket.specs.Tables.{perms_of};
+ghost use Rattle.crush_bucket.specs.Tables.{scratch_of};
 ghost use Rattle.crush_choose.specs.Reach.{reach, step};
 ghost use Rattle.crush_choose.specs.Private.Walks.{AreAttempts, IsUpTo};
 ghost use Rattle.crush_map.specs.declared.limits.TheConstants.{COUNT_LIMIT};
@@ -60,11 +60,11 @@ pub(crate) fn reach(
     effort: &mut Effort,
 ) -> Reached
     requires from { from < length tables.now.buckets }
-    requires fits { scratch.old ≡ perms_of tables.now }
+    requires fits { scratch.old ≡ scratch_of tables.now }
     requires attempts { AreAttempts attempts }
     ensures value { result ≡ reach tables.now x (λ b. attempts.start + step tables.now attempts.numrep attempts.round b) wanted from }
     ensures up_to { IsUpTo (attempts.start + (COUNT_LIMIT + 1) * attempts.round) result }
-    ensures fits { scratch.new ≡ perms_of tables.now }
+    ensures fits { scratch.new ≡ scratch_of tables.now }
 {
     let mut bucket = from;
     'down: loop {
@@ -103,11 +103,11 @@ pub(crate) fn reach_by(
     effort: &mut Effort,
 ) -> Reached
     requires from { from < length tables.now.buckets }
-    requires fits { scratch.old ≡ perms_of tables.now }
+    requires fits { scratch.old ≡ scratch_of tables.now }
     requires low { r < 2 ^ 31 }
     ensures value { result ≡ reach tables.now x (λ b. r) wanted from }
     ensures up_to { IsUpTo r result }
-    ensures fits { scratch.new ≡ perms_of tables.now }
+    ensures fits { scratch.new ≡ scratch_of tables.now }
 {
     let attempts = Attempts {
         start: r,

@@ -2,7 +2,7 @@
 
 ghost use Rattle.std.specs.Prelude.{◌≡◌, ◌≤◌, ◌==◌, ◌||◌, ◌∷◌, ◌++◌, [], ℕ, IfOk, IfSome, OnOk, length, map, nat_lt, true, false};
 ghost use Rattle.std.specs.List.Sorted.{IsNonDecreasingBy, IsPartitionPoint};
-ghost use Rattle.crush_bucket.specs.Tables.{perms_of, tables_of};
+ghost use Rattle.crush_bucket.specs.Tables.{scratch_of, tables_of};
 ghost use Rattle.crush_map.specs.Faults.{has_number};
 ghost use Rattle.crush_pool.specs.Exceptions.{targets_of};
 ghost use Rattle.crush_report.specs.OnMaps.{touched_on, touches_on};
@@ -100,10 +100,10 @@ fn find_devices(
     devices: &mut Vec<u32>,
     group: u32,
 ) -> Result<(), AllocError>
-    requires fits { scratch.old ≡ perms_of (tables_of placer.now.map) }
+    requires fits { scratch.old ≡ scratch_of (tables_of placer.now.map) }
     ensures each { OnOk result ((d : ℕ) → has_number devices.new.items d ≡ touches_on placer.now d group) }
     ensures once { OnOk result (AreOnce devices.new.items) }
-    ensures fits { scratch.new ≡ perms_of (tables_of placer.now.map) }
+    ensures fits { scratch.new ≡ scratch_of (tables_of placer.now.map) }
 {
     traces_ascend();
     look_ahead(placer, scratch, group);

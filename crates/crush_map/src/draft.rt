@@ -3,8 +3,7 @@
 //! Source: Ceph's CRUSH map manual. Each number has a type that can hold values out of its range,
 //! so that a draft can be refused for them. The limits are in `limits`.
 
-use crate::word::{ItemId, Kind, Weight};
-use crush_values::{Listed, Text};
+use crush_values::{ItemId, Kind, Listed, Text, Weight};
 
 /// A type of buckets; type 0 is that of devices.
 #[derive(Drop)]

@@ -13,8 +13,7 @@ use crate::limits::{
 };
 use crate::names::Names;
 use crate::numbers::Numbers;
-use crate::weights::{has_equal_weights, total_weight};
-use crate::word::{ItemId, Kind, Weight};
+use crush_values::{ItemId, Kind, Weight, has_equal_weights, total_weight};
 use std::alloc::{AllocError, Global};
 use std::marker::Model;
 

@@ -15,10 +15,10 @@ pub mod limits;
 mod map;
 mod names;
 mod numbers;
-mod weights;
-mod word;
 
-pub use crush_values::{ByDevice, Listed, Text};
+pub use crush_values::{
+    ByDevice, ItemId, Kind, Listed, Text, Weight, has_equal_weights, total_weight,
+};
 pub use decimal::{
     are_digits, weight_comes_back, weight_from_text, weight_text, weight_texts_are_read,
 };
@@ -31,5 +31,3 @@ pub use law::{
     numbers_are_sound, rules_are_sound,
 };
 pub use map::CrushMap;
-pub use weights::{has_equal_weights, total_weight};
-pub use word::{ItemId, Kind, Weight};

@@ -1,8 +1,8 @@
 //! A permutation of 0, 1, .. as pairs of a place and its member, in order of place, for the places
 //! whose member is another number than the place.
 
-ghost use Rattle.std.specs.Prelude.{◌≡◌, ◌≢◌, ◌≤◌, ◌<◌, ◌+◌, ◌∷◌, [], length, take};
-ghost use Rattle.crush_permutation.specs.Private.Pairs.{index, member_at, is_there, exchanged, IsRising, IsMovedRight};
+ghost use Rattle.std.specs.Prelude.{◌≡◌, ◌≢◌, ◌≤◌, ◌<◌, ◌+◌, ◌-◌, ◌∷◌, [], length, slice_index_or, take};
+ghost use Rattle.crush_permutation.specs.Private.Pairs.{no_pair, index, member_at, is_there, exchanged, IsRising, IsMovedRight};
 
 /// A place and its member.
 pub(crate) type Pair = (u32, u32);
@@ -47,14 +47,13 @@ fn index_of(pairs: &[Pair], place: u32) -> usize
     at
 }
 
-/// Returns how many pairs are of lower places than one above `low`, whose index is `from`; the
+/// Returns how many pairs are of lower places than one, where so many are from the front on; the
 /// member at that place; and whether it has a pair. It compares all pairs from there on: a
 /// processor predicts a loop of a known length better than a search that may end anywhere.
 #[inline]
-fn search(pairs: &[Pair], from: usize, low: u32, place: u32) -> (usize, u32, bool)
+fn search(pairs: &[Pair], from: usize, place: u32) -> (usize, u32, bool)
     requires rising { IsRising pairs.now }
-    requires lower { from ≡ index pairs.now low }
-    requires above { low < place }
+    requires lower { 0 < from → (slice_index_or pairs.now (from - 1) no_pair).0 < place }
     requires within { from ≤ length pairs.now }
     ensures value { result.0 ≡ index pairs.now place }
     ensures within { result.0 ≤ length pairs.now }
@@ -117,7 +116,7 @@ pub(crate) fn exchange(row: &mut [Pair], len: usize, low: u32, high: u32) -> (u3
     let at = index_of(pairs, low);
     let own = member_by(pairs, at, low);
     let up = usize::from(!is_there(pairs, at, low));
-    let (to, member, found) = search(pairs, at, low, high);
+    let (to, member, found) = search(pairs, at, high);
     let more = usize::from(!found);
     move_right(row, at, to, len, up, more);
     row[to + up] = (high, own);

@@ -10,7 +10,7 @@ use Rattle.std.proofs.lemmas.List.Folds.{list_all_at}
 use Rattle.std.proofs.lemmas.List.Sums.{passes_at_first}
 use Rattle.crush_map.specs.Faults.{has_number}
 use Rattle.crush_map.specs.declared.limits.TheConstants.{NUMBER_LIMIT}
-use Rattle.crush_map.specs.declared.word.ItemId.{ItemId}
+use Rattle.crush_values.specs.declared.ItemId.{ItemId}
 use Rattle.crush_bucket.specs.Tables.{TablesView}
 use Rattle.crush_choose.specs.Firstn.{slot_has}
 use Rattle.crush_choose.specs.Marks.{Slot}

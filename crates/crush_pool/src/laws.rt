@@ -20,7 +20,7 @@ ghost use Rattle.crush_pool.specs.Placements.{is_up_slot, placed, placement, pri
 ghost use Rattle.crush_pool.specs.Pools.{is_pool, seed_of};
 ghost use Rattle.crush_pool.specs.States.{flags_of, reweights};
 
-use crush_bucket::laws::height_is_least;
+use crush_kinds::laws::height_is_least;
 use crush_rules::laws::traces_ascend;
 use crush_rules::stability::lowering_outside_the_trace_changes_nothing;
 

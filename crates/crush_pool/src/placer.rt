@@ -60,7 +60,7 @@ impl<'a> Model for Placer<'a> {
 impl<'a> Placer<'a> {
     ghost use Rattle.std.specs.Prelude.{◌≡◌, ◌<◌, ◌≤◌, ℕ, List, Some, IfOk, is_some, true, length, option_map};
     ghost use Rattle.crush_map.specs.Faults.{has_number};
-    ghost use Rattle.crush_bucket.specs.Tables.{perms_of, tables_of};
+    ghost use Rattle.crush_bucket.specs.Tables.{scratch_of, tables_of};
     ghost use Rattle.crush_rules.specs.Rules.{IsTrace, rule_answer};
     ghost use Rattle.crush_choose.specs.Weights.{weights_of};
     ghost use Rattle.crush_choose.specs.declared.limits.TheConstants.{SIZE_LIMIT};
@@ -151,10 +151,10 @@ impl<'a> Placer<'a> {
     /// Runs the pool's rule for a group: sets `out` to its answer and to the trace of the run.
     /// Allocates nothing.
     pub fn run(&self, scratch: &mut Scratch, out: &mut Out, group: u32)
-        requires fits { scratch.old ≡ perms_of (tables_of self.now.map) }
+        requires fits { scratch.old ≡ scratch_of (tables_of self.now.map) }
         ensures items { out.new.items ≡ rule_answer (tables_of self.now.map) (weights_of (reweights self.now.states)) (steps_of self.now) (seed_of self.now.pool group) self.now.pool.size }
         ensures trace { IsTrace (tables_of self.now.map) (weights_of (reweights self.now.states)) (steps_of self.now) (seed_of self.now.pool group) self.now.pool.size out.new.trace }
-        ensures fits { scratch.new ≡ perms_of (tables_of self.now.map) }
+        ensures fits { scratch.new ≡ scratch_of (tables_of self.now.map) }
     {
         run(
             self.tables,
@@ -170,8 +170,8 @@ impl<'a> Placer<'a> {
     /// Picks ahead what the pool's rule asks for first for this group and the three behind it, side
     /// by side. What is answered later is the same with and without; it takes less time.
     pub fn look_ahead(&self, scratch: &mut Scratch, group: u32)
-        requires fits { scratch.old ≡ perms_of (tables_of self.now.map) }
-        ensures fits { scratch.new ≡ perms_of (tables_of self.now.map) }
+        requires fits { scratch.old ≡ scratch_of (tables_of self.now.map) }
+        ensures fits { scratch.new ≡ scratch_of (tables_of self.now.map) }
     {
         if !can_look_ahead(self.tables, self.rule) {
             return;
@@ -187,10 +187,10 @@ impl<'a> Placer<'a> {
     /// Whether a device is in the trace of a run of the pool's rule for a group. Sets `out` to the
     /// rule's answer. Allocates nothing.
     pub fn touches(&self, scratch: &mut Scratch, out: &mut Out, group: u32, device: u32) -> bool
-        requires fits { scratch.old ≡ perms_of (tables_of self.now.map) }
+        requires fits { scratch.old ≡ scratch_of (tables_of self.now.map) }
         ensures touched { (trace : List ℕ) → IsTrace (tables_of self.now.map) (weights_of (reweights self.now.states)) (steps_of self.now) (seed_of self.now.pool group) self.now.pool.size trace → result ≡ has_number trace device }
         ensures items { out.new.items ≡ rule_answer (tables_of self.now.map) (weights_of (reweights self.now.states)) (steps_of self.now) (seed_of self.now.pool group) self.now.pool.size }
-        ensures fits { scratch.new ≡ perms_of (tables_of self.now.map) }
+        ensures fits { scratch.new ≡ scratch_of (tables_of self.now.map) }
     {
         let seed = self.pool.seed_of(group);
         let size = self.pool.parts().size;
@@ -216,11 +216,11 @@ impl<'a> Placer<'a> {
         group: u32,
     ) -> Result<Placement, AllocError>
         requires there { group < self.now.pool.pg_num }
-        requires fits { scratch.old ≡ perms_of (tables_of self.now.map) }
+        requires fits { scratch.old ≡ scratch_of (tables_of self.now.map) }
         ensures placed { IfOk result (λ p. placement self.now.map self.now.states self.now.pool self.now.pairs group ≡ Some p) }
         ensures items { IfOk result (λ p. out.new.items ≡ p.raw) }
         ensures trace { IfOk result (λ p. IsTrace (tables_of self.now.map) (weights_of (reweights self.now.states)) (steps_of self.now) p.seed self.now.pool.size out.new.trace) }
-        ensures fits { scratch.new ≡ perms_of (tables_of self.now.map) }
+        ensures fits { scratch.new ≡ scratch_of (tables_of self.now.map) }
     {
         self.run(scratch, out, group);
         let placement = placement_by(

@@ -2,7 +2,7 @@
 
 ghost use Rattle.std.specs.Prelude.{◌≡◌, ◌<◌, ◌≤◌, List, Some, IfOk, IfErr, IfSome, is_ok, nat_lt, length, option_map, true};
 ghost use Rattle.crush_map.specs.Map.{Map};
-ghost use Rattle.crush_bucket.specs.Tables.{perms_of, tables_of};
+ghost use Rattle.crush_bucket.specs.Tables.{scratch_of, tables_of};
 ghost use Rattle.crush_rules.specs.Rules.{CanRun, IsTrace, rule_answer};
 ghost use Rattle.crush_choose.specs.Weights.{weights_of};
 ghost use Rattle.crush_choose.specs.declared.limits.TheConstants.{SIZE_LIMIT};
@@ -134,10 +134,10 @@ pub(crate) fn run(
     out: &mut Out,
 )
     requires rule { CanRun tables.now rule.now }
-    requires fits { scratch.old ≡ perms_of tables.now }
+    requires fits { scratch.old ≡ scratch_of tables.now }
     ensures items { out.new.items ≡ rule_answer tables.now weights.now rule.now.steps (seed_of pool.now group) pool.now.size }
     ensures trace { IsTrace tables.now weights.now rule.now.steps (seed_of pool.now group) pool.now.size out.new.trace }
-    ensures fits { scratch.new ≡ perms_of tables.now }
+    ensures fits { scratch.new ≡ scratch_of tables.now }
 {
     let seed = pool.seed_of(group);
     let size = pool.parts().size;
@@ -196,11 +196,11 @@ pub fn place(
 ) -> Result<Result<Placement, PoolFault>, AllocError>
     requires exceptions { are_pairs pool.now.pg_num exceptions.now ≡ true }
     requires rule { CanRun tables.now rule.now }
-    requires fits { scratch.old ≡ perms_of tables.now }
+    requires fits { scratch.old ≡ scratch_of tables.now }
     ensures there { IfOk result (λ answer. is_ok answer ≡ nat_lt group pool.now.pg_num) }
     ensures placed { IfOk result (λ answer. IfOk answer (λ p. p ≡ spec.placed tables.now weights.now states.now rule.now.steps pool.now exceptions.now group)) }
     ensures fault { IfOk result (λ answer. IfErr answer (λ fault. fault ≡ PoolFault.P2)) }
-    ensures fits { scratch.new ≡ perms_of tables.now }
+    ensures fits { scratch.new ≡ scratch_of tables.now }
     ensures map { (m : Map) (given : List DeviceState) → tables.now ≡ tables_of m → weights.now ≡ weights_of (reweights given) → states.now ≡ flags_of given → spec.rule_numbered m pool.now.rule ≡ Some rule.now → IfOk result (λ answer. IfOk answer (λ p. Some p ≡ spec.placement m given pool.now exceptions.now group)) }
 {
     if group >= pool.parts().pg_num {

@@ -2,7 +2,7 @@
 //! rule answers the same for them. Exceptions are of single groups, and come after.
 
 ghost use Rattle.std.specs.Prelude.{◌≡◌};
-ghost use Rattle.crush_bucket.specs.Tables.{perms_of, tables_of};
+ghost use Rattle.crush_bucket.specs.Tables.{scratch_of, tables_of};
 ghost use Rattle.crush_pool.specs.Groups.{mask_of};
 ghost use Rattle.crush_map.specs.Faults.{has_number};
 ghost use Rattle.crush_report.specs.OnMaps.{answer_on, trace_on};
@@ -61,8 +61,8 @@ fn are_few(pool: &Pool, most: u32) -> bool {
 /// At each group that is a multiple of eight, what the pool's rule asks for first is picked ahead
 /// for the eight groups from there on.
 pub fn look_ahead(placer: &Placer, scratch: &mut Scratch, group: u32)
-    requires fits { scratch.old ≡ perms_of (tables_of placer.now.map) }
-    ensures fits { scratch.new ≡ perms_of (tables_of placer.now.map) }
+    requires fits { scratch.old ≡ scratch_of (tables_of placer.now.map) }
+    ensures fits { scratch.new ≡ scratch_of (tables_of placer.now.map) }
 {
     if group % LANES as u32 == 0 {
         placer.look_ahead(scratch, group);
@@ -71,9 +71,9 @@ pub fn look_ahead(placer: &Placer, scratch: &mut Scratch, group: u32)
 
 /// Runs the pool's rule for a group, as one of many in order: sets `out` to its answer.
 pub(crate) fn run_next(placer: &Placer, scratch: &mut Scratch, out: &mut Out, group: u32)
-    requires fits { scratch.old ≡ perms_of (tables_of placer.now.map) }
+    requires fits { scratch.old ≡ scratch_of (tables_of placer.now.map) }
     ensures items { out.new.items ≡ answer_on placer.now group }
-    ensures fits { scratch.new ≡ perms_of (tables_of placer.now.map) }
+    ensures fits { scratch.new ≡ scratch_of (tables_of placer.now.map) }
 {
     look_ahead(placer, scratch, group);
     placer.run(scratch, out, group);
@@ -94,7 +94,7 @@ pub(crate) struct Answers {
 
 impl Answers {
     ghost use Rattle.std.specs.Prelude.{◌≡◌, IfOk, IfSome, []};
-    ghost use Rattle.crush_bucket.specs.Tables.{perms_of, tables_of};
+    ghost use Rattle.crush_bucket.specs.Tables.{scratch_of, tables_of};
     ghost use Rattle.crush_pool.specs.Placers.{PoolOnMap};
     ghost use Rattle.crush_report.specs.OnMaps.{answer_on};
     ghost use Rattle.crush_report.specs.Private.Places.{AreAnswers};
@@ -120,9 +120,9 @@ impl Answers {
         out: &mut Out,
         most: u32,
     ) -> Result<Answers, AllocError>
-        requires fits { scratch.old ≡ perms_of (tables_of placer.now.map) }
+        requires fits { scratch.old ≡ scratch_of (tables_of placer.now.map) }
         ensures answers { IfOk result (λ a. AreAnswers placer.now a) }
-        ensures fits { scratch.new ≡ perms_of (tables_of placer.now.map) }
+        ensures fits { scratch.new ≡ scratch_of (tables_of placer.now.map) }
     {
         let pool = placer.pool();
         let places = Places::of(pool);
@@ -167,9 +167,9 @@ pub(crate) fn is_traced(
     device: u32,
     group: u32,
 ) -> bool
-    requires fits { scratch.old ≡ perms_of (tables_of placer.now.map) }
+    requires fits { scratch.old ≡ scratch_of (tables_of placer.now.map) }
     ensures traced { result ≡ has_number (trace_on placer.now group) device }
-    ensures fits { scratch.new ≡ perms_of (tables_of placer.now.map) }
+    ensures fits { scratch.new ≡ scratch_of (tables_of placer.now.map) }
 {
     traces_ascend();
     look_ahead(placer, scratch, group);
@@ -187,7 +187,7 @@ pub(crate) struct Traced {
 impl Traced {
     ghost use Rattle.std.specs.Prelude.{◌≡◌, IfOk, IfSome, ℕ};
     ghost use Rattle.crush_map.specs.Faults.{has_number};
-    ghost use Rattle.crush_bucket.specs.Tables.{perms_of, tables_of};
+    ghost use Rattle.crush_bucket.specs.Tables.{scratch_of, tables_of};
     ghost use Rattle.crush_pool.specs.Placers.{PoolOnMap};
     ghost use Rattle.crush_report.specs.OnMaps.{trace_on};
     ghost use Rattle.crush_report.specs.Private.Places.{AreTraced};
@@ -201,9 +201,9 @@ impl Traced {
         out: &mut Out,
         device: u32,
     ) -> Result<Traced, AllocError>
-        requires fits { scratch.old ≡ perms_of (tables_of placer.now.map) }
+        requires fits { scratch.old ≡ scratch_of (tables_of placer.now.map) }
         ensures traced { IfOk result (λ t. AreTraced placer.now device t) }
-        ensures fits { scratch.new ≡ perms_of (tables_of placer.now.map) }
+        ensures fits { scratch.new ≡ scratch_of (tables_of placer.now.map) }
     {
         let places = Places::of(placer.pool());
         let mut found = Vec::new(alloc);

@@ -2,7 +2,7 @@
 
 ghost use Rattle.std.specs.List.{range_with_len};
 ghost use Rattle.std.specs.Prelude.{◌≡◌, ◌<◌, ◌≤◌, ◌*◌, ◌^◌, Some, IfOk, OnOk, length};
-ghost use Rattle.crush_bucket.specs.Tables.{perms_of, tables_of};
+ghost use Rattle.crush_bucket.specs.Tables.{scratch_of, tables_of};
 ghost use Rattle.crush_choose.specs.declared.limits.TheConstants.{SIZE_LIMIT};
 ghost use Rattle.crush_pool.specs.Placements.{up_of};
 ghost use Rattle.crush_pool.specs.declared.limits.TheConstants.{GROUP_LIMIT};
@@ -172,9 +172,9 @@ pub(crate) fn set_up_of(
     group: u32,
 ) -> Result<(), AllocError>
     requires answers { AreAnswers placer.now answers.now }
-    requires fits { scratch.old ≡ perms_of (tables_of placer.now.map) }
+    requires fits { scratch.old ≡ scratch_of (tables_of placer.now.map) }
     ensures up { OnOk result (up.new.items ≡ up_on placer.now group) }
-    ensures fits { scratch.new ≡ perms_of (tables_of placer.now.map) }
+    ensures fits { scratch.new ≡ scratch_of (tables_of placer.now.map) }
 {
     match answers.kept(group) {
         Some(raw) => set_up_by(up, placer, group, raw),
@@ -203,8 +203,8 @@ fn moved_rows(
 ) -> Result<Listed<MoveRow>, AllocError>
     requires olds { AreAnswers from.now olds.now }
     requires news { AreAnswers to.now news.now }
-    requires first { old_scratch.old ≡ perms_of (tables_of from.now.map) }
-    requires second { new_scratch.old ≡ perms_of (tables_of to.now.map) }
+    requires first { old_scratch.old ≡ scratch_of (tables_of from.now.map) }
+    requires second { new_scratch.old ≡ scratch_of (tables_of to.now.map) }
     ensures { IfOk result (λ rows. rows ≡ spec.move_rows (up_on from.now) (up_on to.now) (range_with_len 0 from.now.pool.pg_num)) }
 {
     let mut old = Vec::with_capacity(alloc, SIZE_LIMIT)?;

@@ -1,7 +1,7 @@
 //! The groups of a pool that a device can touch.
 
 ghost use Rattle.std.specs.Prelude.{◌≡◌, Some, IfOk};
-ghost use Rattle.crush_bucket.specs.Tables.{perms_of, tables_of};
+ghost use Rattle.crush_bucket.specs.Tables.{scratch_of, tables_of};
 ghost use Rattle.crush_report.specs.OnMaps.{touches_on};
 ghost use Rattle.crush_report.specs.Private.Places.{AreTraced};
 ghost use Rattle.crush_report.specs.Reports.{impact};
@@ -24,9 +24,9 @@ fn is_touched(
     group: u32,
 ) -> bool
     requires traced { AreTraced placer.now device traced.now }
-    requires fits { scratch.old ≡ perms_of (tables_of placer.now.map) }
+    requires fits { scratch.old ≡ scratch_of (tables_of placer.now.map) }
     ensures touched { result ≡ touches_on placer.now device group }
-    ensures fits { scratch.new ≡ perms_of (tables_of placer.now.map) }
+    ensures fits { scratch.new ≡ scratch_of (tables_of placer.now.map) }
 {
     if placer.exceptions().lead_to(group, device) {
         return true;

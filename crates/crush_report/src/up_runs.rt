@@ -21,7 +21,7 @@ pub struct UpRun<'a> {
 
 impl<'a> Model for UpRun<'a> {
     ghost use Rattle.std.specs.Prelude.{◌≡◌};
-    ghost use Rattle.crush_bucket.specs.Tables.{perms_of, tables_of};
+    ghost use Rattle.crush_bucket.specs.Tables.{scratch_of, tables_of};
     ghost use Rattle.crush_pool.specs.Placers.{PoolOnMap};
     ghost use Rattle.crush_report.specs.Private.Places.{AreAnswers};
 
@@ -31,7 +31,7 @@ impl<'a> Model for UpRun<'a> {
 
     ghost invariant = { λ a. record {
       answers : AreAnswers a.placer.now a.answers;
-      fits : a.scratch ≡ perms_of (tables_of a.placer.now.map);
+      fits : a.scratch ≡ scratch_of (tables_of a.placer.now.map);
     } };
 }
 

@@ -1,7 +1,7 @@
 //! How much of a pool lies on each device.
 
 ghost use Rattle.std.specs.Prelude.{◌≡◌, ◌<◌, ◌≤◌, ◌+◌, ◌*◌, ◌^◌, ◌++◌, ◌∷◌, [], ℕ, List, Some, IfOk, length, map};
-ghost use Rattle.crush_bucket.specs.Tables.{perms_of, tables_of};
+ghost use Rattle.crush_bucket.specs.Tables.{scratch_of, tables_of};
 ghost use Rattle.crush_choose.specs.Marks.{Slot};
 ghost use Rattle.crush_choose.specs.declared.limits.TheConstants.{SIZE_LIMIT};
 ghost use Rattle.crush_report.specs.OnMaps.{up_from, up_on};
@@ -194,13 +194,13 @@ fn count_group(
     group: u32,
 )
     requires answers { AreAnswers placer.now answers.now }
-    requires fits { scratch.old ≡ perms_of (tables_of placer.now.map) }
+    requires fits { scratch.old ≡ scratch_of (tables_of placer.now.map) }
     requires groups { HasRoom tally.old.groups SIZE_LIMIT }
     requires entries { HasRoom tally.old.entries SIZE_LIMIT }
     requires primaries { HasRoom tally.old.primaries SIZE_LIMIT }
     requires filled { tally.old.filled + SIZE_LIMIT < 2 ^ 32 }
     ensures tally { (bound : ℕ) (ups : List (List Slot)) → IsTally bound ups tally.old → IsTally bound (ups ++ up_on placer.now group ∷ []) tally.new }
-    ensures fits { scratch.new ≡ perms_of (tables_of placer.now.map) }
+    ensures fits { scratch.new ≡ scratch_of (tables_of placer.now.map) }
 {
     match answers.kept(group) {
         Some(raw) => add_group(tally, placer, group, raw),

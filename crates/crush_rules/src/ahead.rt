@@ -4,7 +4,7 @@
 //! answer, only how soon it is there.
 
 ghost use Rattle.std.specs.Prelude.{◌≡◌};
-ghost use Rattle.crush_bucket.specs.Tables.{perms_of};
+ghost use Rattle.crush_bucket.specs.Tables.{scratch_of};
 
 use crate::rule::reps;
 use crush_bucket::{BucketNo, LANES, Scratch, Tables};
@@ -16,9 +16,10 @@ const REP_LIMIT: u32 = 12;
 /// How many buckets a walk goes down at most.
 const DEPTH_LIMIT: u32 = 8;
 
-/// What a choose step asks for at its first tries.
+/// What a choose step asks for at its first tries, for eight inputs.
 #[derive(Clone, Copy)]
 struct Guess {
+    xs: [u32; LANES],
     firstn: bool,
     leaf: bool,
     wanted: u32,
@@ -60,21 +61,22 @@ fn is_wanted(tables: &Tables, bucket: BucketNo, wanted: u32) -> bool {
     bucket.place() < tables.len() && tables.type_of(bucket) == wanted
 }
 
-/// Picks ahead down from eight buckets, for an attempt. Returns the buckets of the wanted type that
-/// are reached; `None` where the walks part or end before.
+/// Picks ahead down from eight buckets, for eight inputs and an attempt. Returns the buckets of the
+/// wanted type that are reached; `None` where the walks part or end before.
 fn walk_ahead(
     tables: &Tables,
     scratch: &mut Scratch,
+    xs: &[u32; LANES],
     from: [BucketNo; LANES],
     r: u32,
     wanted: u32,
 ) -> Option<[BucketNo; LANES]>
-    requires { scratch.old ≡ perms_of tables.now }
-    ensures { scratch.new ≡ perms_of tables.now }
+    requires { scratch.old ≡ scratch_of tables.now }
+    ensures { scratch.new ≡ scratch_of tables.now }
 {
     let mut at = from;
     'down: for _ in 0..DEPTH_LIMIT {
-        let items = scratch.pick_ahead(at, r)?;
+        let items = scratch.pick_ahead(at, xs, r)?;
         at = buckets_of(tables, &items)?;
         let (mut all, mut some) = (true, false);
         for lane in 0..LANES {
@@ -94,14 +96,15 @@ fn walk_ahead(
 
 /// Picks ahead what a choose step asks for below a bucket.
 fn choose_ahead(tables: &Tables, scratch: &mut Scratch, guess: &Guess, bucket: BucketNo)
-    requires { scratch.old ≡ perms_of tables.now }
-    ensures { scratch.new ≡ perms_of tables.now }
+    requires { scratch.old ≡ scratch_of tables.now }
+    ensures { scratch.new ≡ scratch_of tables.now }
 {
     for rep in 0..guess.reps.min(REP_LIMIT) {
-        let found = walk_ahead(tables, scratch, [bucket; LANES], rep, guess.wanted);
+        let from = [bucket; LANES];
+        let found = walk_ahead(tables, scratch, &guess.xs, from, rep, guess.wanted);
         if let Some(at) = found {
             if guess.leaf {
-                walk_ahead(tables, scratch, at, guess.leaf_attempt(rep), 0);
+                walk_ahead(tables, scratch, &guess.xs, at, guess.leaf_attempt(rep), 0);
             }
         }
     }
@@ -126,8 +129,8 @@ pub fn can_look_ahead(tables: &Tables, rule: &Rule) -> bool {
 /// `size` slots. What the rule answers afterwards is the same, for these inputs and for others. It
 /// may allocate; where that fails less is picked ahead.
 pub fn look_ahead(tables: &Tables, scratch: &mut Scratch, rule: &Rule, xs: [u32; LANES], size: u32)
-    requires { scratch.old ≡ perms_of tables.now }
-    ensures { scratch.new ≡ perms_of tables.now }
+    requires { scratch.old ≡ scratch_of tables.now }
+    ensures { scratch.new ≡ scratch_of tables.now }
 {
     scratch.turn_to(xs);
     let tunables = tables.tunables();
@@ -147,6 +150,7 @@ pub fn look_ahead(tables: &Tables, scratch: &mut Scratch, rule: &Rule, xs: [u32;
             } => {
                 if let Some(bucket) = from {
                     let guess = Guess {
+                        xs,
                         firstn,
                         leaf,
                         wanted,

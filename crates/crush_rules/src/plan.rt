@@ -1,7 +1,7 @@
 //! The output of a choose step.
 
 ghost use Rattle.std.specs.Prelude.{◌≡◌, ◌<◌, ◌≤◌, ◌+◌, ◌++◌, [], length, map};
-ghost use Rattle.crush_bucket.specs.Tables.{perms_of};
+ghost use Rattle.crush_bucket.specs.Tables.{scratch_of};
 ghost use Rattle.crush_rules.specs.Rules.{put_out, slot_out, step_out};
 ghost use Rattle.crush_rules.specs.Private.Runs.{IsPlan, call_of};
 ghost use Rattle.crush_choose.specs.declared.limits.TheConstants.{SIZE_LIMIT};
@@ -48,11 +48,11 @@ fn put_out(
 )
     requires plan { IsPlan plan.now }
     requires bucket { bucket < length tables.now.buckets }
-    requires fits { scratch.old ≡ perms_of tables.now }
+    requires fits { scratch.old ≡ scratch_of tables.now }
     requires room { length out.old + room ≤ SIZE_LIMIT }
     ensures value { out.new ≡ out.old ++ put_out tables.now weights.now (call_of plan.now) room bucket }
     ensures room { length (put_out tables.now weights.now (call_of plan.now) room bucket) ≤ room }
-    ensures fits { scratch.new ≡ perms_of tables.now }
+    ensures fits { scratch.new ≡ scratch_of tables.now }
 {
     if plan.numrep == 0 {
         return;
@@ -105,11 +105,11 @@ fn slot_out(
     out: &mut Row,
 )
     requires plan { IsPlan plan.now }
-    requires fits { scratch.old ≡ perms_of tables.now }
+    requires fits { scratch.old ≡ scratch_of tables.now }
     requires room { length out.old + room ≤ SIZE_LIMIT }
     ensures value { out.new ≡ out.old ++ slot_out tables.now weights.now (call_of plan.now) room slot }
     ensures room { length (slot_out tables.now weights.now (call_of plan.now) room slot) ≤ room }
-    ensures fits { scratch.new ≡ perms_of tables.now }
+    ensures fits { scratch.new ≡ scratch_of tables.now }
 {
     match slot {
         Some(item) => match tables.bucket_of(item) {
@@ -135,12 +135,12 @@ pub(crate) fn step_out(
     out: &mut Row,
 )
     requires plan { IsPlan plan.now }
-    requires fits { scratch.old ≡ perms_of tables.now }
+    requires fits { scratch.old ≡ scratch_of tables.now }
     requires size { size ≤ SIZE_LIMIT }
     requires empty { out.old ≡ [] }
     ensures value { out.new ≡ step_out tables.now weights.now (call_of plan.now) size working.now }
     ensures room { length out.new ≤ size }
-    ensures fits { scratch.new ≡ perms_of tables.now }
+    ensures fits { scratch.new ≡ scratch_of tables.now }
 {
     for slot in working {
         let room = size - out.len() as u32;

@@ -3,7 +3,7 @@
 ghost use Rattle.std.specs.Prelude.{◌≡◌, ◌<◌, ◌≤◌, ◌+◌, ◌-◌, ◌*◌, ◌++◌, [], ◌∷◌, take, length, vec_len, vec_capacity, slice_index_or, IfOk, Some, true, ℕ, List};
 ghost use Rattle.std.specs.List.Sorted.{IsStrictlyIncreasing};
 ghost use Rattle.crush_map.specs.Faults.{are_in_range, has_number};
-ghost use Rattle.crush_bucket.specs.Tables.{perms_of};
+ghost use Rattle.crush_bucket.specs.Tables.{scratch_of};
 ghost use Rattle.crush_rules.specs.Rules as spec;
 ghost use Rattle.crush_rules.specs.Rules.{CanRun, IsTrace, rule_answer, with_chosen};
 ghost use Rattle.crush_rules.specs.Stability.{AreLoweredOutside};
@@ -120,13 +120,13 @@ fn choose(
     k: u32,
 )
     requires plan { IsPlan plan.now }
-    requires fits { scratch.old ≡ perms_of tables.now }
+    requires fits { scratch.old ≡ scratch_of tables.now }
     requires size { size ≤ SIZE_LIMIT }
     requires few { k < STEP_LIMIT }
     requires run { IsRun size k run.old }
     ensures value { state_of run.new ≡ with_chosen (state_of run.old) (spec.step_out tables.now weights.now (call_of plan.now) size run.old.working) }
     ensures run { IsRun size (k + 1) run.new }
-    ensures fits { scratch.new ≡ perms_of tables.now }
+    ensures fits { scratch.new ≡ scratch_of tables.now }
 {
     run.next.clear();
     step_out(
@@ -156,14 +156,14 @@ fn after_step(
     step: Step,
     k: u32,
 )
-    requires fits { scratch.old ≡ perms_of tables.now }
+    requires fits { scratch.old ≡ scratch_of tables.now }
     requires size { size ≤ SIZE_LIMIT }
     requires few { k < STEP_LIMIT }
     requires step { IsStep size step }
     requires run { IsRun size k run.old }
     ensures value { state_of run.new ≡ spec.after_step tables.now weights.now x size (state_of run.old) step }
     ensures run { IsRun size (k + 1) run.new }
-    ensures fits { scratch.new ≡ perms_of tables.now }
+    ensures fits { scratch.new ≡ scratch_of tables.now }
 {
     match step {
         Step::Take(item) => {
@@ -252,7 +252,7 @@ fn take_steps(
     weights: &Weights,
     run: &mut Run,
 )
-    requires fits { scratch.old ≡ perms_of tables.now }
+    requires fits { scratch.old ≡ scratch_of tables.now }
     requires tunables { are_in_range tables.now.tunables ≡ true }
     requires size { size ≤ SIZE_LIMIT }
     requires few { length steps.now ≤ STEP_LIMIT }
@@ -262,7 +262,7 @@ fn take_steps(
     ensures room { length run.new.emitted ≤ size }
     ensures made { run.new.made.items ≡ (spec.after_rule tables.now weights.now steps.now x size).made }
     ensures capacity { TRACE_LIMIT ≤ vec_capacity run.new.made }
-    ensures fits { scratch.new ≡ perms_of tables.now }
+    ensures fits { scratch.new ≡ scratch_of tables.now }
 {
     start(tables.tunables(), run);
     for (k, step) in steps.iter().enumerate() {
@@ -280,7 +280,7 @@ fn trace_steps(
     weights: &Weights,
     run: &mut Run,
 )
-    requires fits { scratch.old ≡ perms_of tables.now }
+    requires fits { scratch.old ≡ scratch_of tables.now }
     requires tunables { are_in_range tables.now.tunables ≡ true }
     requires size { size ≤ SIZE_LIMIT }
     requires few { length steps.now ≤ STEP_LIMIT }
@@ -290,7 +290,7 @@ fn trace_steps(
     ensures room { length run.new.emitted ≤ size }
     ensures trace { IsTrace tables.now weights.now steps.now x size run.new.made.items }
     ensures capacity { TRACE_LIMIT ≤ vec_capacity run.new.made }
-    ensures fits { scratch.new ≡ perms_of tables.now }
+    ensures fits { scratch.new ≡ scratch_of tables.now }
 {
     take_steps(tables, scratch, steps, x, size, weights, run);
     finish(&mut run.made);
@@ -381,7 +381,7 @@ pub fn run_rule(
     out: &mut Out,
 )
     requires rule { CanRun tables.now rule.now }
-    requires fits { scratch.old ≡ perms_of tables.now }
+    requires fits { scratch.old ≡ scratch_of tables.now }
     requires some { 1 ≤ size }
     requires few { size ≤ SIZE_LIMIT }
     ensures items { out.new.items ≡ rule_answer tables.now weights.now rule.now.steps x size }
@@ -389,7 +389,7 @@ pub fn run_rule(
     ensures trace { IsTrace tables.now weights.now rule.now.steps x size out.new.trace }
     ensures stays { (lowered : List ℕ) → AreLoweredOutside out.new.trace weights.now lowered → rule_answer tables.now lowered rule.now.steps x size ≡ out.new.items }
     ensures trace_stays { (lowered : List ℕ) → AreLoweredOutside out.new.trace weights.now lowered → IsTrace tables.now lowered rule.now.steps x size out.new.trace }
-    ensures fits { scratch.new ≡ perms_of tables.now }
+    ensures fits { scratch.new ≡ scratch_of tables.now }
 {
     let steps = rule.steps.as_slice();
     trace_steps(tables, scratch, steps, x, size, weights, &mut out.run);
@@ -409,13 +409,13 @@ pub fn touches(
     device: u32,
 ) -> bool
     requires rule { CanRun tables.now rule.now }
-    requires fits { scratch.old ≡ perms_of tables.now }
+    requires fits { scratch.old ≡ scratch_of tables.now }
     requires some { 1 ≤ size }
     requires few { size ≤ SIZE_LIMIT }
     ensures touched { (trace : List ℕ) → IsTrace tables.now weights.now rule.now.steps x size trace → result ≡ has_number trace device }
     ensures items { out.new.items ≡ rule_answer tables.now weights.now rule.now.steps x size }
     ensures room { length out.new.items ≤ size }
-    ensures fits { scratch.new ≡ perms_of tables.now }
+    ensures fits { scratch.new ≡ scratch_of tables.now }
 {
     let steps = rule.steps.as_slice();
     take_steps(tables, scratch, steps, x, size, weights, &mut out.run);

@@ -10,8 +10,8 @@ use Rattle.crush_map.specs.declared.draft.Rule.{Rule}
 use Rattle.crush_map.specs.declared.draft.Step.{Step}
 use Rattle.crush_map.specs.declared.draft.Step.TheVariants.{Take, SetChooseTries, SetLeafTries, SetVaryR, SetStable, Choose, Emit}
 use Rattle.crush_map.specs.declared.draft.MapDraft.{MapDraft}
-use Rattle.crush_map.specs.declared.word.ItemId.{ItemId}
-use Rattle.crush_map.specs.declared.word.Weight.{Weight}
+use Rattle.crush_values.specs.declared.ItemId.{ItemId}
+use Rattle.crush_values.specs.declared.Weight.{Weight}
 use Rattle.crush_map.specs.Faults.{first_of, or_else, is_bucket_id, is_count, step_fault, steps_fault, rule_head_fault, rule_head_checks, rule_fault}
 use Rattle.crush_map.specs.Map.{Map}
 use Rattle.crush_map.specs.Sound.{IsEachOnce, has_type, has_item, IsStep}

@@ -1,2 +1,4 @@
 pub mod DeviceValues
+pub mod Kinds
 pub mod Private
+pub mod Weights

@@ -1,7 +1,7 @@
 //! Picks that are made ahead for eight inputs at once, beside their plain form.
 
 ghost use Rattle.std.specs.Prelude.{◌≡◌};
-ghost use Rattle.crush_bucket.specs.Tables.{perms_of};
+ghost use Rattle.crush_bucket.specs.Tables.{scratch_of};
 
 use crate::buckets::next;
 use crate::drafts::{ONE, SOUND, Short, draft, entries};
@@ -133,8 +133,8 @@ fn assert_pick(
     x: u32,
     r: u32,
 ) -> Result<(), AllocError>
-    requires { scratch.old ≡ perms_of tables.now }
-    ensures { scratch.new ≡ perms_of tables.now }
+    requires { scratch.old ≡ scratch_of tables.now }
+    ensures { scratch.new ≡ scratch_of tables.now }
 {
     let Some(bucket) = tables.bucket_of(ItemId(-1 - (n % COUNT) as i32)) else {
         return rt.abort();
@@ -161,15 +161,15 @@ fn assert_ahead(
     xs: [u32; LANES],
     r: u32,
 ) -> Result<(), AllocError>
-    requires { scratch.old ≡ perms_of tables.now }
-    ensures { scratch.new ≡ perms_of tables.now }
+    requires { scratch.old ≡ scratch_of tables.now }
+    ensures { scratch.new ≡ scratch_of tables.now }
 {
     let mut buckets = [BucketNo::new(0); LANES];
     for lane in 0..LANES {
         buckets[lane] = BucketNo::new(numbers[lane] as usize);
     }
     // these can be picked ahead: only want of memory keeps them from it
-    let Some(items) = scratch.pick_ahead(buckets, r) else {
+    let Some(items) = scratch.pick_ahead(buckets, &xs, r) else {
         return Err(AllocError);
     };
     for lane in 0..LANES {
@@ -245,16 +245,17 @@ fn later_and_different_places_are_not_picked_ahead(rt: HostRuntime) -> Result<()
     let tables = Tables::build(alloc, &map)?;
     assert_uniform(&rt, alloc, &tables)?;
     let mut scratch = Scratch::build(alloc, &tables)?;
-    scratch.turn_to([1, 2, 3, 4, 5, 6, 7, 8]);
+    let xs = [1, 2, 3, 4, 5, 6, 7, 8];
+    scratch.turn_to(xs);
     let longest = BucketNo::new(10);
     for r in 4..9 {
-        assert!(rt; scratch.pick_ahead([longest; LANES], r).is_none());
+        assert!(rt; scratch.pick_ahead([longest; LANES], &xs, r).is_none());
     }
     // attempt 2 asks a bucket of two items for place 0
     for lane in 0..LANES {
         let mut buckets = [longest; LANES];
         buckets[lane] = BucketNo::new(SHORT);
-        assert!(rt; scratch.pick_ahead(buckets, 2).is_none());
+        assert!(rt; scratch.pick_ahead(buckets, &xs, 2).is_none());
     }
     Ok(())
 }
@@ -269,7 +270,8 @@ fn what_is_picked_ahead_is_what_is_picked(rt: HostRuntime) -> Result<(), AllocEr
     let tables = Tables::build(alloc, &map)?;
     assert_rounds(&rt, alloc, &tables)?;
     let mut scratch = Scratch::build(alloc, &tables)?;
-    scratch.turn_to([1, 2, 3, 4, 5, 6, 7, 8]);
+    let xs = [1, 2, 3, 4, 5, 6, 7, 8];
+    scratch.turn_to(xs);
     let tree = BucketNo::new(0);
     // a list, a uniform bucket, one without items, and none
     for place in [5, 6, 7, 8] {
@@ -277,15 +279,21 @@ fn what_is_picked_ahead_is_what_is_picked(rt: HostRuntime) -> Result<(), AllocEr
         for lane in 0..LANES {
             let mut buckets = [tree; LANES];
             buckets[lane] = other;
-            assert!(rt; scratch.pick_ahead(buckets, 0).is_none());
+            assert!(rt; scratch.pick_ahead(buckets, &xs, 0).is_none());
         }
     }
     // so many steps are kept, and no more
     for r in 0..64 {
-        if scratch.pick_ahead([tree; LANES], r).is_none() {
+        // for other inputs than those that were turned to nothing is picked ahead
+        assert!(rt;
+            scratch
+                .pick_ahead([tree; LANES], &[1, 2, 3, 4, 5, 6, 7, 9], r)
+                .is_none()
+        );
+        if scratch.pick_ahead([tree; LANES], &xs, r).is_none() {
             return Err(AllocError);
         }
     }
-    assert!(rt; scratch.pick_ahead([tree; LANES], 64).is_none());
+    assert!(rt; scratch.pick_ahead([tree; LANES], &xs, 64).is_none());
     Ok(())
 }

@@ -1,14 +1,15 @@
 //! Worked rows, picks beside their plain forms, tables and scratches of a map.
 
 ghost use Rattle.std.specs.Prelude.{◌≡◌, ◌<◌, ◌^◌};
-ghost use Rattle.crush_bucket.specs.Pick.{perm_of};
-ghost use Rattle.crush_bucket.specs.Tables.{perms_of};
+ghost use Rattle.crush_kinds.specs.Pick.{perm_of};
+ghost use Rattle.crush_bucket.specs.Tables.{scratch_of};
 
 use crate::drafts::{ONE, SOUND, Short, draft, entries};
 use crate::plain;
 use crate::same::{assert_same, assert_same_at};
 use Kind::{List, Tree, Uniform};
-use crush_bucket::{AnyBucket, Perm, Picker, Scratch, Tables, can_be_asked};
+use crush_bucket::{Scratch, Tables};
+use crush_kinds::{AnyBucket, Perm, Picker, can_be_asked};
 use crush_map::{CrushMap, ItemId, Kind, Weight, has_equal_weights};
 use std::alloc::{AllocError, Global};
 use std::process::Abort;
@@ -350,7 +351,7 @@ fn assert_picks(
     tables: &Tables,
     scratch: &mut Scratch,
 ) -> Result<(), AllocError>
-    requires fits { scratch.old ≡ perms_of tables.now }
+    requires fits { scratch.old ≡ scratch_of tables.now }
 {
     let (Some(root), Some(list)) = (tables.bucket_of(ItemId(-1)), tables.bucket_of(ItemId(-2)))
     else {

@@ -1,7 +1,7 @@
 //! Pools on maps, and placements of their groups.
 
 ghost use Rattle.std.specs.Prelude.{◌≡◌, ◌<◌, IfOk, is_ok, nat_lt, true};
-ghost use Rattle.crush_bucket.specs.Tables.{perms_of, tables_of};
+ghost use Rattle.crush_bucket.specs.Tables.{scratch_of, tables_of};
 ghost use Rattle.crush_pool.specs.Exceptions.{are_pairs};
 
 use crate::maps::MapTables;
@@ -122,9 +122,9 @@ pub fn placement_by(
     scratch: &mut Scratch,
     group: u32,
 ) -> Result<Result<Placement, PoolFault>, Fail>
-    requires fits { scratch.old ≡ perms_of (tables_of placer.now.map) }
+    requires fits { scratch.old ≡ scratch_of (tables_of placer.now.map) }
     ensures there { IfOk result (λ answer. is_ok answer ≡ nat_lt group placer.now.pool.pg_num) }
-    ensures fits { scratch.new ≡ perms_of (tables_of placer.now.map) }
+    ensures fits { scratch.new ≡ scratch_of (tables_of placer.now.map) }
 {
     let pool = placer.pool();
     let Some(rule) = rule_with_id(placer.map(), pool.parts().rule) else {
@@ -161,7 +161,7 @@ fn left(
     placed: &Placement,
 ) -> Result<Out, Fail>
     requires there { group < placer.now.pool.pg_num }
-    requires fits { scratch.old ≡ perms_of (tables_of placer.now.map) }
+    requires fits { scratch.old ≡ scratch_of (tables_of placer.now.map) }
 {
     let mut out = Out::build(alloc)?;
     let left = placer.place_with(alloc, scratch, &mut out, group)?;

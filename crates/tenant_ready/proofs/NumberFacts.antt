@@ -8,7 +8,7 @@ use Rattle.crush_pool.specs.Placements.{placement, rule_numbered}
 use Rattle.crush_pool.specs.Placers.{PoolOnMap}
 use Rattle.crush_pool.specs.declared.placing.Placement.{Placement}
 use Rattle.crush_cache.specs.Caches.{KeepsNumbers, Numbered}
-use Rattle.crush_cache.specs.Contents.{content_of}
+use Rattle.crush_content.specs.Contents.{content_of}
 use Rattle.tenant_messages.specs.declared.reply.Problem.TheVariants.{NoRule}
 use Rattle.tenant_resources.specs.Groups.{on_map}
 use Rattle.tenant_state.specs.State.{Inventory, TenantPool, TenantState, if_there, newest, on_newest, pool, version}

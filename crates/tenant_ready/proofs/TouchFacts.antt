@@ -1,7 +1,7 @@
 -- Groups that devices can touch, kept for a content with a number.
 use Rattle.std.proofs.Common.{◌≡◌, ◌∙◌, ◌≤◌, ℕ, List, Option, Some, None, IfSome, Ok, ok_or, option_map, refl, sym, ap, subst}
 use Rattle.crush_cache.specs.Caches.{KeepsNumbers, Numbered, WasNumberOf}
-use Rattle.crush_cache.specs.Contents.{Content, content_of}
+use Rattle.crush_content.specs.Contents.{Content, content_of}
 use Rattle.crush_map.specs.Map.{IsMap, Map}
 use Rattle.crush_pool.specs.Placers.{PoolOnMap}
 use Rattle.crush_report.specs.Reports.{impact}

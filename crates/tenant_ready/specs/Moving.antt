@@ -1,6 +1,6 @@
 -- The up lists of a pool's groups, as they are kept for one content.
 use Rattle.std.specs.Prelude.{◌≡◌, List, Option}
-use Rattle.crush_cache.specs.Contents.{Content}
+use Rattle.crush_content.specs.Contents.{Content}
 use Rattle.crush_choose.specs.Marks.{Slot}
 use Rattle.crush_kept.specs.UpLists.{AreUpListsOn}
 use Rattle.crush_map.specs.Map.{IsMap, Map}

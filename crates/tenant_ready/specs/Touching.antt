@@ -1,7 +1,7 @@
 -- Which groups each device can touch, as it is kept for one content.
 use Rattle.std.specs.Prelude.{◌≡◌, ℕ, List, Option, IfSome}
 use Rattle.crush_cache.specs.Caches.{Numbered, WasNumberOf}
-use Rattle.crush_cache.specs.Contents.{Content}
+use Rattle.crush_content.specs.Contents.{Content}
 use Rattle.crush_map.specs.Map.{IsMap, Map}
 use Rattle.crush_kept.specs.Touches.{AreTouchesOn}
 use Rattle.crush_kept.specs.declared.touches.Touch.{Touch}

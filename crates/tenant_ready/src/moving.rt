@@ -2,7 +2,7 @@
 //! last.
 
 ghost use Rattle.std.specs.Prelude.{◌≡◌, ◌≤◌, ◌*◌, true, Some, IfSome};
-ghost use Rattle.crush_cache.specs.Contents.{content_of};
+ghost use Rattle.crush_content.specs.Contents.{content_of};
 ghost use Rattle.crush_choose.specs.declared.limits.TheConstants.{SIZE_LIMIT};
 ghost use Rattle.crush_pool.specs.declared.limits.TheConstants.{GROUP_LIMIT};
 ghost use Rattle.crush_report.specs.Moves.{gained_in};
@@ -10,7 +10,7 @@ ghost use Rattle.crush_report.specs.Reports.{moves};
 ghost use Rattle.tenant_core.specs.Queries.{AsksBetween, IsMovedFor};
 
 use crate::kept::Kept;
-use crush_cache::Content;
+use crush_content::Content;
 use crush_kept::{UpLists, moves_from};
 use crush_map::Listed;
 use crush_pool::Placer;
@@ -44,7 +44,7 @@ impl Model for LastUpLists {
 
 impl LastUpLists {
     ghost use Rattle.std.specs.Prelude.{◌≡◌, ◌≤◌, ◌*◌, true, Some, IfOk, IfSome};
-    ghost use Rattle.crush_cache.specs.Contents.{content_of};
+    ghost use Rattle.crush_content.specs.Contents.{content_of};
     ghost use Rattle.crush_choose.specs.declared.limits.TheConstants.{SIZE_LIMIT};
     ghost use Rattle.crush_map.specs.Map.{IsMap};
     ghost use Rattle.crush_pool.specs.Placers.{PoolOnMap};

@@ -2,7 +2,7 @@
 
 ghost use Rattle.std.specs.Prelude.{◌≡◌, ◌≤◌, true, Some, IfSome};
 ghost use Rattle.crush_cache.specs.Caches.{Numbered, WasNumberOf};
-ghost use Rattle.crush_cache.specs.Contents.{content_of};
+ghost use Rattle.crush_content.specs.Contents.{content_of};
 ghost use Rattle.crush_report.specs.Reports.{impact};
 ghost use Rattle.tenant_core.specs.Queries.{AsksOf, IsTouchedFor};
 ghost use Rattle.tenant_ready.specs.Ready.{HasNumber};

@@ -14,7 +14,7 @@ ghost use Rattle.tenant_resources.specs.Orders.{accepted_of};
 
 use crate::accepted::Accepted;
 use crate::devices::has_device;
-use crush_cache::SharedExceptions;
+use crush_content::SharedExceptions;
 use crush_map::{Listed, Text};
 use crush_pool::limits::{GROUP_LIMIT, POOL_ID_LIMIT};
 use crush_pool::{Exceptions, Pair, are_pairs};

@@ -15,7 +15,7 @@ ghost use Rattle.table_reads.specs.Found.{pool_values};
 ghost use Rattle.tenant_rows.specs.Rows as spec;
 
 use crate::parts::{flag, natural};
-use crush_cache::SharedExceptions;
+use crush_content::SharedExceptions;
 use crush_map::Text;
 use crush_pool::{Exceptions, Pair, Pool, PoolParts};
 use std::alloc::{AllocError, Global};

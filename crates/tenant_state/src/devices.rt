@@ -6,7 +6,7 @@ ghost use Rattle.crush_pool.specs.States.{reweights};
 ghost use Rattle.tenant_state.specs.Ordered.{is_ascending, is_before_first};
 ghost use Rattle.tenant_state.specs.State.{is_lower_device, with_state};
 
-use crush_cache::SharedStates;
+use crush_content::SharedStates;
 use crush_choose::Weights;
 use crush_pool::{DeviceState, DeviceStates, reweights_of};
 use std::alloc::{AllocError, Global};

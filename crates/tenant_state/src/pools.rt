@@ -6,7 +6,7 @@ ghost use Rattle.tenant_state.specs.Ordered.{is_ascending, is_before_first, with
 ghost use Rattle.tenant_state.specs.State.{is_lower_pool};
 
 use crate::pool::TenantPool;
-use crush_cache::SharedExceptions;
+use crush_content::SharedExceptions;
 use crush_pool::Pool;
 use std::alloc::{AllocError, Global};
 use std::marker::Model;

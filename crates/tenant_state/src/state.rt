@@ -5,7 +5,7 @@ use crate::pool::TenantPool;
 use crate::pools::Pools;
 use crate::receipts::{Receipt, Receipts};
 use crate::version::Version;
-use crush_cache::{Content, SharedExceptions};
+use crush_content::{Content, SharedExceptions};
 use crush_map::{Listed, Text};
 use crush_pool::{DeviceState, Placer, Pool};
 use std::alloc::{AllocError, Global};
@@ -79,7 +79,7 @@ impl Model for Inventory {
 
 impl Inventory {
     ghost use Rattle.std.specs.Prelude.{◌≡◌, ◌<◌, [], IfOk, map, option_map, true};
-    ghost use Rattle.crush_cache.specs.Contents.{content_of};
+    ghost use Rattle.crush_content.specs.Contents.{content_of};
     ghost use Rattle.tenant_state.specs.Made.{made_of};
     ghost use Rattle.tenant_state.specs.State as spec;
     ghost use Rattle.tenant_state.specs.Valid.{IsInventory};

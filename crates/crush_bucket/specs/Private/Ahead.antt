@@ -1,11 +1,11 @@
 -- What a scratch has of the tables it is of.
 use Rattle.std.specs.Prelude.{◌≡◌, ℕ, ◌<◌, ◌≤◌, ◌^◌, List, length, slice_index, slice_index_or}
-use Rattle.crush_map.specs.declared.ItemId.{ItemId}
-use Rattle.crush_map.specs.declared.word.Kind.TheVariants.{Uniform}
-use Rattle.crush_bucket.specs.Bucket.{BucketView, IsItemOf}
+use Rattle.crush_values.specs.declared.ItemId.{ItemId}
+use Rattle.crush_values.specs.declared.Kind.TheVariants.{Uniform}
+use Rattle.crush_kinds.specs.Bucket.{BucketView}
 use Rattle.crush_permutation.specs.Permutation.{no_id}
-use Rattle.crush_bucket.specs.Pick.{pick}
-use Rattle.crush_bucket.specs.Tables.{TypedBucket, TablesView, bucket_at, no_bucket, pick_at}
+use Rattle.crush_bucket.specs.Ahead.{ArePicks}
+use Rattle.crush_bucket.specs.Tables.{TypedBucket, TablesView, bucket_at, no_bucket}
 use Rattle.crush_bucket.specs.declared.scratch.Step.{Step}
 
 -- no uniform bucket has more items than this
@@ -13,26 +13,11 @@ pub record IsWidest (buckets : List TypedBucket) (most : ℕ) : Type 0 where
   pub small : most < 2 ^ 16
   pub each : (number : ℕ) → number < length buckets → (slice_index_or buckets number no_bucket).bucket.kind ≡ Uniform → length (slice_index_or buckets number no_bucket).bucket.items ≤ most
 
--- the bucket is uniform, and one of these
-pub record IsUniformOf (t : TablesView) (b : BucketView) : Type 0 where
+-- the bucket is one of these
+pub record IsBucketOf (t : TablesView) (b : BucketView) : Type 0 where
   pub number : ℕ
   pub within : number < length t.buckets
   pub is : bucket_at t number ≡ b
-
--- the item is what a bucket picks, and one of its items
-pub record IsPickedBy (b : BucketView) (x r : ℕ) (item : ItemId) : Type 0 where
-  pub picked : item ≡ pick b x r
-  pub is_item : IsItemOf b.items item
-
--- the item is what the bucket with a number picks, and one of its items
-pub record IsPick (t : TablesView) (bucket x r : ℕ) (item : ItemId) : Type 0 where
-  pub picked : item ≡ pick_at t bucket x r
-  pub is_item : IsItemOf (bucket_at t bucket).items item
-
--- in each of eight lanes stands the item that the lane's bucket picks for the lane's input
-abbrev pub ArePicks : TablesView → List ℕ → List ℕ → ℕ → List ItemId → Type 0
-ArePicks t buckets xs r items =
-    (lane : ℕ) → lane < 8 → IsPick t (slice_index buckets lane) (slice_index xs lane) r (slice_index_or items lane no_id)
 
 -- what was picked ahead for these inputs
 abbrev pub IsStep : TablesView → List ℕ → Step → Type 0

@@ -2,7 +2,7 @@
 use Rattle.std.specs.Prelude.{[]}
 use Rattle.crush_bucket.specs.declared.table_row.Content.{Content}
 use Rattle.crush_bucket.specs.declared.table_row.Content.TheVariants.{Empty, Bucket}
-use Rattle.crush_bucket.specs.Bucket.{BucketView}
+use Rattle.crush_kinds.specs.Bucket.{BucketView}
 
 abbrev pub bucket_in : Content → BucketView
 bucket_in (Empty id kind) = record { id = id; kind = kind; items = [] }

@@ -1,6 +1,6 @@
 use Rattle.std.proofs.Common.{◌≡◌}
-use Rattle.crush_bucket.specs.Tables.{perms_of}
+use Rattle.crush_bucket.specs.Tables.{scratch_of}
 use Rattle.choosing_tests.proofs.rules.ask_all.Given as goal
 
 abbrev pub invariant-inputs : goal.invariant-inputs
-invariant-inputs g l = l.scratch ≡ perms_of l.tables
+invariant-inputs g l = l.scratch ≡ scratch_of l.tables

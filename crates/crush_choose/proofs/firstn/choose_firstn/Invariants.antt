@@ -1,5 +1,5 @@
 use Rattle.std.proofs.Common.{◌≡◌, ◌≤◌, length}
-use Rattle.crush_bucket.specs.Tables.{perms_of}
+use Rattle.crush_bucket.specs.Tables.{scratch_of}
 use Rattle.crush_choose.specs.Marks.{items_of, leaves_of}
 use Rattle.crush_choose.specs.Firstn.{mark_of}
 use Rattle.crush_choose.specs.Growing.{grown}
@@ -10,5 +10,5 @@ invariant-loop-rep l = record {
   items : l.items ≡ items_of (grown (mark_of l.tables l.weights l.call) l.rep);
   leaves : l.leaves ≡ leaves_of (grown (mark_of l.tables l.weights l.call) l.rep);
   room : length l.items ≤ l.call.room;
-  fits : l.scratch ≡ perms_of l.tables;
+  fits : l.scratch ≡ scratch_of l.tables;
 }

@@ -1,5 +1,5 @@
 use Rattle.std.proofs.Common.{◌≡◌, ◌+◌, None}
-use Rattle.crush_bucket.specs.Tables.{perms_of}
+use Rattle.crush_bucket.specs.Tables.{scratch_of}
 use Rattle.crush_choose.specs.Firstn.{leaf_by}
 use Rattle.crush_choose.specs.Least.{least}
 use Rattle.crush_choose.proofs.firstn.leaf_below.Given as goal
@@ -7,5 +7,5 @@ use Rattle.crush_choose.proofs.firstn.leaf_below.Given as goal
 abbrev pub invariant-loop-g : goal.invariant-loop-g
 invariant-loop-g l = record {
   none : least (λ g. leaf_by l.tables l.weights l.call l.leaves l.bucket (l.start + g)) l.g ≡ None;
-  fits : l.scratch ≡ perms_of l.tables;
+  fits : l.scratch ≡ scratch_of l.tables;
 }

@@ -1,5 +1,5 @@
 use Rattle.std.proofs.Common.{◌≡◌, None}
-use Rattle.crush_bucket.specs.Tables.{perms_of}
+use Rattle.crush_bucket.specs.Tables.{scratch_of}
 use Rattle.crush_choose.specs.Indep.{indep_leaf_by}
 use Rattle.crush_choose.specs.Least.{least}
 use Rattle.crush_choose.proofs.indep.leaf_below.Given as goal
@@ -7,5 +7,5 @@ use Rattle.crush_choose.proofs.indep.leaf_below.Given as goal
 abbrev pub invariant-loop-round : goal.invariant-loop-round
 invariant-loop-round l = record {
   none : least (indep_leaf_by l.tables l.weights l.call l.bucket l.start) l.round ≡ None;
-  fits : l.scratch ≡ perms_of l.tables;
+  fits : l.scratch ≡ scratch_of l.tables;
 }

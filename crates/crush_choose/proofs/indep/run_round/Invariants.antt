@@ -1,5 +1,5 @@
 use Rattle.std.proofs.Common.{◌≡◌, length}
-use Rattle.crush_bucket.specs.Tables.{perms_of}
+use Rattle.crush_bucket.specs.Tables.{scratch_of}
 use Rattle.crush_choose.specs.Indep.{indep_try, in_round}
 use Rattle.crush_choose.proofs.indep.run_round.Given as goal
 
@@ -7,5 +7,5 @@ abbrev pub invariant-loop-pos : goal.invariant-loop-pos
 invariant-loop-pos l = record {
   marks : l.marks ≡ in_round (indep_try l.tables l.weights l.call) l.round l.pos l.initial.marks;
   places : length l.marks ≡ l.call.n;
-  fits : l.scratch ≡ perms_of l.tables;
+  fits : l.scratch ≡ scratch_of l.tables;
 }

@@ -1,5 +1,5 @@
 use Rattle.std.proofs.Common.{◌≡◌, length}
-use Rattle.crush_bucket.specs.Tables.{perms_of}
+use Rattle.crush_bucket.specs.Tables.{scratch_of}
 use Rattle.crush_choose.specs.Indep.{indep_try, after_rounds}
 use Rattle.crush_choose.proofs.indep.run_rounds.Given as goal
 
@@ -7,5 +7,5 @@ abbrev pub invariant-loop-round : goal.invariant-loop-round
 invariant-loop-round l = record {
   marks : l.marks ≡ after_rounds (indep_try l.tables l.weights l.call) l.call.n l.round;
   places : length l.marks ≡ l.call.n;
-  fits : l.scratch ≡ perms_of l.tables;
+  fits : l.scratch ≡ scratch_of l.tables;
 }

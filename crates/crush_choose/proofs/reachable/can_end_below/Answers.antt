@@ -1,5 +1,5 @@
 use Rattle.std.proofs.Common.{◌≡◌, ◌∙◌, sym, true}
-use Rattle.crush_bucket.specs.Bucket.{WeightedItem}
+use Rattle.crush_kinds.specs.Bucket.{WeightedItem}
 use Rattle.crush_bucket.specs.Tables.{bucket_at, bucket_numbered}
 use Rattle.crush_choose.specs.Private.Reachable.{can_be_placed, can_end_at, marked, picks_by_weight}
 use Rattle.crush_choose.proofs.Picks.{any_by_weight}

@@ -1,5 +1,5 @@
 use Rattle.std.proofs.Common.{◌≡◌, ◌<◌, ◌+◌, length}
-use Rattle.crush_bucket.specs.Tables.{perms_of}
+use Rattle.crush_bucket.specs.Tables.{scratch_of}
 use Rattle.crush_choose.specs.Reach.{step}
 use Rattle.crush_choose.proofs.Reaching.{GoesOn}
 use Rattle.crush_choose.proofs.walk.reach.Given as goal
@@ -7,7 +7,7 @@ use Rattle.crush_choose.proofs.walk.reach.Given as goal
 abbrev pub invariant-down : goal.invariant-down
 invariant-down l = record {
   in_range : l.bucket < length l.tables.buckets;
-  fits : l.scratch ≡ perms_of l.tables;
+  fits : l.scratch ≡ scratch_of l.tables;
   on : GoesOn l.tables l.x (λ b. l.attempts.start + step l.tables l.attempts.numrep l.attempts.round b) l.wanted l.fn.from l.bucket;
 }
 

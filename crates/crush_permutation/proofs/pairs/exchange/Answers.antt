@@ -1,8 +1,16 @@
-use Rattle.std.proofs.Common.{◌≡◌, ◌+◌, ◌≤◌, length, take, slice_set, arith}
+use Rattle.std.proofs.Common.{◌≡◌, ℕ, ◌+◌, ◌-◌, ◌≤◌, length, take, slice_index_or, slice_set, ap, arith}
 use Rattle.std.proofs.lemmas.List.{length-take-le, length-set}
-use Rattle.crush_permutation.specs.Private.Pairs.{exchanged}
+use Rattle.crush_permutation.specs.Private.Pairs.{no_pair, exchanged}
+use Rattle.crush_permutation.proofs.Differing.{pair_below}
 use Rattle.crush_permutation.proofs.Exchanging.{exchange_of, exchanged_size, exchanged_row, shift_of, shift_few, shift_room}
 use Rattle.crush_permutation.proofs.pairs.exchange.Goals as goal
+
+pub search-to-requires-clause-lower : goal.search-to-requires-clause-lower
+search-to-requires-clause-lower c = λ some. (
+    let pairs = take c.args.len c.args.row.now in
+    let low = pair_below pairs c.args.low (omega (arith, c.index_of-at.ensures.value, some)) in
+    let e = ap (λ (n : ℕ). (slice_index_or pairs (n - 1) no_pair).0) c.index_of-at.ensures.value in
+    omega (arith, low, e, c.requires.above))
 
 pub move_right-requires : goal.move_right-requires
 move_right-requires c =

@@ -1,14 +1,14 @@
-use Rattle.std.proofs.Common.{◌≡◌, ◌-◌, ℕ, Bool, true, false, slice_index_or, refl, ap, arith, sym, ◌∙◌, ◌⊎◌, inl, inr}
+use Rattle.std.proofs.Common.{◌≡◌, Bool, true, false, refl, arith, sym, ◌∙◌, ◌⊎◌, inl, inr}
 use Rattle.std.proofs.lemmas.Bool.{false≢true}
-use Rattle.crush_permutation.specs.Private.Pairs.{no_pair, index}
-use Rattle.crush_permutation.proofs.Differing.{pair_below, index_is, member_there, member_none}
+use Rattle.crush_permutation.specs.Private.Pairs.{index}
+use Rattle.crush_permutation.proofs.Differing.{index_is, member_there, member_none}
 use Rattle.crush_permutation.proofs.pairs.search.Goals as goal
 
 pub loop-i-init : goal.loop-i-init
 loop-i-init c = record {
   within = omega arith;
   above = omega arith;
-  below = λ some. (let low = pair_below c.args.pairs.now c.args.low (omega (arith, c.requires.lower, some)) in let e = ap (λ (n : ℕ). (slice_index_or c.args.pairs.now (n - 1) no_pair).0) c.requires.lower in omega (arith, low, e, c.requires.above));
+  below = c.requires.lower;
   higher = λ j a b. absurd (omega (arith, a, b));
   there = λ e. absurd (false≢true e);
   absent = λ e. (refl, λ j a b. absurd (omega (arith, a, b)));

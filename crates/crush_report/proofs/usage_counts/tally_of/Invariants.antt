@@ -1,12 +1,12 @@
 use Rattle.std.proofs.Common.{◌≡◌, map}
 use Rattle.std.specs.List.{range_with_len}
-use Rattle.crush_bucket.specs.Tables.{perms_of, tables_of}
+use Rattle.crush_bucket.specs.Tables.{scratch_of, tables_of}
 use Rattle.crush_report.specs.OnMaps.{up_on}
 use Rattle.crush_report.specs.Private.Tallies.{IsTally, id_bound}
 use Rattle.crush_report.proofs.usage_counts.tally_of.Given as goal
 
 abbrev pub invariant-loop-group : goal.invariant-loop-group
 invariant-loop-group l = record {
-  fits : l.scratch ≡ perms_of (tables_of l.placer.map);
+  fits : l.scratch ≡ scratch_of (tables_of l.placer.map);
   tally : IsTally (id_bound l.devices) (map (up_on l.placer) (range_with_len 0 l.group)) l.tally;
 }

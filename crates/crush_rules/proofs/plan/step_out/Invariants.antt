@@ -1,5 +1,5 @@
 use Rattle.std.proofs.Common.{◌≡◌, ◌≤◌, ◌-◌, ◌++◌, length, drop}
-use Rattle.crush_bucket.specs.Tables.{perms_of}
+use Rattle.crush_bucket.specs.Tables.{scratch_of}
 use Rattle.crush_rules.specs.Rules.{step_out}
 use Rattle.crush_rules.specs.Private.Runs.{call_of}
 use Rattle.crush_rules.proofs.plan.step_out.Given as goal
@@ -8,5 +8,5 @@ abbrev pub invariant-loop-slot : goal.invariant-loop-slot
 invariant-loop-slot l = record {
   rest : l.out ++ step_out l.tables l.weights (call_of l.plan) (l.size - length l.out) (drop l.slot-index l.working) ≡ step_out l.tables l.weights (call_of l.plan) l.size l.working;
   room : length l.out ≤ l.size;
-  fits : l.scratch ≡ perms_of l.tables;
+  fits : l.scratch ≡ scratch_of l.tables;
 }

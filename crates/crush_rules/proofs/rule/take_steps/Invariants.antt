@@ -1,5 +1,5 @@
 use Rattle.std.proofs.Common.{◌≡◌, drop}
-use Rattle.crush_bucket.specs.Tables.{perms_of}
+use Rattle.crush_bucket.specs.Tables.{scratch_of}
 use Rattle.crush_rules.specs.Rules.{after_steps, start}
 use Rattle.crush_rules.specs.Private.Runs.{state_of, IsRun}
 use Rattle.crush_rules.proofs.rule.take_steps.Given as goal
@@ -8,5 +8,5 @@ abbrev pub invariant-loop-k : goal.invariant-loop-k
 invariant-loop-k l = record {
   rest : after_steps l.tables l.weights l.x l.size (state_of l.run) (drop l.k l.steps) ≡ after_steps l.tables l.weights l.x l.size (start l.tables.tunables) l.steps;
   run : IsRun l.size l.k l.run;
-  fits : l.scratch ≡ perms_of l.tables;
+  fits : l.scratch ≡ scratch_of l.tables;
 }

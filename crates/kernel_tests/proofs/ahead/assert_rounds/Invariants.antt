@@ -1,9 +1,9 @@
 use Rattle.std.proofs.Common.{◌≡◌}
-use Rattle.crush_bucket.specs.Tables.{perms_of}
+use Rattle.crush_bucket.specs.Tables.{scratch_of}
 use Rattle.kernel_tests.proofs.ahead.assert_rounds.Given as goal
 
 abbrev pub invariant-inputs : goal.invariant-inputs
-invariant-inputs g l = l.scratch ≡ perms_of l.tables
+invariant-inputs g l = l.scratch ≡ scratch_of l.tables
 
 abbrev pub invariant-steps : goal.invariant-steps
-invariant-steps g l = l.scratch ≡ perms_of l.tables
+invariant-steps g l = l.scratch ≡ scratch_of l.tables

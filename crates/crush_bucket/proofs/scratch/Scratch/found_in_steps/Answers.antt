@@ -1,7 +1,8 @@
 use Rattle.std.proofs.Common.{◌≡◌, ◌<◌, [], slice_index, slice_index_or, arith}
 use Rattle.std.specs.Prelude.{All}
 use Rattle.crush_permutation.specs.Permutation.{no_id}
-use Rattle.crush_bucket.specs.Private.Ahead.{HasPick, IsPick, IsStep}
+use Rattle.crush_bucket.specs.Private.Ahead.{HasPick, IsStep}
+use Rattle.crush_bucket.specs.Ahead.{IsPick}
 use Rattle.crush_bucket.specs.declared.scratch.Step.{Step}
 use Rattle.crush_bucket.proofs.scratch.Scratch.found_in_steps.Goals as goal
 use Rattle.crush_bucket.proofs.scratch.Scratch.found_in_steps.Goals.{then-self-x+in_ok-self-inside, else-self-x}

@@ -1,7 +1,7 @@
 use Rattle.std.proofs.Common.{refl, subst, sym}
 use Rattle.crush_map.specs.Map.{IsMap}
 use Rattle.crush_cache.specs.Caches.{IsNumberOf}
-use Rattle.crush_cache.specs.Contents.{content_of}
+use Rattle.crush_content.specs.Contents.{content_of}
 use Rattle.crush_cache.proofs.cache.PlacementCache.place_numbered.Goals as goal
 
 pub returns-in-Some-clause-placed : goal.returns-in-Some-clause-placed

@@ -1,5 +1,5 @@
 use Rattle.std.proofs.Common.{◌≡◌, ◌∙◌, ap, sym}
-use Rattle.crush_cache.specs.Laws.{content_decides}
+use Rattle.crush_content.specs.Laws.{content_decides}
 use Rattle.tenant_ready.specs.Moving.{OfContent}
 use Rattle.tenant_ready.proofs.moving.LastUpLists.is_of.Goals as goal
 

@@ -1,0 +1,3 @@
+pub mod Contents
+pub mod Hashes
+pub mod Laws

@@ -1,0 +1,11 @@
+pub mod Appended
+pub mod Greatest
+pub mod Hashes
+pub mod Heights
+pub mod Lanes
+pub mod Nodes
+pub mod Pickable
+pub mod Picking
+pub mod Ways
+pub mod Weighed
+pub mod Weights

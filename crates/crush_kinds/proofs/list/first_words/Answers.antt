@@ -1,0 +1,6 @@
+use Rattle.std.proofs.Common.{rules}
+use Rattle.crush_permutation.proofs.Lanes.{below_eight}
+use Rattle.crush_kinds.proofs.list.first_words.Goals as goal
+
+pub returns : goal.returns
+returns c = below_eight _ (search rules) (search rules) (search rules) (search rules) (search rules) (search rules) (search rules) (search rules)

@@ -1,0 +1,42 @@
+use Rattle.std.proofs.Common.{◌≡◌, ◌≤◌, ◌<◌, ◌^◌, suc, length, ap, arith, ◌∙◌}
+use Rattle.crush_kinds.specs.Private.Descent.{child}
+use Rattle.crush_kinds.specs.Private.Walks.{tree_height}
+use Rattle.crush_kinds.proofs.Ways.{keeps, node_within, way_waits, way_steps}
+use Rattle.crush_kinds.proofs.tree.TreeBucket.child.Goals as goal
+
+pub returns-then-left-self : goal.returns-then-left-self
+returns-then-left-self c =
+    let inside = c.self.inside in
+    let k = keeps inside.id inside.items.items inside.height inside.nodes.items c.args.self.now c.self.view_is c.self.invariant.asked c.self.invariant.nodes in
+    way_waits c.args.self.now c.args.left c.args.node c.args.hash (omega (arith, k.height_is))
+
+pub places-requires : goal.places-requires
+places-requires c =
+    let inside = c.self.inside in
+    let k = keeps inside.id inside.items.items inside.height inside.nodes.items c.args.self.now c.self.view_is c.self.invariant.asked c.self.invariant.nodes in
+    omega (arith, k.height_is, k.low)
+
+pub child-requires-clause-left : goal.child-requires-clause-left
+child-requires-clause-left c =
+    let inside = c.self.inside in
+    let k = keeps inside.id inside.items.items inside.height inside.nodes.items c.args.self.now c.self.view_is c.self.invariant.asked c.self.invariant.nodes in
+    (node_within c.args.self.now c.args.left c.args.node c.places.result (length inside.nodes.items) (omega (arith, k.height_is)) k.low c.places.ensures k.size c.requires).left
+
+pub child-requires-clause-right : goal.child-requires-clause-right
+child-requires-clause-right c =
+    let inside = c.self.inside in
+    let k = keeps inside.id inside.items.items inside.height inside.nodes.items c.args.self.now c.self.view_is c.self.invariant.asked c.self.invariant.nodes in
+    let right = (node_within c.args.self.now c.args.left c.args.node c.places.result (length inside.nodes.items) (omega (arith, k.height_is)) k.low c.places.ensures k.size c.requires).right in
+    omega (arith, right)
+
+pub child-requires-clause-inside : goal.child-requires-clause-inside
+child-requires-clause-inside c =
+    let inside = c.self.inside in
+    let k = keeps inside.id inside.items.items inside.height inside.nodes.items c.args.self.now c.self.view_is c.self.invariant.asked c.self.invariant.nodes in
+    (node_within c.args.self.now c.args.left c.args.node c.places.result (length inside.nodes.items) (omega (arith, k.height_is)) k.low c.places.ensures k.size c.requires).inside
+
+pub returns : goal.returns
+returns c =
+    let inside = c.self.inside in
+    let k = keeps inside.id inside.items.items inside.height inside.nodes.items c.args.self.now c.self.view_is c.self.invariant.asked c.self.invariant.nodes in
+    way_steps c.args.self.now inside.nodes.items c.args.left c.args.node c.args.hash c.child.result (omega (arith, k.height_is)) k.weights (c.child.ensures ∙ ap (λ h. child inside.nodes.items c.args.hash c.args.node h) c.places.ensures)

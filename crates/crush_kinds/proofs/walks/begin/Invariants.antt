@@ -1,0 +1,11 @@
+use Rattle.std.proofs.Common.{◌≡◌, ℕ, ◌<◌, ◌≤◌, ◌^◌, slice_index, slice_index_or}
+use Rattle.crush_kinds.specs.Bucket.{word}
+use Rattle.crush_kinds.specs.Private.Walks.{tree_height}
+use Rattle.crush_kinds.proofs.walks.begin.Given as goal
+
+abbrev pub invariant-loop-lane : goal.invariant-loop-lane
+invariant-loop-lane l = record {
+  words : (n : ℕ) (d : _) → n < l.lane → slice_index l.words n ≡ word (slice_index_or l.fn.trees n d).now.id;
+  roots : (n : ℕ) (d : _) → n < l.lane → slice_index l.roots n ≡ 2 ^ tree_height (slice_index_or l.fn.trees n d).now;
+  high : (n : ℕ) (d : _) → n < l.lane → tree_height (slice_index_or l.fn.trees n d).now ≤ l.highest;
+}

@@ -1,0 +1,17 @@
+use Rattle.std.proofs.Common.{◌≡◌, ℕ, slice_index, slice_index_or, subst, ◌∙◌, arith}
+use Rattle.std.proofs.lemmas.List.{get_or_default}
+use Rattle.crush_values.specs.declared.ItemId.{ItemId}
+use Rattle.crush_kinds.specs.Bucket.{BucketView}
+use Rattle.crush_kinds.specs.Private.Walks.{IsPickAt}
+use Rattle.crush_permutation.specs.Permutation.{no_id}
+use Rattle.crush_permutation.proofs.Lanes.{more_set}
+use Rattle.crush_kinds.proofs.walks.items_at.Goals as goal
+
+pub loop-lane-preserved : goal.loop-lane-preserved
+loop-lane-preserved c n d low =
+    let l = c.loop-lane in
+    let trees = c.args.trees.now in
+    let picks : ℕ → BucketView → ItemId → Type 0 = λ n b item. IsPickAt b (slice_index c.args.leaves.now n) item in
+    let tree : c.index-trees-lane.result ≡ slice_index_or trees l.lane d = c.index-trees-lane.is ∙ get_or_default trees l.lane c.index-trees-lane.result d (omega arith) in
+    let here : picks l.lane (slice_index_or trees l.lane d).now c.item_at.result = subst (λ t. picks l.lane t.now c.item_at.result) tree c.item_at.ensures in
+    more_set (λ (n : ℕ) (item : ItemId). picks n (slice_index_or trees n d).now item) l.items l.lane c.item_at.result no_id (omega arith) (λ n before. l.invariant n d before) here n low

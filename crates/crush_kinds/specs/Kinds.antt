@@ -1,0 +1,68 @@
+-- What each kind of bucket picks, for an input x and an attempt r (Weil et al., CRUSH, SC 2006;
+-- Ceph's `mapper.c`).
+use Rattle.std.specs.Prelude.{ℕ, zero, suc, ◌+◌, ◌-◌, ◌*◌, ◌/◌, ◌%◌, ◌^◌, List, length, Bool, nat_lt, nat_le, min, if◌then◌else◌, Option, Some, None, unwrap_or, slice_index}
+use Rattle.crush_hash.specs.Hash.{hash4}
+use Rattle.crush_values.specs.declared.ItemId.{ItemId}
+use Rattle.crush_kinds.specs.Bucket.{WeightedItem, word, item_at, weight_at, weight_within}
+use Rattle.crush_permutation.specs.Permutation.{permutation}
+
+-- ---- uniform: the item at a place of the permutation
+
+unfoldable pub uniform_pick : ItemId → List WeightedItem → ℕ → ℕ → ItemId
+uniform_pick id items x r =
+    item_at items (slice_index (permutation id (length items) x) (r % length items))
+
+-- ---- list: the item at the greatest place that takes the input
+
+-- whether a place takes the input: its draw, the lower 16 bits of a hash scaled by the sum of the
+-- weights up to the place, is below its weight
+abbrev pub takes : ItemId → List WeightedItem → ℕ → ℕ → ℕ → Bool
+takes id items x r place =
+    let hash = hash4 x (word (item_at items place)) r (word id) in
+    let draw = hash % 65536 * weight_within items 0 (place + 1) / 65536 in
+    nat_lt draw (weight_at items place)
+
+-- the greatest number below n that passes
+abbrev pub greatest : (ℕ → Bool) → ℕ → Option ℕ
+greatest p zero = None
+greatest p (suc n) = if p n then Some n else greatest p n
+
+-- the greatest place that takes the input, or the first place where none does
+abbrev pub list_place : ItemId → List WeightedItem → ℕ → ℕ → ℕ
+list_place id items x r = unwrap_or (greatest (takes id items x r) (length items)) 0
+
+unfoldable pub list_pick : ItemId → List WeightedItem → ℕ → ℕ → ItemId
+list_pick id items x r = item_at items (list_place id items x r)
+
+-- ---- tree: the halving of a range of places
+
+-- the least number from k on that passes, of those below k + n; k + n where none does
+abbrev pub least_from : (ℕ → Bool) → ℕ → ℕ → ℕ
+least_from p k zero = k
+least_from p k (suc n) = if p k then k else least_from p (k + 1) n
+
+-- the least k such that 2^k places hold a bucket of this size
+abbrev pub height_of : ℕ → ℕ
+height_of size = least_from (λ k. nat_le size (2 ^ k)) 0 size
+
+-- the label of the range of 2^h places from a place on, which is the node's index in `node_weights`
+abbrev pub label : ℕ → ℕ → ℕ
+label from h = 2 * from + 2 ^ h
+
+-- the draw at a range: a hash of its label, scaled by its weight
+abbrev pub tree_draw : ItemId → List WeightedItem → ℕ → ℕ → ℕ → ℕ → ℕ
+tree_draw id items x r from h =
+    hash4 x (label from h) r (word id) * weight_within items from (2 ^ h) / 2 ^ 32
+
+-- the place in the range of 2^h places at which its halving ends: on the left where the draw is
+-- below the left half's weight, else on the right
+abbrev pub place_within : ItemId → List WeightedItem → ℕ → ℕ → ℕ → ℕ → ℕ
+place_within id items x r from zero = from
+place_within id items x r from (suc h) =
+    if nat_lt (tree_draw id items x r from (suc h)) (weight_within items from (2 ^ h)) then place_within id items x r from h
+    else place_within id items x r (from + 2 ^ h) h
+
+-- the item at that place, or the last item where it lies past the end
+unfoldable pub tree_pick : ItemId → List WeightedItem → ℕ → ℕ → ItemId
+tree_pick id items x r =
+    item_at items (min (place_within id items x r 0 (height_of (length items))) (length items - 1))

@@ -1,0 +1,61 @@
+//! The picks of eight uniform buckets, side by side: the lanes of one vector hash a place of each.
+
+ghost use Rattle.std.specs.Prelude.{◌≡◌, ◌<◌, ℕ, IfSome, length, slice_index, slice_index_or};
+ghost use Rattle.crush_kinds.specs.Bucket.{IsItemOf, item_at};
+ghost use Rattle.crush_kinds.specs.Eight.{IsPickedBy};
+ghost use Rattle.crush_kinds.specs.Private.Asked.{IsAsked};
+ghost use Rattle.crush_permutation.specs.Permutation.{no_id};
+
+use crate::uniform::UniformBucket;
+use crush_permutation::eight_members;
+use crush_values::ItemId;
+
+/// The places up to which eight buckets are asked at once. A later one takes more hashes, and is
+/// found sooner in a permutation that is kept.
+const EARLY_PLACES: usize = 4;
+
+/// Returns the items that eight uniform buckets pick for eight inputs and one attempt, in their
+/// order. `None` where the attempt asks for another place of one than of the first, or for a late
+/// one. Allocates nothing.
+pub fn pick_uniforms(buckets: &[&UniformBucket; 8], xs: &[u32; 8], r: u32) -> Option<[ItemId; 8]>
+    ensures { IfSome result (λ items. (lane : ℕ) (d : _) → lane < 8 → IsPickedBy (slice_index_or buckets.now lane d).now (slice_index xs.now lane) r (slice_index_or items lane no_id)) }
+{
+    let place = buckets[0].asked_place(r);
+    if place >= EARLY_PLACES {
+        return None;
+    }
+    let (ids, sizes) = asked(buckets, place, r)?;
+    let members = eight_members(&ids, &sizes, xs, place as u32);
+    Some(items_of(buckets, &members))
+}
+
+/// Returns the ids and the sizes of eight buckets, where an attempt asks for this place of each.
+#[inline]
+fn asked(buckets: &[&UniformBucket; 8], place: usize, r: u32) -> Option<([ItemId; 8], [u32; 8])>
+    ensures { IfSome result (λ found. (lane : ℕ) (d : _) → lane < 8 → IsAsked (slice_index_or buckets.now lane d).now place r (slice_index_or found.0 lane no_id) (slice_index found.1 lane)) }
+{
+    let (mut ids, mut sizes) = ([ItemId(0); 8], [0; 8]);
+    for lane in 0..8 {
+        let bucket = buckets[lane];
+        if bucket.asked_place(r) != place {
+            return None;
+        }
+        ids[lane] = bucket.id();
+        sizes[lane] = bucket.size() as u32;
+    }
+    Some((ids, sizes))
+}
+
+/// Returns the items of eight buckets, each at a place of its own.
+#[inline]
+fn items_of(buckets: &[&UniformBucket; 8], places: &[u32; 8]) -> [ItemId; 8]
+    requires { (lane : ℕ) (d : _) → lane < 8 → slice_index places.now lane < length (slice_index_or buckets.now lane d).now.items }
+    ensures value { (lane : ℕ) (d : _) → lane < 8 → slice_index_or result lane no_id ≡ item_at (slice_index_or buckets.now lane d).now.items (slice_index places.now lane) }
+    ensures item { (lane : ℕ) (d : _) → lane < 8 → IsItemOf (slice_index_or buckets.now lane d).now.items (slice_index_or result lane no_id) }
+{
+    let mut items = [ItemId(0); 8];
+    for lane in 0..8 {
+        items[lane] = buckets[lane].item(places[lane] as usize);
+    }
+    items
+}
