@@ -15,7 +15,7 @@ use crate::ask::ask;
 use crate::read::all_in;
 use sqlite::types::ValueRef;
 use sqlite::{Alter, Connection, Row};
-use std::alloc::{AllocError, Global};
+use std::alloc::Global;
 use table_schema::refuse::Fault;
 use table_schema::values::Exception;
 
@@ -67,17 +67,10 @@ fn exceptions_in(alloc: Global, rows: &[Row]) -> Result<Vec<Exception>, Fault>
     ensures damaged { result ≡ Err Fault.Damaged → AllByRecursion IsExceptionRow rows.now → ¬ IsAscending Precedes rows.now }
     ensures faults { IfErr result (λ fault. (fault ≡ Fault.NoMemory) ⊎ (fault ≡ Fault.Damaged)) }
 {
-    let list: Result<Option<Vec<Exception>>, AllocError> = all_in(alloc, rows);
+    let list: Option<Vec<Exception>> = all_in(alloc, rows)?;
     match list {
-        Ok(Some(list)) => {
-            if are_placed(&list) {
-                Ok(list)
-            } else {
-                Err(Fault::Damaged)
-            }
-        }
-        Ok(None) => Err(Fault::Damaged),
-        Err(AllocError) => Err(Fault::NoMemory),
+        Some(list) if are_placed(&list) => Ok(list),
+        _ => Err(Fault::Damaged),
     }
 }
 

@@ -26,10 +26,9 @@ pub fn one_of<T: TenantRow + Drop>(rows: &[Row]) -> Result<Option<T>, Fault>
             Err(Fault::Damaged)
         };
     };
-    match T::from_values(row) {
-        Ok(Some(value)) => Ok(Some(value)),
-        Ok(None) => Err(Fault::Damaged),
-        Err(AllocError) => Err(Fault::NoMemory),
+    match T::from_values(row)? {
+        Some(value) => Ok(Some(value)),
+        None => Err(Fault::Damaged),
     }
 }
 
@@ -71,15 +70,8 @@ pub fn list_of<T: TenantRow + Drop>(alloc: Global, rows: &[Row]) -> Result<Vec<T
     ensures damaged { result ≡ Err Fault.Damaged → AllByRecursion T.is_one rows.now → ¬ IsRising rows.now }
     ensures faults { IfErr result (λ fault. (fault ≡ Fault.NoMemory) ⊎ (fault ≡ Fault.Damaged)) }
 {
-    match all_in(alloc, rows) {
-        Ok(Some(list)) => {
-            if rise(&list) {
-                Ok(list)
-            } else {
-                Err(Fault::Damaged)
-            }
-        }
-        Ok(None) => Err(Fault::Damaged),
-        Err(AllocError) => Err(Fault::NoMemory),
+    match all_in(alloc, rows)? {
+        Some(list) if rise(&list) => Ok(list),
+        _ => Err(Fault::Damaged),
     }
 }

@@ -1,19 +1,6 @@
 -- Lists of so many elements, each of which is known.
 use Rattle.std.proofs.Common.{◌≡◌, List, [], ◌∷◌, length, get_or, sym, ◌∙◌, arith}
 
-pub of_4 : {X : Type 0} (xs : List X) (a0 a1 a2 a3 u0 u1 u2 u3 : X) → length xs ≡ 4 → a0 ≡ get_or xs 0 a0 → a0 ≡ u0 → a1 ≡ get_or xs 1 a1 → a1 ≡ u1 → a2 ≡ get_or xs 2 a2 → a2 ≡ u2 → a3 ≡ get_or xs 3 a3 → a3 ≡ u3 → xs ≡ u0 ∷ u1 ∷ u2 ∷ u3 ∷ []
-of_4 [] a0 a1 a2 a3 u0 u1 u2 u3 len p0 q0 p1 q1 p2 q2 p3 q3 = absurd (let none : 0 ≡ 4 = len in omega (arith, none))
-of_4 (x0 ∷ []) a0 a1 a2 a3 u0 u1 u2 u3 len p0 q0 p1 q1 p2 q2 p3 q3 = absurd (let none : 1 ≡ 4 = len in omega (arith, none))
-of_4 (x0 ∷ x1 ∷ []) a0 a1 a2 a3 u0 u1 u2 u3 len p0 q0 p1 q1 p2 q2 p3 q3 = absurd (let none : 2 ≡ 4 = len in omega (arith, none))
-of_4 (x0 ∷ x1 ∷ x2 ∷ []) a0 a1 a2 a3 u0 u1 u2 u3 len p0 q0 p1 q1 p2 q2 p3 q3 = absurd (let none : 3 ≡ 4 = len in omega (arith, none))
-of_4 (x0 ∷ x1 ∷ x2 ∷ x3 ∷ []) a0 a1 a2 a3 u0 u1 u2 u3 len p0 q0 p1 q1 p2 q2 p3 q3 =
-    let e0 : x0 ≡ u0 = sym p0 ∙ q0 in
-    let e1 : x1 ≡ u1 = sym p1 ∙ q1 in
-    let e2 : x2 ≡ u2 = sym p2 ∙ q2 in
-    let e3 : x3 ≡ u3 = sym p3 ∙ q3 in
-    rw (e0, e1, e2, e3)
-of_4 (x0 ∷ x1 ∷ x2 ∷ x3 ∷ y ∷ more) a0 a1 a2 a3 u0 u1 u2 u3 len p0 q0 p1 q1 p2 q2 p3 q3 = absurd (omega (arith, len))
-
 pub of_6 : {X : Type 0} (xs : List X) (a0 a1 a2 a3 a4 a5 u0 u1 u2 u3 u4 u5 : X) → length xs ≡ 6 → a0 ≡ get_or xs 0 a0 → a0 ≡ u0 → a1 ≡ get_or xs 1 a1 → a1 ≡ u1 → a2 ≡ get_or xs 2 a2 → a2 ≡ u2 → a3 ≡ get_or xs 3 a3 → a3 ≡ u3 → a4 ≡ get_or xs 4 a4 → a4 ≡ u4 → a5 ≡ get_or xs 5 a5 → a5 ≡ u5 → xs ≡ u0 ∷ u1 ∷ u2 ∷ u3 ∷ u4 ∷ u5 ∷ []
 of_6 [] a0 a1 a2 a3 a4 a5 u0 u1 u2 u3 u4 u5 len p0 q0 p1 q1 p2 q2 p3 q3 p4 q4 p5 q5 = absurd (let none : 0 ≡ 6 = len in omega (arith, none))
 of_6 (x0 ∷ []) a0 a1 a2 a3 a4 a5 u0 u1 u2 u3 u4 u5 len p0 q0 p1 q1 p2 q2 p3 q3 p4 q4 p5 q5 = absurd (let none : 1 ≡ 6 = len in omega (arith, none))
@@ -70,51 +57,3 @@ of_8 (x0 ∷ x1 ∷ x2 ∷ x3 ∷ x4 ∷ x5 ∷ x6 ∷ x7 ∷ []) a0 a1 a2 a3 a4
     let e7 : x7 ≡ u7 = sym p7 ∙ q7 in
     rw (e0, e1, e2, e3, e4, e5, e6, e7)
 of_8 (x0 ∷ x1 ∷ x2 ∷ x3 ∷ x4 ∷ x5 ∷ x6 ∷ x7 ∷ y ∷ more) a0 a1 a2 a3 a4 a5 a6 a7 u0 u1 u2 u3 u4 u5 u6 u7 len p0 q0 p1 q1 p2 q2 p3 q3 p4 q4 p5 q5 p6 q6 p7 q7 = absurd (omega (arith, len))
-
-pub of_9 : {X : Type 0} (xs : List X) (a0 a1 a2 a3 a4 a5 a6 a7 a8 u0 u1 u2 u3 u4 u5 u6 u7 u8 : X) → length xs ≡ 9 → a0 ≡ get_or xs 0 a0 → a0 ≡ u0 → a1 ≡ get_or xs 1 a1 → a1 ≡ u1 → a2 ≡ get_or xs 2 a2 → a2 ≡ u2 → a3 ≡ get_or xs 3 a3 → a3 ≡ u3 → a4 ≡ get_or xs 4 a4 → a4 ≡ u4 → a5 ≡ get_or xs 5 a5 → a5 ≡ u5 → a6 ≡ get_or xs 6 a6 → a6 ≡ u6 → a7 ≡ get_or xs 7 a7 → a7 ≡ u7 → a8 ≡ get_or xs 8 a8 → a8 ≡ u8 → xs ≡ u0 ∷ u1 ∷ u2 ∷ u3 ∷ u4 ∷ u5 ∷ u6 ∷ u7 ∷ u8 ∷ []
-of_9 [] a0 a1 a2 a3 a4 a5 a6 a7 a8 u0 u1 u2 u3 u4 u5 u6 u7 u8 len p0 q0 p1 q1 p2 q2 p3 q3 p4 q4 p5 q5 p6 q6 p7 q7 p8 q8 = absurd (let none : 0 ≡ 9 = len in omega (arith, none))
-of_9 (x0 ∷ []) a0 a1 a2 a3 a4 a5 a6 a7 a8 u0 u1 u2 u3 u4 u5 u6 u7 u8 len p0 q0 p1 q1 p2 q2 p3 q3 p4 q4 p5 q5 p6 q6 p7 q7 p8 q8 = absurd (let none : 1 ≡ 9 = len in omega (arith, none))
-of_9 (x0 ∷ x1 ∷ []) a0 a1 a2 a3 a4 a5 a6 a7 a8 u0 u1 u2 u3 u4 u5 u6 u7 u8 len p0 q0 p1 q1 p2 q2 p3 q3 p4 q4 p5 q5 p6 q6 p7 q7 p8 q8 = absurd (let none : 2 ≡ 9 = len in omega (arith, none))
-of_9 (x0 ∷ x1 ∷ x2 ∷ []) a0 a1 a2 a3 a4 a5 a6 a7 a8 u0 u1 u2 u3 u4 u5 u6 u7 u8 len p0 q0 p1 q1 p2 q2 p3 q3 p4 q4 p5 q5 p6 q6 p7 q7 p8 q8 = absurd (let none : 3 ≡ 9 = len in omega (arith, none))
-of_9 (x0 ∷ x1 ∷ x2 ∷ x3 ∷ []) a0 a1 a2 a3 a4 a5 a6 a7 a8 u0 u1 u2 u3 u4 u5 u6 u7 u8 len p0 q0 p1 q1 p2 q2 p3 q3 p4 q4 p5 q5 p6 q6 p7 q7 p8 q8 = absurd (let none : 4 ≡ 9 = len in omega (arith, none))
-of_9 (x0 ∷ x1 ∷ x2 ∷ x3 ∷ x4 ∷ []) a0 a1 a2 a3 a4 a5 a6 a7 a8 u0 u1 u2 u3 u4 u5 u6 u7 u8 len p0 q0 p1 q1 p2 q2 p3 q3 p4 q4 p5 q5 p6 q6 p7 q7 p8 q8 = absurd (let none : 5 ≡ 9 = len in omega (arith, none))
-of_9 (x0 ∷ x1 ∷ x2 ∷ x3 ∷ x4 ∷ x5 ∷ []) a0 a1 a2 a3 a4 a5 a6 a7 a8 u0 u1 u2 u3 u4 u5 u6 u7 u8 len p0 q0 p1 q1 p2 q2 p3 q3 p4 q4 p5 q5 p6 q6 p7 q7 p8 q8 = absurd (let none : 6 ≡ 9 = len in omega (arith, none))
-of_9 (x0 ∷ x1 ∷ x2 ∷ x3 ∷ x4 ∷ x5 ∷ x6 ∷ []) a0 a1 a2 a3 a4 a5 a6 a7 a8 u0 u1 u2 u3 u4 u5 u6 u7 u8 len p0 q0 p1 q1 p2 q2 p3 q3 p4 q4 p5 q5 p6 q6 p7 q7 p8 q8 = absurd (let none : 7 ≡ 9 = len in omega (arith, none))
-of_9 (x0 ∷ x1 ∷ x2 ∷ x3 ∷ x4 ∷ x5 ∷ x6 ∷ x7 ∷ []) a0 a1 a2 a3 a4 a5 a6 a7 a8 u0 u1 u2 u3 u4 u5 u6 u7 u8 len p0 q0 p1 q1 p2 q2 p3 q3 p4 q4 p5 q5 p6 q6 p7 q7 p8 q8 = absurd (let none : 8 ≡ 9 = len in omega (arith, none))
-of_9 (x0 ∷ x1 ∷ x2 ∷ x3 ∷ x4 ∷ x5 ∷ x6 ∷ x7 ∷ x8 ∷ []) a0 a1 a2 a3 a4 a5 a6 a7 a8 u0 u1 u2 u3 u4 u5 u6 u7 u8 len p0 q0 p1 q1 p2 q2 p3 q3 p4 q4 p5 q5 p6 q6 p7 q7 p8 q8 =
-    let e0 : x0 ≡ u0 = sym p0 ∙ q0 in
-    let e1 : x1 ≡ u1 = sym p1 ∙ q1 in
-    let e2 : x2 ≡ u2 = sym p2 ∙ q2 in
-    let e3 : x3 ≡ u3 = sym p3 ∙ q3 in
-    let e4 : x4 ≡ u4 = sym p4 ∙ q4 in
-    let e5 : x5 ≡ u5 = sym p5 ∙ q5 in
-    let e6 : x6 ≡ u6 = sym p6 ∙ q6 in
-    let e7 : x7 ≡ u7 = sym p7 ∙ q7 in
-    let e8 : x8 ≡ u8 = sym p8 ∙ q8 in
-    rw (e0, e1, e2, e3, e4, e5, e6, e7, e8)
-of_9 (x0 ∷ x1 ∷ x2 ∷ x3 ∷ x4 ∷ x5 ∷ x6 ∷ x7 ∷ x8 ∷ y ∷ more) a0 a1 a2 a3 a4 a5 a6 a7 a8 u0 u1 u2 u3 u4 u5 u6 u7 u8 len p0 q0 p1 q1 p2 q2 p3 q3 p4 q4 p5 q5 p6 q6 p7 q7 p8 q8 = absurd (omega (arith, len))
-
-pub of_10 : {X : Type 0} (xs : List X) (a0 a1 a2 a3 a4 a5 a6 a7 a8 a9 u0 u1 u2 u3 u4 u5 u6 u7 u8 u9 : X) → length xs ≡ 10 → a0 ≡ get_or xs 0 a0 → a0 ≡ u0 → a1 ≡ get_or xs 1 a1 → a1 ≡ u1 → a2 ≡ get_or xs 2 a2 → a2 ≡ u2 → a3 ≡ get_or xs 3 a3 → a3 ≡ u3 → a4 ≡ get_or xs 4 a4 → a4 ≡ u4 → a5 ≡ get_or xs 5 a5 → a5 ≡ u5 → a6 ≡ get_or xs 6 a6 → a6 ≡ u6 → a7 ≡ get_or xs 7 a7 → a7 ≡ u7 → a8 ≡ get_or xs 8 a8 → a8 ≡ u8 → a9 ≡ get_or xs 9 a9 → a9 ≡ u9 → xs ≡ u0 ∷ u1 ∷ u2 ∷ u3 ∷ u4 ∷ u5 ∷ u6 ∷ u7 ∷ u8 ∷ u9 ∷ []
-of_10 [] a0 a1 a2 a3 a4 a5 a6 a7 a8 a9 u0 u1 u2 u3 u4 u5 u6 u7 u8 u9 len p0 q0 p1 q1 p2 q2 p3 q3 p4 q4 p5 q5 p6 q6 p7 q7 p8 q8 p9 q9 = absurd (let none : 0 ≡ 10 = len in omega (arith, none))
-of_10 (x0 ∷ []) a0 a1 a2 a3 a4 a5 a6 a7 a8 a9 u0 u1 u2 u3 u4 u5 u6 u7 u8 u9 len p0 q0 p1 q1 p2 q2 p3 q3 p4 q4 p5 q5 p6 q6 p7 q7 p8 q8 p9 q9 = absurd (let none : 1 ≡ 10 = len in omega (arith, none))
-of_10 (x0 ∷ x1 ∷ []) a0 a1 a2 a3 a4 a5 a6 a7 a8 a9 u0 u1 u2 u3 u4 u5 u6 u7 u8 u9 len p0 q0 p1 q1 p2 q2 p3 q3 p4 q4 p5 q5 p6 q6 p7 q7 p8 q8 p9 q9 = absurd (let none : 2 ≡ 10 = len in omega (arith, none))
-of_10 (x0 ∷ x1 ∷ x2 ∷ []) a0 a1 a2 a3 a4 a5 a6 a7 a8 a9 u0 u1 u2 u3 u4 u5 u6 u7 u8 u9 len p0 q0 p1 q1 p2 q2 p3 q3 p4 q4 p5 q5 p6 q6 p7 q7 p8 q8 p9 q9 = absurd (let none : 3 ≡ 10 = len in omega (arith, none))
-of_10 (x0 ∷ x1 ∷ x2 ∷ x3 ∷ []) a0 a1 a2 a3 a4 a5 a6 a7 a8 a9 u0 u1 u2 u3 u4 u5 u6 u7 u8 u9 len p0 q0 p1 q1 p2 q2 p3 q3 p4 q4 p5 q5 p6 q6 p7 q7 p8 q8 p9 q9 = absurd (let none : 4 ≡ 10 = len in omega (arith, none))
-of_10 (x0 ∷ x1 ∷ x2 ∷ x3 ∷ x4 ∷ []) a0 a1 a2 a3 a4 a5 a6 a7 a8 a9 u0 u1 u2 u3 u4 u5 u6 u7 u8 u9 len p0 q0 p1 q1 p2 q2 p3 q3 p4 q4 p5 q5 p6 q6 p7 q7 p8 q8 p9 q9 = absurd (let none : 5 ≡ 10 = len in omega (arith, none))
-of_10 (x0 ∷ x1 ∷ x2 ∷ x3 ∷ x4 ∷ x5 ∷ []) a0 a1 a2 a3 a4 a5 a6 a7 a8 a9 u0 u1 u2 u3 u4 u5 u6 u7 u8 u9 len p0 q0 p1 q1 p2 q2 p3 q3 p4 q4 p5 q5 p6 q6 p7 q7 p8 q8 p9 q9 = absurd (let none : 6 ≡ 10 = len in omega (arith, none))
-of_10 (x0 ∷ x1 ∷ x2 ∷ x3 ∷ x4 ∷ x5 ∷ x6 ∷ []) a0 a1 a2 a3 a4 a5 a6 a7 a8 a9 u0 u1 u2 u3 u4 u5 u6 u7 u8 u9 len p0 q0 p1 q1 p2 q2 p3 q3 p4 q4 p5 q5 p6 q6 p7 q7 p8 q8 p9 q9 = absurd (let none : 7 ≡ 10 = len in omega (arith, none))
-of_10 (x0 ∷ x1 ∷ x2 ∷ x3 ∷ x4 ∷ x5 ∷ x6 ∷ x7 ∷ []) a0 a1 a2 a3 a4 a5 a6 a7 a8 a9 u0 u1 u2 u3 u4 u5 u6 u7 u8 u9 len p0 q0 p1 q1 p2 q2 p3 q3 p4 q4 p5 q5 p6 q6 p7 q7 p8 q8 p9 q9 = absurd (let none : 8 ≡ 10 = len in omega (arith, none))
-of_10 (x0 ∷ x1 ∷ x2 ∷ x3 ∷ x4 ∷ x5 ∷ x6 ∷ x7 ∷ x8 ∷ []) a0 a1 a2 a3 a4 a5 a6 a7 a8 a9 u0 u1 u2 u3 u4 u5 u6 u7 u8 u9 len p0 q0 p1 q1 p2 q2 p3 q3 p4 q4 p5 q5 p6 q6 p7 q7 p8 q8 p9 q9 = absurd (let none : 9 ≡ 10 = len in omega (arith, none))
-of_10 (x0 ∷ x1 ∷ x2 ∷ x3 ∷ x4 ∷ x5 ∷ x6 ∷ x7 ∷ x8 ∷ x9 ∷ []) a0 a1 a2 a3 a4 a5 a6 a7 a8 a9 u0 u1 u2 u3 u4 u5 u6 u7 u8 u9 len p0 q0 p1 q1 p2 q2 p3 q3 p4 q4 p5 q5 p6 q6 p7 q7 p8 q8 p9 q9 =
-    let e0 : x0 ≡ u0 = sym p0 ∙ q0 in
-    let e1 : x1 ≡ u1 = sym p1 ∙ q1 in
-    let e2 : x2 ≡ u2 = sym p2 ∙ q2 in
-    let e3 : x3 ≡ u3 = sym p3 ∙ q3 in
-    let e4 : x4 ≡ u4 = sym p4 ∙ q4 in
-    let e5 : x5 ≡ u5 = sym p5 ∙ q5 in
-    let e6 : x6 ≡ u6 = sym p6 ∙ q6 in
-    let e7 : x7 ≡ u7 = sym p7 ∙ q7 in
-    let e8 : x8 ≡ u8 = sym p8 ∙ q8 in
-    let e9 : x9 ≡ u9 = sym p9 ∙ q9 in
-    rw (e0, e1, e2, e3, e4, e5, e6, e7, e8, e9)
-of_10 (x0 ∷ x1 ∷ x2 ∷ x3 ∷ x4 ∷ x5 ∷ x6 ∷ x7 ∷ x8 ∷ x9 ∷ y ∷ more) a0 a1 a2 a3 a4 a5 a6 a7 a8 a9 u0 u1 u2 u3 u4 u5 u6 u7 u8 u9 len p0 q0 p1 q1 p2 q2 p3 q3 p4 q4 p5 q5 p6 q6 p7 q7 p8 q8 p9 q9 = absurd (omega (arith, len))

@@ -4,9 +4,8 @@ ghost use Rattle.std.specs.Prelude.{◌≡◌, ◌↔◌, [], ◌∷◌, IsTrue}
 ghost use Rattle.table_schema.specs.Layout.{no_stamps, child, placed, info_table, tenants_table, sequence_table, maps_table, devices_table, first_pools_table, pools_table, exceptions_table, receipts_table};
 
 use crate::columns::{
-    are_columns_of_counts, are_columns_of_devices, are_columns_of_exceptions,
-    are_columns_of_first_pools, are_columns_of_info, are_columns_of_maps, are_columns_of_pools,
-    are_columns_of_receipts, are_columns_of_tenants,
+    DEVICES, EXCEPTIONS, FIRST_POOLS, INFO, MAPS, POOLS, RECEIPTS, TENANTS, are_columns_of_counts,
+    are_needed,
 };
 use crate::one_test::is_one_test;
 use crate::parts::{
@@ -37,7 +36,7 @@ pub fn is_maps(table: &Table) -> bool
     ensures { IsTrue result ↔ table.now ≡ placed 4 maps_table }
 {
     is_child(table, "maps", 4, &[1, 2])
-        && are_columns_of_maps(table.columns.as_slice())
+        && are_needed(table.columns.as_slice(), &MAPS)
         && is_one_key(&table.uniques, &[1, 2])
         && is_one_plain(&table.orders)
 }
@@ -47,7 +46,7 @@ pub fn is_devices(table: &Table) -> bool
     ensures { IsTrue result ↔ table.now ≡ placed 6 devices_table }
 {
     is_child(table, "devices", 6, &[1, 2])
-        && are_columns_of_devices(table.columns.as_slice())
+        && are_needed(table.columns.as_slice(), &DEVICES)
         && is_one_key(&table.uniques, &[1, 2])
         && is_one_plain(&table.orders)
 }
@@ -57,7 +56,7 @@ pub fn is_receipts(table: &Table, tree: u32) -> bool
     ensures { IsTrue result ↔ table.now ≡ placed tree receipts_table }
 {
     is_child(table, "receipts", tree, &[1, 2])
-        && are_columns_of_receipts(table.columns.as_slice())
+        && are_needed(table.columns.as_slice(), &RECEIPTS)
         && is_one_key(&table.uniques, &[1, 2])
         && is_one_plain(&table.orders)
 }
@@ -77,7 +76,7 @@ pub fn is_first_pools(table: &Table) -> bool
     ensures { IsTrue result ↔ table.now ≡ placed 8 first_pools_table }
 {
     is_child(table, "pools", 8, &[1, 2])
-        && are_columns_of_first_pools(table.columns.as_slice())
+        && are_needed(table.columns.as_slice(), &FIRST_POOLS)
         && are_keys_of_pools(&table.uniques)
         && are_two_plain(&table.orders)
 }
@@ -87,7 +86,7 @@ pub fn is_pools(table: &Table, tree: u32) -> bool
     ensures { IsTrue result ↔ table.now ≡ placed tree pools_table }
 {
     is_child(table, "pools_2", tree, &[1, 2])
-        && are_columns_of_pools(table.columns.as_slice())
+        && are_needed(table.columns.as_slice(), &POOLS)
         && are_keys_of_pools(&table.uniques)
         && are_two_plain(&table.orders)
 }
@@ -97,7 +96,7 @@ pub fn are_exceptions(table: &Table, tree: u32) -> bool
     ensures { IsTrue result ↔ table.now ≡ placed tree exceptions_table }
 {
     is_child(table, "exceptions", tree, &[1, 2, 3])
-        && are_columns_of_exceptions(table.columns.as_slice())
+        && are_needed(table.columns.as_slice(), &EXCEPTIONS)
         && is_one_key(&table.uniques, &[1, 2, 3])
         && is_one_plain(&table.orders)
 }
@@ -115,7 +114,7 @@ pub fn is_info(table: &Table) -> bool
 {
     is_name(&table.name, "schema_info")
         && table.tree == 0
-        && are_columns_of_info(table.columns.as_slice())
+        && are_needed(table.columns.as_slice(), &INFO)
         && table.key == Some(0)
         && are_places(&table.primary, &[0])
         && table.uniques.is_empty()
@@ -131,7 +130,7 @@ pub fn is_tenants(table: &Table) -> bool
 {
     is_name(&table.name, "tenants")
         && table.tree == 1
-        && are_columns_of_tenants(table.columns.as_slice())
+        && are_needed(table.columns.as_slice(), &TENANTS)
         && table.key == Some(0)
         && are_places(&table.primary, &[0])
         && is_one_key(&table.uniques, &[2])

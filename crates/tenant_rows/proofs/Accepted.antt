@@ -6,7 +6,7 @@ use mir.Syntax.{w64}
 use Rattle.sqlite_trees.specs.Tree.{Trees}
 use Rattle.tenant_state.specs.State.{Change, Made}
 use Rattle.tenant_state.specs.declared.receipts.Receipt as state
-use Rattle.table_writes.specs.Change.{Accepts, IsNumber}
+use Rattle.tenant_tables.specs.Change.{Accepts, IsNumber}
 use Rattle.table_schema.specs.Values.{receipt_row}
 use Rattle.table_schema.specs.Holds.{TenantRows}
 use Rattle.table_schema.specs.declared.values.Receipt.{Receipt}

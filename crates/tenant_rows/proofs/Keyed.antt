@@ -13,8 +13,8 @@ use Rattle.sqlite_value.proofs.OrderLemmas.{value_cmp-Int}
 use Rattle.sqlite_schema.specs.Rules.{equal}
 use Rattle.sqlite_trees.proofs.TreeLemmas.{not_true}
 use Rattle.tenant_state.specs.Ordered.{is_ascending, with_element, without}
-use Rattle.table_writes.proofs.RowFacts.{equal_itself, equal_parts}
-use Rattle.table_writes.specs.Change.{without_key}
+use Rattle.tenant_tables.proofs.RowFacts.{equal_itself, equal_parts}
+use Rattle.tenant_tables.specs.Change.{without_key}
 use Rattle.tenant_rows.proofs.Reading.{first, second}
 
 pub other_int : (m n : ℤ) → (m ≡ n → ⊥) → equal Binary (Int m) (Int n) ≡ false

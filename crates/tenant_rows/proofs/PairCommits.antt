@@ -25,7 +25,7 @@ use Rattle.table_schema.specs.Values.{exception_row, pool_row}
 use Rattle.table_schema.specs.declared.values.Exception.{Exception}
 use Rattle.table_schema.specs.declared.values.Pool.{Pool}
 use Rattle.table_schema.specs.declared.values.Receipt.{Receipt}
-use Rattle.table_writes.specs.Change.{Accepts, with_exceptions, with_receipt, without_key}
+use Rattle.tenant_tables.specs.Change.{Accepts, with_exceptions, with_receipt, without_key}
 use Rattle.tenant_rows.proofs.Orders.{are_pools, one_order, pools_rise}
 use Rattle.tenant_rows.proofs.Keyed.{at_least}
 use Rattle.tenant_rows.proofs.Reading.{first}

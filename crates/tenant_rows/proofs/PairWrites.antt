@@ -12,8 +12,8 @@ use Rattle.sqlite_rules.specs.Lists.{Has}
 use Rattle.crush_pool.specs.declared.exceptions.Pair.{Pair}
 use Rattle.tenant_state.specs.Ordered.{is_ascending, with_element, without}
 use Rattle.tenant_state.specs.State.{TenantPool, can_have, is_lower_pool, with_pairs}
-use Rattle.table_writes.proofs.RowFacts.{equal_itself}
-use Rattle.table_writes.specs.Change.{without_key}
+use Rattle.tenant_tables.proofs.RowFacts.{equal_itself}
+use Rattle.tenant_tables.specs.Change.{without_key}
 use Rattle.table_schema.specs.Values.{exception_row}
 use Rattle.table_schema.specs.declared.values.Exception.{Exception}
 use Rattle.tenant_rows.proofs.Keyed.{all_above, below, differs, equals, goes, is_own, other_number, stays, swap}

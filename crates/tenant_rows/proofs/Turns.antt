@@ -10,7 +10,7 @@ use Rattle.sqlite_rules.specs.Lists.{Has}
 use Rattle.sqlite_schema.specs.declared.schema.Table.{Table}
 use Rattle.tenant_state.proofs.Leaving.{fresh_is_state}
 use Rattle.tenant_state.specs.State.{TenantState, epoch, fresh}
-use Rattle.table_writes.specs.Change.{Creates, Drops}
+use Rattle.tenant_tables.specs.Change.{Creates, Drops}
 use Rattle.table_schema.specs.Holds as tables
 use Rattle.table_schema.specs.Layout.{maps_table, devices_table, pools_table, receipts_table, exceptions_table, tables_of_tenants}
 use Rattle.tenant_rows.specs.Changes.{Turns}

@@ -23,8 +23,8 @@ use Rattle.tenant_state.specs.Receipts.{Receipts, receipt_of, with_receipt}
 use Rattle.tenant_state.specs.State.{CanTake, Change, Inventory, Made, NewExceptions, NewPool, NewStates, NewVersion, RemovedPool, TenantPool, TenantState, after, epoch, inventory_of, is_like, is_lower_device, is_lower_pool, with_made, with_state, with_states}
 use Rattle.tenant_state.specs.Valid.{IsChange, IsInventory}
 use Rattle.tenant_state.specs.declared.receipts.Receipt.{Receipt}
-use Rattle.table_writes.specs.Change as write
-use Rattle.table_writes.specs.Change.{Accepts, IsNumber, without_key}
+use Rattle.tenant_tables.specs.Change as write
+use Rattle.tenant_tables.specs.Change.{Accepts, IsNumber, without_key}
 use Rattle.table_schema.specs.Values.{receipt_row}
 use Rattle.table_schema.specs.Holds.{Holds, IsTenant, TenantRows, of_tenant}
 use Rattle.table_schema.specs.Layout.{pools_table}

@@ -12,7 +12,7 @@ use Rattle.tenant_state.specs.State.{Inventory, Made, NewExceptions, NewPool, Ne
 use Rattle.tenant_state.specs.Valid.{IsInventory}
 use Rattle.table_schema.specs.Holds.{TenantRows, of_tenant}
 use Rattle.table_schema.specs.Layout.{pools_table}
-use Rattle.table_writes.specs.Change.{with_states, with_version, without_key, without_pool}
+use Rattle.tenant_tables.specs.Change.{with_states, with_version, without_key, without_pool}
 use Rattle.table_schema.specs.declared.values.State.{State}
 use Rattle.tenant_rows.specs.Rows.{flag, row_of_pool, rows_of_pairs}
 

@@ -9,7 +9,7 @@ use Rattle.tenant_rows.proofs.Whole.{has_rows, is_tenant}
 use Rattle.tenant_rows.specs.Changes.{IsChangeable, Turns}
 use Rattle.tenant_rows.specs.Rows.{StandsFor}
 use Rattle.tenant_state.specs.State.{CanMake, Change, TenantState, after, epoch}
-use Rattle.table_writes.specs.Change.{Drops, IsNumber}
+use Rattle.tenant_tables.specs.Change.{Drops, IsNumber}
 use Rattle.table_reads.specs.Found.{Names}
 use Rattle.table_schema.specs.Holds.{IsTenant}
 use Rattle.table_reads.specs.declared.find.Tenant.{Tenant}
@@ -52,7 +52,7 @@ less_judged name db counts now judged forgets t m found = judged t m (forgets t 
 -- what a stop leaves of a change of the tenant that was found
 pub commit_survives : (old mid new : Shown) (name : List ℕ) (tenant : Tenant) (versions : ℕ) (change : Change) → Survives old mid (λ _. ⊥)
     → Survives mid new (λ db. (n : List ℕ) (s : TenantState) → IsChangeable mid.now.trees n s tenant versions change → Turns n (Some (after change s)) mid.now.trees db)
-    → (HasCleanDisk mid → mid.now ≡ old.now) → (HasCleanDisk old → Names old.now.trees name (Some tenant)) → (HasCleanDisk mid → (s : TenantState) → StandsFor old.now.trees name (Some s) → versions ≡ length s.versions)
+    → (HasCleanDisk mid → mid.now ≡ old.now) → (HasCleanDisk mid → Names old.now.trees name (Some tenant)) → (HasCleanDisk mid → (s : TenantState) → StandsFor old.now.trees name (Some s) → versions ≡ length s.versions)
     → Survives old new (λ db. (s : TenantState) → StandsFor old.now.trees name (Some s) → CanMake change s → Turns name (Some (after change s)) old.now.trees db)
 commit_survives old mid new name tenant versions change one two same names count =
     survives_then old mid new (λ _. ⊥) (λ db. (n : List ℕ) (s : TenantState) → IsChangeable mid.now.trees n s tenant versions change → Turns n (Some (after change s)) mid.now.trees db)
@@ -60,18 +60,23 @@ commit_survives old mid new name tenant versions change one two same names count
     (λ clean db made s has can.
     let late : HasCleanDisk mid = omega (arith, clean, two.clean) in
     let early : HasCleanDisk old = omega (arith, late, one.clean) in
-    let it = is_changeable old.now mid.now name s tenant versions change (same late) (names early) has (count late s has) can in
+    let it = is_changeable old.now mid.now name s tenant versions change (same late) (names late) has (count late s has) can in
     subst (λ (d : Database). Turns name (Some (after change s)) d.trees db) (same late) (made name s it)) one two
 
 -- and of its removal
-pub remove_survives : (old new : Shown) (name : List ℕ) (tenant : Tenant) → Survives old new (Drops tenant.id old.now.trees) → (HasCleanDisk old → Names old.now.trees name (Some tenant))
-    → (HasCleanDisk old → (s : TenantState) × StandsFor old.now.trees name (Some s)) → Survives old new (Turns name None old.now.trees)
-remove_survives old new name tenant one names there =
-    survives_weaker old new (Drops tenant.id old.now.trees) (Turns name None old.now.trees)
+pub remove_survives : (old mid new : Shown) (name : List ℕ) (tenant : Tenant) → Survives old mid (λ _. ⊥) → Survives mid new (Drops tenant.id mid.now.trees) → (HasCleanDisk mid → mid.now ≡ old.now)
+    → (HasCleanDisk mid → Names old.now.trees name (Some tenant)) → (HasCleanDisk old → (s : TenantState) × StandsFor old.now.trees name (Some s)) → Survives old new (Turns name None old.now.trees)
+remove_survives old mid new name tenant one two same names there =
+    survives_then old mid new (λ _. ⊥) (Drops tenant.id mid.now.trees) (Turns name None old.now.trees) (λ clean db none. absurd none)
     (λ clean db drops.
-    let early : HasCleanDisk old = omega (arith, clean, one.clean) in
+    let late : HasCleanDisk mid = omega (arith, clean, two.clean) in
+    let early : HasCleanDisk old = omega (arith, late, one.clean) in
     let it = there early in
-    is_dropped old.now.trees db name it.0 tenant (names early) it.1 drops) one
+    is_dropped old.now.trees db name it.0 tenant (names late) it.1 (subst (λ (d : Database). Drops tenant.id d.trees db) (same late) drops)) one two
+
+-- two calls leave nothing that each of them doesn't
+pub nothing_left : (old mid new : Shown) → Survives old mid (λ _. ⊥) → Survives mid new (λ _. ⊥) → Survives old new (λ _. ⊥)
+nothing_left old mid new one two = survives_then old mid new (λ _. ⊥) (λ _. ⊥) (λ _. ⊥) (λ clean db none. absurd none) (λ clean db none. absurd none) one two
 
 -- what is remembered after a call that turns a name, or does nothing
 pub forgotten_judged : {A E : Type 0} (r : Result A E) (name : List ℕ) (s : Option TenantState) (old new : Database) (counts now : Counts) → OnOk r (Turns name s old.trees new.trees) → OnErr r (new ≡ old)

@@ -153,6 +153,23 @@ fn receipt_of_tenant<S: Alter>(
     }
 }
 
+/// The row of the tenant with the name, which is there.
+pub fn tenant_of<S: Alter>(tables: &mut Tables<S>, name: &str) -> Result<Tenant, StoreFault>
+    requires live { tables.old.1 ≡ false }
+    requires there { HasCleanDisk (state S.Store tables.old.0) → (s : TenantState) × StandsFor (state S.Store tables.old.0).now.trees name.now (Some s) }
+    ensures names { HasCleanDisk (state S.Store tables.new.0) → IfOk result (λ tenant. Names (state S.Store tables.old.0).now.trees name.now (Some tenant)) }
+    ensures damaged { HasCleanDisk (state S.Store tables.new.0) → result ≢ Err StoreFault.Damaged }
+    ensures kept { HasCleanDisk (state S.Store tables.new.0) → tables.new.1 ≡ false → (state S.Store tables.new.0).now ≡ (state S.Store tables.old.0).now }
+    ensures latches { tables.new.1 ≡ is_failed result }
+    ensures crash { Survives (state S.Store tables.old.0) (state S.Store tables.new.0) (λ _. ⊥) }
+{
+    match tables.find(name) {
+        Ok(Some(tenant)) => Ok(tenant),
+        Ok(None) => Err(StoreFault::Damaged),
+        Err(fault) => Err(fault_of(fault)),
+    }
+}
+
 /// The receipt of the request number of the tenant with the name, or `None` where there is none.
 pub fn find_receipt<S: Alter>(
     alloc: Global,
@@ -168,11 +185,8 @@ pub fn find_receipt<S: Alter>(
     ensures latches { tables.new.1 ≡ is_failed result }
     ensures crash { Survives (state S.Store tables.old.0) (state S.Store tables.new.0) (λ _. ⊥) }
 {
-    match tables.find(name) {
-        Ok(Some(tenant)) => receipt_of_tenant(alloc, tables, &tenant, number),
-        Ok(None) => Ok(None),
-        Err(fault) => Err(fault_of(fault)),
-    }
+    let tenant = tenant_of(tables, name)?;
+    receipt_of_tenant(alloc, tables, &tenant, number)
 }
 
 /// How many versions a tenant has: as it was remembered, or else by its rows.

@@ -6,17 +6,15 @@ ghost use Rattle.sqlite.specs.Held.{state};
 ghost use Rattle.sqlite.specs.State.{HasCleanDisk, Survives};
 ghost use Rattle.tenant_core.specs.StoreReply.{is_failed};
 ghost use Rattle.tenant_state.specs.State.{CanMake, TenantState, after};
-ghost use Rattle.table_reads.specs.Found.{Names};
 ghost use Rattle.tenant_rows.specs.Changes.{Turns};
 ghost use Rattle.tenant_rows.specs.Rows.{StandsFor};
 ghost use Rattle.tenant_store.specs.Judged.{AreJudged};
 
 use crate::faults::fault_of;
 use crate::judged::{Judged, update};
-use crate::reading::count_versions;
+use crate::reading::{count_versions, tenant_of};
 use sqlite::Alter;
 use std::alloc::Global;
-use table_reads::find::Tenant;
 use tenant_core::StoreFault;
 use tenant_rows::write_change;
 use tenant_state::{Change, Made};
@@ -29,38 +27,6 @@ fn versions_after(versions: u64, change: &Change) -> u64
     match &change.made {
         Made::Version(_) => versions.saturating_add(1),
         _ => versions,
-    }
-}
-
-/// Makes a change of a tenant.
-fn commit_tenant<S: Alter>(
-    alloc: Global,
-    tables: &mut Tables<S>,
-    judged: &mut Judged,
-    name: &str,
-    tenant: &Tenant,
-    change: &Change,
-) -> Result<(), StoreFault>
-    requires live { tables.old.1 ≡ false }
-    requires names { HasCleanDisk (state S.Store tables.old.0) → Names (state S.Store tables.old.0).now.trees name.now (Some tenant.now) }
-    requires there { HasCleanDisk (state S.Store tables.old.0) → (s : TenantState) × StandsFor (state S.Store tables.old.0).now.trees name.now (Some s) × CanMake change.now s }
-    requires judged { HasCleanDisk (state S.Store tables.old.0) → AreJudged (state S.Store tables.old.0).now.trees (get_by_text judged.old) }
-    ensures made { HasCleanDisk (state S.Store tables.new.0) → (s : TenantState) → StandsFor (state S.Store tables.old.0).now.trees name.now (Some s)
-        → CanMake change.now s → OnOk result (Turns name.now (Some (after change.now s)) (state S.Store tables.old.0).now.trees (state S.Store tables.new.0).now.trees) }
-    ensures kept { HasCleanDisk (state S.Store tables.new.0) → tables.new.1 ≡ false → OnErr result ((state S.Store tables.new.0).now ≡ (state S.Store tables.old.0).now) }
-    ensures damaged { HasCleanDisk (state S.Store tables.new.0) → result ≢ Err StoreFault.Damaged }
-    ensures judged { HasCleanDisk (state S.Store tables.new.0) → tables.new.1 ≡ false → AreJudged (state S.Store tables.new.0).now.trees (get_by_text judged.new) }
-    ensures latches { tables.new.1 ≡ is_failed result }
-    ensures crash { Survives (state S.Store tables.old.0) (state S.Store tables.new.0) (λ db. (s : TenantState) → StandsFor (state S.Store tables.old.0).now.trees name.now (Some s) → CanMake change.now s
-        → Turns name.now (Some (after change.now s)) (state S.Store tables.old.0).now.trees db) }
-{
-    let versions = count_versions(alloc, tables, judged, name, tenant)?;
-    match write_change(alloc, tables, tenant, versions, change) {
-        Ok(()) => {
-            update(judged, name, versions_after(versions, change));
-            Ok(())
-        }
-        Err(fault) => Err(fault_of(fault)),
     }
 }
 
@@ -84,30 +50,13 @@ pub fn commit<S: Alter>(
     ensures crash { Survives (state S.Store tables.old.0) (state S.Store tables.new.0) (λ db. (s : TenantState) → StandsFor (state S.Store tables.old.0).now.trees name.now (Some s) → CanMake change.now s
         → Turns name.now (Some (after change.now s)) (state S.Store tables.old.0).now.trees db) }
 {
-    match tables.find(name) {
-        Ok(Some(tenant)) => commit_tenant(alloc, tables, judged, name, &tenant, change),
-        Ok(None) => Err(StoreFault::Damaged),
-        Err(fault) => Err(fault_of(fault)),
-    }
-}
-
-/// Removes a tenant with everything of it.
-fn remove_tenant<S: Alter>(
-    tables: &mut Tables<S>,
-    name: &str,
-    tenant: &Tenant,
-) -> Result<(), StoreFault>
-    requires live { tables.old.1 ≡ false }
-    requires names { HasCleanDisk (state S.Store tables.old.0) → Names (state S.Store tables.old.0).now.trees name.now (Some tenant.now) }
-    requires there { HasCleanDisk (state S.Store tables.old.0) → (s : TenantState) × StandsFor (state S.Store tables.old.0).now.trees name.now (Some s) }
-    ensures made { HasCleanDisk (state S.Store tables.new.0) → OnOk result (Turns name.now None (state S.Store tables.old.0).now.trees (state S.Store tables.new.0).now.trees) }
-    ensures kept { HasCleanDisk (state S.Store tables.new.0) → tables.new.1 ≡ false → OnErr result ((state S.Store tables.new.0).now ≡ (state S.Store tables.old.0).now) }
-    ensures damaged { result ≢ Err StoreFault.Damaged }
-    ensures latches { tables.new.1 ≡ is_failed result }
-    ensures crash { Survives (state S.Store tables.old.0) (state S.Store tables.new.0) (Turns name.now None (state S.Store tables.old.0).now.trees) }
-{
-    match tables.remove(tenant.id) {
-        Ok(()) => Ok(()),
+    let tenant = tenant_of(tables, name)?;
+    let versions = count_versions(alloc, tables, judged, name, &tenant)?;
+    match write_change(alloc, tables, &tenant, versions, change) {
+        Ok(()) => {
+            update(judged, name, versions_after(versions, change));
+            Ok(())
+        }
         Err(fault) => Err(fault_of(fault)),
     }
 }
@@ -122,9 +71,9 @@ pub fn remove<S: Alter>(tables: &mut Tables<S>, name: &str) -> Result<(), StoreF
     ensures latches { tables.new.1 ≡ is_failed result }
     ensures crash { Survives (state S.Store tables.old.0) (state S.Store tables.new.0) (Turns name.now None (state S.Store tables.old.0).now.trees) }
 {
-    match tables.find(name) {
-        Ok(Some(tenant)) => remove_tenant(tables, name, &tenant),
-        Ok(None) => Err(StoreFault::Damaged),
+    let tenant = tenant_of(tables, name)?;
+    match tables.remove(tenant.id) {
+        Ok(()) => Ok(()),
         Err(fault) => Err(fault_of(fault)),
     }
 }

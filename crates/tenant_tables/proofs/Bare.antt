@@ -4,10 +4,10 @@ use Rattle.sqlite.specs.Store.{Ghosts}
 use Rattle.sqlite.specs.Held.{Held, state}
 use Rattle.sqlite.specs.Effect.{Database, IsDatabase}
 use Rattle.table_schema.specs.Layout.{no_schema, first_schema}
-use Rattle.table_writes.specs.Run.{Makes, begun}
-use Rattle.table_writes.specs.declared.write.Write.TheVariants.{Plain}
+use Rattle.tenant_tables.specs.Run.{Makes, begun}
+use Rattle.tenant_tables.specs.declared.write.Write.TheVariants.{Plain}
 use Rattle.tenant_tables.specs.Opened.{HasVersion, IsBare, IsMigrated}
-use Rattle.tenant_tables.proofs.Statements.{info_text, tenants_text, maps_text, devices_text, pools_text, exceptions_text, receipts_text, version_text, copy_text, drop_text, second_text}
+use Rattle.tenant_tables.proofs.TableTexts.{info_text, tenants_text, maps_text, devices_text, pools_text, exceptions_text, receipts_text, version_text, copy_text, drop_text, second_text}
 use Rattle.tenant_tables.proofs.Making.{made_bare}
 use Rattle.tenant_tables.proofs.Migrating.{migrated}
 

@@ -20,8 +20,8 @@ use Rattle.sqlite.specs.Kind.{Kind}
 use Rattle.sqlite.specs.Kind.TheVariants.{Integer, Text}
 use Rattle.table_schema.specs.Layout.{placed, first_pools_table, pools_table}
 use Rattle.table_schema.specs.Holds.{values_from}
-use Rattle.table_writes.proofs.RowFacts.{perm_put}
-use Rattle.table_writes.proofs.Inserting.{cast_null, cast_int}
+use Rattle.tenant_tables.proofs.RowFacts.{perm_put}
+use Rattle.tenant_tables.proofs.Inserting.{cast_null, cast_int}
 
 -- ---- rows that are put in
 

@@ -32,8 +32,8 @@ use Rattle.table_schema.specs.Layout.{no_schema, schema_with_devices, store_sche
 use Rattle.table_schema.specs.Holds.{rows_in, AreTables}
 use Rattle.table_schema.proofs.Places.{places}
 use Rattle.tenant_tables.specs.Opened.{IsBare}
-use Rattle.tenant_tables.proofs.Statements.{Makes, schema_with_info, schema_with_tenants, schema_with_maps, schema_with_receipts, schema_with_pools, first_with_pools, first_with_exceptions, new_is, info_text, tenants_text, maps_text, devices_text, pools_text, exceptions_text, receipts_text, version_text, info_is, tenants_are, sequence_is, maps_are, devices_are, receipts_are, pools_are, exceptions_are, version_is}
-use Rattle.table_writes.proofs.Inserting.{went, same_value, unlike, cast_null, cast_int, inserts}
+use Rattle.tenant_tables.proofs.TableTexts.{Makes, schema_with_info, schema_with_tenants, schema_with_maps, schema_with_receipts, schema_with_pools, first_with_pools, first_with_exceptions, new_is, info_text, tenants_text, maps_text, devices_text, pools_text, exceptions_text, receipts_text, version_text, info_is, tenants_are, sequence_is, maps_are, devices_are, receipts_are, pools_are, exceptions_are, version_is}
+use Rattle.tenant_tables.proofs.Inserting.{went, same_value, unlike, cast_null, cast_int, inserts}
 
 lacks : (lacks_sequence schema_with_info ≡ false) × (lacks_sequence (created schema_with_info tenants_table) ≡ true)
 unfolding everything same_name

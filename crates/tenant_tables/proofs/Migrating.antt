@@ -34,9 +34,9 @@ use Rattle.table_schema.specs.declared.schema.Layout.TheVariants.{Gapped}
 use Rattle.table_schema.specs.Layout.{store_schema, first_schema, placed, info_table, first_pools_table, pools_table, exceptions_table}
 use Rattle.table_schema.specs.Holds.{rows_in}
 use Rattle.table_schema.proofs.Places.{places, first_places}
-use Rattle.table_writes.proofs.Inserting.{went, same_value, unlike, cast_null, cast_int}
+use Rattle.tenant_tables.proofs.Inserting.{went, same_value, unlike, cast_null, cast_int}
 use Rattle.tenant_tables.specs.Opened.{HasVersion, IsMigrated}
-use Rattle.tenant_tables.proofs.Statements.{first_with_pools, first_with_exceptions, migrated_is, pools_text, exceptions_text, copy_text, copy_query, copy_is, drop_text, drop_is, second_text, second_query, second_is, first_pools_are, first_exceptions_are}
+use Rattle.tenant_tables.proofs.TableTexts.{first_with_pools, first_with_exceptions, migrated_is, pools_text, exceptions_text, copy_text, copy_query, copy_is, drop_text, drop_is, second_text, second_query, second_is, first_pools_are, first_exceptions_are}
 use Rattle.tenant_tables.proofs.Making.{nothing_put, makes, lacks_more, version_row}
 use Rattle.tenant_tables.proofs.Copying.{copied_row, shown, new_table, copies}
 use Rattle.tenant_tables.proofs.Versions.{pair}

@@ -1,6 +1,9 @@
-//! The tables of tenants in SQLite as a value: opened, read and written.
+//! The tables of tenants in SQLite as a value: opened, read and written, each change whole or not
+//! at all.
 #![tactic(auto)]
 
+mod commit;
 mod open;
 mod reopen;
 pub mod tables;
+mod write;

@@ -12,13 +12,13 @@ ghost use Rattle.table_schema.specs.Holds.{rows_in};
 ghost use Rattle.table_schema.specs.Ready.{Commits, Rests};
 ghost use Rattle.tenant_tables.specs.Opened.{HasVersion, SaysVersion, IsKnown, IsBare, IsMigrated, IsStrange, SetsUp, Stays};
 
+use crate::write::{Write, run_all};
 use sqlite::{Alter, Connection, Error, Row};
 use std::alloc::AllocError;
 use table_reads::rows::int_at;
 use table_schema::first::is_first;
 use table_schema::refuse::{Fault, fault_of, refusal};
 use table_schema::schema::layout_of;
-use table_writes::write::{Write, run_all};
 
 /// Whether the database has no table, index or view.
 fn is_empty<S: Alter>(conn: &Connection<S>) -> bool
@@ -128,10 +128,10 @@ fn adopt<S: Alter>(conn: &mut Connection<S>, version: i64) -> Result<(), Fault>
         Ok(rows) => rows,
         Err(error) => return Err(refusal(conn, error)),
     };
-    match is_version(&rows, version) {
-        Ok(true) => Ok(()),
-        Ok(false) => Err(Fault::Damaged),
-        Err(AllocError) => Err(Fault::NoMemory),
+    if is_version(&rows, version)? {
+        Ok(())
+    } else {
+        Err(Fault::Damaged)
     }
 }
 

@@ -7,14 +7,16 @@ ghost use Rattle.std.specs.List.{AllByRecursion};
 ghost use Rattle.sqlite_trees.specs.View.{IsClean};
 ghost use Rattle.table_schema.specs.Layout.{no_schema, first_schema, IsStoreSchema, maps_table, devices_table, pools_table, receipts_table, exceptions_table};
 ghost use Rattle.tenant_tables.specs.Opened.{HasVersion, IsKnown, IsBare, IsMigrated, IsStrange, SetsUp};
-ghost use Rattle.table_schema.specs.Ready.{IsReady};
-ghost use Rattle.table_schema.specs.Holds.{IsAbsent, of_tenant};
+ghost use Rattle.table_schema.specs.Ready.{Commits, IsReady};
+ghost use Rattle.table_schema.specs.Holds.{of_tenant};
 ghost use Rattle.table_reads.specs.Found.{Names, Lists, ListsBy, Precedes, IsExceptionRow, Begins, rows_above, receipt_values, receipts_with, AreReceipt, IsReceiptRow, version_values, pool_values, IsVersionRow, IsStateRow, IsPoolRow};
-ghost use Rattle.table_writes.specs.Change.{Accepts, Creates, Drops, IsNumber, with_version, with_states, with_pool, without_pool, with_exceptions};
+ghost use Rattle.tenant_tables.specs.Run.{AreSound, Makes};
+ghost use Rattle.sqlite.specs.Effect.{Database};
 ghost use Rattle.table_schema.specs.Values.{state_row, exception_row};
 
 use crate::open::{get_ready, set_up};
 use crate::reopen::reopen;
+use crate::write::{Write, write_all};
 use sqlite::{Alter, Connection};
 use std::alloc::Global;
 use std::marker::Model;
@@ -24,19 +26,14 @@ use table_reads::lists::{devices_of, pools_of, receipt_of, versions_of};
 use table_reads::pages::{first_receipts, receipts_after};
 use table_reads::rows::{PoolRow, ReceiptRow, VersionRow};
 use table_schema::refuse::Fault;
-use table_schema::values::{Exception, Pool, Receipt, State};
-use table_writes::commit::{
-    commit_exceptions, commit_no_pool, commit_pool, commit_states, commit_version,
-};
-use table_writes::create::create;
-use table_writes::remove::remove;
+use table_schema::values::{Exception, State};
 
 /// The tables of a connection. Contracts see the connection, and whether a failure has latched the
 /// tables. Then no further call is made on them.
 #[derive(Drop)]
 pub struct Tables<S: Alter> {
     conn: Connection<S>,
-    alloc: Global,
+    pub(crate) alloc: Global,
     is_latched: bool,
 }
 
@@ -56,12 +53,14 @@ impl<S: Alter> Model for Tables<S> {
     ghost invariant = { λ s. (s.conn.in_transaction ≡ false) × (s.is_latched ≡ false → HasCleanDisk (state S.Store s.conn) → IsReady (state S.Store s.conn)) };
 }
 
-/// Whether an answer latches the tables: only a failure does. Where memory or the disk was full, a
-/// later call may succeed.
-fn latches<T>(answer: &Result<T, Fault>) -> bool
-    ensures { IsTrue result ↔ answer.now ≡ Err Fault.Failed }
+/// The answer of a call, which latches the tables where it is a failure, and only there. Where
+/// memory or the disk was full, a later call may succeed.
+fn latched<T>(is_latched: &mut bool, answer: Result<T, Fault>) -> Result<T, Fault>
+    ensures latch { is_latched.new ≡ true ↔ answer ≡ Err Fault.Failed }
+    ensures same { result ≡ answer }
 {
-    matches!(answer, Err(Fault::Failed))
+    *is_latched = matches!(answer, Err(Fault::Failed));
+    answer
 }
 
 impl<S: Alter + Drop> Tables<S> {
@@ -130,174 +129,21 @@ impl<S: Alter> Tables<S> {
         self.is_latched
     }
 
-    /// Makes a tenant with epoch 0 and no other row, under a number that no tenant had before.
+    /// Runs the writes in one transaction, all of them or none. They leave this service's tables.
     ///
     /// `Err(Fault::NoMemory)`, `Err(Fault::Full)`: nothing is changed. `Err(Fault::Failed)`: the
     /// tables are latched.
-    pub fn create(&mut self, name: &str) -> Result<(), Fault>
+    pub(crate) fn write(&mut self, writes: &[Write<'_>]) -> Result<(), Fault>
         requires live { self.old.1 ≡ false }
-        requires absent { HasCleanDisk (state S.Store self.old.0) → IsAbsent (state S.Store self.old.0).now.trees name.now }
-        ensures done { HasCleanDisk (state S.Store self.new.0) → OnOk result (Creates name.now (state S.Store self.old.0).now.trees (state S.Store self.new.0).now.trees) }
+        requires sound { HasCleanDisk (state S.Store self.old.0) → IsReady (state S.Store self.old.0) → (db : Database) → Makes S.Store writes.now self.old.0 db → AreSound db }
+        ensures ready { HasCleanDisk (state S.Store self.old.0) → IsReady (state S.Store self.old.0) }
+        ensures done { HasCleanDisk (state S.Store self.new.0) → OnOk result ((db : Database) × Makes S.Store writes.now self.old.0 db × Commits (state S.Store self.old.0) (state S.Store self.new.0) db) }
         ensures kept { HasCleanDisk (state S.Store self.new.0) → self.new.1 ≡ false → OnErr result ((state S.Store self.new.0).now ≡ (state S.Store self.old.0).now) }
         ensures latches { self.new.1 ≡ true ↔ result ≡ Err Fault.Failed }
         ensures rows { result ≢ Err Fault.Damaged }
-        ensures crash { Survives (state S.Store self.old.0) (state S.Store self.new.0) (Creates name.now (state S.Store self.old.0).now.trees) }
+        ensures crash { Survives (state S.Store self.old.0) (state S.Store self.new.0) (λ trees. (db : Database) × Makes S.Store writes.now self.old.0 db × (trees ≡ db.trees)) }
     {
-        let written = create(&mut self.conn, name);
-        self.is_latched = latches(&written);
-        written
-    }
-
-    /// Removes the tenant with the number, and with it each of its rows.
-    ///
-    /// `Err(Fault::NoMemory)`, `Err(Fault::Full)`: nothing is changed. `Err(Fault::Failed)`: the
-    /// tables are latched.
-    pub fn remove(&mut self, id: i64) -> Result<(), Fault>
-        requires live { self.old.1 ≡ false }
-        requires there { HasCleanDisk (state S.Store self.old.0) → IsNumber (state S.Store self.old.0).now.trees id }
-        ensures done { HasCleanDisk (state S.Store self.new.0) → OnOk result (Drops id (state S.Store self.old.0).now.trees (state S.Store self.new.0).now.trees) }
-        ensures kept { HasCleanDisk (state S.Store self.new.0) → self.new.1 ≡ false → OnErr result ((state S.Store self.new.0).now ≡ (state S.Store self.old.0).now) }
-        ensures latches { self.new.1 ≡ true ↔ result ≡ Err Fault.Failed }
-        ensures rows { result ≢ Err Fault.Damaged }
-        ensures crash { Survives (state S.Store self.old.0) (state S.Store self.new.0) (Drops id (state S.Store self.old.0).now.trees) }
-    {
-        let written = remove(&mut self.conn, id);
-        self.is_latched = latches(&written);
-        written
-    }
-
-    /// Adds a version of the map. `id` is the tenant's number, and `epoch` the new one.
-    ///
-    /// `Err(Fault::NoMemory)`, `Err(Fault::Full)`: nothing is changed. `Err(Fault::Failed)`: the
-    /// tables are latched.
-    pub fn commit_version<'a>(
-        &mut self,
-        id: i64,
-        epoch: i64,
-        version: i64,
-        text: &'a str,
-        receipt: &Receipt<'a>,
-    ) -> Result<(), Fault>
-        requires live { self.old.1 ≡ false }
-        requires there { HasCleanDisk (state S.Store self.old.0) → IsNumber (state S.Store self.old.0).now.trees id }
-        ensures done { HasCleanDisk (state S.Store self.new.0) → OnOk result (Accepts id epoch receipt.now (with_version version text.now) (state S.Store self.old.0).now.trees (state S.Store self.new.0).now.trees) }
-        ensures kept { HasCleanDisk (state S.Store self.new.0) → self.new.1 ≡ false → OnErr result ((state S.Store self.new.0).now ≡ (state S.Store self.old.0).now) }
-        ensures latches { self.new.1 ≡ true ↔ result ≡ Err Fault.Failed }
-        ensures rows { result ≢ Err Fault.Damaged }
-        ensures crash { Survives (state S.Store self.old.0) (state S.Store self.new.0) (Accepts id epoch receipt.now (with_version version text.now) (state S.Store self.old.0).now.trees) }
-    {
-        let written = commit_version(&mut self.conn, id, epoch, version, text, receipt);
-        self.is_latched = latches(&written);
-        written
-    }
-
-    /// Sets the states of devices, each in place of an earlier one. `id` is the tenant's number,
-    /// and `epoch` the new one.
-    ///
-    /// `Err(Fault::NoMemory)`, `Err(Fault::Full)`: nothing is changed. `Err(Fault::Failed)`: the
-    /// tables are latched.
-    pub fn commit_states<'a>(
-        &mut self,
-        id: i64,
-        epoch: i64,
-        states: &[State],
-        receipt: &Receipt<'a>,
-    ) -> Result<(), Fault>
-        requires live { self.old.1 ≡ false }
-        requires there { HasCleanDisk (state S.Store self.old.0) → IsNumber (state S.Store self.old.0).now.trees id }
-        ensures done { HasCleanDisk (state S.Store self.new.0) → OnOk result (Accepts id epoch receipt.now (with_states states.now) (state S.Store self.old.0).now.trees (state S.Store self.new.0).now.trees) }
-        ensures kept { HasCleanDisk (state S.Store self.new.0) → self.new.1 ≡ false → OnErr result ((state S.Store self.new.0).now ≡ (state S.Store self.old.0).now) }
-        ensures latches { self.new.1 ≡ true ↔ result ≡ Err Fault.Failed }
-        ensures rows { result ≢ Err Fault.Damaged }
-        ensures crash { Survives (state S.Store self.old.0) (state S.Store self.new.0) (Accepts id epoch receipt.now (with_states states.now) (state S.Store self.old.0).now.trees) }
-    {
-        let written = commit_states(self.alloc, &mut self.conn, id, epoch, states, receipt);
-        self.is_latched = latches(&written);
-        written
-    }
-
-    /// Adds a pool. `id` is the tenant's number, and `epoch` the new one.
-    ///
-    /// `Err(Fault::NoMemory)`, `Err(Fault::Full)`: nothing is changed. `Err(Fault::Failed)`: the
-    /// tables are latched.
-    pub fn commit_pool<'a>(
-        &mut self,
-        id: i64,
-        epoch: i64,
-        pool: &Pool<'a>,
-        receipt: &Receipt<'a>,
-    ) -> Result<(), Fault>
-        requires live { self.old.1 ≡ false }
-        requires there { HasCleanDisk (state S.Store self.old.0) → IsNumber (state S.Store self.old.0).now.trees id }
-        ensures done { HasCleanDisk (state S.Store self.new.0) → OnOk result (Accepts id epoch receipt.now (with_pool pool.now) (state S.Store self.old.0).now.trees (state S.Store self.new.0).now.trees) }
-        ensures kept { HasCleanDisk (state S.Store self.new.0) → self.new.1 ≡ false → OnErr result ((state S.Store self.new.0).now ≡ (state S.Store self.old.0).now) }
-        ensures latches { self.new.1 ≡ true ↔ result ≡ Err Fault.Failed }
-        ensures rows { result ≢ Err Fault.Damaged }
-        ensures crash { Survives (state S.Store self.old.0) (state S.Store self.new.0) (Accepts id epoch receipt.now (with_pool pool.now) (state S.Store self.old.0).now.trees) }
-    {
-        let written = commit_pool(&mut self.conn, id, epoch, pool, receipt);
-        self.is_latched = latches(&written);
-        written
-    }
-
-    /// Sets the row of a pool and its exceptions, in place of the earlier ones. `id` is the
-    /// tenant's number, and `epoch` the new one. `pool.pairs` is to be the number of the
-    /// exceptions, each of which names the pool.
-    ///
-    /// `Err(Fault::NoMemory)`, `Err(Fault::Full)`: nothing is changed. `Err(Fault::Failed)`: the
-    /// tables are latched.
-    pub fn commit_exceptions<'a>(
-        &mut self,
-        id: i64,
-        epoch: i64,
-        pool: &Pool<'a>,
-        exceptions: &[Exception],
-        receipt: &Receipt<'a>,
-    ) -> Result<(), Fault>
-        requires live { self.old.1 ≡ false }
-        requires there { HasCleanDisk (state S.Store self.old.0) → IsNumber (state S.Store self.old.0).now.trees id }
-        ensures done { HasCleanDisk (state S.Store self.new.0) → OnOk result (Accepts id epoch receipt.now (with_exceptions pool.now exceptions.now) (state S.Store self.old.0).now.trees (state S.Store self.new.0).now.trees) }
-        ensures kept { HasCleanDisk (state S.Store self.new.0) → self.new.1 ≡ false → OnErr result ((state S.Store self.new.0).now ≡ (state S.Store self.old.0).now) }
-        ensures latches { self.new.1 ≡ true ↔ result ≡ Err Fault.Failed }
-        ensures rows { result ≢ Err Fault.Damaged }
-        ensures crash { Survives (state S.Store self.old.0) (state S.Store self.new.0) (Accepts id epoch receipt.now (with_exceptions pool.now exceptions.now) (state S.Store self.old.0).now.trees) }
-    {
-        let written = commit_exceptions(
-            self.alloc,
-            &mut self.conn,
-            id,
-            epoch,
-            pool,
-            exceptions,
-            receipt,
-        );
-        self.is_latched = latches(&written);
-        written
-    }
-
-    /// Removes the pool with the id, and its exceptions. `id` is the tenant's number, and `epoch`
-    /// the new one.
-    ///
-    /// `Err(Fault::NoMemory)`, `Err(Fault::Full)`: nothing is changed. `Err(Fault::Failed)`: the
-    /// tables are latched.
-    pub fn commit_no_pool<'a>(
-        &mut self,
-        id: i64,
-        epoch: i64,
-        pool: i64,
-        receipt: &Receipt<'a>,
-    ) -> Result<(), Fault>
-        requires live { self.old.1 ≡ false }
-        requires there { HasCleanDisk (state S.Store self.old.0) → IsNumber (state S.Store self.old.0).now.trees id }
-        ensures done { HasCleanDisk (state S.Store self.new.0) → OnOk result (Accepts id epoch receipt.now (without_pool pool) (state S.Store self.old.0).now.trees (state S.Store self.new.0).now.trees) }
-        ensures kept { HasCleanDisk (state S.Store self.new.0) → self.new.1 ≡ false → OnErr result ((state S.Store self.new.0).now ≡ (state S.Store self.old.0).now) }
-        ensures latches { self.new.1 ≡ true ↔ result ≡ Err Fault.Failed }
-        ensures rows { result ≢ Err Fault.Damaged }
-        ensures crash { Survives (state S.Store self.old.0) (state S.Store self.new.0) (Accepts id epoch receipt.now (without_pool pool) (state S.Store self.old.0).now.trees) }
-    {
-        let written = commit_no_pool(&mut self.conn, id, epoch, pool, receipt);
-        self.is_latched = latches(&written);
-        written
+        latched(&mut self.is_latched, write_all(&mut self.conn, writes))
     }
 
     /// The tenant with the name, or `None` where there is none.
@@ -313,9 +159,7 @@ impl<S: Alter> Tables<S> {
         ensures latches { self.new.1 ≡ true ↔ result ≡ Err Fault.Failed }
         ensures crash { Survives (state S.Store self.old.0) (state S.Store self.new.0) (λ _. ⊥) }
     {
-        let found = find(&mut self.conn, name);
-        self.is_latched = latches(&found);
-        found
+        latched(&mut self.is_latched, find(&mut self.conn, name))
     }
 
     /// The versions of the map of the tenant with the number, which rise strictly.
@@ -331,9 +175,10 @@ impl<S: Alter> Tables<S> {
         ensures latches { self.new.1 ≡ true ↔ result ≡ Err Fault.Failed }
         ensures crash { Survives (state S.Store self.old.0) (state S.Store self.new.0) (λ _. ⊥) }
     {
-        let found = versions_of(self.alloc, &mut self.conn, id);
-        self.is_latched = latches(&found);
-        found
+        latched(
+            &mut self.is_latched,
+            versions_of(self.alloc, &mut self.conn, id),
+        )
     }
 
     /// The states of devices of the tenant with the number, by the devices, which rise strictly.
@@ -349,9 +194,10 @@ impl<S: Alter> Tables<S> {
         ensures latches { self.new.1 ≡ true ↔ result ≡ Err Fault.Failed }
         ensures crash { Survives (state S.Store self.old.0) (state S.Store self.new.0) (λ _. ⊥) }
     {
-        let found = devices_of(self.alloc, &mut self.conn, id);
-        self.is_latched = latches(&found);
-        found
+        latched(
+            &mut self.is_latched,
+            devices_of(self.alloc, &mut self.conn, id),
+        )
     }
 
     /// The pools of the tenant with the number, by their ids, which rise strictly.
@@ -367,9 +213,10 @@ impl<S: Alter> Tables<S> {
         ensures latches { self.new.1 ≡ true ↔ result ≡ Err Fault.Failed }
         ensures crash { Survives (state S.Store self.old.0) (state S.Store self.new.0) (λ _. ⊥) }
     {
-        let found = pools_of(self.alloc, &mut self.conn, id);
-        self.is_latched = latches(&found);
-        found
+        latched(
+            &mut self.is_latched,
+            pools_of(self.alloc, &mut self.conn, id),
+        )
     }
 
     /// The exceptions of the pools of the tenant with the number, by pool and place, none twice.
@@ -385,9 +232,10 @@ impl<S: Alter> Tables<S> {
         ensures latches { self.new.1 ≡ true ↔ result ≡ Err Fault.Failed }
         ensures crash { Survives (state S.Store self.old.0) (state S.Store self.new.0) (λ _. ⊥) }
     {
-        let found = exceptions_of(self.alloc, &mut self.conn, id);
-        self.is_latched = latches(&found);
-        found
+        latched(
+            &mut self.is_latched,
+            exceptions_of(self.alloc, &mut self.conn, id),
+        )
     }
 
     /// The receipt of the request of the tenant with the number, or `None` where there is none.
@@ -403,9 +251,10 @@ impl<S: Alter> Tables<S> {
         ensures latches { self.new.1 ≡ true ↔ result ≡ Err Fault.Failed }
         ensures crash { Survives (state S.Store self.old.0) (state S.Store self.new.0) (λ _. ⊥) }
     {
-        let found = receipt_of(&mut self.conn, id, request);
-        self.is_latched = latches(&found);
-        found
+        latched(
+            &mut self.is_latched,
+            receipt_of(&mut self.conn, id, request),
+        )
     }
 
     /// The first receipts of the tenant with the number, in the order of their requests' bytes: a
@@ -422,9 +271,10 @@ impl<S: Alter> Tables<S> {
         ensures latches { self.new.1 ≡ true ↔ result ≡ Err Fault.Failed }
         ensures crash { Survives (state S.Store self.old.0) (state S.Store self.new.0) (λ _. ⊥) }
     {
-        let found = first_receipts(self.alloc, &mut self.conn, id);
-        self.is_latched = latches(&found);
-        found
+        latched(
+            &mut self.is_latched,
+            first_receipts(self.alloc, &mut self.conn, id),
+        )
     }
 
     /// The first of its receipts whose requests are above `after`: a page, or fewer where there are
@@ -441,8 +291,9 @@ impl<S: Alter> Tables<S> {
         ensures latches { self.new.1 ≡ true ↔ result ≡ Err Fault.Failed }
         ensures crash { Survives (state S.Store self.old.0) (state S.Store self.new.0) (λ _. ⊥) }
     {
-        let found = receipts_after(self.alloc, &mut self.conn, id, after);
-        self.is_latched = latches(&found);
-        found
+        latched(
+            &mut self.is_latched,
+            receipts_after(self.alloc, &mut self.conn, id, after),
+        )
     }
 }

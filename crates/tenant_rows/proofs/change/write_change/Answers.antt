@@ -8,7 +8,7 @@ use Rattle.sqlite_trees.specs.Tree.{Trees}
 use Rattle.tenant_state.specs.Made.{made_of}
 use Rattle.tenant_state.specs.State.{Change, TenantState, after, epoch}
 use Rattle.tenant_state.specs.Valid.{IsChange}
-use Rattle.table_writes.specs.Change.{Accepts}
+use Rattle.tenant_tables.specs.Change.{Accepts}
 use Rattle.tenant_rows.specs.Changes.{IsChangeable, Turns}
 use Rattle.tenant_rows.specs.Commits.{HasPoolsFor, rows_with_made}
 use Rattle.tenant_rows.proofs.Accepted.{accepted, made_is, number_of, pools_of, receipt_is, word}

@@ -11,7 +11,7 @@ use Rattle.table_reads.specs.Found.{Lists, pool_values}
 use Rattle.table_schema.specs.Holds.{of_tenant}
 use Rattle.table_schema.specs.Layout.{pools_table}
 use Rattle.table_schema.specs.Values.{exception_row, pool_row}
-use Rattle.table_writes.specs.Change.{Accepts, IsNumber, with_exceptions}
+use Rattle.tenant_tables.specs.Change.{Accepts, IsNumber, with_exceptions}
 use Rattle.tenant_rows.proofs.Accepted.{accepted, pools_of, word, word_is}
 use Rattle.tenant_rows.proofs.Listed.{is_live, moved, same_fault}
 use Rattle.tenant_rows.proofs.PairCommits.{count_word, few_pairs, is_read, not_refused, number_is, paired}

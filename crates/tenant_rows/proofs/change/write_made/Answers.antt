@@ -7,7 +7,7 @@ use Rattle.sqlite_trees.specs.Tree.{Trees}
 use Rattle.crush_writing.specs.Canonical.{canonical}
 use Rattle.tenant_state.specs.Made.{made_of}
 use Rattle.tenant_state.specs.State.{NewExceptions}
-use Rattle.table_writes.specs.Change.{with_pool, with_states, with_version, without_pool}
+use Rattle.tenant_tables.specs.Change.{with_pool, with_states, with_version, without_pool}
 use Rattle.table_schema.specs.Holds.{TenantRows}
 use Rattle.tenant_rows.specs.Commits.{HasPoolsFor, numbers_of, rows_with_made, with_new_pairs}
 use Rattle.tenant_rows.specs.Rows.{row_with_count}

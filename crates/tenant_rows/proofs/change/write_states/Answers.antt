@@ -1,7 +1,7 @@
 use Rattle.std.proofs.Common.{OnOk, ap, ◌∙◌}
 use Rattle.sqlite.specs.Held.{state}
 use Rattle.sqlite_trees.specs.Tree.{Trees}
-use Rattle.table_writes.specs.Change.{with_states}
+use Rattle.tenant_tables.specs.Change.{with_states}
 use Rattle.tenant_rows.proofs.Accepted.{accepted, number_of}
 use Rattle.tenant_rows.proofs.change.write_states.Goals as goal
 

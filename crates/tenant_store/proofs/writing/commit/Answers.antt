@@ -1,45 +1,111 @@
-use Rattle.std.proofs.Common.{Some, arith, sym, subst}
+use Rattle.std.proofs.Common.{Some, arith, sym, subst, ◌∙◌}
 use Rattle.std.specs.BTreeMap.{get_by_text}
-use Rattle.sqlite.proofs.StateLemmas.{survives_then}
+use Rattle.sqlite.proofs.StateLemmas.{survives_weaker}
 use Rattle.sqlite.specs.Effect.{Database}
 use Rattle.sqlite.specs.Held.{state}
 use Rattle.sqlite.specs.State.{HasCleanDisk}
 use Rattle.tenant_rows.specs.Changes.{Turns}
 use Rattle.tenant_rows.specs.Rows.{StandsFor}
-use Rattle.tenant_state.specs.State.{CanMake, TenantState, after}
+use Rattle.tenant_state.specs.State.{after}
 use Rattle.tenant_store.specs.Judged.{AreJudged}
-use Rattle.tenant_store.proofs.Judging.{there}
-use Rattle.tenant_store.proofs.Refusing.{damaged_below, live_at_ok}
+use Rattle.tenant_store.proofs.Changing.{commit_survives, is_changeable, nothing_left, still_judged}
 use Rattle.tenant_store.proofs.writing.commit.Goals as goal
 
-pub commit_tenant-requires-clause-judged : goal.commit_tenant-requires-clause-judged
-commit_tenant-requires-clause-judged g c mid =
-    let early : HasCleanDisk (state g.S.Store c.args.tables.now.0) = omega (arith, mid, c.find.ensures.crash.clean) in
-    let same = c.in-Ok-Some.ensures.kept mid (live_at_ok c.find.new.self.1 c.in-Ok-Some.field-0 c.in-Ok-Some.ensures.latches) in
+pub count_versions-requires-clause-judged : goal.count_versions-requires-clause-judged
+count_versions-requires-clause-judged g c mid =
+    let early : HasCleanDisk (state g.S.Store c.args.tables.now.0) = omega (arith, mid, c.tenant_of.ensures.crash.clean) in
+    subst (λ (d : Database). AreJudged d.trees (get_by_text c.args.judged.now)) (sym (c.in_ok-tenant.ensures.kept mid c.in_ok-tenant.ensures.latches)) (c.requires.judged early)
+
+pub returns-in_err-tenant-clause-judged : goal.returns-in_err-tenant-clause-judged
+returns-in_err-tenant-clause-judged g c clean live =
+    let early : HasCleanDisk (state g.S.Store c.args.tables.now.0) = omega (arith, clean, c.tenant_of.ensures.crash.clean) in
+    subst (λ (d : Database). AreJudged d.trees (get_by_text c.args.judged.now)) (sym (c.in_err-tenant.ensures.kept clean live)) (c.requires.judged early)
+
+pub returns-in_err-versions-clause-judged : goal.returns-in_err-versions-clause-judged
+returns-in_err-versions-clause-judged g c clean live =
+    let mid : HasCleanDisk (state g.S.Store c.tenant_of.new.tables.0) = omega (arith, clean, c.count_versions.ensures.crash.clean) in
+    let early : HasCleanDisk (state g.S.Store c.args.tables.now.0) = omega (arith, mid, c.tenant_of.ensures.crash.clean) in
+    let same = c.in_err-versions.ensures.kept clean live ∙ c.in_ok-tenant.ensures.kept mid c.in_ok-tenant.ensures.latches in
     subst (λ (d : Database). AreJudged d.trees (get_by_text c.args.judged.now)) (sym same) (c.requires.judged early)
 
-pub returns-in-Err-clause-damaged : goal.returns-in-Err-clause-damaged
-returns-in-Err-clause-damaged g c clean same =
-    let early : HasCleanDisk (state g.S.Store c.args.tables.now.0) = omega (arith, clean, c.find.ensures.crash.clean) in
-    let it = c.requires.there early in
-    there (state g.S.Store c.args.tables.now.0).now.trees c.args.name.now it.0 it.1 (c.in-Err.ensures.damaged clean (damaged_below c.in-Err.fault c.fault_of.result c.fault_of.ensures same))
+pub returns-in_err-versions-clause-crash : goal.returns-in_err-versions-clause-crash
+returns-in_err-versions-clause-crash g c =
+    let old = state g.S.Store c.args.tables.now.0 in
+    let new = state g.S.Store c.count_versions.new.tables.0 in
+    survives_weaker old new (λ _. ⊥) _ (λ clean db none. absurd none) (nothing_left old (state g.S.Store c.tenant_of.new.tables.0) new c.tenant_of.ensures.crash c.count_versions.ensures.crash)
+
+pub returns-in-Ok-clause-made : goal.returns-in-Ok-clause-made
+returns-in-Ok-clause-made g c clean s has can =
+    let name = c.args.name.now in
+    let old = (state g.S.Store c.args.tables.now.0).now in
+    let new = (state g.S.Store c.write_change.new.tables.0).now in
+    let late : HasCleanDisk (state g.S.Store c.count_versions.new.tables.0) = omega (arith, clean, c.write_change.ensures.crash.clean) in
+    let mid : HasCleanDisk (state g.S.Store c.tenant_of.new.tables.0) = omega (arith, late, c.count_versions.ensures.crash.clean) in
+    let found = c.in_ok-tenant.ensures.kept mid c.in_ok-tenant.ensures.latches in
+    let same = c.in_ok-versions.ensures.kept late c.in_ok-versions.ensures.latches ∙ found in
+    let count = c.in_ok-versions.ensures.found late s (subst (λ (d : Database). StandsFor d.trees name (Some s)) (sym found) has) in
+    let it = is_changeable old (state g.S.Store c.count_versions.new.tables.0).now name s c.in_ok-tenant.tenant c.in_ok-versions.versions c.args.change.now same (c.in_ok-tenant.ensures.names mid) has count can in
+    subst (λ (d : Database). Turns name (Some (after c.args.change.now s)) d.trees new.trees) same (c.in-Ok.ensures.done clean name s it)
+
+pub returns-in-Ok-clause-judged : goal.returns-in-Ok-clause-judged
+returns-in-Ok-clause-judged g c clean live =
+    let name = c.args.name.now in
+    let old = (state g.S.Store c.args.tables.now.0).now in
+    let new = (state g.S.Store c.write_change.new.tables.0).now in
+    let late : HasCleanDisk (state g.S.Store c.count_versions.new.tables.0) = omega (arith, clean, c.write_change.ensures.crash.clean) in
+    let mid : HasCleanDisk (state g.S.Store c.tenant_of.new.tables.0) = omega (arith, late, c.count_versions.ensures.crash.clean) in
+    let early : HasCleanDisk (state g.S.Store c.args.tables.now.0) = omega (arith, mid, c.tenant_of.ensures.crash.clean) in
+    let found = c.in_ok-tenant.ensures.kept mid c.in_ok-tenant.ensures.latches in
+    let same = c.in_ok-versions.ensures.kept late c.in_ok-versions.ensures.latches ∙ found in
+    let there = c.requires.there early in
+    let count = c.in_ok-versions.ensures.found late there.0 (subst (λ (d : Database). StandsFor d.trees name (Some there.0)) (sym found) there.1) in
+    let it = is_changeable old (state g.S.Store c.count_versions.new.tables.0).now name there.0 c.in_ok-tenant.tenant c.in_ok-versions.versions c.args.change.now same (c.in_ok-tenant.ensures.names mid) there.1 count there.2 in
+    still_judged name (after c.args.change.now there.0) c.versions_after.result old.trees new.trees (get_by_text c.args.judged.now) (get_by_text c.update.new.judged) (c.requires.judged early)
+    (subst (λ (d : Database). Turns name (Some (after c.args.change.now there.0)) d.trees new.trees) same (c.in-Ok.ensures.done clean name there.0 it))
+    (c.versions_after.ensures there.0 there.2 count) c.update.ensures
 
 pub returns-in-Err-clause-judged : goal.returns-in-Err-clause-judged
 returns-in-Err-clause-judged g c clean live =
-    let early : HasCleanDisk (state g.S.Store c.args.tables.now.0) = omega (arith, clean, c.find.ensures.crash.clean) in
-    subst (λ (d : Database). AreJudged d.trees (get_by_text c.args.judged.now)) (sym (c.in-Err.ensures.kept clean live)) (c.requires.judged early)
+    let late : HasCleanDisk (state g.S.Store c.count_versions.new.tables.0) = omega (arith, clean, c.write_change.ensures.crash.clean) in
+    let mid : HasCleanDisk (state g.S.Store c.tenant_of.new.tables.0) = omega (arith, late, c.count_versions.ensures.crash.clean) in
+    let early : HasCleanDisk (state g.S.Store c.args.tables.now.0) = omega (arith, mid, c.tenant_of.ensures.crash.clean) in
+    let same = c.in_ok-versions.ensures.kept late c.in_ok-versions.ensures.latches ∙ c.in_ok-tenant.ensures.kept mid c.in_ok-tenant.ensures.latches in
+    subst (λ (d : Database). AreJudged d.trees (get_by_text c.args.judged.now)) (sym (c.in-Err.ensures.kept clean live ∙ same)) (c.requires.judged early)
 
-pub returns-in-Ok-Some-clause-crash : goal.returns-in-Ok-Some-clause-crash
-returns-in-Ok-Some-clause-crash g c =
+pub returns-in-Ok-clause-crash : goal.returns-in-Ok-clause-crash
+returns-in-Ok-clause-crash g c =
     let name = c.args.name.now in
-    let change = c.args.change.now in
-    let mid = state g.S.Store c.find.new.self.0 in
-    survives_then (state g.S.Store c.args.tables.now.0) mid (state g.S.Store c.commit_tenant.new.tables.0) (λ _. ⊥)
-    (λ db. (s : TenantState) → StandsFor mid.now.trees name (Some s) → CanMake change s → Turns name (Some (after change s)) mid.now.trees db)
-    (λ db. (s : TenantState) → StandsFor (state g.S.Store c.args.tables.now.0).now.trees name (Some s) → CanMake change s → Turns name (Some (after change s)) (state g.S.Store c.args.tables.now.0).now.trees db)
-    (λ clean db none. absurd none)
-    (λ clean db made.
-    let early : HasCleanDisk mid = omega (arith, clean, c.commit_tenant.ensures.crash.clean) in
-    let same = c.in-Ok-Some.ensures.kept early (live_at_ok c.find.new.self.1 c.in-Ok-Some.field-0 c.in-Ok-Some.ensures.latches) in
-    subst (λ (d : Database). (s : TenantState) → StandsFor d.trees name (Some s) → CanMake change s → Turns name (Some (after change s)) d.trees db) same made)
-    c.in-Ok-Some.ensures.crash c.commit_tenant.ensures.crash
+    let old = state g.S.Store c.args.tables.now.0 in
+    let first = state g.S.Store c.tenant_of.new.tables.0 in
+    let last = state g.S.Store c.count_versions.new.tables.0 in
+    commit_survives old last (state g.S.Store c.write_change.new.tables.0) name c.in_ok-tenant.tenant c.in_ok-versions.versions c.args.change.now
+    (nothing_left old first last c.tenant_of.ensures.crash c.count_versions.ensures.crash) c.write_change.ensures.crash
+    (λ late.
+    let mid : HasCleanDisk first = omega (arith, late, c.count_versions.ensures.crash.clean) in
+    c.in_ok-versions.ensures.kept late c.in_ok-versions.ensures.latches ∙ c.in_ok-tenant.ensures.kept mid c.in_ok-tenant.ensures.latches)
+    (λ late.
+    let mid : HasCleanDisk first = omega (arith, late, c.count_versions.ensures.crash.clean) in
+    c.in_ok-tenant.ensures.names mid)
+    (λ late s has.
+    let mid : HasCleanDisk first = omega (arith, late, c.count_versions.ensures.crash.clean) in
+    let found = c.in_ok-tenant.ensures.kept mid c.in_ok-tenant.ensures.latches in
+    c.in_ok-versions.ensures.found late s (subst (λ (d : Database). StandsFor d.trees name (Some s)) (sym found) has))
+
+pub returns-in-Err-clause-crash : goal.returns-in-Err-clause-crash
+returns-in-Err-clause-crash g c =
+    let name = c.args.name.now in
+    let old = state g.S.Store c.args.tables.now.0 in
+    let first = state g.S.Store c.tenant_of.new.tables.0 in
+    let last = state g.S.Store c.count_versions.new.tables.0 in
+    commit_survives old last (state g.S.Store c.write_change.new.tables.0) name c.in_ok-tenant.tenant c.in_ok-versions.versions c.args.change.now
+    (nothing_left old first last c.tenant_of.ensures.crash c.count_versions.ensures.crash) c.write_change.ensures.crash
+    (λ late.
+    let mid : HasCleanDisk first = omega (arith, late, c.count_versions.ensures.crash.clean) in
+    c.in_ok-versions.ensures.kept late c.in_ok-versions.ensures.latches ∙ c.in_ok-tenant.ensures.kept mid c.in_ok-tenant.ensures.latches)
+    (λ late.
+    let mid : HasCleanDisk first = omega (arith, late, c.count_versions.ensures.crash.clean) in
+    c.in_ok-tenant.ensures.names mid)
+    (λ late s has.
+    let mid : HasCleanDisk first = omega (arith, late, c.count_versions.ensures.crash.clean) in
+    let found = c.in_ok-tenant.ensures.kept mid c.in_ok-tenant.ensures.latches in
+    c.in_ok-versions.ensures.found late s (subst (λ (d : Database). StandsFor d.trees name (Some s)) (sym found) has))

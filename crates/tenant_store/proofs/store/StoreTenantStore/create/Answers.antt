@@ -5,7 +5,7 @@ use Rattle.sqlite.specs.Held.{state}
 use Rattle.sqlite.specs.State.{HasCleanDisk}
 use Rattle.tenant_rows.proofs.Turns.{created}
 use Rattle.tenant_state.specs.State.{fresh}
-use Rattle.table_writes.specs.Change.{Creates}
+use Rattle.tenant_tables.specs.Change.{Creates}
 use Rattle.tenant_store.specs.Laws.{keeps_states}
 use Rattle.tenant_store.proofs.Changing.{forgotten_judged}
 use Rattle.tenant_store.proofs.Stopping.{as_it_was_or}

@@ -1,9 +1,0 @@
-use Rattle.std.proofs.Common.{◌≡◌, ◌∷◌, ◌++◌, take}
-use Rattle.table_writes.specs.declared.write.Write.TheVariants.{Raise}
-use Rattle.table_writes.specs.Run.{pool_writes, exception_writes}
-use Rattle.table_writes.proofs.commit.exception_writes_for.Given as goal
-
-abbrev pub invariant-loop-exception : goal.invariant-loop-exception
-invariant-loop-exception l = record {
-  written : l.writes.items ≡ (Raise l.fn.id l.fn.epoch ∷ pool_writes l.fn.id l.pool) ++ exception_writes l.fn.id (take l.exception-index l.exceptions);
-}

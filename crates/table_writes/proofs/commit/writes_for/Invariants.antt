@@ -1,9 +1,0 @@
-use Rattle.std.proofs.Common.{◌≡◌, ◌∷◌, take}
-use Rattle.table_writes.specs.declared.write.Write.TheVariants.{Raise}
-use Rattle.table_writes.specs.Run.{state_writes}
-use Rattle.table_writes.proofs.commit.writes_for.Given as goal
-
-abbrev pub invariant-loop-state : goal.invariant-loop-state
-invariant-loop-state l = record {
-  written : l.writes.items ≡ Raise l.fn.id l.fn.epoch ∷ state_writes l.fn.id (take l.state-index l.states);
-}

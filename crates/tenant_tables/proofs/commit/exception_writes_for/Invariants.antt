@@ -1,0 +1,9 @@
+use Rattle.std.proofs.Common.{◌≡◌, ◌∷◌, ◌++◌, take}
+use Rattle.tenant_tables.specs.declared.write.Write.TheVariants.{Raise}
+use Rattle.tenant_tables.specs.Run.{pool_writes, exception_writes}
+use Rattle.tenant_tables.proofs.commit.exception_writes_for.Given as goal
+
+abbrev pub invariant-loop-exception : goal.invariant-loop-exception
+invariant-loop-exception l = record {
+  written : l.writes.items ≡ (Raise l.fn.id l.fn.epoch ∷ pool_writes l.fn.id l.pool) ++ exception_writes l.fn.id (take l.exception-index l.exceptions);
+}

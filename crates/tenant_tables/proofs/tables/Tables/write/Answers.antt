@@ -1,0 +1,6 @@
+use Rattle.tenant_tables.proofs.tables.Tables.write.Goals as goal
+
+pub write_all-requires-clause-sound : goal.write_all-requires-clause-sound
+write_all-requires-clause-sound g c clean db made =
+    let works = rw (← c.self.view_is) at c.requires.live in
+    (rw (← c.self.view_is) at c.requires.sound) clean (c.self.invariant.1 works clean) db made

@@ -1,0 +1,249 @@
+//! Changes of tenants. An accepted one is written with its epoch and its receipt.
+
+ghost use Rattle.std.specs.Prelude.{◌≡◌, ◌≢◌, ◌↔◌, ◌++◌, [], ◌∷◌, true, false, IfOk, OnOk, OnErr, Err};
+ghost use Rattle.sqlite.specs.Held.{state};
+ghost use Rattle.sqlite.specs.State.{HasCleanDisk, Survives};
+ghost use Rattle.tenant_tables.specs.declared.write.Write.TheVariants.{Raise, AddReceipt};
+ghost use Rattle.table_schema.specs.Holds.{IsAbsent};
+ghost use Rattle.tenant_tables.specs.Run.{state_writes, pool_writes, exception_writes};
+ghost use Rattle.tenant_tables.specs.Change.{Accepts, Creates, Drops, IsNumber, with_version, with_states, with_pool, without_pool, with_exceptions};
+
+use crate::tables::Tables;
+use crate::write::Write;
+use sqlite::Alter;
+use std::alloc::{AllocError, Global};
+use table_schema::refuse::Fault;
+use table_schema::values::{Exception, Pool, Receipt, State};
+
+/// The writes that set the states of devices, the epoch and the receipt.
+///
+/// `Err(AllocError)`: an allocation failed; nothing is changed.
+fn writes_for<'a>(
+    alloc: Global,
+    id: i64,
+    epoch: i64,
+    states: &[State],
+    receipt: &Receipt<'a>,
+) -> Result<Vec<Write<'a>>, AllocError>
+    ensures { IfOk result (λ writes. writes.items ≡ Raise id epoch ∷ state_writes id states.now ++ AddReceipt id receipt.now ∷ []) }
+{
+    let mut writes = Vec::new(alloc);
+    writes.push(Write::Raise { id, epoch })?;
+    for state in states {
+        writes.push(Write::ClearState {
+            id,
+            device: state.device,
+        })?;
+        writes.push(Write::AddState { id, state: *state })?;
+    }
+    writes.push(Write::AddReceipt {
+        id,
+        receipt: *receipt,
+    })?;
+    Ok(writes)
+}
+
+/// The writes that set a pool's row, its exceptions, the epoch and the receipt.
+///
+/// `Err(AllocError)`: an allocation failed; nothing is changed.
+fn exception_writes_for<'a>(
+    alloc: Global,
+    id: i64,
+    epoch: i64,
+    pool: &Pool<'a>,
+    exceptions: &[Exception],
+    receipt: &Receipt<'a>,
+) -> Result<Vec<Write<'a>>, AllocError>
+    ensures { IfOk result (λ writes. writes.items ≡ Raise id epoch ∷ pool_writes id pool.now ++ exception_writes id exceptions.now ++ AddReceipt id receipt.now ∷ []) }
+{
+    let mut writes = Vec::new(alloc);
+    writes.push(Write::Raise { id, epoch })?;
+    writes.push(Write::ClearExceptions { id, pool: pool.id })?;
+    writes.push(Write::RemovePool { id, pool: pool.id })?;
+    writes.push(Write::AddPool { id, pool: *pool })?;
+    for exception in exceptions {
+        writes.push(Write::AddException {
+            id,
+            exception: *exception,
+        })?;
+    }
+    writes.push(Write::AddReceipt {
+        id,
+        receipt: *receipt,
+    })?;
+    Ok(writes)
+}
+
+impl<S: Alter> Tables<S> {
+    /// Makes a tenant with epoch 0 and no other row, under a number that no tenant had before.
+    ///
+    /// `Err(Fault::NoMemory)`, `Err(Fault::Full)`: nothing is changed. `Err(Fault::Failed)`: the
+    /// tables are latched.
+    pub fn create(&mut self, name: &str) -> Result<(), Fault>
+        requires live { self.old.1 ≡ false }
+        requires absent { HasCleanDisk (state S.Store self.old.0) → IsAbsent (state S.Store self.old.0).now.trees name.now }
+        ensures done { HasCleanDisk (state S.Store self.new.0) → OnOk result (Creates name.now (state S.Store self.old.0).now.trees (state S.Store self.new.0).now.trees) }
+        ensures kept { HasCleanDisk (state S.Store self.new.0) → self.new.1 ≡ false → OnErr result ((state S.Store self.new.0).now ≡ (state S.Store self.old.0).now) }
+        ensures latches { self.new.1 ≡ true ↔ result ≡ Err Fault.Failed }
+        ensures rows { result ≢ Err Fault.Damaged }
+        ensures crash { Survives (state S.Store self.old.0) (state S.Store self.new.0) (Creates name.now (state S.Store self.old.0).now.trees) }
+    {
+        self.write(&[Write::Create { name }])
+    }
+
+    /// Removes the tenant with the number, and with it each of its rows.
+    ///
+    /// `Err(Fault::NoMemory)`, `Err(Fault::Full)`: nothing is changed. `Err(Fault::Failed)`: the
+    /// tables are latched.
+    pub fn remove(&mut self, id: i64) -> Result<(), Fault>
+        requires live { self.old.1 ≡ false }
+        requires there { HasCleanDisk (state S.Store self.old.0) → IsNumber (state S.Store self.old.0).now.trees id }
+        ensures done { HasCleanDisk (state S.Store self.new.0) → OnOk result (Drops id (state S.Store self.old.0).now.trees (state S.Store self.new.0).now.trees) }
+        ensures kept { HasCleanDisk (state S.Store self.new.0) → self.new.1 ≡ false → OnErr result ((state S.Store self.new.0).now ≡ (state S.Store self.old.0).now) }
+        ensures latches { self.new.1 ≡ true ↔ result ≡ Err Fault.Failed }
+        ensures rows { result ≢ Err Fault.Damaged }
+        ensures crash { Survives (state S.Store self.old.0) (state S.Store self.new.0) (Drops id (state S.Store self.old.0).now.trees) }
+    {
+        self.write(&[Write::Remove { id }])
+    }
+
+    /// Adds a version of the map. `id` is the tenant's number, and `epoch` the new one.
+    ///
+    /// `Err(Fault::NoMemory)`, `Err(Fault::Full)`: nothing is changed. `Err(Fault::Failed)`: the
+    /// tables are latched.
+    pub fn commit_version<'a>(
+        &mut self,
+        id: i64,
+        epoch: i64,
+        version: i64,
+        text: &'a str,
+        receipt: &Receipt<'a>,
+    ) -> Result<(), Fault>
+        requires live { self.old.1 ≡ false }
+        requires there { HasCleanDisk (state S.Store self.old.0) → IsNumber (state S.Store self.old.0).now.trees id }
+        ensures done { HasCleanDisk (state S.Store self.new.0) → OnOk result (Accepts id epoch receipt.now (with_version version text.now) (state S.Store self.old.0).now.trees (state S.Store self.new.0).now.trees) }
+        ensures kept { HasCleanDisk (state S.Store self.new.0) → self.new.1 ≡ false → OnErr result ((state S.Store self.new.0).now ≡ (state S.Store self.old.0).now) }
+        ensures latches { self.new.1 ≡ true ↔ result ≡ Err Fault.Failed }
+        ensures rows { result ≢ Err Fault.Damaged }
+        ensures crash { Survives (state S.Store self.old.0) (state S.Store self.new.0) (Accepts id epoch receipt.now (with_version version text.now) (state S.Store self.old.0).now.trees) }
+    {
+        self.write(&[
+            Write::Raise { id, epoch },
+            Write::AddVersion { id, version, text },
+            Write::AddReceipt {
+                id,
+                receipt: *receipt,
+            },
+        ])
+    }
+
+    /// Sets the states of devices, each in place of an earlier one. `id` is the tenant's number,
+    /// and `epoch` the new one.
+    ///
+    /// `Err(Fault::NoMemory)`, `Err(Fault::Full)`: nothing is changed. `Err(Fault::Failed)`: the
+    /// tables are latched.
+    pub fn commit_states<'a>(
+        &mut self,
+        id: i64,
+        epoch: i64,
+        states: &[State],
+        receipt: &Receipt<'a>,
+    ) -> Result<(), Fault>
+        requires live { self.old.1 ≡ false }
+        requires there { HasCleanDisk (state S.Store self.old.0) → IsNumber (state S.Store self.old.0).now.trees id }
+        ensures done { HasCleanDisk (state S.Store self.new.0) → OnOk result (Accepts id epoch receipt.now (with_states states.now) (state S.Store self.old.0).now.trees (state S.Store self.new.0).now.trees) }
+        ensures kept { HasCleanDisk (state S.Store self.new.0) → self.new.1 ≡ false → OnErr result ((state S.Store self.new.0).now ≡ (state S.Store self.old.0).now) }
+        ensures latches { self.new.1 ≡ true ↔ result ≡ Err Fault.Failed }
+        ensures rows { result ≢ Err Fault.Damaged }
+        ensures crash { Survives (state S.Store self.old.0) (state S.Store self.new.0) (Accepts id epoch receipt.now (with_states states.now) (state S.Store self.old.0).now.trees) }
+    {
+        let writes = writes_for(self.alloc, id, epoch, states, receipt)?;
+        self.write(&writes)
+    }
+
+    /// Adds a pool. `id` is the tenant's number, and `epoch` the new one.
+    ///
+    /// `Err(Fault::NoMemory)`, `Err(Fault::Full)`: nothing is changed. `Err(Fault::Failed)`: the
+    /// tables are latched.
+    pub fn commit_pool<'a>(
+        &mut self,
+        id: i64,
+        epoch: i64,
+        pool: &Pool<'a>,
+        receipt: &Receipt<'a>,
+    ) -> Result<(), Fault>
+        requires live { self.old.1 ≡ false }
+        requires there { HasCleanDisk (state S.Store self.old.0) → IsNumber (state S.Store self.old.0).now.trees id }
+        ensures done { HasCleanDisk (state S.Store self.new.0) → OnOk result (Accepts id epoch receipt.now (with_pool pool.now) (state S.Store self.old.0).now.trees (state S.Store self.new.0).now.trees) }
+        ensures kept { HasCleanDisk (state S.Store self.new.0) → self.new.1 ≡ false → OnErr result ((state S.Store self.new.0).now ≡ (state S.Store self.old.0).now) }
+        ensures latches { self.new.1 ≡ true ↔ result ≡ Err Fault.Failed }
+        ensures rows { result ≢ Err Fault.Damaged }
+        ensures crash { Survives (state S.Store self.old.0) (state S.Store self.new.0) (Accepts id epoch receipt.now (with_pool pool.now) (state S.Store self.old.0).now.trees) }
+    {
+        self.write(&[
+            Write::Raise { id, epoch },
+            Write::AddPool { id, pool: *pool },
+            Write::AddReceipt {
+                id,
+                receipt: *receipt,
+            },
+        ])
+    }
+
+    /// Sets the row of a pool and its exceptions, in place of the earlier ones. `id` is the
+    /// tenant's number, and `epoch` the new one. `pool.pairs` is to be the number of the
+    /// exceptions, each of which names the pool.
+    ///
+    /// `Err(Fault::NoMemory)`, `Err(Fault::Full)`: nothing is changed. `Err(Fault::Failed)`: the
+    /// tables are latched.
+    pub fn commit_exceptions<'a>(
+        &mut self,
+        id: i64,
+        epoch: i64,
+        pool: &Pool<'a>,
+        exceptions: &[Exception],
+        receipt: &Receipt<'a>,
+    ) -> Result<(), Fault>
+        requires live { self.old.1 ≡ false }
+        requires there { HasCleanDisk (state S.Store self.old.0) → IsNumber (state S.Store self.old.0).now.trees id }
+        ensures done { HasCleanDisk (state S.Store self.new.0) → OnOk result (Accepts id epoch receipt.now (with_exceptions pool.now exceptions.now) (state S.Store self.old.0).now.trees (state S.Store self.new.0).now.trees) }
+        ensures kept { HasCleanDisk (state S.Store self.new.0) → self.new.1 ≡ false → OnErr result ((state S.Store self.new.0).now ≡ (state S.Store self.old.0).now) }
+        ensures latches { self.new.1 ≡ true ↔ result ≡ Err Fault.Failed }
+        ensures rows { result ≢ Err Fault.Damaged }
+        ensures crash { Survives (state S.Store self.old.0) (state S.Store self.new.0) (Accepts id epoch receipt.now (with_exceptions pool.now exceptions.now) (state S.Store self.old.0).now.trees) }
+    {
+        let writes = exception_writes_for(self.alloc, id, epoch, pool, exceptions, receipt)?;
+        self.write(&writes)
+    }
+
+    /// Removes the pool with the id, and its exceptions. `id` is the tenant's number, and `epoch`
+    /// the new one.
+    ///
+    /// `Err(Fault::NoMemory)`, `Err(Fault::Full)`: nothing is changed. `Err(Fault::Failed)`: the
+    /// tables are latched.
+    pub fn commit_no_pool<'a>(
+        &mut self,
+        id: i64,
+        epoch: i64,
+        pool: i64,
+        receipt: &Receipt<'a>,
+    ) -> Result<(), Fault>
+        requires live { self.old.1 ≡ false }
+        requires there { HasCleanDisk (state S.Store self.old.0) → IsNumber (state S.Store self.old.0).now.trees id }
+        ensures done { HasCleanDisk (state S.Store self.new.0) → OnOk result (Accepts id epoch receipt.now (without_pool pool) (state S.Store self.old.0).now.trees (state S.Store self.new.0).now.trees) }
+        ensures kept { HasCleanDisk (state S.Store self.new.0) → self.new.1 ≡ false → OnErr result ((state S.Store self.new.0).now ≡ (state S.Store self.old.0).now) }
+        ensures latches { self.new.1 ≡ true ↔ result ≡ Err Fault.Failed }
+        ensures rows { result ≢ Err Fault.Damaged }
+        ensures crash { Survives (state S.Store self.old.0) (state S.Store self.new.0) (Accepts id epoch receipt.now (without_pool pool) (state S.Store self.old.0).now.trees) }
+    {
+        self.write(&[
+            Write::Raise { id, epoch },
+            Write::ClearExceptions { id, pool },
+            Write::RemovePool { id, pool },
+            Write::AddReceipt {
+                id,
+                receipt: *receipt,
+            },
+        ])
+    }
+}
