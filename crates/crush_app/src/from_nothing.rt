@@ -8,7 +8,7 @@ use crate::play::{ScriptEnd, script_run};
 use std::alloc::{AllocError, Global};
 use std::io::{Read, Write};
 use std::num::NonZeroUsize;
-use tenant_ready::ReadyStore;
+use tenant_cache::CachedStore;
 use tenant_service::laws::memory_stores_are_honest;
 use tenant_service::{MemoryStore, Service};
 
@@ -30,7 +30,7 @@ pub fn script_in_memory<R: Read, W: Write>(
         result (R.remaining reader.old) (R.remaining reader.new) (W.contents writer.old) (W.contents writer.new) }
 {
     memory_stores_are_honest();
-    let store = ReadyStore::over_memory(alloc, MemoryStore::new(alloc), placements)?;
+    let store = CachedStore::over_memory(alloc, MemoryStore::new(alloc), placements)?;
     let mut service = Service::over(alloc, store)?;
     script_run(alloc, &mut service, reader, writer)
 }

@@ -2,8 +2,8 @@
 use Rattle.std.proofs.Common.{◌≡◌, ℕ, ◌&&◌, ◌||◌, cond, nat_lt, nat_le, Bool, true, false, List, [], ◌∷◌, refl, ap, sym, ◌∙◌, arith}
 use Rattle.std.specs.List.{list_any, filter}
 use Rattle.std.proofs.lemmas.Bool.Decides.{nat_tests}
-use Rattle.crush_values.specs.declared.Kind.{Kind}
-use Rattle.crush_values.specs.declared.Kind.TheVariants.{Uniform, List as ListKind, Tree}
+use Rattle.crush_types.specs.declared.Kind.{Kind}
+use Rattle.crush_types.specs.declared.Kind.TheVariants.{Uniform, List as ListKind, Tree}
 use Rattle.crush_kinds.specs.Bucket.{BucketView, WeightedItem}
 use Rattle.crush_kinds.specs.Pickable.{weighs, pickable_as, pickable}
 use Rattle.crush_choose.specs.Private.Reachable.{picks_by_weight, without_weights}

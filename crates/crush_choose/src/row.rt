@@ -19,7 +19,7 @@ pub struct Row {
 
 impl Model for Row {
     ghost use Rattle.std.specs.Prelude.{List, Option};
-    ghost use Rattle.crush_values.specs.declared.ItemId.{ItemId};
+    ghost use Rattle.crush_types.specs.declared.ItemId.{ItemId};
 
     ghost Value = { List (Option ItemId) };
 

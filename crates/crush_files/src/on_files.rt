@@ -19,7 +19,7 @@ use std::alloc::{AllocError, Global};
 use std::io::{Read, Write};
 use std::num::NonZeroUsize;
 use tenant_files::{Closed, FileFault, READY_BYTES, close_files, give_up};
-use tenant_ready::ReadyStore;
+use tenant_cache::CachedStore;
 use tenant_store::Store;
 use tenant_watched::{Watch, WatchedStore};
 
@@ -42,7 +42,7 @@ fn script_on_tables<S: Alter + Drop, F: Watch + Drop, R: Read, W: Write>(
     ensures honest { HasCleanDisk (state S.Store result.1) → IsHonest S.Store store }
 {
     let watched = WatchedStore::over(store, watch);
-    let ready = match ReadyStore::over(alloc, watched, READY_BYTES, placements) {
+    let ready = match CachedStore::over(alloc, watched, READY_BYTES, placements) {
         Ok(ready) => ready,
         Err((error, watched)) => return (Err(error), watched.into_below().close()),
     };

@@ -1,8 +1,8 @@
 -- What a bucket picks is an item of it.
 use Rattle.std.proofs.Common.{◌≡◌, ℕ, ◌<◌, ◌%◌, ◌-◌, List, length, min, slice_index, Bool, Option, Some, None, unwrap_or, refl, arith, MatchOption}
-use Rattle.crush_values.specs.declared.ItemId.{ItemId}
-use Rattle.crush_values.specs.declared.Kind.{Kind}
-use Rattle.crush_values.specs.declared.Kind.TheVariants.{Uniform, List as ListKind, Tree}
+use Rattle.crush_types.specs.declared.ItemId.{ItemId}
+use Rattle.crush_types.specs.declared.Kind.{Kind}
+use Rattle.crush_types.specs.declared.Kind.TheVariants.{Uniform, List as ListKind, Tree}
 use Rattle.crush_kinds.specs.Bucket.{BucketView, WeightedItem, item_at, IsItemOf}
 use Rattle.crush_kinds.specs.Kinds.{uniform_pick, takes, greatest, list_pick, place_within, height_of, tree_pick}
 use Rattle.crush_permutation.specs.Permutation.{permutation}

@@ -7,7 +7,7 @@ use Rattle.std.proofs.lemmas.Bool.{lt-ltb}
 use Rattle.std.proofs.lemmas.Bool.Decides.{nat_tests}
 use Rattle.std.proofs.lemmas.List.Sums.{sum_by-cons}
 use Rattle.crush_hash.specs.Hash.{hash4}
-use Rattle.crush_values.specs.declared.ItemId.{ItemId}
+use Rattle.crush_types.specs.declared.ItemId.{ItemId}
 use Rattle.crush_kinds.specs.Bucket.{WeightedItem, word, item_at, weight_at, weight_within, total_weight}
 use Rattle.crush_kinds.specs.Kinds.{takes, greatest, list_place, list_pick, label, tree_draw, height_of, place_within, tree_pick}
 use Rattle.crush_kinds.specs.Laws.{IsGreatest, NonePasses}

@@ -1,6 +1,6 @@
 -- A list bucket with one more item at its end.
 use Rattle.std.specs.Prelude.{◌≡◌, [], ◌∷◌, ◌++◌}
-use Rattle.crush_values.specs.declared.Kind.TheVariants.{List}
+use Rattle.crush_types.specs.declared.Kind.TheVariants.{List}
 use Rattle.crush_kinds.specs.Bucket.{WeightedItem, BucketView}
 
 abbrev pub IsList : BucketView → Type 0

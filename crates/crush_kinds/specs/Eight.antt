@@ -1,6 +1,6 @@
 -- What eight buckets pick, side by side.
 use Rattle.std.specs.Prelude.{◌≡◌, ℕ}
-use Rattle.crush_values.specs.declared.ItemId.{ItemId}
+use Rattle.crush_types.specs.declared.ItemId.{ItemId}
 use Rattle.crush_kinds.specs.Bucket.{BucketView, IsItemOf}
 use Rattle.crush_kinds.specs.Pick.{pick}
 

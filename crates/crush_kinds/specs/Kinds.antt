@@ -2,7 +2,7 @@
 -- Ceph's `mapper.c`).
 use Rattle.std.specs.Prelude.{ℕ, zero, suc, ◌+◌, ◌-◌, ◌*◌, ◌/◌, ◌%◌, ◌^◌, List, length, Bool, nat_lt, nat_le, min, if◌then◌else◌, Option, Some, None, unwrap_or, slice_index}
 use Rattle.crush_hash.specs.Hash.{hash4}
-use Rattle.crush_values.specs.declared.ItemId.{ItemId}
+use Rattle.crush_types.specs.declared.ItemId.{ItemId}
 use Rattle.crush_kinds.specs.Bucket.{WeightedItem, word, item_at, weight_at, weight_within}
 use Rattle.crush_permutation.specs.Permutation.{permutation}
 

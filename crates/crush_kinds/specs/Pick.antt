@@ -1,8 +1,8 @@
 -- The pick of a bucket.
 use Rattle.std.specs.Prelude.{ℕ, ◌%◌, length}
-use Rattle.crush_values.specs.declared.ItemId.{ItemId}
-use Rattle.crush_values.specs.declared.Kind.{Kind}
-use Rattle.crush_values.specs.declared.Kind.TheVariants.{Uniform, List, Tree}
+use Rattle.crush_types.specs.declared.ItemId.{ItemId}
+use Rattle.crush_types.specs.declared.Kind.{Kind}
+use Rattle.crush_types.specs.declared.Kind.TheVariants.{Uniform, List, Tree}
 use Rattle.crush_kinds.specs.Bucket.{BucketView}
 use Rattle.crush_permutation.specs.Permutation.{PermView, Remembered, asked}
 use Rattle.crush_kinds.specs.Kinds.{uniform_pick, list_pick, tree_pick}

@@ -1,9 +1,9 @@
 -- The items that a bucket can pick, whatever the input.
 use Rattle.std.specs.Prelude.{◌≡◌, ◌<◌, ◌-◌, nat_lt, Bool, if◌then◌else◌, List, SomeIndex, length, take, drop}
 use Rattle.std.specs.List.{filter, list_any}
-use Rattle.crush_values.specs.declared.ItemId.{ItemId}
-use Rattle.crush_values.specs.declared.Kind.{Kind}
-use Rattle.crush_values.specs.declared.Kind.TheVariants.{Uniform, List as ListKind, Tree}
+use Rattle.crush_types.specs.declared.ItemId.{ItemId}
+use Rattle.crush_types.specs.declared.Kind.{Kind}
+use Rattle.crush_types.specs.declared.Kind.TheVariants.{Uniform, List as ListKind, Tree}
 use Rattle.crush_kinds.specs.Bucket.{WeightedItem, BucketView, item_at, weight_at}
 
 -- whether an item weighs something

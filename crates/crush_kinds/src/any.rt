@@ -10,7 +10,7 @@ use crate::picker::Picker;
 use crate::tree::TreeBucket;
 use crate::uniform::UniformBucket;
 use crush_permutation::{Perm, Perms};
-use crush_values::{ItemId, Kind, Weight};
+use crush_types::{ItemId, Kind, Weight};
 use std::alloc::{AllocError, Global};
 use std::marker::Model;
 

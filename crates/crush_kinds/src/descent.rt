@@ -5,7 +5,7 @@ ghost use Rattle.std.specs.Prelude.{◌≡◌, ◌<◌, ◌≤◌, ◌+◌, ◌-
 ghost use Rattle.crush_kinds.specs.Private.Descent.{child, lane_below, down_by, labels};
 
 use crush_hash::{hash4, hash4_lanes};
-use crush_values::ItemId;
+use crush_types::ItemId;
 
 /// Returns how many places a range of this height has.
 pub(crate) fn places(height: u32) -> usize

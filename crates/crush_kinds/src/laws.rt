@@ -8,7 +8,7 @@ ghost use Rattle.crush_kinds.specs.Pick.{pick};
 ghost use Rattle.crush_kinds.specs.Pickable.{pickable, IsWeighed};
 
 use crush_permutation::laws::permutation_has_each_place;
-use crush_values::Kind;
+use crush_types::Kind;
 
 /// What is found is the greatest number below n that passes; where nothing is found, no number
 /// below n passes.

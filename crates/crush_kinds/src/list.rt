@@ -9,7 +9,7 @@ ghost use Rattle.crush_kinds.specs.Private.Kept.{AreSums};
 use crate::picker::Picker;
 use crush_hash::hash4_lanes;
 use crush_permutation::Perm;
-use crush_values::{ItemId, Kind, Weight};
+use crush_types::{ItemId, Kind, Weight};
 use std::alloc::{AllocError, Global};
 use std::marker::Model;
 
@@ -24,7 +24,7 @@ pub struct ListBucket {
 impl Model for ListBucket {
     ghost use Rattle.crush_kinds.specs.Bucket.{BucketView, CanBeAsked};
     ghost use Rattle.crush_kinds.specs.Private.Kept.{AreSums};
-    ghost use Rattle.crush_values.specs.declared.Kind.TheVariants.{List};
+    ghost use Rattle.crush_types.specs.declared.Kind.TheVariants.{List};
 
     ghost Value = { BucketView };
 

@@ -6,7 +6,7 @@ ghost use Rattle.crush_kinds.specs.Pick.{pick, perm_of, after_pick};
 ghost use Rattle.crush_permutation.specs.Permutation.{no_id};
 
 use crush_permutation::Perm;
-use crush_values::ItemId;
+use crush_types::ItemId;
 
 /// A bucket that picks one of its items.
 pub trait Picker {

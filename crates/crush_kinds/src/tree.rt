@@ -12,7 +12,7 @@ use crate::picker::Picker;
 use crate::sums::weight_within;
 use crate::walks::pick_trees;
 use crush_permutation::Perm;
-use crush_values::{ItemId, Kind, Weight};
+use crush_types::{ItemId, Kind, Weight};
 use std::alloc::{AllocError, Global};
 use std::marker::Model;
 
@@ -28,7 +28,7 @@ pub struct TreeBucket {
 impl Model for TreeBucket {
     ghost use Rattle.crush_kinds.specs.Bucket.{BucketView, CanBeAsked};
     ghost use Rattle.crush_kinds.specs.Private.Kept.{AreNodes};
-    ghost use Rattle.crush_values.specs.declared.Kind.TheVariants.{Tree};
+    ghost use Rattle.crush_types.specs.declared.Kind.TheVariants.{Tree};
 
     ghost Value = { BucketView };
 

@@ -7,7 +7,7 @@ ghost use Rattle.crush_kinds.specs.Pick.{pick};
 use crate::picker::{Picker, one_by_one};
 use crate::uniform_lanes::pick_uniforms;
 use crush_permutation::{Perm, Perms};
-use crush_values::{ItemId, Kind, Weight};
+use crush_types::{ItemId, Kind, Weight};
 use std::alloc::{AllocError, Global};
 use std::marker::Model;
 
@@ -21,7 +21,7 @@ pub struct UniformBucket {
 
 impl Model for UniformBucket {
     ghost use Rattle.crush_kinds.specs.Bucket.{BucketView, CanBeAsked, HasEqualWeights};
-    ghost use Rattle.crush_values.specs.declared.Kind.TheVariants.{Uniform};
+    ghost use Rattle.crush_types.specs.declared.Kind.TheVariants.{Uniform};
 
     ghost Value = { BucketView };
 

@@ -8,7 +8,7 @@ ghost use Rattle.crush_permutation.specs.Permutation.{no_id};
 
 use crate::uniform::UniformBucket;
 use crush_permutation::eight_members;
-use crush_values::ItemId;
+use crush_types::ItemId;
 
 /// The places up to which eight buckets are asked at once. A later one takes more hashes, and is
 /// found sooner in a permutation that is kept.

@@ -8,7 +8,7 @@ ghost use Rattle.crush_permutation.specs.Permutation.{no_id};
 
 use crate::tree::TreeBucket;
 use crush_hash::hash4_each;
-use crush_values::ItemId;
+use crush_types::ItemId;
 
 /// Returns the items that eight trees pick for eight inputs and one attempt, in their order.
 /// Allocates nothing.

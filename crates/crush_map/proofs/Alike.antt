@@ -12,9 +12,9 @@ use Rattle.crush_map.specs.declared.draft.Rule.{Rule}
 use Rattle.crush_map.specs.declared.draft.Tunables.{Tunables}
 use Rattle.crush_map.specs.declared.draft.Step.{Step}
 use Rattle.crush_map.specs.declared.draft.Step.TheVariants.{Take, SetChooseTries, SetLeafTries, SetVaryR, SetStable, Choose, Emit}
-use Rattle.crush_values.specs.declared.ItemId.{ItemId}
-use Rattle.crush_values.specs.declared.Weight.{Weight}
-use Rattle.crush_values.specs.declared.Kind.{Kind}
+use Rattle.crush_types.specs.declared.ItemId.{ItemId}
+use Rattle.crush_types.specs.declared.Weight.{Weight}
+use Rattle.crush_types.specs.declared.Kind.{Kind}
 use Rattle.crush_map.specs.Faults.{Known, Ids, has_id, with_id, has_number, has_name, items_fault, contents_fault, step_fault, choose_fault, type_fault, device_fault, bucket_fault, rule_fault, end_fault, with_device, with_bucket, with_rule, first_in}
 
 pub record AlikeIds (i j : Ids) : Type 0 where

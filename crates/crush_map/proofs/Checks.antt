@@ -1,7 +1,7 @@
 -- Steps of the checks of elements.
 use Rattle.std.proofs.Common.{◌≡◌, ◌∙◌, ◌<◌, ◌+◌, true, false, Option, Some, None, List, [], ◌∷◌, ◌++◌, ℕ, refl, ap, length, drop, get_or, drop-cons, add-one}
-use Rattle.crush_values.specs.declared.ItemId.{ItemId}
-use Rattle.crush_values.specs.declared.Weight.{Weight}
+use Rattle.crush_types.specs.declared.ItemId.{ItemId}
+use Rattle.crush_types.specs.declared.Weight.{Weight}
 use Rattle.crush_map.specs.declared.draft.Rule.{Rule}
 use Rattle.crush_map.specs.declared.fault.FaultCode.{FaultCode}
 use Rattle.crush_map.specs.Faults.{Known, Ids, items_fault, has_id, with_id, or_else, first_of, rule_fault, rule_head_fault, rule_head_checks, steps_fault}

@@ -10,7 +10,7 @@ use Rattle.std.proofs.Math.Nat.{one-le-pow, le-div_iff_mul-le, div-lt_iff_lt-mul
 use Rattle.std.specs.Fmt.{decimal}
 use Rattle.std.specs.List.{prefix_len, position, list_all}
 use Rattle.crush_map.specs.declared.limits.TheConstants.{DIGIT_LIMIT, FRACTION_DIGIT_LIMIT}
-use Rattle.crush_values.specs.declared.Weight.{Weight}
+use Rattle.crush_types.specs.declared.Weight.{Weight}
 use Rattle.crush_map.specs.Faults.{is_name, is_name_byte}
 use Rattle.crush_map.specs.WeightText.{is_digit, is_point, are_digits, number, without_point, in_65536ths, weight_below_2_to_32, weight_cut_at, weight_of, Writes, hundred_thousandths, five_digits, with_five_decimals, text_of}
 use Rattle.crush_map.proofs.Digits.{both, number-push}

@@ -16,12 +16,12 @@ use Rattle.crush_map.specs.declared.draft.Step.TheVariants.{Take, SetChooseTries
 use Rattle.crush_map.specs.declared.draft.Rule.{Rule}
 use Rattle.crush_map.specs.declared.draft.Tunables.{Tunables}
 use Rattle.crush_map.specs.declared.draft.MapDraft.{MapDraft}
-use Rattle.crush_values.specs.declared.ItemId.{ItemId}
-use Rattle.crush_values.specs.declared.Weight.{Weight}
-use Rattle.crush_values.specs.declared.Kind.{Kind}
-use Rattle.crush_values.specs.declared.Kind.TheVariants.{Uniform, List as ListKind, Tree}
+use Rattle.crush_types.specs.declared.ItemId.{ItemId}
+use Rattle.crush_types.specs.declared.Weight.{Weight}
+use Rattle.crush_types.specs.declared.Kind.{Kind}
+use Rattle.crush_types.specs.declared.Kind.TheVariants.{Uniform, List as ListKind, Tree}
 use Rattle.crush_map.specs.declared.limits.TheConstants.{TYPE_LIMIT, DEVICE_LIMIT, BUCKET_LIMIT, ITEM_LIMIT, TOTAL_WEIGHT_LIMIT, RULE_LIMIT, STEP_LIMIT, NAME_LIMIT, NUMBER_LIMIT, RULE_ID_LIMIT, COUNT_LIMIT, TRIES_LIMIT, TOTAL_TRIES_LIMIT, VARY_R_LIMIT}
-use Rattle.crush_values.specs.Weights.{has_equal_weights, total_weight}
+use Rattle.crush_types.specs.Weights.{has_equal_weights, total_weight}
 
 -- ---- checks in order
 

@@ -7,11 +7,11 @@ use Rattle.crush_map.specs.declared.draft.Bucket.{Bucket}
 use Rattle.crush_map.specs.declared.draft.Rule.{Rule}
 use Rattle.crush_map.specs.declared.draft.Step.{Step}
 use Rattle.crush_map.specs.declared.draft.Step.TheVariants.{Take, SetChooseTries, SetLeafTries, SetVaryR, SetStable, Choose, Emit}
-use Rattle.crush_values.specs.declared.ItemId.{ItemId}
-use Rattle.crush_values.specs.declared.Weight.{Weight}
+use Rattle.crush_types.specs.declared.ItemId.{ItemId}
+use Rattle.crush_types.specs.declared.Weight.{Weight}
 use Rattle.crush_map.specs.declared.limits.TheConstants.{TYPE_LIMIT, DEVICE_LIMIT, BUCKET_LIMIT, ITEM_LIMIT, RULE_LIMIT, STEP_LIMIT, NUMBER_LIMIT, RULE_ID_LIMIT, TRIES_LIMIT, VARY_R_LIMIT}
 use Rattle.crush_map.specs.Faults.{is_bucket_id, is_uniform, is_count, is_name, is_reserved}
-use Rattle.crush_values.specs.Weights.{has_equal_weights, total_weight}
+use Rattle.crush_types.specs.Weights.{has_equal_weights, total_weight}
 use Rattle.crush_map.specs.Map.{Map}
 
 -- no value is at two places of a list

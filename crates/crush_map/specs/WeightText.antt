@@ -2,7 +2,7 @@
 use Rattle.std.specs.Prelude.{◌≡◌, ℕ, ◌+◌, ◌-◌, ◌*◌, ◌/◌, ◌%◌, ◌^◌, ◌<◌, ◌≤◌, nat_le, nat_lt, ◌==◌, ◌&&◌, ◌⊎◌, Bool, true, List, [], ◌∷◌, ◌++◌, length, take, drop, position, Option, Some, None, if◌then◌else◌, decimal}
 use Rattle.std.specs.List.{list_all}
 use Rattle.crush_map.specs.declared.limits.TheConstants.{DIGIT_LIMIT, FRACTION_DIGIT_LIMIT}
-use Rattle.crush_values.specs.declared.Weight.{Weight}
+use Rattle.crush_types.specs.declared.Weight.{Weight}
 
 -- `0` to `9`
 abbrev pub is_digit : ℕ → Bool

@@ -4,10 +4,10 @@ ghost use Rattle.std.specs.Prelude.{◌≡◌, true, ◌<◌, ◌≤◌, ◌^◌
 ghost use Rattle.std.specs.List.{list_all};
 ghost use Rattle.crush_map.specs.Faults.{is_name};
 ghost use Rattle.crush_map.specs.WeightText as spec;
-ghost use Rattle.crush_values.specs.declared.Weight.{Weight};
+ghost use Rattle.crush_types.specs.declared.Weight.{Weight};
 
 use crate::limits::{DIGIT_LIMIT, FRACTION_DIGIT_LIMIT};
-use crush_values::Weight;
+use crush_types::Weight;
 use std::alloc::{AllocError, Global};
 
 /// Whether each byte is a digit.

@@ -3,7 +3,7 @@
 //! Source: Ceph's CRUSH map manual. Each number has a type that can hold values out of its range,
 //! so that a draft can be refused for them. The limits are in `limits`.
 
-use crush_values::{ItemId, Kind, Listed, Text, Weight};
+use crush_types::{ItemId, Kind, Listed, Text, Weight};
 
 /// A type of buckets; type 0 is that of devices.
 #[derive(Drop)]

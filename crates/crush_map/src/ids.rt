@@ -6,7 +6,7 @@ ghost use Rattle.crush_map.specs.Private.Tables as tables;
 ghost use Rattle.crush_map.specs.declared.limits.TheConstants.{NUMBER_LIMIT};
 
 use crate::numbers::Numbers;
-use crush_values::ItemId;
+use crush_types::ItemId;
 use std::alloc::{AllocError, Global};
 use std::marker::Model;
 

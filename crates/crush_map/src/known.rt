@@ -13,7 +13,7 @@ use crate::limits::{
 };
 use crate::names::Names;
 use crate::numbers::Numbers;
-use crush_values::{ItemId, Kind, Weight, has_equal_weights, total_weight};
+use crush_types::{ItemId, Kind, Weight, has_equal_weights, total_weight};
 use std::alloc::{AllocError, Global};
 use std::marker::Model;
 

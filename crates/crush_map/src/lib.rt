@@ -16,7 +16,7 @@ mod map;
 mod names;
 mod numbers;
 
-pub use crush_values::{
+pub use crush_types::{
     ByDevice, ItemId, Kind, Listed, Text, Weight, has_equal_weights, total_weight,
 };
 pub use decimal::{

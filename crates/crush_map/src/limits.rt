@@ -4,7 +4,7 @@
 //! are numbers of elements. The limits are those of Ceph's maps where it has any, and otherwise
 //! this program's own.
 
-pub use crush_values::limits::ID_COUNT;
+pub use crush_types::limits::ID_COUNT;
 
 /// The most types of a map.
 pub const TYPE_LIMIT: usize = 32;

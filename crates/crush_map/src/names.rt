@@ -3,7 +3,7 @@
 ghost use Rattle.std.specs.Prelude.{◌≡◌, ◌++◌, ◌∷◌, [], IfOk, OnErr, not, if◌then◌else◌};
 ghost use Rattle.crush_map.specs.Faults as spec;
 
-use crush_values::Text;
+use crush_types::Text;
 use std::alloc::{AllocError, Global};
 use std::collections::BTreeSet;
 use std::marker::Model;

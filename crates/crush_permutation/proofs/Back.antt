@@ -3,7 +3,7 @@ use Rattle.std.proofs.Common.{◌≡◌, ◌≢◌, ℕ, ◌+◌, ◌<◌, slice
 use Rattle.std.specs.List.{range_with_len, swap}
 use Rattle.std.proofs.lemmas.List.FromFn.{get_or-range_with_len}
 use Rattle.std.proofs.lemmas.List.Edits.{swapped_from_swap}
-use Rattle.crush_values.specs.declared.ItemId.{ItemId}
+use Rattle.crush_types.specs.declared.ItemId.{ItemId}
 use Rattle.crush_permutation.specs.Permutation.{permutation, after_swaps, partner}
 use Rattle.crush_permutation.specs.Private.Eight.{ComesTo, place_before}
 use Rattle.crush_permutation.proofs.Members.{length-after_swaps, after_swaps_more, member_is, partner_within}

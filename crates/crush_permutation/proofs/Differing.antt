@@ -6,7 +6,7 @@ use Rattle.std.proofs.lemmas.List.{take-append-drop, take-set, drop-set, length-
 use Rattle.std.proofs.lemmas.Bool.Decides.{nat_tests}
 use Rattle.std.proofs.lemmas.List.Sums.{prefix_len_is, prefix_len_passes}
 use Rattle.std.proofs.lemmas.List.FromFn.{length-range_with_len}
-use Rattle.crush_values.specs.declared.ItemId.{ItemId}
+use Rattle.crush_types.specs.declared.ItemId.{ItemId}
 use Rattle.crush_permutation.specs.Permutation.{differing, after_swaps, partner}
 use Rattle.crush_permutation.specs.Private.Pairs.{Pair, no_pair, IsRising, index, first_at, member_at, others, pair_of, put}
 

@@ -7,7 +7,7 @@ use Rattle.std.proofs.lemmas.List.Sums.{prefix_len_is, prefix_len_passes, prefix
 use Rattle.std.proofs.lemmas.List.Edits.{length-insert, get_or-insert_at, get_or-insert_below, get_or-insert_above, swapped_from_swap}
 use Rattle.std.proofs.lemmas.List.FromFn.{get_or-range_with_len}
 use Rattle.std.proofs.lemmas.Bool.Decides.{nat_tests}
-use Rattle.crush_values.specs.declared.ItemId.{ItemId}
+use Rattle.crush_types.specs.declared.ItemId.{ItemId}
 use Rattle.crush_permutation.specs.Permutation.{differing, after_swaps, partner}
 use Rattle.crush_permutation.specs.Private.Pairs.{Pair, no_pair, IsMovedRight, index, is_there, member_at, others, pair_of, put, exchanged}
 use Rattle.crush_permutation.proofs.Members.{after_swaps_more, length-after_swaps, partner_within}

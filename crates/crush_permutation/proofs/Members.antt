@@ -8,7 +8,7 @@ use Rattle.std.proofs.lemmas.List.Edits.{length-swap, swapped_from_swap}
 use Rattle.std.proofs.lemmas.List.Sorted.{IsPermutation-refl, IsPermutation-swap, IsPermutation-trans, IsPermutation-sym, Contains-permutation, length_permutation}
 use Rattle.std.proofs.lemmas.List.Elements.{Contains-get_or}
 use Rattle.crush_hash.specs.Hash.{hash3}
-use Rattle.crush_values.specs.declared.ItemId.{ItemId}
+use Rattle.crush_types.specs.declared.ItemId.{ItemId}
 use Rattle.crush_permutation.specs.Permutation.{word}
 use Rattle.crush_permutation.specs.Permutation.{permutation, after_swaps, partner}
 

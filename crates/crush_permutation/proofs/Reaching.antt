@@ -3,7 +3,7 @@ use Rattle.std.proofs.Common.{◌≡◌, ◌≢◌, ℕ, ◌+◌, ◌-◌, ◌<�
 use Rattle.std.specs.List.{swap}
 use Rattle.std.proofs.lemmas.Bool.{false≢true}
 use Rattle.std.proofs.lemmas.List.{length-take-le}
-use Rattle.crush_values.specs.declared.ItemId.{ItemId}
+use Rattle.crush_types.specs.declared.ItemId.{ItemId}
 use Rattle.crush_permutation.specs.declared.reached.Reached.{Reached}
 use Rattle.crush_permutation.specs.Permutation.{differing, after_swaps, partner}
 use Rattle.crush_permutation.specs.Private.Pairs.{Pair, IsRising, member_at}

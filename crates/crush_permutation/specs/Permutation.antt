@@ -3,7 +3,7 @@ use Rattle.std.specs.Prelude.{ℕ, pos, zero, suc, ◌+◌, ◌-◌, ◌%◌, �
 use Rattle.std.specs.Int.{cast_unsigned, w32}
 use Rattle.std.specs.List.{range_with_len, swap}
 use Rattle.crush_hash.specs.Hash.{hash3}
-use Rattle.crush_values.specs.declared.ItemId.{ItemId}
+use Rattle.crush_types.specs.declared.ItemId.{ItemId}
 
 -- the word by which an id enters a hash: its two's complement
 abbrev pub word : ItemId → ℕ

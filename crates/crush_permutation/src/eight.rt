@@ -7,7 +7,7 @@ ghost use Rattle.crush_permutation.specs.Private.Eight.{place_before};
 
 use crate::reached::partner;
 use crush_hash::hash3_each;
-use crush_values::ItemId;
+use crush_types::ItemId;
 
 /// Returns where the contents of a place stood before place n changed contents with its partner, by
 /// the hash of place n.

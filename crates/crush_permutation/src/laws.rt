@@ -3,7 +3,7 @@
 ghost use Rattle.std.specs.Prelude.{◌≡◌, ◌≢◌, ◌⊎◌, ◌<◌, ◌≤◌, ◌+◌, ◌*◌, ℕ, slice_index};
 ghost use Rattle.std.specs.List.{range_with_len};
 ghost use Rattle.std.specs.List.Sorted.{IsPermutation};
-ghost use Rattle.crush_values.specs.declared.ItemId.{ItemId};
+ghost use Rattle.crush_types.specs.declared.ItemId.{ItemId};
 ghost use Rattle.crush_permutation.specs.Permutation.{PermView, Remembered, permutation, asked, kept};
 
 /// The permutation of a uniform bucket's places has each place once, so each of its members is a

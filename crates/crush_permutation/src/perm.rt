@@ -5,7 +5,7 @@ ghost use Rattle.crush_permutation.specs.Permutation.{permutation, asked, kept};
 
 use crate::pairs::Pair;
 use crate::reached::{Reached, room_of};
-use crush_values::ItemId;
+use crush_types::ItemId;
 use std::alloc::{AllocError, Global};
 use std::marker::Model;
 

@@ -6,7 +6,7 @@ ghost use Rattle.crush_permutation.specs.Permutation.{word};
 ghost use Rattle.crush_permutation.specs.Private.Pairs.{AreHashes};
 
 use crush_hash::hash3_lanes;
-use crush_values::ItemId;
+use crush_types::ItemId;
 use std::marker::Model;
 
 /// The hashes of four places, from a multiple of four on, for one input. Contracts see the bucket's
@@ -20,7 +20,7 @@ pub(crate) struct PlaceHashes {
 }
 
 impl Model for PlaceHashes {
-    ghost use Rattle.crush_values.specs.declared.ItemId.{ItemId};
+    ghost use Rattle.crush_types.specs.declared.ItemId.{ItemId};
     ghost use Rattle.crush_permutation.specs.Private.Pairs.{AreHashes};
 
     ghost Value = { ItemId };

@@ -8,7 +8,7 @@ ghost use Rattle.crush_permutation.specs.Private.Reached.{IsReached, IsEmpty, Is
 use crate::pairs::{Pair, begin, exchange, member_at};
 use crate::place_hashes::PlaceHashes;
 use crush_hash::hash3;
-use crush_values::ItemId;
+use crush_types::ItemId;
 
 /// How far the permutation of a bucket's places is made for the input that was asked last. The
 /// pairs of the places at which it differs from the identity stand at the front of a row; those of

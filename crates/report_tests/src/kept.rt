@@ -3,7 +3,7 @@
 use crate::cases::{CASES, Case, DEVICES, POOLS, of_seven, of_six};
 use crate::places::assert_lists;
 use crate::reports::assert_rule;
-use crush_kept::{Touches, UpLists, moves_from};
+use report_cache::{Touches, UpLists, moves_from};
 use crush_pool::Placer;
 use crush_report::{MoveRow, impact, moves};
 use pool_tests::maps::MapTables;

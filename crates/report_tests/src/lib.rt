@@ -1,4 +1,4 @@
-//! Tests of `crush_report` and `crush_kept`, on maps that are written as texts. They stand apart,
+//! Tests of `crush_report` and `report_cache`, on maps that are written as texts. They stand apart,
 //! so that the crates themselves are proved once.
 #![tactic(auto)]
 

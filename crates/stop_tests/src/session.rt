@@ -8,7 +8,7 @@ use std::alloc::{AllocError, Global};
 use std::num::NonZeroUsize;
 use tenant_core::TenantStore;
 use tenant_messages::Call;
-use tenant_ready::ReadyStore;
+use tenant_cache::CachedStore;
 use tenant_service::{Service, SessionEnd};
 use tenant_store::Store;
 
@@ -65,7 +65,7 @@ pub(crate) fn session<D: Disk + Drop>(
         Ok(store) => store,
         Err((_, store)) => return Ok((None, left(store))),
     };
-    let ready = match ReadyStore::over(alloc, store, READY, NonZeroUsize::MIN) {
+    let ready = match CachedStore::over(alloc, store, READY, NonZeroUsize::MIN) {
         Ok(ready) => ready,
         Err((error, _store)) => return Err(error),
     };

@@ -3,3 +3,4 @@ pub mod Finding
 pub mod Objects
 pub mod OptionalKeys
 pub mod PlainSlots
+pub mod Texts

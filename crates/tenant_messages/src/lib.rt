@@ -5,6 +5,7 @@
 mod call;
 mod json;
 pub mod limits;
+mod pieces;
 mod reply;
 mod slots;
 
@@ -13,6 +14,7 @@ pub use json::{
     boolean, has_keys, integer, natural, optional_boolean, optional_natural, read_value,
     request_number, text, text_of,
 };
+pub use pieces::{done, push_number, push_slot, push_slots};
 pub use reply::{
     Problem, Refusal, Reply, SuccessStatus, answered, created, error, no_memory, or_problem,
     or_refused, refused, repeated, success, written,

@@ -14,9 +14,8 @@ ghost use Rattle.tenant_reports.specs.Private.Pieces.{head_text};
 use crate::rows::{Row, push_rows};
 use crush_map::Listed;
 use crush_report::{MoveRow, gained_in, moves_with};
-use reply_texts::{done, push_number, push_slots};
 use std::alloc::{AllocError, Global};
-use tenant_messages::{Problem, Refusal, Reply};
+use tenant_messages::{Problem, Refusal, Reply, done, push_number, push_slots};
 use tenant_state::{Inventory, TenantPool};
 
 // ---- the groups that move

@@ -10,9 +10,8 @@ ghost use Rattle.tenant_reports.specs.Usage as spec;
 use crate::rows::{Row, push_rows};
 use crush_map::Listed;
 use crush_report::{UsageRow, usage_with};
-use reply_texts::{done, push_number};
 use std::alloc::{AllocError, Global};
-use tenant_messages::{Problem, Refusal, Reply};
+use tenant_messages::{Problem, Refusal, Reply, done, push_number};
 use tenant_state::{Inventory, TenantPool};
 
 // ---- the counts

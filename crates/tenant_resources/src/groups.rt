@@ -16,11 +16,12 @@ use crush_hash::name_hash;
 use crush_map::Text;
 use crush_pool::Placement;
 use crush_rules::Out;
-use reply_texts::{done, push_number, push_slot, push_slots};
 use serde_json::Value;
 use std::alloc::{AllocError, Global};
 use std::marker::Model;
-use tenant_messages::{Problem, Refusal, Reply, has_keys, read_value, text};
+use tenant_messages::{
+    Problem, Refusal, Reply, done, has_keys, push_number, push_slot, push_slots, read_value, text,
+};
 use tenant_state::{Inventory, TenantPool};
 
 /// The name of an object: a text of at most `OBJECT_NAME_LIMIT` bytes.

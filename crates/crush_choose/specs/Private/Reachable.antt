@@ -2,10 +2,10 @@
 -- is false for a call, the call places nothing more.
 use Rattle.std.specs.Prelude.{◌≡◌, ℕ, zero, suc, ◌<◌, ◌-◌, ◌&&◌, ◌==◌, nat_lt, Bool, true, false, not, if◌then◌else◌, List, [], length, take, drop, slice_index_or, Option, Some, None}
 use Rattle.std.specs.List.{list_any}
-use Rattle.crush_values.specs.declared.ItemId.{ItemId}
+use Rattle.crush_types.specs.declared.ItemId.{ItemId}
 use Rattle.crush_map.specs.declared.limits.TheConstants.{BUCKET_LIMIT}
-use Rattle.crush_values.specs.declared.Kind.{Kind}
-use Rattle.crush_values.specs.declared.Kind.TheVariants.{Uniform, List as ListKind, Tree}
+use Rattle.crush_types.specs.declared.Kind.{Kind}
+use Rattle.crush_types.specs.declared.Kind.TheVariants.{Uniform, List as ListKind, Tree}
 use Rattle.crush_map.specs.Faults.{is_uniform}
 use Rattle.crush_kinds.specs.Bucket.{WeightedItem}
 use Rattle.crush_kinds.specs.Pickable.{weighs, pickable}

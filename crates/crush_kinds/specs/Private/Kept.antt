@@ -1,6 +1,6 @@
 -- What list and tree buckets keep beside their items.
 use Rattle.std.specs.Prelude.{◌≡◌, ℕ, zero, suc, ◌+◌, ◌*◌, ◌<◌, ◌≤◌, ◌^◌, List, [], ◌∷◌, ◌++◌, length, slice_index}
-use Rattle.crush_values.specs.declared.ItemId.{ItemId}
+use Rattle.crush_types.specs.declared.ItemId.{ItemId}
 use Rattle.crush_kinds.specs.Bucket.{WeightedItem, weight_within}
 use Rattle.crush_kinds.specs.Kinds.{height_of, label, place_within}
 

@@ -1,7 +1,7 @@
 -- Walks down trees, side by side.
 use Rattle.std.specs.Prelude.{◌≡◌, ℕ, suc, ◌+◌, ◌≤◌, ◌^◌, length, min}
 use Rattle.crush_hash.specs.Hash.{hash4}
-use Rattle.crush_values.specs.declared.ItemId.{ItemId}
+use Rattle.crush_types.specs.declared.ItemId.{ItemId}
 use Rattle.crush_kinds.specs.Bucket.{BucketView, word}
 use Rattle.crush_kinds.specs.Eight.{IsPickedBy}
 use Rattle.crush_kinds.specs.Kinds.{height_of}

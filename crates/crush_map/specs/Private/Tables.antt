@@ -2,7 +2,7 @@
 use Rattle.std.specs.Prelude.{◌≡◌, ◌<◌, ℕ, ℤ, pos, negsuc, nat_le, Bool, false, List, length, slice_index_or}
 use Rattle.std.specs.List.{All}
 use Rattle.crush_map.specs.declared.limits.TheConstants.{NUMBER_LIMIT}
-use Rattle.crush_values.specs.declared.limits.TheConstants.{ID_COUNT}
+use Rattle.crush_types.specs.declared.limits.TheConstants.{ID_COUNT}
 use Rattle.crush_map.specs.declared.numbers.TheConstants.{SHORT_LIST}
 use Rattle.crush_map.specs.Faults.{has_number}
 

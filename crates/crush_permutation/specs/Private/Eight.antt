@@ -1,6 +1,6 @@
 -- What comes to a place of a permutation, followed back through the exchanges.
 use Rattle.std.specs.Prelude.{◌≡◌, ℕ, ◌<◌, ◌==◌, if◌then◌else◌, slice_index}
-use Rattle.crush_values.specs.declared.ItemId.{ItemId}
+use Rattle.crush_types.specs.declared.ItemId.{ItemId}
 use Rattle.crush_permutation.specs.Permutation.{after_swaps, permutation}
 
 -- where the contents of a place stood before two places changed contents

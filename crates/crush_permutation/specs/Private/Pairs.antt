@@ -3,7 +3,7 @@
 use Rattle.std.specs.Prelude.{◌≡◌, ℕ, ◌<◌, ◌≤◌, ◌+◌, ◌*◌, ◌^◌, Bool, slice_index, slice_index_or, length, ◌==◌, ◌&&◌, nat_lt, if◌then◌else◌, List, [], ◌∷◌, ◌++◌, take, drop}
 use Rattle.std.specs.List.{prefix_len}
 use Rattle.crush_hash.specs.Hash.{hash3}
-use Rattle.crush_values.specs.declared.ItemId.{ItemId}
+use Rattle.crush_types.specs.declared.ItemId.{ItemId}
 use Rattle.crush_permutation.specs.Permutation.{word}
 
 abbrev pub Pair : Type 0

@@ -1,5 +1,5 @@
 use Rattle.std.proofs.Common.{◌≡◌, ℕ, slice_index, ◌∙◌, arith}
-use Rattle.crush_values.specs.declared.ItemId.{ItemId}
+use Rattle.crush_types.specs.declared.ItemId.{ItemId}
 use Rattle.crush_kinds.specs.Pick.{pick}
 use Rattle.crush_permutation.specs.Permutation.{no_id}
 use Rattle.crush_permutation.proofs.Lanes.{more_set}

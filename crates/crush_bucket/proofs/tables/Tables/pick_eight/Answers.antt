@@ -1,5 +1,5 @@
 use Rattle.std.proofs.Common.{◌≡◌, ℕ, ◌<◌, slice_index, slice_index_or, List, Option, None, Some, IfSome, subst}
-use Rattle.crush_values.specs.declared.ItemId.{ItemId}
+use Rattle.crush_types.specs.declared.ItemId.{ItemId}
 use Rattle.crush_kinds.specs.Bucket.{BucketView, IsItemOf}
 use Rattle.crush_kinds.specs.Eight.{IsPickedBy}
 use Rattle.crush_kinds.specs.Pick.{pick}

@@ -1,0 +1,10 @@
+use Rattle.std.proofs.Common.{◌∙◌, sym, subst}
+use Rattle.report_cache.specs.UpLists.{AreUpListsOn}
+use Rattle.report_cache.proofs.Lists.{lists_on}
+use Rattle.report_cache.proofs.up_lists.UpLists.build.Goals as goal
+
+pub returns-then-fits : goal.returns-then-fits
+returns-then-fits c =
+    let p = c.args.placer.now in
+    let lists = rw (c.in_ok-run.ensures, c.parts.ensures.same ∙ c.pool-pool.ensures) at (c.in_ok-fits.ensures.lists c.if-fits.true) in
+    subst (AreUpListsOn p) (sym lists) (lists_on p c.map-map.ensures.rule)

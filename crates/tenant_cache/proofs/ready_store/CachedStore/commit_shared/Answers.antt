@@ -1,0 +1,36 @@
+use Rattle.std.proofs.Common.{Some}
+use Rattle.tenant_state.specs.State.{after}
+use Rattle.tenant_cache.proofs.Loading.{left_or_made}
+use Rattle.tenant_cache.proofs.NumberFacts.{known_without, true_without}
+use Rattle.tenant_cache.proofs.ready_store.CachedStore.commit_shared.Goals as goal
+
+-- nothing is kept of the name, and other names have what they had: where the change failed, and
+-- before the load
+pub invariant_of-self : goal.invariant_of-self
+invariant_of-self g c =
+    let open' = rw (← c.self.view_is) at c.requires.open in
+    record {
+      states = λ honest live. true_without (g.T.TenantStore.has_state c.self.inside.below) (g.T.TenantStore.has_state c.commit.new.self) c.self.inside.kept c.forget.new.self c.args.name.now
+          (c.self.invariant.states (c.commit.ensures.honest honest) open') c.forget.ensures (c.commit.ensures.others honest live);
+      numbers = known_without c.self.inside.cache c.self.inside.kept c.forget.new.self c.args.name.now c.self.invariant.numbers c.forget.ensures;
+      last = c.self.invariant.last;
+    }
+
+pub invariant_of-self-2 : goal.invariant_of-self-2
+invariant_of-self-2 g c =
+    let open' = rw (← c.self.view_is) at c.requires.open in
+    record {
+      states = λ honest live. true_without (g.T.TenantStore.has_state c.self.inside.below) (g.T.TenantStore.has_state c.commit.new.self) c.self.inside.kept c.forget.new.self c.args.name.now
+          (c.self.invariant.states (c.commit.ensures.honest honest) open') c.forget.ensures (c.commit.ensures.others honest live);
+      numbers = known_without c.self.inside.cache c.self.inside.kept c.forget.new.self c.args.name.now c.self.invariant.numbers c.forget.ensures;
+      last = c.self.invariant.last;
+    }
+
+-- where the load failed for good
+pub returns-clause-crash : goal.returns-clause-crash
+returns-clause-crash g c = rw (← c.self.view_is) (λ honest latched s has.
+    let before = c.load.ensures.honest honest in
+    let works = c.in_ok-commit.ensures.latch in
+    left_or_made (g.T.TenantStore.has_state c.self.inside.below) (g.T.TenantStore.has_state c.commit.new.self) (g.T.TenantStore.may_leave c.load.new.self) c.args.name.now (Some (after c.args.change.now s))
+    (c.in_ok-commit.ensures.made before s has) (λ x y is also. g.met.T.TenantStore.one_state c.commit.new.self c.args.name.now x y before works is also)
+    (c.commit.ensures.others before works) (c.load.ensures.crash honest latched))

@@ -1,0 +1,152 @@
+//! What the tenants have that were used last, by name, as much as a number of bytes holds.
+
+ghost use Rattle.std.specs.Prelude.{◌≡◌, ◌≤◌, ◌<◌, ◌-◌, ◌^◌, ℕ, length, min, take};
+ghost use Rattle.tenant_cache.specs.Bytes.{bytes_in, bytes_of};
+
+use crate::ready::Ready;
+use lru::LruCache;
+use std::alloc::{AllocError, Global};
+use std::marker::Model;
+use std::rc::Rc;
+
+/// The greatest bound, and the greatest size of one entry. No memory is larger.
+const GREATEST_BOUND: u64 = u64::MAX / 2;
+
+type ByName = LruCache<String, Rc<Ready>>;
+
+/// What tenants have by name: one entry, or several whose sizes together are at most a bound. What
+/// was used least recently goes first. Contracts say what a name may still have, and only of a name
+/// that is put again that it has it.
+#[derive(Drop)]
+pub struct Kept {
+    by_name: ByName,
+    bytes: u64,
+    bound: u64,
+}
+
+impl Model for Kept {
+    ghost use Rattle.std.specs.Prelude.{◌≡◌, ◌≤◌, ◌<◌, ◌^◌, length, map, string_bytes};
+    ghost use Rattle.tenant_cache.specs.Bytes.{bytes_in};
+    ghost use Rattle.tenant_cache.specs.Kept.{Kept};
+
+    ghost Value = { Kept };
+
+    ghost view = { λ a. record { entries = map (λ e. (string_bytes e.0, e.1.value)) a.by_name.entries; bound = a.bound } };
+
+    ghost invariant = { λ a. record {
+      bytes : a.bytes ≡ bytes_in a.by_name.entries;
+      fits : 1 < length a.by_name.entries → a.bytes ≤ a.bound;
+      small : a.bytes < 2 ^ 63;
+      least : a.bound < 2 ^ 63;
+    } };
+}
+
+impl Kept {
+    ghost use Rattle.std.specs.Prelude.{◌≡◌, ◌≤◌, ◌<◌, ◌≢◌, ℕ, [], List, Option, Some, None, IfOk, IsSome, is_some, length, min, option_map, string_bytes};
+    ghost use Rattle.tenant_cache.specs.Kept as spec;
+    ghost use Rattle.tenant_cache.specs.Kept.{kept_at, bytes_kept, Updates};
+    ghost use Rattle.tenant_cache.specs.declared.kept.TheConstants.{GREATEST_BOUND};
+    ghost use Rattle.tenant_state.specs.Size.{size};
+
+    /// Nothing is kept yet. What will be takes at most `bound` bytes together, or is one entry; a
+    /// bound above 2^63 - 1 counts as that. `Err(AllocError)`: an allocation failed; nothing is
+    /// changed.
+    pub fn new(alloc: Global, bound: u64) -> Result<Self, AllocError>
+        ensures { IfOk result (λ kept. kept ≡ record { entries = []; bound = min bound GREATEST_BOUND }) }
+    {
+        Ok(Kept {
+            by_name: LruCache::unbounded(alloc)?,
+            bytes: 0,
+            bound: bound.min(GREATEST_BOUND),
+        })
+    }
+
+    /// How many bytes all that is kept takes together.
+    pub fn bytes(&self) -> u64
+        ensures value { result ≡ bytes_kept self.now }
+        ensures within { 1 < length self.now.entries → result ≤ self.now.bound }
+    {
+        self.bytes
+    }
+
+    /// What is kept of a name, which is then the one used last.
+    pub fn get(&mut self, name: &str) -> Result<Option<Rc<Ready>>, AllocError>
+        ensures found { IfOk result (λ found. option_map (λ r. r.value) found ≡ kept_at self.old name.now) }
+        ensures same { (u : List ℕ) (r : _) → kept_at self.new u ≡ Some r → kept_at self.old u ≡ Some r }
+    {
+        let _count = self.by_name.len();
+        self.by_name.promote(name);
+        let Some(ready) = self.by_name.peek(name) else {
+            return Ok(None);
+        };
+        Ok(Some(ready.clone()?))
+    }
+
+    /// Whether something is kept of a name.
+    pub fn has(&self, name: &str) -> bool
+        ensures { result ≡ is_some (kept_at self.now name.now) }
+    {
+        self.by_name.peek(name).is_some()
+    }
+
+    /// Forgets a name.
+    pub fn forget(&mut self, name: &str)
+        ensures { Updates name.now None self.old self.new }
+    {
+        let _count = self.by_name.len();
+        self.bytes -= size_of(&self.by_name.pop_entry(name));
+    }
+
+    /// Keeps what a name has, in place of what was kept of it, and forgets others where they have
+    /// no room beside it. One for which there is no memory isn't kept, nor is one whose size is
+    /// above 2^63 - 1; a name that is there needs no memory.
+    pub fn put(&mut self, name: String, ready: Rc<Ready>)
+        ensures only { Updates (string_bytes name) (Some ready.value) self.old self.new }
+        ensures stays { IsSome (kept_at self.old (string_bytes name)) → size ready.value.inventory ≤ GREATEST_BOUND → kept_at self.new (string_bytes name) ≡ Some ready.value }
+    {
+        let size = ready.size();
+        if size > GREATEST_BOUND {
+            self.forget(name.as_str());
+            return;
+        }
+        let bytes = self.bytes + size;
+        let _count = self.by_name.len();
+        match self.by_name.push(name, ready) {
+            Ok(displaced) => {
+                let bytes = bytes - size_of(&displaced);
+                self.bytes = evict(&mut self.by_name, bytes, self.bound);
+            }
+            Err(refused) => {
+                let (name, _ready) = refused.value;
+                self.forget(name.as_str());
+            }
+        }
+    }
+}
+
+/// How many bytes is taken by an entry that may be there.
+fn size_of(entry: &Option<(String, Rc<Ready>)>) -> u64
+    ensures { result ≡ min (bytes_of entry.now) (2 ^ 64 - 1) }
+{
+    match entry {
+        Some((_name, ready)) => ready.size(),
+        None => 0,
+    }
+}
+
+/// Forgets what was used least recently, and no more than it must, until the rest takes at most
+/// `bound` bytes or is one entry. Returns how many the rest takes.
+fn evict(by_name: &mut ByName, bytes: u64, bound: u64) -> u64
+    requires { bytes ≡ bytes_in by_name.old.entries }
+    ensures value { result ≡ bytes_in by_name.new.entries }
+    ensures fits { 1 < length by_name.new.entries → result ≤ bound }
+    ensures first { by_name.new.entries ≡ take (length by_name.new.entries) by_name.old.entries }
+    ensures one { 0 < length by_name.old.entries → 0 < length by_name.new.entries }
+    ensures most { (n : ℕ) → length by_name.new.entries < n → n ≤ length by_name.old.entries → bound < bytes_in (take n by_name.old.entries) }
+{
+    let mut rest = bytes;
+    while rest > bound && by_name.len() > 1 {
+        rest -= size_of(&by_name.pop_lru());
+    }
+    rest
+}

@@ -1,0 +1,15 @@
+//! A store of tenants' states that keeps ready what tenants have in another store, within a number
+//! of bytes.
+#![tactic(auto)]
+
+mod kept;
+mod moving;
+mod placing;
+mod ready;
+mod ready_store;
+mod touching;
+mod trial;
+
+pub use kept::Kept;
+pub use ready::Ready;
+pub use ready_store::CachedStore;

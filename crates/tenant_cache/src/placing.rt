@@ -1,0 +1,125 @@
+//! Placements of groups, from a cache, for what a tenant has.
+
+ghost use Rattle.std.specs.Prelude.{◌≡◌, ◌≤◌, ◌<◌, ◌⊎◌, ℕ, List, Contains, Some, IfSome};
+ghost use Rattle.crush_cache.specs.Caches.{KeepsNumbers};
+ghost use Rattle.tenant_core.specs.Queries.{AsksFor, IsPlacedFor};
+ghost use Rattle.tenant_cache.specs.Kept.{kept_at};
+ghost use Rattle.tenant_cache.specs.Ready.{AreNumbersOf, HasNumber, IsWithNumber, Renumbers};
+ghost use Rattle.tenant_state.specs.State.{pool as pool_at};
+
+use crate::kept::Kept;
+use crate::ready::Ready;
+use crate::trial::Trial;
+use crush_cache::PlacementCache;
+use std::alloc::Global;
+use std::rc::Rc;
+use tenant_core::{Placed, Query};
+use tenant_state::{Inventory, TenantPool};
+
+/// The number that is kept beside what a tenant has for the content of a pool, while that content
+/// is still in the cache.
+fn number_beside(cache: &PlacementCache, ready: &Ready, pool: &TenantPool) -> Option<u64>
+    ensures number { IfSome result (λ n. Contains ready.now.numbers (pool.now.parts.id, n)) }
+    ensures there { IfSome result (λ n. cache.now.first ≤ n) }
+{
+    let number = ready.number_of(pool.parts().id)?;
+    if cache.has(number) {
+        Some(number)
+    } else {
+        None
+    }
+}
+
+/// A number for the content of a pool of what a tenant has, on the newest version.
+fn give_number(cache: &mut PlacementCache, inventory: &Inventory, pool: &TenantPool) -> Option<u64>
+    ensures number { IfSome result (λ n. HasNumber cache.new inventory.now pool.now n) }
+    ensures there { IfSome result (λ n. cache.new.first ≤ n) }
+    ensures kept { KeepsNumbers cache.old cache.new }
+{
+    let version = inventory.version(inventory.newest())?;
+    let Ok(content) = inventory.content(version, pool) else {
+        return None;
+    };
+    cache.number_of(&content)
+}
+
+/// Keeps a number for the content of a pool beside what a tenant has, where there is memory for it.
+fn keep_number(
+    alloc: Global,
+    kept: &mut Kept,
+    name: &str,
+    ready: &Ready,
+    pool: &TenantPool,
+    number: u64,
+)
+    ensures { (u : List ℕ) (r : _) → kept_at kept.new u ≡ Some r → (kept_at kept.old u ≡ Some r) ⊎ ((u ≡ name.now) × IsWithNumber ready.now pool.now.parts.id number r) }
+{
+    let Ok(next) = ready.with_number(alloc, pool.parts().id, number) else {
+        return;
+    };
+    let Ok(key) = String::from_str(alloc, name) else {
+        return;
+    };
+    let Ok(next) = Rc::new(alloc, next) else {
+        return;
+    };
+    kept.put(key, next);
+}
+
+/// The number of the content of a pool of what a tenant has, on the newest version: the one that is
+/// kept beside it, or a new one, which is then kept.
+pub(crate) fn number_for(
+    alloc: Global,
+    cache: &mut PlacementCache,
+    kept: &mut Kept,
+    name: &str,
+    ready: &Ready,
+    pool: &TenantPool,
+) -> Option<u64>
+    requires known { AreNumbersOf cache.old ready.now }
+    requires there { pool_at pool.now.parts.id ready.now.inventory ≡ Some pool.now }
+    ensures number { IfSome result (λ n. HasNumber cache.new ready.now.inventory pool.now n) }
+    ensures live { IfSome result (λ n. cache.new.first ≤ n) }
+    ensures keeps { KeepsNumbers cache.old cache.new }
+    ensures beside { Renumbers name.now ready.now cache.new kept.old kept.new }
+{
+    if let Some(number) = number_beside(cache, ready, pool) {
+        return Some(number);
+    }
+    let number = give_number(cache, ready.inventory(), pool)?;
+    keep_number(alloc, kept, name, ready, pool, number);
+    Some(number)
+}
+
+/// The placement of the group of a pool that a query asks for, with what the tenant has.
+pub(crate) fn place(
+    cache: &mut PlacementCache,
+    trial: &mut Trial,
+    number: u64,
+    inventory: &Rc<Inventory>,
+    pool: &TenantPool,
+    group: u32,
+) -> Option<Placed>
+    requires number { HasNumber cache.old inventory.now.value pool.now number }
+    requires live { cache.old.first ≤ number }
+    requires there { group < pool.now.parts.pg_num }
+    ensures inventory { IfSome result (λ r. r.inventory.value ≡ inventory.now.value) }
+    ensures placed { IfSome result (λ r. (query : _) → AsksFor query inventory.now.value pool.now group → IsPlacedFor query r.inventory.value r.group r.placement.value) }
+    ensures same { cache.new ≡ cache.old }
+{
+    let Ok(placer) = inventory.on_newest(pool) else {
+        return None;
+    };
+    let Ok(Ok(placement)) = cache.place_known(number, &placer, group) else {
+        return None;
+    };
+    trial.note(number, group, &placement);
+    let Ok(inventory) = inventory.clone() else {
+        return None;
+    };
+    Some(Placed {
+        inventory,
+        group,
+        placement,
+    })
+}

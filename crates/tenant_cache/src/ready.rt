@@ -1,0 +1,113 @@
+//! What a tenant has, with the numbers of the contents that its placements depend on.
+
+ghost use Rattle.std.specs.Prelude.{◌≡◌};
+
+use std::alloc::{AllocError, Global};
+use std::marker::Model;
+use std::rc::Rc;
+use tenant_state::limits::RECEIPT_LIMIT;
+use tenant_state::{Change, Inventory};
+
+/// The most numbers that are kept beside what a tenant has. They take 16 bytes each, which the
+/// bytes of an inventory without its parts cover (`INVENTORY_BYTES`).
+const NUMBER_LIMIT: usize = 16;
+
+/// What a tenant has, kept ready, with the numbers that a cache of placements gave to the contents
+/// of its pools on the newest version. Contracts see both.
+#[derive(Drop)]
+pub struct Ready {
+    inventory: Rc<Inventory>,
+    /// The id of a pool and a number, that given last first.
+    numbers: Vec<(u32, u64)>,
+}
+
+impl Model for Ready {
+    ghost use Rattle.tenant_cache.specs.Kept.{Ready};
+
+    ghost Value = { Ready };
+
+    ghost view = { λ a. record { inventory = a.inventory.value; numbers = a.numbers.items } };
+}
+
+impl Ready {
+    ghost use Rattle.std.specs.Prelude.{◌≡◌, ◌<◌, ◌-◌, ◌^◌, ◌&&◌, [], Contains, IfOk, IfSome, min, nat_lt, true};
+    ghost use Rattle.tenant_cache.specs.Ready.{IsWithNumber};
+    ghost use Rattle.tenant_state.specs.Size.{size};
+    ghost use Rattle.tenant_state.specs.State.{inventory_after, suits};
+    ghost use Rattle.tenant_state.specs.declared.limits.TheConstants.{RECEIPT_LIMIT};
+
+    /// What a tenant has, with no number. Allocates nothing.
+    pub fn new(alloc: Global, inventory: Rc<Inventory>) -> Self
+        ensures { result ≡ record { inventory = inventory.value; numbers = [] } }
+    {
+        Ready {
+            inventory,
+            numbers: Vec::new(alloc),
+        }
+    }
+
+    /// What the tenant has, shared.
+    pub fn inventory(&self) -> &Rc<Inventory>
+        ensures { result.now.value ≡ self.now.inventory }
+    {
+        &self.inventory
+    }
+
+    /// The number of the content of the pool with an id, if it has one.
+    pub fn number_of(&self, pool: u32) -> Option<u64>
+        ensures { IfSome result (λ n. Contains self.now.numbers (pool, n)) }
+    {
+        for (id, number) in &self.numbers {
+            if *id == pool {
+                return Some(*number);
+            }
+        }
+        None
+    }
+
+    /// The same, with a number for the content of a pool; the number that was given first is
+    /// forgotten where there are too many. `Err(AllocError)`: an allocation failed; nothing is
+    /// changed.
+    pub fn with_number(&self, alloc: Global, pool: u32, number: u64) -> Result<Ready, AllocError>
+        ensures { IfOk result (λ r. IsWithNumber self.now pool number r) }
+    {
+        let mut numbers = Vec::with_capacity(alloc, NUMBER_LIMIT)?;
+        numbers.push((pool, number))?;
+        for (id, other) in &self.numbers {
+            if numbers.len() < NUMBER_LIMIT && *id != pool {
+                numbers.push((*id, *other))?;
+            }
+        }
+        Ok(Ready {
+            inventory: self.inventory.clone()?,
+            numbers,
+        })
+    }
+
+    /// Whether what the tenant has can take a change: there is room for one more receipt, and what
+    /// is made suits what is there. Takes time linear in the number of exceptions of the change.
+    pub fn can_take(&self, change: &Change) -> bool
+        ensures { result ≡ (nat_lt self.now.inventory.epoch RECEIPT_LIMIT && suits change.now.made self.now.inventory) }
+    {
+        self.inventory.epoch() < RECEIPT_LIMIT as u64 && self.inventory.suits(&change.made)
+    }
+
+    /// What the tenant has after a change that it can take, with no number: its contents are
+    /// others. `Err(AllocError)`: an allocation failed; nothing is changed.
+    pub fn after(&self, alloc: Global, change: &Change) -> Result<Rc<Ready>, AllocError>
+        requires room { self.now.inventory.epoch < RECEIPT_LIMIT }
+        requires suits { suits change.now.made self.now.inventory ≡ true }
+        ensures { IfOk result (λ r. r.value ≡ record { inventory = inventory_after change.now self.now.inventory; numbers = [] }) }
+    {
+        let inventory = Rc::new(alloc, self.inventory.after(alloc, change)?)?;
+        Ok(Rc::new(alloc, Ready::new(alloc, inventory))?)
+    }
+
+    /// How many bytes of memory it takes at most, by an estimate. The numbers add nothing: those of
+    /// an inventory without its parts cover them.
+    pub fn size(&self) -> u64
+        ensures { result ≡ min (size self.now.inventory) (2 ^ 64 - 1) }
+    {
+        self.inventory.size()
+    }
+}

@@ -1,0 +1,382 @@
+//! A store that keeps ready what tenants have in another store.
+
+ghost use Rattle.std.specs.Prelude.{◌≡◌, ◌≢◌, ◌⊎◌, ◌↔◌, ℕ, List, Bool, true, false, Option, Some, None, Err, IfOk, OnOk, OnErr, option_map};
+ghost use Rattle.tenant_state.specs.State.{CanMake, TenantState, fresh, after};
+ghost use Rattle.tenant_state.specs.Receipts.{receipt_of};
+ghost use Rattle.tenant_core.specs.States.{Found, HasInventory, IsDamaged, LeavesAsItWas, LeavesAsItWasOr, Same, Shows};
+ghost use Rattle.tenant_core.specs.StoreReply.{is_failed};
+
+use crate::kept::Kept;
+use crate::moving::{LastUpLists, lists_are_left, move_between};
+use crate::placing::{number_for, place};
+use crate::ready::Ready;
+use crate::touching::{LastTouches, are_left, is_of_tenant, touch};
+use crate::trial::Trial;
+use crush_cache::PlacementCache;
+use std::alloc::{AllocError, Global};
+use std::marker::Model;
+use std::num::NonZeroUsize;
+use std::rc::Rc;
+use tenant_core::{Moved, Placed, Query, StoreFault, TenantStore, Touched};
+use tenant_state::{Change, Inventory, Receipt};
+
+/// A store over another one, which keeps in memory what the tenants that were used last have,
+/// placements of their groups, which groups of one pool each device can touch, and the up lists of
+/// all groups of one pool on one version, from which moves were asked last. The last two are
+/// found by the whole content that they depend on, so that after a change they are of use only
+/// where it left that content as it was. Both are given up where their tenant isn't kept any more
+/// or a tenant is removed, and touched groups where the tenant that asked for them changes.
+/// Contracts see the store below alone.
+#[derive(Drop)]
+pub struct CachedStore<T: TenantStore> {
+    alloc: Global,
+    below: T,
+    kept: Kept,
+    cache: PlacementCache,
+    trial: Trial,
+    /// Which groups each device can touch, for the content of which this was asked last.
+    last: Option<LastTouches>,
+    /// The up lists of all groups, for the content of the version from which moves were asked last.
+    last_lists: Option<LastUpLists>,
+    /// Whether the store below has what tenants have in memory, and makes none of it for a load.
+    shares: bool,
+}
+
+impl<T: TenantStore> Model for CachedStore<T> {
+    ghost use Rattle.std.specs.Prelude.{◌≡◌, false};
+    ghost use Rattle.tenant_cache.specs.Ready.{AreKnown, AreTrue};
+    ghost use Rattle.tenant_cache.specs.Touching.{AreLast};
+
+    ghost Value = { T };
+
+    ghost coded = { T.code };
+
+    ghost view = { λ a. a.below };
+
+    ghost invariant = { λ a. record {
+      states : T.is_honest a.below → T.latched a.below ≡ false → AreTrue (T.has_state a.below) a.kept;
+      numbers : AreKnown a.cache a.kept;
+      last : AreLast a.cache a.last;
+    } };
+}
+
+impl<T: TenantStore + Drop> CachedStore<T> {
+    ghost use Rattle.std.specs.Prelude.{◌≡◌, IfErr, IfOk};
+
+    /// A store over this one, which keeps what takes at most `bound` bytes, and so many placements
+    /// beside. Nothing is kept yet. `Err((AllocError, below))`: an allocation failed; the store
+    /// below is given back.
+    pub fn over(
+        alloc: Global,
+        below: T,
+        bound: u64,
+        placements: NonZeroUsize,
+    ) -> Result<Self, (AllocError, T)>
+        ensures made { IfOk result (λ store. store ≡ below) }
+        ensures refused { IfErr result (λ refused. refused.1 ≡ below) }
+    {
+        let Ok(kept) = Kept::new(alloc, bound) else {
+            return Err((AllocError, below));
+        };
+        let Ok(cache) = PlacementCache::new(alloc, placements) else {
+            return Err((AllocError, below));
+        };
+        let Ok(trial) = Trial::new(alloc, placements) else {
+            return Err((AllocError, below));
+        };
+        Ok(CachedStore {
+            alloc,
+            kept,
+            cache,
+            trial,
+            last: None,
+            last_lists: None,
+            below,
+            shares: false,
+        })
+    }
+
+    /// A store over one that has what all tenants have in memory, with so many placements beside.
+    /// What it keeps is shared with that store, also after a change, and has no bound. Nothing is
+    /// kept yet. `Err(AllocError)`: an allocation failed; the store below is dropped.
+    pub fn over_memory(
+        alloc: Global,
+        below: T,
+        placements: NonZeroUsize,
+    ) -> Result<Self, AllocError>
+        ensures { IfOk result (λ store. store ≡ below) }
+    {
+        Ok(CachedStore {
+            alloc,
+            kept: Kept::new(alloc, u64::MAX)?,
+            cache: PlacementCache::new(alloc, placements)?,
+            trial: Trial::new(alloc, placements)?,
+            last: None,
+            last_lists: None,
+            below,
+            shares: true,
+        })
+    }
+}
+
+impl<T: TenantStore> CachedStore<T> {
+    ghost use Rattle.std.specs.Prelude.{◌≡◌, false, Some};
+    ghost use Rattle.tenant_core.specs.States.{HasInventory};
+
+    /// The store below. Allocates nothing.
+    pub fn into_below(self) -> T
+        ensures { result ≡ self }
+    {
+        let CachedStore { below, .. } = self;
+        below
+    }
+
+    /// Keeps what a tenant has, where there is memory for it.
+    fn keep(&mut self, name: &str, inventory: &Rc<Inventory>)
+        requires { T.is_honest self.old → T.latched self.old ≡ false → HasInventory (T.has_state self.old) name.now (Some inventory.now.value) }
+        ensures { self.new ≡ self.old }
+    {
+        let shared: Result<Rc<Inventory>, AllocError> = inventory.clone();
+        let Ok(shared) = shared else {
+            return;
+        };
+        let Ok(key) = String::from_str(self.alloc, name) else {
+            return;
+        };
+        let Ok(ready) = Rc::new(self.alloc, Ready::new(self.alloc, shared)) else {
+            return;
+        };
+        self.kept.put(key, ready);
+    }
+
+    /// Gives up the touched groups of a tenant of which nothing else is kept.
+    fn give_up_touches(&mut self)
+        ensures { self.new ≡ self.old }
+    {
+        if are_left(&self.last, &self.kept) {
+            self.last = None;
+        }
+    }
+
+    /// Gives up the up lists of a tenant of which nothing else is kept.
+    fn give_up_lists(&mut self)
+        ensures { self.new ≡ self.old }
+    {
+        if lists_are_left(&self.last_lists, &self.kept) {
+            self.last_lists = None;
+        }
+    }
+
+    /// What a tenant has, as `load`: what is kept of it, or what the store below has, which is then
+    /// kept.
+    fn load_kept(&mut self, name: &str) -> Result<Option<Rc<Inventory>>, StoreFault>
+        requires open { T.latched self.old ≡ false }
+        ensures found { T.is_honest self.new → IfOk result (λ found. HasInventory (T.has_state self.old) name.now (option_map (λ r. r.value) found)) }
+        ensures damaged { T.is_honest self.new → result ≡ Err StoreFault.Damaged → IsDamaged (T.has_state self.old) name.now }
+        ensures same { T.is_honest self.new → T.latched self.new ≡ false → T.keeps self.old self.new }
+        ensures latch { T.latched self.new ≡ is_failed result }
+        ensures crash { T.is_honest self.new → T.latched self.new ≡ true → LeavesAsItWas (T.has_state self.old) (T.may_leave self.new) }
+        ensures honest { T.is_honest self.new → T.is_honest self.old }
+    {
+        if let Some(ready) = self.kept.get(name)? {
+            return Ok(Some(ready.inventory().clone()?));
+        }
+        let found = self.below.load(name)?;
+        if let Some(inventory) = &found {
+            self.keep(name, inventory);
+        }
+        Ok(found)
+    }
+
+    /// Makes a change of a tenant, as `commit`, and keeps what the store below then has of it.
+    fn commit_shared(&mut self, name: &str, change: &Change) -> Result<(), StoreFault>
+        requires open { T.latched self.old ≡ false }
+        requires there { T.is_honest self.old → (s : TenantState) × T.has_state self.old name.now (Some s) × CanMake change.now s }
+        ensures made { T.is_honest self.new → (s : TenantState) → T.has_state self.old name.now (Some s) → OnOk result (T.has_state self.new name.now (Some (after change.now s))) }
+        ensures others { T.is_honest self.new → T.latched self.new ≡ false → (t : List ℕ) (s : Option TenantState) → t ≢ name.now → (T.has_state self.old t s ↔ T.has_state self.new t s) }
+        ensures err { T.is_honest self.new → T.latched self.new ≡ false → OnErr result (T.keeps self.old self.new) }
+        ensures damaged { T.is_honest self.new → result ≢ Err StoreFault.Damaged }
+        ensures latch { T.latched self.new ≡ is_failed result }
+        ensures crash { T.is_honest self.new → T.latched self.new ≡ true → (s : TenantState) → T.has_state self.old name.now (Some s)
+            → LeavesAsItWasOr name.now (Some (after change.now s)) (T.has_state self.old) (T.may_leave self.new) }
+        ensures honest { T.is_honest self.new → T.is_honest self.old }
+    {
+        self.kept.forget(name);
+        self.below.commit(name, change)?;
+        // the change stays made where this load fails; for good, that is an error of the call
+        match self.load(name) {
+            Err(StoreFault::Failed) => Err(StoreFault::Failed),
+            _ => Ok(()),
+        }
+    }
+
+    /// Makes a change of a tenant, as `commit`, and keeps what the tenant has then, made before the
+    /// change from what was kept.
+    fn commit_kept(&mut self, name: &str, change: &Change) -> Result<(), StoreFault>
+        requires open { T.latched self.old ≡ false }
+        requires there { T.is_honest self.old → (s : TenantState) × T.has_state self.old name.now (Some s) × CanMake change.now s }
+        ensures made { T.is_honest self.new → (s : TenantState) → T.has_state self.old name.now (Some s) → OnOk result (T.has_state self.new name.now (Some (after change.now s))) }
+        ensures others { T.is_honest self.new → T.latched self.new ≡ false → (t : List ℕ) (s : Option TenantState) → t ≢ name.now → (T.has_state self.old t s ↔ T.has_state self.new t s) }
+        ensures err { T.is_honest self.new → T.latched self.new ≡ false → OnErr result (T.keeps self.old self.new) }
+        ensures damaged { T.is_honest self.new → result ≢ Err StoreFault.Damaged }
+        ensures latch { T.latched self.new ≡ is_failed result }
+        ensures crash { T.is_honest self.new → T.latched self.new ≡ true → (s : TenantState) → T.has_state self.old name.now (Some s)
+            → LeavesAsItWasOr name.now (Some (after change.now s)) (T.has_state self.old) (T.may_leave self.new) }
+        ensures honest { T.is_honest self.new → T.is_honest self.old }
+    {
+        match self.kept.get(name)? {
+            Some(ready) if ready.can_take(change) => {
+                // all that needs memory is made before the change
+                let next = ready.after(self.alloc, change)?;
+                let key = String::from_str(self.alloc, name)?;
+                self.below.commit(name, change)?;
+                self.kept.put(key, next);
+                Ok(())
+            }
+            _ => {
+                self.kept.forget(name);
+                self.below.commit(name, change)
+            }
+        }
+    }
+
+    /// Gives up the touched groups that are kept, if they are of this tenant.
+    fn give_up(&mut self, name: &str)
+        ensures { self.new ≡ self.old }
+    {
+        if is_of_tenant(&self.last, name) {
+            self.last = None;
+        }
+    }
+}
+
+impl<T: TenantStore> TenantStore for CachedStore<T> {
+    ghost use Rattle.std.specs.Prelude.{◌≡◌, ℕ, List, false};
+
+    ghost is_honest = { λ store. T.is_honest store };
+
+    ghost has_state = { λ store name s. T.has_state store name s };
+
+    ghost latched = { λ store. T.latched store };
+
+    ghost may_leave = { λ store name found. T.may_leave store name found };
+
+    ghost keeps = { λ old new. T.keeps old new };
+
+    fn is_latched(&self) -> bool {
+        self.below.is_latched()
+    }
+
+    fn load(&mut self, name: &str) -> Result<Option<Rc<Inventory>>, StoreFault> {
+        self.give_up_touches();
+        self.give_up_lists();
+        self.load_kept(name)
+    }
+
+    fn find_receipt(
+        &mut self,
+        name: &str,
+        number: &str,
+    ) -> Result<Option<Rc<Receipt>>, StoreFault> {
+        self.below.find_receipt(name, number)
+    }
+
+    fn placed(&mut self, name: &str, query: &Query) -> Option<Placed> {
+        if !self.trial.is_on() {
+            return None;
+        }
+        let Ok(Some(ready)) = self.kept.get(name) else {
+            return None;
+        };
+        let (pool, group) = query.group_in(ready.inventory())?;
+        let number = number_for(
+            self.alloc,
+            &mut self.cache,
+            &mut self.kept,
+            name,
+            &ready,
+            pool,
+        )?;
+        place(
+            &mut self.cache,
+            &mut self.trial,
+            number,
+            ready.inventory(),
+            pool,
+            group,
+        )
+    }
+
+    fn touched(&mut self, name: &str, query: &Query) -> Option<Touched> {
+        let Ok(Some(found)) = self.kept.get(name) else {
+            return None;
+        };
+        let (pool, device) = query.device_in(found.inventory())?;
+        let number = number_for(
+            self.alloc,
+            &mut self.cache,
+            &mut self.kept,
+            name,
+            &found,
+            pool,
+        )?;
+        touch(
+            self.alloc,
+            &mut self.last,
+            name,
+            number,
+            found.inventory(),
+            pool,
+            device,
+        )
+    }
+
+    fn moved(&mut self, name: &str, query: &Query) -> Option<Moved> {
+        let Ok(Some(kept)) = self.kept.get(name) else {
+            return None;
+        };
+        let (pool, from, to) = query.versions_in(kept.inventory())?;
+        move_between(
+            self.alloc,
+            &mut self.last_lists,
+            name,
+            kept.inventory(),
+            pool,
+            from,
+            to,
+        )
+    }
+
+    fn create(&mut self, name: &str) -> Result<(), StoreFault> {
+        self.kept.forget(name);
+        self.below.create(name)
+    }
+
+    fn commit(&mut self, name: &str, change: &Change) -> Result<(), StoreFault> {
+        self.give_up(name);
+        if self.shares {
+            self.commit_shared(name, change)
+        } else {
+            self.commit_kept(name, change)
+        }
+    }
+
+    fn remove(&mut self, name: &str) -> Result<(), StoreFault> {
+        self.last = None;
+        self.last_lists = None;
+        self.kept.forget(name);
+        self.below.remove(name)
+    }
+
+    ghost one_state = { λ store t s u honest works is also. T.one_state store t s u honest works is also };
+
+    ghost are_states = { λ store t s honest works has. T.are_states store t s honest works has };
+
+    ghost keeps_itself = { λ store. T.keeps_itself store };
+
+    ghost keeps_both = { λ old mid new first second. T.keeps_both old mid new first second };
+
+    ghost keeps_states = { λ old new honest worked works same. T.keeps_states old new honest worked works same };
+
+    ghost settled = { λ store t found honest works there. T.settled store t found honest works there };
+}
