@@ -1,9 +1,9 @@
 //! Placements that are kept are shared, and not made anew.
 
 use crate::asking::{Answer, Asked, FIRST, How, LONG, ask, assert_placed, cache_for, is_one};
-use crush_choose::Slot;
 use crush_map::ItemId;
 use crush_pool::{Pair, PoolFault};
+use crush_select::Slot;
 use std::process::Abort;
 use std::test::Fail;
 

@@ -1,4 +1,4 @@
-//! Tests of `crush_choose` and `crush_rules`, on maps of drafts. They stand apart, so that these
+//! Tests of `crush_select` and `crush_choose`, on maps of drafts. They stand apart, so that these
 //! crates are proved once.
 #![tactic(auto)]
 

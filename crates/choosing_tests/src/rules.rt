@@ -2,15 +2,15 @@
 
 ghost use Rattle.std.specs.Prelude.{◌≡◌, ◌≤◌};
 ghost use Rattle.crush_bucket.specs.Tables.{scratch_of, tables_of};
-ghost use Rattle.crush_rules.specs.Rules.{CanRun};
+ghost use Rattle.crush_choose.specs.Rules.{CanRun};
 
 use crate::drafts::{JEWEL, ONE, SOUND, Short, bucket, choose, draft, generated, map_of};
 use Kind::{List, Tree, Uniform};
 use crush_bucket::{Scratch, Tables};
-use crush_choose::limits::SIZE_LIMIT;
-use crush_choose::{Slot, Weights, is_in};
+use crush_choose::{Out, laws, run_rule};
 use crush_map::{Bucket, CrushMap, ItemId, Kind, Listed, MapDraft, Rule, Step, Tunables};
-use crush_rules::{Out, laws, run_rule};
+use crush_select::limits::SIZE_LIMIT;
+use crush_select::{Slot, Weights, is_in};
 use std::alloc::{AllocError, Global};
 use std::process::Abort;
 use std::test::Fail;

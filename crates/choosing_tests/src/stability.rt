@@ -2,14 +2,14 @@
 
 ghost use Rattle.std.specs.Prelude.{◌≡◌};
 ghost use Rattle.crush_bucket.specs.Tables.{scratch_of};
-ghost use Rattle.crush_rules.specs.Rules.{CanRun};
+ghost use Rattle.crush_choose.specs.Rules.{CanRun};
 
 use crate::drafts::{ONE, SOUND, Short, choose, draft, map_of};
 use crate::rules::rule_of;
 use crush_bucket::{Scratch, Tables};
-use crush_choose::Weights;
+use crush_choose::{Out, run_rule, touches};
 use crush_map::{ItemId, Kind, Rule, Step};
-use crush_rules::{Out, run_rule, touches};
+use crush_select::Weights;
 use std::alloc::{AllocError, Global};
 use std::process::Abort;
 use std::test::Fail;

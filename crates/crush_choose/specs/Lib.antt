@@ -1,10 +1,5 @@
-pub mod Weights
-pub mod Least
-pub mod Reach
-pub mod Growing
-pub mod Marks
-pub mod Firstn
-pub mod Entries
-pub mod Indep
-pub mod Laws
+pub mod Rules
+pub mod Outs
+pub mod Trace
+pub mod Stability
 pub mod Private

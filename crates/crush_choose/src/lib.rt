@@ -1,24 +1,16 @@
-//! Choosing items of a CRUSH map: the device test, walks, `firstn` and `indep`.
+//! Running the rules of a CRUSH map, and what lowered reweights leave as it was.
 //!
 //! Sources: Weil et al., 'CRUSH: Controlled, Scalable, Decentralized Placement of Replicated Data'
-//! (SC 2006), and Ceph's `src/crush/mapper.c`. Choosing allocates nothing and can't fail. The tests
-//! are in the crate `choosing_tests`.
+//! (SC 2006), and `crush_do_rule` of Ceph's `src/crush/mapper.c`. A rule that runs allocates
+//! nothing and can't fail. The tests are in the crate `choosing_tests`.
 #![tactic(auto)]
 
-mod effort;
-mod firstn;
-mod indep;
+mod ahead;
 pub mod laws;
 pub mod limits;
-mod mark;
-mod reachable;
-mod row;
-mod walk;
-mod weights;
+mod plan;
+mod rule;
+pub mod stability;
 
-pub use firstn::{FirstnCall, choose_firstn, has, slot_has};
-pub use indep::{IndepCall, choose_indep};
-pub use mark::{Mark, Spot};
-pub use row::{Row, Slot};
-pub use walk::Reached;
-pub use weights::{FULL, Weights, is_in};
+pub use ahead::{can_look_ahead, look_ahead};
+pub use rule::{Out, run_rule, touches};

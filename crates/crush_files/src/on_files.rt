@@ -18,8 +18,8 @@ use sqlite_disk::Disk;
 use std::alloc::{AllocError, Global};
 use std::io::{Read, Write};
 use std::num::NonZeroUsize;
-use tenant_files::{Closed, FileFault, READY_BYTES, close_files, give_up};
 use tenant_cache::CachedStore;
+use tenant_files::{Closed, FileFault, READY_BYTES, close_files, give_up};
 use tenant_store::Store;
 use tenant_watched::{Watch, WatchedStore};
 

@@ -7,10 +7,10 @@ ghost use Rattle.crush_map.specs.Map.{Map};
 ghost use Rattle.crush_map.specs.declared.draft.Rule.{Rule};
 ghost use Rattle.crush_map.specs.declared.draft.Step.{Step};
 ghost use Rattle.crush_bucket.specs.Tables.{TablesView, tables_of};
-ghost use Rattle.crush_choose.specs.Marks.{Slot};
-ghost use Rattle.crush_choose.specs.Weights.{weights_of};
-ghost use Rattle.crush_rules.specs.Stability.{AreLoweredOutside};
-ghost use Rattle.crush_rules.specs.Trace.{rule_trace};
+ghost use Rattle.crush_select.specs.Marks.{Slot};
+ghost use Rattle.crush_select.specs.Weights.{weights_of};
+ghost use Rattle.crush_choose.specs.Stability.{AreLoweredOutside};
+ghost use Rattle.crush_choose.specs.Trace.{rule_trace};
 ghost use Rattle.crush_pool.specs.declared.exceptions.Pair.{Pair};
 ghost use Rattle.crush_pool.specs.declared.pool.PoolParts.{PoolParts};
 ghost use Rattle.crush_pool.specs.declared.states.DeviceState.{DeviceState};
@@ -20,9 +20,9 @@ ghost use Rattle.crush_pool.specs.Placements.{is_up_slot, placed, placement, pri
 ghost use Rattle.crush_pool.specs.Pools.{is_pool, seed_of};
 ghost use Rattle.crush_pool.specs.States.{flags_of, reweights};
 
+use crush_choose::laws::traces_ascend;
+use crush_choose::stability::lowering_outside_the_trace_changes_nothing;
 use crush_kinds::laws::height_is_least;
-use crush_rules::laws::traces_ascend;
-use crush_rules::stability::lowering_outside_the_trace_changes_nothing;
 
 /// With the mask for b groups each number falls into one of them, and a number below b is its own
 /// group. Where b is a power of two the group is the remainder.

@@ -3,7 +3,7 @@
 
 ghost use Rattle.std.specs.Prelude.{◌≡◌, option_map};
 ghost use Rattle.crush_bucket.specs.Tables.{tables_of};
-ghost use Rattle.crush_choose.specs.Weights.{weights_of};
+ghost use Rattle.crush_select.specs.Weights.{weights_of};
 ghost use Rattle.crush_pool.specs.Placements.{rule_numbered};
 ghost use Rattle.crush_pool.specs.States.{flags_of, reweights};
 
@@ -12,9 +12,9 @@ use crate::placing::{Placement, placement_by, rule_with_id, run};
 use crate::pool::Pool;
 use crate::states::{DeviceState, DeviceStates};
 use crush_bucket::{LANES, Scratch, Tables};
-use crush_choose::{Slot, Weights};
+use crush_choose::{Out, can_look_ahead, look_ahead, touches};
 use crush_map::{CrushMap, Rule};
-use crush_rules::{Out, can_look_ahead, look_ahead, touches};
+use crush_select::{Slot, Weights};
 use std::alloc::{AllocError, Global};
 use std::marker::Model;
 
@@ -36,8 +36,8 @@ pub struct Placer<'a> {
 impl<'a> Model for Placer<'a> {
     ghost use Rattle.std.specs.Prelude.{◌≡◌, Some, true};
     ghost use Rattle.crush_bucket.specs.Tables.{tables_of};
-    ghost use Rattle.crush_rules.specs.Rules.{CanRun};
-    ghost use Rattle.crush_choose.specs.Weights.{weights_of};
+    ghost use Rattle.crush_choose.specs.Rules.{CanRun};
+    ghost use Rattle.crush_select.specs.Weights.{weights_of};
     ghost use Rattle.crush_pool.specs.Exceptions.{are_pairs};
     ghost use Rattle.crush_pool.specs.Placements.{rule_numbered};
     ghost use Rattle.crush_pool.specs.Placers.{PoolOnMap};
@@ -61,9 +61,9 @@ impl<'a> Placer<'a> {
     ghost use Rattle.std.specs.Prelude.{◌≡◌, ◌<◌, ◌≤◌, ℕ, List, Some, IfOk, is_some, true, length, option_map};
     ghost use Rattle.crush_map.specs.Faults.{has_number};
     ghost use Rattle.crush_bucket.specs.Tables.{scratch_of, tables_of};
-    ghost use Rattle.crush_rules.specs.Rules.{IsTrace, rule_answer};
-    ghost use Rattle.crush_choose.specs.Weights.{weights_of};
-    ghost use Rattle.crush_choose.specs.declared.limits.TheConstants.{SIZE_LIMIT};
+    ghost use Rattle.crush_choose.specs.Rules.{IsTrace, rule_answer};
+    ghost use Rattle.crush_select.specs.Weights.{weights_of};
+    ghost use Rattle.crush_select.specs.declared.limits.TheConstants.{SIZE_LIMIT};
     ghost use Rattle.crush_pool.specs.Exceptions.{are_pairs, excepted};
     ghost use Rattle.crush_pool.specs.Placements.{placement, rule_numbered};
     ghost use Rattle.crush_pool.specs.Placers.{steps_of};

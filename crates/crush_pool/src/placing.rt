@@ -3,9 +3,9 @@
 ghost use Rattle.std.specs.Prelude.{◌≡◌, ◌<◌, ◌≤◌, List, Some, IfOk, IfErr, IfSome, is_ok, nat_lt, length, option_map, true};
 ghost use Rattle.crush_map.specs.Map.{Map};
 ghost use Rattle.crush_bucket.specs.Tables.{scratch_of, tables_of};
-ghost use Rattle.crush_rules.specs.Rules.{CanRun, IsTrace, rule_answer};
-ghost use Rattle.crush_choose.specs.Weights.{weights_of};
-ghost use Rattle.crush_choose.specs.declared.limits.TheConstants.{SIZE_LIMIT};
+ghost use Rattle.crush_choose.specs.Rules.{CanRun, IsTrace, rule_answer};
+ghost use Rattle.crush_select.specs.Weights.{weights_of};
+ghost use Rattle.crush_select.specs.declared.limits.TheConstants.{SIZE_LIMIT};
 ghost use Rattle.crush_pool.specs.Exceptions.{are_pairs, excepted};
 ghost use Rattle.crush_pool.specs.States.{flags_of, reweights};
 ghost use Rattle.crush_pool.specs.Placements as spec;
@@ -16,10 +16,10 @@ use crate::exceptions::{Excepted, Exceptions};
 use crate::pool::{Pool, PoolFault};
 use crate::states::DeviceStates;
 use crush_bucket::{Scratch, Tables};
-use crush_choose::{Slot, Weights};
+use crush_choose::laws::rules_of_a_map_can_run;
+use crush_choose::{Out, run_rule};
 use crush_map::{CrushMap, Listed, Rule};
-use crush_rules::laws::rules_of_a_map_can_run;
-use crush_rules::{Out, run_rule};
+use crush_select::{Slot, Weights};
 use std::alloc::{AllocError, Global};
 
 /// The placement of a group.

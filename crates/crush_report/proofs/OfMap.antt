@@ -10,9 +10,9 @@ use Rattle.crush_map.specs.declared.draft.Step.{Step}
 use Rattle.crush_map.specs.declared.draft.Step.TheVariants.{Take, SetChooseTries, SetLeafTries, SetVaryR, SetStable, Choose, Emit}
 use Rattle.crush_bucket.specs.Laws.{PicksBelow}
 use Rattle.crush_bucket.specs.Tables.{tables_of}
-use Rattle.crush_rules.specs.Rules.{rule_answer}
-use Rattle.crush_rules.proofs.Items.{AreSlots, TakeIs, answer_are}
-use Rattle.crush_rules.proofs.OfMap.{HasSoundBuckets, IsOf, picks_of}
+use Rattle.crush_choose.specs.Rules.{rule_answer}
+use Rattle.crush_choose.proofs.Items.{AreSlots, TakeIs, answer_are}
+use Rattle.crush_choose.proofs.OfMap.{HasSoundBuckets, IsOf, picks_of}
 use Rattle.crush_pool.specs.Placements.{rule_numbered}
 
 -- the law of the map's rules that is cited here

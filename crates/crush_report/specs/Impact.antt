@@ -4,7 +4,7 @@ use Rattle.std.specs.Prelude.{ℕ, ◌||◌, Bool, List, filter}
 use Rattle.crush_map.specs.Faults.{has_number}
 use Rattle.crush_map.specs.declared.draft.Step.{Step}
 use Rattle.crush_bucket.specs.Tables.{TablesView}
-use Rattle.crush_rules.specs.Trace.{rule_trace}
+use Rattle.crush_choose.specs.Trace.{rule_trace}
 use Rattle.crush_pool.specs.Exceptions.{targets_of}
 use Rattle.crush_pool.specs.Pools.{seed_of}
 use Rattle.crush_pool.specs.declared.exceptions.Pair.{Pair}

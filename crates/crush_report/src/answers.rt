@@ -8,11 +8,11 @@ ghost use Rattle.crush_map.specs.Faults.{has_number};
 ghost use Rattle.crush_report.specs.OnMaps.{answer_on, trace_on};
 
 use crush_bucket::{LANES, Scratch};
-use crush_choose::Slot;
+use crush_choose::Out;
+use crush_choose::laws::traces_ascend;
 use crush_pool::laws::groups_have_the_seeds_of_their_places;
 use crush_pool::{Placer, Pool, mask_of, stable_mod};
-use crush_rules::Out;
-use crush_rules::laws::traces_ascend;
+use crush_select::Slot;
 use std::alloc::{AllocError, Global};
 
 // ---- places

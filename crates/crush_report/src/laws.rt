@@ -4,9 +4,9 @@ ghost use Rattle.std.specs.Prelude.{◌≡◌, ◌≢◌, ◌↔◌, ◌<◌, �
 ghost use Rattle.crush_map.specs.Faults.{has_number};
 ghost use Rattle.crush_map.specs.Map.{Map};
 ghost use Rattle.crush_map.specs.declared.draft.Rule.{Rule};
-ghost use Rattle.crush_choose.specs.Firstn.{has};
-ghost use Rattle.crush_choose.specs.Marks.{Slot};
-ghost use Rattle.crush_choose.specs.Weights.{weight_at, weights_of};
+ghost use Rattle.crush_select.specs.Firstn.{has};
+ghost use Rattle.crush_select.specs.Marks.{Slot};
+ghost use Rattle.crush_select.specs.Weights.{weight_at, weights_of};
 ghost use Rattle.crush_pool.specs.States.{flags_of, reweights};
 ghost use Rattle.crush_pool.specs.declared.exceptions.Pair.{Pair};
 ghost use Rattle.crush_pool.specs.declared.pool.PoolParts.{PoolParts};
@@ -16,8 +16,8 @@ ghost use Rattle.crush_report.specs.Reports.{groups, raw_by, up_by, impact_by, m
 ghost use Rattle.crush_pool.specs.Exceptions.{device_item};
 ghost use Rattle.crush_report.specs.declared.rows.MoveRow.{MoveRow};
 
-use crush_rules::laws::traces_ascend;
-use crush_rules::stability::{
+use crush_choose::laws::traces_ascend;
+use crush_choose::stability::{
     a_changed_answer_has_a_lowered_device_in_its_trace, lowering_outside_the_trace_changes_nothing,
 };
 

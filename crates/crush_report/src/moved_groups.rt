@@ -3,7 +3,7 @@
 ghost use Rattle.std.specs.List.{range_with_len};
 ghost use Rattle.std.specs.Prelude.{◌≡◌, ◌<◌, ◌≤◌, ◌*◌, ◌^◌, Some, IfOk, OnOk, length};
 ghost use Rattle.crush_bucket.specs.Tables.{scratch_of, tables_of};
-ghost use Rattle.crush_choose.specs.declared.limits.TheConstants.{SIZE_LIMIT};
+ghost use Rattle.crush_select.specs.declared.limits.TheConstants.{SIZE_LIMIT};
 ghost use Rattle.crush_pool.specs.Placements.{up_of};
 ghost use Rattle.crush_pool.specs.declared.limits.TheConstants.{GROUP_LIMIT};
 ghost use Rattle.crush_report.specs.Moves as spec;
@@ -14,11 +14,11 @@ ghost use Rattle.crush_report.specs.Reports.{moves};
 use crate::answers::{Answers, run_next};
 use crate::rows::MoveRow;
 use crush_bucket::Scratch;
-use crush_choose::limits::SIZE_LIMIT;
-use crush_choose::{Slot, has, slot_has};
+use crush_choose::Out;
 use crush_map::Listed;
 use crush_pool::{DeviceStates, Placer, is_up_slot};
-use crush_rules::Out;
+use crush_select::limits::SIZE_LIMIT;
+use crush_select::{Slot, has, slot_has};
 use std::alloc::{AllocError, Global};
 
 /// Whether two slots have the same item, or both none.

@@ -1,7 +1,7 @@
 //! Reports on a pool, by a map, the exceptions of the pool and states of devices.
 
 ghost use Rattle.std.specs.Prelude.{◌≡◌, Some, IfOk, is_some, true};
-ghost use Rattle.crush_choose.specs.Weights.{weights_of};
+ghost use Rattle.crush_select.specs.Weights.{weights_of};
 ghost use Rattle.crush_pool.specs.Exceptions.{are_pairs};
 ghost use Rattle.crush_pool.specs.Placements.{rule_numbered};
 ghost use Rattle.crush_pool.specs.States.{flags_of, reweights};
@@ -12,9 +12,9 @@ use crate::rows::{MoveRow, UsageRow};
 use crate::touched_groups::impact_with;
 use crate::usage_counts::usage_with;
 use crush_bucket::Tables;
-use crush_choose::Weights;
 use crush_map::{CrushMap, Listed};
 use crush_pool::{DeviceState, DeviceStates, Exceptions, Placer, Pool, reweights_of};
+use crush_select::Weights;
 use std::alloc::{AllocError, Global};
 
 /// The table of the reweights of these states. `Err(AllocError)`: an allocation failed.

@@ -8,9 +8,9 @@ ghost use Rattle.crush_report.specs.Reports.{impact};
 
 use crate::answers::{Traced, is_traced};
 use crush_bucket::Scratch;
+use crush_choose::Out;
 use crush_map::Listed;
 use crush_pool::Placer;
-use crush_rules::Out;
 use std::alloc::{AllocError, Global};
 
 /// Whether a pair of a group leads to a device, or the device is in the trace of the group. The

@@ -3,9 +3,9 @@
 use crate::answers::Answers;
 use crate::moved_groups::set_up_of;
 use crush_bucket::Scratch;
-use crush_choose::Slot;
+use crush_choose::Out;
 use crush_pool::Placer;
-use crush_rules::Out;
+use crush_select::Slot;
 use std::alloc::{AllocError, Global};
 use std::marker::Model;
 

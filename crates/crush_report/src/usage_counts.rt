@@ -2,8 +2,8 @@
 
 ghost use Rattle.std.specs.Prelude.{◌≡◌, ◌<◌, ◌≤◌, ◌+◌, ◌*◌, ◌^◌, ◌++◌, ◌∷◌, [], ℕ, List, Some, IfOk, length, map};
 ghost use Rattle.crush_bucket.specs.Tables.{scratch_of, tables_of};
-ghost use Rattle.crush_choose.specs.Marks.{Slot};
-ghost use Rattle.crush_choose.specs.declared.limits.TheConstants.{SIZE_LIMIT};
+ghost use Rattle.crush_select.specs.Marks.{Slot};
+ghost use Rattle.crush_select.specs.declared.limits.TheConstants.{SIZE_LIMIT};
 ghost use Rattle.crush_report.specs.OnMaps.{up_from, up_on};
 ghost use Rattle.crush_report.specs.Private.Places.{AreAnswers};
 ghost use Rattle.crush_report.specs.Private.Tallies.{HasRoom, IsTally, count_at, id_bound, row_by};
@@ -14,11 +14,11 @@ use crate::answers::{Answers, run_next};
 use crate::counts::{count_if, count_slot, is_again};
 use crate::rows::UsageRow;
 use crush_bucket::Scratch;
-use crush_choose::Slot;
+use crush_choose::Out;
 use crush_map::{Device, Listed};
 use crush_pool::laws::both_kinds_of_pools_have_the_same_devices;
 use crush_pool::{DeviceStates, Placer, is_up_slot};
-use crush_rules::Out;
+use crush_select::Slot;
 use std::alloc::{AllocError, Global};
 use std::marker::Model;
 
@@ -42,9 +42,9 @@ impl Model for Tally {
 
 impl Tally {
     ghost use Rattle.std.specs.Prelude.{◌≡◌, ◌<◌, ◌≤◌, ◌+◌, ◌*◌, ◌^◌, ◌&&◌, ℕ, Bool, true, List, [], ◌∷◌, ◌++◌, if◌then◌else◌, IfOk, length};
-    ghost use Rattle.crush_choose.specs.Marks.{Slot};
-    ghost use Rattle.crush_choose.specs.Firstn.{slot_has};
-    ghost use Rattle.crush_choose.specs.declared.limits.TheConstants.{SIZE_LIMIT};
+    ghost use Rattle.crush_select.specs.Marks.{Slot};
+    ghost use Rattle.crush_select.specs.Firstn.{slot_has};
+    ghost use Rattle.crush_select.specs.declared.limits.TheConstants.{SIZE_LIMIT};
     ghost use Rattle.crush_pool.specs.Placements.{up_of};
     ghost use Rattle.crush_report.specs.Private.Tallies.{IsTally, IsCounting, HasRoom, HasSameLengths, count_at, row_by};
     ghost use Rattle.crush_pool.specs.Exceptions.{device_item};

@@ -5,7 +5,7 @@ ghost use Rattle.crush_map.specs.Map.{Map, IsMap};
 ghost use Rattle.crush_map.specs.Sound.{has_item};
 ghost use Rattle.crush_map.specs.declared.draft.Rule.{Rule};
 ghost use Rattle.crush_bucket.specs.Tables.{tables_of};
-ghost use Rattle.crush_rules.specs.Rules.{rule_answer};
+ghost use Rattle.crush_choose.specs.Rules.{rule_answer};
 ghost use Rattle.crush_pool.specs.Placements.{primary_of, rule_numbered};
 ghost use Rattle.crush_pool.specs.declared.exceptions.Pair.{Pair};
 ghost use Rattle.crush_pool.specs.declared.pool.PoolParts.{PoolParts};

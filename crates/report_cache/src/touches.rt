@@ -11,11 +11,11 @@ ghost use Rattle.crush_report.specs.Reports.{groups};
 ghost use Rattle.report_cache.specs.Touches.{groups_in};
 
 use crush_bucket::Scratch;
+use crush_choose::Out;
+use crush_choose::laws::traces_ascend;
 use crush_map::Listed;
 use crush_pool::{Pair, Placer, Pool};
 use crush_report::look_ahead;
-use crush_rules::Out;
-use crush_rules::laws::traces_ascend;
 use std::alloc::{AllocError, Global};
 use std::marker::Model;
 

@@ -3,12 +3,12 @@
 use crate::cases::{CASES, Case, DEVICES, POOLS, of_seven, of_six};
 use crate::places::assert_lists;
 use crate::reports::assert_rule;
-use report_cache::{Touches, UpLists, moves_from};
 use crush_pool::Placer;
 use crush_report::{MoveRow, impact, moves};
 use pool_tests::maps::MapTables;
 use pool_tests::placing::PoolCase;
 use pool_tests::pools::{Short, TWELVE};
+use report_cache::{Touches, UpLists, moves_from};
 use std::alloc::Global;
 use std::process::Abort;
 use std::test::Fail;

@@ -6,9 +6,9 @@ use sqlite::{Connection, FileStore, Options};
 use sqlite_disk::{Disk, Files};
 use std::alloc::{AllocError, Global};
 use std::num::NonZeroUsize;
+use tenant_cache::CachedStore;
 use tenant_core::TenantStore;
 use tenant_messages::Call;
-use tenant_cache::CachedStore;
 use tenant_service::{Service, SessionEnd};
 use tenant_store::Store;
 

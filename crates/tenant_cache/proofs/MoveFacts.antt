@@ -1,7 +1,7 @@
 -- Up lists that are kept for a content.
 use Rattle.std.proofs.Common.{◌≡◌, List, Option, Some, None, IfSome, subst, sym}
 use Rattle.crush_content.specs.Contents.{Content, content_of}
-use Rattle.crush_choose.specs.Marks.{Slot}
+use Rattle.crush_select.specs.Marks.{Slot}
 use Rattle.report_cache.specs.UpLists.{AreUpListsOn}
 use Rattle.crush_map.specs.Map.{IsMap, Map}
 use Rattle.crush_pool.specs.Placers.{PoolOnMap}

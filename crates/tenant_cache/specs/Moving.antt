@@ -1,7 +1,7 @@
 -- The up lists of a pool's groups, as they are kept for one content.
 use Rattle.std.specs.Prelude.{◌≡◌, List, Option}
 use Rattle.crush_content.specs.Contents.{Content}
-use Rattle.crush_choose.specs.Marks.{Slot}
+use Rattle.crush_select.specs.Marks.{Slot}
 use Rattle.report_cache.specs.UpLists.{AreUpListsOn}
 use Rattle.crush_map.specs.Map.{IsMap, Map}
 use Rattle.crush_writing.specs.Canonical.{canonical}

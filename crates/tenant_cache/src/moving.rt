@@ -3,7 +3,7 @@
 
 ghost use Rattle.std.specs.Prelude.{◌≡◌, ◌≤◌, ◌*◌, true, Some, IfSome};
 ghost use Rattle.crush_content.specs.Contents.{content_of};
-ghost use Rattle.crush_choose.specs.declared.limits.TheConstants.{SIZE_LIMIT};
+ghost use Rattle.crush_select.specs.declared.limits.TheConstants.{SIZE_LIMIT};
 ghost use Rattle.crush_pool.specs.declared.limits.TheConstants.{GROUP_LIMIT};
 ghost use Rattle.crush_report.specs.Moves.{gained_in};
 ghost use Rattle.crush_report.specs.Reports.{moves};
@@ -11,11 +11,11 @@ ghost use Rattle.tenant_core.specs.Queries.{AsksBetween, IsMovedFor};
 
 use crate::kept::Kept;
 use crush_content::Content;
-use report_cache::{UpLists, moves_from};
 use crush_map::Listed;
 use crush_pool::Placer;
 use crush_report::MoveRow;
 use crush_text::canonical_texts_are_read;
+use report_cache::{UpLists, moves_from};
 use std::alloc::{AllocError, Global};
 use std::marker::Model;
 use std::rc::Rc;
@@ -45,7 +45,7 @@ impl Model for LastUpLists {
 impl LastUpLists {
     ghost use Rattle.std.specs.Prelude.{◌≡◌, ◌≤◌, ◌*◌, true, Some, IfOk, IfSome};
     ghost use Rattle.crush_content.specs.Contents.{content_of};
-    ghost use Rattle.crush_choose.specs.declared.limits.TheConstants.{SIZE_LIMIT};
+    ghost use Rattle.crush_select.specs.declared.limits.TheConstants.{SIZE_LIMIT};
     ghost use Rattle.crush_map.specs.Map.{IsMap};
     ghost use Rattle.crush_pool.specs.Placers.{PoolOnMap};
     ghost use Rattle.crush_pool.specs.declared.limits.TheConstants.{GROUP_LIMIT};

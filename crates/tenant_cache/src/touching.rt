@@ -9,10 +9,10 @@ ghost use Rattle.tenant_cache.specs.Ready.{HasNumber};
 ghost use Rattle.tenant_cache.specs.Touching.{AreLast};
 
 use crate::kept::Kept;
-use report_cache::Touches;
 use crush_map::Listed;
 use crush_pool::Placer;
 use crush_text::canonical_texts_are_read;
+use report_cache::Touches;
 use std::alloc::Global;
 use std::rc::Rc;
 use tenant_core::Touched;

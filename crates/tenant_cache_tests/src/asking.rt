@@ -6,9 +6,9 @@ use std::cell::Cell;
 use std::num::NonZeroUsize;
 use std::process::Abort;
 use std::rc::Rc;
+use tenant_cache::CachedStore;
 use tenant_core::TenantStore;
 use tenant_messages::{CallParts, Reply};
-use tenant_cache::CachedStore;
 use tenant_service::{MemoryStore, Service};
 
 /// The body of an import of a map with one device.

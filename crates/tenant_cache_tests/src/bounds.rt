@@ -2,8 +2,8 @@
 
 use crate::asking::{IMPORT, Load, Over, assert_loads, room_for};
 use std::test::Fail;
-use tenant_core::TenantStore;
 use tenant_cache::CachedStore;
+use tenant_core::TenantStore;
 use tenant_service::MemoryStore;
 use tenant_state::size::INVENTORY_BYTES;
 
@@ -61,9 +61,12 @@ fn a_tenant_larger_than_the_bound_is_kept_while_it_is_the_one_used_last(
 #[test]
 fn the_store_below_is_given_back(rt: HostRuntime) -> Result<(), Fail> {
     let alloc = rt.alloc();
-    let mut store = CachedStore::over(alloc, MemoryStore::new(alloc), TWO, room_for(&rt, 1)).map_err(
-        |(error, _below)| error,
-    )?;
+    let mut store = CachedStore::over(
+        alloc,
+        MemoryStore::new(alloc),
+        TWO,
+        room_for(&rt, 1),
+    ).map_err(|(error, _below)| error)?;
     assert!(rt; store.create("a").is_ok());
     let mut below = store.into_below();
     assert!(rt; matches!(below.load("a"), Ok(Some(_))));

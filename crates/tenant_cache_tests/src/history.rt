@@ -2,7 +2,7 @@
 
 use crate::asking::{Asked, ask};
 use crate::placed::{Store, after, store_over};
-use crush_choose::Slot;
+use crush_select::Slot;
 use std::alloc::{AllocError, Global};
 use std::process::Abort;
 use tenant_core::{Query, TenantStore};

@@ -5,8 +5,8 @@ use std::alloc::{AllocError, Global};
 use std::process::Abort;
 use std::rc::Rc;
 use std::test::Fail;
-use tenant_core::TenantStore;
 use tenant_cache::CachedStore;
+use tenant_core::TenantStore;
 use tenant_service::{MemoryStore, Service};
 
 /// Room for all that these tests keep.

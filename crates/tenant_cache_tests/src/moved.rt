@@ -4,8 +4,8 @@ use crate::asking::{Asked, POOL};
 use crate::history::{Step, assert_history, assert_same};
 use crate::placed::{EXCEPTED, IMPORT_OF_TWO, NOT_EXCEPTED};
 use crate::touched::{CHANGES, IMPORT_OF_BOTH, IN, OUT};
-use crush_choose::Slot;
 use crush_map::ItemId;
+use crush_select::Slot;
 use std::test::Fail;
 
 /// What is asked between versions, each twice, some of which aren't there.

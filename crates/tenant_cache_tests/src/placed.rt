@@ -1,16 +1,16 @@
 //! Placements that a store has at hand.
 
 use crate::asking::{Asked, DOWN, IMPORT, POOL, room_for};
-use crush_choose::Slot;
 use crush_map::ItemId;
 use crush_pool::Placement;
+use crush_select::Slot;
 use std::alloc::{AllocError, Global};
 use std::process::Abort;
 use std::rc::Rc;
 use std::test::Fail;
+use tenant_cache::CachedStore;
 use tenant_core::{Query, TenantStore};
 use tenant_messages::CallParts;
-use tenant_cache::CachedStore;
 use tenant_service::{MemoryStore, Service};
 
 pub(crate) type Store = CachedStore<MemoryStore>;

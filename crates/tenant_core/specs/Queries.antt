@@ -1,6 +1,6 @@
 -- Queries: what is asked of a tenant's state, which stays as it is.
 use Rattle.std.specs.Prelude.{◌≡◌, ◌≤◌, ◌*◌, ℕ, List, Ok, Some}
-use Rattle.crush_choose.specs.declared.limits.TheConstants.{SIZE_LIMIT}
+use Rattle.crush_select.specs.declared.limits.TheConstants.{SIZE_LIMIT}
 use Rattle.crush_pool.specs.Pools.{group_of}
 use Rattle.crush_pool.specs.declared.limits.TheConstants.{GROUP_LIMIT}
 use Rattle.crush_pool.specs.declared.placing.Placement.{Placement}

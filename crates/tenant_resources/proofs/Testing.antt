@@ -1,9 +1,9 @@
 -- The body of the reply to a rule test.
 use Rattle.std.proofs.Common.{◌≡◌, ℕ, List, refl}
 use Rattle.crush_bucket.specs.Tables.{TablesView, tables_of}
-use Rattle.crush_choose.specs.Marks.{Slot}
-use Rattle.crush_rules.specs.Rules.{rule_answer}
-use Rattle.crush_rules.specs.Trace.{rule_trace}
+use Rattle.crush_select.specs.Marks.{Slot}
+use Rattle.crush_choose.specs.Rules.{rule_answer}
+use Rattle.crush_choose.specs.Trace.{rule_trace}
 use Rattle.crush_map.specs.Map.{Map}
 use Rattle.crush_map.specs.declared.draft.Rule.{Rule}
 use Rattle.tenant_resources.specs.RuleTests.{RuleTest, outcome, tested}

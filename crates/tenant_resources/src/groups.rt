@@ -12,10 +12,10 @@ ghost use Rattle.tenant_resources.specs.Private.Members.{placement_members};
 
 use crate::limits::OBJECT_NAME_LIMIT;
 use crush_bucket::Scratch;
+use crush_choose::Out;
 use crush_hash::name_hash;
 use crush_map::Text;
 use crush_pool::Placement;
-use crush_rules::Out;
 use serde_json::Value;
 use std::alloc::{AllocError, Global};
 use std::marker::Model;

@@ -3,21 +3,21 @@
 
 ghost use Rattle.std.specs.Prelude.{◌≡◌, IfOk};
 ghost use Rattle.crush_bucket.specs.Tables.{tables_of};
-ghost use Rattle.crush_rules.specs.Rules.{CanRun, rule_answer};
-ghost use Rattle.crush_rules.specs.Trace.{rule_trace};
+ghost use Rattle.crush_choose.specs.Rules.{CanRun, rule_answer};
+ghost use Rattle.crush_choose.specs.Trace.{rule_trace};
 ghost use Rattle.serde_json.specs.View.{view};
 ghost use Rattle.tenant_messages.specs.Reading.{Reads};
 ghost use Rattle.tenant_messages.specs.Refusals.{Answers};
 ghost use Rattle.tenant_resources.specs.RuleTests as spec;
 
 use crush_bucket::Scratch;
-use crush_choose::limits::SIZE_LIMIT;
-use crush_choose::{Slot, Weights};
+use crush_choose::laws::traces_ascend;
+use crush_choose::{Out, run_rule};
 use crush_map::Rule;
 use crush_map::limits::RULE_ID_LIMIT;
 use crush_pool::rule_with_id;
-use crush_rules::laws::traces_ascend;
-use crush_rules::{Out, run_rule};
+use crush_select::limits::SIZE_LIMIT;
+use crush_select::{Slot, Weights};
 use serde_json::{Value, json};
 use std::alloc::{AllocError, Global};
 use std::marker::Model;
@@ -38,7 +38,7 @@ pub struct RuleTest {
 
 impl Model for RuleTest {
     ghost use Rattle.std.specs.Prelude.{◌≤◌};
-    ghost use Rattle.crush_choose.specs.declared.limits.TheConstants.{SIZE_LIMIT};
+    ghost use Rattle.crush_select.specs.declared.limits.TheConstants.{SIZE_LIMIT};
     ghost use Rattle.tenant_resources.specs.RuleTests.{RuleTest};
 
     ghost Value = { RuleTest };

@@ -14,10 +14,10 @@ ghost use Rattle.table_reads.specs.Found.{version_values, receipt_values};
 ghost use Rattle.tenant_rows.specs.Pages.{IsOfReceipt};
 ghost use Rattle.tenant_rows.specs.Rows as spec;
 
-use crush_choose::FULL;
 use crush_map::Text;
 use crush_map::limits::NUMBER_LIMIT;
 use crush_pool::DeviceState;
+use crush_select::FULL;
 use std::alloc::{AllocError, Global};
 use std::rc::Rc;
 use table_reads::rows::{ReceiptRow, VersionRow};

@@ -7,8 +7,8 @@ ghost use Rattle.tenant_state.specs.Ordered.{is_ascending, is_before_first};
 ghost use Rattle.tenant_state.specs.State.{is_lower_device, with_state};
 
 use crush_content::SharedStates;
-use crush_choose::Weights;
 use crush_pool::{DeviceState, DeviceStates, reweights_of};
+use crush_select::Weights;
 use std::alloc::{AllocError, Global};
 use std::marker::Model;
 
@@ -23,7 +23,7 @@ pub struct Devices {
 
 impl Model for Devices {
     ghost use Rattle.std.specs.Prelude.{◌≡◌, List};
-    ghost use Rattle.crush_choose.specs.Weights.{weights_of};
+    ghost use Rattle.crush_select.specs.Weights.{weights_of};
     ghost use Rattle.crush_pool.specs.States.{flags_of, reweights};
     ghost use Rattle.crush_pool.specs.declared.states.DeviceState.{DeviceState};
 
@@ -39,7 +39,7 @@ impl Model for Devices {
 
 impl Devices {
     ghost use Rattle.std.specs.Prelude.{◌≡◌, [], IfOk};
-    ghost use Rattle.crush_choose.specs.Weights.{weights_of};
+    ghost use Rattle.crush_select.specs.Weights.{weights_of};
     ghost use Rattle.crush_pool.specs.States.{flags_of, reweights};
     ghost use Rattle.tenant_state.specs.Ordered.{if_ascending};
     ghost use Rattle.tenant_state.specs.State.{is_lower_device, with_states};

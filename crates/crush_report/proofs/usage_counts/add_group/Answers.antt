@@ -1,8 +1,8 @@
 use Rattle.std.proofs.Common.{◌≡◌, ◌∙◌, false, ap, sym, List}
 use Rattle.std.specs.List.{list_any}
 use Rattle.crush_bucket.specs.Tables.{tables_of}
-use Rattle.crush_choose.specs.Marks.{Slot}
-use Rattle.crush_choose.specs.Weights.{weights_of}
+use Rattle.crush_select.specs.Marks.{Slot}
+use Rattle.crush_select.specs.Weights.{weights_of}
 use Rattle.crush_pool.specs.Exceptions.{is_of_group}
 use Rattle.crush_pool.specs.Placements.{up_of}
 use Rattle.crush_pool.specs.States.{flags_of, reweights}

@@ -1,6 +1,6 @@
 use Rattle.std.proofs.Common.{◌*◌, arith, ◌≡◌, ◌≤◌, true, ◌∙◌}
 use Rattle.std.specs.List.{range_with_len}
-use Rattle.crush_choose.specs.declared.limits.TheConstants.{SIZE_LIMIT}
+use Rattle.crush_select.specs.declared.limits.TheConstants.{SIZE_LIMIT}
 use Rattle.crush_pool.specs.Pools.{is_pool}
 use Rattle.crush_pool.specs.declared.limits.TheConstants.{GROUP_LIMIT}
 use Rattle.crush_report.specs.Moves.{gained_in, move_rows}

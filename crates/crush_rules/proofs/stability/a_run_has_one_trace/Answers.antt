@@ -1,5 +1,0 @@
-use Rattle.crush_rules.proofs.OneTrace.{one_trace}
-use Rattle.crush_rules.proofs.stability.a_run_has_one_trace.Goals as goal
-
-pub returns : goal.returns
-returns c = one_trace

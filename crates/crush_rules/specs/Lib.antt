@@ -1,5 +1,0 @@
-pub mod Rules
-pub mod Outs
-pub mod Trace
-pub mod Stability
-pub mod Private

@@ -1,3 +1,0 @@
--- What private clauses alone cite: what the code keeps, and the bounds that it stays within. No
--- public clause rests on it.
-pub mod Runs

@@ -1,0 +1,15 @@
+pub mod Least
+pub mod Reweights
+pub mod Growing
+pub mod Placing
+pub mod Reaching
+pub mod Rounds
+pub mod IndepTries
+pub mod Answering
+pub mod Walking
+pub mod Entries
+pub mod Entering
+pub mod Picks
+pub mod WalkEnds
+pub mod Hopeless
+pub mod HopelessRounds

@@ -1,0 +1,10 @@
+pub mod Weights
+pub mod Least
+pub mod Reach
+pub mod Growing
+pub mod Marks
+pub mod Firstn
+pub mod Entries
+pub mod Indep
+pub mod Laws
+pub mod Private

@@ -1,0 +1,5 @@
+-- What private clauses alone cite: what the code keeps, and the bounds that it stays within. No
+-- public clause rests on it.
+pub mod Walks
+pub mod Reachable
+pub mod Decisions
