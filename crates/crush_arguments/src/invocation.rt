@@ -94,8 +94,8 @@ fn invocation_of<'a>(matches: &ArgMatches<'a>) -> Option<Invocation<'a>>
     asked_of(name, given)
 }
 
-/// Reads the program's arguments, and returns what they ask for. `Err(Error)`: they name no command,
-/// or lack what it requires, or ask for help or the version; or an allocation failed
+/// Reads the program's arguments, and returns what they ask for. `Err(Error)`: they name no
+/// command, or lack what it requires, or ask for help or the version; or an allocation failed
 /// (`ErrorKind::OutOfMemory`).
 pub fn read_arguments(alloc: Global, arguments: &[String]) -> Result<Invocation<'_>, Error>
     ensures { IfOk result (λ invocation. spec.Asks (subcommand_of program (map string_bytes arguments.now)) invocation) }
