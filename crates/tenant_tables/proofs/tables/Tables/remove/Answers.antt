@@ -7,7 +7,7 @@ use Rattle.sqlite.specs.State.{HasCleanDisk}
 use Rattle.tenant_tables.specs.Change.{Drops}
 use Rattle.tenant_tables.proofs.Changed.{done_of, crash_of}
 use Rattle.tenant_tables.proofs.Committing.{drops_tenant}
-use Rattle.tenant_tables.proofs.commit.Tables.remove.Goals as goal
+use Rattle.tenant_tables.proofs.tables.Tables.remove.Goals as goal
 
 pub write-requires-clause-sound : goal.write-requires-clause-sound
 write-requires-clause-sound g c clean ready db made =

@@ -1,10 +1,10 @@
-use Rattle.std.proofs.Common.{[], ◌∷◌, arith}
+use Rattle.std.proofs.Common.{arith}
 use Rattle.sqlite.specs.Held.{state}
 use Rattle.sqlite.specs.State.{HasCleanDisk}
 use Rattle.tenant_tables.specs.Change.{Creates}
 use Rattle.tenant_tables.proofs.Changed.{done_of, crash_of}
 use Rattle.tenant_tables.proofs.Committing.{makes_tenant}
-use Rattle.tenant_tables.proofs.commit.Tables.create.Goals as goal
+use Rattle.tenant_tables.proofs.tables.Tables.create.Goals as goal
 
 pub write-requires-clause-sound : goal.write-requires-clause-sound
 write-requires-clause-sound g c clean ready db made = (makes_tenant g.S.Store c.args.self.now.0 ready c.args.name db (c.requires.absent clean) made).1

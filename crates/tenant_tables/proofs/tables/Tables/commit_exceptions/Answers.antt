@@ -10,7 +10,7 @@ use Rattle.tenant_tables.specs.declared.write.Write.{Write}
 use Rattle.tenant_tables.specs.declared.write.Write.TheVariants.{Raise, AddReceipt}
 use Rattle.tenant_tables.proofs.Changed.{done_of, crash_of}
 use Rattle.tenant_tables.proofs.RunFacts.{accepts_exceptions}
-use Rattle.tenant_tables.proofs.commit.Tables.commit_exceptions.Goals as goal
+use Rattle.tenant_tables.proofs.tables.Tables.commit_exceptions.Goals as goal
 
 pub write-requires-clause-sound : goal.write-requires-clause-sound
 write-requires-clause-sound g c clean ready db made =

@@ -8,7 +8,7 @@ use Rattle.tenant_tables.specs.Change.{Accepts, without_pool}
 use Rattle.tenant_tables.specs.declared.write.Write.TheVariants.{ClearExceptions, RemovePool, AddReceipt}
 use Rattle.tenant_tables.proofs.Accepting.{accepts, accepted_sound}
 use Rattle.tenant_tables.proofs.Changed.{done_of, crash_of}
-use Rattle.tenant_tables.proofs.commit.Tables.commit_no_pool.Goals as goal
+use Rattle.tenant_tables.proofs.tables.Tables.commit_no_pool.Goals as goal
 
 pub write-requires-clause-sound : goal.write-requires-clause-sound
 write-requires-clause-sound g c clean ready db made =
