@@ -27,13 +27,13 @@ headline_of TooLong latched old new left ms a b plays = absurd plays
 headline_of ReadFault latched old new left ms a b plays = absurd plays
 
 -- a script whose lines were served
-pub ends_served : (Unasked : Type 0) (Says : ScriptEnd → List (Option Call) → Type 0) (end : ScriptEnd) (reads left from to : Option (List ℕ)) → IsServed end
-    → ServesScript (Says end) reads left → EndsScript Unasked Says (Ok end) reads left from to
-ends_served Unasked Says Done reads left from to is served = served
-ends_served Unasked Says WriteFault reads left from to is served = served
-ends_served Unasked Says Latched reads left from to is served = served
-ends_served Unasked Says TooLong reads left from to is served = absurd is
-ends_served Unasked Says ReadFault reads left from to is served = absurd is
+pub ends_served : (AsBefore : Type 0) (Says : ScriptEnd → List (Option Call) → Type 0) (end : ScriptEnd) (reads left from to : Option (List ℕ)) → IsServed end
+    → ServesScript (Says end) reads left → EndsScript AsBefore Says (Ok end) reads left from to
+ends_served AsBefore Says Done reads left from to is served = served
+ends_served AsBefore Says WriteFault reads left from to is served = served
+ends_served AsBefore Says Latched reads left from to is served = served
+ends_served AsBefore Says TooLong reads left from to is served = absurd is
+ends_served AsBefore Says ReadFault reads left from to is served = absurd is
 
 -- ---- what follows from what is said
 
@@ -44,14 +44,14 @@ serves_map P Q reads left follows s = record {
 }
 
 pub nothing_map : (A B : Type 0) (from to : Option (List ℕ)) → (A → B) → ServesNothing A from to → ServesNothing B from to
-nothing_map A B from to follows s = record { unasked = follows s.unasked; silent = s.silent }
+nothing_map A B from to follows s = record { as_before = follows s.as_before; silent = s.silent }
 
 -- by the end that the script had
 pub ends_map : (A B : Type 0) (P Q : ScriptEnd → List (Option Call) → Type 0) (r : Result ScriptEnd AllocError) (reads left from to : Option (List ℕ)) → (A → B)
     → ((end : ScriptEnd) (ms : List (Option Call)) → r ≡ Ok end → P end ms → Q end ms) → EndsScript A P r reads left from to → EndsScript B Q r reads left from to
-ends_map A B P Q (Ok Done) reads left from to unasked follows s = serves_map (P Done) (Q Done) reads left (λ ms. follows Done ms refl) s
-ends_map A B P Q (Ok WriteFault) reads left from to unasked follows s = serves_map (P WriteFault) (Q WriteFault) reads left (λ ms. follows WriteFault ms refl) s
-ends_map A B P Q (Ok Latched) reads left from to unasked follows s = serves_map (P Latched) (Q Latched) reads left (λ ms. follows Latched ms refl) s
-ends_map A B P Q (Ok TooLong) reads left from to unasked follows s = (nothing_map A B from to unasked s.0, s.1)
-ends_map A B P Q (Ok ReadFault) reads left from to unasked follows s = nothing_map A B from to unasked s
-ends_map A B P Q (Err e) reads left from to unasked follows s = nothing_map A B from to unasked s
+ends_map A B P Q (Ok Done) reads left from to as_before follows s = serves_map (P Done) (Q Done) reads left (λ ms. follows Done ms refl) s
+ends_map A B P Q (Ok WriteFault) reads left from to as_before follows s = serves_map (P WriteFault) (Q WriteFault) reads left (λ ms. follows WriteFault ms refl) s
+ends_map A B P Q (Ok Latched) reads left from to as_before follows s = serves_map (P Latched) (Q Latched) reads left (λ ms. follows Latched ms refl) s
+ends_map A B P Q (Ok TooLong) reads left from to as_before follows s = (nothing_map A B from to as_before s.0, s.1)
+ends_map A B P Q (Ok ReadFault) reads left from to as_before follows s = nothing_map A B from to as_before s
+ends_map A B P Q (Err e) reads left from to as_before follows s = nothing_map A B from to as_before s

@@ -78,7 +78,7 @@ script_from_nothing : (end : ScriptEnd) (latched : Bool) (old new : States) (lef
 script_from_nothing end latched old new left ms a b empty works plays =
     record { plays = to_nothing end latched old new left ms a b empty works plays.plays; headline = writes_from_nothing old ms a b empty plays.headline }
 
-module _ (Unasked Honest : Type 0) (latched : Bool) (old new : States) (left : Outcomes) (reads rest a b : Option (List ℕ)) (honest : Honest) (empty : IsEmpty old) where
+module _ (AsBefore Honest : Type 0) (latched : Bool) (old new : States) (left : Outcomes) (reads rest a b : Option (List ℕ)) (honest : Honest) (empty : IsEmpty old) where
   abbrev pub Said : ScriptEnd → List (Option Call) → Type 0
   Said end ms = Honest → PlaysScript end latched old new left ms a b
 
@@ -86,12 +86,12 @@ module _ (Unasked Honest : Type 0) (latched : Bool) (old new : States) (left : O
   FromNothing end ms = PlaysScriptFromNothing end ms a b
 
   -- a script that ended so on a store that never latches
-  pub ends_from_nothing : (r : Result ScriptEnd AllocError) → latched ≡ false → LatchesAs r latched → EndsScript Unasked Said r reads rest a b → EndsScript ⊤ FromNothing r reads rest a b
+  pub ends_from_nothing : (r : Result ScriptEnd AllocError) → latched ≡ false → LatchesAs r latched → EndsScript AsBefore Said r reads rest a b → EndsScript ⊤ FromNothing r reads rest a b
   ends_from_nothing (Ok Done) works latch s =
       serves_map (Said Done) (FromNothing Done) reads rest (λ ms said. script_from_nothing Done latched old new left ms a b empty (λ is. cc) (said honest)) s
   ends_from_nothing (Ok WriteFault) works latch s =
       serves_map (Said WriteFault) (FromNothing WriteFault) reads rest (λ ms said. script_from_nothing WriteFault latched old new left ms a b empty (λ is. cc) (said honest)) s
   ends_from_nothing (Ok Latched) works latch s = absurd (false≢true (sym works ∙ latch))
-  ends_from_nothing (Ok TooLong) works latch s = (nothing_map Unasked ⊤ a b (λ _. tt) s.0, s.1)
-  ends_from_nothing (Ok ReadFault) works latch s = nothing_map Unasked ⊤ a b (λ _. tt) s
-  ends_from_nothing (Err e) works latch s = nothing_map Unasked ⊤ a b (λ _. tt) s
+  ends_from_nothing (Ok TooLong) works latch s = (nothing_map AsBefore ⊤ a b (λ _. tt) s.0, s.1)
+  ends_from_nothing (Ok ReadFault) works latch s = nothing_map AsBefore ⊤ a b (λ _. tt) s
+  ends_from_nothing (Err e) works latch s = nothing_map AsBefore ⊤ a b (λ _. tt) s

@@ -72,7 +72,7 @@ fn next_message<R: Read, W: Write>(
     Some(read_message(reader, &mut buffers.read, &mut buffers.body))
 }
 
-/// Serves one message and holds its reply, where so many messages may come at most.
+/// Serves one message and holds its reply, where at most `most` messages may come.
 fn serve_one<T: TenantStore, R: Read, W: Write>(
     buffers: &mut Buffers,
     service: &mut Service<T>,
