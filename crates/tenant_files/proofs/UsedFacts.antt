@@ -57,10 +57,10 @@ module _ {D : Type 0} {g : disk.Ghosts D} where
   -- ---- a file that was used
 
   -- by a store that worked at first
-  pub uses_files : SeenMayStay g → (store : Held (FileStore D g) × Bool) (last : Held (FileStore D g)) (copied : Result (Unit {0}) FileFault) (files : Files D) (is_done : Type 0)
+  pub uses_files : SeenMayStay g → (store : Held (FileStore D g) × Bool) (last : Held (FileStore D g)) (copied : Result (Unit {0}) FileFault) (files : Files D) (IsDone : Type 0)
       (Says : Held (FileStore D g) → Type 0) → store.1 ≡ false → GivesBack last copied files → (HasCleanDisk (file_state last) → IsHonest over_files store)
-      → (HasCleanDisk (file_state last) → is_done → IsReady (file_state last)) → Says last → UsesFiles g store.0 copied files is_done Says
-  uses_files stays store last copied files is_done Says works given honest ready says = record {
+      → (HasCleanDisk (file_state last) → IsDone → IsReady (file_state last)) → Says last → UsesFiles g store.0 copied files IsDone Says
+  uses_files stays store last copied files IsDone Says works given honest ready says = record {
     last = last;
     given = given;
     was_clean = λ clean. (honest (given_clean last copied files given clean)).clean;
@@ -72,13 +72,13 @@ module _ {D : Type 0} {g : disk.Ghosts D} where
   }
 
   -- with the opening
-  pub uses_file : (image : Image) (first : Held (FileStore D g)) (copied : Result (Unit {0}) FileFault) (files : Files D) (is_done : Type 0) (Said : Held (FileStore D g) → Type 0)
+  pub uses_file : (image : Image) (first : Held (FileStore D g)) (copied : Result (Unit {0}) FileFault) (files : Files D) (IsDone : Type 0) (Said : Held (FileStore D g) → Type 0)
       (Says : Type 0 → States → States → Outcomes → Type 0) → IsFound g (HasCleanDisk (file_state first)) image (StandsFor (file_state first).now.trees)
-      → UsesFiles g first copied files is_done Said
+      → UsesFiles g first copied files IsDone Said
       → ((last : Held (FileStore D g)) (old : States) → (AreClean g files.log files.db → Same (StandsFor (file_state first).now.trees) old)
       → (last ≡ first → AreClean g files.log files.db → AreAsBefore old (StatesIn (file_state last).committed) (MayStandFor over_files last)) → Said last
-      → Says (AreClean g files.log files.db) old (StatesIn (file_state last).committed) (MayStandFor over_files last)) → UsesFile g image copied files is_done Says
-  uses_file image first copied files is_done Said Says opening uses follows =
+      → Says (AreClean g files.log files.db) old (StatesIn (file_state last).committed) (MayStandFor over_files last)) → UsesFile g image copied files IsDone Says
+  uses_file image first copied files IsDone Said Says opening uses follows =
       let rows = StandsFor (file_state first).now.trees in
       let old = StatesIn (file_state opening.was).committed in
       let same : AreClean g files.log files.db → Same rows old = λ clean. opening.same (uses.was_clean clean) in record {

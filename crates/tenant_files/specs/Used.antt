@@ -22,25 +22,25 @@ pub record AreAsBefore (old new : States) (may_leave : Outcomes) : Type 0 where
   pub left : LeavesAsItWas old may_leave
 
 -- From a store over a file, whose connection was `first`: `last` is the connection as it gave the
--- two files back. This is said of it, and what is said of states has the premise that the disk
+-- two files back, of which `Says` is said. What is said of states has the premise that the disk
 -- returned what was written.
-pub record UsesFiles {D : Type 0} (g : disk.Ghosts D) (first : Held (FileStore D g)) (copied : Result (Unit {0}) FileFault) (files : Files D) (is_done : Type 0) (Says : Held (FileStore D g) → Type 0) : Type 0 where
+pub record UsesFiles {D : Type 0} (g : disk.Ghosts D) (first : Held (FileStore D g)) (copied : Result (Unit {0}) FileFault) (files : Files D) (IsDone : Type 0) (Says : Held (FileStore D g) → Type 0) : Type 0 where
   pub last : Held (FileStore D g)
   pub given : GivesBack last copied files
   pub was_clean : AreClean g files.log files.db → HasCleanDisk (file_state first)
   -- the rows at the beginning stood for the tenants in the file
   pub began : AreClean g files.log files.db → AreAsBefore (StandsFor (file_state first).now.trees) (StatesIn (file_state first).committed) (MayStandFor over_files first)
-  -- once all is done the file has this service's tables
-  pub tables : AreClean g files.log files.db → is_done → IsStoreSchema (file_state last).committed.schema
+  -- once all is done, the file has this service's tables
+  pub tables : AreClean g files.log files.db → IsDone → IsStoreSchema (file_state last).committed.schema
   pub says : Says last
 
 -- From what the two files held: `was` is the database as the opening found it in them, and `last`
--- the connection as it gave them back. This is said where the disk returned what was written, of
--- the states of tenants in `was` and in `last`, and of what a crash may leave.
-pub record UsesFile {D : Type 0} (g : disk.Ghosts D) (image : Image) (copied : Result (Unit {0}) FileFault) (files : Files D) (is_done : Type 0) (Says : Type 0 → States → States → Outcomes → Type 0) : Type 0 where
+-- the connection as it gave them back. `Says` is said of the states of tenants in `was` and `last`,
+-- and of what a crash may leave, where the disk returned what was written.
+pub record UsesFile {D : Type 0} (g : disk.Ghosts D) (image : Image) (copied : Result (Unit {0}) FileFault) (files : Files D) (IsDone : Type 0) (Says : Type 0 → States → States → Outcomes → Type 0) : Type 0 where
   pub was : Held (FileStore D g)
   pub finds : Finds (AreClean g files.log files.db) image was
   pub last : Held (FileStore D g)
   pub given : GivesBack last copied files
-  pub tables : AreClean g files.log files.db → is_done → IsStoreSchema (file_state last).committed.schema
+  pub tables : AreClean g files.log files.db → IsDone → IsStoreSchema (file_state last).committed.schema
   pub says : Says (AreClean g files.log files.db) (StatesIn (file_state was).committed) (StatesIn (file_state last).committed) (MayStandFor over_files last)
