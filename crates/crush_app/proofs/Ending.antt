@@ -4,10 +4,11 @@ use Rattle.std.specs.Io.KnownBytes.{Keeps}
 use Rattle.std.specs.declared.alloc.AllocError.{AllocError}
 use Rattle.tenant_core.specs.States.{Outcomes, States}
 use Rattle.tenant_messages.specs.declared.call.Call.{Call}
+use Rattle.tenant_messages.specs.declared.reply.Reply.{Reply}
 use Rattle.crush_app.proofs.Inputs.{of_script}
 use Rattle.crush_app.proofs.Playing.{headline_latched, headline_part, headline_whole}
 use Rattle.crush_app.specs.End.{EndsScript, IsTooLong, ServesNothing, ServesScript}
-use Rattle.crush_app.specs.Play.{PlaysTo, WritesHeadline}
+use Rattle.crush_app.specs.Play.{PlaysBy, PlaysTo, PlaysUpToBy, WritesFirst, WritesHeadline}
 use Rattle.crush_app.specs.Private.Ending.{IsServed}
 use Rattle.crush_app.specs.Script.{messages}
 use Rattle.crush_app.specs.declared.play.ScriptEnd.{ScriptEnd}
@@ -34,6 +35,40 @@ ends_served AsBefore Says WriteFault reads left from to is served = served
 ends_served AsBefore Says Latched reads left from to is served = served
 ends_served AsBefore Says TooLong reads left from to is served = absurd is
 ends_served AsBefore Says ReadFault reads left from to is served = absurd is
+
+-- ---- what is met by the calls of messages that were served
+
+module _ (M N : List Call → List Reply → Type 0) (follows : (cs : List Call) (rs : List Reply) → M cs rs → N cs rs) (ms : List (Option Call)) (from to : Option (List ℕ)) where
+  pub plays_map : PlaysBy M ms from to → PlaysBy N ms from to
+  plays_map plays = record { replies = plays.replies; meets = follows _ _ plays.meets; written = plays.written }
+
+  pub cut_map : PlaysUpToBy M ms from to → PlaysUpToBy N ms from to
+  cut_map plays = record {
+    before = plays.before;
+    cut = plays.cut;
+    later = plays.later;
+    all = plays.all;
+    replies = plays.replies;
+    last = plays.last;
+    count = plays.count;
+    meets = follows _ _ plays.meets;
+    line = plays.line;
+    rest = plays.rest;
+    some = plays.some;
+    part = plays.part;
+    written = plays.written;
+  }
+
+  pub first_map : WritesFirst M ms from to → WritesFirst N ms from to
+  first_map writes = record {
+    served = writes.served;
+    later = writes.later;
+    all = writes.all;
+    replies = writes.replies;
+    rest = writes.rest;
+    written = writes.written;
+    headline = follows _ _ writes.headline;
+  }
 
 -- ---- what follows from what is said
 
