@@ -79,7 +79,7 @@ serves_map P Q reads left follows s = record {
 }
 
 pub nothing_map : (A B : Type 0) (from to : Option (List ℕ)) → (A → B) → ServesNothing A from to → ServesNothing B from to
-nothing_map A B from to follows s = record { as_before = follows s.as_before; silent = s.silent }
+nothing_map A B from to follows s = record { as_before = follows s.as_before; unwritten = s.unwritten }
 
 -- by the end that the script had
 pub ends_map : (A B : Type 0) (P Q : ScriptEnd → List (Option Call) → Type 0) (r : Result ScriptEnd AllocError) (reads left from to : Option (List ℕ)) → (A → B)

@@ -19,7 +19,7 @@ pub record ServesScript (Says : List (Option Call) → Type 0) (reads left : Opt
 -- No line was served, so that the store is as before, and nothing was written.
 pub record ServesNothing (AsBefore : Type 0) (from to : Option (List ℕ)) : Type 0 where
   pub as_before : AsBefore
-  pub silent : Keeps from to
+  pub unwritten : Keeps from to
 
 -- More was read than a script may have.
 pub record IsTooLong (reads left : Option (List ℕ)) : Type 0 where

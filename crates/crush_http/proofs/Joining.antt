@@ -29,7 +29,7 @@ module _ {T : Type 0} (latched : T → Bool) (states : T → States) (leave : T 
         (record { one = λ _ t s u. one old t s u (back is) works; settled = λ _ t found there. settled old t found (back is) works there })
         (record { one = λ still t s u. one new t s u is still; settled = λ still t found there. settled new t found is still there })
         (serves is) silent (crash is works);
-    shut = λ was t found there. subst (λ x. leave x t found) (rests was) there;
+    stays = λ was t found there. subst (λ x. leave x t found) (rests was) there;
   }
 
 -- ---- a run
@@ -53,7 +53,7 @@ module _ {T : Type 0} (latched : T → Bool) (states : T → States) (leave : T 
         meets = run_on (latched mid) (latched new) (states old) (states mid) (states new) cs rs call reply first.meets (one.serves is) one.silent one.rests;
         session = λ works.
             session_more (states old) (states mid) (leave mid) (leave new) (latched mid) cs rs call reply first.meets (first.session works) (one.session is)
-            (λ was. one.silent (one.rests was)) one.shut;
+            (λ was. one.silent (one.rests was)) one.stays;
       }
 
   -- no call more
