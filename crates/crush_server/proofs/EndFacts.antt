@@ -3,6 +3,7 @@ use Rattle.std.proofs.Common.{◌≡◌, ◌≢◌, ◌∙◌, ◌||◌, ℕ, �
 use Rattle.std.specs.Prelude.{⊤}
 use Rattle.sqlite_disk.specs.declared.Disk as disk
 use Rattle.sqlite_disk.specs.declared.Files.{Files}
+use Rattle.sqlite_wal.proofs.LogLemmas.{SeenMayStay}
 use Rattle.sqlite_wal.specs.Reads.{AreClean}
 use Rattle.sqlite_wal.specs.Recovery.{Image}
 use Rattle.sqlite_store.specs.declared.store.FileStore.{FileStore}
@@ -15,7 +16,7 @@ use Rattle.tenant_core.specs.States.{Outcomes, Same, States}
 use Rattle.tenant_files.proofs.ClosedFacts.{given_clean}
 use Rattle.tenant_files.proofs.StoredFacts.{meets_same, same_states}
 use Rattle.tenant_files.proofs.TableFacts.{of_store}
-use Rattle.tenant_files.proofs.UsedFacts.{held, uses_file}
+use Rattle.tenant_files.proofs.UsedFacts.{held, uses_file, uses_files}
 use Rattle.tenant_files.specs.Closed.{GivesBack}
 use Rattle.tenant_files.specs.Opened.{IsFound}
 use Rattle.tenant_files.specs.Stored.{MayStandFor}
@@ -111,23 +112,25 @@ ready_then {S = S} g last conn end ended honest latch clean works =
 
 -- ---- over files
 
-module _ {D : Type 0} (g : disk.Ghosts D) (first last : Held (FileStore D g)) (end : Result (Unit {0}) ServerFault) (copied : Result (Unit {0}) FileFault) (files : Files D) (most : ℕ)
-    (from to : Option Clients) where
-  abbrev OnTables : List Call → List Reply → Type 0
-  OnTables calls replies =
+module _ {D : Type 0} (g : disk.Ghosts D) (first : Held (FileStore D g)) (end : Result (Unit {0}) ServerFault) (files : Files D) (most : ℕ) (from to : Option Clients) where
+  abbrev OnTables : Held (FileStore D g) → List Call → List Reply → Type 0
+  OnTables last calls replies =
       HasCleanDisk (file_state last)
       → ServesSession false (has_failed end) (StandsFor (file_state first).now.trees) (StandsFor (file_state last).now.trees) (MayStandFor over_files last) calls replies
 
-  abbrev OnFiles : List Call → List Reply → Type 0
-  OnFiles calls replies =
+  abbrev OnFiles : Held (FileStore D g) → List Call → List Reply → Type 0
+  OnFiles last calls replies =
       AreClean g files.log files.db
       → ServesSession false (has_failed end) (StandsFor (file_state first).now.trees) (StatesIn (file_state last).committed) (MayStandFor over_files last) calls replies
 
+  abbrev Said : Held (FileStore D g) → Type 0
+  Said last = EndsServing ((last ≡ first) × (to ≡ from)) (OnFiles last) end most from to
+
   -- at the closing the rows are what the file holds
-  pub ends_on_files : GivesBack last copied files → (HasCleanDisk (file_state last) → has_failed end ≡ false → IsReady (file_state last))
-      → EndsServing ((last ≡ first) × (to ≡ from)) OnTables end most from to → EndsServing ((last ≡ first) × (to ≡ from)) OnFiles end most from to
-  ends_on_files given ready said =
-      serving_map ((last ≡ first) × (to ≡ from)) ((last ≡ first) × (to ≡ from)) OnTables OnFiles end most from to (λ u. u)
+  on_files : (last : Held (FileStore D g)) (copied : Result (Unit {0}) FileFault) → GivesBack last copied files → (HasCleanDisk (file_state last) → has_failed end ≡ false → IsReady (file_state last))
+      → EndsServing ((last ≡ first) × (to ≡ from)) (OnTables last) end most from to → Said last
+  on_files last copied given ready said =
+      serving_map ((last ≡ first) × (to ≡ from)) ((last ≡ first) × (to ≡ from)) (OnTables last) (OnFiles last) end most from to (λ u. u)
       (λ is cs rs serves clean.
       let now = given_clean last copied files given clean in
       let old = StandsFor (file_state first).now.trees in
@@ -135,13 +138,18 @@ module _ {D : Type 0} (g : disk.Ghosts D) (first last : Held (FileStore D g)) (e
       (λ works. held last (ready now works)) (serves now))
       said
 
--- ---- with the opening
+-- by a store that worked at first
+pub ends_on_files : {D : Type 0} (g : disk.Ghosts D) (store : Held (FileStore D g) × Bool) (last : Held (FileStore D g)) (end : Result (Unit {0}) ServerFault) (copied : Result (Unit {0}) FileFault)
+    (files : Files D) (most : ℕ) (from to : Option Clients) → SeenMayStay g → store.1 ≡ false → GivesBack last copied files → (HasCleanDisk (file_state last) → IsHonest over_files store)
+    → (HasCleanDisk (file_state last) → has_failed end ≡ false → IsReady (file_state last))
+    → EndsServing ((last ≡ store.0) × (to ≡ from)) (OnTables g store.0 end files most from to last) end most from to → ServesOnFiles g store.0 end copied files most from to
+ends_on_files g store last end copied files most from to stays works given honest ready said =
+    uses_files stays store last copied files (has_failed end ≡ false) (Said g store.0 end files most from to) works given honest ready
+    (on_files g store.0 end files most from to last copied given ready said)
 
+-- with the opening
 module _ {D : Type 0} (g : disk.Ghosts D) (image : Image) (first : Held (FileStore D g)) (end : Result (Unit {0}) ServerFault) (copied : Result (Unit {0}) FileFault) (files : Files D) (most : ℕ)
     (from to : Option Clients) where
-  abbrev Said : Held (FileStore D g) → Type 0
-  Said last = EndsServing ((last ≡ first) × (to ≡ from)) (OnFiles g first last end copied files most from to) end most from to
-
   abbrev Says : Type 0 → States → States → Outcomes → Type 0
   Says Clean before after may_leave =
       EndsServing ((Clean → AreAsBefore before after may_leave) × (to ≡ from)) (λ calls replies. Clean → ServesSession false (has_failed end) before after may_leave calls replies) end most from to
@@ -149,12 +157,12 @@ module _ {D : Type 0} (g : disk.Ghosts D) (image : Image) (first : Held (FileSto
   pub ends_on_file : IsFound g (HasCleanDisk (file_state first)) image (StandsFor (file_state first).now.trees) → ServesOnFiles g first end copied files most from to
       → ServesOnFile g image end copied files most from to
   ends_on_file opening uses =
-      uses_file image first copied files (has_failed end ≡ false) Said Says opening uses
+      uses_file image first copied files (has_failed end ≡ false) (Said g first end files most from to) Says opening uses
       (λ last old same as_before said.
       let rows = StandsFor (file_state first).now.trees in
       let new = StatesIn (file_state last).committed in
       serving_map ((last ≡ first) × (to ≡ from)) ((AreClean g files.log files.db → AreAsBefore old new (MayStandFor over_files last)) × (to ≡ from))
-      (OnFiles g first last end copied files most from to)
+      (OnFiles g first end files most from to last)
       (λ calls replies. AreClean g files.log files.db → ServesSession false (has_failed end) old new (MayStandFor over_files last) calls replies) end most from to
       (λ u. (as_before u.0, u.1))
       (λ is cs rs serves clean. serves_same (has_failed end) rows old new new (MayStandFor over_files last) cs rs (same clean) (λ _. same_states new) (serves clean)) said)

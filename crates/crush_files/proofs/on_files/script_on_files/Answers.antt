@@ -1,7 +1,4 @@
 -- What the tables say after the script is what the file holds.
-use Rattle.std.proofs.Common.{◌≡◌, Ok}
-use Rattle.tenant_files.proofs.UsedFacts.{uses_files}
-use Rattle.crush_app.specs.declared.play.ScriptEnd.TheVariants.{Done}
 use Rattle.crush_files.proofs.EndFacts.{ends_on_files}
 use Rattle.crush_files.proofs.on_files.script_on_files.Goals as goal
 
@@ -9,7 +6,6 @@ pub returns-clause-ends : goal.returns-clause-ends
 returns-clause-ends g c =
     let played = c.script_on_tables-end in
     let closed = c.close_unless_failed-closed in
-    uses_files g.met.D.Disk.seen_may_stay c.args.store played.result.1 closed.result.copied closed.result.files (played.result.0 ≡ Ok Done) _ c.requires.works closed.ensures.given
-    played.ensures.honest played.ensures.ready
-    (ends_on_files g.D.Disk c.args.store.0 played.result.1 played.result.0 closed.result.copied closed.result.files (g.R.Read.remaining c.args.reader.now) (g.R.Read.remaining played.new.reader)
-    (g.W.Write.contents c.args.writer.now) (g.W.Write.contents played.new.writer) closed.ensures.given played.ensures.ready played.ensures.ends)
+    ends_on_files g.D.Disk c.args.store played.result.1 played.result.0 closed.result.copied closed.result.files (g.R.Read.remaining c.args.reader.now) (g.R.Read.remaining played.new.reader)
+    (g.W.Write.contents c.args.writer.now) (g.W.Write.contents played.new.writer) g.met.D.Disk.seen_may_stay c.requires.works closed.ensures.given played.ensures.honest played.ensures.ready
+    played.ensures.ends
