@@ -48,7 +48,7 @@ LINK = re.compile(r"\[[^\]]*\]\(([^)\s]*)\)")
 CONST = re.compile(r"^pub const (\w+): \w+ = (-?[\d_]+);$")
 LIMITED = re.compile(r"^\|[^|]*\| (-?[\d,]+) \| `(\w+)` \| `(\w+)` \|$")
 LIMITS = "docs/REQUESTS.md"
-HELP = "crates/crushcalc/src/arguments.rt"
+HELP = "crates/crush_arguments/src/command.rt"
 # the code of a fault: the crate and the const of its limit, and the number that its line of the
 # help has
 HELPED = {

@@ -1,7 +1,7 @@
 use Rattle.std.proofs.Common.{rules, ◌≡◌, ◌∙◌, sym, true, false}
 use Rattle.crush_map.specs.Faults.{has_id}
 use Rattle.crush_map.proofs.Checks.{items-more}
-use Rattle.crush_map.proofs.known.Known.items_fault.Goals as goal
+use Rattle.crush_map.proofs.known.Known.items_fault_behind.Goals as goal
 
 pub loop-item-preserved : goal.loop-item-preserved
 loop-item-preserved c =
