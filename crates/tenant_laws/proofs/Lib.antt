@@ -1,0 +1,5 @@
+pub mod Lists
+pub mod Answered
+pub mod Doubtful
+pub mod Kept
+pub mod Counted
