@@ -92,7 +92,7 @@ as_many Meets inputs outputs they =
 pub told_more : (Meets : Says) (count : ℕ) (old new : Clients) → ServesClients Meets count (Some old) (Some new)
     → (new.coming ≡ drop count old.coming) × (length new.answered ≡ length old.answered + length (all_sent (take count old.coming)))
 told_more Meets count old new serves =
-    let (sent, becomes) = serves.told in
+    let (sent, becomes) = serves.known in
     let is : new ≡ record { coming = drop count old.coming; answered = old.answered ++ serves.outputs } = cc in
     let many : length serves.outputs ≡ length serves.inputs = as_many Meets serves.inputs serves.outputs (apart serves.inputs serves.outputs Meets serves.each) in (
       ap (λ (c : Clients). c.coming) is,

@@ -10,8 +10,8 @@ ghost use Rattle.tenant_messages.specs.declared.call.Call.{Call};
 ghost use Rattle.tenant_messages.specs.declared.reply.Reply.{Reply};
 
 /// Clients are served where each is served by itself, and the calls of all are those of the first,
-/// then those of the second, and so on, and so are the replies. A listener that tells its clients
-/// has one more output for each that sent something.
+/// then those of the second, and so on, and so are the replies. Where contracts know the clients
+/// of a listener, it has one more output for each that sent something.
 pub fn clients_are_served_one_after_the_other()
     ensures apart { (calls : List Call) (replies : List Reply) (inputs outputs : List (List ℕ)) → ServesEach (AreJust calls replies) inputs outputs
         → (clients : List Client) × (map (λ c. c.input) clients ≡ inputs) × (map (λ c. c.output) clients ≡ outputs) × All IsServed clients

@@ -5,3 +5,4 @@
 
 pub mod sessions;
 pub mod sizes;
+pub mod stops;
