@@ -3,3 +3,4 @@ pub mod Answered
 pub mod Doubtful
 pub mod Kept
 pub mod Counted
+pub mod Anew

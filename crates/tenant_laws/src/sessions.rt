@@ -1,14 +1,25 @@
 //! Laws of sessions and histories: each contract holds of the definitions alone.
 
-ghost use Rattle.std.specs.Prelude.{◌≡◌, ◌↔◌, ◌⊎◌, ◌≤◌, ◌<◌, ◌++◌, ℕ, List, [], ◌∷◌, length, slice_get, suc, true, false, Option, Some, None, Contains};
+ghost use Rattle.std.specs.Prelude.{◌≡◌, ◌↔◌, ◌⊎◌, ◌≤◌, ◌<◌, ◌++◌, ℕ, List, [], ◌∷◌, length, slice_get, suc, true, false, Ok, Option, Some, None, Contains};
 ghost use Rattle.std.specs.List.{All};
 ghost use Rattle.crush_map.specs.Sound.{IsEachOnce};
+ghost use Rattle.tenant_core.specs.Request.{request_of};
 ghost use Rattle.tenant_core.specs.Step.{is_of, step};
+ghost use Rattle.tenant_core.specs.declared.request.Action.{Action};
 ghost use Rattle.tenant_history.specs.History.{Explains, IsHistoryFor, IsKeptOf, IsSoundFor, Kept, MayLeave, Session, calls_of, joined, kept_acknowledged};
 ghost use Rattle.tenant_messages.specs.declared.call.Call.{Call};
 ghost use Rattle.tenant_messages.specs.declared.reply.Reply.{Reply};
-ghost use Rattle.tenant_state.specs.State.{TenantState};
+ghost use Rattle.tenant_state.specs.Receipts.{receipt_of};
+ghost use Rattle.tenant_state.specs.State.{TenantState, fresh};
 ghost use Rattle.tenant_laws.specs.Sessions.{HasNoDoubtOf, IsAcknowledged, IsInDoubt, IsOfSession, after_acknowledged, before_place};
+
+/// An absent tenant is made by its creation alone, and then has nothing: no receipt of one of the
+/// same name that was dropped, so each request number is new.
+pub fn a_tenant_made_again_begins_anew()
+    ensures made { (call : Call) (state : TenantState) → (step call None).state ≡ Some state → state ≡ fresh }
+    ensures by { (call : Call) (state : TenantState) → (step call None).state ≡ Some state → (tenant : List ℕ) × (request_of call ≡ Ok (record { tenant = tenant; action = Action.CreateTenant })) }
+    ensures numbers { (number : List ℕ) → receipt_of number fresh.receipts ≡ None }
+{}
 
 /// In a sound session the reply to each acknowledged call is the step's, on the state that the
 /// tenant's acknowledged calls before it leave.
