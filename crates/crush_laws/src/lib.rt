@@ -27,7 +27,8 @@ pub fn items_of_a_map_have_one_tree()
 }
 
 /// A walk over the numbers of a map's buckets ends where the walk down the tree ends, whatever the
-/// attempts are; so do those of choose firstn, with one attempt at all buckets, and of choose indep.
+/// attempts are: so does one of choose firstn, with one attempt at all buckets, and one of choose
+/// indep.
 pub fn walks_go_down_the_tree()
     ensures any { (m : Map) (bucket x wanted : ℕ) (rr : BucketView → ℕ) (tree : Tree) → IsMap m → IsTreeAt m bucket tree
         → reach (tables_of m) x (λ b. rr (bucket_at (tables_of m) b)) wanted bucket ≡ walk x rr wanted tree }

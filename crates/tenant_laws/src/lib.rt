@@ -1,6 +1,6 @@
-//! Laws of the definitions of sessions, histories and stops, and of the bytes that what tenants have
-//! takes. No crate of the program stands on them: a definition that says less or more than it should
-//! breaks one.
+//! Laws of the definitions of sessions, histories and stops, and of the bytes that tenants take. No
+//! crate of the program stands on them: a definition that says less or more than it should breaks
+//! one.
 #![tactic(auto)]
 
 pub mod sessions;
