@@ -24,7 +24,7 @@ unfoldable mutual
       if length b.items == 0 then Empty else walk_into x rr wanted (pick b x (rr b)) (rr b) below
 
   -- where a walk ends after attempt r picked an item: there, if the item is of the wanted type,
-  -- else where the walk down the item's tree ends
+  -- else where the walk down its tree ends. A bucket picks one of its items, so there is a branch
   pub walk_into : ℕ → (BucketView → ℕ) → ℕ → ItemId → ℕ → Branches → Reached
   walk_into x rr wanted item r no_branches = Wrong
   walk_into x rr wanted item r (branch weight tree others) =

@@ -6,3 +6,5 @@
 pub mod sessions;
 pub mod sizes;
 pub mod stops;
+pub mod updates;
+pub mod written;

@@ -1,6 +1,6 @@
 use Rattle.std.proofs.Common.{refl}
 use Rattle.server_laws.proofs.Apart.{apart, calls_in, replies_in, together, told_more}
-use Rattle.server_laws.proofs.clients_are_served_one_after_the_other.Goals as goal
+use Rattle.server_laws.proofs.clients.clients_are_served_one_after_the_other.Goals as goal
 use Rattle.server_laws.specs.Served.{AreJust}
 
 pub returns-clause-apart : goal.returns-clause-apart
