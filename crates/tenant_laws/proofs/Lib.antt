@@ -4,5 +4,5 @@ pub mod Doubtful
 pub mod Kept
 pub mod Counted
 pub mod Anew
-pub mod Written
+pub mod Showing
 pub mod Updated

@@ -1,4 +1,4 @@
-use Rattle.tenant_laws.proofs.Written.{is_less}
+use Rattle.tenant_laws.proofs.Showing.{is_less}
 use Rattle.tenant_laws.proofs.written.a_part_is_not_all.Goals as goal
 
 pub returns-clause-front : goal.returns-clause-front

@@ -1,4 +1,4 @@
-use Rattle.tenant_laws.proofs.Written.{is_shown, same_shown}
+use Rattle.tenant_laws.proofs.Showing.{is_shown, same_shown}
 use Rattle.tenant_laws.proofs.written.each_body_is_shown.Goals as goal
 
 pub returns-clause-some : goal.returns-clause-some
