@@ -1,6 +1,6 @@
 //! Laws of what a store may leave after a crash: each contract holds of every store.
 
-ghost use Rattle.std.specs.Prelude.{◌≡◌, ¬◌, ℕ, List, [], ◌∷◌, Option};
+ghost use Rattle.std.specs.Prelude.{◌≡◌, ℕ, List, [], ◌∷◌, Option};
 ghost use Rattle.tenant_core.specs.States.{Found, Damaged, HasState};
 ghost use Rattle.tenant_history.specs.History.{IsHistoryFor};
 ghost use Rattle.tenant_history.specs.Served.{IsSound, LeavesSession, session};
