@@ -65,6 +65,7 @@ impl LastUpLists {
     {
         // the lists on this map are those on each map with its text, since that is this map alone
         canonical_texts_are_read();
+        // for the prover, which learns from a call what holds of its value
         let _tunables = placer.map().tunables();
         let tenant = String::from_str(alloc, name)?;
         let lists = UpLists::build(alloc, placer)?;
@@ -163,6 +164,7 @@ fn find(
     ensures rows { IfSome result (λ rows. Some rows ≡ moves from.now.map to.now.map from.now.states from.now.pool from.now.pairs) }
     ensures gained { IfSome result (λ rows. gained_in rows ≤ SIZE_LIMIT * GROUP_LIMIT) }
 {
+    // for the prover, which learns from a call what holds of its value
     let _tunables = from.map().tunables();
     renew(alloc, last, name, content, from);
     match last {

@@ -80,6 +80,7 @@ fn make(alloc: Global, name: &str, number: u64, placer: &Placer<'_>) -> Option<L
 {
     // what is found on this map is found on each map with its text, since that is this map alone
     canonical_texts_are_read();
+    // for the prover, which learns from a call what holds of its value
     let _tunables = placer.map().tunables();
     let Ok(tenant) = String::from_str(alloc, name) else {
         return None;
@@ -127,6 +128,7 @@ fn find(
         → Some groups ≡ impact placer.now.map placer.now.states placer.now.pool placer.now.pairs device) }
     ensures last { (cache : Numbered) → WasNumberOf cache number (content_of placer.now) → AreLast cache last.old → AreLast cache last.new }
 {
+    // for the prover, which learns from a call what holds of its value
     let _tunables = placer.map().tunables();
     renew(alloc, last, name, number, placer);
     match last {

@@ -7,7 +7,7 @@ mod log;
 mod opening;
 mod watch;
 
-pub use closing::{Closed, close_files, give_up};
+pub use closing::{Closed, close_unless_failed};
 pub use fault::FileFault;
 pub use opening::{READY_BYTES, open_store};
 pub use watch::FileWatch;
