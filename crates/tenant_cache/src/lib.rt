@@ -8,7 +8,6 @@ mod placing;
 mod ready;
 mod ready_store;
 mod touching;
-mod trial;
 
 pub use kept::Kept;
 pub use ready::Ready;

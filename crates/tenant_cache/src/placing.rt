@@ -9,7 +9,6 @@ ghost use Rattle.tenant_state.specs.State.{pool as pool_at};
 
 use crate::kept::Kept;
 use crate::ready::Ready;
-use crate::trial::Trial;
 use crush_cache::PlacementCache;
 use std::alloc::Global;
 use std::rc::Rc;
@@ -94,7 +93,6 @@ pub(crate) fn number_for(
 /// The placement of the group of a pool that a query asks for, with what the tenant has.
 pub(crate) fn place(
     cache: &mut PlacementCache,
-    trial: &mut Trial,
     number: u64,
     inventory: &Rc<Inventory>,
     pool: &TenantPool,
@@ -113,7 +111,6 @@ pub(crate) fn place(
     let Ok(Ok(placement)) = cache.place_known(number, &placer, group) else {
         return None;
     };
-    trial.note(number, group, &placement);
     let Ok(inventory) = inventory.clone() else {
         return None;
     };

@@ -11,7 +11,6 @@ use crate::moving::{LastUpLists, lists_are_left, move_between};
 use crate::placing::{number_for, place};
 use crate::ready::Ready;
 use crate::touching::{LastTouches, are_left, is_of_tenant, touch};
-use crate::trial::Trial;
 use crush_cache::PlacementCache;
 use std::alloc::{AllocError, Global};
 use std::marker::Model;
@@ -33,7 +32,6 @@ pub struct CachedStore<T: TenantStore> {
     below: T,
     kept: Kept,
     cache: PlacementCache,
-    trial: Trial,
     /// Which groups each device can touch, for the content of which this was asked last.
     last: Option<LastTouches>,
     /// The up lists of all groups, for the content of the version from which moves were asked last.
@@ -81,14 +79,10 @@ impl<T: TenantStore + Drop> CachedStore<T> {
         let Ok(cache) = PlacementCache::new(alloc, placements) else {
             return Err((AllocError, below));
         };
-        let Ok(trial) = Trial::new(alloc, placements) else {
-            return Err((AllocError, below));
-        };
         Ok(CachedStore {
             alloc,
             kept,
             cache,
-            trial,
             last: None,
             last_lists: None,
             below,
@@ -110,7 +104,6 @@ impl<T: TenantStore + Drop> CachedStore<T> {
             alloc,
             kept: Kept::new(alloc, u64::MAX)?,
             cache: PlacementCache::new(alloc, placements)?,
-            trial: Trial::new(alloc, placements)?,
             last: None,
             last_lists: None,
             below,
@@ -282,9 +275,6 @@ impl<T: TenantStore> TenantStore for CachedStore<T> {
     }
 
     fn placed(&mut self, name: &str, query: &Query) -> Option<Placed> {
-        if !self.trial.is_on() {
-            return None;
-        }
         let Ok(Some(ready)) = self.kept.get(name) else {
             return None;
         };
@@ -297,14 +287,7 @@ impl<T: TenantStore> TenantStore for CachedStore<T> {
             &ready,
             pool,
         )?;
-        place(
-            &mut self.cache,
-            &mut self.trial,
-            number,
-            ready.inventory(),
-            pool,
-            group,
-        )
+        place(&mut self.cache, number, ready.inventory(), pool, group)
     }
 
     fn touched(&mut self, name: &str, query: &Query) -> Option<Touched> {

@@ -155,24 +155,6 @@ fn a_group_has_one_placement_whatever_is_kept(rt: HostRuntime) -> Result<(), Fai
     Ok(())
 }
 
-/// Two groups by turns: with room for one placement none is found, and once a trial of 1,024
-/// requests, and 8 for the room, has shown that, none is looked up. With room for both they are.
-#[test]
-fn where_nothing_is_found_nothing_is_looked_up(rt: HostRuntime) -> Result<(), Fail> {
-    let alloc = rt.alloc();
-    for (room, is_looked_up) in [(1, false), (1_024, true)] {
-        let store = store_for(&rt, alloc, room)?;
-        let mut store = with_tenant(&rt, alloc, store, "a", 0)?;
-        for _ in 0..516 {
-            placed(&rt, &mut store, "a", 0);
-            placed(&rt, &mut store, "a", 7);
-        }
-        let next = store.placed("a", &Query::Group(1, 0));
-        assert_eq!(rt; next.is_some(), is_looked_up);
-    }
-    Ok(())
-}
-
 #[test]
 fn after_a_change_of_states_groups_are_placed_anew(rt: HostRuntime) -> Result<(), Fail> {
     let alloc = rt.alloc();

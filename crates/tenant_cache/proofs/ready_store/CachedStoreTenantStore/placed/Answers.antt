@@ -9,8 +9,8 @@ use Rattle.tenant_cache.proofs.TouchFacts.{last_later}
 use Rattle.tenant_cache.proofs.ready_store.CachedStoreTenantStore.placed.Goals as goal
 
 -- a look-up keeps no more than was kept
-pub invariant_of-self-in_default : goal.invariant_of-self-in_default
-invariant_of-self-in_default g c =
+pub invariant_of-self : goal.invariant_of-self
+invariant_of-self g c =
     record {
       states = λ honest live. true_among (g.T.TenantStore.has_state c.self.inside.below) c.self.inside.kept c.get.new.self c.get.ensures.same (c.self.invariant.states honest live);
       numbers = known_among c.self.inside.cache c.self.inside.kept c.get.new.self c.get.ensures.same c.self.invariant.numbers;
