@@ -1,5 +1,5 @@
 -- Numbers that are kept beside what tenants have, and placements by them.
-use Rattle.std.proofs.Common.{◌≡◌, ◌≢◌, ◌↔◌, ◌∙◌, ◌⊎◌, ◌==◌, inl, inr, ℕ, List, [], ◌∷◌, find, Bool, true, false, nat_lt, if◌then◌else◌, ok_or, option_map, Contains, Option, Some, None, Ok, refl, sym, ap, subst, eqb-true}
+use Rattle.std.proofs.Common.{◌≡◌, ◌≢◌, ◌↔◌, ◌∙◌, ◌⊎◌, ◌==◌, inl, inr, ℕ, List, [], ◌∷◌, find, Bool, true, false, nat_lt, if◌then◌else◌, ok_or, option_map, Contains, Option, Some, None, IfSome, Ok, refl, sym, ap, subst, eqb-true}
 use Rattle.std.specs.declared.alloc.Global.{Global}
 use Rattle.std.specs.declared.rc.Rc.{Rc}
 use Rattle.lru.proofs.Splits.{Contains-nil}
@@ -20,6 +20,7 @@ use Rattle.tenant_core.specs.Cached.{Asks, IsCachedFor}
 use Rattle.tenant_core.specs.States.{HasInventory, Same, States}
 use Rattle.tenant_core.specs.declared.cached.Asked.{Asked}
 use Rattle.tenant_core.specs.declared.cached.Asked.TheVariants as asked
+use Rattle.tenant_core.specs.declared.cached.Cached.{Cached}
 use Rattle.tenant_core.specs.declared.cached.Cached.TheVariants.{Placed, Touched}
 use Rattle.tenant_core.specs.declared.queries.Query.{Query}
 use Rattle.tenant_core.specs.declared.queries.Query.TheVariants.{Exceptions, Group, Impact, Moves, Object, Pick, Test, Usage, Version}
@@ -81,7 +82,17 @@ pub is_touched : (query : Query) (i : Inventory) (q : TenantPool) (m : Map) (p :
 is_touched query i q m p number d touched there on id of asks =
     (q, number, asks, refl, ap (impact.on_map number) (ap (if_there i q) there ∙ on) ∙ (ap (impact.on_device p) id ∙ ap (λ o. ok_or o NoRule) (sym of)))
 
+-- what was found is what is asked, of an inventory that is the same
+pub found_for : (result : Option Cached) (i j : Inventory) (p : TenantPool) (a b : Asked) → i ≡ j → a ≡ b → IfSome result (λ r. (query : Query) → Asks query i p a → IsCachedFor query i r)
+    → IfSome result (λ r. (query : Query) → Asks query j p b → IsCachedFor query j r)
+found_for result i j p a b same is h =
+    subst (λ k. IfSome result (λ r. (query : Query) → Asks query k p b → IsCachedFor query k r)) same
+    (subst (λ c. IfSome result (λ r. (query : Query) → Asks query i p c → IsCachedFor query i r)) is h)
+
 -- ---- numbers stay known
+
+pub keeps_itself : (cache : Numbered) → KeepsNumbers cache cache
+keeps_itself cache n c h = h
 
 pub known_later : (old new : Numbered) (kept : Kept) → KeepsNumbers old new → AreKnown old kept → AreKnown new kept
 known_later old new kept keeps known name r at id n q here found p is = keeps n (content_of p) (known name r at id n q here found p is)

@@ -1,7 +1,8 @@
 //! What reports need of all groups of a pool, kept for the content that was asked for last.
 
-ghost use Rattle.std.specs.Prelude.{◌≡◌, true, IfSome};
+ghost use Rattle.std.specs.Prelude.{◌≡◌, true, IfOk, IfSome};
 ghost use Rattle.crush_content.specs.Contents.{content_of};
+ghost use Rattle.crush_pool.specs.Placers.{PoolOnMap};
 
 use crate::kept::Kept;
 use crush_content::Content;
@@ -15,9 +16,6 @@ use std::marker::Model;
 
 /// What is found of all groups of a pool at once.
 pub trait OfGroups: Drop {
-    ghost use Rattle.std.specs.Prelude.{IfOk, IfSome};
-    ghost use Rattle.crush_pool.specs.Placers.{PoolOnMap};
-
     /// It is that of the groups of a pool on a map.
     ghost are_on: { PoolOnMap → Self → Type 0 };
 

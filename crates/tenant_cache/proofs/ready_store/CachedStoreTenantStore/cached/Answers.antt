@@ -8,8 +8,8 @@ use Rattle.tenant_cache.proofs.NumberFacts.{asked_pool, known_among, known_renum
 use Rattle.tenant_cache.proofs.ready_store.CachedStoreTenantStore.cached.Goals as goal
 
 -- a look-up keeps no more than was kept
-pub invariant_of-self-in_default : goal.invariant_of-self-in_default
-invariant_of-self-in_default g c =
+pub invariant_of-self : goal.invariant_of-self
+invariant_of-self g c =
     record {
       states = λ honest live. true_among (g.T.TenantStore.has_state c.self.inside.below) c.self.inside.kept c.get.new.self c.get.ensures.same (c.self.invariant.states honest live);
       numbers = known_among c.self.inside.cache c.self.inside.kept c.get.new.self c.get.ensures.same c.self.invariant.numbers;
