@@ -108,7 +108,6 @@ KNOWN = {
     "crush_hash": "hash1 hash2 hash3 hash4 hash5 name_hash hash3_lanes hash3_each hash4_each hash4_lanes",
     "crush_permutation": "Perm::build Perm::member Perm::kept Perms::build Perms::member eight_members permutation_has_each_place a_perm_keeps_few_places",
     "crush_writing": "write_map",
-    "reply_texts": "push_number push_slot push_slots done",
     "tenant_picks": "read_pick answer AskedBucket::new AskedBucket::pick picks_are_of_the_form",
     "tenant_history": "history a_number_with_a_receipt_changes_nothing only_a_drop_takes_a_receipt_away a_changing_request_has_the_path_and_the_body_of_its_call",
 }

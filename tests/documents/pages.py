@@ -48,7 +48,7 @@ LINK = re.compile(r"\[[^\]]*\]\(([^)\s]*)\)")
 CONST = re.compile(r"^pub const (\w+): \w+ = (-?[\d_]+);$")
 LIMITED = re.compile(r"^\|[^|]*\| (-?[\d,]+) \| `(\w+)` \| `(\w+)` \|$")
 LIMITS = "docs/REQUESTS.md"
-HELP = "crates/crushcalc/src/arguments.rt"
+HELP = "crates/crush_arguments/src/command.rt"
 # the code of a fault: the crate and the const of its limit, and the number that its line of the
 # help has
 HELPED = {
@@ -61,7 +61,7 @@ MOST_LINES = {"README.md": 110, "docs/ARCHITECTURE.md": 130, "docs/STATUS.md": 4
 MOST_DEFINED = 25
 # how many words a page may have, or some pages together
 MOST_WORDS = (
-    (1_100, "README.md"), (2_000, "CHANGELOG.md"),
+    (870, "README.md"), (2_000, "CHANGELOG.md"),
     (2_500, "docs/PERFORMANCE.md", "docs/STATUS.md"), (4_500, "docs/ARCHITECTURE.md", "docs/DECISIONS.md"), (1_800, "docs/CHANGING.md"),
     (2_000, "bench/README.md", "tests/ceph/README.md"), (1_200, "tests/README.md"), (220, "tests/crushplan/README.md"),
     (4_600, "docs/BELIEVE.md"), (6_000, "docs/DEFINITIONS.md"), (5_300, "docs/SERVING.md", "docs/STORE.md"),

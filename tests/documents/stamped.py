@@ -6,7 +6,7 @@ import re
 import subprocess
 
 TOP = pathlib.Path(__file__).resolve().parent.parent.parent
-SOURCE = pathlib.Path("crates/crushcalc/src/arguments.rt")
+SOURCE = pathlib.Path("crates/crush_arguments/src/command.rt")
 # the words of the source before which the line goes: the version's own end
 VERSION = re.compile(r'(const VERSION: &str = "\d+\.\d+\.\d+\\n)(Rattle logic )')
 LINE = re.compile(rb"^commit ([0-9a-f]{12})\n", re.MULTILINE)

@@ -11,7 +11,7 @@ use Rattle.crush_app.specs.FromNothing.{HeadlineFromNothing, MeetsFromNothing, P
 use Rattle.crush_app.specs.Play.{Plays, PlaysScript, PlaysTo, PlaysUpTo, WritesHeadline}
 use Rattle.crush_app.specs.declared.play.ScriptEnd.{ScriptEnd}
 use Rattle.crush_app.specs.declared.play.ScriptEnd.TheVariants.{Done, Latched, TooLong, ReadFault, WriteFault}
-use Rattle.crush_app.proofs.Ending.{nothing_map, serves_map}
+use Rattle.crush_app.proofs.Ending.{cut_map, first_map, nothing_map, plays_map, serves_map}
 
 -- each name is absent
 abbrev pub IsEmpty : States → Type 0
@@ -33,35 +33,13 @@ meets_from_nothing latched old new calls replies empty meets = record {
 -- ---- messages
 
 plays_from_nothing : (old new : States) (ms : List (Option Call)) (a b : Option (List ℕ)) → IsEmpty old → Plays false old new ms a b → PlaysFromNothing ms a b
-plays_from_nothing old new ms a b empty plays = record { replies = plays.replies; meets = meets_from_nothing false old new _ plays.replies empty plays.meets; written = plays.written }
+plays_from_nothing old new ms a b empty plays = plays_map (MeetsDefinition false old new) MeetsFromNothing (λ cs rs meets. meets_from_nothing false old new cs rs empty meets) ms a b plays
 
 cut_from_nothing : (latched : Bool) (old new : States) (ms : List (Option Call)) (a b : Option (List ℕ)) → IsEmpty old → PlaysUpTo latched old new ms a b → PlaysUpToFromNothing ms a b
-cut_from_nothing latched old new ms a b empty plays = record {
-  before = plays.before;
-  cut = plays.cut;
-  later = plays.later;
-  all = plays.all;
-  replies = plays.replies;
-  last = plays.last;
-  count = plays.count;
-  meets = meets_from_nothing latched old new _ _ empty plays.meets;
-  line = plays.line;
-  rest = plays.rest;
-  some = plays.some;
-  part = plays.part;
-  written = plays.written;
-}
+cut_from_nothing latched old new ms a b empty plays = cut_map (MeetsDefinition latched old new) MeetsFromNothing (λ cs rs meets. meets_from_nothing latched old new cs rs empty meets) ms a b plays
 
 writes_from_nothing : (old : States) (ms : List (Option Call)) (a b : Option (List ℕ)) → IsEmpty old → WritesHeadline old ms a b → WritesHeadlineFromNothing ms a b
-writes_from_nothing old ms a b empty writes = record {
-  served = writes.served;
-  later = writes.later;
-  all = writes.all;
-  replies = writes.replies;
-  rest = writes.rest;
-  written = writes.written;
-  headline = headline_from_nothing old _ writes.replies empty writes.headline;
-}
+writes_from_nothing old ms a b empty writes = first_map (Headline old) HeadlineFromNothing (λ cs rs headline. headline_from_nothing old cs rs empty headline) ms a b writes
 
 -- ---- scripts
 
@@ -78,7 +56,7 @@ script_from_nothing : (end : ScriptEnd) (latched : Bool) (old new : States) (lef
 script_from_nothing end latched old new left ms a b empty works plays =
     record { plays = to_nothing end latched old new left ms a b empty works plays.plays; headline = writes_from_nothing old ms a b empty plays.headline }
 
-module _ (Unasked Honest : Type 0) (latched : Bool) (old new : States) (left : Outcomes) (reads rest a b : Option (List ℕ)) (honest : Honest) (empty : IsEmpty old) where
+module _ (AsBefore Honest : Type 0) (latched : Bool) (old new : States) (left : Outcomes) (reads rest a b : Option (List ℕ)) (honest : Honest) (empty : IsEmpty old) where
   abbrev pub Said : ScriptEnd → List (Option Call) → Type 0
   Said end ms = Honest → PlaysScript end latched old new left ms a b
 
@@ -86,12 +64,12 @@ module _ (Unasked Honest : Type 0) (latched : Bool) (old new : States) (left : O
   FromNothing end ms = PlaysScriptFromNothing end ms a b
 
   -- a script that ended so on a store that never latches
-  pub ends_from_nothing : (r : Result ScriptEnd AllocError) → latched ≡ false → LatchesAs r latched → EndsScript Unasked Said r reads rest a b → EndsScript ⊤ FromNothing r reads rest a b
+  pub ends_from_nothing : (r : Result ScriptEnd AllocError) → latched ≡ false → LatchesAs r latched → EndsScript AsBefore Said r reads rest a b → EndsScript ⊤ FromNothing r reads rest a b
   ends_from_nothing (Ok Done) works latch s =
       serves_map (Said Done) (FromNothing Done) reads rest (λ ms said. script_from_nothing Done latched old new left ms a b empty (λ is. cc) (said honest)) s
   ends_from_nothing (Ok WriteFault) works latch s =
       serves_map (Said WriteFault) (FromNothing WriteFault) reads rest (λ ms said. script_from_nothing WriteFault latched old new left ms a b empty (λ is. cc) (said honest)) s
   ends_from_nothing (Ok Latched) works latch s = absurd (false≢true (sym works ∙ latch))
-  ends_from_nothing (Ok TooLong) works latch s = (nothing_map Unasked ⊤ a b (λ _. tt) s.0, s.1)
-  ends_from_nothing (Ok ReadFault) works latch s = nothing_map Unasked ⊤ a b (λ _. tt) s
-  ends_from_nothing (Err e) works latch s = nothing_map Unasked ⊤ a b (λ _. tt) s
+  ends_from_nothing (Ok TooLong) works latch s = (nothing_map AsBefore ⊤ a b (λ _. tt) s.0, s.1)
+  ends_from_nothing (Ok ReadFault) works latch s = nothing_map AsBefore ⊤ a b (λ _. tt) s
+  ends_from_nothing (Err e) works latch s = nothing_map AsBefore ⊤ a b (λ _. tt) s

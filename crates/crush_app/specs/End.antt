@@ -16,26 +16,26 @@ pub record ServesScript (Says : List (Option Call) → Type 0) (reads left : Opt
   pub said : OfScript reads (λ input. Says (messages input))
   pub rest : DropsFirst (SCRIPT_LIMIT + 1) reads left
 
--- No line was served, so that the store wasn't asked, and nothing was written.
-pub record ServesNothing (Unasked : Type 0) (from to : Option (List ℕ)) : Type 0 where
-  pub unasked : Unasked
-  pub silent : Keeps from to
+-- No line was served, so that the store is as before, and nothing was written.
+pub record ServesNothing (AsBefore : Type 0) (from to : Option (List ℕ)) : Type 0 where
+  pub as_before : AsBefore
+  pub unwritten : Keeps from to
 
--- So much was read that the script is known to be too long.
+-- More was read than a script may have.
 pub record IsTooLong (reads left : Option (List ℕ)) : Type 0 where
   pub long : IfSome reads (λ input. SCRIPT_LIMIT < length input)
   pub rest : DropsFirst (SCRIPT_LIMIT + 1) reads left
 
 -- How a script ended, with what the reader had and has left, and what the writer held and holds.
--- `Says` is what is said of messages that were served, by the end; `Unasked` is what is said of a
--- store that wasn't asked.
+-- `Says` is what is said of messages that were served, by the end; `AsBefore` is what is said of
+-- the store where none was.
 abbrev pub EndsScript : Type 0 → (ScriptEnd → List (Option Call) → Type 0) → Result ScriptEnd AllocError → (reads left from to : Option (List ℕ)) → Type 0
-EndsScript Unasked Says (Ok Done) reads left from to = ServesScript (Says Done) reads left
-EndsScript Unasked Says (Ok WriteFault) reads left from to = ServesScript (Says WriteFault) reads left
-EndsScript Unasked Says (Ok Latched) reads left from to = ServesScript (Says Latched) reads left
-EndsScript Unasked Says (Ok TooLong) reads left from to = ServesNothing Unasked from to × IsTooLong reads left
-EndsScript Unasked Says (Ok ReadFault) reads left from to = ServesNothing Unasked from to
-EndsScript Unasked Says (Err e) reads left from to = ServesNothing Unasked from to
+EndsScript AsBefore Says (Ok Done) reads left from to = ServesScript (Says Done) reads left
+EndsScript AsBefore Says (Ok WriteFault) reads left from to = ServesScript (Says WriteFault) reads left
+EndsScript AsBefore Says (Ok Latched) reads left from to = ServesScript (Says Latched) reads left
+EndsScript AsBefore Says (Ok TooLong) reads left from to = ServesNothing AsBefore from to × IsTooLong reads left
+EndsScript AsBefore Says (Ok ReadFault) reads left from to = ServesNothing AsBefore from to
+EndsScript AsBefore Says (Err e) reads left from to = ServesNothing AsBefore from to
 
 -- whether the store is then latched. After a failed write it may be
 abbrev pub LatchesAs : Result ScriptEnd AllocError → Bool → Type 0

@@ -150,7 +150,7 @@ pub fn check_run<R: Read, W: Write>(
     ensures rest { HasVerdict result → DropsFirst (TEXT_LIMIT + 1) (R.remaining reader.old) (R.remaining reader.new) }
 
     // Otherwise nothing was written.
-    ensures silent { WritesNothing result → KeepsBytes (W.contents writer.old) (W.contents writer.new) }
+    ensures unwritten { WritesNothing result → KeepsBytes (W.contents writer.old) (W.contents writer.new) }
 {
     texts_say_one_map();
     texts_of_maps_have_no_fault();

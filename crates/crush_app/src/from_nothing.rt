@@ -13,7 +13,7 @@ use tenant_service::laws::memory_stores_are_honest;
 use tenant_service::{MemoryStore, Service};
 
 /// Plays a script on a service over a new store in memory, as `script_run` does, and returns how
-/// that ended. The service, which keeps so many placements, is gone afterwards.
+/// that ended. The service, which keeps the placements of `placements` groups, is gone afterwards.
 ///
 /// The clause has no premise. It speaks of an input, which is what the reader had where contracts
 /// know its bytes.

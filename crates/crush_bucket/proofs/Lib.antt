@@ -1,3 +1,4 @@
+pub mod Ahead
 pub mod Numbered
 pub mod Picking
 pub mod Validity

@@ -1,6 +1,6 @@
 //! The buckets of a map, ready to be asked.
 
-ghost use Rattle.std.specs.Prelude.{◌≡◌, ◌<◌, ◌<ℤ◌, ◌==◌, ◌^◌, ℕ, pos, IfOk, IfSome, OnSome, All, length, map, slice_index, slice_index_or};
+ghost use Rattle.std.specs.Prelude.{◌≡◌, ◌<◌, ◌<ℤ◌, ◌==◌, ◌^◌, pos, IfOk, IfSome, OnSome, All, length, map};
 ghost use Rattle.crush_kinds.specs.Bucket.{IsItemOf};
 ghost use Rattle.crush_bucket.specs.Ahead.{ArePicks};
 ghost use Rattle.crush_bucket.specs.Private.Ahead.{IsWidest};
@@ -84,28 +84,6 @@ impl Tables {
         }
     }
 
-    /// Returns eight buckets, where all are trees that have items.
-    fn trees(&self, buckets: &[BucketNo; 8]) -> Option<[&TreeBucket; 8]>
-        ensures { IfSome result (λ trees. (lane : ℕ) (d : _) → lane < 8 → (slice_index_or trees lane d).now ≡ bucket_at self.now (slice_index buckets.now lane)) }
-    {
-        let mut trees = [self.with_items(buckets[0])?.tree()?; 8];
-        for lane in 1..8 {
-            trees[lane] = self.with_items(buckets[lane])?.tree()?;
-        }
-        Some(trees)
-    }
-
-    /// Returns the same where all are uniform.
-    fn uniforms(&self, buckets: &[BucketNo; 8]) -> Option<[&UniformBucket; 8]>
-        ensures { IfSome result (λ uniforms. (lane : ℕ) (d : _) → lane < 8 → (slice_index_or uniforms lane d).now ≡ bucket_at self.now (slice_index buckets.now lane)) }
-    {
-        let mut uniforms = [self.with_items(buckets[0])?.uniform()?; 8];
-        for lane in 1..8 {
-            uniforms[lane] = self.with_items(buckets[lane])?.uniform()?;
-        }
-        Some(uniforms)
-    }
-
     /// Returns the items that eight buckets pick for eight inputs and one attempt, side by side,
     /// where all eight are trees, or all are uniform and asked for the same early place.
     pub(crate) fn pick_eight(
@@ -116,10 +94,34 @@ impl Tables {
     ) -> Option<[ItemId; 8]>
         ensures { IfSome result (λ items. ArePicks self.now buckets.now xs.now r items) }
     {
-        if let Some(trees) = self.trees(buckets) {
-            return Some(pick_trees(&trees, xs, r));
+        match self.pick_trees(buckets, xs, r) {
+            Some(items) => Some(items),
+            None => self.pick_uniforms(buckets, xs, r),
         }
-        pick_uniforms(&self.uniforms(buckets)?, xs, r)
+    }
+
+    /// Returns the same where all eight are trees that have items.
+    fn pick_trees(&self, buckets: &[BucketNo; 8], xs: &[u32; 8], r: u32) -> Option<[ItemId; 8]>
+        ensures { IfSome result (λ items. ArePicks self.now buckets.now xs.now r items) }
+    {
+        let first = self.with_items(buckets[0])?.tree()?;
+        let mut trees = [first; 8];
+        for lane in 1..8 {
+            trees[lane] = self.with_items(buckets[lane])?.tree()?;
+        }
+        Some(pick_trees(&trees, xs, r))
+    }
+
+    /// Returns the same where all eight are uniform and asked for the same early place.
+    fn pick_uniforms(&self, buckets: &[BucketNo; 8], xs: &[u32; 8], r: u32) -> Option<[ItemId; 8]>
+        ensures { IfSome result (λ items. ArePicks self.now buckets.now xs.now r items) }
+    {
+        let first = self.with_items(buckets[0])?.uniform()?;
+        let mut uniforms = [first; 8];
+        for lane in 1..8 {
+            uniforms[lane] = self.with_items(buckets[lane])?.uniform()?;
+        }
+        pick_uniforms(&uniforms, xs, r)
     }
 
     /// Returns how many buckets there are.

@@ -1,5 +1,5 @@
-//! Running the rules of a CRUSH map, and what lowered reweights leave as it was. What a rule's steps
-//! choose with is in `crush_select`, which this crate shows too.
+//! Running the rules of a CRUSH map, and what lowered reweights leave as it was. What a rule's
+//! steps choose with is in `crush_select`, which this crate shows too.
 //!
 //! Sources: Weil et al., 'CRUSH: Controlled, Scalable, Decentralized Placement of Replicated Data'
 //! (SC 2006), and `crush_do_rule` of Ceph's `src/crush/mapper.c`. A rule that runs allocates

@@ -3,24 +3,25 @@ use Rattle.std.proofs.Common.{◌≡◌, ◌∙◌, ◌||◌, ℕ, List, Bool, t
 use Rattle.std.specs.declared.alloc.AllocError.{AllocError}
 use Rattle.sqlite_disk.specs.declared.Disk as disk
 use Rattle.sqlite_disk.specs.declared.Files.{Files}
+use Rattle.sqlite_wal.proofs.LogLemmas.{SeenMayStay}
 use Rattle.sqlite_wal.specs.Reads.{AreClean}
 use Rattle.sqlite_wal.specs.Recovery.{Image}
 use Rattle.sqlite_store.specs.declared.store.FileStore.{FileStore}
-use Rattle.sqlite.specs.Effect.{Database}
 use Rattle.sqlite.specs.Files.{file_state, over_files}
 use Rattle.sqlite.specs.Held.{Held, state}
 use Rattle.sqlite.specs.State.{HasCleanDisk}
 use Rattle.sqlite.specs.Store.{Ghosts}
-use Rattle.table_schema.specs.Layout.{IsStoreSchema}
 use Rattle.table_schema.specs.Ready.{IsReady}
-use Rattle.tenant_core.specs.States.{Outcomes, Same, States}
+use Rattle.tenant_core.specs.States.{Outcomes, States}
 use Rattle.tenant_messages.specs.declared.call.Call.{Call}
 use Rattle.tenant_files.proofs.ClosedFacts.{given_clean}
-use Rattle.tenant_files.proofs.StoredFacts.{left_states, same_states, turned}
+use Rattle.tenant_files.proofs.StoredFacts.{same_states}
 use Rattle.tenant_files.proofs.TableFacts.{of_store}
+use Rattle.tenant_files.proofs.UsedFacts.{held, uses_file, uses_files}
 use Rattle.tenant_files.specs.Closed.{GivesBack}
 use Rattle.tenant_files.specs.Opened.{IsFound}
 use Rattle.tenant_files.specs.Stored.{MayStandFor}
+use Rattle.tenant_files.specs.Used.{AreAsBefore}
 use Rattle.tenant_files.specs.declared.fault.FileFault.{FileFault}
 use Rattle.tenant_rows.specs.Rows.{StandsFor, StatesIn}
 use Rattle.tenant_store.specs.Shown.{HasState, IsHonest, MayLeave}
@@ -63,64 +64,52 @@ ready_then {S = S} g last conn end ended honest latch clean is =
 
 -- ---- over files
 
-module _ {D : Type 0} (g : disk.Ghosts D) (first last : Held (FileStore D g)) (end : Result ScriptEnd AllocError) (copied : Result (Unit {0}) FileFault) (files : Files D)
-    (reads left from to : Option (List ℕ)) where
-  abbrev OnTables : ScriptEnd → List (Option Call) → Type 0
-  OnTables how ms =
+module _ {D : Type 0} (g : disk.Ghosts D) (first : Held (FileStore D g)) (end : Result ScriptEnd AllocError) (files : Files D) (reads left from to : Option (List ℕ)) where
+  abbrev OnTables : Held (FileStore D g) → ScriptEnd → List (Option Call) → Type 0
+  OnTables last how ms =
       HasCleanDisk (file_state last) → PlaysScript how true (StandsFor (file_state first).now.trees) (StandsFor (file_state last).now.trees) (MayStandFor over_files last) ms from to
 
-  abbrev OnFiles : ScriptEnd → List (Option Call) → Type 0
-  OnFiles how ms =
+  abbrev OnFiles : Held (FileStore D g) → ScriptEnd → List (Option Call) → Type 0
+  OnFiles last how ms =
       AreClean g files.log files.db → PlaysScript how true (StandsFor (file_state first).now.trees) (StatesIn (file_state last).committed) (MayStandFor over_files last) ms from to
 
+  abbrev Said : Held (FileStore D g) → Type 0
+  Said last = EndsScript (last ≡ first) (OnFiles last) end reads left from to
+
   -- at the closing the rows are what the file holds
-  held : IsReady (file_state last) → Same (StandsFor (file_state last).now.trees) (StatesIn (file_state last).committed)
-  held ready =
-      subst (λ (db : Database). Same (StandsFor (file_state last).now.trees) (StatesIn db)) ready.settled (left_states (file_state last).now ready.schema)
+  on_files : (last : Held (FileStore D g)) (copied : Result (Unit {0}) FileFault) → GivesBack last copied files → (HasCleanDisk (file_state last) → end ≡ Ok Done → IsReady (file_state last))
+      → EndsScript (last ≡ first) (OnTables last) end reads left from to → Said last
+  on_files last copied given ready said =
+      ends_map (last ≡ first) (last ≡ first) (OnTables last) (OnFiles last) end reads left from to (λ same. same)
+      (λ how ms is plays clean.
+      let now = given_clean last copied files given clean in
+      let old = StandsFor (file_state first).now.trees in
+      script_same how true old old (StandsFor (file_state last).now.trees) (StatesIn (file_state last).committed) (MayStandFor over_files last) ms from to (same_states old)
+      (λ done. held last (ready now (is ∙ ap Ok done))) (plays now))
+      said
 
-  pub ends_on_files : GivesBack last copied files → (HasCleanDisk (file_state last) → HasCleanDisk (file_state first)) → (HasCleanDisk (file_state last) → end ≡ Ok Done → IsReady (file_state last))
-      → EndsScript (last ≡ first) OnTables end reads left from to → EndsOnFiles g first end copied files reads left from to
-  ends_on_files given before ready said = record {
-    last = last;
-    given = given;
-    was_clean = λ clean. before (given_clean last copied files given clean);
-    tables = λ clean is.
-        let r = ready (given_clean last copied files given clean) is in
-        subst (λ (db : Database). IsStoreSchema db.schema) r.settled r.schema;
-    ends =
-        ends_map (last ≡ first) (last ≡ first) OnTables OnFiles end reads left from to (λ same. same)
-        (λ how ms is plays clean.
-        let now = given_clean last copied files given clean in
-        let old = StandsFor (file_state first).now.trees in
-        script_same how true old old (StandsFor (file_state last).now.trees) (StatesIn (file_state last).committed) (MayStandFor over_files last) ms from to (same_states old)
-        (λ done. held (ready now (is ∙ ap Ok done))) (plays now))
-        said;
-  }
+-- by a store that worked at first
+pub ends_on_files : {D : Type 0} (g : disk.Ghosts D) (store : Held (FileStore D g) × Bool) (last : Held (FileStore D g)) (end : Result ScriptEnd AllocError) (copied : Result (Unit {0}) FileFault)
+    (files : Files D) (reads left from to : Option (List ℕ)) → SeenMayStay g → store.1 ≡ false → GivesBack last copied files → (HasCleanDisk (file_state last) → IsHonest over_files store)
+    → (HasCleanDisk (file_state last) → end ≡ Ok Done → IsReady (file_state last))
+    → EndsScript (last ≡ store.0) (OnTables g store.0 end files reads left from to last) end reads left from to → EndsOnFiles g store.0 end copied files reads left from to
+ends_on_files g store last end copied files reads left from to stays works given honest ready said =
+    uses_files stays store last copied files (end ≡ Ok Done) (Said g store.0 end files reads left from to) works given honest ready
+    (on_files g store.0 end files reads left from to last copied given ready said)
 
--- ---- with the opening
-
+-- with the opening
 module _ {D : Type 0} (g : disk.Ghosts D) (image : Image) (first : Held (FileStore D g)) (end : Result ScriptEnd AllocError) (copied : Result (Unit {0}) FileFault) (files : Files D)
     (reads left from to : Option (List ℕ)) where
+  abbrev Says : Type 0 → States → States → Outcomes → Type 0
+  Says Clean old new may_leave = EndsScript (Clean → AreAsBefore old new may_leave) (λ how ms. Clean → PlaysScript how true old new may_leave ms from to) end reads left from to
+
   pub ends_on_file : IsFound g (HasCleanDisk (file_state first)) image (StandsFor (file_state first).now.trees) → EndsOnFiles g first end copied files reads left from to
       → EndsOnFile g image end copied files reads left from to
-  ends_on_file opening files_end =
-      let last = files_end.last in
+  ends_on_file opening uses =
+      uses_file image first copied files (end ≡ Ok Done) (Said g first end files reads left from to) Says opening uses
+      (λ last old same as_before said.
       let rows = StandsFor (file_state first).now.trees in
-      let old = StatesIn (file_state opening.was).committed in
-      record {
-        was = opening.was;
-        finds = record { opened = λ clean. opening.finds.opened (files_end.was_clean clean); found = λ clean. opening.finds.found (files_end.was_clean clean) };
-        last = last;
-        given = files_end.given;
-        tables = files_end.tables;
-        ends =
-            ends_map (last ≡ first) (AreClean g files.log files.db → Same old (StandsFor (file_state last).now.trees))
-            (OnFiles g first last end copied files reads left from to)
-            (λ how ms. AreClean g files.log files.db → PlaysScript how true old (StatesIn (file_state last).committed) (MayStandFor over_files last) ms from to)
-            end reads left from to
-            (λ same clean. subst (λ (x : Held (FileStore D g)). Same old (StandsFor (file_state x).now.trees)) (sym same) (turned rows old (opening.same (files_end.was_clean clean))))
-            (λ how ms is plays clean.
-            script_same how true rows old (StatesIn (file_state last).committed) (StatesIn (file_state last).committed) (MayStandFor over_files last) ms from to
-            (opening.same (files_end.was_clean clean)) (λ _. same_states (StatesIn (file_state last).committed)) (plays clean))
-            files_end.ends;
-      }
+      let new = StatesIn (file_state last).committed in
+      ends_map (last ≡ first) (AreClean g files.log files.db → AreAsBefore old new (MayStandFor over_files last)) (OnFiles g first end files reads left from to last)
+      (λ how ms. AreClean g files.log files.db → PlaysScript how true old new (MayStandFor over_files last) ms from to) end reads left from to as_before
+      (λ how ms is plays clean. script_same how true rows old new new (MayStandFor over_files last) ms from to (same clean) (λ _. same_states new) (plays clean)) said)

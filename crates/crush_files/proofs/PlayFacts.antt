@@ -1,7 +1,8 @@
 -- What is said of a script over states is said of the same states.
 use Rattle.std.proofs.lemmas.Bool.{false≢true}
 use Rattle.std.proofs.Common.{◌≡◌, ℕ, List, Bool, true, false, Option, refl, sym}
-use Rattle.tenant_core.specs.States.{Outcomes, States, Same}
+use Rattle.tenant_core.specs.States.{Headline, MeetsDefinition, Outcomes, States, Same}
+use Rattle.crush_app.proofs.Ending.{cut_map, first_map, plays_map}
 use Rattle.crush_app.specs.Play.{Plays, PlaysScript, PlaysTo, PlaysUntilLatched, PlaysUpTo, WritesHeadline, WritesSession}
 use Rattle.crush_app.specs.declared.play.ScriptEnd.{ScriptEnd}
 use Rattle.crush_app.specs.declared.play.ScriptEnd.TheVariants.{Done, Latched, TooLong, ReadFault, WriteFault}
@@ -9,33 +10,23 @@ use Rattle.tenant_files.proofs.StoredFacts.{damaged_too, meets_same}
 
 plays_same : (a b c d : States) (ms : _) (from to : Option (List ℕ)) → Same a b → Same c d → Plays false a c ms from to → Plays false b d ms from to
 plays_same a b c d ms from to before after plays =
-    record { replies = plays.replies; meets = meets_same false a b c d _ plays.replies before (λ works. after) plays.meets; written = plays.written }
+    plays_map (MeetsDefinition false a c) (MeetsDefinition false b d) (λ cs rs meets. meets_same false a b c d cs rs before (λ works. after) meets) ms from to plays
 
 -- where the last line was cut, what the store then shows isn't said
-cut_weaker : (latched : Bool) (a b c d : States) (ms : _) (from to : Option (List ℕ)) → Same a b → PlaysUpTo latched a c ms from to → PlaysUpTo true b d ms from to
-cut_weaker latched a b c d ms from to before plays = record {
-  before = plays.before;
-  cut = plays.cut;
-  later = plays.later;
-  all = plays.all;
-  replies = plays.replies;
-  last = plays.last;
-  count = plays.count;
-  meets = record {
-    count = plays.meets.count;
-    headline = λ t s has. plays.meets.headline t s ((before t s).1 has);
-    leaves = λ never. absurd (false≢true (sym never));
-    nobody = plays.meets.nobody;
-    damaged = λ t damaged. plays.meets.damaged t (damaged_too a b before t damaged);
-    stays = λ never. absurd (false≢true (sym never));
-    causes = plays.meets.causes;
-  };
-  line = plays.line;
-  rest = plays.rest;
-  some = plays.some;
-  part = plays.part;
-  written = plays.written;
+meets_weaker : (latched : Bool) (a b c d : States) (cs : _) (rs : _) → Same a b → MeetsDefinition latched a c cs rs → MeetsDefinition true b d cs rs
+meets_weaker latched a b c d cs rs before meets = record {
+  count = meets.count;
+  headline = λ t s has. meets.headline t s ((before t s).1 has);
+  leaves = λ never. absurd (false≢true (sym never));
+  nobody = meets.nobody;
+  damaged = λ t damaged. meets.damaged t (damaged_too a b before t damaged);
+  stays = λ never. absurd (false≢true (sym never));
+  causes = meets.causes;
 }
+
+cut_weaker : (latched : Bool) (a b c d : States) (ms : _) (from to : Option (List ℕ)) → Same a b → PlaysUpTo latched a c ms from to → PlaysUpTo true b d ms from to
+cut_weaker latched a b c d ms from to before plays =
+    cut_map (MeetsDefinition latched a c) (MeetsDefinition true b d) (λ cs rs meets. meets_weaker latched a b c d cs rs before meets) ms from to plays
 
 latched_same : (a b c d : States) (left : Outcomes) (ms : _) (from to : Option (List ℕ)) → Same a b → PlaysUntilLatched a c left ms from to → PlaysUntilLatched b d left ms from to
 latched_same a b c d left ms from to before plays = record {
@@ -52,15 +43,7 @@ latched_same a b c d left ms from to before plays = record {
 }
 
 headline_same : (a b : States) (ms : _) (from to : Option (List ℕ)) → Same a b → WritesHeadline a ms from to → WritesHeadline b ms from to
-headline_same a b ms from to before writes = record {
-  served = writes.served;
-  later = writes.later;
-  all = writes.all;
-  replies = writes.replies;
-  rest = writes.rest;
-  written = writes.written;
-  headline = λ t s has. writes.headline t s ((before t s).1 has);
-}
+headline_same a b ms from to before writes = first_map (Headline a) (Headline b) (λ cs rs headline t s has. headline t s ((before t s).1 has)) ms from to writes
 
 session_same : (a b : States) (left : Outcomes) (ms : _) (from to : Option (List ℕ)) → Same a b → WritesSession a left ms from to → WritesSession b left ms from to
 session_same a b left ms from to same writes = record {

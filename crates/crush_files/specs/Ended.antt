@@ -1,5 +1,5 @@
 -- How a script over a database file ends.
-use Rattle.std.specs.Prelude.{ℕ, ◌≡◌, List, Bool, true, Option, Result, Ok}
+use Rattle.std.specs.Prelude.{ℕ, ◌≡◌, List, true, Option, Result, Ok}
 use Rattle.std.specs.declared.alloc.AllocError.{AllocError}
 use Rattle.sqlite_disk.specs.declared.Disk as disk
 use Rattle.sqlite_disk.specs.declared.Files.{Files}
@@ -8,12 +8,8 @@ use Rattle.sqlite_wal.specs.Recovery.{Image}
 use Rattle.sqlite_store.specs.declared.store.FileStore.{FileStore}
 use Rattle.sqlite.specs.Files.{file_state, over_files}
 use Rattle.sqlite.specs.Held.{Held}
-use Rattle.sqlite.specs.State.{HasCleanDisk}
-use Rattle.table_schema.specs.Layout.{IsStoreSchema}
-use Rattle.tenant_core.specs.States.{Same}
-use Rattle.tenant_files.specs.Closed.{GivesBack}
-use Rattle.tenant_files.specs.Opened.{Finds}
 use Rattle.tenant_files.specs.Stored.{MayStandFor}
+use Rattle.tenant_files.specs.Used.{AreAsBefore, UsesFile, UsesFiles}
 use Rattle.tenant_files.specs.declared.fault.FileFault.{FileFault}
 use Rattle.tenant_rows.specs.Rows.{StandsFor, StatesIn}
 use Rattle.crush_app.specs.End.{EndsScript}
@@ -21,26 +17,18 @@ use Rattle.crush_app.specs.Play.{PlaysScript}
 use Rattle.crush_app.specs.declared.play.ScriptEnd.{ScriptEnd}
 use Rattle.crush_app.specs.declared.play.ScriptEnd.TheVariants.{Done}
 
--- From a store over a file, whose connection was `first`: `last` is the connection as it gave the
--- two files back. What is said of states has the premise that the disk returned what was written.
-pub record EndsOnFiles {D : Type 0} (g : disk.Ghosts D) (first : Held (FileStore D g)) (end : Result ScriptEnd AllocError) (copied : Result (Unit {0}) FileFault) (files : Files D)
-    (reads left from to : Option (List ℕ)) : Type 0 where
-  pub last : Held (FileStore D g)
-  pub given : GivesBack last copied files
-  pub was_clean : AreClean g files.log files.db → HasCleanDisk (file_state first)
-  -- after a whole script the file has this service's tables
-  pub tables : AreClean g files.log files.db → end ≡ Ok Done → IsStoreSchema (file_state last).committed.schema
-  pub ends : EndsScript (last ≡ first)
-      (λ how ms. AreClean g files.log files.db → PlaysScript how true (StandsFor (file_state first).now.trees) (StatesIn (file_state last).committed) (MayStandFor over_files last) ms from to)
-      end reads left from to
+-- Lines were served from the states that the rows stood for to those that the file holds, and else
+-- the connection is the one of before.
+abbrev pub EndsOnFiles : {D : Type 0} (g : disk.Ghosts D) → Held (FileStore D g) → Result ScriptEnd AllocError → Result (Unit {0}) FileFault → Files D → (reads left from to : Option (List ℕ)) → Type 0
+EndsOnFiles g first end copied files reads left from to =
+    UsesFiles g first copied files (end ≡ Ok Done)
+    (λ last. EndsScript (last ≡ first)
+    (λ how ms. AreClean g files.log files.db → PlaysScript how true (StandsFor (file_state first).now.trees) (StatesIn (file_state last).committed) (MayStandFor over_files last) ms from to)
+    end reads left from to)
 
--- From what the two files held: `was` is the database as the opening found it in them.
-pub record EndsOnFile {D : Type 0} (g : disk.Ghosts D) (image : Image) (end : Result ScriptEnd AllocError) (copied : Result (Unit {0}) FileFault) (files : Files D) (reads left from to : Option (List ℕ)) : Type 0 where
-  pub was : Held (FileStore D g)
-  pub finds : Finds (AreClean g files.log files.db) image was
-  pub last : Held (FileStore D g)
-  pub given : GivesBack last copied files
-  pub tables : AreClean g files.log files.db → end ≡ Ok Done → IsStoreSchema (file_state last).committed.schema
-  pub ends : EndsScript (AreClean g files.log files.db → Same (StatesIn (file_state was).committed) (StandsFor (file_state last).now.trees))
-      (λ how ms. AreClean g files.log files.db → PlaysScript how true (StatesIn (file_state was).committed) (StatesIn (file_state last).committed) (MayStandFor over_files last) ms from to)
-      end reads left from to
+-- The same from what the two files held. Where nothing was served, the file holds the same tenants,
+-- also after a crash.
+abbrev pub EndsOnFile : {D : Type 0} → disk.Ghosts D → Image → Result ScriptEnd AllocError → Result (Unit {0}) FileFault → Files D → (reads left from to : Option (List ℕ)) → Type 0
+EndsOnFile g image end copied files reads left from to =
+    UsesFile g image copied files (end ≡ Ok Done)
+    (λ Clean old new may_leave. EndsScript (Clean → AreAsBefore old new may_leave) (λ how ms. Clean → PlaysScript how true old new may_leave ms from to) end reads left from to)

@@ -14,7 +14,7 @@ use std::num::NonZeroUsize;
 use std::rt::HostRuntime;
 use tenant_files::{Closed, FileFault, FileWatch, open_store};
 
-/// Plays a script on the tenants in a database file, of whose groups so many placements are kept,
+/// Plays a script on the tenants in a database file, keeps the placements of `placements` groups,
 /// and returns how that ended, with what was given back of the file. A file that is missing or
 /// empty becomes a new database. The file is opened before the script is read.
 ///
@@ -33,7 +33,8 @@ pub fn script_on_file<S: Start, R: Read, W: Write>(
     writer: &mut W,
 ) -> Result<(Result<ScriptEnd, AllocError>, Closed<FileFrom<S>>), FileFault>
     // Lines were served from the states that the file held to those that it holds now, also after
-    // a crash, and what was written has the headline; or nothing was served and written.
+    // a crash, and what was written has the headline. Or nothing was served and written, and the
+    // file holds the same states, also after a crash.
     ensures ends { IfOk result (λ r. EndsOnFile ⟦<FileFrom<S> as Disk>⟧ (image_at S.Start) r.0 r.1.copied r.1.files (R.remaining reader.old) (R.remaining reader.new) (W.contents writer.old) (W.contents writer.new)) }
 
     // The file wasn't opened: nothing was read, and nothing was written.

@@ -6,7 +6,6 @@ ghost use Rattle.crush_app.specs.Play.{PlaysScript};
 ghost use Rattle.sqlite.specs.Held.{state};
 ghost use Rattle.sqlite.specs.State.{HasCleanDisk};
 ghost use Rattle.table_schema.specs.Ready.{IsReady};
-ghost use Rattle.tenant_files.specs.Closed.{GivesBack};
 ghost use Rattle.tenant_files.specs.Stored.{MayStandFor};
 ghost use Rattle.tenant_rows.specs.Rows.{StandsFor};
 ghost use Rattle.tenant_store.specs.Shown.{IsHonest};
@@ -19,13 +18,13 @@ use std::alloc::{AllocError, Global};
 use std::io::{Read, Write};
 use std::num::NonZeroUsize;
 use tenant_cache::CachedStore;
-use tenant_files::{Closed, FileFault, READY_BYTES, close_files, give_up};
+use tenant_files::{Closed, FileFault, READY_BYTES, close_unless_failed};
 use tenant_store::Store;
 use tenant_watched::{Watch, WatchedStore};
 
 /// Plays a script on the tenants of a store over tables, and gives the connection back. What
-/// tenants have is kept ready, within `READY_BYTES`, and so many placements of their groups. No
-/// change is acknowledged once the files that are watched are missed.
+/// tenants have is kept, within `READY_BYTES`, and the placements of `placements` groups. No change
+/// is acknowledged once the files that are watched are missed.
 fn script_on_tables<S: Alter + Drop, F: Watch + Drop, R: Read, W: Write>(
     alloc: Global,
     store: Store<S>,
@@ -53,22 +52,15 @@ fn script_on_tables<S: Alter + Drop, F: Watch + Drop, R: Read, W: Write>(
     (end, conn)
 }
 
-/// Closes the file after a script that ended so, unless it failed for good.
-fn close_after<D: Disk + Drop>(
-    end: &Result<ScriptEnd, AllocError>,
-    conn: Connection<FileStore<D>>,
-) -> Closed<D>
-    ensures given { GivesBack conn result.copied result.files }
-    ensures failed { end.now ≡ Ok ScriptEnd.Latched → result.copied ≡ Err FileFault.Store }
+/// Whether the file failed for good while lines were served.
+fn failed_for_good(end: &Result<ScriptEnd, AllocError>) -> bool
+    ensures { end.now ≡ Ok ScriptEnd.Latched → result ≡ true }
 {
-    match end {
-        Ok(ScriptEnd::Latched) => give_up(conn),
-        _ => close_files(conn),
-    }
+    matches!(end, Ok(ScriptEnd::Latched))
 }
 
-/// Plays a script on the tenants of a store over a database file, of whose groups so many
-/// placements are kept, and returns how that ended, with what was given back of the file.
+/// Plays a script on the tenants of a store over a database file, keeps the placements of
+/// `placements` groups, and returns how that ended, with what was given back of the file.
 ///
 /// The clauses have the premise that the disk returned what was written (`AreClean`).
 /// `Err(AllocError)`: an allocation outside a request failed; no line was served.
@@ -83,13 +75,14 @@ pub fn script_on_files<D: Disk + Drop, F: Watch + Drop, R: Read, W: Write>(
     requires works { store.1 ≡ false }
 
     // Lines were served from the states that the rows stood for to those that the file holds now,
-    // also after a crash, and what was written has the headline; or nothing was served and written.
+    // also after a crash, and what was written has the headline. Or nothing was served and written,
+    // and the connection is as it was.
     ensures ends { EndsOnFiles D.Disk store.0 result.0 result.1.copied result.1.files (R.remaining reader.old) (R.remaining reader.new) (W.contents writer.old) (W.contents writer.new) }
 
     // Where the file failed for good, it isn't closed.
     ensures failed { result.0 ≡ Ok ScriptEnd.Latched → result.1.copied ≡ Err FileFault.Store }
 {
     let (end, conn) = script_on_tables(alloc, store, watch, placements, reader, writer);
-    let closed = close_after(&end, conn);
+    let closed = close_unless_failed(conn, failed_for_good(&end));
     (end, closed)
 }

@@ -11,7 +11,7 @@ use Rattle.crush_http.specs.declared.limits.TheConstants.{HEADER_LIMIT, MESSAGE_
 abbrev pub IsUndecided : List ℕ → Type 0
 IsUndecided rest = IsHalfHead rest × RequestOverflows HEADER_LIMIT rest
 
--- such bytes follow these messages of the input, so many at most
+-- such bytes follow these messages of the input, of which there are at most `most`
 abbrev pub EndsUndecided : ℕ → List ℕ → List Message → Type 0
 EndsUndecided most input [] = IsUndecided input
 EndsUndecided most input (m ∷ ms) = (rest : List ℕ) × MessageAt most input m rest × EndsUndecided (most - 1) rest ms

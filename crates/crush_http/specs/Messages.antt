@@ -18,7 +18,7 @@ pub record Message : Type 0 where
 abbrev pub calls_of : List Message → List Call
 calls_of messages = map (λ m. m.call) messages
 
--- the message of a head and a body, where so many messages may come at most, this one among them.
+-- the message of a head and a body, where at most `most` messages may come, this one among them.
 -- The path is the request target as it stands
 abbrev pub message_of : ℕ → RequestHead → List ℕ → Message
 message_of most head body = record { call = record { method = head.method; path = head.target; body = body }; last = closes head || most == 1 }
@@ -91,7 +91,7 @@ abbrev pub GoesOn : Bool → List Message → Stop → Type 0 → Type 0
 GoesOn true ms stop More = IsOver ms stop
 GoesOn false ms stop More = More
 
--- the input has these messages, so many at most, and then stops so
+-- the input has these messages, at most `most`, and then stops so
 abbrev pub HasMessages : ℕ → List ℕ → List Message → Stop → Type 0
 HasMessages most input [] stop = StopsAt stop input
 HasMessages most input (m ∷ ms) stop = (rest : List ℕ) × MessageAt most input m rest × GoesOn m.last ms stop (HasMessages (most - 1) rest ms stop)

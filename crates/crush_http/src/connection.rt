@@ -72,7 +72,7 @@ fn next_message<R: Read, W: Write>(
     Some(read_message(reader, &mut buffers.read, &mut buffers.body))
 }
 
-/// Serves one message and holds its reply, where so many messages may come at most.
+/// Serves one message and holds its reply, where at most `most` messages may come.
 fn serve_one<T: TenantStore, R: Read, W: Write>(
     buffers: &mut Buffers,
     service: &mut Service<T>,
@@ -141,7 +141,7 @@ fn serve_all<T: TenantStore, R: Read, W: Write>(
     writer: &mut W,
 ) -> Ended
     requires unused { buffers.old.read ≡ [] }
-    requires silent { buffers.old.held ≡ [] }
+    requires empty { buffers.old.held ≡ [] }
     ensures served { OfInput (R.remaining reader.old)
         (λ input. ServesInput (λ calls replies. T.is_honest service.new → ServesSession (T.latched service.old) (T.latched service.new) (T.has_state service.old) (T.has_state service.new) (T.may_leave service.new) calls replies) input (R.remaining reader.new) (W.contents writer.old) (W.contents writer.new) result) }
     ensures rests { T.latched service.old ≡ true → service.new ≡ service.old }
@@ -201,7 +201,7 @@ pub fn serve<T: TenantStore, R: Read, W: Write>(
     // An allocation failed: nothing was read, served or written.
     ensures none { OnErr result (service.new ≡ service.old) }
     ensures unread { OnErr result (KeepsBytes (R.remaining reader.old) (R.remaining reader.new)) }
-    ensures silent { OnErr result (KeepsBytes (W.contents writer.old) (W.contents writer.new)) }
+    ensures unwritten { OnErr result (KeepsBytes (W.contents writer.old) (W.contents writer.new)) }
     ensures honest { T.is_honest service.new → T.is_honest service.old }
 {
     let mut buffers = Buffers::new(alloc)?;

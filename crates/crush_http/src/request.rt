@@ -30,7 +30,7 @@ impl Request {
     ghost use Rattle.std.specs.Prelude.{◌≡◌, ◌≤◌};
     ghost use Rattle.crush_http.specs.Private.Reading.{used};
 
-    /// Returns how many of so many bytes in the buffer belong to the message.
+    /// Returns how many of the `count` bytes in the buffer belong to the message.
     pub(crate) fn used(&self, count: usize) -> usize
         requires { self.now.len ≤ count }
         ensures { result ≡ used self.now count }

@@ -1,5 +1,5 @@
 -- What a bucket picks is an item of it.
-use Rattle.std.proofs.Common.{◌≡◌, ℕ, ◌<◌, ◌%◌, ◌-◌, List, length, min, slice_index, Bool, Option, Some, None, unwrap_or, refl, arith, MatchOption}
+use Rattle.std.proofs.Common.{ℕ, ◌<◌, ◌%◌, ◌-◌, List, length, min, slice_index, Bool, Option, Some, None, unwrap_or, refl, arith, MatchOption}
 use Rattle.crush_types.specs.declared.ItemId.{ItemId}
 use Rattle.crush_types.specs.declared.Kind.{Kind}
 use Rattle.crush_types.specs.declared.Kind.TheVariants.{Uniform, List as ListKind, Tree}

@@ -30,24 +30,10 @@ pub trait Picker {
         ensures picked { (lane : ℕ) → lane < 8 → slice_index_or result lane no_id ≡ pick (bucket self.now) (slice_index xs.now lane) r }
         ensures same { perm.new.of ≡ perm.old.of }
     {
-        one_by_one(self, perm, xs, r)
+        let mut items = [ItemId(0); 8];
+        for lane in 0..8 {
+            items[lane] = self.pick(perm, xs[lane], r);
+        }
+        items
     }
-}
-
-/// Returns the items that a bucket picks for eight inputs and one attempt, one after the other.
-pub(crate) fn one_by_one<P: Picker>(
-    bucket: &P,
-    perm: &mut Perm,
-    xs: &[u32; 8],
-    r: u32,
-) -> [ItemId; 8]
-    requires { perm.old.of ≡ perm_of (P.bucket bucket.now) }
-    ensures picked { (lane : ℕ) → lane < 8 → slice_index_or result lane no_id ≡ pick (P.bucket bucket.now) (slice_index xs.now lane) r }
-    ensures same { perm.new.of ≡ perm.old.of }
-{
-    let mut items = [ItemId(0); 8];
-    for lane in 0..8 {
-        items[lane] = bucket.pick(perm, xs[lane], r);
-    }
-    items
 }

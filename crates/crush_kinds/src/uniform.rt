@@ -4,7 +4,7 @@ ghost use Rattle.std.specs.Prelude.{◌≡◌, ◌<◌, ◌≤◌, ◌%◌, ◌^
 ghost use Rattle.crush_kinds.specs.Bucket.{HasEqualWeights, IsItemOf, item_at, total_weight};
 ghost use Rattle.crush_kinds.specs.Pick.{pick};
 
-use crate::picker::{Picker, one_by_one};
+use crate::picker::Picker;
 use crate::uniform_lanes::pick_uniforms;
 use crush_permutation::{Perm, Perms};
 use crush_types::{ItemId, Kind, Weight};
@@ -122,10 +122,14 @@ impl Picker for UniformBucket {
     }
 
     fn pick_eight(&self, perm: &mut Perm, xs: &[u32; 8], r: u32) -> [ItemId; 8] {
-        match pick_uniforms(&[self; 8], xs, r) {
-            Some(items) => items,
-            None => one_by_one(self, perm, xs, r),
+        if let Some(items) = pick_uniforms(&[self; 8], xs, r) {
+            return items;
         }
+        let mut items = [ItemId(0); 8];
+        for lane in 0..8 {
+            items[lane] = self.pick(perm, xs[lane], r);
+        }
+        items
     }
 }
 

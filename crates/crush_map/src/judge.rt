@@ -122,13 +122,18 @@ fn judge_elements(
     judge_rules(alloc, known, draft.rules.as_slice())
 }
 
-/// The first fault of a draft, if it has one: of its elements, else the one at its end.
+/// The first fault of a draft of which nothing is known yet: of its elements, else the one at its
+/// end.
 #[tactic(auto, unfolding(crate::specs::Faults::first_fault))]
-pub(crate) fn first_fault(alloc: Global, draft: &MapDraft) -> Result<Option<MapFault>, AllocError>
+fn fault_of(
+    alloc: Global,
+    known: &mut Known,
+    draft: &MapDraft,
+) -> Result<Option<MapFault>, AllocError>
+    requires { known.old ≡ spec.nothing }
     ensures { IfOk result (λ fault. fault ≡ spec.first_fault draft.now) }
 {
-    let mut known = Known::new(alloc);
-    if let Some(fault) = judge_elements(alloc, &mut known, draft)? {
+    if let Some(fault) = judge_elements(alloc, known, draft)? {
         return Ok(Some(fault));
     }
     let fault = known.end_fault(
@@ -140,4 +145,13 @@ pub(crate) fn first_fault(alloc: Global, draft: &MapDraft) -> Result<Option<MapF
         Some(code) => Some(fault_at(Element::End, 0, code)),
         None => None,
     })
+}
+
+/// The first fault of a draft, if it has one.
+// One way out while the tables live keeps the check of this function short.
+pub(crate) fn first_fault(alloc: Global, draft: &MapDraft) -> Result<Option<MapFault>, AllocError>
+    ensures { IfOk result (λ fault. fault ≡ spec.first_fault draft.now) }
+{
+    let mut known = Known::new(alloc);
+    fault_of(alloc, &mut known, draft)
 }

@@ -169,16 +169,17 @@ impl Known {
         Ok(None)
     }
 
-    /// The first fault of a bucket's items.
+    /// The first fault of a bucket's items, if the bucket has these ids before them.
+    ///
+    /// `Err(AllocError)`: an allocation failed; `before` must not be used any more.
     #[tactic(auto, unfolding(crate::specs::Faults::items_fault))]
-    fn items_fault(
+    fn items_fault_behind(
         &self,
-        alloc: Global,
+        before: &mut Ids,
         items: &[(ItemId, Weight)],
     ) -> Result<Option<FaultCode>, AllocError>
-        ensures { IfOk result (λ fault. fault ≡ spec.items_fault self.now spec.no_ids items.now) }
+        ensures { IfOk result (λ fault. fault ≡ spec.items_fault self.now before.old items.now) }
     {
-        let mut before = Ids::new(alloc);
         for item in items {
             if !self.items.has(item.0) {
                 return Ok(Some(FaultCode::M5));
@@ -189,6 +190,18 @@ impl Known {
             before.add(item.0)?;
         }
         Ok(None)
+    }
+
+    /// The first fault of a bucket's items.
+    fn items_fault(
+        &self,
+        alloc: Global,
+        items: &[(ItemId, Weight)],
+    ) -> Result<Option<FaultCode>, AllocError>
+        ensures { IfOk result (λ fault. fault ≡ spec.items_fault self.now spec.no_ids items.now) }
+    {
+        let mut before = Ids::new(alloc);
+        self.items_fault_behind(&mut before, items)
     }
 
     /// Adds a bucket that has no fault.

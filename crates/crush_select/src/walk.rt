@@ -50,6 +50,8 @@ fn attempt_at(tables: &Tables, attempts: Attempts, bucket: BucketNo) -> u32
 }
 
 /// Picks from a bucket and on from each bucket that is picked, until an item has the wanted type.
+/// It is inlined: a mapping has few picks for each walk.
+#[inline(always)]
 pub(crate) fn reach(
     tables: &Tables,
     scratch: &mut Scratch,
@@ -93,6 +95,7 @@ pub(crate) fn reach(
 }
 
 /// Walks as `reach` does, with the same attempt at each bucket.
+#[inline(always)]
 pub(crate) fn reach_by(
     tables: &Tables,
     scratch: &mut Scratch,

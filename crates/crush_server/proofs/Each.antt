@@ -82,21 +82,21 @@ drop_more zero xs = refl
 drop_more (suc n) [] = refl
 drop_more (suc n) (x ∷ xs) = drop_more n xs
 
-told_more : (n : ℕ) (x : Clients) (b c : Option Clients) (is os js ps : List (List ℕ)) → (is ≡ all_sent (take n x.coming)) × (b ≡ Some (after_answers os (after_accepts n x)))
+known_more : (n : ℕ) (x : Clients) (b c : Option Clients) (is os js ps : List (List ℕ)) → (is ≡ all_sent (take n x.coming)) × (b ≡ Some (after_answers os (after_accepts n x)))
     → IfSome b (λ y. (js ≡ all_sent (take 1 y.coming)) × (c ≡ Some (after_answers ps (after_accepts 1 y))))
     → (is ++ js ≡ all_sent (take (suc n) x.coming)) × (c ≡ Some (after_answers (os ++ ps) (after_accepts (suc n) x)))
-told_more n x b c is os js ps h second =
+known_more n x b c is os js ps h second =
     let P : Option Clients → Type 0 = λ o. IfSome o (λ y. (js ≡ all_sent (take 1 y.coming)) × (c ≡ Some (after_answers ps (after_accepts 1 y)))) in
     let s = subst P h.1 second in
     let f : List (Option (List ℕ)) → Option Clients = λ z. Some (record { coming = z; answered = (x.answered ++ os) ++ ps }) in
     let g : List (List ℕ) → Option Clients = λ z. Some (record { coming = drop (suc n) x.coming; answered = z }) in
     (ap (λ zs. zs ++ js) h.0 ∙ ap (λ zs. all_sent (take n x.coming) ++ zs) s.0 ∙ sent_more n x.coming, s.1 ∙ ap f (drop_more n x.coming) ∙ ap g (append_assoc x.answered os ps))
 
-told_both : (n : ℕ) (a b c : Option Clients) (is os js ps : List (List ℕ)) → IfSome a (λ x. (is ≡ all_sent (take n x.coming)) × (b ≡ Some (after_answers os (after_accepts n x))))
+known_both : (n : ℕ) (a b c : Option Clients) (is os js ps : List (List ℕ)) → IfSome a (λ x. (is ≡ all_sent (take n x.coming)) × (b ≡ Some (after_answers os (after_accepts n x))))
     → IfSome b (λ y. (js ≡ all_sent (take 1 y.coming)) × (c ≡ Some (after_answers ps (after_accepts 1 y))))
     → IfSome a (λ x. (is ++ js ≡ all_sent (take (suc n) x.coming)) × (c ≡ Some (after_answers (os ++ ps) (after_accepts (suc n) x))))
-told_both n None b c is os js ps h second = tt
-told_both n (Some x) b c is os js ps h second = told_more n x b c is os js ps h second
+known_both n None b c is os js ps h second = tt
+known_both n (Some x) b c is os js ps h second = known_more n x b c is os js ps h second
 
 few_more : (is js : List (List ℕ)) (n : ℕ) → length is ≤ n → length js ≤ 1 → length (is ++ js) ≤ suc n
 few_more is js n h k = omega (arith, length-append is js, h, k)
@@ -112,38 +112,38 @@ clients_more M P N n a b c k first second = record {
   each =
       each_both first.inputs first.outputs second.inputs second.outputs M N
       (λ cs rs m. each_map second.inputs second.outputs P (λ ds qs. N (cs ++ ds) (rs ++ qs)) (λ ds qs. k cs rs m ds qs) second.each) first.each;
-  told = told_both n a b c first.inputs first.outputs second.inputs second.outputs first.told second.told;
+  known = known_both n a b c first.inputs first.outputs second.inputs second.outputs first.known second.known;
 }
 
 pub clients_map : (M N : Says) (n : ℕ) (a b : Option Clients) → ((cs : List Call) (rs : List Reply) → M cs rs → N cs rs) → ServesClients M n a b → ServesClients N n a b
-clients_map M N n a b k s = record { inputs = s.inputs; outputs = s.outputs; few = s.few; each = each_map s.inputs s.outputs M N k s.each; told = s.told }
+clients_map M N n a b k s = record { inputs = s.inputs; outputs = s.outputs; few = s.few; each = each_map s.inputs s.outputs M N k s.each; known = s.known }
 
 -- ---- no client
 
 same_answered : (x : Clients) → Some x ≡ Some (after_answers [] (after_accepts 0 x))
 same_answered x = let f : List (List ℕ) → Option Clients = λ z. Some (record { coming = x.coming; answered = z }) in ap f (sym (append-nil x.answered))
 
-told_nobody : (a : Option Clients) → IfSome a (λ x. ([] ≡ all_sent (take 0 x.coming)) × (a ≡ Some (after_answers [] (after_accepts 0 x))))
-told_nobody None = tt
-told_nobody (Some x) = (refl, same_answered x)
+known_nobody : (a : Option Clients) → IfSome a (λ x. ([] ≡ all_sent (take 0 x.coming)) × (a ≡ Some (after_answers [] (after_accepts 0 x))))
+known_nobody None = tt
+known_nobody (Some x) = (refl, same_answered x)
 
 pub clients_none : (M : Says) (a : Option Clients) → M [] [] → ServesClients M 0 a a
-clients_none M a m = record { inputs = []; outputs = []; few = lit≤ tt; each = m; told = told_nobody a }
+clients_none M a m = record { inputs = []; outputs = []; few = lit≤ tt; each = m; known = known_nobody a }
 
 none_sent : (xs : List (Option (List ℕ))) → next_sent xs ≡ None → [] ≡ all_sent (take 1 xs)
 none_sent [] h = refl
 none_sent (None ∷ xs) h = refl
 none_sent (Some x ∷ xs) h = absurd (some_none x h)
 
-told_failed : (a b : Option Clients) → IfSome a (λ x. b ≡ Some (after_accepts 1 x)) → IfSome a (λ x. next_sent x.coming ≡ None)
+known_failed : (a b : Option Clients) → IfSome a (λ x. b ≡ Some (after_accepts 1 x)) → IfSome a (λ x. next_sent x.coming ≡ None)
     → IfSome a (λ x. ([] ≡ all_sent (take 1 x.coming)) × (b ≡ Some (after_answers [] (after_accepts 1 x))))
-told_failed None b taken failed = tt
-told_failed (Some x) b taken failed =
+known_failed None b taken failed = tt
+known_failed (Some x) b taken failed =
     let f : List (List ℕ) → Option Clients = λ z. Some (record { coming = drop 1 x.coming; answered = z }) in (none_sent x.coming failed, taken ∙ ap f (sym (append-nil x.answered)))
 
 -- an accept that failed
 pub client_failed : (M : Says) (a b : Option Clients) → IfSome a (λ x. b ≡ Some (after_accepts 1 x)) → IfSome a (λ x. next_sent x.coming ≡ None) → M [] [] → ServesClients M 1 a b
-client_failed M a b taken failed m = record { inputs = []; outputs = []; few = lit≤ tt; each = m; told = told_failed a b taken failed }
+client_failed M a b taken failed m = record { inputs = []; outputs = []; few = lit≤ tt; each = m; known = known_failed a b taken failed }
 
 -- ---- one client
 
@@ -180,12 +180,12 @@ first_sent [] input h = absurd (none_some input h)
 first_sent (None ∷ xs) input h = absurd (none_some input h)
 first_sent (Some x ∷ xs) input h = ap (λ o. all_sent (o ∷ [])) (sym h)
 
-told_client : (a b c : Option Clients) (reads from to : Option (List ℕ)) (input o : List ℕ) → IfSome a (λ x. b ≡ Some (after_accepts 1 x))
+known_client : (a b c : Option Clients) (reads from to : Option (List ℕ)) (input o : List ℕ) → IfSome a (λ x. b ≡ Some (after_accepts 1 x))
     → IfSome a (λ x. IsSome (next_sent x.coming) × (reads ≡ next_sent x.coming) × (from ≡ Some []))
     → IfSome b (λ y. IfSome to (λ output. c ≡ Some (after_answers (output ∷ []) y))) → IfSome reads (λ known. input ≡ known) → (from ≡ Some [] → to ≡ Some o)
     → IfSome a (λ x. (input ∷ [] ≡ all_sent (take 1 x.coming)) × (c ≡ Some (after_answers (o ∷ []) (after_accepts 1 x))))
-told_client None b c reads from to input o taken given closed same written = tt
-told_client (Some x) b c reads from to input o taken given closed same written = (
+known_client None b c reads from to input o taken given closed same written = tt
+known_client (Some x) b c reads from to input o taken given closed same written = (
   first_sent x.coming input (known_input (next_sent x.coming) reads input given.0 given.1 same),
   subst (λ (w : Option (List ℕ)). IfSome w (λ output. c ≡ Some (after_answers (output ∷ []) (after_accepts 1 x)))) (written given.2)
       (subst (λ (y : Option Clients). IfSome y (λ z. IfSome to (λ output. c ≡ Some (after_answers (output ∷ []) z)))) taken closed),
@@ -213,5 +213,5 @@ client_served M a b c reads left from to e taken given closed served =
           unread = unread_any s.stop left s.unread;
         },
       );
-      told = told_client a b c reads from to served.input o.0 taken given closed served.same o.2;
+      known = known_client a b c reads from to served.input o.0 taken given closed served.same o.2;
     }

@@ -3,23 +3,24 @@ use Rattle.std.proofs.Common.{◌≡◌, ◌≢◌, ◌∙◌, ◌||◌, ℕ, �
 use Rattle.std.specs.Prelude.{⊤}
 use Rattle.sqlite_disk.specs.declared.Disk as disk
 use Rattle.sqlite_disk.specs.declared.Files.{Files}
+use Rattle.sqlite_wal.proofs.LogLemmas.{SeenMayStay}
 use Rattle.sqlite_wal.specs.Reads.{AreClean}
 use Rattle.sqlite_wal.specs.Recovery.{Image}
 use Rattle.sqlite_store.specs.declared.store.FileStore.{FileStore}
-use Rattle.sqlite.specs.Effect.{Database}
 use Rattle.sqlite.specs.Files.{file_state, over_files}
 use Rattle.sqlite.specs.Held.{Held, state}
 use Rattle.sqlite.specs.State.{HasCleanDisk}
 use Rattle.sqlite.specs.Store.{Ghosts}
-use Rattle.table_schema.specs.Layout.{IsStoreSchema}
 use Rattle.table_schema.specs.Ready.{IsReady}
 use Rattle.tenant_core.specs.States.{Outcomes, Same, States}
 use Rattle.tenant_files.proofs.ClosedFacts.{given_clean}
-use Rattle.tenant_files.proofs.StoredFacts.{left_states, meets_same, same_states, turned}
+use Rattle.tenant_files.proofs.StoredFacts.{meets_same, same_states}
 use Rattle.tenant_files.proofs.TableFacts.{of_store}
+use Rattle.tenant_files.proofs.UsedFacts.{held, uses_file, uses_files}
 use Rattle.tenant_files.specs.Closed.{GivesBack}
 use Rattle.tenant_files.specs.Opened.{IsFound}
 use Rattle.tenant_files.specs.Stored.{MayStandFor}
+use Rattle.tenant_files.specs.Used.{AreAsBefore}
 use Rattle.tenant_files.specs.declared.fault.FileFault.{FileFault}
 use Rattle.tenant_history.specs.Served.{IsSession, ServesSession}
 use Rattle.tenant_messages.specs.declared.call.Call.{Call}
@@ -56,18 +57,18 @@ latched_false (Err fault) latched latch works = cc
 
 serving_map : (A B : Type 0) (P Q : List Call → List Reply → Type 0) (r : Result (Unit {0}) ServerFault) (most : ℕ) (old new : Option Clients) → (A → B)
     → (IsServing r → (cs : List Call) (rs : List Reply) → P cs rs → Q cs rs) → EndsServing A P r most old new → EndsServing B Q r most old new
-serving_map A B P Q (Ok done) most old new unheard follows s = clients_map P Q most old new (follows tt) s
-serving_map A B P Q (Err Store) most old new unheard follows s = record { count = s.count; some = s.some; few = s.few; serves = clients_map P Q s.count old new (follows tt) s.serves }
-serving_map A B P Q (Err NoMemory) most old new unheard follows s = unheard s
-serving_map A B P Q (Err CannotListen) most old new unheard follows s = unheard s
-serving_map A B P Q (Err WriteFault) most old new unheard follows s = unheard s
+serving_map A B P Q (Ok done) most old new as_before follows s = clients_map P Q most old new (follows tt) s
+serving_map A B P Q (Err Store) most old new as_before follows s = record { count = s.count; some = s.some; few = s.few; serves = clients_map P Q s.count old new (follows tt) s.serves }
+serving_map A B P Q (Err NoMemory) most old new as_before follows s = as_before s
+serving_map A B P Q (Err CannotListen) most old new as_before follows s = as_before s
+serving_map A B P Q (Err WriteFault) most old new as_before follows s = as_before s
 
--- where the listener wasn't made ready
-pub ends_unheard : (A : Type 0) (P : List Call → List Reply → Type 0) (fault : ServerFault) (most : ℕ) (old new : Option Clients) → (fault ≡ Store → ⊥) → A → EndsServing A P (Err fault) most old new
-ends_unheard A P Store most old new other unheard = absurd (other refl)
-ends_unheard A P NoMemory most old new other unheard = unheard
-ends_unheard A P CannotListen most old new other unheard = unheard
-ends_unheard A P WriteFault most old new other unheard = unheard
+-- where no client was accepted
+pub ends_as_before : (A : Type 0) (P : List Call → List Reply → Type 0) (fault : ServerFault) (most : ℕ) (old new : Option Clients) → (fault ≡ Store → ⊥) → A → EndsServing A P (Err fault) most old new
+ends_as_before A P Store most old new other as_before = absurd (other refl)
+ends_as_before A P NoMemory most old new other as_before = as_before
+ends_as_before A P CannotListen most old new other as_before = as_before
+ends_as_before A P WriteFault most old new other as_before = as_before
 
 -- ---- the same states
 
@@ -84,7 +85,7 @@ serves_same is a b c d left cs rs before after s =
 
 -- ---- over tables
 
-module _ {S F : Type 0} (g : Ghosts S) (first last : ((Held S × Bool) × F) × Bool) (start : Held S × Bool) (conn : Held S) (end : Result (Unit {0}) ServerFault) (Unheard : Type 0) (most : ℕ) (from to : Option Clients) where
+module _ {S F : Type 0} (g : Ghosts S) (first last : ((Held S × Bool) × F) × Bool) (start : Held S × Bool) (conn : Held S) (end : Result (Unit {0}) ServerFault) (AsBefore : Type 0) (most : ℕ) (before from to : Option Clients) where
   abbrev OnStore : List Call → List Reply → Type 0
   OnStore calls replies = IsHonest g last.0.0 → ServesSession false (last.0.0.1 || last.1) (HasState g first.0.0) (HasState g last.0.0) (MayLeave g last.0.0) calls replies
 
@@ -92,16 +93,18 @@ module _ {S F : Type 0} (g : Ghosts S) (first last : ((Held S × Bool) × F) × 
   OnRows calls replies =
       HasCleanDisk (state g conn) → ServesSession false (has_failed end) (StandsFor (state g start.0).now.trees) (StandsFor (state g conn).now.trees) (MayStandFor g conn) calls replies
 
-  pub ends_on_tables : first.0.0 ≡ start → last.0.0.0 ≡ conn → (HasCleanDisk (state g conn) → IsHonest g last.0.0) → LatchesAs end (last.0.0.1 || last.1) → EndsServing ((last ≡ first) × Unheard) OnStore end most from to
-      → EndsServing ((conn ≡ start.0) × Unheard) OnRows end most from to
-  ends_on_tables begun ended honest latch said =
-      serving_map ((last ≡ first) × Unheard) ((conn ≡ start.0) × Unheard) OnStore OnRows end most from to (λ u. (sym ended ∙ ap (λ x. x.0.0.0) u.0 ∙ ap (λ x. x.0) begun, u.1))
+  -- the clients were the same before the listener was made ready
+  pub ends_on_tables : first.0.0 ≡ start → last.0.0.0 ≡ conn → (HasCleanDisk (state g conn) → IsHonest g last.0.0) → LatchesAs end (last.0.0.1 || last.1) → (AsBefore → to ≡ from) → from ≡ before
+      → EndsServing ((last ≡ first) × AsBefore) OnStore end most from to → EndsServing ((conn ≡ start.0) × (to ≡ before)) OnRows end most before to
+  ends_on_tables begun ended honest latch none same said =
+      subst (λ (o : Option Clients). EndsServing ((conn ≡ start.0) × (to ≡ o)) OnRows end most o to) same
+      (serving_map ((last ≡ first) × AsBefore) ((conn ≡ start.0) × (to ≡ from)) OnStore OnRows end most from to (λ u. (sym ended ∙ ap (λ x. x.0.0.0) u.0 ∙ ap (λ x. x.0) begun, none u.1))
       (λ is cs rs serves clean.
       of_store g (λ a b l. ServesSession false (has_failed end) a b l cs rs) first.0.0 start last.0.0 conn begun ended
       (subst (λ (b : Bool). ServesSession false b (HasState g first.0.0) (HasState g last.0.0) (MayLeave g last.0.0) cs rs) (latched_is end (last.0.0.1 || last.1) is latch) (serves (honest clean))))
-      said
+      said)
 
--- after so many clients the tables are ready
+-- once all clients were served the tables are ready
 pub ready_then : {S F : Type 0} (g : Ghosts S) (last : ((Held S × Bool) × F) × Bool) (conn : Held S) (end : Result (Unit {0}) ServerFault) → last.0.0.0 ≡ conn → (HasCleanDisk (state g conn) → IsHonest g last.0.0) → LatchesAs end (last.0.0.1 || last.1)
     → HasCleanDisk (state g conn) → has_failed end ≡ false → IsReady (state g conn)
 ready_then {S = S} g last conn end ended honest latch clean works =
@@ -109,91 +112,57 @@ ready_then {S = S} g last conn end ended honest latch clean works =
 
 -- ---- over files
 
-module _ {D : Type 0} (g : disk.Ghosts D) (first last : Held (FileStore D g)) (end : Result (Unit {0}) ServerFault) (copied : Result (Unit {0}) FileFault) (files : Files D) (Unheard : Type 0) (most : ℕ)
-    (from to : Option Clients) where
-  abbrev OnTables : List Call → List Reply → Type 0
-  OnTables calls replies =
+module _ {D : Type 0} (g : disk.Ghosts D) (first : Held (FileStore D g)) (end : Result (Unit {0}) ServerFault) (files : Files D) (most : ℕ) (from to : Option Clients) where
+  abbrev OnTables : Held (FileStore D g) → List Call → List Reply → Type 0
+  OnTables last calls replies =
       HasCleanDisk (file_state last)
       → ServesSession false (has_failed end) (StandsFor (file_state first).now.trees) (StandsFor (file_state last).now.trees) (MayStandFor over_files last) calls replies
 
-  abbrev pub OnFiles : List Call → List Reply → Type 0
-  OnFiles calls replies =
+  abbrev OnFiles : Held (FileStore D g) → List Call → List Reply → Type 0
+  OnFiles last calls replies =
       AreClean g files.log files.db
       → ServesSession false (has_failed end) (StandsFor (file_state first).now.trees) (StatesIn (file_state last).committed) (MayStandFor over_files last) calls replies
 
+  abbrev Said : Held (FileStore D g) → Type 0
+  Said last = EndsServing ((last ≡ first) × (to ≡ from)) (OnFiles last) end most from to
+
   -- at the closing the rows are what the file holds
-  held : IsReady (file_state last) → Same (StandsFor (file_state last).now.trees) (StatesIn (file_state last).committed)
-  held ready =
-      subst (λ (db : Database). Same (StandsFor (file_state last).now.trees) (StatesIn db)) ready.settled (left_states (file_state last).now ready.schema)
+  on_files : (last : Held (FileStore D g)) (copied : Result (Unit {0}) FileFault) → GivesBack last copied files → (HasCleanDisk (file_state last) → has_failed end ≡ false → IsReady (file_state last))
+      → EndsServing ((last ≡ first) × (to ≡ from)) (OnTables last) end most from to → Said last
+  on_files last copied given ready said =
+      serving_map ((last ≡ first) × (to ≡ from)) ((last ≡ first) × (to ≡ from)) (OnTables last) (OnFiles last) end most from to (λ u. u)
+      (λ is cs rs serves clean.
+      let now = given_clean last copied files given clean in
+      let old = StandsFor (file_state first).now.trees in
+      serves_same (has_failed end) old old (StandsFor (file_state last).now.trees) (StatesIn (file_state last).committed) (MayStandFor over_files last) cs rs (same_states old)
+      (λ works. held last (ready now works)) (serves now))
+      said
 
-  pub ends_on_files : GivesBack last copied files → (HasCleanDisk (file_state last) → HasCleanDisk (file_state first))
-      → (HasCleanDisk (file_state last) → has_failed end ≡ false → IsReady (file_state last)) → EndsServing ((last ≡ first) × Unheard) OnTables end most from to
-      → ServesOnFiles g first end copied files Unheard most from to
-  ends_on_files given before ready said = record {
-    last = last;
-    given = given;
-    was_clean = λ clean. before (given_clean last copied files given clean);
-    tables = λ clean works.
-        let r = ready (given_clean last copied files given clean) works in
-        subst (λ (db : Database). IsStoreSchema db.schema) r.settled r.schema;
-    ends =
-        serving_map ((last ≡ first) × Unheard) ((last ≡ first) × Unheard) OnTables OnFiles end most from to (λ u. u)
-        (λ is cs rs serves clean.
-        let now = given_clean last copied files given clean in
-        let old = StandsFor (file_state first).now.trees in
-        serves_same (has_failed end) old old (StandsFor (file_state last).now.trees) (StatesIn (file_state last).committed) (MayStandFor over_files last) cs rs (same_states old)
-        (λ works. held (ready now works)) (serves now))
-        said;
-  }
+-- by a store that worked at first
+pub ends_on_files : {D : Type 0} (g : disk.Ghosts D) (store : Held (FileStore D g) × Bool) (last : Held (FileStore D g)) (end : Result (Unit {0}) ServerFault) (copied : Result (Unit {0}) FileFault)
+    (files : Files D) (most : ℕ) (from to : Option Clients) → SeenMayStay g → store.1 ≡ false → GivesBack last copied files → (HasCleanDisk (file_state last) → IsHonest over_files store)
+    → (HasCleanDisk (file_state last) → has_failed end ≡ false → IsReady (file_state last))
+    → EndsServing ((last ≡ store.0) × (to ≡ from)) (OnTables g store.0 end files most from to last) end most from to → ServesOnFiles g store.0 end copied files most from to
+ends_on_files g store last end copied files most from to stays works given honest ready said =
+    uses_files stays store last copied files (has_failed end ≡ false) (Said g store.0 end files most from to) works given honest ready
+    (on_files g store.0 end files most from to last copied given ready said)
 
--- ---- with the opening
-
+-- with the opening
 module _ {D : Type 0} (g : disk.Ghosts D) (image : Image) (first : Held (FileStore D g)) (end : Result (Unit {0}) ServerFault) (copied : Result (Unit {0}) FileFault) (files : Files D) (most : ℕ)
-    (before from to : Option Clients) where
-  -- the clients were the same before the listener was made ready
-  pub ends_on_file : (Unheard : Type 0) → (Unheard → to ≡ from) → from ≡ before → IsFound g (HasCleanDisk (file_state first)) image (StandsFor (file_state first).now.trees)
-      → ServesOnFiles g first end copied files Unheard most from to → ServesOnFile g image end copied files most before to
-  ends_on_file Unheard none same opening files_end =
-      let last = files_end.last in
-      let rows = StandsFor (file_state first).now.trees in
-      let old = StatesIn (file_state opening.was).committed in
-      let Q : Option Clients → Type 0 = λ o. EndsServing ((AreClean g files.log files.db → Same old (StandsFor (file_state last).now.trees)) × (to ≡ o))
-      (λ calls replies. AreClean g files.log files.db → ServesSession false (has_failed end) old (StatesIn (file_state last).committed) (MayStandFor over_files last) calls replies) end most o to in
-      record {
-        was = opening.was;
-        finds = record { opened = λ clean. opening.finds.opened (files_end.was_clean clean); found = λ clean. opening.finds.found (files_end.was_clean clean) };
-        last = last;
-        given = files_end.given;
-        tables = files_end.tables;
-        ends = subst Q same
-            (serving_map ((last ≡ first) × Unheard) ((AreClean g files.log files.db → Same old (StandsFor (file_state last).now.trees)) × (to ≡ from))
-            (OnFiles g first last end copied files Unheard most from to)
-            (λ calls replies. AreClean g files.log files.db → ServesSession false (has_failed end) old (StatesIn (file_state last).committed) (MayStandFor over_files last) calls replies)
-            end most from to
-            (λ u. (λ clean. subst (λ (x : Held (FileStore D g)). Same old (StandsFor (file_state x).now.trees)) (sym u.0) (turned rows old (opening.same (files_end.was_clean clean))), none u.1))
-            (λ is cs rs serves clean.
-            serves_same (has_failed end) rows old (StatesIn (file_state last).committed) (StatesIn (file_state last).committed) (MayStandFor over_files last) cs rs (opening.same (files_end.was_clean clean))
-            (λ _. same_states (StatesIn (file_state last).committed)) (serves clean))
-            files_end.ends);
-      }
+    (from to : Option Clients) where
+  abbrev Says : Type 0 → States → States → Outcomes → Type 0
+  Says Clean before after may_leave =
+      EndsServing ((Clean → AreAsBefore before after may_leave) × (to ≡ from)) (λ calls replies. Clean → ServesSession false (has_failed end) before after may_leave calls replies) end most from to
 
--- where the listener wasn't made ready, and the file was closed
-module _ {D : Type 0} (g : disk.Ghosts D) (image : Image) (first : Held (FileStore D g)) (copied : Result (Unit {0}) FileFault) (files : Files D) (most : ℕ) (before to : Option Clients) where
-  pub ends_unlistened : (fault : ServerFault) (conn : Held (FileStore D g)) → (fault ≡ Store → ⊥) → conn ≡ first → to ≡ before → GivesBack conn copied files
-      → IsFound g (HasCleanDisk (file_state first)) image (StandsFor (file_state first).now.trees) → ServesOnFile g image (Err fault) copied files most before to
-  ends_unlistened fault conn other kept same given opening =
+  pub ends_on_file : IsFound g (HasCleanDisk (file_state first)) image (StandsFor (file_state first).now.trees) → ServesOnFiles g first end copied files most from to
+      → ServesOnFile g image end copied files most from to
+  ends_on_file opening uses =
+      uses_file image first copied files (has_failed end ≡ false) (Said g first end files most from to) Says opening uses
+      (λ last old same as_before said.
       let rows = StandsFor (file_state first).now.trees in
-      let old = StatesIn (file_state opening.was).committed in
-      let clean : AreClean g files.log files.db → HasCleanDisk (file_state first) =
-      λ is. subst (λ (x : Held (FileStore D g)). HasCleanDisk (file_state x)) kept (given_clean conn copied files given is) in
-      record {
-        was = opening.was;
-        finds = record { opened = λ is. opening.finds.opened (clean is); found = λ is. opening.finds.found (clean is) };
-        last = conn;
-        given = given;
-        tables = λ is works. cc;
-        ends =
-            ends_unheard ((AreClean g files.log files.db → Same old (StandsFor (file_state conn).now.trees)) × (to ≡ before))
-            (λ calls replies. AreClean g files.log files.db → ServesSession false true old (StatesIn (file_state conn).committed) (MayStandFor over_files conn) calls replies) fault most before to other
-            (λ is. subst (λ (x : Held (FileStore D g)). Same old (StandsFor (file_state x).now.trees)) (sym kept) (turned rows old (opening.same (clean is))), same);
-      }
+      let new = StatesIn (file_state last).committed in
+      serving_map ((last ≡ first) × (to ≡ from)) ((AreClean g files.log files.db → AreAsBefore old new (MayStandFor over_files last)) × (to ≡ from))
+      (OnFiles g first end files most from to last)
+      (λ calls replies. AreClean g files.log files.db → ServesSession false (has_failed end) old new (MayStandFor over_files last) calls replies) end most from to
+      (λ u. (as_before u.0, u.1))
+      (λ is cs rs serves clean. serves_same (has_failed end) rows old new new (MayStandFor over_files last) cs rs (same clean) (λ _. same_states new) (serves clean)) said)

@@ -1,5 +1,5 @@
 -- What a text is found to be: a map, or refused for its first fault.
-use Rattle.std.proofs.Common.{◌≡◌, ◌∙◌, ◌⊎◌, inl, inr, List, Option, Some, None, MatchOption, sym, ap}
+use Rattle.std.proofs.Common.{◌≡◌, ◌∙◌, ◌⊎◌, inl, inr, ℕ, List, Option, Some, None, MatchOption, refl, sym, ap}
 use Rattle.std.proofs.Common.{Result, Ok}
 use Rattle.std.specs.Result.{result_err}
 use Rattle.std.proofs.Common.{IfOk}
@@ -10,7 +10,6 @@ use Rattle.crush_words.specs.Words.{Word}
 use Rattle.crush_grammar.specs.Syntax.{Declares}
 use Rattle.crush_grammar.specs.Fronts.{Breaks, IsWhole, last_line}
 use Rattle.crush_grammar.specs.declared.code.TextFault.{TextFault}
-use Rattle.crush_grammar.specs.declared.code.TextCode.TheVariants.{Map as MapCode}
 use Rattle.crush_grammar.specs.declared.declaration.Declaration.{Declaration}
 use Rattle.crush_text.specs.Judging.{Declared, declared, declared_fault, at_line, last_fault}
 use Rattle.crush_text.specs.MapText.{SaysMap, HasMapFault, HasFormFault}
@@ -40,20 +39,33 @@ says_map ws s m clean end same valid =
       map = valid;
     }
 
-pub end_faulty : (ws : List Word) (s : Declared) (code : FaultCode) → IsClean ws s → at_end s ≡ Some code → HasMapFault ws (record { line = last_line 1 ws; code = MapCode code })
-end_faulty ws s code clean end =
-    let some : at_end (declared clean.declarations) ≡ Some code = rw clean.all at end in
+pub end_faulty : (ws : List Word) (s : Declared) (f : TextFault) → IsClean ws s → last_fault (last_line 1 ws) s ≡ Some f → HasMapFault ws f
+end_faulty ws s f clean end =
+    let some : last_fault (last_line 1 ws) (declared clean.declarations) ≡ Some f = rw clean.all at end in
     record {
       declarations = clean.declarations;
       form = clean.form;
-      first = ap (λ o. or_else o (last_fault (last_line 1 ws) (declared clean.declarations))) clean.each ∙ ap (at_line (last_line 1 ws)) some;
+      first = ap (λ o. or_else o (last_fault (last_line 1 ws) (declared clean.declarations))) clean.each ∙ some;
     }
+
+no_code : (line : ℕ) (o : Option FaultCode) → at_line line o ≡ None → o ≡ None
+no_code line None h = refl
+no_code line (Some code) h = cc
+
+-- without a fault at the end there is no code of one
+pub ends_well : (line : ℕ) (s : Declared) → last_fault line s ≡ None → at_end s ≡ None
+ends_well line s h = no_code line (at_end s) h
 
 -- ---- what reading finds
 
 pub clean : (ws : List Word) (ds xs : List Declaration) (o : Option TextFault) (answer : Result Declared TextFault) (s : Declared) → xs ≡ ds → MatchOption o (Declares ws ds) (λ at. Breaks ws ds at) → o ≡ None →
     result_err answer ≡ declared_fault xs → IfOk answer (λ judge. judge ≡ declared xs) → answer ≡ Ok s → IsClean ws s
 clean ws ds xs o answer s same form none each all is = record { declarations = xs; form = rw same (rw none at form); each = sym (rw is at each); all = rw is at all }
+
+-- a declaration has the first fault, whether or not the words leave the grammar behind it
+pub faulty : (ws : List Word) (ds xs : List Declaration) (o : Option TextFault) (f : TextFault) → xs ≡ ds → MatchOption o (Declares ws ds) (λ at. Breaks ws ds at) → declared_fault xs ≡ Some f → HasMapFault ws f ⊎ HasFormFault ws f
+faulty ws ds xs None f same form is = inl (record { declarations = xs; form = rw same form; first = ap (λ o. or_else o (last_fault (last_line 1 ws) (declared xs))) is })
+faulty ws ds xs (Some at) f same breaks is = inr (record { declarations = xs; at = at; breaks = rw same breaks; first = ap (λ o. or_else o (Some at)) is })
 
 -- ---- a text of a map has no fault
 

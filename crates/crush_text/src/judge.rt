@@ -508,6 +508,27 @@ impl Judge {
         }
     }
 
+    /// The first fault of declarations, each checked behind those before it; if there is none, all
+    /// are declared.
+    ///
+    /// `Err(AllocError)`: an allocation failed; the value must not be used any more.
+    #[tactic(auto, unfolding(crate::specs::Judging::fault_from))]
+    fn declare_all(
+        &mut self,
+        alloc: Global,
+        declarations: &[Declaration<'_>],
+    ) -> Result<Option<TextFault>, AllocError>
+        ensures fault { IfOk result (λ fault. fault ≡ spec.fault_from self.old declarations.now) }
+        ensures declared { IfOk result (λ fault. fault ≡ None → self.new ≡ spec.declared_from self.old declarations.now) }
+    {
+        for declaration in declarations {
+            if let Some(fault) = self.declare(alloc, declaration)? {
+                return Ok(Some(fault));
+            }
+        }
+        Ok(None)
+    }
+
     /// The fault at the end of a text, when all is declared.
     pub(crate) fn end_fault(&self) -> Option<FaultCode>
         ensures { result ≡ faults.end_fault self.now.known self.now.draft.tunables self.now.draft.local_tries self.now.draft.local_fallback_tries }
@@ -556,7 +577,6 @@ fn set_step(setting: Setting, n: u32) -> Option<Step>
 }
 
 /// What all declarations make, or the first fault that one of them has.
-#[tactic(auto, unfolding(crate::specs::Judging::fault_from))]
 pub(crate) fn judge_all(
     alloc: Global,
     declarations: &[Declaration<'_>],
@@ -565,10 +585,8 @@ pub(crate) fn judge_all(
     ensures declared { IfOk result (λ r. IfOk r (λ judge. judge ≡ spec.declared declarations.now)) }
 {
     let mut judge = Judge::new(alloc);
-    for declaration in declarations {
-        if let Some(fault) = judge.declare(alloc, declaration)? {
-            return Ok(Err(fault));
-        }
+    match judge.declare_all(alloc, declarations)? {
+        Some(fault) => Ok(Err(fault)),
+        None => Ok(Ok(judge)),
     }
-    Ok(Ok(judge))
 }

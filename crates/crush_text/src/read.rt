@@ -1,15 +1,32 @@
 //! Reading a text as a map.
 
-ghost use Rattle.std.specs.Prelude.{IfOk, IfErr};
+ghost use Rattle.std.specs.Prelude.{◌≡◌, IfOk, IfErr, MatchOption};
 ghost use Rattle.crush_words.specs.Words.{words};
+ghost use Rattle.crush_grammar.specs.Fronts as fronts;
+ghost use Rattle.crush_grammar.specs.Fronts.{Breaks};
+ghost use Rattle.crush_grammar.specs.Syntax.{Declares};
+ghost use Rattle.crush_text.specs.Judging.{last_fault};
 ghost use Rattle.crush_text.specs.MapText.{IsTextOf, HasFirstFault, IsShort, IsRefusedFor};
 ghost use Rattle.crush_text.specs.Private.Clean.{IsClean};
 
 use crate::judge::{Judge, at_line, judge_all};
 use crate::limits::TEXT_LIMIT;
-use crush_grammar::{TextCode, TextFault, last_line, read_declarations};
+use crush_grammar::{Declarations, TextCode, TextFault, last_line, read_declarations};
 use crush_map::CrushMap;
 use std::alloc::{AllocError, Global};
+
+/// The fault at the end of a text, when all is declared.
+fn fault_at_end(text: &[u8], judge: &Judge) -> Option<TextFault>
+    ensures { result ≡ last_fault (fronts.last_line 1 (words text.now)) judge.now }
+{
+    match judge.end_fault() {
+        Some(code) => {
+            let line = last_line(text);
+            Some(at_line(line, code))
+        }
+        None => None,
+    }
+}
 
 /// The map of a text whose declarations have no fault, or else the fault at its end.
 fn map_of(text: &[u8], judge: Judge) -> Result<CrushMap, TextFault>
@@ -17,16 +34,29 @@ fn map_of(text: &[u8], judge: Judge) -> Result<CrushMap, TextFault>
     ensures map { IfOk result (λ m. IsTextOf text.now m) }
     ensures refused { IfErr result (λ f. HasFirstFault text.now f) }
 {
-    let found = judge.end_fault();
-    match found {
-        Some(code) => {
-            let line = last_line(text);
-            Err(at_line(line, code))
-        }
-        None => {
-            let draft = judge.into_draft();
-            Ok(CrushMap::of(draft))
-        }
+    match fault_at_end(text, &judge) {
+        Some(fault) => Err(fault),
+        None => Ok(CrushMap::of(judge.into_draft())),
+    }
+}
+
+/// The map of a text with these declarations, or else its first fault.
+fn map_of_declarations(
+    alloc: Global,
+    text: &[u8],
+    read: &Declarations<'_>,
+) -> Result<Result<CrushMap, TextFault>, AllocError>
+    requires { MatchOption read.now.fault (Declares (words text.now) read.now.declarations) (λ f. Breaks (words text.now) read.now.declarations f) }
+    ensures map { IfOk result (λ answer. IfOk answer (λ m. IsTextOf text.now m)) }
+    ensures refused { IfOk result (λ answer. IfErr answer (λ f. HasFirstFault text.now f)) }
+{
+    let judged = judge_all(alloc, read.declarations.as_slice())?;
+    match judged {
+        Err(fault) => Ok(Err(fault)),
+        Ok(judge) => match read.fault {
+            Some(fault) => Ok(Err(fault)),
+            None => Ok(map_of(text, judge)),
+        },
     }
 }
 
@@ -41,14 +71,7 @@ pub fn read_stored(alloc: Global, text: &[u8]) -> Result<Result<CrushMap, TextFa
     ensures refused { IfOk result (λ answer. IfErr answer (λ f. HasFirstFault text.now f)) }
 {
     let read = read_declarations(alloc, text)?;
-    let judged = judge_all(alloc, read.declarations.as_slice())?;
-    match judged {
-        Err(fault) => Ok(Err(fault)),
-        Ok(judge) => match read.fault {
-            Some(fault) => Ok(Err(fault)),
-            None => Ok(map_of(text, judge)),
-        },
-    }
+    map_of_declarations(alloc, text, &read)
 }
 
 /// The map of a text that may be imported, or else its first fault, by line and code.

@@ -1,12 +1,10 @@
 //! `crushcalc`, a calculator of CRUSH placements: runs the command that its arguments name.
 #![tactic(auto)]
 
-mod arguments;
-
-use arguments::{Invocation, read_arguments};
 use clap::Error;
 use clap::error::ErrorKind;
 use crush_app::{CheckEnd, ScriptEnd, check_run, script_in_memory};
+use crush_arguments::{Invocation, read_arguments};
 use crush_files::script_on_file;
 use crush_server::{ServerFault, TcpClients, Waiting, serve_on_file};
 use sqlite_disk::Unknown;

@@ -7,7 +7,7 @@ use crush_http::{Call, CallParts, Ended, Reply, Service, SessionEnd, laws, serve
 use sqlite::Connection;
 use std::num::NonZeroUsize;
 use std::test::Fail;
-use tenant_files::{close_service, open_service};
+use table_service::{close_service, open_service};
 use tenant_service::MemoryStore;
 use text_tests::texts::DEVICE_0;
 
@@ -53,7 +53,7 @@ fn services_have_their_calls(rt: HostRuntime) -> Result<(), Fail> {
 fn services_are_opened_and_closed(rt: HostRuntime) -> Result<(), Fail> {
     let alloc = rt.alloc();
     let conn = Connection::open_in_memory(alloc)?;
-    let Ok(mut service) = open_service(alloc, conn, NonZeroUsize::MIN) else {
+    let Ok(mut service) = open_service::<_, 1_000_000>(alloc, conn, NonZeroUsize::MIN) else {
         return Err(Fail::new("the service isn't opened"));
     };
     for row in &ROWS {

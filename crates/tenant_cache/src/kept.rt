@@ -69,6 +69,7 @@ impl<const BYTES: u64> Kept<BYTES> {
         ensures found { IfOk result (λ found. option_map (λ r. r.value) found ≡ kept_at self.old name.now) }
         ensures same { (u : List ℕ) (r : _) → kept_at self.new u ≡ Some r → kept_at self.old u ≡ Some r }
     {
+        // for the prover, which learns from a call what holds of its value
         let _count = self.by_name.len();
         self.by_name.promote(name);
         let Some(ready) = self.by_name.peek(name) else {
@@ -88,6 +89,7 @@ impl<const BYTES: u64> Kept<BYTES> {
     pub fn forget(&mut self, name: &str)
         ensures { Updates name.now None self.old self.new }
     {
+        // for the prover, which learns from a call what holds of its value
         let _count = self.by_name.len();
         self.bytes -= size_of(&self.by_name.pop_entry(name));
     }
@@ -105,6 +107,7 @@ impl<const BYTES: u64> Kept<BYTES> {
             return;
         }
         let bytes = self.bytes + size;
+        // for the prover, which learns from a call what holds of its value
         let _count = self.by_name.len();
         match self.by_name.push(name, ready) {
             Ok(displaced) => {

@@ -5,7 +5,7 @@ use crate::placed::{Store, after, store_over};
 use crush_select::Slot;
 use std::alloc::{AllocError, Global};
 use std::process::Abort;
-use tenant_core::{Query, TenantStore};
+use tenant_core::{Cached, Query, TenantStore};
 use tenant_service::{MemoryStore, Service};
 
 /// A part of a history.
@@ -36,17 +36,21 @@ pub(crate) fn assert_touched(
     device: u64,
     groups: &[u32],
 ) {
-    match store.touched(tenant, &Query::Impact(1, device)) {
-        Some(touched) => assert!(rt; touched.groups.as_slice() == groups, "{tenant} {device}"),
-        None => rt.abort(),
+    match store.cached(tenant, &Query::Impact(1, device)) {
+        Some((_, Cached::Touched(_, touched))) => {
+            assert!(rt; touched.as_slice() == groups, "{tenant} {device}")
+        }
+        _ => rt.abort(),
     }
 }
 
 /// Asserts how many groups move.
 fn assert_moved(rt: &impl Abort, store: &mut Store, from: u64, to: u64, count: usize) {
-    match store.moved("a", &Query::Moves(1, from, to)) {
-        Some(moved) => assert_eq!(rt; moved.rows.as_slice().len(), count, "{from} {to}"),
-        None => rt.abort(),
+    match store.cached("a", &Query::Moves(1, from, to)) {
+        Some((_, Cached::Moved(_, rows))) => {
+            assert_eq!(rt; rows.as_slice().len(), count, "{from} {to}")
+        }
+        _ => rt.abort(),
     }
 }
 
@@ -59,11 +63,11 @@ fn assert_all_moved(
     old: &[Slot],
     new: &[Slot],
 ) {
-    let Some(moved) = store.moved("a", &Query::Moves(1, from, to)) else {
+    let Some((_, Cached::Moved(_, rows))) = store.cached("a", &Query::Moves(1, from, to)) else {
         rt.abort()
     };
-    assert_eq!(rt; moved.rows.as_slice().len(), 8, "{from} {to}");
-    for (group, row) in moved.rows.as_slice().iter().enumerate() {
+    assert_eq!(rt; rows.as_slice().len(), 8, "{from} {to}");
+    for (group, row) in rows.as_slice().iter().enumerate() {
         assert_eq!(rt; row.group as usize, group);
         assert!(rt;
             row.old.as_slice() == old && row.new.as_slice() == new,
@@ -86,10 +90,10 @@ fn after_step(
         Step::TouchesNone(tenant, pool, device) => {
             assert!(rt;
                 store
-                    .touched(tenant, &Query::Impact(*pool, *device))
+                    .cached(tenant, &Query::Impact(*pool, *device))
                     .is_none()
             );
-            assert!(rt; store.touched(tenant, &Query::Usage(*pool)).is_none());
+            assert!(rt; store.cached(tenant, &Query::Usage(*pool)).is_none());
         }
         Step::Moves(from, to, count) => assert_moved(rt, &mut store, *from, *to, *count),
         Step::MovesAll(from, to, old, new) => assert_all_moved(
@@ -98,10 +102,10 @@ fn after_step(
         Step::MovesNone(tenant, pool, from, to) => {
             assert!(rt;
                 store
-                    .moved(tenant, &Query::Moves(*pool, *from, *to))
+                    .cached(tenant, &Query::Moves(*pool, *from, *to))
                     .is_none()
             );
-            assert!(rt; store.moved(tenant, &Query::Usage(*pool)).is_none());
+            assert!(rt; store.cached(tenant, &Query::Usage(*pool)).is_none());
         }
     }
     Ok(store)

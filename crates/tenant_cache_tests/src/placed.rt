@@ -9,7 +9,7 @@ use std::process::Abort;
 use std::rc::Rc;
 use std::test::Fail;
 use tenant_cache::CachedStore;
-use tenant_core::{Query, TenantStore};
+use tenant_core::{Cached, Query, TenantStore};
 use tenant_messages::CallParts;
 use tenant_service::{MemoryStore, Service};
 
@@ -115,9 +115,9 @@ pub(crate) fn with_tenant(
 
 /// The placement that the store has at hand of a group of a tenant's pool.
 fn placed(rt: &impl Abort, store: &mut Store, tenant: &str, group: u64) -> Rc<Placement> {
-    match store.placed(tenant, &Query::Group(1, group)) {
-        Some(placed) => placed.placement,
-        None => rt.abort(),
+    match store.cached(tenant, &Query::Group(1, group)) {
+        Some((_, Cached::Placed(_, placement))) => placement,
+        _ => rt.abort(),
     }
 }
 
@@ -148,24 +148,6 @@ fn a_group_has_one_placement_whatever_is_kept(rt: HostRuntime) -> Result<(), Fai
         assert_on(&rt, &again, 0, true);
         assert_eq!(rt; Rc::ptr_eq(&first, &again), is_kept);
         assert!(rt; Rc::ptr_eq(&again, &last));
-    }
-    Ok(())
-}
-
-/// Two groups by turns: with room for one placement none is found, and once a trial of 1,024
-/// requests, and 8 for the room, has shown that, none is looked up. With room for both they are.
-#[test]
-fn where_nothing_is_found_nothing_is_looked_up(rt: HostRuntime) -> Result<(), Fail> {
-    let alloc = rt.alloc();
-    for (room, is_looked_up) in [(1, false), (1_024, true)] {
-        let store = store_for(&rt, alloc, room)?;
-        let mut store = with_tenant(&rt, alloc, store, "a", 0)?;
-        for _ in 0..516 {
-            placed(&rt, &mut store, "a", 0);
-            placed(&rt, &mut store, "a", 7);
-        }
-        let next = store.placed("a", &Query::Group(1, 0));
-        assert_eq!(rt; next.is_some(), is_looked_up);
     }
     Ok(())
 }
@@ -255,7 +237,7 @@ fn a_tenant_that_is_made_again_has_placements_of_its_own(rt: HostRuntime) -> Res
     let mut store = with_tenant(&rt, alloc, store, "a", 0)?;
     assert_on(&rt, &placed(&rt, &mut store, "a", 3), 0, true);
     let mut store = after(&rt, alloc, store, "DELETE", "/t/a", "")?;
-    assert!(rt; store.placed("a", &Query::Group(1, 3)).is_none());
+    assert!(rt; store.cached("a", &Query::Group(1, 3)).is_none());
     let mut store = with_tenant(&rt, alloc, store, "a", 9)?;
     assert_on(&rt, &placed(&rt, &mut store, "a", 3), 9, true);
     Ok(())
@@ -289,10 +271,10 @@ fn nothing_is_at_hand_of_what_is_not_there(rt: HostRuntime) -> Result<(), Fail> 
     let alloc = rt.alloc();
     let store = store_for(&rt, alloc, 1_024)?;
     let mut store = with_tenant(&rt, alloc, store, "a", 0)?;
-    assert!(rt; store.placed("a", &Query::Group(1, 7)).is_some());
-    assert!(rt; store.placed("a", &Query::Group(1, 8)).is_none());
-    assert!(rt; store.placed("a", &Query::Group(2, 7)).is_none());
-    assert!(rt; store.placed("b", &Query::Group(1, 7)).is_none());
-    assert!(rt; store.placed("a", &Query::Usage(1)).is_none());
+    assert!(rt; store.cached("a", &Query::Group(1, 7)).is_some());
+    assert!(rt; store.cached("a", &Query::Group(1, 8)).is_none());
+    assert!(rt; store.cached("a", &Query::Group(2, 7)).is_none());
+    assert!(rt; store.cached("b", &Query::Group(1, 7)).is_none());
+    assert!(rt; store.cached("a", &Query::Usage(1)).is_none());
     Ok(())
 }

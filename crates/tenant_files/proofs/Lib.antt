@@ -1,3 +1,4 @@
 pub mod ClosedFacts
 pub mod StoredFacts
 pub mod TableFacts
+pub mod UsedFacts

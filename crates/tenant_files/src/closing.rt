@@ -1,6 +1,6 @@
 //! Closing a database file.
 
-ghost use Rattle.std.specs.Prelude.{◌≡◌, Err};
+ghost use Rattle.std.specs.Prelude.{◌≡◌, Err, true};
 ghost use Rattle.tenant_files.specs.Closed.{GivesBack};
 
 use crate::fault::{FileFault, fault_of};
@@ -20,7 +20,7 @@ pub struct Closed<D: Disk> {
 ///
 /// `copied` is `Err(FileFault::Store)` where the file failed, and `Err(FileFault::NoMemory)` where
 /// an allocation failed.
-pub fn close_files<D: Disk + Drop>(conn: Connection<FileStore<D>>) -> Closed<D>
+fn close_files<D: Disk + Drop>(conn: Connection<FileStore<D>>) -> Closed<D>
     ensures { GivesBack conn result.copied result.files }
 {
     match conn.close_files() {
@@ -36,12 +36,27 @@ pub fn close_files<D: Disk + Drop>(conn: Connection<FileStore<D>>) -> Closed<D>
 }
 
 /// Gives back the files of a connection whose file failed for good, with nothing copied.
-pub fn give_up<D: Disk + Drop>(conn: Connection<FileStore<D>>) -> Closed<D>
+fn give_up<D: Disk + Drop>(conn: Connection<FileStore<D>>) -> Closed<D>
     ensures given { GivesBack conn result.copied result.files }
     ensures failed { result.copied ≡ Err FileFault.Store }
 {
     Closed {
         copied: Err(FileFault::Store),
         files: conn.into_store().close(),
+    }
+}
+
+/// Closes the file of a connection, unless it failed for good: then nothing is copied.
+pub fn close_unless_failed<D: Disk + Drop>(
+    conn: Connection<FileStore<D>>,
+    has_failed: bool,
+) -> Closed<D>
+    ensures given { GivesBack conn result.copied result.files }
+    ensures failed { has_failed ≡ true → result.copied ≡ Err FileFault.Store }
+{
+    if has_failed {
+        give_up(conn)
+    } else {
+        close_files(conn)
     }
 }

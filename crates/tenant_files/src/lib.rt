@@ -1,16 +1,13 @@
-//! Database files of tenants, and services over a database: opening and closing, and whether files
-//! are where they were.
+//! Database files of tenants: opening and closing, and whether they are where they were.
 #![tactic(auto)]
 
 mod closing;
 mod fault;
 mod log;
 mod opening;
-mod service;
 mod watch;
 
-pub use closing::{Closed, close_files, give_up};
+pub use closing::{Closed, close_unless_failed};
 pub use fault::FileFault;
 pub use opening::{READY_BYTES, open_store};
-pub use service::{TableService, close_service, open_service};
 pub use watch::FileWatch;

@@ -102,6 +102,7 @@ impl<S: Alter> Store<S> {
     {
         names_stand_for_one_state();
         let Store { tables, .. } = self;
+        // for the prover, which learns from a call what holds of its value
         let _live = tables.is_latched();
         tables.close()
     }
@@ -128,6 +129,7 @@ impl<S: Alter> TenantStore for Store<S> {
     }
 
     fn load(&mut self, name: &str) -> Result<Option<Rc<Inventory>>, StoreFault> {
+        // for the prover, which learns from a call what holds of its value
         let _live = self.tables.is_latched();
         load(self.alloc, &mut self.tables, &mut self.judged, name)
     }
@@ -138,12 +140,14 @@ impl<S: Alter> TenantStore for Store<S> {
         number: &str,
     ) -> Result<Option<Rc<Receipt>>, StoreFault> {
         names_stand_for_one_state();
+        // for the prover, which learns from a call what holds of its value
         let _live = self.tables.is_latched();
         find_receipt(self.alloc, &mut self.tables, name, number)
     }
 
     fn create(&mut self, name: &str) -> Result<(), StoreFault> {
         names_stand_for_one_state();
+        // for the prover, which learns from a call what holds of its value
         let _live = self.tables.is_latched();
         forget(&mut self.judged, name);
         match self.tables.create(name) {
@@ -154,12 +158,14 @@ impl<S: Alter> TenantStore for Store<S> {
 
     fn commit(&mut self, name: &str, change: &Change) -> Result<(), StoreFault> {
         names_stand_for_one_state();
+        // for the prover, which learns from a call what holds of its value
         let _live = self.tables.is_latched();
         commit(self.alloc, &mut self.tables, &mut self.judged, name, change)
     }
 
     fn remove(&mut self, name: &str) -> Result<(), StoreFault> {
         names_stand_for_one_state();
+        // for the prover, which learns from a call what holds of its value
         let _live = self.tables.is_latched();
         forget(&mut self.judged, name);
         remove(&mut self.tables, name)

@@ -24,8 +24,8 @@ left_after old new left name made has one others leaves t found there = at (byte
     at false is (HasState x) now = inl ((others t x (apart is)).1 now)
 
 -- the change was made, and nothing failed for good
-pub left_gone : (old new : States) (left : Outcomes) (name : List ℕ) (made : Option TenantState) (r : Result (Unit {0}) StoreFault) (latched : Bool) → is_ok r ≡ true → latched ≡ is_failed r
+pub left_missed : (old new : States) (left : Outcomes) (name : List ℕ) (made : Option TenantState) (r : Result (Unit {0}) StoreFault) (latched : Bool) → is_ok r ≡ true → latched ≡ is_failed r
     → OnOk r (new name made) → (latched ≡ false → (x y : Option TenantState) → new name x → new name y → x ≡ y)
     → (latched ≡ false → (t : List ℕ) (x : Option TenantState) → t ≢ name → (old t x ↔ new t x)) → (latched ≡ false → LeavesAsItWas new left) → LeavesAsItWasOr name made old left
-left_gone old new left name made (Ok done) latched is works has one others leaves = left_after old new left name made has (one works) (others works) (leaves works)
-left_gone old new left name made (Err fault) latched is works has one others leaves = absurd cc
+left_missed old new left name made (Ok done) latched is works has one others leaves = left_after old new left name made has (one works) (others works) (leaves works)
+left_missed old new left name made (Err fault) latched is works has one others leaves = absurd cc

@@ -3,6 +3,6 @@ use Rattle.std.proofs.Common.{refl}
 use Rattle.std.specs.Prelude.{◌≡◌, ◌||◌, Bool, true, false}
 
 -- where it works, the store below does
-pub works_below : (below gone : Bool) → (below || gone) ≡ false → below ≡ false
-works_below false gone works = refl
-works_below true gone works = works
+pub works_below : (below missed : Bool) → (below || missed) ≡ false → below ≡ false
+works_below false missed works = refl
+works_below true missed works = works

@@ -1,7 +1,7 @@
 -- What looks at the files of a store find.
 use Rattle.std.specs.Prelude.{◌≡◌, List, [], ◌∷◌, Bool, true, false, drop, Option, Some, IfSome}
 
--- what the next look finds. Where none is told, nothing is there
+-- what the next look finds. Where none is left, the files aren't there
 abbrev pub next_look : List Bool → Bool
 next_look [] = false
 next_look (look ∷ later) = look

@@ -9,7 +9,7 @@ ghost use Rattle.tenant_watched.specs.Looks.{FindsTwice, next_look};
 use crate::watch::Watch;
 use std::marker::Model;
 use std::rc::Rc;
-use tenant_core::{Moved, Placed, Query, StoreFault, TenantStore, Touched};
+use tenant_core::{Cached, Query, StoreFault, TenantStore};
 use tenant_state::{Change, Inventory, Receipt};
 
 /// A store over another one. A change is made only where the files of that one are where they were,
@@ -20,7 +20,7 @@ use tenant_state::{Change, Inventory, Receipt};
 pub struct WatchedStore<T: TenantStore, W: Watch> {
     below: T,
     watch: W,
-    is_gone: bool,
+    has_missed: bool,
 }
 
 impl<T: TenantStore, W: Watch> Model for WatchedStore<T, W> {
@@ -31,7 +31,7 @@ impl<T: TenantStore, W: Watch> Model for WatchedStore<T, W> {
 
     ghost coded = { coded× (coded× T.code W.code) coded_bool };
 
-    ghost view = { λ a. ((a.below, a.watch), a.is_gone) };
+    ghost view = { λ a. ((a.below, a.watch), a.has_missed) };
 }
 
 impl<T: TenantStore, W: Watch> WatchedStore<T, W> {
@@ -45,18 +45,18 @@ impl<T: TenantStore, W: Watch> WatchedStore<T, W> {
         WatchedStore {
             below,
             watch,
-            is_gone: false,
+            has_missed: false,
         }
     }
 
     /// Whether the files are missed before a change; the store then fails for good.
     fn misses_before(&mut self) -> bool
         ensures below { self.new.0.0 ≡ self.old.0.0 }
-        ensures gone { self.new.1 ≡ (self.old.1 || result) }
+        ensures missed { self.new.1 ≡ (self.old.1 || result) }
         ensures looks { Looks (not result) (W.looks self.old.0.1) (W.looks self.new.0.1) }
     {
         let is_whole = self.watch.is_whole();
-        self.is_gone = self.is_gone || !is_whole;
+        self.has_missed = self.has_missed || !is_whole;
         !is_whole
     }
 
@@ -64,13 +64,13 @@ impl<T: TenantStore, W: Watch> WatchedStore<T, W> {
     /// store then fails for good.
     fn misses_after(&mut self, is_made: bool) -> bool
         ensures below { self.new.0.0 ≡ self.old.0.0 }
-        ensures gone { self.new.1 ≡ (self.old.1 || result) }
+        ensures missed { self.new.1 ≡ (self.old.1 || result) }
         ensures made { result ≡ true → is_made ≡ true }
         ensures looks { is_made ≡ true → Looks (not result) (W.looks self.old.0.1) (W.looks self.new.0.1) }
     {
         let is_there = self.watch.is_there();
         let is_missed = is_made && !is_there;
-        self.is_gone = self.is_gone || is_missed;
+        self.has_missed = self.has_missed || is_missed;
         is_missed
     }
 }
@@ -102,7 +102,7 @@ impl<T: TenantStore, W: Watch> TenantStore for WatchedStore<T, W> {
     ghost keeps = { λ old new. T.keeps old.0.0 new.0.0 };
 
     fn is_latched(&self) -> bool {
-        self.is_gone || self.below.is_latched()
+        self.has_missed || self.below.is_latched()
     }
 
     fn load(&mut self, name: &str) -> Result<Option<Rc<Inventory>>, StoreFault> {
@@ -117,16 +117,8 @@ impl<T: TenantStore, W: Watch> TenantStore for WatchedStore<T, W> {
         self.below.find_receipt(name, number)
     }
 
-    fn placed(&mut self, name: &str, query: &Query) -> Option<Placed> {
-        self.below.placed(name, query)
-    }
-
-    fn touched(&mut self, name: &str, query: &Query) -> Option<Touched> {
-        self.below.touched(name, query)
-    }
-
-    fn moved(&mut self, name: &str, query: &Query) -> Option<Moved> {
-        self.below.moved(name, query)
+    fn cached(&mut self, name: &str, query: &Query) -> Option<(Rc<Inventory>, Cached)> {
+        self.below.cached(name, query)
     }
 
     fn create(&mut self, name: &str) -> Result<(), StoreFault>
@@ -140,7 +132,7 @@ impl<T: TenantStore, W: Watch> TenantStore for WatchedStore<T, W> {
         ensures crash { T.is_honest self.new.0.0 → (T.latched self.new.0.0 || self.new.1) ≡ true → LeavesAsItWasOr name.now (Some fresh) (T.has_state self.old.0.0) (T.may_leave self.new.0.0) }
         ensures honest { T.is_honest self.new.0.0 → T.is_honest self.old.0.0 }
         ensures looked { OnOk result (IfSome (W.looks self.old.0.1) FindsTwice) }
-        ensures unasked { IfSome (W.looks self.old.0.1) (λ looks. next_look looks ≡ false → (self.new.0.0 ≡ self.old.0.0) × (result ≡ Err StoreFault.Failed)) }
+        ensures missed { IfSome (W.looks self.old.0.1) (λ looks. next_look looks ≡ false → (self.new.0.0 ≡ self.old.0.0) × (result ≡ Err StoreFault.Failed)) }
     {
         if self.misses_before() {
             return Err(StoreFault::Failed);
@@ -164,7 +156,7 @@ impl<T: TenantStore, W: Watch> TenantStore for WatchedStore<T, W> {
             → LeavesAsItWasOr name.now (Some (after change.now s)) (T.has_state self.old.0.0) (T.may_leave self.new.0.0) }
         ensures honest { T.is_honest self.new.0.0 → T.is_honest self.old.0.0 }
         ensures looked { OnOk result (IfSome (W.looks self.old.0.1) FindsTwice) }
-        ensures unasked { IfSome (W.looks self.old.0.1) (λ looks. next_look looks ≡ false → (self.new.0.0 ≡ self.old.0.0) × (result ≡ Err StoreFault.Failed)) }
+        ensures missed { IfSome (W.looks self.old.0.1) (λ looks. next_look looks ≡ false → (self.new.0.0 ≡ self.old.0.0) × (result ≡ Err StoreFault.Failed)) }
     {
         if self.misses_before() {
             return Err(StoreFault::Failed);
@@ -187,7 +179,7 @@ impl<T: TenantStore, W: Watch> TenantStore for WatchedStore<T, W> {
         ensures crash { T.is_honest self.new.0.0 → (T.latched self.new.0.0 || self.new.1) ≡ true → LeavesAsItWasOr name.now None (T.has_state self.old.0.0) (T.may_leave self.new.0.0) }
         ensures honest { T.is_honest self.new.0.0 → T.is_honest self.old.0.0 }
         ensures looked { OnOk result (IfSome (W.looks self.old.0.1) FindsTwice) }
-        ensures unasked { IfSome (W.looks self.old.0.1) (λ looks. next_look looks ≡ false → (self.new.0.0 ≡ self.old.0.0) × (result ≡ Err StoreFault.Failed)) }
+        ensures missed { IfSome (W.looks self.old.0.1) (λ looks. next_look looks ≡ false → (self.new.0.0 ≡ self.old.0.0) × (result ≡ Err StoreFault.Failed)) }
     {
         if self.misses_before() {
             return Err(StoreFault::Failed);

@@ -2,7 +2,7 @@
 use Rattle.std.specs.Prelude.{ℕ, ◌≤◌, ◌<◌, List, length, Option}
 use Rattle.std.specs.Io.KnownBytes.{Consumes, IsAtEnd}
 
--- the bytes were taken from the reader, at most so many, and fewer only where it was at its end
+-- the bytes were taken from the reader: `most`, or fewer where it was at its end
 pub record IsReadUpTo (most : ℕ) (bytes : List ℕ) (old new : Option (List ℕ)) : Type 0 where
   pub few : length bytes ≤ most
   pub taken : Consumes old new bytes

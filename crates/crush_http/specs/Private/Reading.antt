@@ -47,7 +47,7 @@ pub record IsRequest (buffer : List ℕ) (r : Request) (head : RequestHead) : Ty
   pub small : r.size ≤ BODY_LIMIT
   pub closes : r.closes ≡ closes head
 
--- how many of so many bytes in the buffer belong to the message
+-- how many of the `count` bytes in the buffer belong to the message
 abbrev pub used : Request → ℕ → ℕ
 used r count = r.len + min r.size (count - r.len)
 

@@ -26,7 +26,7 @@ pub record Replies (is_honest : Type 0) (was is : Bool) (old new : States) (kept
   pub silent : is ≡ true → IsUnavailable reply
   pub rests : was ≡ true → is ≡ true
   pub session : is_honest → was ≡ false → IsSession old left (call ∷ []) (reply ∷ [])
-  pub shut : was ≡ true → (t : List ℕ) (found : Found) → left t found → kept t found
+  pub stays : was ≡ true → (t : List ℕ) (found : Found) → left t found → kept t found
 
 -- at most one call was served: for none this is so, for one the reply is such
 abbrev pub ServesAtMostOne : Type 0 → (Call → Reply → Type 0) → List Call → List Reply → Type 0

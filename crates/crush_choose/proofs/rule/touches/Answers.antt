@@ -1,6 +1,3 @@
-use Rattle.std.proofs.Common.{◌≡◌, ℕ, List, ap, sym, ◌∙◌}
-use Rattle.crush_map.specs.Faults.{has_number}
-use Rattle.crush_choose.specs.Rules.{after_rule}
 use Rattle.crush_choose.proofs.Running.{rule_few, rule_steps}
 use Rattle.crush_choose.proofs.rule.touches.Goals as goal
 

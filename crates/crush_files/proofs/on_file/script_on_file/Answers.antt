@@ -3,4 +3,7 @@ use Rattle.crush_files.proofs.EndFacts.{ends_on_file}
 use Rattle.crush_files.proofs.on_file.script_on_file.Goals as goal
 
 pub returns-clause-ends : goal.returns-clause-ends
-returns-clause-ends g c = ends_on_file _ _ c.in_ok-store.store.0 _ _ _ _ _ _ _ c.in_ok-store.ensures.found c.script_on_files.ensures.ends
+returns-clause-ends g c =
+    let played = c.script_on_files in
+    ends_on_file _ _ c.in_ok-store.store.0 played.result.0 played.result.1.copied played.result.1.files (g.R.Read.remaining c.args.reader.now) (g.R.Read.remaining played.new.reader)
+    (g.W.Write.contents c.args.writer.now) (g.W.Write.contents played.new.writer) c.in_ok-store.ensures.found played.ensures.ends

@@ -11,7 +11,7 @@ loop-most-init g c = record {
   rests = λ _. refl;
   reached =
       reached_none (Runs g.T.TenantStore.latched g.T.TenantStore.has_state g.T.TenantStore.may_leave g.T.TenantStore.is_honest c.args.service.now c.args.service.now) c.args.buffers.now.read c.args.buffers.now.held
-      (g.R.Read.remaining c.args.reader.now) (g.W.Write.contents c.args.writer.now) c.requires.unused c.requires.silent
+      (g.R.Read.remaining c.args.reader.now) (g.W.Write.contents c.args.writer.now) c.requires.unused c.requires.empty
       (join_none g.T.TenantStore.latched g.T.TenantStore.has_state g.T.TenantStore.may_leave g.T.TenantStore.is_honest c.args.service.now (λ is works. record {
         one = λ _ t s u. g.met.T.TenantStore.one_state c.args.service.now t s u is works;
         settled = λ _ t found there. g.met.T.TenantStore.settled c.args.service.now t found is works there;

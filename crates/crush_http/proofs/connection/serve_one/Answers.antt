@@ -2,7 +2,6 @@ use Rattle.std.proofs.Common.{◌≡◌, ◌++◌, [], take, refl, ap, sym, ◌�
 use Rattle.std.proofs.lemmas.List.{append-nil}
 use Rattle.std.specs.Io.KnownBytes.{Consumes}
 use Rattle.tenant_messages.specs.CallParts.{call_of}
-use Rattle.tenant_service.proofs.OneSession.{one_session}
 use Rattle.tenant_service.specs.Writing.{AppendsPart, AppendsUpTo}
 use Rattle.crush_http.specs.Wire.{reply_wire, rejection_wire}
 use Rattle.crush_http.specs.Private.Reading.{Finds as FindsIncoming, ReadsOn, call_in}
@@ -10,6 +9,7 @@ use Rattle.crush_http.specs.Private.Served.{EndsCut, EndsHeld, Replies}
 use Rattle.crush_http.specs.declared.connection.Ended.TheVariants.{Bad, Closed, ReadFault}
 use Rattle.crush_http.proofs.Connecting.{cut_before, ended_before, failed_before, rejected_before, Finds, finds_call, more_to_come, next_after, last_after, cut_after}
 use Rattle.crush_http.proofs.Holding.{part_on, up_to_on}
+use Rattle.crush_http.proofs.Joining.{one_reply}
 use Rattle.crush_http.proofs.Streams.{consumes_none}
 use Rattle.crush_http.proofs.connection.serve_one.Goals as goal
 
@@ -54,24 +54,10 @@ returns-in-Fault-clause-ended g c =
 
 pub returns-then-not-put_reply-clause-cut : goal.returns-then-not-put_reply-clause-cut
 returns-then-not-put_reply-clause-cut g c =
-    let one : Replies (g.T.TenantStore.is_honest c.request-reply.new.self) (g.T.TenantStore.latched c.args.service.now) (g.T.TenantStore.latched c.request-reply.new.self)
-    (g.T.TenantStore.has_state c.args.service.now) (g.T.TenantStore.has_state c.request-reply.new.self) (g.T.TenantStore.may_leave c.args.service.now) (g.T.TenantStore.may_leave c.request-reply.new.self)
-    (call_of c.call_of.result) c.request-reply.result = record {
-      serves = c.request-reply.ensures.serves;
-      silent = c.request-reply.ensures.silent;
-      rests = λ was. ap g.T.TenantStore.latched (c.request-reply.ensures.rests was) ∙ was;
-      session = λ honest works.
-          let store = g.met.T.TenantStore in
-          let old = c.args.service.now in
-          let new = c.request-reply.new.self in
-          let was = c.request-reply.ensures.honest honest in
-          one_session (g.T.TenantStore.latched new) (g.T.TenantStore.has_state old) (g.T.TenantStore.has_state new) (g.T.TenantStore.may_leave old) (g.T.TenantStore.may_leave new)
-          (call_of c.call_of.result) c.request-reply.result
-          (record { one = λ _ t s u. store.one_state old t s u was works; settled = λ _ t found there. store.settled old t found was works there })
-          (record { one = λ still t s u. store.one_state new t s u honest still; settled = λ still t found there. store.settled new t found honest still there })
-          (c.request-reply.ensures.serves honest) c.request-reply.ensures.silent (c.request-reply.ensures.crash honest works);
-      shut = λ was t found there. subst (λ x. g.T.TenantStore.may_leave x t found) (c.request-reply.ensures.rests was) there;
-    } in
+    let store = g.T.TenantStore in
+    let laws = g.met.T.TenantStore in
+    let one = one_reply store.latched store.has_state store.may_leave store.is_honest laws.one_state laws.settled c.args.service.now c.request-reply.new.self (call_of c.call_of.result) c.request-reply.result
+    c.request-reply.ensures.serves c.request-reply.ensures.silent c.request-reply.ensures.crash c.request-reply.ensures.rests c.request-reply.ensures.honest in
     let read : ReadsOn c.args.buffers.now.read (g.R.Read.remaining c.args.reader.now) (g.R.Read.remaining c.next_message.new.reader)
     (Finds c.args.most (call_of c.call_of.result) c.is_last-last.result c.drop_front.new.self) =
     finds_call c.args.most c.args.buffers.now.read c.bytes-bytes.result.now c.next_message.new.buffers.read c.in-Message.request c.next_message.new.buffers.body.items c.drop_front.new.self c.is_last-last.result c.used-used.result
@@ -87,24 +73,10 @@ returns-then-not-put_reply-clause-cut g c =
 
 pub returns-then-last-clause-ended : goal.returns-then-last-clause-ended
 returns-then-last-clause-ended g c =
-    let one : Replies (g.T.TenantStore.is_honest c.request-reply.new.self) (g.T.TenantStore.latched c.args.service.now) (g.T.TenantStore.latched c.request-reply.new.self)
-    (g.T.TenantStore.has_state c.args.service.now) (g.T.TenantStore.has_state c.request-reply.new.self) (g.T.TenantStore.may_leave c.args.service.now) (g.T.TenantStore.may_leave c.request-reply.new.self)
-    (call_of c.call_of.result) c.request-reply.result = record {
-      serves = c.request-reply.ensures.serves;
-      silent = c.request-reply.ensures.silent;
-      rests = λ was. ap g.T.TenantStore.latched (c.request-reply.ensures.rests was) ∙ was;
-      session = λ honest works.
-          let store = g.met.T.TenantStore in
-          let old = c.args.service.now in
-          let new = c.request-reply.new.self in
-          let was = c.request-reply.ensures.honest honest in
-          one_session (g.T.TenantStore.latched new) (g.T.TenantStore.has_state old) (g.T.TenantStore.has_state new) (g.T.TenantStore.may_leave old) (g.T.TenantStore.may_leave new)
-          (call_of c.call_of.result) c.request-reply.result
-          (record { one = λ _ t s u. store.one_state old t s u was works; settled = λ _ t found there. store.settled old t found was works there })
-          (record { one = λ still t s u. store.one_state new t s u honest still; settled = λ still t found there. store.settled new t found honest still there })
-          (c.request-reply.ensures.serves honest) c.request-reply.ensures.silent (c.request-reply.ensures.crash honest works);
-      shut = λ was t found there. subst (λ x. g.T.TenantStore.may_leave x t found) (c.request-reply.ensures.rests was) there;
-    } in
+    let store = g.T.TenantStore in
+    let laws = g.met.T.TenantStore in
+    let one = one_reply store.latched store.has_state store.may_leave store.is_honest laws.one_state laws.settled c.args.service.now c.request-reply.new.self (call_of c.call_of.result) c.request-reply.result
+    c.request-reply.ensures.serves c.request-reply.ensures.silent c.request-reply.ensures.crash c.request-reply.ensures.rests c.request-reply.ensures.honest in
     let read : ReadsOn c.args.buffers.now.read (g.R.Read.remaining c.args.reader.now) (g.R.Read.remaining c.next_message.new.reader)
     (Finds c.args.most (call_of c.call_of.result) c.is_last-last.result c.drop_front.new.self) =
     finds_call c.args.most c.args.buffers.now.read c.bytes-bytes.result.now c.next_message.new.buffers.read c.in-Message.request c.next_message.new.buffers.body.items c.drop_front.new.self c.is_last-last.result c.used-used.result
@@ -124,24 +96,10 @@ returns-then-last-clause-ended g c =
 
 pub returns-clause-next : goal.returns-clause-next
 returns-clause-next g c =
-    let one : Replies (g.T.TenantStore.is_honest c.request-reply.new.self) (g.T.TenantStore.latched c.args.service.now) (g.T.TenantStore.latched c.request-reply.new.self)
-    (g.T.TenantStore.has_state c.args.service.now) (g.T.TenantStore.has_state c.request-reply.new.self) (g.T.TenantStore.may_leave c.args.service.now) (g.T.TenantStore.may_leave c.request-reply.new.self)
-    (call_of c.call_of.result) c.request-reply.result = record {
-      serves = c.request-reply.ensures.serves;
-      silent = c.request-reply.ensures.silent;
-      rests = λ was. ap g.T.TenantStore.latched (c.request-reply.ensures.rests was) ∙ was;
-      session = λ honest works.
-          let store = g.met.T.TenantStore in
-          let old = c.args.service.now in
-          let new = c.request-reply.new.self in
-          let was = c.request-reply.ensures.honest honest in
-          one_session (g.T.TenantStore.latched new) (g.T.TenantStore.has_state old) (g.T.TenantStore.has_state new) (g.T.TenantStore.may_leave old) (g.T.TenantStore.may_leave new)
-          (call_of c.call_of.result) c.request-reply.result
-          (record { one = λ _ t s u. store.one_state old t s u was works; settled = λ _ t found there. store.settled old t found was works there })
-          (record { one = λ still t s u. store.one_state new t s u honest still; settled = λ still t found there. store.settled new t found honest still there })
-          (c.request-reply.ensures.serves honest) c.request-reply.ensures.silent (c.request-reply.ensures.crash honest works);
-      shut = λ was t found there. subst (λ x. g.T.TenantStore.may_leave x t found) (c.request-reply.ensures.rests was) there;
-    } in
+    let store = g.T.TenantStore in
+    let laws = g.met.T.TenantStore in
+    let one = one_reply store.latched store.has_state store.may_leave store.is_honest laws.one_state laws.settled c.args.service.now c.request-reply.new.self (call_of c.call_of.result) c.request-reply.result
+    c.request-reply.ensures.serves c.request-reply.ensures.silent c.request-reply.ensures.crash c.request-reply.ensures.rests c.request-reply.ensures.honest in
     let read : ReadsOn c.args.buffers.now.read (g.R.Read.remaining c.args.reader.now) (g.R.Read.remaining c.next_message.new.reader)
     (Finds c.args.most (call_of c.call_of.result) c.is_last-last.result c.drop_front.new.self) =
     finds_call c.args.most c.args.buffers.now.read c.bytes-bytes.result.now c.next_message.new.buffers.read c.in-Message.request c.next_message.new.buffers.body.items c.drop_front.new.self c.is_last-last.result c.used-used.result

@@ -1,7 +1,11 @@
-use Rattle.std.proofs.Common.{ℕ, ◌<◌, slice_index, slice_index_or}
+use Rattle.std.proofs.Common.{◌≡◌, ℕ, ◌<◌, length, slice_index, slice_index_or}
 use Rattle.crush_kinds.specs.Private.Asked.{IsAsked}
 use Rattle.crush_permutation.specs.Permutation.{no_id}
 use Rattle.crush_kinds.proofs.uniform_lanes.asked.Given as goal
 
 abbrev pub invariant-loop-lane : goal.invariant-loop-lane
-invariant-loop-lane l = (n : ℕ) (d : _) → n < l.lane → IsAsked (slice_index_or l.fn.buckets n d).now l.fn.place l.fn.r (slice_index_or l.ids n no_id) (slice_index l.sizes n)
+invariant-loop-lane l = record {
+  ids : length l.ids ≡ 8;
+  sizes : length l.sizes ≡ 8;
+  asked : (n : ℕ) (d : _) → n < l.lane → IsAsked (slice_index_or l.fn.buckets n d).now l.fn.place l.fn.r (slice_index_or l.ids n no_id) (slice_index l.sizes n);
+}

@@ -1,5 +1,5 @@
-use Rattle.std.proofs.Common.{◌≡◌, ℕ, ◌<◌, length, slice_index, slice_index_or, sym, subst, ◌∙◌, arith}
-use Rattle.std.proofs.lemmas.List.{get_or_default}
+use Rattle.std.proofs.Common.{◌≡◌, ℕ, slice_index, slice_index_or, subst, ◌∙◌, arith}
+use Rattle.std.proofs.lemmas.List.{get_or_default, length-set}
 use Rattle.crush_types.specs.declared.ItemId.{ItemId}
 use Rattle.crush_kinds.specs.Bucket.{item_at, IsItemOf}
 use Rattle.crush_permutation.specs.Permutation.{no_id}
@@ -7,11 +7,7 @@ use Rattle.crush_permutation.proofs.Lanes.{more_set}
 use Rattle.crush_kinds.proofs.uniform_lanes.items_of.Goals as goal
 
 pub item-requires : goal.item-requires
-item-requires c =
-    let l = c.loop-lane in
-    let bucket = c.index-buckets-lane.result in
-    let at = c.index-buckets-lane.is in
-    subst (λ b. slice_index c.args.places.now l.lane < length b.now.items) (sym at) (c.requires l.lane bucket (omega arith))
+item-requires c = c.requires c.loop-lane.lane c.index-buckets-lane.result (omega arith)
 
 pub loop-lane-preserved : goal.loop-lane-preserved
 loop-lane-preserved c =
@@ -19,8 +15,9 @@ loop-lane-preserved c =
     let buckets = c.args.buckets.now in
     let places = c.args.places.now in
     let bucket = c.index-buckets-lane.result in
-    let at : (d : _) → bucket ≡ slice_index_or buckets l.lane d = λ d. c.index-buckets-lane.is ∙ get_or_default buckets l.lane bucket d (omega arith) in
+    let at : (d : _) → slice_index_or buckets l.lane bucket ≡ slice_index_or buckets l.lane d = λ d. get_or_default buckets l.lane bucket d (omega arith) in
     record {
-      value = λ n d low. more_set (λ (n : ℕ) (item : ItemId). item ≡ item_at (slice_index_or buckets n d).now.items (slice_index places n)) l.items l.lane c.item.result no_id (omega arith) (λ n before. l.invariant.value n d before) (subst (λ b. c.item.result ≡ item_at b.now.items (slice_index places l.lane)) (at d) c.item.ensures.value) n low;
-      item = λ n d low. more_set (λ (n : ℕ) (item : ItemId). IsItemOf (slice_index_or buckets n d).now.items item) l.items l.lane c.item.result no_id (omega arith) (λ n before. l.invariant.item n d before) (subst (λ b. IsItemOf b.now.items c.item.result) (at d) c.item.ensures.item) n low;
+      size = length-set l.items l.lane c.item.result ∙ l.invariant.size;
+      value = λ n d low. more_set (λ (n : ℕ) (item : ItemId). item ≡ item_at (slice_index_or buckets n d).now.items (slice_index places n)) l.items l.lane c.item.result no_id (omega (arith, l.invariant.size)) (λ n before. l.invariant.value n d before) (subst (λ b. c.item.result ≡ item_at b.now.items (slice_index places l.lane)) (at d) c.item.ensures.value) n low;
+      item = λ n d low. more_set (λ (n : ℕ) (item : ItemId). IsItemOf (slice_index_or buckets n d).now.items item) l.items l.lane c.item.result no_id (omega (arith, l.invariant.size)) (λ n before. l.invariant.item n d before) (subst (λ b. IsItemOf b.now.items c.item.result) (at d) c.item.ensures.item) n low;
     }

@@ -1,4 +1,4 @@
-use Rattle.std.proofs.Common.{◌≡◌, ℕ, ◌<◌, ◌%◌, length, slice_index, slice_index_or, refl, ap, ◌∙◌, arith}
+use Rattle.std.proofs.Common.{◌≡◌, ℕ, ◌%◌, length, slice_index, slice_index_or, refl, ap, ◌∙◌, arith}
 use Rattle.crush_types.specs.declared.ItemId.{ItemId}
 use Rattle.crush_kinds.specs.Bucket.{BucketView, IsItemOf, item_at}
 use Rattle.crush_kinds.specs.Eight.{IsPickedBy}

@@ -1,5 +1,5 @@
 use Rattle.std.proofs.Common.{◌≡◌, ℕ, slice_index, slice_index_or, subst, ◌∙◌, arith}
-use Rattle.std.proofs.lemmas.List.{get_or_default}
+use Rattle.std.proofs.lemmas.List.{get_or_default, length-set}
 use Rattle.crush_types.specs.declared.ItemId.{ItemId}
 use Rattle.crush_kinds.specs.Bucket.{BucketView}
 use Rattle.crush_kinds.specs.Private.Walks.{IsPickAt}
@@ -8,10 +8,17 @@ use Rattle.crush_permutation.proofs.Lanes.{more_set}
 use Rattle.crush_kinds.proofs.walks.items_at.Goals as goal
 
 pub loop-lane-preserved : goal.loop-lane-preserved
-loop-lane-preserved c n d low =
+loop-lane-preserved c =
     let l = c.loop-lane in
     let trees = c.args.trees.now in
     let picks : ℕ → BucketView → ItemId → Type 0 = λ n b item. IsPickAt b (slice_index c.args.leaves.now n) item in
-    let tree : c.index-trees-lane.result ≡ slice_index_or trees l.lane d = c.index-trees-lane.is ∙ get_or_default trees l.lane c.index-trees-lane.result d (omega arith) in
-    let here : picks l.lane (slice_index_or trees l.lane d).now c.item_at.result = subst (λ t. picks l.lane t.now c.item_at.result) tree c.item_at.ensures in
-    more_set (λ (n : ℕ) (item : ItemId). picks n (slice_index_or trees n d).now item) l.items l.lane c.item_at.result no_id (omega arith) (λ n before. l.invariant n d before) here n low
+    record {
+      size = length-set l.items l.lane c.item_at.result ∙ l.invariant.size;
+      picks = λ n d low. (
+          let tree : slice_index_or trees l.lane c.index-trees-lane.result ≡ slice_index_or trees l.lane d = get_or_default trees l.lane c.index-trees-lane.result d (omega arith) in
+          let here : picks l.lane (slice_index_or trees l.lane d).now c.item_at.result = subst (λ t. picks l.lane t.now c.item_at.result) tree c.item_at.ensures in
+          more_set (λ (n : ℕ) (item : ItemId). picks n (slice_index_or trees n d).now item) l.items l.lane c.item_at.result no_id (omega (arith, l.invariant.size)) (λ n before. l.invariant.picks n d before) here n low);
+    }
+
+pub returns : goal.returns
+returns c lane d low = c.loop-lane.invariant.picks lane d (omega arith)

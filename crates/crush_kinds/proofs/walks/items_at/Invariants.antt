@@ -1,7 +1,10 @@
-use Rattle.std.proofs.Common.{ℕ, ◌<◌, slice_index, slice_index_or}
+use Rattle.std.proofs.Common.{◌≡◌, ℕ, ◌<◌, length, slice_index, slice_index_or}
 use Rattle.crush_kinds.specs.Private.Walks.{IsPickAt}
 use Rattle.crush_permutation.specs.Permutation.{no_id}
 use Rattle.crush_kinds.proofs.walks.items_at.Given as goal
 
 abbrev pub invariant-loop-lane : goal.invariant-loop-lane
-invariant-loop-lane l = (n : ℕ) (d : _) → n < l.lane → IsPickAt (slice_index_or l.fn.trees n d).now (slice_index l.fn.leaves n) (slice_index_or l.items n no_id)
+invariant-loop-lane l = record {
+  size : length l.items ≡ 8;
+  picks : (n : ℕ) (d : _) → n < l.lane → IsPickAt (slice_index_or l.fn.trees n d).now (slice_index l.fn.leaves n) (slice_index_or l.items n no_id);
+}

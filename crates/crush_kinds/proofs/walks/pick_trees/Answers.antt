@@ -1,12 +1,13 @@
-use Rattle.std.proofs.Common.{◌≡◌, ℕ, ◌+◌, ◌-◌, ◌<◌, slice_index, slice_index_or, ap, sym, subst, ◌∙◌, arith}
+use Rattle.std.proofs.Common.{◌≡◌, ℕ, ◌+◌, ◌-◌, slice_index, slice_index_or, [], ◌∷◌, refl, ap, subst, ◌∙◌, arith}
 use Rattle.crush_hash.specs.Hash.{hash4}
 use Rattle.crush_kinds.specs.Bucket.{word}
 use Rattle.crush_kinds.specs.Private.Walks.{IsOnWay}
+use Rattle.crush_permutation.proofs.Lanes.{below_eight}
 use Rattle.crush_kinds.proofs.Ways.{way_node}
 use Rattle.crush_kinds.proofs.walks.pick_trees.Goals as goal
 
 pub loop-left-init : goal.loop-left-init
-loop-left-init c lane d low = c.begin.ensures.roots lane d (slice_index c.args.xs.now lane) c.args.r low
+loop-left-init c lane d low = c.begin-highest.ensures.roots lane d (slice_index c.args.xs.now lane) c.args.r low
 
 pub children-nodes-requires : goal.children-nodes-requires
 children-nodes-requires c lane d low =
@@ -25,7 +26,9 @@ loop-left-preserved c lane d low =
     let node = slice_index l.nodes lane in
     let left : l.left ≡ l.left - 1 + 1 = omega arith in
     let way : IsOnWay b x r (l.left - 1 + 1) node = subst (λ (n : ℕ). IsOnWay b x r n node) left (l.invariant lane d low) in
-    let hash : slice_index c.hash4_each-hashes.result lane ≡ hash4 x node r (word b.id) = c.hash4_each-hashes.ensures lane low ∙ ap (λ (id : ℕ). hash4 x node r id) (c.begin.ensures.words lane d low) in
+    let rs = r ∷ r ∷ r ∷ r ∷ r ∷ r ∷ r ∷ r ∷ [] in
+    let at_r : slice_index rs lane ≡ r = below_eight (λ (lane : ℕ). slice_index rs lane ≡ r) refl refl refl refl refl refl refl refl lane low in
+    let hash : slice_index c.hash4_each-hashes.result lane ≡ hash4 x node r (word b.id) = c.hash4_each-hashes.ensures lane low ∙ (ap (λ (k : ℕ). hash4 x node k (slice_index c.begin-highest.result.0 lane)) at_r ∙ ap (λ (id : ℕ). hash4 x node r id) (c.begin-highest.ensures.words lane d low)) in
     c.children-nodes.ensures lane d low x r way hash
 
 pub returns : goal.returns

@@ -1,6 +1,5 @@
-use Rattle.std.proofs.Common.{◌≡◌, ◌≤◌, ◌<◌, ◌^◌, suc, length, ap, arith, ◌∙◌}
+use Rattle.std.proofs.Common.{◌≡◌, ◌^◌, length, arith}
 use Rattle.crush_kinds.specs.Private.Descent.{child}
-use Rattle.crush_kinds.specs.Private.Walks.{tree_height}
 use Rattle.crush_kinds.proofs.Ways.{keeps, node_within, way_waits, way_steps}
 use Rattle.crush_kinds.proofs.tree.TreeBucket.child.Goals as goal
 
@@ -33,10 +32,11 @@ pub child-requires-clause-inside : goal.child-requires-clause-inside
 child-requires-clause-inside c =
     let inside = c.self.inside in
     let k = keeps inside.id inside.items.items inside.height inside.nodes.items c.args.self.now c.self.view_is c.self.invariant.asked c.self.invariant.nodes in
-    (node_within c.args.self.now c.args.left c.args.node c.places.result (length inside.nodes.items) (omega (arith, k.height_is)) k.low c.places.ensures k.size c.requires).inside
+    rw c.deref.ensures.value (node_within c.args.self.now c.args.left c.args.node c.places.result (length inside.nodes.items) (omega (arith, k.height_is)) k.low c.places.ensures k.size c.requires).inside
 
 pub returns : goal.returns
 returns c =
     let inside = c.self.inside in
     let k = keeps inside.id inside.items.items inside.height inside.nodes.items c.args.self.now c.self.view_is c.self.invariant.asked c.self.invariant.nodes in
-    way_steps c.args.self.now inside.nodes.items c.args.left c.args.node c.args.hash c.child.result (omega (arith, k.height_is)) k.weights (c.child.ensures ∙ ap (λ h. child inside.nodes.items c.args.hash c.args.node h) c.places.ensures)
+    let is : c.child.result ≡ child inside.nodes.items c.args.hash c.args.node (2 ^ c.args.left) = rw (c.deref.ensures.value, c.places.ensures) at c.child.ensures in
+    way_steps c.args.self.now inside.nodes.items c.args.left c.args.node c.args.hash c.child.result (omega (arith, k.height_is)) k.weights is

@@ -1,4 +1,4 @@
-use Rattle.std.proofs.Common.{◌≡◌, ◌-◌, ◌≤◌, ◌^◌, suc, min, arith}
+use Rattle.std.proofs.Common.{◌≡◌, ◌-◌, min, arith}
 use Rattle.crush_kinds.proofs.Nodes.{at_root, down_is, few_nodes}
 use Rattle.crush_kinds.proofs.tree.TreeBucket.place_for.Goals as goal
 
@@ -21,4 +21,4 @@ loop-level-preserved c =
     let k = min c.loop-level.level 3 in
     let at = down_is inside.id inside.items.items inside.nodes.items c.args.x c.args.r inside.height k c.loop-level.level c.loop-level.node (omega arith) c.self.invariant.nodes.weights c.loop-level.invariant.at in
     let left : c.saturating_sub-level.result ≡ c.loop-level.level - k = omega arith in
-    record { at = rw (left, c.down-node.ensures) at; low = omega arith }
+    record { at = rw (left, c.down-node.ensures, c.deref.ensures.value) at; low = omega arith }

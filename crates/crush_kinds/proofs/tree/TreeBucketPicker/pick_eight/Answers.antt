@@ -1,4 +1,4 @@
-use Rattle.std.proofs.Common.{◌≡◌, ℕ, slice_index, slice_index_or, replicate, subst}
+use Rattle.std.proofs.Common.{◌≡◌, slice_index, slice_index_or, subst}
 use Rattle.std.proofs.lemmas.Simd.{get_or-replicate}
 use Rattle.crush_kinds.specs.Pick.{pick}
 use Rattle.crush_permutation.specs.Permutation.{no_id}

@@ -1,0 +1,10 @@
+use Rattle.std.proofs.Common.{codes}
+use Rattle.std.specs.Str.Parse.{ParsesUnsigned, ExplainsUnsignedError, HasUnsignedDigitsIfOk}
+use Rattle.clap.specs.Words.{found_of}
+use Rattle.crush_arguments.proofs.Matched.{each_said}
+use Rattle.crush_arguments.proofs.invocation.port_of.Goals as goal
+
+pub returns : goal.returns
+returns c =
+    each_said 16 (λ text r. ParsesUnsigned 16 10 text r × ExplainsUnsignedError 10 text r × HasUnsignedDigitsIfOk text r) (λ text r given. given.0)
+    (found_of c.args.matches.now) (codes "port") c.get_one.result c.get_one.ensures.none c.get_one.ensures.value

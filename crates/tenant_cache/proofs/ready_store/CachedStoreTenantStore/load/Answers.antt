@@ -1,0 +1,55 @@
+use Rattle.tenant_cache.proofs.NumberFacts.{known_among, true_among, true_same}
+use Rattle.tenant_cache.proofs.ready_store.CachedStoreTenantStore.load.Goals as goal
+
+-- a look-up keeps no more than was kept
+pub invariant_of-self : goal.invariant_of-self
+invariant_of-self g c =
+    record {
+      states = λ honest live. true_among (g.T.TenantStore.has_state c.self.inside.below) c.self.inside.kept c.get.new.self c.get.ensures.same (c.self.invariant.states honest live);
+      numbers = known_among c.self.inside.cache c.self.inside.kept c.get.new.self c.get.ensures.same c.self.invariant.numbers;
+    }
+
+pub invariant_of-self-in_err-clone : goal.invariant_of-self-in_err-clone
+invariant_of-self-in_err-clone g c =
+    record {
+      states = λ honest live. true_among (g.T.TenantStore.has_state c.self.inside.below) c.self.inside.kept c.get.new.self c.get.ensures.same (c.self.invariant.states honest live);
+      numbers = known_among c.self.inside.cache c.self.inside.kept c.get.new.self c.get.ensures.same c.self.invariant.numbers;
+    }
+
+pub invariant_of-self-in-Some : goal.invariant_of-self-in-Some
+invariant_of-self-in-Some g c =
+    record {
+      states = λ honest live. true_among (g.T.TenantStore.has_state c.self.inside.below) c.self.inside.kept c.get.new.self c.get.ensures.same (c.self.invariant.states honest live);
+      numbers = known_among c.self.inside.cache c.self.inside.kept c.get.new.self c.get.ensures.same c.self.invariant.numbers;
+    }
+
+-- the states are the same after the load below
+pub invariant_of-self-in_err-found : goal.invariant_of-self-in_err-found
+invariant_of-self-in_err-found g c =
+    let open' = rw (← c.self.view_is) at c.requires.open in
+    record {
+      states = λ honest live. true_same (g.T.TenantStore.has_state c.self.inside.below) (g.T.TenantStore.has_state c.load.new.self) c.get.new.self
+          (g.met.T.TenantStore.keeps_states c.self.inside.below c.load.new.self honest open' live (c.load.ensures.same honest live))
+          (true_among (g.T.TenantStore.has_state c.self.inside.below) c.self.inside.kept c.get.new.self c.get.ensures.same (c.self.invariant.states (c.load.ensures.honest honest) open'));
+      numbers = known_among c.self.inside.cache c.self.inside.kept c.get.new.self c.get.ensures.same c.self.invariant.numbers;
+    }
+
+pub invariant_of-self-in-Some-found : goal.invariant_of-self-in-Some-found
+invariant_of-self-in-Some-found g c =
+    let open' = rw (← c.self.view_is) at c.requires.open in
+    record {
+      states = λ honest live. true_same (g.T.TenantStore.has_state c.self.inside.below) (g.T.TenantStore.has_state c.load.new.self) c.get.new.self
+          (g.met.T.TenantStore.keeps_states c.self.inside.below c.load.new.self honest open' live (c.load.ensures.same honest live))
+          (true_among (g.T.TenantStore.has_state c.self.inside.below) c.self.inside.kept c.get.new.self c.get.ensures.same (c.self.invariant.states (c.load.ensures.honest honest) open'));
+      numbers = known_among c.self.inside.cache c.self.inside.kept c.get.new.self c.get.ensures.same c.self.invariant.numbers;
+    }
+
+pub invariant_of-self-in_default-found : goal.invariant_of-self-in_default-found
+invariant_of-self-in_default-found g c =
+    let open' = rw (← c.self.view_is) at c.requires.open in
+    record {
+      states = λ honest live. true_same (g.T.TenantStore.has_state c.self.inside.below) (g.T.TenantStore.has_state c.load.new.self) c.get.new.self
+          (g.met.T.TenantStore.keeps_states c.self.inside.below c.load.new.self honest open' live (c.load.ensures.same honest live))
+          (true_among (g.T.TenantStore.has_state c.self.inside.below) c.self.inside.kept c.get.new.self c.get.ensures.same (c.self.invariant.states (c.load.ensures.honest honest) open'));
+      numbers = known_among c.self.inside.cache c.self.inside.kept c.get.new.self c.get.ensures.same c.self.invariant.numbers;
+    }
