@@ -13,10 +13,10 @@ returns-then-group-from c =
 pub returns-in_ok-pool-in-Object : goal.returns-in_ok-pool-in-Object
 returns-in_ok-pool-in-Object c =
     let found : Some c.in_ok-pool-in-Object.pool.now ≡ find (λ p. p.parts.id == c.in-Object.id) c.pools-in-Object.result.now = search rules in
-    let own : c.group_of.result ≡ group_of c.in_ok-pool-in-Object.pool.now.parts c.in-Object.name =
-    c.group_of.ensures.value
+    let own : c.group_of-group.result ≡ group_of c.in_ok-pool-in-Object.pool.now.parts c.in-Object.name =
+    c.group_of-group.ensures.value
     ∙ (ap (λ (p : PoolParts). group_of p c.as_bytes.result.now) c.pool.ensures ∙ ap (group_of c.in_ok-pool-in-Object.pool.now.parts) (c.as_bytes.ensures.value ∙ c.as_str.ensures.same)) in
-    object_is_asked c.args.self.now c.in-Object.id c.args.inventory.now c.pools-in-Object.result.now c.in_ok-pool-in-Object.pool.now c.in-Object.name c.group_of.result c.in-Object.is c.pools-in-Object.ensures found own
+    object_is_asked c.args.self.now c.in-Object.id c.args.inventory.now c.pools-in-Object.result.now c.in_ok-pool-in-Object.pool.now c.in-Object.name c.group_of-group.result c.in-Object.is c.pools-in-Object.ensures found own
 
 pub returns-in_ok-pool-in-Impact : goal.returns-in_ok-pool-in-Impact
 returns-in_ok-pool-in-Impact c =
