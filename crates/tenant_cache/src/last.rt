@@ -80,7 +80,7 @@ impl<G: OfGroups> Last<G> {
         requires { content ≡ content_of placer.now }
         ensures { IfOk result (λ last. last.content ≡ content) }
     {
-        // what is found on this map is found on each map with its text, since that is this map alone
+        // what is found on this map is so on each map with its text, since that is this map alone
         canonical_texts_are_read();
         let _tunables = placer.map().tunables();
         let tenant = String::from_str(alloc, name)?;
