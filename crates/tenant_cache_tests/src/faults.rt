@@ -1,14 +1,11 @@
 //! Replies where a call of the store below meets a fault, beside those of a run without a fault and
 //! with nothing kept.
 
-use crate::asking::{Asked, DOWN, IMPORT, Over, POOL, ask, watched_service};
+use crate::asking::{Asked, DOWN, IMPORT, POOL, ask, assert_count, assert_that};
+use crate::counted::{Counted, Over, no_loads, watched_service};
 use crate::watched::Fault;
-use std::alloc::{AllocError, Global};
-use std::cell::Cell;
+use std::alloc::Global;
 use std::process::Abort;
-use std::rc::Rc;
-use std::test::Fail;
-use tenant_core::TenantStore;
 use tenant_service::{MemoryStore, Service};
 
 /// Requests of two tenants, one of which is dropped and created again.
@@ -32,28 +29,44 @@ const ASKED: &[Asked] = &[
     ("GET", "/t/b/maps/1", ""),
 ];
 
-/// How many of these requests a service answers 503. The others have the replies that a service
-/// gives to them alone.
-fn count_unanswered<T: TenantStore>(
+/// Whether a service answers a request otherwise than by 503. It then has the reply that a service
+/// gives to such requests alone.
+fn is_answered(
     rt: &impl Abort,
-    service: &mut Service<T>,
+    service: &mut Counted,
+    alone: &mut Service<MemoryStore>,
+    asked: &Asked,
+) -> bool {
+    let reply = ask(service, asked);
+    if reply.status == 503 {
+        return false;
+    }
+    let expected = ask(alone, asked);
+    assert_count(
+        rt,
+        asked,
+        u64::from(reply.status),
+        u64::from(expected.status),
+    );
+    assert_that(
+        rt,
+        reply.body.as_str() == expected.body.as_str(),
+        asked.1,
+        0,
+    );
+    true
+}
+
+/// How many of these requests a service answers 503.
+fn count_unanswered(
+    rt: &impl Abort,
+    service: &mut Counted,
     alone: &mut Service<MemoryStore>,
 ) -> usize {
     let mut count: usize = 0;
     for asked in ASKED {
-        let reply = ask(service, asked);
-        if reply.status == 503 {
+        if !is_answered(rt, service, alone, asked) {
             count = count.wrapping_add(1);
-        } else {
-            let wanted = ask(alone, asked);
-            assert_eq!(rt; reply.status, wanted.status, "{} {}", asked.0, asked.1);
-            assert_eq!(rt;
-                reply.body.as_str(),
-                wanted.body.as_str(),
-                "{} {}",
-                asked.0,
-                asked.1
-            );
         }
     }
     count
@@ -61,75 +74,63 @@ fn count_unanswered<T: TenantStore>(
 
 /// How many of these requests are answered 503 where the store's call after `left` others meets a
 /// fault. The others have the replies that a service in memory gives to them alone.
-fn unanswered(
-    rt: &impl Abort,
-    alloc: Global,
-    over: Over,
-    left: u64,
-    fault: Fault,
-) -> Result<usize, AllocError> {
-    let mut service = watched_service(rt, alloc, over, Rc::new(alloc, Cell::new(0))?, left, fault)?;
-    let mut alone = Service::in_memory(alloc)?;
-    Ok(count_unanswered(rt, &mut service, &mut alone))
+fn unanswered(rt: &impl Abort, alloc: Global, over: Over, left: u64, fault: Fault) -> usize {
+    let loads = no_loads(rt, alloc);
+    let mut service = watched_service(rt, alloc, over, &loads, left, fault);
+    let mut alone = Service::in_memory(alloc).expect(rt, "no memory");
+    count_unanswered(rt, &mut service, &mut alone)
 }
 
-/// The tenant used last is kept, whatever its size; or others that fit beside it; or all are.
-const BOUNDS: [Over; 3] = [Over::Bound(0), Over::Bound(15_000), Over::Bound(1_000_000)];
+/// What is kept, how many calls reach the store below where none meets a fault, at the least, and
+/// how many of them may fail with each request answered.
+type Case = (Over, u64, u64);
 
-/// How many calls reach a store in memory where none meets a fault, and how many of them are loads
-/// after changes.
-const CALLS_IN_MEMORY: u64 = 27;
+/// The tenant used last is kept, whatever its size; or others that fit beside it; or all are. Over
+/// a store in memory a change that was made is answered so, though one of the 5 loads that follow
+/// changes fails.
+const CASES: [Case; 4] = [
+    (Over::Bound(0), 16, 0),
+    (Over::Bound(15_000), 16, 0),
+    (Over::Bound(1_000_000), 16, 0),
+    (Over::Memory, 27, 5),
+];
 
-const LOADS_AFTER_CHANGES: u64 = 5;
-
-#[test]
-fn a_call_that_fails_changes_no_other_reply(rt: HostRuntime) -> Result<(), Fail> {
-    let alloc = rt.alloc();
-    for over in BOUNDS {
-        for left in 0..16 {
-            assert_eq!(rt; unanswered(&rt, alloc, over, left, Fault::NoMemory)?, 1);
-            assert_eq!(rt; unanswered(&rt, alloc, over, left, Fault::Full)?, 1);
+/// Asserts that a call that fails, but not for good, leaves at most one request unanswered.
+fn assert_one(rt: &impl Abort, alloc: Global, case: &Case, fault: Fault) {
+    let (over, calls, expected) = *case;
+    let mut answered: u64 = 0;
+    for left in 0..calls {
+        let count = unanswered(rt, alloc, over, left, fault);
+        assert_that(rt, count <= 1, "call", left);
+        if count == 0 {
+            answered = answered.wrapping_add(1);
         }
     }
-    Ok(())
+    assert_that(rt, answered == expected, "answered", answered);
 }
 
-/// Over a store in memory a change that was made is answered so, though the load after it fails.
 #[test]
-fn a_load_that_fails_after_a_change_in_memory_takes_nothing_back(
-    rt: HostRuntime,
-) -> Result<(), Fail> {
-    let alloc = rt.alloc();
-    for fault in [Fault::NoMemory, Fault::Full] {
-        let mut answered: u64 = 0;
-        for left in 0..CALLS_IN_MEMORY {
-            let count = unanswered(&rt, alloc, Over::Memory, left, fault)?;
-            assert!(rt; count <= 1);
-            if count == 0 {
-                answered = answered.wrapping_add(1);
-            }
-        }
-        assert_eq!(rt; answered, LOADS_AFTER_CHANGES);
+fn a_call_that_fails_changes_no_other_reply(rt: HostRuntime) {
+    for case in &CASES {
+        assert_one(&rt, rt.alloc(), case, Fault::NoMemory);
+        assert_one(&rt, rt.alloc(), case, Fault::Full);
     }
-    Ok(())
 }
 
-/// After a call that fails for good each request is answered 503.
-#[test]
-fn a_store_that_latches_is_asked_no_more(rt: HostRuntime) -> Result<(), Fail> {
-    let alloc = rt.alloc();
-    for (over, calls) in [
-        (BOUNDS[0], 16),
-        (BOUNDS[1], 16),
-        (BOUNDS[2], 16),
-        (Over::Memory, CALLS_IN_MEMORY),
-    ] {
-        let mut before = ASKED.len() + 1;
-        for left in 0..calls {
-            let count = unanswered(&rt, alloc, over, left, Fault::Failed)?;
-            assert!(rt; 0 < count && count <= before);
-            before = count;
-        }
+/// Asserts that no request is answered after a call that fails for good.
+fn assert_rest(rt: &impl Abort, alloc: Global, case: &Case) {
+    let (over, calls, _) = *case;
+    let mut before = ASKED.len() + 1;
+    for left in 0..calls {
+        let count = unanswered(rt, alloc, over, left, Fault::Failed);
+        assert_that(rt, 0 < count && count <= before, "call", left);
+        before = count;
     }
-    Ok(())
+}
+
+#[test]
+fn a_store_that_latches_is_asked_no_more(rt: HostRuntime) {
+    for case in &CASES {
+        assert_rest(&rt, rt.alloc(), case);
+    }
 }
