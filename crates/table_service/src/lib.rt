@@ -1,4 +1,4 @@
-//! A service of the tenants in the tables of a connection: it is opened, and the connection given back.
+//! A service of the tenants in the tables of a connection: opened over it, and closed.
 #![tactic(auto)]
 
 mod service;
