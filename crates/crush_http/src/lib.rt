@@ -19,3 +19,5 @@ mod wire;
 pub use buffers::Buffers;
 pub use connection::{Ended, serve, serve_with};
 pub use rejection::Rejection;
+pub use tenant_messages::{Call, CallParts, Reply};
+pub use tenant_service::{Service, SessionEnd};

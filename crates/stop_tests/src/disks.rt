@@ -3,7 +3,6 @@
 use sqlite_disk::{Crash, Disk, Files, Fuse, Memory};
 use std::alloc::Global;
 use std::io;
-use std::process::Abort;
 
 /// A database file and its log.
 pub(crate) type Disks = Files<Fuse<Memory>>;
@@ -50,11 +49,11 @@ fn copied(alloc: Global, disk: &Fuse<Memory>, calls: u64) -> io::Result<Fuse<Mem
 }
 
 /// What a crash leaves of the files; one of them then fails again.
-pub(crate) fn crashed_with(rt: &impl Abort, alloc: Global, files: Disks, stop: Stop) -> Disks {
+pub(crate) fn crashed_with(alloc: Global, files: Disks, stop: Stop) -> io::Result<Disks> {
     let files = crashed(files);
     let (log, db) = stop.calls();
-    Files {
-        log: copied(alloc, &files.log, log).expect(rt, "no copy"),
-        db: copied(alloc, &files.db, db).expect(rt, "no copy"),
-    }
+    Ok(Files {
+        log: copied(alloc, &files.log, log)?,
+        db: copied(alloc, &files.db, db)?,
+    })
 }

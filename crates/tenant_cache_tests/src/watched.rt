@@ -12,7 +12,7 @@ use tenant_core::{StoreFault, TenantStore};
 use tenant_state::{Change, Inventory, Receipt};
 
 /// A fault that each call of a store may meet.
-#[derive(Clone, Copy)]
+#[derive(Clone, Copy, Debug, PartialEq, Eq)]
 pub(crate) enum Fault {
     NoMemory,
     Full,

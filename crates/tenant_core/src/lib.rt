@@ -2,6 +2,7 @@
 #![tactic(auto)]
 
 mod commands;
+mod creation;
 mod decision;
 pub mod laws;
 pub mod limits;
@@ -13,9 +14,12 @@ mod store;
 mod tenants;
 
 pub use commands::{Command, Order, apply, apply_to};
+pub use creation::create;
 pub use decision::{Decision, Effect, decide, decide_moved, decide_placed, decide_touched};
 pub use queries::{Query, answer, answer_moved, answer_placed, answer_touched};
 pub use request::{Action, Request, read_request};
 pub use route::{Methods, Route};
 pub use router::{Routes, Target};
 pub use store::{Moved, Placed, StoreFault, TenantStore, Touched, store_fault};
+pub use tenant_messages::{Call, CallParts, Refusal, Reply};
+pub use tenant_state::{Change, Inventory, Receipt, TenantState};

@@ -9,3 +9,5 @@ mod store;
 mod writing;
 
 pub use store::Store;
+pub use tenant_core::{StoreFault, TenantStore};
+pub use tenant_rows::from_rows;

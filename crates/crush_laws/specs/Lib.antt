@@ -1,0 +1,2 @@
+pub mod MapTree
+pub mod Walk

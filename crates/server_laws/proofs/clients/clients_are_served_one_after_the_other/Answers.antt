@@ -1,0 +1,15 @@
+use Rattle.std.proofs.Common.{refl}
+use Rattle.server_laws.proofs.Apart.{apart, calls_in, replies_in, together, told_more}
+use Rattle.server_laws.proofs.clients.clients_are_served_one_after_the_other.Goals as goal
+use Rattle.server_laws.specs.Served.{AreJust}
+
+pub returns-clause-apart : goal.returns-clause-apart
+returns-clause-apart c = λ calls replies inputs outputs serves.
+    let they = apart inputs outputs (AreJust calls replies) serves in
+    (they.clients, they.sent, they.got, they.served, they.meets.0, they.meets.1)
+
+pub returns-clause-together : goal.returns-clause-together
+returns-clause-together c = λ clients all. together clients (AreJust (calls_in clients) (replies_in clients)) all (refl, refl)
+
+pub returns-clause-told : goal.returns-clause-told
+returns-clause-told c = λ calls replies count old new serves. told_more (AreJust calls replies) count old new serves

@@ -1,0 +1,23 @@
+//! Laws of files that are given back: each contract holds of every disk.
+
+ghost use Rattle.std.specs.Prelude.{◌≡◌, Ok};
+ghost use Rattle.sqlite_disk.specs.declared.Files.{Files};
+ghost use Rattle.sqlite_wal.specs.Files.{outcomes};
+ghost use Rattle.sqlite_wal.specs.Reads.{AreClean};
+ghost use Rattle.sqlite_wal.specs.Recovery.{Image};
+ghost use Rattle.sqlite_store.specs.declared.store.FileStore.{FileStore};
+ghost use Rattle.sqlite.specs.Files.{file_state, image_of};
+ghost use Rattle.sqlite.specs.Held.{Held};
+ghost use Rattle.sqlite.specs.Start.{FindsIn};
+ghost use Rattle.tenant_files.specs.Closed.{GivesBack};
+
+use sqlite_disk::Disk;
+
+/// What a connection gave back copied is found again by the next opening of the two files, at once
+/// and after a crash.
+pub fn what_was_copied_is_found_again<D: Disk>()
+    ensures now { (last next : Held (FileStore D D.Disk)) (files : Files D) → AreClean D.Disk files.log files.db → GivesBack last (Ok tt) files
+        → FindsIn (image_of D.Disk files) (file_state next) → (file_state next).committed.trees ≡ (file_state last).committed.trees }
+    ensures crash { (last next : Held (FileStore D D.Disk)) (files : Files D) (image : Image) → AreClean D.Disk files.log files.db → GivesBack last (Ok tt) files
+        → outcomes D.Disk files.log files.db image → FindsIn image (file_state next) → (file_state next).committed.trees ≡ (file_state last).committed.trees }
+{}
