@@ -8,6 +8,7 @@ ghost use Rattle.crush_content.specs.Contents.{content_of};
 ghost use Rattle.crush_select.specs.Weights.{weights_of};
 ghost use Rattle.crush_pool.specs.States.{flags_of, reweights};
 
+use crate::same::assert_same;
 use crush_bucket::Tables;
 use crush_cache::PlacementCache;
 use crush_content::{Content, SharedExceptions, SharedStates, SharedText};
@@ -166,15 +167,9 @@ fn text_of(rt: &impl Abort, alloc: Global, map: &CrushMap) -> Result<SharedText,
 }
 
 /// A cache for so many placements.
-pub(crate) fn cache_for(
-    rt: &impl Abort,
-    alloc: Global,
-    capacity: usize,
-) -> Result<PlacementCache, AllocError> {
-    match NonZeroUsize::new(capacity) {
-        Some(capacity) => PlacementCache::new(alloc, capacity),
-        None => rt.abort(),
-    }
+pub(crate) fn cache_for(rt: &impl Abort, alloc: Global, capacity: usize) -> PlacementCache {
+    let room = NonZeroUsize::new(capacity).expect(rt, "no room");
+    PlacementCache::new(alloc, room).expect(rt, "no memory")
 }
 
 /// How a cache is asked.
@@ -295,8 +290,9 @@ fn ask_with(
     }
 }
 
-/// Asks a cache for the placement of a group. All that is needed is made anew each time.
-pub(crate) fn ask(
+/// Asks a cache for the placement of a group. All that is needed is made anew each time. `Err`: an
+/// allocation failed.
+fn try_to_ask(
     rt: &impl Abort,
     alloc: Global,
     cache: &mut PlacementCache,
@@ -319,6 +315,21 @@ pub(crate) fn ask(
         group,
         how,
     )
+}
+
+/// The same, where there is memory for it.
+pub(crate) fn ask(
+    rt: &impl Abort,
+    alloc: Global,
+    cache: &mut PlacementCache,
+    asked: &Asked,
+    group: u32,
+    how: How,
+) -> Answer {
+    match try_to_ask(rt, alloc, cache, asked, group, how) {
+        Ok(answer) => answer,
+        Err(_) => rt.abort(),
+    }
 }
 
 /// Gives numbers to so many contents, which have a text that is no map's.
@@ -353,11 +364,11 @@ pub(crate) fn assert_placed(rt: &impl Abort, answer: &Answer, seed: u32, device:
         return rt.abort();
     };
     let slot: Slot = Some(ItemId(id));
-    assert_eq!(rt; placement.seed, seed);
-    assert_eq!(rt; placement.raw.as_slice(), [slot].as_slice());
+    assert_same(rt, &placement.seed, &seed);
+    assert_same(rt, &placement.raw.as_slice(), &[slot].as_slice());
     if is_up {
-        assert_eq!(rt; placement.up.as_slice(), [slot].as_slice());
-        assert_eq!(rt; placement.primary, slot);
+        assert_same(rt, &placement.up.as_slice(), &[slot].as_slice());
+        assert_same(rt, &placement.primary, &slot);
     } else {
         assert!(rt; placement.primary.is_none());
     }

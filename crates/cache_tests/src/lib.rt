@@ -9,4 +9,6 @@ mod contents;
 #[cfg(test)]
 mod many;
 #[cfg(test)]
+mod same;
+#[cfg(test)]
 mod sharing;

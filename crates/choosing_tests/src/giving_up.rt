@@ -5,6 +5,7 @@
 use crate::drafts::{ONE, SOUND, Short, choose, draft, generated};
 use crate::examples::{Example, NOTHING, SEVEN};
 use crate::rules::{MAPS, TAKE, ask, three_levels};
+use crate::same::assert_same;
 use Kind::{List, Tree, Uniform};
 use crush_map::{ItemId, Kind, Step};
 use std::test::Fail;
@@ -496,7 +497,7 @@ fn more_is_asked_for_than_there_is(rt: HostRuntime) -> Result<(), Fail> {
             let buckets = three_levels(alloc, *kinds)?;
             let draft = generated(alloc, short, 36, buckets)?;
             let answered = ask(&rt, alloc, draft, given, *size, 4, None)?;
-            assert_eq!(rt; answered, *sum);
+            assert_same(&rt, &answered, sum);
         }
     }
     Ok(())

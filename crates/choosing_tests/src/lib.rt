@@ -11,6 +11,8 @@ mod limits;
 #[cfg(test)]
 mod rules;
 #[cfg(test)]
+mod same;
+#[cfg(test)]
 mod stability;
 
 #[cfg(test)]

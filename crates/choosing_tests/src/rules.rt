@@ -5,6 +5,7 @@ ghost use Rattle.crush_bucket.specs.Tables.{scratch_of, tables_of};
 ghost use Rattle.crush_choose.specs.Rules.{CanRun};
 
 use crate::drafts::{JEWEL, ONE, SOUND, Short, bucket, choose, draft, generated, map_of};
+use crate::same::{assert_same, assert_same_at};
 use Kind::{List, Tree, Uniform};
 use crush_bucket::{Scratch, Tables};
 use crush_choose::{Out, laws, run_rule};
@@ -49,8 +50,8 @@ fn ask_all(
         run_rule(tables, scratch, rule, x, size, weights, out);
         sum = folded(sum, out.items());
         if let Some((items, trace)) = want {
-            assert_eq!(rt; out.items(), items, "the answer at {x}");
-            assert_eq!(rt; out.trace(), trace, "the trace at {x}");
+            assert_same_at(rt, [u64::from(x), 0], &out.items(), &items);
+            assert_same_at(rt, [u64::from(x), 1], &out.trace(), &trace);
         }
     }
     sum
@@ -61,7 +62,7 @@ pub(crate) fn rule_of<'a>(rt: &impl Abort, map: &'a CrushMap) -> &'a Rule
     ensures { CanRun (tables_of map.now) result.now }
 {
     let rules = map.rules();
-    assert_eq!(rt; rules.len(), 1);
+    assert!(rt; rules.len() == 1);
     laws::rules_of_a_map_can_run();
     &rules[0]
 }
@@ -117,11 +118,12 @@ fn weights(alloc: Global, given: &[(u32, u32)]) -> Result<Weights, Fail> {
 fn a_device_is_in_from_above_its_draw(rt: HostRuntime) -> Result<(), Fail> {
     for (reweight, want) in &[(0, false), (55_335, false), (55_336, true), (ONE, true)] {
         let weights = weights(rt.alloc(), &[(1, *reweight), (1, ONE)])?;
-        assert_eq!(rt;
-            (weights.get(0), weights.get(1), weights.get(2)),
-            (ONE, *reweight, ONE)
+        assert_same(
+            &rt,
+            &(weights.get(0), weights.get(1), weights.get(2)),
+            &(ONE, *reweight, ONE),
         );
-        assert_eq!(rt; is_in(&weights, 0, 1), *want, "with {reweight}");
+        assert_same_at(&rt, [u64::from(*reweight), 0], &is_in(&weights, 0, 1), want);
     }
     Ok(())
 }
@@ -138,7 +140,7 @@ fn a_reweight_counts_for_an_id_that_is_no_device_of_the_map(rt: HostRuntime) -> 
         (65_536, ONE),
         (u32::MAX, ONE),
     ] {
-        assert_eq!(rt; weights.get(*id), *want, "the reweight of {id}");
+        assert_same_at(&rt, [u64::from(*id), 0], &weights.get(*id), want);
     }
     Ok(())
 }
@@ -322,7 +324,7 @@ fn rules_answer_as_those_of_ceph(rt: HostRuntime) -> Result<(), Fail> {
             let buckets = three_levels(alloc, *kinds)?;
             let draft = generated(alloc, short, 36, buckets)?;
             let answered = ask(&rt, alloc, draft, GIVEN, *size, 256, None)?;
-            assert_eq!(rt; answered, *sum);
+            assert_same(&rt, &answered, sum);
         }
     }
     Ok(())

@@ -6,6 +6,7 @@ ghost use Rattle.crush_choose.specs.Rules.{CanRun};
 
 use crate::drafts::{ONE, SOUND, Short, choose, draft, map_of};
 use crate::rules::rule_of;
+use crate::same::assert_same_at;
 use crush_bucket::{Scratch, Tables};
 use crush_choose::{Out, run_rule, touches};
 use crush_map::{ItemId, Kind, Rule, Step};
@@ -51,22 +52,15 @@ fn assert_all_move_from_0(
         let on_1 = out.trace() == &[1][..];
         assert!(rt; on_0 != on_1, "one device is in the trace at {x}");
         let device = if on_0 { 0 } else { 1 };
-        assert_eq!(rt;
-            out.items(),
-            &[Some(ItemId(device))][..],
-            "the answer at {x}"
+        assert_same_at(
+            rt,
+            [u64::from(x), 0],
+            &out.items(),
+            &&[Some(ItemId(device))][..],
         );
         run_rule(tables, scratch, rule, x, 1, lowered, out);
-        assert_eq!(rt;
-            out.items(),
-            &[Some(ItemId(1))][..],
-            "the answer without the device 0 at {x}"
-        );
-        assert_eq!(rt;
-            out.trace(),
-            &[1][..],
-            "the trace without the device 0 at {x}"
-        );
+        assert_same_at(rt, [u64::from(x), 1], &out.items(), &&[Some(ItemId(1))][..]);
+        assert_same_at(rt, [u64::from(x), 2], &out.trace(), &&[1][..]);
         if on_0 {
             moved = moved.wrapping_add(1);
         }
@@ -108,12 +102,13 @@ fn assert_one_is_touched(
             touches(tables, scratch, rule, x, 1, full, out, 1),
             touches(tables, scratch, rule, x, 1, full, out, 2),
         );
-        assert_eq!(rt; touched, (on_0, !on_0, false), "what {x} touches");
+        assert_same_at(rt, [u64::from(x), 0], &touched, &(on_0, !on_0, false));
         let device = if on_0 { 0 } else { 1 };
-        assert_eq!(rt;
-            out.items(),
-            &[Some(ItemId(device))][..],
-            "the answer at {x}"
+        assert_same_at(
+            rt,
+            [u64::from(x), 1],
+            &out.items(),
+            &&[Some(ItemId(device))][..],
         );
     }
 }

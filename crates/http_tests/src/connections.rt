@@ -3,7 +3,7 @@
 use crate::streams::Stream;
 use common_tests::streams::{Cuts, MANY, Reader, Writer};
 use crush_http::{Buffers, Ended, serve, serve_with};
-use std::alloc::{AllocError, Global};
+use std::alloc::Global;
 use std::process::Abort;
 use tenant_service::{MemoryStore, Service};
 
@@ -31,22 +31,23 @@ pub(crate) fn connect_to(
 
 /// The same of a connection to a new service, with buffers of its own.
 pub(crate) fn connect(
+    rt: &impl Abort,
     alloc: Global,
     input: &[u8],
     cuts: Cuts,
     reads: usize,
     writes: usize,
-) -> Result<(Ended, Vec<u8>), AllocError> {
-    let mut service = Service::in_memory(alloc)?;
+) -> (Ended, Vec<u8>) {
+    let mut service = Service::in_memory(alloc).expect(rt, "no memory");
     let mut reader = Reader {
         rest: input,
         cuts,
         reads,
     };
     let mut writer = Writer::new(alloc, writes);
-    let ended = serve(alloc, &mut service, &mut reader, &mut writer)?;
+    let ended = serve(alloc, &mut service, &mut reader, &mut writer).expect(rt, "no memory");
     let Writer { taken, writes: _ } = writer;
-    Ok((ended, taken))
+    (ended, taken)
 }
 
 /// Asserts that a stream is answered so, and that its connection ends so, at several lengths of a
@@ -56,14 +57,13 @@ pub(crate) fn assert_replies(
     alloc: Global,
     buffers: &mut Buffers,
     stream: &Stream,
-) -> Result<(), AllocError> {
+) {
     let (input, ended, replies) = *stream;
     for cut in [1, 50, 20_000] {
-        let mut service = Service::in_memory(alloc)?;
+        let mut service = Service::in_memory(alloc).expect(rt, "no memory");
         let cuts = Cuts::each(cut);
         let (found, written) = connect_to(alloc, buffers, &mut service, input, cuts, MANY, MANY);
         assert!(rt; found == ended, "{cut} bytes a read: {found:?}");
         assert!(rt; written.as_slice() == replies, "{cut} bytes a read");
     }
-    Ok(())
 }

@@ -4,8 +4,8 @@ use crate::connections::{assert_replies, connect};
 use crate::streams::{NO_PATH, Stream};
 use common_tests::streams::{Cuts, MANY};
 use crush_http::{Buffers, Ended};
-use std::alloc::{AllocError, Global};
-use std::test::Fail;
+use std::alloc::Global;
+use std::process::Abort;
 
 const BAD_REQUEST: &[u8] =
     b"HTTP/1.1 400 Bad Request\r\nContent-Length: 23\r\nContent-Type: application/json\r\nConnection: close\r\n\r\n{\"error\":\"bad_request\"}";
@@ -35,12 +35,11 @@ const REFUSED: [Stream; 4] = [
 ];
 
 #[test]
-fn heads_are_refused(rt: HostRuntime) -> Result<(), Fail> {
-    let mut buffers = Buffers::new(rt.alloc())?;
+fn heads_are_refused(rt: HostRuntime) {
+    let mut buffers = Buffers::new(rt.alloc()).expect(&rt, "no memory");
     for stream in &REFUSED {
-        assert_replies(&rt, rt.alloc(), &mut buffers, stream)?;
+        assert_replies(&rt, rt.alloc(), &mut buffers, stream);
     }
-    Ok(())
 }
 
 /// The front of a head, a part that stands in it so many times, and its end; how its connection
@@ -91,24 +90,23 @@ const AT_LIMITS: [Long; 4] = [
 ];
 
 /// The bytes of such a head.
-fn long_head(alloc: Global, long: &Long) -> Result<Vec<u8>, AllocError> {
+fn long_head(rt: &impl Abort, alloc: Global, long: &Long) -> Vec<u8> {
     let (front, part, count, end, _, _) = *long;
     let mut head = Vec::new(alloc);
-    head.extend_from_slice(front)?;
+    head.extend_from_slice(front).expect(rt, "no memory");
     for _ in 0..count {
-        head.extend_from_slice(part)?;
+        head.extend_from_slice(part).expect(rt, "no memory");
     }
-    head.extend_from_slice(end)?;
-    Ok(head)
+    head.extend_from_slice(end).expect(rt, "no memory");
+    head
 }
 
 #[test]
-fn a_head_has_32_headers_and_8192_bytes_at_most(rt: HostRuntime) -> Result<(), Fail> {
+fn a_head_has_32_headers_and_8192_bytes_at_most(rt: HostRuntime) {
     for (place, long) in AT_LIMITS.iter().enumerate() {
-        let head = long_head(rt.alloc(), long)?;
-        let (ended, written) = connect(rt.alloc(), &head, Cuts::each(20_000), MANY, MANY)?;
+        let head = long_head(&rt, rt.alloc(), long);
+        let (ended, written) = connect(&rt, rt.alloc(), &head, Cuts::each(20_000), MANY, MANY);
         assert!(rt; ended == long.4, "the head {place}");
         assert!(rt; written.as_slice() == long.5, "the head {place}");
     }
-    Ok(())
 }

@@ -1,13 +1,14 @@
 //! When replies are written: together, before a read, at the end, and a long body at once.
 
+use crate::same::{assert_same, assert_same_at};
 use crate::streams::{NO_PATH, REPLIES, STREAM};
 use common_tests::streams::{Cuts, MANY, Reader};
 use crush_http::limits::HELD_LIMIT;
 use crush_http::{Buffers, Ended, serve_with};
-use std::alloc::{AllocError, Global};
+use std::alloc::Global;
 use std::cell::Cell;
 use std::io::{self, ErrorKind, Read, Write};
-use std::test::Fail;
+use std::process::Abort;
 use tenant_service::Service;
 
 /// A message for a path that there isn't.
@@ -71,13 +72,14 @@ struct Record {
 
 /// What comes of a connection to a new service, whose writer takes so many bytes.
 fn connect(
+    rt: &impl Abort,
     alloc: Global,
     buffers: &mut Buffers,
     input: &[u8],
     cuts: Cuts,
     room: usize,
-) -> Result<Record, AllocError> {
-    let mut service = Service::in_memory(alloc)?;
+) -> Record {
+    let mut service = Service::in_memory(alloc).expect(rt, "no memory");
     let written = Cell::new(0);
     let mut reader = Watcher {
         reader: Reader {
@@ -97,12 +99,12 @@ fn connect(
     let ended = serve_with(buffers, &mut service, &mut reader, &mut writer);
     let Watcher { seen, .. } = reader;
     let Recorder { taken, lengths, .. } = writer;
-    Ok(Record {
+    Record {
         ended,
         taken,
         lengths,
         seen,
-    })
+    }
 }
 
 /// Two messages, which come together, and then one more.
@@ -112,117 +114,125 @@ const FIRST_TWO: Cuts = Cuts {
 };
 
 /// The first two messages of the stream, and one more.
-fn three_messages(alloc: Global) -> Result<Vec<u8>, AllocError> {
+fn three_messages(rt: &impl Abort, alloc: Global) -> Vec<u8> {
     let mut input = Vec::new(alloc);
-    input.extend_from_slice(&STREAM[..TWO])?;
-    input.extend_from_slice(ASKS)?;
-    Ok(input)
+    input
+        .extend_from_slice(&STREAM[..TWO])
+        .expect(rt, "no memory");
+    input.extend_from_slice(ASKS).expect(rt, "no memory");
+    input
 }
 
 #[test]
-fn replies_are_written_before_a_read(rt: HostRuntime) -> Result<(), Fail> {
-    let input = three_messages(rt.alloc())?;
-    let mut buffers = Buffers::new(rt.alloc())?;
-    let found = connect(rt.alloc(), &mut buffers, &input, FIRST_TWO, usize::MAX)?;
-    assert_eq!(rt; found.ended, Ended::Closed);
+fn replies_are_written_before_a_read(rt: HostRuntime) {
+    let input = three_messages(&rt, rt.alloc());
+    let mut buffers = Buffers::new(rt.alloc()).expect(&rt, "no memory");
+    let found = connect(&rt, rt.alloc(), &mut buffers, &input, FIRST_TWO, usize::MAX);
+    assert_same(&rt, &found.ended, &Ended::Closed);
     let all = REPLIES.len() + NO_PATH.len();
-    assert_eq!(rt; found.seen.as_slice(), &[0, REPLIES.len(), all][..]);
-    Ok(())
+    assert_same(&rt, &found.seen.as_slice(), &&[0, REPLIES.len(), all][..]);
 }
 
 /// The same bytes, 16 times.
-fn sixteen(alloc: Global, bytes: &[u8]) -> Result<Vec<u8>, AllocError> {
+fn sixteen(rt: &impl Abort, alloc: Global, bytes: &[u8]) -> Vec<u8> {
     let mut all = Vec::new(alloc);
     for _ in 0..16 {
-        all.extend_from_slice(bytes)?;
+        all.extend_from_slice(bytes).expect(rt, "no memory");
     }
-    Ok(all)
+    all
 }
 
 #[test]
-fn replies_to_messages_of_one_read_are_written_together(rt: HostRuntime) -> Result<(), Fail> {
-    let input = sixteen(rt.alloc(), ASKS)?;
-    let replies = sixteen(rt.alloc(), NO_PATH)?;
-    let mut buffers = Buffers::new(rt.alloc())?;
+fn replies_to_messages_of_one_read_are_written_together(rt: HostRuntime) {
+    let input = sixteen(&rt, rt.alloc(), ASKS);
+    let replies = sixteen(&rt, rt.alloc(), NO_PATH);
+    let mut buffers = Buffers::new(rt.alloc()).expect(&rt, "no memory");
     let found = connect(
+        &rt,
         rt.alloc(),
         &mut buffers,
         &input,
         Cuts::each(20_000),
         usize::MAX,
-    )?;
-    assert_eq!(rt; found.taken.as_slice(), replies.as_slice());
-    assert_eq!(rt; found.lengths.as_slice(), &[replies.len()][..]);
-    Ok(())
+    );
+    assert_same(&rt, &found.taken.as_slice(), &replies.as_slice());
+    assert_same(&rt, &found.lengths.as_slice(), &&[replies.len()][..]);
 }
 
 #[test]
-fn no_write_follows_one_that_failed(rt: HostRuntime) -> Result<(), Fail> {
-    let input = three_messages(rt.alloc())?;
-    let mut buffers = Buffers::new(rt.alloc())?;
-    let found = connect(rt.alloc(), &mut buffers, &input, FIRST_TWO, 150)?;
-    assert_eq!(rt; found.ended, Ended::WriteFault);
-    assert_eq!(rt; found.taken.as_slice(), &REPLIES[..150]);
-    assert_eq!(rt; found.lengths.len(), 2);
-    assert_eq!(rt; found.seen.as_slice(), &[0][..]);
-    Ok(())
+fn no_write_follows_one_that_failed(rt: HostRuntime) {
+    let input = three_messages(&rt, rt.alloc());
+    let mut buffers = Buffers::new(rt.alloc()).expect(&rt, "no memory");
+    let found = connect(&rt, rt.alloc(), &mut buffers, &input, FIRST_TWO, 150);
+    assert_same(&rt, &found.ended, &Ended::WriteFault);
+    assert_same(&rt, &found.taken.as_slice(), &&REPLIES[..150]);
+    assert_same(&rt, &found.lengths.len(), &2);
+    assert_same(&rt, &found.seen.as_slice(), &&[0][..]);
 }
 
 #[test]
-fn a_connection_finds_nothing_of_the_last_one(rt: HostRuntime) -> Result<(), Fail> {
-    let mut buffers = Buffers::new(rt.alloc())?;
+fn a_connection_finds_nothing_of_the_last_one(rt: HostRuntime) {
+    let mut buffers = Buffers::new(rt.alloc()).expect(&rt, "no memory");
     let whole = Cuts::each(20_000);
     for room in [usize::MAX, 150, 0] {
-        connect(rt.alloc(), &mut buffers, STREAM, whole, room)?;
-        let found = connect(rt.alloc(), &mut buffers, ASKS, whole, usize::MAX)?;
-        assert_eq!(rt; found.ended, Ended::Closed, "after {room} bytes");
-        assert_eq!(rt; found.taken.as_slice(), NO_PATH, "after {room} bytes");
+        connect(&rt, rt.alloc(), &mut buffers, STREAM, whole, room);
+        let found = connect(&rt, rt.alloc(), &mut buffers, ASKS, whole, usize::MAX);
+        assert_same_at(&rt, [room as u64, 0], &found.ended, &Ended::Closed);
+        assert_same_at(&rt, [room as u64, 1], &found.taken.as_slice(), &NO_PATH);
     }
-    Ok(())
 }
 
 /// A body that imports a map, whose text has more bytes than are held.
-fn long_map(alloc: Global) -> Result<String, AllocError> {
+fn long_map(rt: &impl Abort, alloc: Global) -> String {
     let mut body = String::new(alloc);
-    body.push_str("{\"request\":\"r\",\"text\":\"tunable choose_local_tries 0\\n")?;
-    body.push_str("tunable choose_local_fallback_tries 0\\ntype 0 osd\\n")?;
+    body.push_str("{\"request\":\"r\",\"text\":\"tunable choose_local_tries 0\\n")
+        .expect(rt, "no memory");
+    body.push_str("tunable choose_local_fallback_tries 0\\ntype 0 osd\\n")
+        .expect(rt, "no memory");
     for number in 0..1_024 {
         let device = format!(in alloc;
             "device {number} a.name.of.some.sixty.letters.for.a.long.reply.of.a.server.{number}\\n"
-        )?;
-        body.push_str(&device)?;
+        ).expect(rt, "no memory");
+        body.push_str(&device).expect(rt, "no memory");
     }
-    body.push_str("\"}")?;
-    Ok(body)
+    body.push_str("\"}").expect(rt, "no memory");
+    body
 }
 
 /// Messages that make a tenant, import such a map, ask for its text, and ask once more.
-fn long_messages(alloc: Global) -> Result<Vec<u8>, AllocError> {
-    let body = long_map(alloc)?;
+fn long_messages(rt: &impl Abort, alloc: Global) -> Vec<u8> {
+    let body = long_map(rt, alloc);
     let length = body.len();
     let head = format!(in alloc;
         "PUT /t/a HTTP/1.1\r\n\r\nPOST /t/a/maps HTTP/1.1\r\nContent-Length: {length}\r\n\r\n"
-    )?;
+    ).expect(rt, "no memory");
     let mut input = Vec::new(alloc);
-    input.extend_from_slice(head.as_bytes())?;
-    input.extend_from_slice(body.as_bytes())?;
-    input.extend_from_slice(b"GET /t/a/maps/1 HTTP/1.1\r\n\r\n")?;
-    input.extend_from_slice(ASKS)?;
-    Ok(input)
+    input
+        .extend_from_slice(head.as_bytes())
+        .expect(rt, "no memory");
+    input
+        .extend_from_slice(body.as_bytes())
+        .expect(rt, "no memory");
+    input
+        .extend_from_slice(b"GET /t/a/maps/1 HTTP/1.1\r\n\r\n")
+        .expect(rt, "no memory");
+    input.extend_from_slice(ASKS).expect(rt, "no memory");
+    input
 }
 
 #[test]
-fn a_body_longer_than_what_is_held_is_written_at_once(rt: HostRuntime) -> Result<(), Fail> {
-    let input = long_messages(rt.alloc())?;
-    let mut buffers = Buffers::new(rt.alloc())?;
+fn a_body_longer_than_what_is_held_is_written_at_once(rt: HostRuntime) {
+    let input = long_messages(&rt, rt.alloc());
+    let mut buffers = Buffers::new(rt.alloc()).expect(&rt, "no memory");
     let found = connect(
+        &rt,
         rt.alloc(),
         &mut buffers,
         &input,
         Cuts::each(20_000),
         usize::MAX,
-    )?;
-    assert_eq!(rt; found.ended, Ended::Closed);
+    );
+    assert_same(&rt, &found.ended, &Ended::Closed);
     let mut long = 0;
     for length in found.lengths.as_slice() {
         long = long.max(*length);
@@ -230,8 +240,7 @@ fn a_body_longer_than_what_is_held_is_written_at_once(rt: HostRuntime) -> Result
     assert!(rt; long > HELD_LIMIT, "{long} bytes");
     let front = format!(in rt.alloc();
         "HTTP/1.1 201 Created\r\nContent-Length: 24\r\nContent-Type: application/json\r\n\r\n{{\"epoch\":0,\"tenant\":\"a\"}}HTTP/1.1 201 Created\r\nContent-Length: 23\r\nContent-Type: application/json\r\n\r\n{{\"epoch\":1,\"version\":1}}HTTP/1.1 200 OK\r\nContent-Length: {long}\r\nContent-Type: application/json\r\n\r\n{{\"text\":\"# begin crush map\\n"
-    )?;
+    ).expect(&rt, "no memory");
     assert!(rt; found.taken.starts_with(front.as_bytes()));
     assert!(rt; found.taken.ends_with(NO_PATH));
-    Ok(())
 }

@@ -11,4 +11,6 @@ mod heads;
 #[cfg(test)]
 mod held;
 #[cfg(test)]
+mod same;
+#[cfg(test)]
 mod streams;

@@ -1,9 +1,9 @@
 //! Streams of messages and their replies.
 
 use crate::connections::{assert_replies, connect_to};
+use crate::same::assert_same_at;
 use common_tests::streams::{Cuts, MANY};
 use crush_http::{Buffers, Ended};
-use std::test::Fail;
 use tenant_service::Service;
 
 /// Two messages, and a third that ends in its body.
@@ -50,20 +50,19 @@ const STREAMS: [Stream; 5] = [
 ];
 
 #[test]
-fn streams_have_the_replies_to_their_whole_messages(rt: HostRuntime) -> Result<(), Fail> {
-    let mut buffers = Buffers::new(rt.alloc())?;
+fn streams_have_the_replies_to_their_whole_messages(rt: HostRuntime) {
+    let mut buffers = Buffers::new(rt.alloc()).expect(&rt, "no memory");
     for stream in &STREAMS {
-        assert_replies(&rt, rt.alloc(), &mut buffers, stream)?;
+        assert_replies(&rt, rt.alloc(), &mut buffers, stream);
     }
-    Ok(())
 }
 
 #[test]
-fn a_stream_is_answered_alike_wherever_it_is_cut(rt: HostRuntime) -> Result<(), Fail> {
+fn a_stream_is_answered_alike_wherever_it_is_cut(rt: HostRuntime) {
     let alloc = rt.alloc();
-    let mut buffers = Buffers::new(alloc)?;
+    let mut buffers = Buffers::new(alloc).expect(&rt, "no memory");
     for first in 1..STREAM.len() {
-        let mut service = Service::in_memory(alloc)?;
+        let mut service = Service::in_memory(alloc).expect(&rt, "no memory");
         let cuts = Cuts {
             first,
             later: 20_000,
@@ -77,8 +76,7 @@ fn a_stream_is_answered_alike_wherever_it_is_cut(rt: HostRuntime) -> Result<(), 
             MANY,
             MANY,
         );
-        assert_eq!(rt; ended, Ended::Closed, "cut after {first} bytes");
-        assert_eq!(rt; written.as_slice(), REPLIES, "cut after {first} bytes");
+        assert_same_at(&rt, [first as u64, 0], &ended, &Ended::Closed);
+        assert_same_at(&rt, [first as u64, 1], &written.as_slice(), &REPLIES);
     }
-    Ok(())
 }

@@ -1,5 +1,6 @@
 //! A value for each id that a device can have.
 
+use crate::same::assert_same_at;
 use crush_map::ByDevice;
 use crush_map::limits::{ID_COUNT, NUMBER_LIMIT};
 use std::test::Fail;
@@ -21,7 +22,7 @@ fn the_first_pair_of_an_id_counts(rt: HostRuntime) -> Result<(), Fail> {
         (NO_ID, 9),
         (4_294_967_295, 9),
     ] {
-        assert_eq!(rt; table.get(id), want, "id {id}");
+        assert_same_at(&rt, [u64::from(id), 0], &table.get(id), &want);
     }
     Ok(())
 }
@@ -33,7 +34,7 @@ fn a_value_takes_the_place_of_another(rt: HostRuntime) -> Result<(), Fail> {
         flags.set(id, flag)?;
     }
     for (id, want) in [(0, true), (1, true), (4, true), (5, false), (6, true)] {
-        assert_eq!(rt; flags.get(id), want, "id {id}");
+        assert_same_at(&rt, [u64::from(id), 0], &flags.get(id), &want);
     }
     assert!(rt; flags.get(NO_ID));
     Ok(())

@@ -6,6 +6,7 @@
 use crate::drafts::{
     EMIT, JEWEL, ONE, SOUND, Short, ShortBucket, ShortRule, choose, draft, map_of,
 };
+use crate::same::{assert_same, assert_same_at};
 use Element::{Buckets, Devices, End, Rules, Types};
 use FaultCode::{M1, M2, M3, M4, M5, M6, M7, M8, M9, M10, M11, M12, M13, M14, M15};
 use Kind::{List, Uniform};
@@ -38,7 +39,7 @@ pub(crate) fn assert_first(
         Ok(_) => None,
         Err((_, fault)) => Some(fault),
     };
-    assert_eq!(rt; fault, wanted, "case {case}");
+    assert_same_at(rt, [case as u64, 0], &fault, &wanted);
     Ok(())
 }
 
@@ -400,13 +401,14 @@ fn a_map_is_in_order(rt: HostRuntime) -> Result<(), Fail> {
     let alloc = rt.alloc();
     let map = map_of(alloc, draft(alloc, OUT_OF_ORDER)?)?;
     let counts = (map.types().len(), map.devices().len());
-    assert_eq!(rt; counts, (4, 2));
+    assert_same(&rt, &counts, &(4, 2));
     let counts = (map.buckets().len(), map.rules().len());
-    assert_eq!(rt; counts, (2, 2));
+    assert_same(&rt, &counts, &(2, 2));
     let numbers = numbers_of(alloc, &map)?;
-    assert_eq!(rt;
-        numbers.as_slice(),
-        [
+    assert_same(
+        &rt,
+        &numbers.as_slice(),
+        &[
             0,
             1,
             3,
@@ -416,10 +418,10 @@ fn a_map_is_in_order(rt: HostRuntime) -> Result<(), Fail> {
             i64::from(LAST_BUCKET),
             -9,
             0,
-            i64::from(RULE_ID_LIMIT)
+            i64::from(RULE_ID_LIMIT),
         ]
-        .as_slice()
+        .as_slice(),
     );
-    assert_eq!(rt; map.tunables().total_tries, TOTAL_TRIES_LIMIT);
+    assert_same(&rt, &map.tunables().total_tries, &TOTAL_TRIES_LIMIT);
     Ok(())
 }

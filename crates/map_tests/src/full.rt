@@ -2,6 +2,7 @@
 
 use crate::drafts::{ONE, SOUND, devices, draft, map_of, types};
 use crate::faults::assert_first;
+use crate::same::assert_same;
 use crush_map::limits::{
     BUCKET_LIMIT, DEVICE_LIMIT, ITEM_LIMIT, NUMBER_LIMIT, RULE_LIMIT, STEP_LIMIT, TYPE_LIMIT,
 };
@@ -108,14 +109,15 @@ const MOST: Counts = Counts {
 fn a_draft_at_every_limit_is_a_map(rt: HostRuntime) -> Result<(), Fail> {
     let alloc = rt.alloc();
     let map = map_of(alloc, full(alloc, MOST)?)?;
-    assert_eq!(rt; map.types().len(), TYPE_LIMIT);
-    assert_eq!(rt; map.devices().len(), DEVICE_LIMIT);
-    assert_eq!(rt; map.buckets().len(), BUCKET_LIMIT);
-    assert_eq!(rt;
-        map.buckets()[BUCKET_LIMIT - 1].items.as_slice().len(),
-        ITEM_LIMIT
+    assert_same(&rt, &map.types().len(), &TYPE_LIMIT);
+    assert_same(&rt, &map.devices().len(), &DEVICE_LIMIT);
+    assert!(rt; map.buckets().len() == BUCKET_LIMIT);
+    assert_same(
+        &rt,
+        &map.buckets()[BUCKET_LIMIT - 1].items.as_slice().len(),
+        &ITEM_LIMIT,
     );
-    assert_eq!(rt; map.rules().len(), RULE_LIMIT);
+    assert_same(&rt, &map.rules().len(), &RULE_LIMIT);
     Ok(())
 }
 

@@ -12,4 +12,6 @@ mod faults;
 #[cfg(test)]
 mod full;
 #[cfg(test)]
+mod same;
+#[cfg(test)]
 mod weights;

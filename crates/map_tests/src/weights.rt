@@ -1,5 +1,6 @@
 //! Weights as text: the worked values, the limits of the form, and what is written.
 
+use crate::same::{assert_same, assert_same_at};
 use crush_map::{Weight, weight_from_text, weight_text};
 use std::test::Fail;
 
@@ -47,7 +48,12 @@ const READ: &[(&[u8], Option<u32>)] = &[
 #[test]
 fn weights_are_read_rounded_down(rt: HostRuntime) {
     for (case, (text, want)) in READ.iter().enumerate() {
-        assert_eq!(rt; weight_from_text(text), want.map(Weight), "case {case}");
+        assert_same_at(
+            &rt,
+            [case as u64, 0],
+            &weight_from_text(text),
+            &want.map(Weight),
+        );
     }
 }
 
@@ -68,9 +74,9 @@ const WRITTEN: &[(u32, &str)] = &[
 fn weights_are_written_rounded_up_and_come_back(rt: HostRuntime) -> Result<(), Fail> {
     for (weight, want) in WRITTEN {
         let written = weight_text(rt.alloc(), Weight(*weight))?;
-        assert_eq!(rt; written.as_str(), *want);
+        assert_same(&rt, &written.as_str(), want);
         let again = weight_from_text(written.as_bytes());
-        assert_eq!(rt; again, Some(Weight(*weight)));
+        assert_same(&rt, &again, &Some(Weight(*weight)));
     }
     Ok(())
 }

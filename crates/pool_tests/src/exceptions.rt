@@ -7,6 +7,7 @@ use crate::placements::{
 };
 use crate::placing::exceptions_of;
 use crate::pools::{OF_TWO, Short, TWELVE, pool};
+use crate::same::assert_same;
 use crate::states::{DOWN_2, OUT_1};
 use crush_pool::limits::PAIR_LIMIT;
 use crush_pool::{DeviceState, Exceptions, Pair, PoolFault};
@@ -230,11 +231,11 @@ fn assert_valid(rt: &impl Abort, alloc: Global, pairs: &[Pair], valid: bool) -> 
     match Exceptions::new(alloc, &pool, list)? {
         Ok(exceptions) => {
             assert!(rt; valid);
-            assert_eq!(rt; exceptions.pairs(), pairs);
+            assert_same(rt, &exceptions.pairs(), &pairs);
         }
         Err(fault) => {
             assert!(rt; !valid);
-            assert_eq!(rt; fault, PoolFault::P3);
+            assert_same(rt, &fault, &PoolFault::P3);
         }
     }
     Ok(())
@@ -271,9 +272,9 @@ fn at_most_1024_pairs_are_exceptions(rt: HostRuntime) -> Result<(), Fail> {
 /// Of the groups the exceptions concern 5, which they lead to 9, and 0, which they lead to 1.
 fn assert_known(rt: &impl Abort, exceptions: &Exceptions) {
     for group in 0..13 {
-        assert_eq!(rt; exceptions.concern(group), group == 0 || group == 5);
-        assert_eq!(rt; exceptions.lead_to(group, 9), group == 5);
-        assert_eq!(rt; exceptions.lead_to(group, 1), group == 0);
+        assert_same(rt, &exceptions.concern(group), &(group == 0 || group == 5));
+        assert_same(rt, &exceptions.lead_to(group, 9), &(group == 5));
+        assert_same(rt, &exceptions.lead_to(group, 1), &(group == 0));
         assert!(rt; !exceptions.lead_to(group, 3));
     }
     assert!(rt; !exceptions.concern(65_536));

@@ -1,6 +1,7 @@
 //! The groups of numbers and of objects.
 
 use crate::pools::{Short, TWELVE, pool};
+use crate::same::{assert_same_at, assert_same_in};
 use crush_hash::name_hash;
 use crush_pool::{mask_of, stable_mod};
 use std::test::Fail;
@@ -26,7 +27,7 @@ const MASKS: &[(u32, u32)] = &[
 #[test]
 fn masks_have_just_enough_bits(rt: HostRuntime) {
     for (b, mask) in MASKS {
-        assert_eq!(rt; mask_of(*b), *mask, "of {b}");
+        assert_same_at(&rt, [u64::from(*b), 0], &mask_of(*b), mask);
     }
 }
 
@@ -56,7 +57,12 @@ const FOLDED: &[(u32, u32, u32)] = &[
 #[test]
 fn numbers_fall_into_their_groups(rt: HostRuntime) {
     for (b, x, group) in FOLDED {
-        assert_eq!(rt; stable_mod(*x, *b, mask_of(*b)), *group, "{x} of {b}");
+        assert_same_at(
+            &rt,
+            [u64::from(*x), u64::from(*b)],
+            &stable_mod(*x, *b, mask_of(*b)),
+            group,
+        );
     }
 }
 
@@ -91,12 +97,8 @@ fn objects_have_the_groups_of_their_hashes(rt: HostRuntime) -> Result<(), Fail> 
             ..TWELVE
         };
         let pool = pool(rt.alloc(), short)?;
-        assert_eq!(rt; name_hash(name.as_bytes()), *hash, "of {name}");
-        assert_eq!(rt;
-            pool.group_of(name.as_bytes()),
-            *group,
-            "of {name} among {pg_num}"
-        );
+        assert_same_in(&rt, name, &name_hash(name.as_bytes()), hash);
+        assert_same_in(&rt, name, &pool.group_of(name.as_bytes()), group);
     }
     Ok(())
 }

@@ -12,6 +12,8 @@ mod placements;
 pub mod placing;
 pub mod pools;
 #[cfg(test)]
+mod same;
+#[cfg(test)]
 mod seeds;
 pub mod states;
 #[cfg(test)]

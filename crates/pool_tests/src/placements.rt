@@ -4,6 +4,7 @@
 use crate::maps::{MapTables, THREE};
 use crate::placing::{PoolCase, place_group, placement_by};
 use crate::pools::{Short, TWELVE};
+use crate::same::{assert_same, assert_same_at, assert_same_in};
 use crate::states::{DOWN_0, DOWN_1, DOWN_2};
 use crush_bucket::Scratch;
 use crush_choose::Out;
@@ -38,7 +39,7 @@ fn assert_slots(rt: &impl Abort, slots: &[Slot], wanted: &[Slot], part: &str, ca
 }
 
 fn assert_placement(rt: &impl Abort, placement: &Placement, case: &Case) {
-    assert_eq!(rt; placement.seed, case.seed, "seed: {}", case.what);
+    assert_same_in(rt, case.what, &placement.seed, &case.seed);
     assert_slots(rt, placement.raw.as_slice(), case.raw, "raw", case);
     assert_slots(rt, placement.up.as_slice(), case.up, "up", case);
     assert_slots(rt, &[placement.primary], &[case.primary], "primary", case);
@@ -46,7 +47,7 @@ fn assert_placement(rt: &impl Abort, placement: &Placement, case: &Case) {
 
 fn assert_out(rt: &impl Abort, out: &Out, case: &Case) {
     assert_slots(rt, out.items(), case.raw, "answer", case);
-    assert_eq!(rt; out.trace(), case.trace, "trace: {}", case.what);
+    assert_same_in(rt, case.what, &out.trace(), &case.trace);
 }
 
 pub(crate) fn assert_placed(rt: &impl Abort, alloc: Global, case: &Case) -> Result<(), Fail> {
@@ -303,7 +304,7 @@ fn assert_past(
 ) -> Result<(), Fail> {
     let mut scratch = Scratch::build(alloc, placer.tables())?;
     let past = placement_by(alloc, placer, weights, &mut scratch, group)?;
-    assert_eq!(rt; past.err(), Some(PoolFault::P2));
+    assert_same(rt, &past.err(), &Some(PoolFault::P2));
     Ok(())
 }
 
@@ -331,7 +332,12 @@ fn assert_placer(
     there: bool,
 ) -> Result<(), Fail> {
     let pool = PoolCase::build(alloc, Short { rule, ..TWELVE }, &[], &[])?;
-    assert_eq!(rt; pool.placer(map).is_some(), there, "the rule {rule}");
+    assert_same_at(
+        rt,
+        [u64::from(rule), 0],
+        &pool.placer(map).is_some(),
+        &there,
+    );
     Ok(())
 }
 

@@ -1,6 +1,7 @@
 //! The seeds of groups.
 
 use crate::pools::{Short, TWELVE, pool};
+use crate::same::assert_same_at;
 use std::alloc::Global;
 use std::process::Abort;
 use std::test::Fail;
@@ -23,10 +24,11 @@ fn assert_seeds(
             ..TWELVE
         };
         let pool = pool(alloc, short)?;
-        assert_eq!(rt;
-            pool.seed_of(*group),
-            *seed,
-            "group {group} of {pg_num}, {pgp_num}"
+        assert_same_at(
+            rt,
+            [u64::from(*group), u64::from(*pg_num)],
+            &pool.seed_of(*group),
+            seed,
         );
     }
     Ok(())

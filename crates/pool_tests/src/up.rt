@@ -1,5 +1,6 @@
 //! Which devices are up.
 
+use crate::same::assert_same_at;
 use crate::states::{DOWN_0, DOWN_1};
 use crush_pool::{DeviceState, DeviceStates};
 use std::alloc::AllocError;
@@ -40,7 +41,7 @@ const UP: &[(u32, bool)] = &[
 fn the_first_state_of_a_device_counts(rt: HostRuntime) -> Result<(), AllocError> {
     let states = DeviceStates::build(rt.alloc(), STATES)?;
     for (device, up) in UP {
-        assert_eq!(rt; states.is_up(*device), *up, "the device {device}");
+        assert_same_at(&rt, [u64::from(*device), 0], &states.is_up(*device), up);
     }
     Ok(())
 }

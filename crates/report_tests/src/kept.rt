@@ -3,6 +3,7 @@
 use crate::cases::{CASES, Case, DEVICES, POOLS, of_seven, of_six};
 use crate::places::assert_lists;
 use crate::reports::assert_rule;
+use crate::same::assert_same;
 use crush_pool::Placer;
 use crush_report::{MoveRow, impact, moves};
 use pool_tests::maps::MapTables;
@@ -15,10 +16,10 @@ use std::test::Fail;
 
 /// Two lists of rows are the same.
 fn assert_all_same(rt: &impl Abort, first: &[MoveRow], second: &[MoveRow]) {
-    assert_eq!(rt; first.len(), second.len());
+    assert_same(rt, &first.len(), &second.len());
     for (one, other) in first.iter().zip(second.iter()) {
-        assert_eq!(rt; one.group, other.group);
-        assert_eq!(rt; one.gained, other.gained);
+        assert_same(rt, &one.group, &other.group);
+        assert_same(rt, &one.gained, &other.gained);
         assert_lists(rt, one, other.old.as_slice(), other.new.as_slice());
     }
 }
@@ -64,7 +65,7 @@ fn assert_groups(
     let (map, pool, exceptions) = (placer.map(), placer.pool(), placer.exceptions());
     let groups = impact(alloc, map, pool, exceptions, case.states(), device)?;
     let found = touches.groups_of(alloc, device)?;
-    assert_eq!(rt; found.as_slice(), groups.as_slice());
+    assert_same(rt, &found.as_slice(), &groups.as_slice());
     Ok(())
 }
 

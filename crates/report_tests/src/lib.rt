@@ -12,3 +12,5 @@ mod places;
 mod plain;
 #[cfg(test)]
 mod reports;
+#[cfg(test)]
+mod same;

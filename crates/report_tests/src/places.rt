@@ -3,6 +3,7 @@
 use crate::cases::{CASES, Case, DEVICES, ELEVEN, PAIRS, POOLS, of_seven, of_six};
 use crate::plain::{all_placed, counted, gained, touches};
 use crate::reports::assert_rule;
+use crate::same::{assert_same, assert_same_at};
 use crush_pool::{Pair, Placer};
 use crush_report::{MoveRow, UsageRow, impact, moves, usage};
 use crush_select::Slot;
@@ -17,9 +18,9 @@ use std::test::Fail;
 
 /// The rows are those that are counted over placements.
 fn assert_counted(rt: &impl Abort, rows: &[UsageRow], groups: &[Placed]) {
-    assert_eq!(rt; rows.len(), 7);
+    assert_same(rt, &rows.len(), &7);
     for row in rows {
-        assert_eq!(rt; *row, counted(groups, row.device));
+        assert_same(rt, row, &counted(groups, row.device));
     }
 }
 
@@ -66,14 +67,14 @@ fn usage_counts_each_group_that_shares_a_place(rt: HostRuntime) -> Result<(), Fa
 
 /// The row has these lists.
 pub(crate) fn assert_lists(rt: &impl Abort, row: &MoveRow, old: &[Slot], new: &[Slot]) {
-    assert_eq!(rt; row.old.as_slice(), old);
-    assert_eq!(rt; row.new.as_slice(), new);
+    assert_same(rt, &row.old.as_slice(), &old);
+    assert_same(rt, &row.new.as_slice(), &new);
 }
 
 /// The row is of this group with these lists.
 fn assert_row(rt: &impl Abort, row: &MoveRow, group: usize, old: &[Slot], new: &[Slot]) {
-    assert_eq!(rt; row.group as usize, group);
-    assert_eq!(rt; row.gained, gained(old, new));
+    assert_same(rt, &(row.group as usize), &group);
+    assert_same(rt, &row.gained, &gained(old, new));
     assert_lists(rt, row, old, new);
 }
 
@@ -155,7 +156,7 @@ fn assert_touched(rt: &impl Abort, found: &[u32], groups: &[Placed], pairs: &[Pa
             let [first, others @ ..] = rest else {
                 return rt.abort();
             };
-            assert_eq!(rt; *first as usize, group);
+            assert_same(rt, &(*first as usize), &group);
             rest = others;
         }
     }
@@ -213,9 +214,9 @@ fn assert_alike(rt: &impl Abort, groups: &[Placed], (group, other): (usize, usiz
         return rt.abort();
     };
     let (first, second) = (&first.placement, &second.placement);
-    assert_eq!(rt; first.raw.as_slice(), second.raw.as_slice());
+    assert_same(rt, &first.raw.as_slice(), &second.raw.as_slice());
     let found = first.up.as_slice() == second.up.as_slice();
-    assert_eq!(rt; found, same, "the groups {group} and {other}");
+    assert_same_at(rt, [group as u64, other as u64], &found, &same);
 }
 
 /// Two groups, and whether they have the same up list.

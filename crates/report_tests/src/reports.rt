@@ -4,6 +4,7 @@ ghost use Rattle.std.specs.Prelude.{◌≡◌, is_some, true};
 ghost use Rattle.crush_pool.specs.Placements.{rule_numbered};
 
 use crate::cases::Case;
+use crate::same::assert_same;
 use crush_map::CrushMap;
 use crush_pool::{DeviceState, Pair, Placer, Pool, rule_with_id};
 use crush_report::{MoveRow, impact, moves, moves_csv, usage, usage_csv};
@@ -202,7 +203,7 @@ fn assert_touched(
 ) -> Result<(), Fail> {
     let (map, pool, exceptions) = (placer.map(), placer.pool(), placer.exceptions());
     let groups = impact(alloc, map, pool, exceptions, states, device)?;
-    assert_eq!(rt; groups.as_slice(), wanted);
+    assert_same(rt, &groups.as_slice(), &wanted);
     Ok(())
 }
 

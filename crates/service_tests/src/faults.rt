@@ -1,22 +1,18 @@
 //! Scripts whose reader or writer fails: each read and each write in turn.
 
+use crate::same::{assert_same, assert_same_at};
 use crate::scripts::{REPLIES, play};
 use common_tests::rows::created;
 use common_tests::streams::{Cuts, MANY, Reader, Writer};
 use crush_app::{ScriptEnd, script_run};
-use std::alloc::{AllocError, Global};
+use std::alloc::Global;
 use std::process::Abort;
-use std::test::Fail;
 use tenant_service::Service;
 
 /// How many bytes of the replies are written where the writer fails after so many writes, and
 /// whether the script is done; else it met the fault.
-fn written_after(
-    rt: &impl Abort,
-    alloc: Global,
-    writes: usize,
-) -> Result<(usize, bool), AllocError> {
-    let (end, written) = play(alloc, MANY, writes)?;
+fn written_after(rt: &impl Abort, alloc: Global, writes: usize) -> (usize, bool) {
+    let (end, written) = play(rt, alloc, MANY, writes);
     assert!(rt;
         REPLIES.as_bytes().starts_with(written.as_slice()),
         "after {writes} writes"
@@ -26,24 +22,28 @@ fn written_after(
         is_done || end == ScriptEnd::WriteFault,
         "after {writes} writes"
     );
-    Ok((written.len(), is_done))
+    (written.len(), is_done)
 }
 
 #[test]
-fn a_write_fault_leaves_a_front_of_the_replies(rt: HostRuntime) -> Result<(), Fail> {
+fn a_write_fault_leaves_a_front_of_the_replies(rt: HostRuntime) {
     let mut front = 0;
     // a write takes three bytes at most, and one at least
     for writes in 0..MANY {
-        let (length, is_done) = written_after(&rt, rt.alloc(), writes)?;
+        let (length, is_done) = written_after(&rt, rt.alloc(), writes);
         assert!(rt; writes == 0 || front < length, "after {writes} writes");
-        assert_eq!(rt; is_done, length == REPLIES.len(), "after {writes} writes");
+        assert_same_at(
+            &rt,
+            [writes as u64, 0],
+            &is_done,
+            &(length == REPLIES.len()),
+        );
         front = length;
         if is_done {
             break;
         }
     }
-    assert_eq!(rt; front, REPLIES.len());
-    Ok(())
+    assert_same(&rt, &front, &REPLIES.len());
 }
 
 /// Three lines that make a tenant each.
@@ -55,47 +55,46 @@ const REPLY: usize = 29;
 /// How these lines end with a reader and a writer that fail after so many calls, how many tenants
 /// are then there, and how many bytes were written.
 fn create(
+    rt: &impl Abort,
     alloc: Global,
     reads: usize,
     writes: usize,
-) -> Result<(ScriptEnd, Option<usize>, usize), AllocError> {
-    let mut service = Service::in_memory(alloc)?;
+) -> (ScriptEnd, Option<usize>, usize) {
+    let mut service = Service::in_memory(alloc).expect(rt, "no memory");
     let mut reader = Reader {
         rest: CREATIONS,
         cuts: Cuts::each(1),
         reads,
     };
     let mut writer = Writer::new(alloc, writes);
-    let end = script_run(alloc, &mut service, &mut reader, &mut writer)?;
-    Ok((end, created(&mut service), writer.taken.len()))
+    let end = script_run(alloc, &mut service, &mut reader, &mut writer).expect(rt, "no memory");
+    (end, created(&mut service), writer.taken.len())
 }
 
 #[test]
-fn no_line_is_served_after_a_read_fault(rt: HostRuntime) -> Result<(), Fail> {
+fn no_line_is_served_after_a_read_fault(rt: HostRuntime) {
     let whole = (ScriptEnd::Done, Some(3), 3 * REPLY);
     let nothing = (ScriptEnd::ReadFault, Some(0), 0);
     // a read gives one byte; the last one says that nothing more comes
     for reads in 0..CREATIONS.len().saturating_add(2) {
-        let found = create(rt.alloc(), reads, MANY)?;
+        let found = create(&rt, rt.alloc(), reads, MANY);
         let want = if reads <= CREATIONS.len() {
             nothing
         } else {
             whole
         };
-        assert_eq!(rt; found, want, "after {reads} reads");
+        assert_same_at(&rt, [reads as u64, 0], &found, &want);
     }
-    Ok(())
 }
 
 #[test]
-fn a_line_whose_reply_is_cut_is_done_and_no_later_one(rt: HostRuntime) -> Result<(), Fail> {
+fn a_line_whose_reply_is_cut_is_done_and_no_later_one(rt: HostRuntime) {
     let mut all = 0;
     for writes in 0..2 * REPLY {
-        let (_, done, bytes) = create(rt.alloc(), MANY, writes)?;
+        let (_, done, bytes) = create(&rt, rt.alloc(), MANY, writes);
         let want = (bytes / REPLY).saturating_add(1).min(3);
-        assert_eq!(rt; done, Some(want), "after {writes} writes, {bytes} bytes");
+        assert_same_at(&rt, [writes as u64, bytes as u64], &done, &Some(want));
         all = bytes;
     }
-    assert_eq!(rt; all, 3 * REPLY);
-    Ok(())
+    assert_same(&rt, &all, &(3 * REPLY));
 }

@@ -1,6 +1,7 @@
 //! What a service answers once its store has failed for good.
 
 use crate::fixed::over_fixed;
+use crate::same::assert_same;
 use common_tests::rows::{Row, check_requests};
 use crush_app::{ScriptEnd, script_run};
 use std::test::Fail;
@@ -43,9 +44,10 @@ fn a_script_ends_at_the_reply_that_latched(rt: HostRuntime) -> Result<(), Fail> 
     let mut written = Vec::new(alloc);
     let end = script_run(alloc, &mut service, &mut input, &mut written)?;
     assert!(rt; end == ScriptEnd::Latched);
-    assert_eq!(rt;
-        written.as_slice(),
-        b"404 {\"error\":\"no_tenant\"}\n503 {\"error\":\"store_failed\"}\n".as_slice()
+    assert_same(
+        &rt,
+        &written.as_slice(),
+        &b"404 {\"error\":\"no_tenant\"}\n503 {\"error\":\"store_failed\"}\n".as_slice(),
     );
     Ok(())
 }

@@ -14,4 +14,6 @@ mod latched;
 #[cfg(test)]
 mod requests;
 #[cfg(test)]
+mod same;
+#[cfg(test)]
 mod scripts;

@@ -1,10 +1,12 @@
 //! Scripts and runs on the service over a store in memory.
 
+use crate::same::assert_same;
 use common_tests::rows::{CREATION_OF_A, Row, check_run};
 use common_tests::streams::{Cuts, MANY, Reader, Writer};
 use crush_app::{ScriptEnd, script_in_memory, script_run};
-use std::alloc::{AllocError, Global};
+use std::alloc::Global;
 use std::num::NonZeroUsize;
+use std::process::Abort;
 use std::test::Fail;
 use tenant_service::Service;
 
@@ -17,42 +19,44 @@ pub(crate) const REPLIES: &str =
 /// How the script ends with a reader and a writer that fail after so many calls, and what was
 /// written.
 pub(crate) fn play(
+    rt: &impl Abort,
     alloc: Global,
     reads: usize,
     writes: usize,
-) -> Result<(ScriptEnd, Vec<u8>), AllocError> {
-    let mut service = Service::in_memory(alloc)?;
+) -> (ScriptEnd, Vec<u8>) {
+    let mut service = Service::in_memory(alloc).expect(rt, "no memory");
     let mut reader = Reader {
         rest: SCRIPT.as_bytes(),
         cuts: Cuts::each(1),
         reads,
     };
     let mut writer = Writer::new(alloc, writes);
-    let end = script_run(alloc, &mut service, &mut reader, &mut writer)?;
+    let end = script_run(alloc, &mut service, &mut reader, &mut writer).expect(rt, "no memory");
     let Writer { taken, writes: _ } = writer;
-    Ok((end, taken))
+    (end, taken)
 }
 
 #[test]
-fn a_script_is_played_whatever_one_read_and_one_write_take(rt: HostRuntime) -> Result<(), Fail> {
-    let (end, written) = play(rt.alloc(), MANY, MANY)?;
-    assert_eq!(rt; end, ScriptEnd::Done);
-    assert_eq!(rt; written.as_slice(), REPLIES.as_bytes());
-    Ok(())
+fn a_script_is_played_whatever_one_read_and_one_write_take(rt: HostRuntime) {
+    let (end, written) = play(&rt, rt.alloc(), MANY, MANY);
+    assert_same(&rt, &end, &ScriptEnd::Done);
+    assert_same(&rt, &written.as_slice(), &REPLIES.as_bytes());
 }
 
 #[test]
-fn a_script_is_played_in_memory_from_nothing(rt: HostRuntime) -> Result<(), Fail> {
+fn a_script_is_played_in_memory_from_nothing(rt: HostRuntime) {
     let mut reader = Reader {
         rest: SCRIPT.as_bytes(),
         cuts: Cuts::each(1),
         reads: MANY,
     };
     let mut writer = Writer::new(rt.alloc(), MANY);
-    let end = script_in_memory(rt.alloc(), NonZeroUsize::MIN, &mut reader, &mut writer)?;
-    assert_eq!(rt; end, ScriptEnd::Done);
-    assert_eq!(rt; writer.taken.as_slice(), REPLIES.as_bytes());
-    Ok(())
+    let end = script_in_memory(rt.alloc(), NonZeroUsize::MIN, &mut reader, &mut writer).expect(
+        &rt,
+        "no memory",
+    );
+    assert_same(&rt, &end, &ScriptEnd::Done);
+    assert_same(&rt, &writer.taken.as_slice(), &REPLIES.as_bytes());
 }
 
 const CREATION_OF_B: Row = ("PUT", "/t/b", "", 201, "{\"epoch\":0,\"tenant\":\"b\"}");

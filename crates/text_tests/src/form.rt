@@ -2,6 +2,7 @@
 
 use crate::jewel::WRITTEN_BY_CRUSHTOOL;
 use crate::lines::{lines_within, with_line};
+use crate::same::{assert_same, assert_same_in};
 use crate::texts::DEVICE_0;
 use crush_grammar::{TextCode, read_declarations};
 use std::alloc::Global;
@@ -30,7 +31,7 @@ fn texts_of_the_form_have_no_fault(rt: HostRuntime) -> Result<(), Fail> {
         "root r { id -3 class ssd id -1 id -2 class hdd alg list hash 0 hash rjenkins1 item weight weight 1.5 pos 0 }",
         "rule q { ruleset 0 type erasure min_size 1 max_size 3 step take r step set_choose_tries 9 step chooseleaf indep -1 type 00 step emit }",
     ] {
-        assert_eq!(rt; fault(alloc, text)?, None, "{text}");
+        assert_same_in(&rt, text, &fault(alloc, text)?, &None);
     }
     Ok(())
 }
@@ -59,7 +60,7 @@ fn one_wrong_line_is_named(rt: HostRuntime) -> Result<(), Fail> {
         (8, "type 0 osd class", (8, TextCode::X1)),
     ] {
         let text = with_line(alloc, number, line)?;
-        assert_eq!(rt; fault(alloc, text.as_str())?, Some(want), "{line}");
+        assert_same_in(&rt, line, &fault(alloc, text.as_str())?, &Some(want));
     }
     Ok(())
 }
@@ -68,14 +69,18 @@ fn one_wrong_line_is_named(rt: HostRuntime) -> Result<(), Fail> {
 fn a_text_that_ends_early_is_named_by_its_last_line(rt: HostRuntime) -> Result<(), Fail> {
     let alloc = rt.alloc();
     let text = lines_within(alloc, 1, 15)?;
-    assert_eq!(rt; fault(alloc, text.as_str())?, Some((15, TextCode::X1)));
+    assert_same(
+        &rt,
+        &fault(alloc, text.as_str())?,
+        &Some((15, TextCode::X1)),
+    );
     for text in [
         "device 0 osd.0 class",
         "@",
         "tunable",
         "root r { id -1 alg list item a weight",
     ] {
-        assert_eq!(rt; fault(alloc, text)?, Some((1, TextCode::X1)), "{text}");
+        assert_same_in(&rt, text, &fault(alloc, text)?, &Some((1, TextCode::X1)));
     }
     Ok(())
 }

@@ -1,5 +1,6 @@
 //! A map that crushtool and this library write, and what it is with one device more.
 
+use crate::same::assert_same;
 use crate::texts::{map_of, map_text};
 use crush_text::write_map;
 use std::alloc::Global;
@@ -103,7 +104,7 @@ pub(crate) fn assert_canonical(
     canonical: &str,
 ) -> Result<(), Fail> {
     let written = write_map(alloc, &map_of(alloc, text)?)?;
-    assert_eq!(rt; written.as_slice(), canonical.as_bytes());
+    assert_same(rt, &written.as_slice(), &canonical.as_bytes());
     Ok(())
 }
 

@@ -12,6 +12,8 @@ mod legacy;
 mod lines;
 #[cfg(test)]
 mod read;
+#[cfg(test)]
+mod same;
 pub mod texts;
 #[cfg(test)]
 mod words;

@@ -2,6 +2,7 @@
 
 use crate::jewel::{CANONICAL, TWO_DEVICES, assert_canonical};
 use crate::lines::{lines_within, with_line};
+use crate::same::{assert_same, assert_same_in};
 use FaultCode::{M1, M2, M3, M4, M5, M6, M7, M8, M9, M10, M11, M12, M13, M14, M15};
 use TextCode::{Map, X1, X2, X3, X4, X5, X6, X7};
 use crush_map::FaultCode;
@@ -24,7 +25,7 @@ type Row = (&'static str, usize, TextCode);
 fn assert_faults(rt: &impl Abort, alloc: Global, rows: &[Row]) -> Result<(), Fail> {
     for (text, line, code) in rows {
         let want = Some((*line, *code));
-        assert_eq!(rt; fault(alloc, text.as_bytes())?, want, "{text}");
+        assert_same_in(rt, text, &fault(alloc, text.as_bytes())?, &want);
     }
     Ok(())
 }
@@ -232,10 +233,14 @@ fn a_wrong_line_of_a_map_is_named(rt: HostRuntime) -> Result<(), Fail> {
         (21, " step chooseleaf indep 0 type osd", (17, Map(M14))),
     ] {
         let text = with_line(alloc, number, line)?;
-        assert_eq!(rt; fault(alloc, text.as_bytes())?, Some(want), "{line}");
+        assert_same_in(&rt, line, &fault(alloc, text.as_bytes())?, &Some(want));
     }
     let unnamed = lines_within(alloc, 3, 23)?;
-    assert_eq!(rt; fault(alloc, unnamed.as_bytes())?, Some((21, Map(M13))));
+    assert_same(
+        &rt,
+        &fault(alloc, unnamed.as_bytes())?,
+        &Some((21, Map(M13))),
+    );
     Ok(())
 }
 
@@ -249,8 +254,8 @@ fn a_text_has_at_most_the_limit_of_bytes(rt: HostRuntime) -> Result<(), Fail> {
     let alloc = rt.alloc();
     let short = remark(alloc, 4_194_304)?;
     let long = remark(alloc, 4_194_305)?;
-    assert_eq!(rt; fault(alloc, short.as_slice())?, Some((1, Map(M4))));
-    assert_eq!(rt; fault(alloc, long.as_slice())?, Some((1, X7)));
+    assert_same(&rt, &fault(alloc, short.as_slice())?, &Some((1, Map(M4))));
+    assert_same(&rt, &fault(alloc, long.as_slice())?, &Some((1, X7)));
     Ok(())
 }
 
@@ -260,7 +265,7 @@ fn a_stored_text_may_be_longer(rt: HostRuntime) -> Result<(), Fail> {
     let mut text = remark(alloc, 4_194_304)?;
     text.push(b'\n')?;
     text.extend_from_slice(CANONICAL.as_bytes())?;
-    assert_eq!(rt; fault(alloc, text.as_slice())?, Some((1, X7)));
+    assert_same(&rt, &fault(alloc, text.as_slice())?, &Some((1, X7)));
     assert!(rt; read_stored(alloc, text.as_slice())?.is_ok());
     Ok(())
 }
@@ -281,8 +286,12 @@ fn a_map_has_at_most_10000_devices(rt: HostRuntime) -> Result<(), Fail> {
     let alloc = rt.alloc();
     let most = devices_alone(alloc, 10_000)?;
     let more = devices_alone(alloc, 10_001)?;
-    assert_eq!(rt; fault(alloc, most.as_bytes())?, None);
-    assert_eq!(rt; fault(alloc, more.as_bytes())?, Some((10_004, Map(M1))));
+    assert_same(&rt, &fault(alloc, most.as_bytes())?, &None);
+    assert_same(
+        &rt,
+        &fault(alloc, more.as_bytes())?,
+        &Some((10_004, Map(M1))),
+    );
     Ok(())
 }
 

@@ -1,5 +1,6 @@
 //! Words, their lines, and the numbers that they say.
 
+use crate::same::{assert_same, assert_same_in};
 use crush_words::{Cursor, integer_from_text, number_from_text};
 use std::test::Fail;
 
@@ -22,9 +23,9 @@ fn words_stand_on_their_lines(rt: HostRuntime) -> Result<(), Fail> {
         let Some((found, rest)) = cursor.next() else {
             return Err(Fail::new("no more words"));
         };
-        assert_eq!(rt; found.line(), line);
-        assert_eq!(rt; found.text(), word);
-        assert_eq!(rt; rest.line(), line);
+        assert_same(&rt, &found.line(), &line);
+        assert_same(&rt, &found.text(), &word);
+        assert_same(&rt, &rest.line(), &line);
         cursor = rest;
     }
     assert!(rt; cursor.next().is_none());
@@ -42,7 +43,7 @@ fn numbers_have_at_most_the_limit_of_digits(rt: HostRuntime) {
         ("1.0", None),
         ("00000000001", None),
     ] {
-        assert_eq!(rt; number_from_text(text.as_bytes()), want, "{text}");
+        assert_same_in(&rt, text, &number_from_text(text.as_bytes()), &want);
     }
     for (text, want) in [
         ("-0", Some(0)),
@@ -54,6 +55,6 @@ fn numbers_have_at_most_the_limit_of_digits(rt: HostRuntime) {
         ("", None),
         ("+1", None),
     ] {
-        assert_eq!(rt; integer_from_text(text.as_bytes()), want, "{text}");
+        assert_same_in(&rt, text, &integer_from_text(text.as_bytes()), &want);
     }
 }

@@ -1,6 +1,7 @@
 //! Canonical texts, byte for byte, and read again.
 
 use crate::jewel::{CANONICAL, assert_canonical};
+use crate::same::assert_same;
 use crate::texts::map_text;
 use crush_map::{ItemId, Kind, Step};
 use crush_text::write_map;
@@ -17,7 +18,7 @@ fn assert_written(
     text: &str,
 ) -> Result<(), Fail> {
     let written = write_map(alloc, &map_of(alloc, draft(alloc, short)?)?)?;
-    assert_eq!(rt; written.as_slice(), text.as_bytes());
+    assert_same(rt, &written.as_slice(), &text.as_bytes());
     assert_canonical(rt, alloc, text, text)
 }
 
