@@ -15,13 +15,14 @@ use std::num::NonZeroUsize;
 /// What the program is asked to do: a command, with its arguments.
 #[derive(Drop)]
 pub enum Invocation<'a> {
-    /// Serve the script on standard input, over a database file if one is named, with so many
-    /// placements kept.
+    /// Serve the script on standard input, over the database file `db` if one is named, and keep at
+    /// most `placements` placements.
     Script {
         db: Option<&'a str>,
         placements: NonZeroUsize,
     },
-    /// Serve so many connections to a port, over a database file, with so many placements kept.
+    /// Serve `connections` connections to `port`, over the database file `db`, and keep at most
+    /// `placements` placements.
     Serve {
         db: &'a str,
         placements: NonZeroUsize,
@@ -34,7 +35,7 @@ pub enum Invocation<'a> {
     },
 }
 
-/// The text that the words say for an argument, or its default.
+/// Returns the text that the words say for the argument `id`, or its default.
 #[tactic(auto, using(crate::proofs::Matched::text_said))]
 fn text_of<'a>(matches: &ArgMatches<'a>, id: &str) -> Option<&'a str>
     ensures { option_map (λ text. text.now) result ≡ first_of id.now (rows_of (found_of matches.now)) }
@@ -42,28 +43,28 @@ fn text_of<'a>(matches: &ArgMatches<'a>, id: &str) -> Option<&'a str>
     matches.get_str(id)
 }
 
-/// The port that the words say.
+/// Returns the port that the words say.
 fn port_of(matches: &ArgMatches<'_>) -> Option<u16>
     ensures { IfSome result (λ n. Some n ≡ spec.number_of (codes "port") (rows_of (found_of matches.now))) }
 {
     matches.get_one::<u16>("port")
 }
 
-/// The number that the words say for an argument, or its default.
+/// Returns the number that the words say for the argument `id`, or its default.
 fn number_of(matches: &ArgMatches<'_>, id: &str) -> Option<u32>
     ensures { IfSome result (λ n. Some n ≡ spec.number_of id.now (rows_of (found_of matches.now))) }
 {
     matches.get_one::<u32>(id)
 }
 
-/// How many placements the option `--cache` says.
+/// Returns how many placements the option `--cache` says.
 fn placements_of(matches: &ArgMatches<'_>) -> Option<NonZeroUsize>
     ensures { IfSome result (λ n. Some (non_zero_usize_get n) ≡ spec.number_of (codes "cache") (rows_of (found_of matches.now))) }
 {
     NonZeroUsize::new(number_of(matches, "cache")? as usize)
 }
 
-/// What a command with these matches asks for, or nothing where they lack what it requires.
+/// Returns what a command with these matches asks for, or nothing where they lack what it requires.
 fn asked_of<'a>(name: &str, given: &ArgMatches<'a>) -> Option<Invocation<'a>>
     ensures { IfSome result (λ invocation. spec.IsAsked name.now (rows_of (found_of given.now)) invocation) }
 {
@@ -85,7 +86,7 @@ fn asked_of<'a>(name: &str, given: &ArgMatches<'a>) -> Option<Invocation<'a>>
     }
 }
 
-/// What the matches ask for, or nothing where they lack what a command requires.
+/// Returns what the matches ask for, or nothing where they lack what a command requires.
 #[tactic(auto, using(crate::proofs::Matched::met))]
 fn invocation_of<'a>(matches: &ArgMatches<'a>) -> Option<Invocation<'a>>
     ensures { IfSome result (λ invocation. spec.Asks (subcommand_rows_of matches.now) invocation) }

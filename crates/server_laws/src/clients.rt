@@ -16,6 +16,6 @@ pub fn clients_are_served_one_after_the_other()
         × (flat_map (λ c. c.calls) clients ≡ calls) × (flat_map (λ c. c.replies) clients ≡ replies) }
     ensures together { (clients : List Client) → All IsServed clients
         → ServesEach (AreJust (flat_map (λ c. c.calls) clients) (flat_map (λ c. c.replies) clients)) (map (λ c. c.input) clients) (map (λ c. c.output) clients) }
-    ensures told { (calls : List Call) (replies : List Reply) (count : ℕ) (old new : Clients) → ServesClients (AreJust calls replies) count (Some old) (Some new)
+    ensures known { (calls : List Call) (replies : List Reply) (count : ℕ) (old new : Clients) → ServesClients (AreJust calls replies) count (Some old) (Some new)
         → (new.coming ≡ drop count old.coming) × (length new.answered ≡ length old.answered + length (all_sent (take count old.coming))) }
 {}

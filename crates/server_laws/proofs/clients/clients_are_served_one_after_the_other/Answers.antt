@@ -11,5 +11,5 @@ returns-clause-apart c = λ calls replies inputs outputs serves.
 pub returns-clause-together : goal.returns-clause-together
 returns-clause-together c = λ clients all. together clients (AreJust (calls_in clients) (replies_in clients)) all (refl, refl)
 
-pub returns-clause-told : goal.returns-clause-told
-returns-clause-told c = λ calls replies count old new serves. told_more (AreJust calls replies) count old new serves
+pub returns-clause-known : goal.returns-clause-known
+returns-clause-known c = λ calls replies count old new serves. told_more (AreJust calls replies) count old new serves
