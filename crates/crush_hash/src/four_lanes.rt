@@ -1,7 +1,7 @@
 //! Four hashes at once, each in a lane of its own of every vector.
 
 ghost use Rattle.std.specs.Prelude.{◌≡◌, ℕ, ◌<◌, slice_index, bit_xor};
-ghost use Rattle.crush_hash.specs.Hash.{down, up, mix, hash3, lane};
+ghost use Rattle.crush_hash.specs.Hash.{down, up, mix, hash3, hash4, lane};
 
 use crate::{SEED, X, Y};
 use std::simd::u32x4;
@@ -67,4 +67,25 @@ pub fn hash3_lanes(x: u32, id: u32, places: &[u32; 4]) -> [u32; 4]
     let t = mix((p.1, q.1, s.2));
     let u = mix((s.0, q.0, t.2));
     u.2.to_array()
+}
+
+/// Returns the hashes of four words, of which the second differs from lane to lane
+/// (`crush_hash32_4`).
+#[inline(always)]
+pub fn hash4_four(x: u32, items: &[u32; 4], r: u32, id: u32) -> [u32; 4]
+    ensures { (n : ℕ) → n < 4 → slice_index result n ≡ hash4 x (slice_index items.now n) r id }
+{
+    let b = u32x4::from_array(*items);
+    let (a, c, d) = (splat(x), splat(r), splat(id));
+    let h1 = xor(splat(SEED), a);
+    let h2 = xor(h1, b);
+    let h3 = xor(h2, c);
+    let h4 = xor(h3, d);
+    let p = mix((a, b, h4));
+    let q = mix((c, d, p.2));
+    let s = mix((p.0, splat(X), q.2));
+    let t = mix((splat(Y), p.1, s.2));
+    let u = mix((q.0, s.1, t.2));
+    let v = mix((t.0, q.1, u.2));
+    v.2.to_array()
 }

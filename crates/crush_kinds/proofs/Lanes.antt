@@ -1,5 +1,5 @@
 -- The lanes of the labels below a node.
-use Rattle.std.proofs.Common.{◌≡◌, ℕ, suc, ◌+◌, ◌-◌, ◌*◌, ◌<◌, ◌≤◌, ◌^◌, List, slice_index, Bool, true, false, refl, ap, ◌∙◌, arith}
+use Rattle.std.proofs.Common.{◌≡◌, ℕ, zero, suc, ◌+◌, ◌-◌, ◌*◌, ◌<◌, ◌≤◌, ◌^◌, List, slice_index, Bool, true, false, refl, ap, ◌∙◌, arith}
 use Rattle.std.proofs.Math.Nat.{pow-succ'}
 use Rattle.crush_hash.specs.Hash.{hash4}
 use Rattle.crush_types.specs.declared.ItemId.{ItemId}
@@ -72,3 +72,38 @@ two_down id nodes x r node level quarter hashes one two some q are is_one is_two
 pub three_down : (id : ItemId) (nodes : List ℕ) (x r node level : ℕ) (hashes : List ℕ) (two : ℕ × ℕ) (to : ℕ) → 3 ≤ level → TwoDown id nodes x r node level hashes two → to ≡ child nodes (slice_index hashes two.1) two.0 (2 ^ (level - 3)) → to ≡ down_by id nodes x r 3 level node
 three_down id nodes x r node level hashes two to some is e =
     let down : level - 1 - 1 - 1 ≡ level - 3 = omega arith in e ∙ rw (is.hash, is.at, down) refl
+
+-- what holds of each number below four
+pub below_four : (P : ℕ → Type 0) → P 0 → P 1 → P 2 → P 3 → (n : ℕ) → n < 4 → P n
+below_four P p0 p1 p2 p3 zero h = p0
+below_four P p0 p1 p2 p3 (suc zero) h = p1
+below_four P p0 p1 p2 p3 (suc (suc zero)) h = p2
+below_four P p0 p1 p2 p3 (suc (suc (suc zero))) h = p3
+below_four P p0 p1 p2 p3 (suc (suc (suc (suc n)))) h = absurd (omega arith)
+
+-- the hashes of a node and of its children, at the first lanes
+abbrev pub AreThree : ItemId → ℕ → ℕ → ℕ → List ℕ → Type 0
+AreThree id x r node hashes =
+    (n : ℕ) → n < 3 → slice_index hashes n ≡ hash4 x (slice_index (labels node 1) n) r (word id)
+
+first_low : (nodes : List ℕ) (hash node half : ℕ) → lane_below nodes hash node half 0 < 3
+first_low nodes hash node half =
+    let go : (b : Bool) → is_left nodes hash node half ≡ b → lane_below nodes hash node half 0 < 3 = λ b. elim b as (λ b. is_left nodes hash node half ≡ b → lane_below nodes hash node half 0 < 3) [
+      | true ↦ λ e. rw e (omega arith)
+      | false ↦ λ e. rw e (omega arith)
+    ] in go (is_left nodes hash node half) refl
+
+-- the last two steps by these hashes
+pub last_two : (id : ItemId) (nodes : List ℕ) (x r node : ℕ) (hashes : List ℕ) (one two : ℕ × ℕ) → AreThree id x r node hashes
+    → one ≡ (child nodes (slice_index hashes 0) node 2, lane_below nodes (slice_index hashes 0) node 2 0)
+    → two ≡ (child nodes (slice_index hashes one.1) one.0 1, lane_below nodes (slice_index hashes one.1) one.0 1 one.1)
+    → two.0 ≡ down_by id nodes x r 2 2 node
+last_two id nodes x r node hashes one two are is_one is_two =
+    let hash : ℕ → ℕ = λ (n : ℕ). hash4 x n r (word id) in
+    let s = child nodes (hash node) node 2 in
+    let l = lane_below nodes (hash node) node 2 0 in
+    let first : InLane node 1 l s = first_lane nodes (hash node) node 1 in
+    let h0 : slice_index hashes 0 ≡ hash node = are 0 (omega arith) in
+    let e1 : one ≡ (s, l) = is_one ∙ ap (λ (h : ℕ). (child nodes h node 2, lane_below nodes h node 2 0)) h0 in
+    let h1 : slice_index hashes l ≡ hash s = are l (first_low nodes (hash node) node 2) ∙ ap hash first.same in
+    ap (λ (p : ℕ × ℕ). p.0) is_two ∙ ap (λ (p : ℕ × ℕ). child nodes (slice_index hashes p.1) p.0 1) e1 ∙ ap (λ (h : ℕ). child nodes h s 1) h1

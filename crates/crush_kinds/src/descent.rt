@@ -1,10 +1,10 @@
-//! The way down a tree: two or three levels by one vector of hashes, since the labels below a node
-//! are known before its draw.
+//! The way down a tree: three levels, or the last two, by one vector of hashes, since the labels
+//! below a node are known before its draw.
 
-ghost use Rattle.std.specs.Prelude.{◌≡◌, ◌<◌, ◌≤◌, ◌+◌, ◌-◌, ◌*◌, ◌^◌, min, length, slice_index};
+ghost use Rattle.std.specs.Prelude.{◌≡◌, ◌<◌, ◌≤◌, ◌+◌, ◌-◌, ◌*◌, ◌^◌, length, slice_index};
 ghost use Rattle.crush_kinds.specs.Private.Descent.{child, lane_below, down_by, labels};
 
-use crush_hash::{hash4, hash4_lanes};
+use crush_hash::{hash4, hash4_four, hash4_lanes};
 use crush_types::ItemId;
 
 /// Returns how many places a range of this height has.
@@ -73,25 +73,37 @@ fn step(hashes: &[u32; 8], nodes: &[u32], node: usize, half: usize, lane: usize)
     }
 }
 
-/// Returns the node to which the hashes lead three levels below a node, or two where there are no
-/// more.
+/// Returns the node to which the hashes lead three levels below a node.
 #[inline]
 pub(crate) fn down(id: ItemId, nodes: &[u32], x: u32, r: u32, node: usize, level: u32) -> usize
-    requires some { 1 < level }
+    requires some { 2 < level }
     requires low { level < 17 }
     requires above { 2 ^ level ≤ node }
     requires inside { node + 2 ^ level ≤ length nodes.now }
     requires small { length nodes.now < 2 ^ 31 }
-    ensures { result ≡ down_by id nodes.now x r (min level 3) level node }
+    ensures { result ≡ down_by id nodes.now x r 3 level node }
 {
     let quarter = places(level - 2);
     let hashes = hash4_lanes(x, &labels(node, quarter), r, id.word());
     let (second, lane) = step(&hashes, nodes, node, 2 * quarter, 0);
     let (third, lane) = step(&hashes, nodes, second, quarter, lane);
-    if level == 2 {
-        return third;
-    }
     step(&hashes, nodes, third, places(level - 3), lane).0
+}
+
+/// Returns the leaf to which the hashes lead two levels below a node. Three hashes are enough, for
+/// which four lanes take half of what eight do.
+#[inline]
+pub(crate) fn two_down(id: ItemId, nodes: &[u32], x: u32, r: u32, node: usize) -> usize
+    requires above { 4 ≤ node }
+    requires inside { node + 4 ≤ length nodes.now }
+    requires small { length nodes.now < 2 ^ 31 }
+    ensures { result ≡ down_by id nodes.now x r 2 2 node }
+{
+    let labels = [node as u32, (node - 2) as u32, (node + 2) as u32, 0];
+    let four = hash4_four(x, &labels, r, id.word());
+    let hashes = [four[0], four[1], four[2], 0, 0, 0, 0, 0];
+    let (below, lane) = step(&hashes, nodes, node, 2, 0);
+    step(&hashes, nodes, below, 1, lane).0
 }
 
 /// Returns the child to which the hash of a node above the leaves leads.

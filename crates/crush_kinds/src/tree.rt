@@ -7,7 +7,7 @@ ghost use Rattle.crush_kinds.specs.Kinds.{height_of, place_within};
 ghost use Rattle.crush_kinds.specs.Private.Walks.{tree_height, IsNode, GoesOn, IsPickAt};
 ghost use Rattle.crush_kinds.specs.Private.Kept.{AreNodes, HasNodes, node_weights};
 
-use crate::descent::{child, down, last_down, places};
+use crate::descent::{child, down, last_down, places, two_down};
 use crate::picker::Picker;
 use crate::sums::weight_within;
 use crate::walks::pick_trees;
@@ -135,11 +135,13 @@ impl TreeBucket {
     {
         let mut node = places(self.height);
         let mut level = self.height;
-        while level > 1 {
+        while level > 2 {
             node = down(self.id, &self.nodes, x, r, node, level);
-            level = level.saturating_sub(3);
+            level -= 3;
         }
-        if level == 1 {
+        if level == 2 {
+            node = two_down(self.id, &self.nodes, x, r, node);
+        } else if level == 1 {
             node = last_down(self.id, &self.nodes, x, r, node);
         }
         node / 2

@@ -12,7 +12,7 @@ use crush_types::ItemId;
 /// Returns where the contents of a place stood before place n changed contents with its partner, by
 /// the hash of place n.
 #[inline]
-fn place_before(at: u32, n: u32, hash: u32, size: u32) -> u32
+pub(crate) fn place_before(at: u32, n: u32, hash: u32, size: u32) -> u32
     requires { n < size }
     ensures { result ≡ place_before at n (n + hash % (size - n)) }
 {

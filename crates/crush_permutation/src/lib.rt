@@ -5,6 +5,7 @@
 //! `kernel_tests`.
 #![tactic(auto)]
 
+mod early;
 mod eight;
 pub mod laws;
 mod pairs;

@@ -5,6 +5,7 @@ ghost use Rattle.crush_permutation.specs.Permutation.{permutation};
 ghost use Rattle.crush_permutation.specs.Private.Reached.{room_of};
 ghost use Rattle.crush_permutation.specs.Private.Parts.{IsNew, IsPart};
 
+use crate::early::EARLY;
 use crate::pairs::Pair;
 use crate::reached::{Reached, room_of};
 use crush_types::ItemId;
@@ -124,8 +125,8 @@ impl Slot {
         ensures behind { drop self.old.end row.new ≡ drop self.old.end row.old }
     {
         self.reached.turn_to(id, size);
-        if !self.reached.needs_row(x, place) {
-            return self.reached.first(x);
+        if place < EARLY {
+            return self.reached.early(x, place);
         }
         self.reached
             .member(&mut row[self.start..self.end], x, place)

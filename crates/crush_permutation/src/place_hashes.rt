@@ -64,6 +64,20 @@ impl PlaceHashes {
         }
         self.hashes[(place % 4) as usize]
     }
+
+    /// Returns the hashes of the first four places for x.
+    #[inline]
+    pub(crate) fn first_four(&mut self, x: u32) -> [u32; 4]
+        ensures value { AreHashes self.old x 0 result }
+        ensures same { self.new ≡ self.old }
+    {
+        if x != self.x || self.block != 0 {
+            self.hashes = hashes_of(self.id, x, 0);
+            self.x = x;
+            self.block = 0;
+        }
+        self.hashes
+    }
 }
 
 /// Returns the hashes of the four places from `4 * block` on.

@@ -5,6 +5,7 @@ ghost use Rattle.crush_permutation.specs.Permutation.{permutation, after_swaps, 
 ghost use Rattle.crush_permutation.specs.Private.Pairs.{Pair};
 ghost use Rattle.crush_permutation.specs.Private.Reached.{IsReached, IsEmpty, IsKnown, remembered_by, swaps_of, len_by, room_of};
 
+use crate::early::early_member;
 use crate::pairs::{Pair, begin, exchange, member_at};
 use crate::place_hashes::PlaceHashes;
 use crush_hash::hash3;
@@ -97,6 +98,22 @@ impl Reached {
             return self.begin(x, self.written && self.swaps > 0);
         }
         self.first
+    }
+
+    /// Returns the member of the permutation for x at one of the first four places. It makes no
+    /// exchange and remembers none.
+    #[inline]
+    pub(crate) fn early(&mut self, x: u32, place: usize) -> u32
+        requires early { place < 4 }
+        requires within { place < self.old.size }
+        requires small { self.old.size < 2 ^ 32 }
+        ensures member { result ≡ slice_index (permutation self.old.hashes self.old.size x) place }
+        ensures within { result < self.old.size }
+        ensures remembered { remembered_by self.new ≡ remembered_by self.old }
+        ensures reached { (row : List Pair) → IsReached self.old row → IsReached self.new row }
+    {
+        let hashes = self.hashes.first_four(x);
+        early_member(&hashes, self.size as u32, place as u32)
     }
 
     /// Returns the member of the permutation for x at a place. It isn't inlined, so that a question

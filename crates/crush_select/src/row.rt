@@ -3,27 +3,34 @@
 ghost use Rattle.std.specs.Prelude.{◌≡◌, ◌<◌, ◌≤◌, [], ◌∷◌, ◌++◌, length};
 
 use crate::limits::SIZE_LIMIT;
-use arrayvec::ArrayVec;
 use crush_map::ItemId;
 use std::marker::Model;
 
 /// An item, or none.
 pub type Slot = Option<ItemId>;
 
-/// At most `SIZE_LIMIT` slots, in an array of its own, so it allocates nothing. Contracts see a
-/// list.
+/// At most `SIZE_LIMIT` slots, in an array of its own, so it allocates nothing. What stands behind
+/// them is of no use: it isn't blanked, which would take longer than what is done with a row.
+/// Contracts see a list.
 #[derive(Drop)]
 pub struct Row {
-    slots: ArrayVec<Slot, SIZE_LIMIT>,
+    slots: [Slot; SIZE_LIMIT],
+    len: usize,
 }
 
 impl Model for Row {
-    ghost use Rattle.std.specs.Prelude.{List, Option};
+    ghost use Rattle.std.specs.Prelude.{◌≡◌, ◌≤◌, List, Option, length, take};
     ghost use Rattle.crush_types.specs.declared.ItemId.{ItemId};
+    ghost use Rattle.crush_select.specs.declared.limits.TheConstants.{SIZE_LIMIT};
 
     ghost Value = { List (Option ItemId) };
 
-    ghost view = { λ a. a.slots.items };
+    ghost view = { λ a. take a.len a.slots };
+
+    ghost invariant = { λ a. record {
+      few : a.len ≤ SIZE_LIMIT;
+      whole : length a.slots ≡ SIZE_LIMIT;
+    } };
 }
 
 impl Row {
@@ -32,7 +39,8 @@ impl Row {
         ensures { result ≡ [] }
     {
         Row {
-            slots: ArrayVec::new(),
+            slots: [None; SIZE_LIMIT],
+            len: 0,
         }
     }
 
@@ -41,7 +49,7 @@ impl Row {
         ensures value { result.now ≡ self.now }
         ensures fits { length result.now ≤ SIZE_LIMIT }
     {
-        self.slots.as_slice()
+        &self.slots[..self.len]
     }
 
     /// Returns how many slots there are.
@@ -49,14 +57,14 @@ impl Row {
         ensures value { result ≡ length self.now }
         ensures fits { result ≤ SIZE_LIMIT }
     {
-        self.slots.len()
+        self.len
     }
 
     /// Removes all slots.
     pub fn clear(&mut self)
         ensures { self.new ≡ [] }
     {
-        self.slots.clear();
+        self.len = 0;
     }
 
     /// Appends a slot.
@@ -64,6 +72,7 @@ impl Row {
         requires { length self.old < SIZE_LIMIT }
         ensures { self.new ≡ self.old ++ slot ∷ [] }
     {
-        self.slots.push(slot);
+        self.slots[self.len] = slot;
+        self.len += 1;
     }
 }

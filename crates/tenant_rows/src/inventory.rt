@@ -18,7 +18,7 @@ use std::rc::Rc;
 use table_reads::rows::{PoolRow, VersionRow};
 use table_schema::values::{Exception, State};
 use tenant_state::limits::{POOL_LIMIT, RECEIPT_LIMIT, VERSION_LIMIT};
-use tenant_state::{Inventory, TenantPool};
+use tenant_state::{Inventory, TenantPool, Versions};
 
 /// Whether one of some pools has a name.
 fn is_one_named(name: &str, pools: &[Rc<TenantPool>]) -> bool
@@ -105,7 +105,8 @@ pub fn inventory_from(
     let Some(pools) = pools_from(alloc, pools, exceptions)? else {
         return Ok(None);
     };
-    let inventory = Inventory::of(versions, devices, pools, epoch);
+    let shared = Versions::of(alloc, versions)?;
+    let inventory = Inventory::of(shared, devices, pools, epoch);
     if is_of_state(&inventory) {
         Ok(Some(Rc::new(alloc, inventory)?))
     } else {

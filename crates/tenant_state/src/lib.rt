@@ -11,6 +11,7 @@ mod receipts;
 pub mod size;
 mod state;
 mod version;
+mod versions;
 
 pub use devices::Devices;
 pub use pool::TenantPool;
@@ -18,3 +19,4 @@ pub use pools::Pools;
 pub use receipts::{Receipt, Receipts, is_repeat};
 pub use state::{Change, Inventory, Made, TenantState};
 pub use version::Version;
+pub use versions::Versions;

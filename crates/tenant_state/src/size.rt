@@ -140,7 +140,7 @@ pub(crate) fn size_of_version(map: &CrushMap, text: u64) -> u64
 }
 
 /// How many bytes versions take.
-fn size_of_versions(versions: &[Rc<Version>]) -> u64
+pub(crate) fn size_of_versions(versions: &[Rc<Version>]) -> u64
     ensures { result ≡ min (sum_by version_size (map (λ v. v.value) versions.now)) (2 ^ 64 - 1) }
 {
     let mut total = 0;
@@ -209,7 +209,7 @@ impl Inventory {
     pub fn size(&self) -> u64
         ensures { result ≡ min (spec.size self.now) (2 ^ 64 - 1) }
     {
-        let versions = plus(INVENTORY_BYTES, size_of_versions(self.versions()));
+        let versions = plus(INVENTORY_BYTES, self.size_of_versions());
         let states = size_of_states(self.devices().states());
         let pools = size_of_pools(self.pools().as_slice());
         plus(plus(versions, states), pools)

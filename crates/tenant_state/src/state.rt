@@ -5,6 +5,7 @@ use crate::pool::TenantPool;
 use crate::pools::Pools;
 use crate::receipts::{Receipt, Receipts};
 use crate::version::Version;
+use crate::versions::Versions;
 use crush_content::{Content, SharedExceptions};
 use crush_map::{Listed, Text};
 use crush_pool::{DeviceState, Placer, Pool};
@@ -59,42 +60,38 @@ impl Model for Change {
 /// Its parts are in their ranges and orders (`IsInventory`).
 #[derive(Drop)]
 pub struct Inventory {
-    versions: Vec<Rc<Version>>,
+    versions: Versions,
     devices: Rc<Devices>,
     pools: Pools,
     epoch: u64,
 }
 
 impl Model for Inventory {
-    ghost use Rattle.std.specs.Prelude.{map};
     ghost use Rattle.tenant_state.specs.State.{Inventory};
     ghost use Rattle.tenant_state.specs.Valid.{IsInventory};
 
     ghost Value = { Inventory };
 
-    ghost view = { λ a. record { versions = map (λ v. v.value) a.versions.items; devices = a.devices.value; pools = a.pools; epoch = a.epoch } };
+    ghost view = { λ a. record { versions = a.versions; devices = a.devices.value; pools = a.pools; epoch = a.epoch } };
 
-    ghost invariant = { λ a. IsInventory (record { versions = map (λ v. v.value) a.versions.items; devices = a.devices.value; pools = a.pools; epoch = a.epoch }) };
+    ghost invariant = { λ a. IsInventory (record { versions = a.versions; devices = a.devices.value; pools = a.pools; epoch = a.epoch }) };
 }
 
 impl Inventory {
-    ghost use Rattle.std.specs.Prelude.{◌≡◌, ◌<◌, [], IfOk, map, option_map, true};
+    ghost use Rattle.std.specs.Prelude.{◌≡◌, ◌<◌, ◌-◌, ◌^◌, [], IfOk, map, min, option_map, true};
+    ghost use Rattle.std.specs.List.{sum_by};
     ghost use Rattle.crush_content.specs.Contents.{content_of};
     ghost use Rattle.tenant_state.specs.Made.{made_of};
+    ghost use Rattle.tenant_state.specs.Size.{version_size};
     ghost use Rattle.tenant_state.specs.State as spec;
     ghost use Rattle.tenant_state.specs.Valid.{IsInventory};
     ghost use Rattle.tenant_state.specs.declared.limits.TheConstants.{RECEIPT_LIMIT};
 
     /// The inventory with these parts: the versions 1, 2, .., the states of devices, the pools and
     /// the epoch. Allocates nothing.
-    pub fn of(
-        versions: Vec<Rc<Version>>,
-        devices: Rc<Devices>,
-        pools: Pools,
-        epoch: u64,
-    ) -> Inventory
-        requires { IsInventory (record { versions = map (λ v. v.value) versions.items; devices = devices.value; pools = pools; epoch = epoch }) }
-        ensures { result ≡ record { versions = map (λ v. v.value) versions.items; devices = devices.value; pools = pools; epoch = epoch } }
+    pub fn of(versions: Versions, devices: Rc<Devices>, pools: Pools, epoch: u64) -> Inventory
+        requires { IsInventory (record { versions = versions; devices = devices.value; pools = pools; epoch = epoch }) }
+        ensures { result ≡ record { versions = versions; devices = devices.value; pools = pools; epoch = epoch } }
     {
         Inventory {
             versions,
@@ -110,7 +107,7 @@ impl Inventory {
         ensures { IfOk result (λ i. i ≡ spec.inventory_of spec.fresh) }
     {
         Ok(Inventory::of(
-            Vec::new(alloc),
+            Versions::of(alloc, Vec::new(alloc))?,
             Rc::new(alloc, Devices::new(alloc)?)?,
             Pools::new(alloc),
             0,
@@ -129,7 +126,7 @@ impl Inventory {
     pub fn newest(&self) -> u64
         ensures { result ≡ spec.newest self.now }
     {
-        self.versions.len() as u64
+        self.versions().len() as u64
     }
 
     /// The versions 1, 2, ..
@@ -146,10 +143,17 @@ impl Inventory {
         if number == 0 {
             return None;
         }
-        match self.versions.get((number - 1) as usize) {
+        match self.versions().get((number - 1) as usize) {
             Some(version) => Some(version.as_ref()),
             None => None,
         }
+    }
+
+    /// How many bytes of memory the versions take at most, by an estimate.
+    pub(crate) fn size_of_versions(&self) -> u64
+        ensures { result ≡ min (sum_by version_size self.now.versions) (2 ^ 64 - 1) }
+    {
+        self.versions.size()
     }
 
     /// The states of devices that were stored.
@@ -231,7 +235,7 @@ impl Inventory {
         ensures { IfOk result (λ again. again ≡ self.now) }
     {
         Ok(Inventory {
-            versions: self.versions.clone()?,
+            versions: self.versions.copy()?,
             devices: self.devices.clone()?,
             pools: self.pools.copy()?,
             epoch: self.epoch,
@@ -249,7 +253,7 @@ impl Inventory {
         next.epoch += 1;
         match &change.made {
             Made::Version(version) => {
-                next.versions.push(version.clone()?)?;
+                next.versions = next.versions.with(alloc, version)?;
                 Ok(next)
             }
             Made::States(changed) => {

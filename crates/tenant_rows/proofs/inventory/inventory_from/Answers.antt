@@ -1,4 +1,5 @@
-use Rattle.std.proofs.Common.{◌≡◌, ◌∙◌, rules, true≢false, map, pos, sym, subst}
+use Rattle.std.proofs.Common.{◌≡◌, ◌∙◌, rules, true≢false, List, map, pos, ap, sym, subst}
+use Rattle.crush_map.specs.Map.{Map}
 use Rattle.tenant_state.specs.State.{Inventory}
 use Rattle.tenant_state.specs.Valid.{IsInventory}
 use Rattle.tenant_rows.specs.Lists.{IsOfState, AreRowsOf}
@@ -22,4 +23,5 @@ returns-else-is_of_state-clause-none c = λ _ i is rows.
     let its : AreRowsOf made c.args.epoch c.args.versions.items c.args.states.items c.args.pools.items c.args.exceptions.now =
     record { epoch_is = number; versions_are = v.1; states_are = d.2; pools_are = p.2; exceptions_are = p.3 } in
     let same = one_inventory c.written_maps_are_read_back.ensures.stored i made c.args.epoch c.args.versions.items c.args.states.items c.args.pools.items c.args.exceptions.now is.has valid rows its in
-    let so = c.is_of_state.ensures.1 (subst IsOfState (same ∙ sym c.of-inventory.ensures) is) in true≢false (sym so ∙ c.if-is_of_state.false)
+    let shared = ap (λ (maps : List Map). record made { versions = maps }) c.in_ok-shared.ensures in
+    let so = c.is_of_state.ensures.1 (subst IsOfState (same ∙ sym shared ∙ sym c.of-inventory.ensures) is) in true≢false (sym so ∙ c.if-is_of_state.false)

@@ -9,9 +9,7 @@ use Rattle.tenant_state.proofs.state.Inventory.after.Goals as goal
 
 pub invariant_of-next : goal.invariant_of-next
 invariant_of-next c =
-    parts_stay (NewVersion c.in-Version.version.value) _ _ _ _ _
-    (ap (map (λ v. v.value)) c.in_ok-push-in-Version.ensures.items ∙ (map-append (λ v. v.value) c.next.inside.versions.items (c.in_ok-clone-in-Version.field-0 ∷ [])
-    ∙ ap (λ (m : Map). map (λ v. v.value) c.next.inside.versions.items ++ m ∷ []) c.in_ok-clone-in-Version.ensures.cases)) refl refl (subst (λ m. IsMade (made_of m)) c.in-Version.is c.change.invariant.made) refl c.next.invariant
+    parts_stay (NewVersion c.in-Version.version.value) _ _ _ _ _ (search rules) refl refl (subst (λ m. IsMade (made_of m)) c.in-Version.is c.change.invariant.made) refl c.next.invariant
 
 pub invariant_of-next-in-States : goal.invariant_of-next-in-States
 invariant_of-next-in-States c =
