@@ -30,7 +30,11 @@ pub fn script_in_memory<R: Read, W: Write>(
         result (R.remaining reader.old) (R.remaining reader.new) (W.contents writer.old) (W.contents writer.new) }
 {
     memory_stores_are_honest();
-    let store = CachedStore::over_memory(alloc, MemoryStore::new(alloc), placements)?;
+    let store = CachedStore::<_, { u64::MAX }>::over_memory(
+        alloc,
+        MemoryStore::new(alloc),
+        placements,
+    )?;
     let mut service = Service::over(alloc, store)?;
     script_run(alloc, &mut service, reader, writer)
 }

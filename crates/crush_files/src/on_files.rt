@@ -41,7 +41,7 @@ fn script_on_tables<S: Alter + Drop, F: Watch + Drop, R: Read, W: Write>(
     ensures honest { HasCleanDisk (state S.Store result.1) → IsHonest S.Store store }
 {
     let watched = WatchedStore::over(store, watch);
-    let ready = match CachedStore::over(alloc, watched, READY_BYTES, placements) {
+    let ready = match CachedStore::<_, READY_BYTES>::over(alloc, watched, placements) {
         Ok(ready) => ready,
         Err((error, watched)) => return (Err(error), watched.into_below().close()),
     };

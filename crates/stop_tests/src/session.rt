@@ -65,7 +65,7 @@ pub(crate) fn session<D: Disk + Drop>(
         Ok(store) => store,
         Err((_, store)) => return Ok((None, left(store))),
     };
-    let ready = match CachedStore::over(alloc, store, READY, NonZeroUsize::MIN) {
+    let ready = match CachedStore::<_, READY>::over(alloc, store, NonZeroUsize::MIN) {
         Ok(ready) => ready,
         Err((error, _store)) => return Err(error),
     };

@@ -10,11 +10,9 @@ pub record Ready : Type 0 where
   pub inventory : Inventory
   pub numbers : List (ℕ × ℕ)
 
--- what tenants have by name, that of the tenant used last first, and the most bytes that it may
--- take where it is that of several
+-- what tenants have by name, that of the tenant used last first
 pub record Kept : Type 0 where
   pub entries : List (List ℕ × Ready)
-  pub bound : ℕ
 
 -- what is kept of a name
 abbrev pub kept_at : Kept → List ℕ → Option Ready

@@ -9,62 +9,57 @@ use std::alloc::{AllocError, Global};
 use std::marker::Model;
 use std::rc::Rc;
 
-/// The greatest bound, and the greatest size of one entry. No memory is larger.
-const GREATEST_BOUND: u64 = u64::MAX / 2;
+/// The greatest size of one entry, and of several together. No memory is larger.
+const GREATEST_SIZE: u64 = u64::MAX / 2;
 
 type ByName = LruCache<String, Rc<Ready>>;
 
-/// What tenants have by name: one entry, or several whose sizes together are at most a bound. What
-/// was used least recently goes first. Contracts say what a name may still have, and only of a name
-/// that is put again that it has it.
+/// What tenants have by name: one entry, or several whose sizes together are at most `BYTES`, as
+/// its type has it. What was used least recently goes first. Contracts say what a name may still
+/// have, and only of a name that is put again that it has it.
 #[derive(Drop)]
-pub struct Kept {
+pub struct Kept<const BYTES: u64> {
     by_name: ByName,
     bytes: u64,
-    bound: u64,
 }
 
-impl Model for Kept {
+impl<const BYTES: u64> Model for Kept<BYTES> {
     ghost use Rattle.std.specs.Prelude.{◌≡◌, ◌≤◌, ◌<◌, ◌^◌, length, map, string_bytes};
     ghost use Rattle.tenant_cache.specs.Bytes.{bytes_in};
     ghost use Rattle.tenant_cache.specs.Kept.{Kept};
 
     ghost Value = { Kept };
 
-    ghost view = { λ a. record { entries = map (λ e. (string_bytes e.0, e.1.value)) a.by_name.entries; bound = a.bound } };
+    ghost view = { λ a. record { entries = map (λ e. (string_bytes e.0, e.1.value)) a.by_name.entries } };
 
     ghost invariant = { λ a. record {
       bytes : a.bytes ≡ bytes_in a.by_name.entries;
-      fits : 1 < length a.by_name.entries → a.bytes ≤ a.bound;
+      is_bounded : 1 < length a.by_name.entries → a.bytes ≤ BYTES;
       small : a.bytes < 2 ^ 63;
-      least : a.bound < 2 ^ 63;
     } };
 }
 
-impl Kept {
-    ghost use Rattle.std.specs.Prelude.{◌≡◌, ◌≤◌, ◌<◌, ◌≢◌, ℕ, [], List, Option, Some, None, IfOk, IsSome, is_some, length, min, option_map, string_bytes};
+impl<const BYTES: u64> Kept<BYTES> {
+    ghost use Rattle.std.specs.Prelude.{◌≡◌, ◌≤◌, ◌<◌, ◌≢◌, ℕ, [], List, Option, Some, None, IfOk, IsSome, is_some, length, option_map, string_bytes};
     ghost use Rattle.tenant_cache.specs.Kept as spec;
     ghost use Rattle.tenant_cache.specs.Kept.{kept_at, bytes_kept, Updates};
-    ghost use Rattle.tenant_cache.specs.declared.kept.TheConstants.{GREATEST_BOUND};
+    ghost use Rattle.tenant_cache.specs.declared.kept.TheConstants.{GREATEST_SIZE};
     ghost use Rattle.tenant_state.specs.Size.{size};
 
-    /// Nothing is kept yet. What will be takes at most `bound` bytes together, or is one entry; a
-    /// bound above 2^63 - 1 counts as that. `Err(AllocError)`: an allocation failed; nothing is
-    /// changed.
-    pub fn new(alloc: Global, bound: u64) -> Result<Self, AllocError>
-        ensures { IfOk result (λ kept. kept ≡ record { entries = []; bound = min bound GREATEST_BOUND }) }
+    /// Nothing is kept yet. `Err(AllocError)`: an allocation failed; nothing is changed.
+    pub fn new(alloc: Global) -> Result<Self, AllocError>
+        ensures { IfOk result (λ kept. kept ≡ record { entries = [] }) }
     {
         Ok(Kept {
             by_name: LruCache::unbounded(alloc)?,
             bytes: 0,
-            bound: bound.min(GREATEST_BOUND),
         })
     }
 
     /// How many bytes all that is kept takes together.
     pub fn bytes(&self) -> u64
         ensures value { result ≡ bytes_kept self.now }
-        ensures within { 1 < length self.now.entries → result ≤ self.now.bound }
+        ensures within { 1 < length self.now.entries → result ≤ BYTES }
     {
         self.bytes
     }
@@ -104,10 +99,10 @@ impl Kept {
     /// above 2^63 - 1; a name that is there needs no memory.
     pub fn put(&mut self, name: String, ready: Rc<Ready>)
         ensures only { Updates (string_bytes name) (Some ready.value) self.old self.new }
-        ensures stays { IsSome (kept_at self.old (string_bytes name)) → size ready.value.inventory ≤ GREATEST_BOUND → kept_at self.new (string_bytes name) ≡ Some ready.value }
+        ensures stays { IsSome (kept_at self.old (string_bytes name)) → size ready.value.inventory ≤ GREATEST_SIZE → kept_at self.new (string_bytes name) ≡ Some ready.value }
     {
         let size = ready.size();
-        if size > GREATEST_BOUND {
+        if size > GREATEST_SIZE {
             self.forget(name.as_str());
             return;
         }
@@ -117,7 +112,7 @@ impl Kept {
         match self.by_name.push(name, ready) {
             Ok(displaced) => {
                 let bytes = bytes - size_of(&displaced);
-                self.bytes = evict(&mut self.by_name, bytes, self.bound);
+                self.bytes = evict(&mut self.by_name, bytes, BYTES.min(GREATEST_SIZE));
             }
             Err(refused) => {
                 let (name, _ready) = refused.value;

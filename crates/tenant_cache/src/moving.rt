@@ -107,7 +107,10 @@ impl LastUpLists {
 }
 
 /// Whether up lists are there of a tenant of which nothing else is kept.
-pub(crate) fn lists_are_left(last: &Option<LastUpLists>, kept: &Kept) -> bool {
+pub(crate) fn lists_are_left<const BYTES: u64>(
+    last: &Option<LastUpLists>,
+    kept: &Kept<BYTES>,
+) -> bool {
     match last {
         Some(last) => !kept.has(last.tenant()),
         None => false,

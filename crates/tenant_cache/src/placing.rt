@@ -44,9 +44,9 @@ fn give_number(cache: &mut PlacementCache, inventory: &Inventory, pool: &TenantP
 }
 
 /// Keeps a number for the content of a pool beside what a tenant has, where there is memory for it.
-fn keep_number(
+fn keep_number<const BYTES: u64>(
     alloc: Global,
-    kept: &mut Kept,
+    kept: &mut Kept<BYTES>,
     name: &str,
     ready: &Ready,
     pool: &TenantPool,
@@ -68,10 +68,10 @@ fn keep_number(
 
 /// The number of the content of a pool of what a tenant has, on the newest version: the one that is
 /// kept beside it, or a new one, which is then kept.
-pub(crate) fn number_for(
+pub(crate) fn number_for<const BYTES: u64>(
     alloc: Global,
     cache: &mut PlacementCache,
-    kept: &mut Kept,
+    kept: &mut Kept<BYTES>,
     name: &str,
     ready: &Ready,
     pool: &TenantPool,

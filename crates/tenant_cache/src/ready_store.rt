@@ -20,7 +20,8 @@ use std::rc::Rc;
 use tenant_core::{Moved, Placed, Query, StoreFault, TenantStore, Touched};
 use tenant_state::{Change, Inventory, Receipt};
 
-/// A store over another one, which keeps in memory what the tenants that were used last have,
+/// A store over another one, which keeps in memory what the tenants that were used last have (at
+/// most `BYTES` bytes of it, or one tenant, as the type of what is kept has it: `Kept`),
 /// placements of their groups, which groups of one pool each device can touch, and the up lists of
 /// all groups of one pool on one version, from which moves were asked last. The last two are
 /// found by the whole content that they depend on, so that after a change they are of use only
@@ -28,10 +29,10 @@ use tenant_state::{Change, Inventory, Receipt};
 /// or a tenant is removed, and touched groups where the tenant that asked for them changes.
 /// Contracts see the store below alone.
 #[derive(Drop)]
-pub struct CachedStore<T: TenantStore> {
+pub struct CachedStore<T: TenantStore, const BYTES: u64> {
     alloc: Global,
     below: T,
-    kept: Kept,
+    kept: Kept<BYTES>,
     cache: PlacementCache,
     trial: Trial,
     /// Which groups each device can touch, for the content of which this was asked last.
@@ -42,7 +43,7 @@ pub struct CachedStore<T: TenantStore> {
     shares: bool,
 }
 
-impl<T: TenantStore> Model for CachedStore<T> {
+impl<T: TenantStore, const BYTES: u64> Model for CachedStore<T, BYTES> {
     ghost use Rattle.std.specs.Prelude.{◌≡◌, false};
     ghost use Rattle.tenant_cache.specs.Ready.{AreKnown, AreTrue};
     ghost use Rattle.tenant_cache.specs.Touching.{AreLast};
@@ -60,22 +61,16 @@ impl<T: TenantStore> Model for CachedStore<T> {
     } };
 }
 
-impl<T: TenantStore + Drop> CachedStore<T> {
+impl<T: TenantStore + Drop, const BYTES: u64> CachedStore<T, BYTES> {
     ghost use Rattle.std.specs.Prelude.{◌≡◌, IfErr, IfOk};
 
-    /// A store over this one, which keeps what takes at most `bound` bytes, and so many placements
-    /// beside. Nothing is kept yet. `Err((AllocError, below))`: an allocation failed; the store
-    /// below is given back.
-    pub fn over(
-        alloc: Global,
-        below: T,
-        bound: u64,
-        placements: NonZeroUsize,
-    ) -> Result<Self, (AllocError, T)>
+    /// A store over this one, which keeps so many placements beside. Nothing is kept yet.
+    /// `Err((AllocError, below))`: an allocation failed; the store below is given back.
+    pub fn over(alloc: Global, below: T, placements: NonZeroUsize) -> Result<Self, (AllocError, T)>
         ensures made { IfOk result (λ store. store ≡ below) }
         ensures refused { IfErr result (λ refused. refused.1 ≡ below) }
     {
-        let Ok(kept) = Kept::new(alloc, bound) else {
+        let Ok(kept) = Kept::new(alloc) else {
             return Err((AllocError, below));
         };
         let Ok(cache) = PlacementCache::new(alloc, placements) else {
@@ -97,8 +92,8 @@ impl<T: TenantStore + Drop> CachedStore<T> {
     }
 
     /// A store over one that has what all tenants have in memory, with so many placements beside.
-    /// What it keeps is shared with that store, also after a change, and has no bound. Nothing is
-    /// kept yet. `Err(AllocError)`: an allocation failed; the store below is dropped.
+    /// What it keeps is shared with that store, also after a change. Nothing is kept yet.
+    /// `Err(AllocError)`: an allocation failed; the store below is dropped.
     pub fn over_memory(
         alloc: Global,
         below: T,
@@ -108,7 +103,7 @@ impl<T: TenantStore + Drop> CachedStore<T> {
     {
         Ok(CachedStore {
             alloc,
-            kept: Kept::new(alloc, u64::MAX)?,
+            kept: Kept::new(alloc)?,
             cache: PlacementCache::new(alloc, placements)?,
             trial: Trial::new(alloc, placements)?,
             last: None,
@@ -119,7 +114,7 @@ impl<T: TenantStore + Drop> CachedStore<T> {
     }
 }
 
-impl<T: TenantStore> CachedStore<T> {
+impl<T: TenantStore, const BYTES: u64> CachedStore<T, BYTES> {
     ghost use Rattle.std.specs.Prelude.{◌≡◌, false, Some};
     ghost use Rattle.tenant_core.specs.States.{HasInventory};
 
@@ -250,7 +245,7 @@ impl<T: TenantStore> CachedStore<T> {
     }
 }
 
-impl<T: TenantStore> TenantStore for CachedStore<T> {
+impl<T: TenantStore, const BYTES: u64> TenantStore for CachedStore<T, BYTES> {
     ghost use Rattle.std.specs.Prelude.{◌≡◌, ℕ, List, false};
 
     ghost is_honest = { λ store. T.is_honest store };

@@ -55,7 +55,7 @@ pub(crate) fn is_of_tenant(last: &Option<LastTouches>, name: &str) -> bool {
 }
 
 /// Whether touched groups are there of a tenant of which nothing else is kept.
-pub(crate) fn are_left(last: &Option<LastTouches>, kept: &Kept) -> bool {
+pub(crate) fn are_left<const BYTES: u64>(last: &Option<LastTouches>, kept: &Kept<BYTES>) -> bool {
     match last {
         Some(last) => !kept.has(last.tenant.as_str()),
         None => false,

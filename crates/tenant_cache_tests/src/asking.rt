@@ -36,22 +36,22 @@ pub(crate) fn room_for(rt: &impl Abort, placements: usize) -> NonZeroUsize {
 /// What a store below keeps, and what the one over it does.
 #[derive(Clone, Copy, Debug, PartialEq, Eq)]
 pub(crate) enum Over {
-    /// At most so many bytes are kept, and made anew by each change.
-    Bound(u64),
+    /// What the type of the one over it says is kept, and made anew by each change.
+    Bound,
     /// All is kept, and shared with the store below after each change.
     Memory,
 }
 
 /// A service over a store that keeps tenants ready, over one whose call after `left` others meets a
 /// fault.
-pub(crate) fn watched_service(
+pub(crate) fn watched_service<const BYTES: u64>(
     rt: &impl Abort,
     alloc: Global,
     over: Over,
     loads: Rc<Cell<u64>>,
     left: u64,
     fault: Fault,
-) -> Result<Service<CachedStore<Watched<MemoryStore>>>, AllocError> {
+) -> Result<Service<CachedStore<Watched<MemoryStore>, BYTES>>, AllocError> {
     let below = Watched {
         below: MemoryStore::new(alloc),
         loads,
@@ -61,8 +61,8 @@ pub(crate) fn watched_service(
     };
     let placements = room_for(rt, 16);
     let store = match over {
-        Over::Bound(bound) => {
-            CachedStore::over(alloc, below, bound, placements).map_err(|(error, _below)| error)?
+        Over::Bound => {
+            CachedStore::over(alloc, below, placements).map_err(|(error, _below)| error)?
         }
         Over::Memory => CachedStore::over_memory(alloc, below, placements)?,
     };
@@ -70,12 +70,12 @@ pub(crate) fn watched_service(
 }
 
 /// The same, of which no call meets a fault.
-fn counted_service(
+fn counted_service<const BYTES: u64>(
     rt: &impl Abort,
     alloc: Global,
     over: Over,
     loads: &Rc<Cell<u64>>,
-) -> Result<Service<CachedStore<Watched<MemoryStore>>>, AllocError> {
+) -> Result<Service<CachedStore<Watched<MemoryStore>, BYTES>>, AllocError> {
     let shared: Result<Rc<Cell<u64>>, AllocError> = loads.clone();
     watched_service(rt, alloc, over, shared?, u64::MAX, Fault::Full)
 }
@@ -109,7 +109,7 @@ fn assert_rows<T: TenantStore>(
 }
 
 /// Asserts what these rows say of a new service, and what others say so many times after them.
-pub(crate) fn assert_loads(
+pub(crate) fn assert_loads<const BYTES: u64>(
     rt: &impl Abort,
     alloc: Global,
     over: Over,
@@ -118,7 +118,7 @@ pub(crate) fn assert_loads(
     times: u32,
 ) -> Result<(), AllocError> {
     let loads = Rc::new(alloc, Cell::new(0))?;
-    let mut service = counted_service(rt, alloc, over, &loads)?;
+    let mut service = counted_service::<BYTES>(rt, alloc, over, &loads)?;
     assert_rows(rt, &mut service, &loads, rows);
     for _ in 0..times {
         assert_rows(rt, &mut service, &loads, others);

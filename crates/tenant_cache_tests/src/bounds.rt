@@ -30,7 +30,7 @@ const OF_THREE: [Load; 14] = [
 
 #[test]
 fn the_tenant_used_least_recently_is_given_up(rt: HostRuntime) -> Result<(), Fail> {
-    assert_loads(&rt, rt.alloc(), Over::Bound(TWO), &OF_THREE, &[], 0)?;
+    assert_loads::<TWO>(&rt, rt.alloc(), Over::Bound, &OF_THREE, &[], 0)?;
     Ok(())
 }
 
@@ -54,17 +54,16 @@ const LARGER: [Load; 12] = [
 fn a_tenant_larger_than_the_bound_is_kept_while_it_is_the_one_used_last(
     rt: HostRuntime,
 ) -> Result<(), Fail> {
-    assert_loads(&rt, rt.alloc(), Over::Bound(TWO), &LARGER, &[], 0)?;
+    assert_loads::<TWO>(&rt, rt.alloc(), Over::Bound, &LARGER, &[], 0)?;
     Ok(())
 }
 
 #[test]
 fn the_store_below_is_given_back(rt: HostRuntime) -> Result<(), Fail> {
     let alloc = rt.alloc();
-    let mut store = CachedStore::over(
+    let mut store = CachedStore::<_, TWO>::over(
         alloc,
         MemoryStore::new(alloc),
-        TWO,
         room_for(&rt, 1),
     ).map_err(|(error, _below)| error)?;
     assert!(rt; store.create("a").is_ok());

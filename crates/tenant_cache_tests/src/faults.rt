@@ -61,20 +61,25 @@ fn count_unanswered<T: TenantStore>(
 
 /// How many of these requests are answered 503 where the store's call after `left` others meets a
 /// fault. The others have the replies that a service in memory gives to them alone.
-fn unanswered(
+fn unanswered<const BYTES: u64>(
     rt: &impl Abort,
     alloc: Global,
     over: Over,
     left: u64,
     fault: Fault,
 ) -> Result<usize, AllocError> {
-    let mut service = watched_service(rt, alloc, over, Rc::new(alloc, Cell::new(0))?, left, fault)?;
+    let loads = Rc::new(alloc, Cell::new(0))?;
+    let mut service = watched_service::<BYTES>(rt, alloc, over, loads, left, fault)?;
     let mut alone = Service::in_memory(alloc)?;
     Ok(count_unanswered(rt, &mut service, &mut alone))
 }
 
 /// The tenant used last is kept, whatever its size; or others that fit beside it; or all are.
-const BOUNDS: [Over; 3] = [Over::Bound(0), Over::Bound(15_000), Over::Bound(1_000_000)];
+const ONE: u64 = 0;
+
+const SOME: u64 = 15_000;
+
+const ALL: u64 = 1_000_000;
 
 /// How many calls reach a store in memory where none meets a fault, and how many of them are loads
 /// after changes.
@@ -82,15 +87,25 @@ const CALLS_IN_MEMORY: u64 = 27;
 
 const LOADS_AFTER_CHANGES: u64 = 5;
 
+/// Asserts that a call below that fails costs one reply.
+fn assert_one_is_lost<const BYTES: u64>(rt: &impl Abort, alloc: Global) -> Result<(), AllocError> {
+    for left in 0..16 {
+        for fault in [Fault::NoMemory, Fault::Full] {
+            assert_eq!(rt;
+                unanswered::<BYTES>(rt, alloc, Over::Bound, left, fault)?,
+                1
+            );
+        }
+    }
+    Ok(())
+}
+
 #[test]
 fn a_call_that_fails_changes_no_other_reply(rt: HostRuntime) -> Result<(), Fail> {
     let alloc = rt.alloc();
-    for over in BOUNDS {
-        for left in 0..16 {
-            assert_eq!(rt; unanswered(&rt, alloc, over, left, Fault::NoMemory)?, 1);
-            assert_eq!(rt; unanswered(&rt, alloc, over, left, Fault::Full)?, 1);
-        }
-    }
+    assert_one_is_lost::<ONE>(&rt, alloc)?;
+    assert_one_is_lost::<SOME>(&rt, alloc)?;
+    assert_one_is_lost::<ALL>(&rt, alloc)?;
     Ok(())
 }
 
@@ -103,7 +118,7 @@ fn a_load_that_fails_after_a_change_in_memory_takes_nothing_back(
     for fault in [Fault::NoMemory, Fault::Full] {
         let mut answered: u64 = 0;
         for left in 0..CALLS_IN_MEMORY {
-            let count = unanswered(&rt, alloc, Over::Memory, left, fault)?;
+            let count = unanswered::<ALL>(&rt, alloc, Over::Memory, left, fault)?;
             assert!(rt; count <= 1);
             if count == 0 {
                 answered = answered.wrapping_add(1);
@@ -114,22 +129,29 @@ fn a_load_that_fails_after_a_change_in_memory_takes_nothing_back(
     Ok(())
 }
 
-/// After a call that fails for good each request is answered 503.
+/// Asserts that after a call below that fails for good, one of so many, each request is answered
+/// 503.
+fn assert_rest_is_lost<const BYTES: u64>(
+    rt: &impl Abort,
+    alloc: Global,
+    over: Over,
+    calls: u64,
+) -> Result<(), AllocError> {
+    let mut before = ASKED.len() + 1;
+    for left in 0..calls {
+        let count = unanswered::<BYTES>(rt, alloc, over, left, Fault::Failed)?;
+        assert!(rt; 0 < count && count <= before);
+        before = count;
+    }
+    Ok(())
+}
+
 #[test]
 fn a_store_that_latches_is_asked_no_more(rt: HostRuntime) -> Result<(), Fail> {
     let alloc = rt.alloc();
-    for (over, calls) in [
-        (BOUNDS[0], 16),
-        (BOUNDS[1], 16),
-        (BOUNDS[2], 16),
-        (Over::Memory, CALLS_IN_MEMORY),
-    ] {
-        let mut before = ASKED.len() + 1;
-        for left in 0..calls {
-            let count = unanswered(&rt, alloc, over, left, Fault::Failed)?;
-            assert!(rt; 0 < count && count <= before);
-            before = count;
-        }
-    }
+    assert_rest_is_lost::<ONE>(&rt, alloc, Over::Bound, 16)?;
+    assert_rest_is_lost::<SOME>(&rt, alloc, Over::Bound, 16)?;
+    assert_rest_is_lost::<ALL>(&rt, alloc, Over::Bound, 16)?;
+    assert_rest_is_lost::<ALL>(&rt, alloc, Over::Memory, CALLS_IN_MEMORY)?;
     Ok(())
 }

@@ -10,7 +10,7 @@ use tenant_core::TenantStore;
 use tenant_service::{MemoryStore, Service};
 
 /// Room for all that these tests keep.
-const AMPLE: Over = Over::Bound(1_000_000);
+const AMPLE: u64 = 1_000_000;
 
 /// A new tenant.
 const CREATED: [Load; 1] = [(("PUT", "/t/a", ""), 201, 1)];
@@ -20,7 +20,7 @@ const AGAIN: [Load; 1] = [(("GET", "/t/a", ""), 200, 2)];
 
 #[test]
 fn a_thousand_requests_on_a_tenant_load_it_once(rt: HostRuntime) -> Result<(), Fail> {
-    assert_loads(&rt, rt.alloc(), AMPLE, &CREATED, &AGAIN, 1_000)?;
+    assert_loads::<AMPLE>(&rt, rt.alloc(), Over::Bound, &CREATED, &AGAIN, 1_000)?;
     Ok(())
 }
 
@@ -44,7 +44,7 @@ const CHANGED: [Load; 13] = [
 
 #[test]
 fn a_changed_tenant_is_not_loaded_again(rt: HostRuntime) -> Result<(), Fail> {
-    assert_loads(&rt, rt.alloc(), AMPLE, &CHANGED, &[], 0)?;
+    assert_loads::<AMPLE>(&rt, rt.alloc(), Over::Bound, &CHANGED, &[], 0)?;
     Ok(())
 }
 
@@ -63,7 +63,7 @@ const IN_MEMORY: [Load; 9] = [
 
 #[test]
 fn a_change_in_memory_loads_once(rt: HostRuntime) -> Result<(), Fail> {
-    assert_loads(&rt, rt.alloc(), Over::Memory, &IN_MEMORY, &[], 0)?;
+    assert_loads::<AMPLE>(&rt, rt.alloc(), Over::Memory, &IN_MEMORY, &[], 0)?;
     Ok(())
 }
 
@@ -72,7 +72,7 @@ fn a_change_in_memory_loads_once(rt: HostRuntime) -> Result<(), Fail> {
 fn is_shared(
     rt: &impl Abort,
     alloc: Global,
-    store: CachedStore<MemoryStore>,
+    store: CachedStore<MemoryStore, AMPLE>,
 ) -> Result<bool, AllocError> {
     let mut service = Service::over(alloc, store)?;
     assert_eq!(rt; ask(&mut service, &("PUT", "/t/a", "")).status, 201);
@@ -95,7 +95,7 @@ fn is_shared(
 fn what_a_store_in_memory_has_after_a_change_is_shared(rt: HostRuntime) -> Result<(), Fail> {
     let alloc = rt.alloc();
     let room = room_for(&rt, 1);
-    let made = CachedStore::over(alloc, MemoryStore::new(alloc), u64::MAX, room).map_err(|(
+    let made = CachedStore::over(alloc, MemoryStore::new(alloc), room).map_err(|(
         error,
         _below,
     )| error)?;

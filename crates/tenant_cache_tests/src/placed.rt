@@ -13,7 +13,7 @@ use tenant_core::{Query, TenantStore};
 use tenant_messages::CallParts;
 use tenant_service::{MemoryStore, Service};
 
-pub(crate) type Store = CachedStore<MemoryStore>;
+pub(crate) type Store = CachedStore<MemoryStore, 1_000_000_000>;
 
 /// The body of an import of a map with two devices, of which the first alone is in its bucket.
 pub(crate) const IMPORT_OF_TWO: &str =
@@ -32,13 +32,10 @@ pub(crate) fn store_for(
     alloc: Global,
     placements: usize,
 ) -> Result<Store, AllocError> {
-    CachedStore::over(
-        alloc,
-        MemoryStore::new(alloc),
-        1_000_000_000,
-        room_for(rt, placements),
-    )
-    .map_err(|(error, _below)| error)
+    CachedStore::over(alloc, MemoryStore::new(alloc), room_for(rt, placements)).map_err(|(
+        error,
+        _below,
+    )| error)
 }
 
 /// A store with room for so many placements, which keeps what tenants have, or shares it with the

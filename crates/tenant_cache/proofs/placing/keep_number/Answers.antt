@@ -9,7 +9,7 @@ some_is r s is = cc
 
 -- what was put is the same with the number
 pub returns : goal.returns
-returns c u r at = elim (c.put.ensures.only u r at) [
+returns g c u r at = elim (c.put.ensures.only u r at) [
   | inl mine ↦
       let same : c.in-Ok.next ≡ r = sym c.in-Ok-new.ensures.ok ∙ some_is c.in-Ok-new.next.value r mine.1 in
       inr (

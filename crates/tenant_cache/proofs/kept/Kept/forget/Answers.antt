@@ -8,16 +8,16 @@ use Rattle.tenant_cache.proofs.SizeFacts.{popped_read}
 use Rattle.tenant_cache.proofs.kept.Kept.forget.Goals as goal
 
 pub overflow_sub-self : goal.overflow_sub-self
-overflow_sub-self c = (popped_read (λ r. size r.value.inventory) _ c.self.inside.by_name c.pop_entry.new.self c.pop_entry.result c.self.inside.bytes c.size_of.result c.pop_entry.ensures.value c.pop_entry.ensures.entries
+overflow_sub-self g c = (popped_read (λ r. size r.value.inventory) _ c.self.inside.by_name c.pop_entry.new.self c.pop_entry.result c.self.inside.bytes c.size_of.result c.pop_entry.ensures.value c.pop_entry.ensures.entries
     c.self.invariant.bytes (omega (arith, c.self.invariant.small)) c.size_of.ensures).0
 
 pub invariant_of-self : goal.invariant_of-self
-invariant_of-self c =
+invariant_of-self g c =
     let left = popped_read (λ r. size r.value.inventory) _ c.self.inside.by_name c.pop_entry.new.self c.pop_entry.result c.self.inside.bytes c.size_of.result c.pop_entry.ensures.value c.pop_entry.ensures.entries
     c.self.invariant.bytes (omega (arith, c.self.invariant.small)) c.size_of.ensures in
     let fewer = length_popped c.self.inside.by_name c.pop_entry.new.self _ c.pop_entry.ensures.entries in
-    record { bytes = left.1; fits = λ more. omega (arith, c.self.invariant.fits (omega (arith, more, fewer))); small = omega (arith, c.self.invariant.small); least = c.self.invariant.least }
+    record { bytes = left.1; is_bounded = λ more. omega (arith, c.self.invariant.is_bounded (omega (arith, more, fewer))); small = omega (arith, c.self.invariant.small) }
 
 pub returns : goal.returns
-returns c u i found = inr (subst (λ k. (u ≢ c.args.name.now) × (kept_at k u ≡ Some i)) c.self.view_is
+returns g c u i found = inr (subst (λ k. (u ≢ c.args.name.now) × (kept_at k u ≡ Some i)) c.self.view_is
     (seen_popped (λ r. r.value) c.self.inside.by_name c.pop_entry.new.self c.args.name.now c.len-count.ensures.valid.0 c.pop_entry.ensures.entries u i found))

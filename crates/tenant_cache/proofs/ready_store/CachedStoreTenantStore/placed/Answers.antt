@@ -26,16 +26,13 @@ invariant_of-self-in_err-pool g c =
     }
 
 -- what was found is kept, with numbers that are known
-pub number_for-requires-clause-known : goal.number_for-requires-clause-known
-number_for-requires-clause-known g c =
+pub number_for-requires : goal.number_for-requires
+number_for-requires g c =
     let at : kept_at c.self.inside.kept c.args.name.now ≡ Some c.in-Ok-Some.ready.value = search rules in
-    subst (AreNumbersOf c.self.inside.cache) (sym c.deref-3.ensures) (c.self.invariant.numbers c.args.name.now c.in-Ok-Some.ready.value at)
-
-pub number_for-requires-clause-there : goal.number_for-requires-clause-there
-number_for-requires-clause-there g c =
-    let inventory = c.deref-2.ensures ∙ c.inventory.ensures ∙ ap (λ (r : Ready). r.inventory) (c.deref.ensures ∙ sym c.deref-3.ensures) in
-    subst (λ i. pool c.in_ok-pool.pool.now.parts.id i ≡ Some c.in_ok-pool.pool.now) inventory
-    (asked_pool c.args.query.now c.deref-2.result.now c.in_ok-pool.pool.now c.in_ok-pool.group c.in_ok-pool.ensures.asked)
+    let inventory = c.deref-2.ensures ∙ c.inventory.ensures ∙ ap (λ (r : Ready). r.inventory) (c.deref.ensures ∙ sym c.deref-3.ensures) in (
+      subst (AreNumbersOf c.self.inside.cache) (sym c.deref-3.ensures) (c.self.invariant.numbers c.args.name.now c.in-Ok-Some.ready.value at),
+      subst (λ i. pool c.in_ok-pool.pool.now.parts.id i ≡ Some c.in_ok-pool.pool.now) inventory (asked_pool c.args.query.now c.deref-2.result.now c.in_ok-pool.pool.now c.in_ok-pool.group c.in_ok-pool.ensures.asked),
+    )
 
 -- beside the name there may be other numbers, which are known too
 pub invariant_of-self-in_err-number : goal.invariant_of-self-in_err-number
@@ -70,3 +67,11 @@ invariant_of-self-2 g c =
           (known_among c.self.inside.cache c.self.inside.kept c.get.new.self c.get.ensures.same c.self.invariant.numbers) c.number_for.ensures.beside);
       last = subst (λ cache. AreLast cache c.self.inside.last) (sym c.place.ensures.same) (last_later c.self.inside.cache c.number_for.new.cache c.self.inside.last c.number_for.ensures.keeps c.self.invariant.last);
     }
+
+-- what was placed is of what is kept of the name
+pub returns-clause-found : goal.returns-clause-found
+returns-clause-found g c honest live =
+    let at : kept_at c.self.inside.kept c.args.name.now ≡ Some c.in-Ok-Some.ready.value = search rules in
+    let has = c.self.invariant.states honest live c.args.name.now c.in-Ok-Some.ready.value at in
+    let inventory = c.inventory-2.ensures ∙ ap (λ (r : Ready). r.inventory) c.deref-4.ensures in
+    search rules

@@ -26,16 +26,13 @@ invariant_of-self-in_err-pool g c =
     }
 
 -- what was found is kept, with numbers that are known
-pub number_for-requires-clause-known : goal.number_for-requires-clause-known
-number_for-requires-clause-known g c =
+pub number_for-requires : goal.number_for-requires
+number_for-requires g c =
     let at : kept_at c.self.inside.kept c.args.name.now ≡ Some c.in-Ok-Some.found.value = search rules in
-    subst (AreNumbersOf c.self.inside.cache) (sym c.deref-3.ensures) (c.self.invariant.numbers c.args.name.now c.in-Ok-Some.found.value at)
-
-pub number_for-requires-clause-there : goal.number_for-requires-clause-there
-number_for-requires-clause-there g c =
-    let inventory = c.deref-2.ensures ∙ c.inventory.ensures ∙ ap (λ (r : Ready). r.inventory) (c.deref.ensures ∙ sym c.deref-3.ensures) in
-    subst (λ i. pool c.in_ok-pool.pool.now.parts.id i ≡ Some c.in_ok-pool.pool.now) inventory
-    (asked_of c.args.query.now c.deref-2.result.now c.in_ok-pool.pool.now c.in_ok-pool.device c.in_ok-pool.ensures)
+    let inventory = c.deref-2.ensures ∙ c.inventory.ensures ∙ ap (λ (r : Ready). r.inventory) (c.deref.ensures ∙ sym c.deref-3.ensures) in (
+      subst (AreNumbersOf c.self.inside.cache) (sym c.deref-3.ensures) (c.self.invariant.numbers c.args.name.now c.in-Ok-Some.found.value at),
+      subst (λ i. pool c.in_ok-pool.pool.now.parts.id i ≡ Some c.in_ok-pool.pool.now) inventory (asked_of c.args.query.now c.deref-2.result.now c.in_ok-pool.pool.now c.in_ok-pool.device c.in_ok-pool.ensures),
+    )
 
 -- beside the name there may be other numbers, which are known too
 pub invariant_of-self-in_err-number : goal.invariant_of-self-in_err-number

@@ -1,0 +1,155 @@
+//! Calls of `crush_bucket` and `crush_choose`.
+
+use crush_bucket::{
+    ListBucket, Perm, Picker, Scratch, Tables, TreeBucket, UniformBucket, can_be_asked,
+};
+use crush_choose::{
+    FirstnCall, IndepCall, Out, Row, Slot, Weights, choose_firstn, choose_indep, is_in, laws,
+    run_rule,
+};
+use crush_map::{ItemId, Kind, Step, has_equal_weights};
+use map_tests::drafts::{ONE, SOUND, Short, choose, draft, entries, map_of};
+use std::test::Fail;
+
+/// A map whose root has one device, 3, and whose rule wants two devices in their places.
+const ONE_ITEM: Short<'static> = Short {
+    buckets: &[(-1, "default", 10, Kind::Uniform, &[(3, ONE)])],
+    rules: &[(
+        0,
+        "two",
+        &[
+            Step::Take(ItemId(-1)),
+            choose!(false, false, 2, 0),
+            Step::Emit,
+        ],
+    )],
+    ..SOUND
+};
+
+/// A list picks its second item where `hash4(0, 1, 0, -1)` is below its share, a tree its one item
+/// that has a weight, and a uniform bucket at the place `hash3(0, -1, 0) mod 3`.
+#[test]
+fn buckets_have_their_calls(rt: HostRuntime) -> Result<(), Fail> {
+    let alloc = rt.alloc();
+    let id = ItemId(-1);
+    let two = entries(alloc, &[(0, ONE), (1, 23 * ONE)])?;
+    assert!(rt; can_be_asked(&two));
+    let mut perm = Perm::build(alloc, id, two.len())?;
+    let item = ListBucket::build(alloc, id, &two)?.pick(&mut perm, 0, 0);
+    assert_eq!(rt; item, ItemId(1));
+    let light = entries(alloc, &[(10, 0), (11, ONE), (12, 0)])?;
+    assert!(rt; can_be_asked(&light));
+    let mut perm = Perm::build(alloc, id, light.len())?;
+    let item = TreeBucket::build(alloc, id, &light)?.pick(&mut perm, 7, 3);
+    assert_eq!(rt; item, ItemId(11));
+    let equal = entries(alloc, &[(5, ONE), (6, ONE), (7, ONE)])?;
+    assert!(rt; can_be_asked(&equal) && has_equal_weights(&equal));
+    let mut perm = Perm::build(alloc, id, equal.len())?;
+    let item = UniformBucket::build(alloc, id, &equal)?.pick(&mut perm, 0, 0);
+    assert_eq!(rt; item, ItemId(7));
+    Ok(())
+}
+
+#[test]
+fn tables_have_their_calls(rt: HostRuntime) -> Result<(), Fail> {
+    let alloc = rt.alloc();
+    let map = map_of(alloc, draft(alloc, ONE_ITEM)?)?;
+    let tables = Tables::build(alloc, &map)?;
+    let mut scratch = Scratch::build(alloc, &tables)?;
+    let Some(root) = tables.bucket_of(ItemId(-1)) else {
+        return Err(Fail::new("the root isn't found"));
+    };
+    assert!(rt; tables.bucket_of(ItemId(-2)).is_none());
+    assert!(rt; !tables.is_empty(root));
+    assert_eq!(rt; tables.type_of(root), 10);
+    assert_eq!(rt; tables.kind(root), Kind::Uniform);
+    assert_eq!(rt; tables.size(root), 1);
+    assert_eq!(rt; tables.tunables(), map.tunables());
+    assert!(rt; tables.has_device(3) && !tables.has_device(4));
+    assert_eq!(rt; tables.pick(root, &mut scratch, 5, 2), ItemId(3));
+    Ok(())
+}
+
+/// A device of the reweight r is in where the low half of `hash2(0, 1)`, 55335, is below r.
+#[test]
+fn weights_have_their_calls(rt: HostRuntime) -> Result<(), Fail> {
+    let alloc = rt.alloc();
+    let map = map_of(alloc, draft(alloc, ONE_ITEM)?)?;
+    let below = Weights::build(alloc, &map, &[(1, 55_335)])?;
+    let above = Weights::build(alloc, &map, &[(1, 55_336)])?;
+    assert!(rt; !is_in(&below, 0, 1) && is_in(&above, 0, 1));
+    assert!(rt; above.get(1) == 55_336 && above.get(0) == 65_536);
+    Ok(())
+}
+
+/// Of two devices that are wanted of a root with one, firstn finds one, and indep leaves the second
+/// place empty.
+#[test]
+fn choosing_has_its_calls(rt: HostRuntime) -> Result<(), Fail> {
+    let alloc = rt.alloc();
+    let map = map_of(alloc, draft(alloc, ONE_ITEM)?)?;
+    let tables = Tables::build(alloc, &map)?;
+    let mut scratch = Scratch::build(alloc, &tables)?;
+    let weights = Weights::build(alloc, &map, &[])?;
+    let Some(bucket) = tables.bucket_of(ItemId(-1)) else {
+        return Err(Fail::new("the root isn't found"));
+    };
+    let (mut items, mut leaves) = (Row::new(), Row::new());
+    let firstn = FirstnCall {
+        bucket,
+        x: 0,
+        numrep: 2,
+        room: 2,
+        wanted: 0,
+        tries: 51,
+        leaf_tries: 0,
+        vary_r: 1,
+        stable: 1,
+    };
+    choose_firstn(
+        &tables,
+        &mut scratch,
+        &firstn,
+        &weights,
+        &mut items,
+        &mut leaves,
+    );
+    let found: Slot = Some(ItemId(3));
+    assert!(rt; items.items() == [found].as_slice() && leaves.items() == [found].as_slice());
+    let indep = IndepCall {
+        bucket,
+        x: 0,
+        n: 2,
+        numrep: 2,
+        wanted: 0,
+        tries: 51,
+        leaf_tries: 0,
+    };
+    choose_indep(
+        &tables,
+        &mut scratch,
+        &indep,
+        &weights,
+        &mut items,
+        &mut leaves,
+    );
+    assert!(rt; items.items() == [found, None].as_slice());
+    Ok(())
+}
+
+#[test]
+fn rules_have_their_calls(rt: HostRuntime) -> Result<(), Fail> {
+    let alloc = rt.alloc();
+    let map = map_of(alloc, draft(alloc, ONE_ITEM)?)?;
+    let tables = Tables::build(alloc, &map)?;
+    let mut scratch = Scratch::build(alloc, &tables)?;
+    let weights = Weights::build(alloc, &map, &[])?;
+    let mut out = Out::build(alloc)?;
+    let rules = map.rules();
+    assert_eq!(rt; rules.len(), 1);
+    laws::rules_of_a_map_can_run();
+    run_rule(&tables, &mut scratch, &rules[0], 9, 2, &weights, &mut out);
+    assert!(rt; out.items() == [Some(ItemId(3)), None].as_slice());
+    assert!(rt; out.trace() == [3u32].as_slice());
+    Ok(())
+}

@@ -1,0 +1,118 @@
+//! Calls of `crush_http` and `crush_app`.
+
+use common_tests::rows::{CREATION_OF_A, IMPORT_BY_A, Row, calls_of, check_reply};
+use common_tests::streams::{Cuts, MANY, Reader, Writer};
+use crush_app::{CheckEnd, ScriptEnd, check_run, script_run};
+use crush_http::{Call, CallParts, Ended, Reply, Service, SessionEnd, laws, serve};
+use sqlite::Connection;
+use std::num::NonZeroUsize;
+use std::test::Fail;
+use table_service::{close_service, open_service};
+use tenant_service::MemoryStore;
+use text_tests::texts::DEVICE_0;
+
+/// The tenant of the rows after the import.
+const SUMMARY: Row = (
+    "GET",
+    "/t/a",
+    "",
+    200,
+    "{\"devices\":0,\"epoch\":1,\"pools\":0,\"tenant\":\"a\",\"versions\":1}",
+);
+
+/// Requests of a new service.
+const ROWS: [Row; 3] = [CREATION_OF_A, IMPORT_BY_A, SUMMARY];
+
+/// Whether replies are those of the rows.
+fn are_of_rows(replies: &[Reply]) -> bool {
+    replies.len() == ROWS.len()
+        && replies
+            .iter()
+            .zip(&ROWS)
+            .all(|(reply, row)| check_reply(reply, row).is_ok())
+}
+
+#[test]
+fn services_have_their_calls(rt: HostRuntime) -> Result<(), Fail> {
+    let alloc = rt.alloc();
+    laws::history();
+    let calls: Vec<Call> = calls_of(alloc, &ROWS)?;
+    let mut service: Service<MemoryStore> = Service::in_memory(alloc)?;
+    let replies = service.run(&calls)?;
+    assert!(rt; are_of_rows(&replies));
+    assert!(rt; !service.is_latched());
+    let mut service: Service<MemoryStore> = Service::in_memory(alloc)?;
+    assert!(rt; !service.is_latched());
+    let end: SessionEnd = service.run_session(&calls)?;
+    assert!(rt; are_of_rows(&end.replies) && end.doubt.is_none());
+    Ok(())
+}
+
+/// What a service over tables did is in the tables after it is closed.
+#[test]
+fn services_are_opened_and_closed(rt: HostRuntime) -> Result<(), Fail> {
+    let alloc = rt.alloc();
+    let conn = Connection::open_in_memory(alloc)?;
+    let Ok(mut service) = open_service::<_, 1_000_000>(alloc, conn, NonZeroUsize::MIN) else {
+        return Err(Fail::new("the service isn't opened"));
+    };
+    for row in &ROWS {
+        let reply = service.request(CallParts {
+            method: row.0.as_bytes(),
+            path: row.1,
+            body: row.2.as_bytes(),
+        });
+        assert!(rt; check_reply(&reply, row).is_ok());
+    }
+    let mut conn = close_service(service);
+    let found = conn.query_all("SELECT version FROM maps", &[]);
+    assert!(rt; matches!(found, Ok(rows) if rows.len() == 1));
+    Ok(())
+}
+
+/// A reader of these bytes.
+fn reader_of(rest: &[u8]) -> Reader<'_> {
+    Reader {
+        rest,
+        cuts: Cuts::each(7),
+        reads: MANY,
+    }
+}
+
+/// Two messages, of which the second ends the connection, and their replies.
+const STREAM: &[u8] =
+    b"PUT /t/a HTTP/1.1\r\nHost: l\r\n\r\nGET /t/a HTTP/1.1\r\nHost: l\r\n\r\nPOST /t/a/test HTTP/1.1\r\nContent-Length: 30\r\n\r\n{\"ru";
+
+const REPLIES: &[u8] =
+    b"HTTP/1.1 201 Created\r\nContent-Length: 24\r\nContent-Type: application/json\r\n\r\n{\"epoch\":0,\"tenant\":\"a\"}HTTP/1.1 200 OK\r\nContent-Length: 59\r\nContent-Type: application/json\r\n\r\n{\"devices\":0,\"epoch\":0,\"pools\":0,\"tenant\":\"a\",\"versions\":0}";
+
+#[test]
+fn connections_have_their_call(rt: HostRuntime) -> Result<(), Fail> {
+    let alloc = rt.alloc();
+    let mut service = Service::in_memory(alloc)?;
+    let mut writer = Writer::new(alloc, MANY);
+    let ended = serve(alloc, &mut service, &mut reader_of(STREAM), &mut writer)?;
+    assert_eq!(rt; ended, Ended::Closed);
+    assert!(rt; writer.taken.as_slice() == REPLIES);
+    Ok(())
+}
+
+#[test]
+fn crush_app_has_its_calls(rt: HostRuntime) -> Result<(), Fail> {
+    let alloc = rt.alloc();
+    let mut service = Service::in_memory(alloc)?;
+    assert!(rt; !service.is_latched());
+    let mut writer = Writer::new(alloc, MANY);
+    let script = b"PUT /t/a\nGET /t/a\n";
+    let end = script_run(alloc, &mut service, &mut reader_of(script), &mut writer)?;
+    assert_eq!(rt; end, ScriptEnd::Done);
+    assert!(rt;
+        writer.taken.as_slice()
+            == b"201 {\"epoch\":0,\"tenant\":\"a\"}\n200 {\"devices\":0,\"epoch\":0,\"pools\":0,\"tenant\":\"a\",\"versions\":0}\n".as_slice()
+    );
+    let mut writer = Writer::new(alloc, MANY);
+    let end = check_run(alloc, &mut reader_of(DEVICE_0.as_bytes()), &mut writer)?;
+    assert_eq!(rt; end, CheckEnd::Accepted);
+    assert!(rt; writer.taken.as_slice() == b"ok devices 1 buckets 1 rules 1\n".as_slice());
+    Ok(())
+}

@@ -1,0 +1,16 @@
+//! Callers of the library: each call of its twelve crates, at the crate and by the name by which a
+//! caller knows it, on small cases whose answers are known from elsewhere.
+#![tactic(auto)]
+
+#[cfg(test)]
+mod buckets;
+#[cfg(test)]
+mod front;
+#[cfg(test)]
+mod maps;
+#[cfg(test)]
+mod pools;
+#[cfg(test)]
+mod stores;
+#[cfg(test)]
+mod tenants;

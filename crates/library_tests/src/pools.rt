@@ -1,0 +1,210 @@
+//! Calls of `crush_pool`, `crush_report` and `crush_cache`.
+
+ghost use Rattle.std.specs.Prelude.{◌≡◌, IfOk};
+ghost use Rattle.crush_writing.specs.Canonical.{canonical};
+
+use crush_bucket::{Scratch, Tables};
+use crush_cache::{Content, PlacementCache, SharedExceptions, SharedStates, SharedText};
+use crush_choose::{Slot, Weights};
+use crush_map::{CrushMap, ItemId, Text};
+use crush_pool::{
+    DeviceState, DeviceStates, Exceptions, Placement, Placer, Pool, PoolFault, PoolParts, mask_of,
+    place, reweights_of, rule_with_id, stable_mod,
+};
+use crush_report::{
+    CsvFault, DeviceChange, impact, moves, moves_csv, read_device_csv, usage, usage_csv,
+};
+use crush_text::write_map;
+use std::alloc::{AllocError, Global};
+use std::num::NonZeroUsize;
+use std::process::Abort;
+use std::rc::Rc;
+use std::test::Fail;
+use text_tests::texts::{DEVICE_0, DEVICE_7, map_of};
+
+/// The parts of pool 1, replicated, of one device a group by rule 0.
+fn parts(
+    alloc: Global,
+    name: &str,
+    pg_num: u32,
+    hashpspool: bool,
+) -> Result<PoolParts, AllocError> {
+    Ok(PoolParts {
+        id: 1,
+        name: Text::copy(alloc, name)?,
+        erasure: false,
+        size: 1,
+        rule: 0,
+        pg_num,
+        pgp_num: pg_num,
+        hashpspool,
+    })
+}
+
+/// The pool of these parts.
+fn pool(alloc: Global, pg_num: u32, hashpspool: bool) -> Result<Pool, Fail> {
+    match Pool::new(parts(alloc, "rbd", pg_num, hashpspool)?) {
+        Ok(pool) => Ok(pool),
+        Err(_) => Err(Fail::new("the pool is refused")),
+    }
+}
+
+/// Whether a placement is that of the device 0, with this seed.
+fn is_on_0(placement: &Placement, seed: u32) -> bool {
+    let device: Slot = Some(ItemId(0));
+    placement.seed == seed
+        && placement.raw.as_slice() == [device].as_slice()
+        && placement.up.as_slice() == [device].as_slice()
+        && placement.primary == device
+}
+
+/// The object without a name has the hash 3175731469, so it is in group 5 of 12; the seed is the
+/// group's place and the pool's id. Of a pool with hashed seeds group 0 has `hash2(0, 1)`.
+#[test]
+fn pools_have_their_calls(rt: HostRuntime) -> Result<(), Fail> {
+    let alloc = rt.alloc();
+    let twelve = pool(alloc, 12, false)?;
+    assert_eq!(rt; twelve.group_of(b""), 5);
+    assert_eq!(rt; stable_mod(3_175_731_469, 12, mask_of(12)), 5);
+    assert_eq!(rt; twelve.seed_of(5), 6);
+    assert_eq!(rt; pool(alloc, 8, true)?.seed_of(0), 91_478_055);
+    let unnamed = Pool::new(parts(alloc, "", 12, false)?);
+    assert!(rt; matches!(unnamed, Err(PoolFault::P1)));
+    let down = DeviceState {
+        device: 4,
+        reweight: 65_536,
+        up: false,
+    };
+    let flags = DeviceStates::build(alloc, &[down])?;
+    assert!(rt; !flags.is_up(4) && flags.is_up(5));
+    Ok(())
+}
+
+#[test]
+fn placing_has_its_call(rt: HostRuntime) -> Result<(), Fail> {
+    let alloc = rt.alloc();
+    let map = map_of(alloc, DEVICE_0)?;
+    let tables = Tables::build(alloc, &map)?;
+    let mut scratch = Scratch::build(alloc, &tables)?;
+    let pool = pool(alloc, 12, false)?;
+    let none = Exceptions::none(alloc)?;
+    let weights = Weights::build(alloc, &map, &[])?;
+    let flags = DeviceStates::build(alloc, &[])?;
+    let Some(rule) = rule_with_id(&map, 0) else {
+        return Err(Fail::new("the map has no rule 0"));
+    };
+    let Ok(placement) = place(
+        alloc,
+        &tables,
+        &mut scratch,
+        &pool,
+        &none,
+        rule,
+        &weights,
+        &flags,
+        5,
+    )?
+    else {
+        return Err(Fail::new("group 5 isn't placed"));
+    };
+    assert!(rt; is_on_0(&placement, 6));
+    let after = place(
+        alloc,
+        &tables,
+        &mut scratch,
+        &pool,
+        &none,
+        rule,
+        &weights,
+        &flags,
+        12,
+    )?;
+    assert!(rt; matches!(after, Err(PoolFault::P2)));
+    Ok(())
+}
+
+/// All groups of a pool are on the one device of the map; on the map of another device each of them
+/// moves; and that device touches none of them.
+#[test]
+fn reports_have_their_calls(rt: HostRuntime) -> Result<(), Fail> {
+    let alloc = rt.alloc();
+    let (map, other) = (map_of(alloc, DEVICE_0)?, map_of(alloc, DEVICE_7)?);
+    let pool = pool(alloc, 2, true)?;
+    let none = Exceptions::none(alloc)?;
+    assert!(rt; rule_with_id(&map, 0).is_some() && rule_with_id(&other, 0).is_some());
+    let used = usage(alloc, &map, &pool, &none, &[])?;
+    let text = usage_csv(alloc, used.as_slice())?;
+    assert!(rt;
+        text.as_slice() == b"device,groups,entries,primaries,permille\n0,2,2,2,1000\n".as_slice()
+    );
+    let moved = moves(alloc, &map, &other, &pool, &none, &[])?;
+    let text = moves_csv(alloc, moved.as_slice())?;
+    assert!(rt; text.as_slice() == b"group,gained,old,new\n0,1,0,7\n1,1,0,7\n".as_slice());
+    let touched = impact(alloc, &map, &pool, &none, &[], 0)?;
+    assert!(rt; touched.as_slice() == [0u32, 1].as_slice());
+    assert!(rt;
+        impact(alloc, &map, &pool, &none, &[], 7)?
+            .as_slice()
+            .is_empty()
+    );
+    Ok(())
+}
+
+#[test]
+fn device_csvs_have_their_call(rt: HostRuntime) -> Result<(), Fail> {
+    let alloc = rt.alloc();
+    let Ok(changes) = read_device_csv(alloc, b"id,reweight,up\n3,0,1\n")? else {
+        return Err(Fail::new("the text is refused"));
+    };
+    let wanted = DeviceChange {
+        device: 3,
+        reweight: Some(0),
+        up: Some(true),
+    };
+    assert!(rt; changes.as_slice() == [wanted].as_slice());
+    let refused = read_device_csv(alloc, b"id,reweight\n3,0\n")?;
+    assert!(rt; matches!(refused, Err(CsvFault::C1)));
+    Ok(())
+}
+
+/// The canonical text of a map.
+fn text_of(rt: &impl Abort, alloc: Global, map: &CrushMap) -> Result<SharedText, AllocError>
+    ensures { IfOk result (λ text. text ≡ canonical map.now) }
+{
+    match String::from_utf8(write_map(alloc, map)?) {
+        Ok(text) => SharedText::new(text),
+        Err(_) => rt.abort(),
+    }
+}
+
+/// A cache answers what the pool's map does, twice.
+#[test]
+fn crush_cache_has_its_calls(rt: HostRuntime) -> Result<(), Fail> {
+    let alloc = rt.alloc();
+    let map = map_of(alloc, DEVICE_0)?;
+    let tables = Tables::build(alloc, &map)?;
+    let states = SharedStates::new(Vec::new(alloc))?;
+    let weights = Weights::build(alloc, &map, &reweights_of(alloc, states.as_slice())?)?;
+    let flags = DeviceStates::build(alloc, states.as_slice())?;
+    let pool = Rc::new(alloc, pool(alloc, 8, true)?)?;
+    let exceptions = SharedExceptions::new(alloc, Exceptions::none(alloc)?)?;
+    let text = text_of(&rt, alloc, &map)?;
+    let content = Content::new(text, states.share()?, pool.clone()?, exceptions.share()?);
+    let Some(placer) = Placer::new(
+        &map,
+        &tables,
+        states.as_slice(),
+        &weights,
+        &flags,
+        &pool,
+        exceptions.exceptions(),
+    ) else {
+        return Err(Fail::new("the map has no rule 0"));
+    };
+    let mut cache = PlacementCache::new(alloc, NonZeroUsize::MIN)?;
+    let first = cache.place(&placer, &content, 0)?;
+    let again = cache.place(&placer, &content, 0)?;
+    assert!(rt; matches!(first, Ok(placement) if is_on_0(&placement, 91_478_055)));
+    assert!(rt; matches!(again, Ok(placement) if is_on_0(&placement, 91_478_055)));
+    Ok(())
+}

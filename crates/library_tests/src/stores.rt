@@ -1,0 +1,78 @@
+//! Calls of `tenant_store`.
+
+ghost use Rattle.std.specs.Prelude.{◌≡◌, false};
+ghost use Rattle.tenant_state.specs.State.{CanMake, fresh};
+
+use crate::tenants::first_change;
+use sqlite::Connection;
+use std::test::Fail;
+use tenant_core::Change;
+use tenant_store::{Store, StoreFault, TenantStore, from_rows};
+
+/// Creates a tenant that is absent, makes its first change, and removes it where that is asked.
+fn write<T: TenantStore>(
+    store: &mut T,
+    name: &str,
+    change: &Change,
+    removes: bool,
+) -> Result<(), StoreFault>
+    requires open { T.latched store.old ≡ false }
+    requires makes { CanMake change.now fresh }
+{
+    if store.load(name)?.is_some() {
+        return Err(StoreFault::Damaged);
+    }
+    store.create(name)?;
+    store.commit(name, change)?;
+    if removes {
+        store.remove(name)?;
+    }
+    Ok(())
+}
+
+/// A tenant that is removed is absent, and another one has the version that it imported.
+#[test]
+fn tenant_store_has_its_calls(rt: HostRuntime) -> Result<(), Fail> {
+    let alloc = rt.alloc();
+    let change = first_change(alloc)?;
+    let Ok(mut store) = Store::open(alloc, Connection::open_in_memory(alloc)?) else {
+        return Err(Fail::new("the store isn't opened"));
+    };
+    assert!(rt; write(&mut store, "a", &change, true).is_ok());
+    assert!(rt; !store.is_latched());
+    assert!(rt; write(&mut store, "b", &change, false).is_ok());
+    assert!(rt; !store.is_latched());
+    assert!(rt; matches!(store.load("a"), Ok(None)));
+    assert!(rt; !store.is_latched());
+    assert!(rt; matches!(store.load("b"), Ok(Some(inventory)) if inventory.newest() == 1));
+    let mut conn = store.close();
+    assert!(rt; conn.query_all("SELECT version FROM maps", &[]).is_ok());
+    Ok(())
+}
+
+/// No rows are those of a tenant that was just created, which has the epoch 0.
+#[test]
+fn states_come_from_rows(rt: HostRuntime) -> Result<(), Fail> {
+    let alloc = rt.alloc();
+    let made = from_rows(
+        alloc,
+        0,
+        Vec::new(alloc),
+        Vec::new(alloc),
+        Vec::new(alloc),
+        &[],
+        Vec::new(alloc),
+    )?;
+    assert!(rt; matches!(made, Some(state) if state.inventory().epoch() == 0));
+    let none = from_rows(
+        alloc,
+        1,
+        Vec::new(alloc),
+        Vec::new(alloc),
+        Vec::new(alloc),
+        &[],
+        Vec::new(alloc),
+    )?;
+    assert!(rt; none.is_none());
+    Ok(())
+}

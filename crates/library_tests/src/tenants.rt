@@ -1,0 +1,70 @@
+//! Calls of `tenant_core`.
+
+ghost use Rattle.std.specs.Prelude.{IfOk};
+ghost use Rattle.tenant_state.specs.State.{CanMake, fresh};
+
+use common_tests::imports::FIRST;
+use std::alloc::Global;
+use std::test::Fail;
+use tenant_core::{
+    Action, CallParts, Change, Reply, Routes, TenantState, answer, apply, create, laws,
+    read_request,
+};
+
+/// The import of a map by a tenant.
+fn import_call<'a>() -> CallParts<'a> {
+    CallParts {
+        method: b"POST",
+        path: "/t/a/maps",
+        body: FIRST.as_bytes(),
+    }
+}
+
+/// The change that an import makes of a tenant that was just created. `Err`: an allocation failed,
+/// or its reply isn't that to a first import.
+pub(crate) fn first_change(alloc: Global) -> Result<Change, Fail>
+    ensures { IfOk result (λ change. CanMake change fresh) }
+{
+    let routes = Routes::build(alloc)?;
+    let Ok(request) = read_request(alloc, &routes, import_call()) else {
+        return Err(Fail::new("the import isn't read"));
+    };
+    let Action::Command(command) = &request.action else {
+        return Err(Fail::new("the import is no command"));
+    };
+    laws::each_decision_fits_its_state();
+    let state: TenantState = create(alloc)?;
+    let (change, reply): (Option<Change>, Reply) = apply(alloc, &state, command)?;
+    if reply.status != 201 || reply.body.as_str() != "{\"epoch\":1,\"version\":1}" {
+        return Err(Fail::new("the import has another reply"));
+    }
+    match change {
+        Some(change) => Ok(change),
+        None => Err(Fail::new("the import makes no change")),
+    }
+}
+
+/// The list's second item is the one that has a weight.
+#[test]
+fn tenant_core_has_its_calls(rt: HostRuntime) -> Result<(), Fail> {
+    let alloc = rt.alloc();
+    let change = first_change(alloc)?;
+    let state = create(alloc)?.after(alloc, &change)?;
+    assert_eq!(rt; state.inventory().newest(), 1);
+    let routes = Routes::build(alloc)?;
+    let pick = CallParts {
+        method: b"POST",
+        path: "/t/a/pick",
+        body: b"{\"bucket\":{\"id\":-1,\"items\":[{\"item\":4,\"weight\":0},{\"item\":9,\"weight\":65536}],\"kind\":\"list\"},\"r\":0,\"x\":5}",
+    };
+    let Ok(request) = read_request(alloc, &routes, pick) else {
+        return Err(Fail::new("the pick isn't read"));
+    };
+    let Action::Query(query) = &request.action else {
+        return Err(Fail::new("the pick is no query"));
+    };
+    let reply = answer(alloc, state.inventory(), query)?;
+    assert_eq!(rt; reply.status, 200);
+    assert_eq!(rt; reply.body.as_str(), "{\"item\":9}");
+    Ok(())
+}
