@@ -5,9 +5,8 @@ use crate::disks::{Disks, Stop, crashed_with, new_files};
 use crate::session::session;
 use common_tests::imports::{FIRST, OTHER, SECOND};
 use crush_map::Text;
-use std::alloc::{AllocError, Global};
+use std::alloc::Global;
 use std::process::Abort;
-use std::test::Fail;
 use tenant_messages::{Bytes, Call, Reply};
 use tenant_service::{MemoryStore, Service, SessionEnd};
 
@@ -53,56 +52,73 @@ fn next(seed: &mut u64) -> u64 {
     *seed >> 33
 }
 
-fn call(alloc: Global, method: &[u8], path: &str, body: &[u8]) -> Result<Call, AllocError> {
-    Ok(Call {
-        method: Bytes::new(Vec::from_slice(alloc, method)?),
-        path: Text::copy(alloc, path)?,
-        body: Bytes::new(Vec::from_slice(alloc, body)?),
-    })
+fn call(rt: &impl Abort, alloc: Global, method: &[u8], path: &str, body: &[u8]) -> Call {
+    Call {
+        method: Bytes::new(Vec::from_slice(alloc, method).expect(rt, "no memory")),
+        path: Text::copy(alloc, path).expect(rt, "no memory"),
+        body: Bytes::new(Vec::from_slice(alloc, body).expect(rt, "no memory")),
+    }
+}
+
+/// A change of device 0, as JSON, with this request number.
+fn as_json(rt: &impl Abort, alloc: Global, number: u64, weight: u64) -> String {
+    format!(in alloc;
+        "{{\"request\":\"d{number}\",\"devices\":[{{\"id\":0,\"reweight\":{weight}}}]}}"
+    ).expect(rt, "no memory")
+}
+
+/// The same as CSV.
+fn as_csv(rt: &impl Abort, alloc: Global, number: u64, weight: u64) -> String {
+    format!(in alloc;
+        "{{\"request\":\"c{number}\",\"csv\":\"id,reweight,up\\n0,{weight},1\\n\"}}"
+    ).expect(rt, "no memory")
+}
+
+/// A path of a tenant.
+fn path_of(rt: &impl Abort, alloc: Global, tenant: &str, rest: &str) -> String {
+    format!(in alloc; "{tenant}{rest}").expect(rt, "no memory")
 }
 
 /// A change of device 0, as JSON or as CSV, with one of a hundred request numbers.
-fn drawn_change(alloc: Global, tenant: &str, seed: &mut u64) -> Result<Call, AllocError> {
+fn drawn_change(rt: &impl Abort, alloc: Global, tenant: &str, seed: &mut u64) -> Call {
     let (number, weight) = (next(seed) % 100, next(seed) % 65_537);
-    let (path, body) = if next(seed) % 2 == 0 {
-        let body = format!(in alloc;
-            "{{\"request\":\"d{number}\",\"devices\":[{{\"id\":0,\"reweight\":{weight}}}]}}"
-        )?;
-        (format!(in alloc; "{tenant}/devices")?, body)
+    let (rest, body) = if next(seed) % 2 == 0 {
+        ("/devices", as_json(rt, alloc, number, weight))
     } else {
-        let body = format!(in alloc;
-            "{{\"request\":\"c{number}\",\"csv\":\"id,reweight,up\\n0,{weight},1\\n\"}}"
-        )?;
-        (format!(in alloc; "{tenant}/devices/csv")?, body)
+        ("/devices/csv", as_csv(rt, alloc, number, weight))
     };
-    call(alloc, b"POST", path.as_str(), body.as_bytes())
+    let path = path_of(rt, alloc, tenant, rest);
+    call(rt, alloc, b"POST", path.as_str(), body.as_bytes())
 }
 
-fn drawn_call(alloc: Global, seed: &mut u64) -> Result<Call, AllocError> {
+fn drawn_call(rt: &impl Abort, alloc: Global, seed: &mut u64) -> Call {
     let tenant = TENANTS[(next(seed) % 5) as usize];
     if next(seed) % 3 == 0 {
-        return drawn_change(alloc, tenant, seed);
+        return drawn_change(rt, alloc, tenant, seed);
     }
     let (method, path, body) = ASKED[(next(seed) % 12) as usize];
-    let path = format!(in alloc; "{tenant}{path}")?;
-    call(alloc, method.as_bytes(), path.as_str(), body.as_bytes())
+    let path = path_of(rt, alloc, tenant, path);
+    call(rt, alloc, method.as_bytes(), path.as_str(), body.as_bytes())
+}
+
+/// The same call once more.
+fn again(rt: &impl Abort, alloc: Global, first: &Call) -> Call {
+    let it = first.parts();
+    call(rt, alloc, it.method, it.path, it.body)
 }
 
 /// The call in doubt, if there is one, and drawn ones.
-fn drawn_calls(
-    alloc: Global,
-    doubt: &Option<Call>,
-    seed: &mut u64,
-) -> Result<Vec<Call>, AllocError> {
+fn drawn_calls(rt: &impl Abort, alloc: Global, doubt: &Option<Call>, seed: &mut u64) -> Vec<Call> {
     let mut calls = Vec::new(alloc);
     if let Some(first) = doubt {
-        let it = first.parts();
-        calls.push(call(alloc, it.method, it.path, it.body)?)?;
+        calls.push(again(rt, alloc, first)).expect(rt, "no memory");
     }
     for _ in 0..CALLS {
-        calls.push(drawn_call(alloc, seed)?)?;
+        calls
+            .push(drawn_call(rt, alloc, seed))
+            .expect(rt, "no memory");
     }
-    Ok(calls)
+    calls
 }
 
 /// A call on the log or on the database file, at which the next session stops.
@@ -142,83 +158,87 @@ fn are_explained(
 }
 
 /// The call at which the session stopped: the one in doubt, or none.
-fn in_doubt(alloc: Global, calls: &[Call], end: &SessionEnd) -> Result<Option<Call>, AllocError> {
+fn in_doubt(rt: &impl Abort, alloc: Global, calls: &[Call], end: &SessionEnd) -> Option<Call> {
     match end.doubt.and_then(|place| calls.get(place)) {
-        Some(it) => {
-            let it = it.parts();
-            Ok(Some(call(alloc, it.method, it.path, it.body)?))
-        }
-        None => Ok(None),
+        Some(it) => Some(again(rt, alloc, it)),
+        None => None,
     }
 }
 
-/// What is between two sessions: the files, and the call in doubt. How many sessions were opened,
-/// how many of these stopped amid their calls, how many weren't opened, and how many calls were
-/// acknowledged.
+/// What is between two sessions beside the files: the call in doubt, and the seed. How many
+/// sessions were opened, how many of these stopped amid their calls, how many weren't opened, and
+/// how many calls were acknowledged.
 #[derive(Drop)]
 struct Course {
-    files: Disks,
     doubt: Option<Call>,
+    seed: u64,
     opened: u64,
     stopped: u64,
     unopened: u64,
     acknowledged: u64,
 }
 
-/// One more session over what a crash left of the files.
+/// Asserts that what a session acknowledged is explained, and counts it.
+fn count(
+    rt: &impl Abort,
+    alloc: Global,
+    alone: &mut Service<MemoryStore>,
+    course: &mut Course,
+    calls: &[Call],
+    end: &SessionEnd,
+) {
+    assert!(rt; are_explained(alone, calls, &end.replies, course.doubt.is_some()));
+    course.doubt = in_doubt(rt, alloc, calls, end);
+    let count = end.replies.iter().filter(|it| it.status != 503).count();
+    course.opened = course.opened.saturating_add(1);
+    course.stopped = course
+        .stopped
+        .saturating_add(u64::from(course.doubt.is_some()));
+    course.acknowledged = course.acknowledged.saturating_add(count as u64);
+}
+
+/// One more session over what a crash left of the files, which it gives back.
 fn next_session(
     rt: &impl Abort,
     alloc: Global,
     alone: &mut Service<MemoryStore>,
-    course: Course,
-    seed: &mut u64,
-) -> Result<Course, Fail> {
-    let calls = drawn_calls(alloc, &course.doubt, seed)?;
-    let files = crashed_with(alloc, course.files, drawn_stop(seed))?;
+    files: Disks,
+    course: &mut Course,
+) -> Disks {
+    let calls = drawn_calls(rt, alloc, &course.doubt, &mut course.seed);
+    let files = crashed_with(rt, alloc, files, drawn_stop(&mut course.seed));
     // a file is closed after half of the sessions, so that the next log is short
-    let closes = next(seed) % 2 == 0;
-    let (end, files) = session(alloc, files, &calls, closes)?;
-    let Some(end) = end else {
-        return Ok(Course {
-            files,
-            unopened: course.unopened.saturating_add(1),
-            doubt: course.doubt,
-            opened: course.opened,
-            stopped: course.stopped,
-            acknowledged: course.acknowledged,
-        });
-    };
-    assert!(rt; are_explained(alone, &calls, &end.replies, course.doubt.is_some()));
-    let doubt = in_doubt(alloc, &calls, &end)?;
-    let count = end.replies.iter().filter(|it| it.status != 503).count();
-    Ok(Course {
-        files,
-        opened: course.opened.saturating_add(1),
-        stopped: course.stopped.saturating_add(u64::from(doubt.is_some())),
-        unopened: course.unopened,
-        acknowledged: course.acknowledged.saturating_add(count as u64),
-        doubt,
-    })
+    let closes = next(&mut course.seed) % 2 == 0;
+    let (end, files) = session(rt, alloc, files, &calls, closes);
+    match end {
+        Some(end) => count(rt, alloc, alone, course, &calls, &end),
+        None => course.unopened = course.unopened.saturating_add(1),
+    }
+    files
+}
+
+/// Sessions one after the other, until enough of them were opened.
+fn follow(rt: &impl Abort, alloc: Global, alone: &mut Service<MemoryStore>, course: &mut Course) {
+    let mut files = new_files(alloc, Stop::Log(u64::MAX));
+    for _ in 0..TRIES {
+        if course.opened < SESSIONS {
+            files = next_session(rt, alloc, alone, files, course);
+        }
+    }
 }
 
 #[test]
-fn what_each_session_acknowledges_is_found_by_the_later_ones(rt: HostRuntime) -> Result<(), Fail> {
-    let alloc = rt.alloc();
-    let mut seed = 1;
-    let mut alone = Service::in_memory(alloc)?;
+fn what_each_session_acknowledges_is_found_by_the_later_ones(rt: HostRuntime) {
+    let mut alone = Service::in_memory(rt.alloc()).expect(&rt, "no memory");
     let mut course = Course {
-        files: new_files(alloc, Stop::Log(u64::MAX)),
         doubt: None,
+        seed: 1,
         opened: 0,
         stopped: 0,
         unopened: 0,
         acknowledged: 0,
     };
-    for _ in 0..TRIES {
-        if course.opened < SESSIONS {
-            course = next_session(&rt, alloc, &mut alone, course, &mut seed)?;
-        }
-    }
+    follow(&rt, rt.alloc(), &mut alone, &mut course);
     let Course {
         opened,
         stopped,
@@ -230,5 +250,4 @@ fn what_each_session_acknowledges_is_found_by_the_later_ones(rt: HostRuntime) ->
         opened == SESSIONS && stopped >= 5 && unopened >= 5 && acknowledged > 1_000,
         "{opened} opened, {stopped} stopped, {unopened} not opened, {acknowledged} acknowledged"
     );
-    Ok(())
 }

@@ -3,6 +3,7 @@
 use sqlite_disk::{Crash, Disk, Files, Fuse, Memory};
 use std::alloc::Global;
 use std::io;
+use std::process::Abort;
 
 /// A database file and its log.
 pub(crate) type Disks = Files<Fuse<Memory>>;
@@ -49,11 +50,11 @@ fn copied(alloc: Global, disk: &Fuse<Memory>, calls: u64) -> io::Result<Fuse<Mem
 }
 
 /// What a crash leaves of the files; one of them then fails again.
-pub(crate) fn crashed_with(alloc: Global, files: Disks, stop: Stop) -> io::Result<Disks> {
+pub(crate) fn crashed_with(rt: &impl Abort, alloc: Global, files: Disks, stop: Stop) -> Disks {
     let files = crashed(files);
     let (log, db) = stop.calls();
-    Ok(Files {
-        log: copied(alloc, &files.log, log)?,
-        db: copied(alloc, &files.db, db)?,
-    })
+    Files {
+        log: copied(alloc, &files.log, log).expect(rt, "no copy"),
+        db: copied(alloc, &files.db, db).expect(rt, "no copy"),
+    }
 }

@@ -1,11 +1,12 @@
 //! One session over the files of a database.
 
-ghost use Rattle.std.specs.Prelude.{◌≡◌, false};
+ghost use Rattle.std.specs.Prelude.{◌≡◌, false, IfOk};
 
 use sqlite::{Connection, FileStore, Options};
 use sqlite_disk::{Disk, Files};
-use std::alloc::{AllocError, Global};
+use std::alloc::Global;
 use std::num::NonZeroUsize;
+use std::process::Abort;
 use tenant_cache::CachedStore;
 use tenant_core::TenantStore;
 use tenant_messages::Call;
@@ -19,17 +20,20 @@ const SALT: u64 = 7;
 const READY: u64 = 1_000_000;
 
 /// Serves the calls as one session over the store, and gives the store back as it stands.
-/// `Err(AllocError)`: an allocation failed; no call was served.
 fn serve<T: TenantStore + Drop>(
+    rt: &impl Abort,
     alloc: Global,
     store: T,
     calls: &[Call],
-) -> Result<(SessionEnd, T), AllocError>
+) -> (SessionEnd, T)
     requires works { T.latched store ≡ false }
 {
-    let mut service = Service::over(alloc, store)?;
-    let end = service.run_session(calls)?;
-    Ok((end, service.into_store()))
+    let mut service = match Service::over(alloc, store) {
+        Ok(service) => service,
+        Err(_) => rt.abort(),
+    };
+    let end = service.run_session(calls).expect(rt, "no memory");
+    (end, service.into_store())
 }
 
 /// The files of a store that is let go of as it stands: nothing is copied from the log.
@@ -37,44 +41,68 @@ fn left<D: Disk>(store: FileStore<D>) -> Files<D> {
     store.close()
 }
 
-/// The files of a connection whose log is copied into the database file, if that succeeds.
-fn closed<D: Disk + Drop>(conn: Connection<FileStore<D>>) -> Files<D> {
+/// The files of a connection, whose log is copied into the database file, if that is asked for and
+/// succeeds.
+fn closed<D: Disk + Drop>(conn: Connection<FileStore<D>>, closes: bool) -> Files<D> {
+    if !closes {
+        return left(conn.into_store());
+    }
     match conn.close_files() {
         Ok(files) => files,
         Err((_, store)) => left(store),
     }
 }
 
-/// Opens the files, serves the calls as one session of a store that keeps tenants ready, and gives
-/// the files back, closed or as they then stand. There is no session where the opening is refused.
-/// `Err(AllocError)`: an allocation failed; no call was served.
+/// The store in the files; or the files, where the opening is refused.
+fn opened<D: Disk + Drop>(alloc: Global, files: Files<D>) -> Result<Store<FileStore<D>>, Files<D>>
+    ensures live { IfOk result (λ store. store.1 ≡ false) }
+{
+    if !files.may_be_used() {
+        return Err(files);
+    }
+    let conn = match Connection::open_files(alloc, files, Options::new(SALT)) {
+        Ok(conn) => conn,
+        Err((_, rest)) => return Err(rest.into_files()),
+    };
+    match Store::open(alloc, conn) {
+        Ok(store) => Ok(store),
+        Err((_, store)) => Err(left(store)),
+    }
+}
+
+/// Serves the calls as one session of a store that keeps tenants ready over this one, and gives the
+/// files back, closed or as they then stand.
+fn served<D: Disk + Drop>(
+    rt: &impl Abort,
+    alloc: Global,
+    store: Store<FileStore<D>>,
+    calls: &[Call],
+    closes: bool,
+) -> (SessionEnd, Files<D>)
+    requires live { store.1 ≡ false }
+{
+    let ready = match CachedStore::<_, READY>::over(alloc, store, NonZeroUsize::MIN) {
+        Ok(ready) => ready,
+        Err(_) => rt.abort(),
+    };
+    let (end, ready) = serve(rt, alloc, ready, calls);
+    (end, closed(ready.into_below().close(), closes))
+}
+
+/// Opens the files, serves the calls as one session, and gives the files back. There is no session
+/// where the opening is refused.
 pub(crate) fn session<D: Disk + Drop>(
+    rt: &impl Abort,
     alloc: Global,
     files: Files<D>,
     calls: &[Call],
     closes: bool,
-) -> Result<(Option<SessionEnd>, Files<D>), AllocError> {
-    if !files.may_be_used() {
-        return Ok((None, files));
+) -> (Option<SessionEnd>, Files<D>) {
+    match opened(alloc, files) {
+        Ok(store) => {
+            let (end, files) = served(rt, alloc, store, calls, closes);
+            (Some(end), files)
+        }
+        Err(files) => (None, files),
     }
-    let conn = match Connection::open_files(alloc, files, Options::new(SALT)) {
-        Ok(conn) => conn,
-        Err((_, rest)) => return Ok((None, rest.into_files())),
-    };
-    let store = match Store::open(alloc, conn) {
-        Ok(store) => store,
-        Err((_, store)) => return Ok((None, left(store))),
-    };
-    let ready = match CachedStore::<_, READY>::over(alloc, store, NonZeroUsize::MIN) {
-        Ok(ready) => ready,
-        Err((error, _store)) => return Err(error),
-    };
-    let (end, ready) = serve(alloc, ready, calls)?;
-    let conn = ready.into_below().close();
-    let files = if closes {
-        closed(conn)
-    } else {
-        left(conn.into_store())
-    };
-    Ok((Some(end), files))
 }

@@ -4,10 +4,9 @@
 use crate::disks::{Disks, Stop, crashed, crashed_with, new_files};
 use crate::session::session;
 use common_tests::rows::{CREATION_OF_A, IMPORT_BY_A, Row, calls_of, check_reply};
-use std::alloc::{AllocError, Global};
+use std::alloc::Global;
 use std::process::Abort;
-use std::test::Fail;
-use tenant_messages::Reply;
+use tenant_messages::{Call, Reply};
 use tenant_service::SessionEnd;
 
 /// More calls than a session makes on a disk.
@@ -41,128 +40,144 @@ fn are_of_rows(replies: &[Reply], rows: &[Row]) -> bool {
             .all(|(reply, row)| check_reply(reply, row).is_ok())
 }
 
-/// How many calls of a session are acknowledged; none where it wasn't opened.
-fn acknowledged(end: &Option<SessionEnd>) -> usize {
-    match end {
-        Some(end) => end
-            .replies
-            .iter()
-            .filter(|reply| reply.status != 503)
-            .count(),
-        None => 0,
+/// The calls of some rows.
+fn calls(rt: &impl Abort, alloc: Global, rows: &[Row]) -> Vec<Call> {
+    calls_of(alloc, rows).expect(rt, "no memory")
+}
+
+/// How many replies are acknowledgements.
+fn acknowledged(replies: &[Reply]) -> usize {
+    replies.iter().filter(|reply| reply.status != 503).count()
+}
+
+/// Whether the tenant was there, where replies to the first requests, sent again, show that each of
+/// them has then acted once.
+fn was_there(replies: &[Reply]) -> Option<bool> {
+    if are_of_rows(replies, AGAIN_THERE) {
+        Some(true)
+    } else if are_of_rows(replies, AGAIN) {
+        Some(false)
+    } else {
+        None
     }
 }
 
-/// A session without a stop over what a crash left, in which the first requests are sent again:
-/// whether the tenant was there, if each of them has then acted once.
-fn found_again(alloc: Global, files: Disks) -> Result<Option<bool>, AllocError> {
-    let (end, _) = session(alloc, crashed(files), &calls_of(alloc, AGAIN)?, false)?;
-    Ok(end.and_then(|end| {
-        if are_of_rows(&end.replies, AGAIN_THERE) {
-            Some(true)
-        } else if are_of_rows(&end.replies, AGAIN) {
-            Some(false)
-        } else {
-            None
-        }
-    }))
+/// In a session without a stop over what a crash left, the first requests are sent again: asserts
+/// that each of them has then acted once, and that the tenant was there or wasn't, as it may be.
+fn assert_found(
+    rt: &impl Abort,
+    alloc: Global,
+    files: Disks,
+    may_be_there: bool,
+    may_be_absent: bool,
+) {
+    let again = calls(rt, alloc, AGAIN);
+    let (end, _) = session(rt, alloc, crashed(files), &again, false);
+    let holds = match end.and_then(|end| was_there(&end.replies)) {
+        Some(true) => may_be_there,
+        Some(false) => may_be_absent,
+        None => false,
+    };
+    assert!(rt; holds);
 }
 
 /// A creation and an import over new files with this stop, and then the same again: whether the
 /// first session met no stop.
-fn first_session(rt: &impl Abort, alloc: Global, stop: Stop) -> Result<bool, AllocError> {
-    let (end, files) = session(
-        alloc,
-        new_files(alloc, stop),
-        &calls_of(alloc, FIRST)?,
-        false,
-    )?;
-    let done = acknowledged(&end);
-    let found = found_again(alloc, files)?;
-    assert!(rt; found == Some(true) || done == 0 && found == Some(false));
-    Ok(done == FIRST.len())
+fn creates(rt: &impl Abort, alloc: Global, stop: Stop) -> bool {
+    let first = calls(rt, alloc, FIRST);
+    let (end, files) = session(rt, alloc, new_files(alloc, stop), &first, false);
+    let done = match end {
+        Some(end) => acknowledged(&end.replies),
+        None => 0,
+    };
+    assert_found(rt, alloc, files, true, done == 0);
+    done == FIRST.len()
 }
 
-/// Files that a session without a stop has left, with what it wrote in the log.
-fn files_of_a(alloc: Global) -> Result<Disks, AllocError> {
+/// Files that a session without a stop has left, with what it wrote in the log, as a crash leaves
+/// them; one of them then fails.
+fn files_of_a(rt: &impl Abort, alloc: Global, stop: Stop) -> Disks {
     let files = new_files(alloc, Stop::Log(u64::MAX));
-    let (_, files) = session(alloc, files, &calls_of(alloc, FIRST)?, false)?;
-    Ok(files)
+    let first = calls(rt, alloc, FIRST);
+    let (_, files) = session(rt, alloc, files, &first, false);
+    crashed_with(rt, alloc, files, stop)
 }
 
 /// A drop with this stop: whether it met none. Afterwards the tenant is there whole, or it isn't
 /// there and comes back as a new one.
-fn drop_session(rt: &impl Abort, alloc: Global, stop: Stop) -> Result<bool, Fail> {
-    let files = crashed_with(alloc, files_of_a(alloc)?, stop)?;
-    let (end, files) = session(alloc, files, &calls_of(alloc, DROP)?, false)?;
+fn drops(rt: &impl Abort, alloc: Global, stop: Stop) -> bool {
+    let files = files_of_a(rt, alloc, stop);
+    let (end, files) = session(rt, alloc, files, &calls(rt, alloc, DROP), false);
     let is_dropped = end.is_some_and(|end| are_of_rows(&end.replies, DROP));
-    let found = found_again(alloc, files)?;
-    assert!(rt; found == Some(false) || !is_dropped && found == Some(true));
-    Ok(is_dropped)
+    assert_found(rt, alloc, files, !is_dropped, true);
+    is_dropped
 }
 
 /// An opening with this stop, of files whose log has to be taken in: whether it met none. All that
 /// was acknowledged is there afterwards.
-fn opening(rt: &impl Abort, alloc: Global, stop: Stop) -> Result<bool, Fail> {
-    let files = crashed_with(alloc, files_of_a(alloc)?, stop)?;
-    let (end, files) = session(alloc, files, &[], false)?;
-    assert!(rt; found_again(alloc, files)? == Some(true));
-    Ok(end.is_some())
+fn opens(rt: &impl Abort, alloc: Global, stop: Stop) -> bool {
+    let files = files_of_a(rt, alloc, stop);
+    let (end, files) = session(rt, alloc, files, &[], false);
+    assert_found(rt, alloc, files, true, false);
+    end.is_some()
+}
+
+/// What is stopped.
+#[derive(Clone, Copy)]
+enum Work {
+    Creation,
+    Drop,
+    Opening,
+}
+
+/// Whether it met no stop.
+fn is_whole(rt: &impl Abort, alloc: Global, work: Work, stop: Stop) -> bool {
+    match work {
+        Work::Creation => creates(rt, alloc, stop),
+        Work::Drop => drops(rt, alloc, stop),
+        Work::Opening => opens(rt, alloc, stop),
+    }
+}
+
+/// Asserts that it meets no stop once enough calls on the log are let through; it makes some.
+fn assert_on_log(rt: &impl Abort, alloc: Global, work: Work) {
+    let mut whole = 0;
+    for calls in 0..MANY {
+        if is_whole(rt, alloc, work, Stop::Log(calls)) {
+            whole = calls;
+            break;
+        }
+    }
+    assert!(rt; whole > 0);
+}
+
+/// Asserts the same of calls on the database file, of which it may make none.
+fn assert_on_database(rt: &impl Abort, alloc: Global, work: Work) {
+    let mut met_none = false;
+    for calls in 0..MANY {
+        if is_whole(rt, alloc, work, Stop::Database(calls)) {
+            met_none = true;
+            break;
+        }
+    }
+    assert!(rt; met_none);
 }
 
 /// Each stop in turn until a session meets none.
 #[test]
-fn a_creation_and_an_import_are_kept_once_they_are_acknowledged(
-    rt: HostRuntime,
-) -> Result<(), Fail> {
-    let mut whole = 0;
-    for calls in 0..MANY {
-        if first_session(&rt, rt.alloc(), Stop::Log(calls))? {
-            whole = calls;
-            break;
-        }
-    }
-    assert!(rt; whole > 0);
-    for calls in 0..MANY {
-        if first_session(&rt, rt.alloc(), Stop::Database(calls))? {
-            return Ok(());
-        }
-    }
-    Err("each session met a stop")?
+fn a_creation_and_an_import_are_kept_once_they_are_acknowledged(rt: HostRuntime) {
+    assert_on_log(&rt, rt.alloc(), Work::Creation);
+    assert_on_database(&rt, rt.alloc(), Work::Creation);
 }
 
 #[test]
-fn a_drop_leaves_the_tenant_whole_or_absent(rt: HostRuntime) -> Result<(), Fail> {
-    let mut whole = 0;
-    for calls in 0..MANY {
-        if drop_session(&rt, rt.alloc(), Stop::Log(calls))? {
-            whole = calls;
-            break;
-        }
-    }
-    assert!(rt; whole > 0);
-    for calls in 0..MANY {
-        if drop_session(&rt, rt.alloc(), Stop::Database(calls))? {
-            return Ok(());
-        }
-    }
-    Err("each session met a stop")?
+fn a_drop_leaves_the_tenant_whole_or_absent(rt: HostRuntime) {
+    assert_on_log(&rt, rt.alloc(), Work::Drop);
+    assert_on_database(&rt, rt.alloc(), Work::Drop);
 }
 
 #[test]
-fn an_opening_that_takes_in_a_log_loses_nothing(rt: HostRuntime) -> Result<(), Fail> {
-    let mut whole = 0;
-    for calls in 0..MANY {
-        if opening(&rt, rt.alloc(), Stop::Log(calls))? {
-            whole = calls;
-            break;
-        }
-    }
-    assert!(rt; whole > 0);
-    for calls in 0..MANY {
-        if opening(&rt, rt.alloc(), Stop::Database(calls))? {
-            return Ok(());
-        }
-    }
-    Err("each opening met a stop")?
+fn an_opening_that_takes_in_a_log_loses_nothing(rt: HostRuntime) {
+    assert_on_log(&rt, rt.alloc(), Work::Opening);
+    assert_on_database(&rt, rt.alloc(), Work::Opening);
 }

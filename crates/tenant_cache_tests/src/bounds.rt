@@ -1,17 +1,14 @@
 //! What is kept of tenants within a number of bytes.
 
-use crate::asking::{IMPORT, Load, Over, assert_loads, room_for};
-use std::test::Fail;
-use tenant_cache::CachedStore;
-use tenant_core::TenantStore;
-use tenant_service::MemoryStore;
+use crate::asking::IMPORT;
+use crate::counted::{Load, Loads, Over, assert_loads};
 use tenant_state::size::INVENTORY_BYTES;
 
 /// Room for two tenants that were just created.
 const TWO: u64 = 2 * INVENTORY_BYTES;
 
-/// Three tenants by turns, of which two are kept.
-const OF_THREE: [Load; 14] = [
+/// Three tenants by turns, of which two are kept: the tenant used least recently is given up.
+const OF_THREE: &[Load] = &[
     (("PUT", "/t/a", ""), 201, 1),
     (("PUT", "/t/b", ""), 201, 2),
     (("PUT", "/t/c", ""), 201, 3),
@@ -28,14 +25,8 @@ const OF_THREE: [Load; 14] = [
     (("GET", "/t/b", ""), 200, 10),
 ];
 
-#[test]
-fn the_tenant_used_least_recently_is_given_up(rt: HostRuntime) -> Result<(), Fail> {
-    assert_loads::<TWO>(&rt, rt.alloc(), Over::Bound, &OF_THREE, &[], 0)?;
-    Ok(())
-}
-
-/// With a map tenant a is larger than the bound.
-const LARGER: [Load; 12] = [
+/// With a map tenant a is larger than the bound; it is kept while it is the one used last.
+const LARGER: &[Load] = &[
     (("PUT", "/t/a", ""), 201, 1),
     (("PUT", "/t/b", ""), 201, 2),
     (("GET", "/t/b", ""), 200, 3),
@@ -50,25 +41,14 @@ const LARGER: [Load; 12] = [
     (("GET", "/t/b", ""), 200, 7),
 ];
 
-#[test]
-fn a_tenant_larger_than_the_bound_is_kept_while_it_is_the_one_used_last(
-    rt: HostRuntime,
-) -> Result<(), Fail> {
-    assert_loads::<TWO>(&rt, rt.alloc(), Over::Bound, &LARGER, &[], 0)?;
-    Ok(())
-}
+const CASES: [Loads; 2] = [
+    (Over::Bound, OF_THREE, &[], 0),
+    (Over::Bound, LARGER, &[], 0),
+];
 
 #[test]
-fn the_store_below_is_given_back(rt: HostRuntime) -> Result<(), Fail> {
-    let alloc = rt.alloc();
-    let mut store = CachedStore::<_, TWO>::over(
-        alloc,
-        MemoryStore::new(alloc),
-        room_for(&rt, 1),
-    ).map_err(|(error, _below)| error)?;
-    assert!(rt; store.create("a").is_ok());
-    let mut below = store.into_below();
-    assert!(rt; matches!(below.load("a"), Ok(Some(_))));
-    assert!(rt; matches!(below.load("b"), Ok(None)));
-    Ok(())
+fn tenants_used_least_recently_are_given_up_but_the_one_used_last(rt: HostRuntime) {
+    for case in &CASES {
+        assert_loads::<TWO>(&rt, rt.alloc(), case);
+    }
 }

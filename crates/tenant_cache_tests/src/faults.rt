@@ -1,14 +1,11 @@
 //! Replies where a call of the store below meets a fault, beside those of a run without a fault and
 //! with nothing kept.
 
-use crate::asking::{Asked, DOWN, IMPORT, Over, POOL, ask, watched_service};
+use crate::asking::{Asked, DOWN, IMPORT, POOL, ask, assert_count, assert_that};
+use crate::counted::{Counted, Over, no_loads, watched_service};
 use crate::watched::Fault;
-use std::alloc::{AllocError, Global};
-use std::cell::Cell;
+use std::alloc::Global;
 use std::process::Abort;
-use std::rc::Rc;
-use std::test::Fail;
-use tenant_core::TenantStore;
 use tenant_service::{MemoryStore, Service};
 
 /// Requests of two tenants, one of which is dropped and created again.
@@ -32,28 +29,44 @@ const ASKED: &[Asked] = &[
     ("GET", "/t/b/maps/1", ""),
 ];
 
-/// How many of these requests a service answers 503. The others have the replies that a service
-/// gives to them alone.
-fn count_unanswered<T: TenantStore>(
+/// Whether a service answers a request otherwise than by 503. It then has the reply that a service
+/// gives to such requests alone.
+fn is_answered<const BYTES: u64>(
     rt: &impl Abort,
-    service: &mut Service<T>,
+    service: &mut Counted<BYTES>,
+    alone: &mut Service<MemoryStore>,
+    asked: &Asked,
+) -> bool {
+    let reply = ask(service, asked);
+    if reply.status == 503 {
+        return false;
+    }
+    let expected = ask(alone, asked);
+    assert_count(
+        rt,
+        asked,
+        u64::from(reply.status),
+        u64::from(expected.status),
+    );
+    assert_that(
+        rt,
+        reply.body.as_str() == expected.body.as_str(),
+        asked.1,
+        0,
+    );
+    true
+}
+
+/// How many of these requests a service answers 503.
+fn count_unanswered<const BYTES: u64>(
+    rt: &impl Abort,
+    service: &mut Counted<BYTES>,
     alone: &mut Service<MemoryStore>,
 ) -> usize {
     let mut count: usize = 0;
     for asked in ASKED {
-        let reply = ask(service, asked);
-        if reply.status == 503 {
+        if !is_answered(rt, service, alone, asked) {
             count = count.wrapping_add(1);
-        } else {
-            let wanted = ask(alone, asked);
-            assert_eq!(rt; reply.status, wanted.status, "{} {}", asked.0, asked.1);
-            assert_eq!(rt;
-                reply.body.as_str(),
-                wanted.body.as_str(),
-                "{} {}",
-                asked.0,
-                asked.1
-            );
         }
     }
     count
@@ -67,11 +80,11 @@ fn unanswered<const BYTES: u64>(
     over: Over,
     left: u64,
     fault: Fault,
-) -> Result<usize, AllocError> {
-    let loads = Rc::new(alloc, Cell::new(0))?;
-    let mut service = watched_service::<BYTES>(rt, alloc, over, loads, left, fault)?;
-    let mut alone = Service::in_memory(alloc)?;
-    Ok(count_unanswered(rt, &mut service, &mut alone))
+) -> usize {
+    let loads = no_loads(rt, alloc);
+    let mut service = watched_service::<BYTES>(rt, alloc, over, &loads, left, fault);
+    let mut alone = Service::in_memory(alloc).expect(rt, "no memory");
+    count_unanswered(rt, &mut service, &mut alone)
 }
 
 /// The tenant used last is kept, whatever its size; or others that fit beside it; or all are.
@@ -81,77 +94,62 @@ const SOME: u64 = 15_000;
 
 const ALL: u64 = 1_000_000;
 
-/// How many calls reach a store in memory where none meets a fault, and how many of them are loads
-/// after changes.
-const CALLS_IN_MEMORY: u64 = 27;
+/// What a store keeps, how many calls reach the store below where none meets a fault, at the least,
+/// and how many of them may fail with each request answered.
+type Case = (Over, u64, u64);
 
-const LOADS_AFTER_CHANGES: u64 = 5;
+const BOUND: Case = (Over::Bound, 16, 0);
 
-/// Asserts that a call below that fails costs one reply.
-fn assert_one_is_lost<const BYTES: u64>(rt: &impl Abort, alloc: Global) -> Result<(), AllocError> {
-    for left in 0..16 {
-        for fault in [Fault::NoMemory, Fault::Full] {
-            assert_eq!(rt;
-                unanswered::<BYTES>(rt, alloc, Over::Bound, left, fault)?,
-                1
-            );
-        }
-    }
-    Ok(())
-}
+/// Over a store in memory a change that was made is answered so, though one of the 5 loads that
+/// follow changes fails.
+const MEMORY: Case = (Over::Memory, 27, 5);
 
-#[test]
-fn a_call_that_fails_changes_no_other_reply(rt: HostRuntime) -> Result<(), Fail> {
-    let alloc = rt.alloc();
-    assert_one_is_lost::<ONE>(&rt, alloc)?;
-    assert_one_is_lost::<SOME>(&rt, alloc)?;
-    assert_one_is_lost::<ALL>(&rt, alloc)?;
-    Ok(())
-}
-
-/// Over a store in memory a change that was made is answered so, though the load after it fails.
-#[test]
-fn a_load_that_fails_after_a_change_in_memory_takes_nothing_back(
-    rt: HostRuntime,
-) -> Result<(), Fail> {
-    let alloc = rt.alloc();
-    for fault in [Fault::NoMemory, Fault::Full] {
-        let mut answered: u64 = 0;
-        for left in 0..CALLS_IN_MEMORY {
-            let count = unanswered::<ALL>(&rt, alloc, Over::Memory, left, fault)?;
-            assert!(rt; count <= 1);
-            if count == 0 {
-                answered = answered.wrapping_add(1);
-            }
-        }
-        assert_eq!(rt; answered, LOADS_AFTER_CHANGES);
-    }
-    Ok(())
-}
-
-/// Asserts that after a call below that fails for good, one of so many, each request is answered
-/// 503.
-fn assert_rest_is_lost<const BYTES: u64>(
+/// Asserts that a call that fails, but not for good, leaves at most one request unanswered.
+fn assert_one_fault<const BYTES: u64>(
     rt: &impl Abort,
     alloc: Global,
-    over: Over,
-    calls: u64,
-) -> Result<(), AllocError> {
-    let mut before = ASKED.len() + 1;
+    (over, calls, expected): Case,
+    fault: Fault,
+) {
+    let mut answered: u64 = 0;
     for left in 0..calls {
-        let count = unanswered::<BYTES>(rt, alloc, over, left, Fault::Failed)?;
-        assert!(rt; 0 < count && count <= before);
-        before = count;
+        let count = unanswered::<BYTES>(rt, alloc, over, left, fault);
+        assert_that(rt, count <= 1, "call", left);
+        if count == 0 {
+            answered = answered.wrapping_add(1);
+        }
     }
-    Ok(())
+    assert_that(rt, answered == expected, "answered", answered);
+}
+
+/// The same of either fault.
+fn assert_one<const BYTES: u64>(rt: &impl Abort, alloc: Global, case: Case) {
+    assert_one_fault::<BYTES>(rt, alloc, case, Fault::NoMemory);
+    assert_one_fault::<BYTES>(rt, alloc, case, Fault::Full);
 }
 
 #[test]
-fn a_store_that_latches_is_asked_no_more(rt: HostRuntime) -> Result<(), Fail> {
-    let alloc = rt.alloc();
-    assert_rest_is_lost::<ONE>(&rt, alloc, Over::Bound, 16)?;
-    assert_rest_is_lost::<SOME>(&rt, alloc, Over::Bound, 16)?;
-    assert_rest_is_lost::<ALL>(&rt, alloc, Over::Bound, 16)?;
-    assert_rest_is_lost::<ALL>(&rt, alloc, Over::Memory, CALLS_IN_MEMORY)?;
-    Ok(())
+fn a_call_that_fails_changes_no_other_reply(rt: HostRuntime) {
+    assert_one::<ONE>(&rt, rt.alloc(), BOUND);
+    assert_one::<SOME>(&rt, rt.alloc(), BOUND);
+    assert_one::<ALL>(&rt, rt.alloc(), BOUND);
+    assert_one::<ALL>(&rt, rt.alloc(), MEMORY);
+}
+
+/// Asserts that no request is answered after a call that fails for good.
+fn assert_rest<const BYTES: u64>(rt: &impl Abort, alloc: Global, (over, calls, _): Case) {
+    let mut before = ASKED.len() + 1;
+    for left in 0..calls {
+        let count = unanswered::<BYTES>(rt, alloc, over, left, Fault::Failed);
+        assert_that(rt, 0 < count && count <= before, "call", left);
+        before = count;
+    }
+}
+
+#[test]
+fn a_store_that_latches_is_asked_no_more(rt: HostRuntime) {
+    assert_rest::<ONE>(&rt, rt.alloc(), BOUND);
+    assert_rest::<SOME>(&rt, rt.alloc(), BOUND);
+    assert_rest::<ALL>(&rt, rt.alloc(), BOUND);
+    assert_rest::<ALL>(&rt, rt.alloc(), MEMORY);
 }

@@ -1,18 +1,40 @@
 //! Histories of a store, with what it has at hand between its requests.
 
-use crate::asking::{Asked, ask};
-use crate::placed::{Store, after, store_over};
+use crate::asking::{Asked, assert_that};
+use crate::counted::{Over, cached};
+use crush_map::ItemId;
+use crush_pool::Placement;
 use crush_select::Slot;
-use std::alloc::{AllocError, Global};
+use std::alloc::Global;
 use std::process::Abort;
-use tenant_core::{Query, TenantStore};
+use std::rc::Rc;
+use tenant_cache::CachedStore;
+use tenant_core::{Moved, Query, TenantStore};
+use tenant_messages::CallParts;
 use tenant_service::{MemoryStore, Service};
+
+pub(crate) type Store = CachedStore<MemoryStore, 1_000_000_000>;
+
+/// A store between two requests, which take it into a service and give it back.
+pub(crate) type Held = Option<Store>;
 
 /// A part of a history.
 #[derive(Clone, Copy)]
 pub(crate) enum Step {
     /// A request, which is accepted.
     Asks(Asked),
+    /// A group of a tenant's first pool lies on the first device by its rule, and is led to the
+    /// other one, or to none.
+    Places(&'static str, u64, (i32, Option<i32>)),
+    /// The same, asked for three times: the first two requests place the group, and the third finds
+    /// what the second kept.
+    Keeps(&'static str, u64, (i32, Option<i32>)),
+    /// A group of a tenant's first pool has a placement, which is remembered.
+    Remembers(&'static str, u64),
+    /// A group of a tenant's first pool has the placement that is remembered, and no second one.
+    Finds(&'static str, u64),
+    /// No placement is at hand of a group of a tenant's pool, nor for its usage.
+    PlacesNone(&'static str, u64, u64),
     /// The groups of the first pool of tenant `a` that a device can touch.
     Touches(u64, &'static [u32]),
     /// No groups are at hand that a device can touch, of a tenant's pool, nor for its usage.
@@ -25,8 +47,82 @@ pub(crate) enum Step {
     MovesNone(&'static str, u64, u64, u64),
 }
 
-/// Room for the placements of these histories.
-const ROOM: usize = 16;
+/// A new store with room for so many placements.
+pub(crate) fn new_store(rt: &impl Abort, alloc: Global, over: Over, placements: usize) -> Held {
+    Some(cached(rt, alloc, over, MemoryStore::new(alloc), placements))
+}
+
+/// Takes the store.
+pub(crate) fn taken(rt: &impl Abort, held: &mut Held) -> Store {
+    held.take().expect(rt, "no store")
+}
+
+/// Serves a request with these parts on the store, and asserts that it is accepted.
+pub(crate) fn accept_parts(
+    rt: &impl Abort,
+    alloc: Global,
+    held: &mut Held,
+    method: &str,
+    path: &str,
+    body: &str,
+) {
+    let mut service = Service::over(alloc, taken(rt, held)).expect(rt, "no memory");
+    let reply = service.request(CallParts {
+        method: method.as_bytes(),
+        path,
+        body: body.as_bytes(),
+    });
+    assert_that(rt, reply.status < 300, path, u64::from(reply.status));
+    *held = Some(service.into_store());
+}
+
+/// The same of a request that is written shortly.
+pub(crate) fn accept(rt: &impl Abort, alloc: Global, held: &mut Held, asked: &Asked) {
+    let (method, path, body) = *asked;
+    accept_parts(rt, alloc, held, method, path, body);
+}
+
+/// The placement that the store has at hand of a group of a tenant's first pool.
+pub(crate) fn placed(
+    rt: &impl Abort,
+    store: &mut Store,
+    tenant: &str,
+    group: u64,
+) -> Rc<Placement> {
+    match store.placed(tenant, &Query::Group(1, group)) {
+        Some(placed) => placed.placement,
+        None => rt.abort(),
+    }
+}
+
+/// Whether a placement is on this device by its rule, and led to the other one, or to none.
+pub(crate) fn is_on(placement: &Placement, device: i32, lead: Option<i32>) -> bool {
+    let own: Slot = Some(ItemId(device));
+    let primary: Slot = lead.map(ItemId);
+    let is_led = match primary {
+        Some(_) => placement.up.as_slice() == [primary].as_slice(),
+        None => placement.up.as_slice().is_empty(),
+    };
+    is_led && placement.raw.as_slice() == [own].as_slice() && placement.primary == primary
+}
+
+/// The placement that the store keeps of a group of a tenant's first pool.
+fn kept(rt: &impl Abort, store: &mut Store, tenant: &str, group: u64) -> Rc<Placement> {
+    let first = placed(rt, store, tenant, group);
+    let second = placed(rt, store, tenant, group);
+    let third = placed(rt, store, tenant, group);
+    let is_alike = first.up.as_slice() == third.up.as_slice();
+    assert_that(rt, is_alike && Rc::ptr_eq(&second, &third), tenant, group);
+    third
+}
+
+/// Asserts that the store has no placement of a group.
+fn assert_not_placed(rt: &impl Abort, store: &mut Store, tenant: &str, pool: u64, group: u64) {
+    let is_absent = store.placed(tenant, &Query::Group(pool, group)).is_none();
+    assert_that(rt, is_absent, tenant, group);
+    let is_absent = store.placed(tenant, &Query::Usage(pool)).is_none();
+    assert_that(rt, is_absent, tenant, pool);
+}
 
 /// Asserts which groups of a tenant's first pool a device can touch.
 pub(crate) fn assert_touched(
@@ -37,16 +133,43 @@ pub(crate) fn assert_touched(
     groups: &[u32],
 ) {
     match store.touched(tenant, &Query::Impact(1, device)) {
-        Some(touched) => assert!(rt; touched.groups.as_slice() == groups, "{tenant} {device}"),
+        Some(touched) => assert_that(rt, touched.groups.as_slice() == groups, tenant, device),
         None => rt.abort(),
     }
+}
+
+/// Asserts that the store has no groups that a device can touch.
+fn assert_not_touched(rt: &impl Abort, store: &mut Store, tenant: &str, pool: u64, device: u64) {
+    let is_absent = store
+        .touched(tenant, &Query::Impact(pool, device))
+        .is_none();
+    assert_that(rt, is_absent, tenant, device);
+    let is_absent = store.touched(tenant, &Query::Usage(pool)).is_none();
+    assert_that(rt, is_absent, tenant, pool);
 }
 
 /// Asserts how many groups move.
 fn assert_moved(rt: &impl Abort, store: &mut Store, from: u64, to: u64, count: usize) {
     match store.moved("a", &Query::Moves(1, from, to)) {
-        Some(moved) => assert_eq!(rt; moved.rows.as_slice().len(), count, "{from} {to}"),
+        Some(moved) => assert_that(rt, moved.rows.as_slice().len() == count, "to", to),
         None => rt.abort(),
+    }
+}
+
+/// Asserts that these are the moves of 8 groups, each from one up list to another.
+fn assert_rows(rt: &impl Abort, moved: &Moved, old: &[Slot], new: &[Slot]) {
+    let rows = moved.rows.as_slice();
+    assert_that(rt, rows.len() == 8, "moves of groups", 8);
+    let mut group: u64 = 0;
+    for row in rows {
+        let is_moved = row.old.as_slice() == old && row.new.as_slice() == new;
+        assert_that(
+            rt,
+            is_moved && u64::from(row.group) == group,
+            "group",
+            group,
+        );
+        group = group.wrapping_add(1);
     }
 }
 
@@ -59,118 +182,124 @@ fn assert_all_moved(
     old: &[Slot],
     new: &[Slot],
 ) {
-    let Some(moved) = store.moved("a", &Query::Moves(1, from, to)) else {
-        rt.abort()
+    match store.moved("a", &Query::Moves(1, from, to)) {
+        Some(moved) => assert_rows(rt, &moved, old, new),
+        None => rt.abort(),
+    }
+}
+
+/// Asserts that the store has no moves.
+fn assert_not_moved(
+    rt: &impl Abort,
+    store: &mut Store,
+    tenant: &str,
+    pool: u64,
+    from: u64,
+    to: u64,
+) {
+    let is_absent = store.moved(tenant, &Query::Moves(pool, from, to)).is_none();
+    assert_that(rt, is_absent, tenant, to);
+    let is_absent = store.moved(tenant, &Query::Usage(pool)).is_none();
+    assert_that(rt, is_absent, tenant, pool);
+}
+
+/// Asserts where the placement of a group lies.
+fn assert_placed(
+    rt: &impl Abort,
+    placement: &Placement,
+    (device, lead): (i32, Option<i32>),
+    tenant: &str,
+    group: u64,
+) {
+    assert_that(rt, is_on(placement, device, lead), tenant, group);
+}
+
+/// Asserts that the store has the placement that is remembered.
+fn assert_found(
+    rt: &impl Abort,
+    store: &mut Store,
+    before: &Option<Rc<Placement>>,
+    tenant: &str,
+    group: u64,
+) {
+    let found = placed(rt, store, tenant, group);
+    let is_same = match before {
+        Some(before) => Rc::ptr_eq(before, &found),
+        None => false,
     };
-    assert_eq!(rt; moved.rows.as_slice().len(), 8, "{from} {to}");
-    for (group, row) in moved.rows.as_slice().iter().enumerate() {
-        assert_eq!(rt; row.group as usize, group);
-        assert!(rt;
-            row.old.as_slice() == old && row.new.as_slice() == new,
-            "{from} {to}: {group}"
-        );
-    }
+    assert_that(rt, is_same, tenant, group);
 }
 
-/// The store after a step, of which it asserts what the step says.
-fn after_step(
+/// Asserts what a step says of what the store has at hand.
+fn assert_step(
     rt: &impl Abort,
-    alloc: Global,
-    store: Store,
+    store: &mut Store,
+    before: &mut Option<Rc<Placement>>,
     step: &Step,
-) -> Result<Store, AllocError> {
-    let mut store = store;
+) {
     match step {
-        Step::Asks((method, path, body)) => return after(rt, alloc, store, method, path, body),
-        Step::Touches(device, groups) => assert_touched(rt, &mut store, "a", *device, groups),
+        Step::Asks(_) => rt.abort(),
+        Step::Places(tenant, group, place) => {
+            assert_placed(
+                rt,
+                &placed(rt, store, tenant, *group),
+                *place,
+                tenant,
+                *group,
+            )
+        }
+        Step::Keeps(tenant, group, place) => {
+            assert_placed(rt, &kept(rt, store, tenant, *group), *place, tenant, *group)
+        }
+        Step::Remembers(tenant, group) => *before = Some(placed(rt, store, tenant, *group)),
+        Step::Finds(tenant, group) => assert_found(rt, store, before, tenant, *group),
+        Step::PlacesNone(tenant, pool, group) => {
+            assert_not_placed(rt, store, tenant, *pool, *group)
+        }
+        Step::Touches(device, groups) => assert_touched(rt, store, "a", *device, groups),
         Step::TouchesNone(tenant, pool, device) => {
-            assert!(rt;
-                store
-                    .touched(tenant, &Query::Impact(*pool, *device))
-                    .is_none()
-            );
-            assert!(rt; store.touched(tenant, &Query::Usage(*pool)).is_none());
+            assert_not_touched(rt, store, tenant, *pool, *device)
         }
-        Step::Moves(from, to, count) => assert_moved(rt, &mut store, *from, *to, *count),
-        Step::MovesAll(from, to, old, new) => assert_all_moved(
-            rt, &mut store, *from, *to, old, new,
-        ),
+        Step::Moves(from, to, count) => assert_moved(rt, store, *from, *to, *count),
+        Step::MovesAll(from, to, old, new) => assert_all_moved(rt, store, *from, *to, old, new),
         Step::MovesNone(tenant, pool, from, to) => {
-            assert!(rt;
-                store
-                    .moved(tenant, &Query::Moves(*pool, *from, *to))
-                    .is_none()
-            );
-            assert!(rt; store.moved(tenant, &Query::Usage(*pool)).is_none());
+            assert_not_moved(rt, store, tenant, *pool, *from, *to)
         }
     }
-    Ok(store)
 }
 
-/// Asserts what each step says, of a store that keeps what tenants have and of one that shares it.
-pub(crate) fn assert_history(
+/// Does what a step says, or asserts it.
+fn follow(
     rt: &impl Abort,
     alloc: Global,
-    steps: &[Step],
-) -> Result<(), AllocError> {
-    for shares in [false, true] {
-        let mut store = store_over(rt, alloc, shares, ROOM)?;
-        for step in steps {
-            store = after_step(rt, alloc, store, step)?;
-        }
-    }
-    Ok(())
-}
-
-/// Asserts that a service over such a store answers requests as one over a store that keeps
-/// nothing: each change, and after each all that is asked, so many times.
-pub(crate) fn assert_same(
-    rt: &impl Abort,
-    alloc: Global,
-    changes: &[Asked],
-    asked: &[Asked],
-    times: u32,
-) -> Result<(), AllocError> {
-    for shares in [false, true] {
-        let mut ready = Service::over(alloc, store_over(rt, alloc, shares, ROOM)?)?;
-        let mut plain = Service::over(alloc, MemoryStore::new(alloc))?;
-        assert_same_replies(rt, &mut ready, &mut plain, changes, asked, times);
-    }
-    Ok(())
-}
-
-/// Asserts that two services answer alike.
-fn assert_same_replies(
-    rt: &impl Abort,
-    ready: &mut Service<Store>,
-    plain: &mut Service<MemoryStore>,
-    changes: &[Asked],
-    asked: &[Asked],
-    times: u32,
+    held: &mut Held,
+    before: &mut Option<Rc<Placement>>,
+    step: &Step,
 ) {
-    for change in changes {
-        assert_same_reply(rt, ready, plain, change);
-        for _ in 0..times {
-            for asked in asked {
-                assert_same_reply(rt, ready, plain, asked);
-            }
-        }
+    if let Step::Asks(asked) = step {
+        accept(rt, alloc, held, asked);
+    } else {
+        let Some(store) = held else {
+            return rt.abort();
+        };
+        assert_step(rt, store, before, step);
     }
 }
 
-/// Asserts that two services answer a request alike.
-fn assert_same_reply(
-    rt: &impl Abort,
-    ready: &mut Service<Store>,
-    plain: &mut Service<MemoryStore>,
-    asked: &Asked,
-) {
-    let (one, other) = (ask(ready, asked), ask(plain, asked));
-    assert_eq!(rt; one.status, other.status, "{} {}", asked.0, asked.1);
-    assert!(rt;
-        one.body.as_str() == other.body.as_str(),
-        "{} {}",
-        asked.0,
-        asked.1
-    );
+/// Follows the steps, over a new store.
+fn follow_all(rt: &impl Abort, alloc: Global, over: Over, steps: &[Step]) {
+    let mut held = new_store(rt, alloc, over, 1_024);
+    let mut before = None;
+    for step in steps {
+        follow(rt, alloc, &mut held, &mut before, step);
+    }
+}
+
+/// Asserts what each history says, of a store that keeps what tenants have and of one that shares
+/// it with the store below.
+pub(crate) fn assert_histories(rt: &impl Abort, alloc: Global, histories: &[&[Step]]) {
+    for steps in histories {
+        follow_all(rt, alloc, Over::Bound, steps);
+        follow_all(rt, alloc, Over::Memory, steps);
+    }
 }

@@ -7,11 +7,15 @@ mod asking;
 #[cfg(test)]
 mod bounds;
 #[cfg(test)]
+mod counted;
+#[cfg(test)]
 mod faults;
 #[cfg(test)]
 mod history;
 #[cfg(test)]
 mod loads;
+#[cfg(test)]
+mod many;
 #[cfg(test)]
 mod moved;
 #[cfg(test)]

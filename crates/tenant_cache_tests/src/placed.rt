@@ -1,19 +1,12 @@
 //! Placements that a store has at hand.
 
-use crate::asking::{Asked, DOWN, IMPORT, POOL, room_for};
-use crush_map::ItemId;
-use crush_pool::Placement;
-use crush_select::Slot;
-use std::alloc::{AllocError, Global};
+use crate::asking::{Asked, DOWN, IMPORT, IMPORT_OF_9, POOL, assert_that};
+use crate::counted::Over;
+use crate::history::{Held, Step, accept, assert_histories, is_on, new_store, placed};
+use std::alloc::Global;
 use std::process::Abort;
 use std::rc::Rc;
-use std::test::Fail;
-use tenant_cache::CachedStore;
 use tenant_core::{Query, TenantStore};
-use tenant_messages::CallParts;
-use tenant_service::{MemoryStore, Service};
-
-pub(crate) type Store = CachedStore<MemoryStore, 1_000_000_000>;
 
 /// The body of an import of a map with two devices, of which the first alone is in its bucket.
 pub(crate) const IMPORT_OF_TWO: &str =
@@ -26,273 +19,132 @@ pub(crate) const EXCEPTED: &str =
 /// The body that leaves the pool no exception.
 pub(crate) const NOT_EXCEPTED: &str = "{\"request\":\"e2\",\"id\":1,\"exceptions\":[]}";
 
-/// A store that keeps all tenants ready, and so many placements.
-pub(crate) fn store_for(
-    rt: &impl Abort,
-    alloc: Global,
-    placements: usize,
-) -> Result<Store, AllocError> {
-    CachedStore::over(alloc, MemoryStore::new(alloc), room_for(rt, placements)).map_err(|(
-        error,
-        _below,
-    )| error)
-}
-
-/// A store with room for so many placements, which keeps what tenants have, or shares it with the
-/// one below.
-pub(crate) fn store_over(
-    rt: &impl Abort,
-    alloc: Global,
-    shares: bool,
-    placements: usize,
-) -> Result<Store, AllocError> {
-    if shares {
-        CachedStore::over_memory(alloc, MemoryStore::new(alloc), room_for(rt, placements))
-    } else {
-        store_for(rt, alloc, placements)
-    }
-}
-
-/// The store after an accepted request on it.
-pub(crate) fn after(
-    rt: &impl Abort,
-    alloc: Global,
-    store: Store,
-    method: &str,
-    path: &str,
-    body: &str,
-) -> Result<Store, AllocError> {
-    let mut service = Service::over(alloc, store)?;
-    let reply = service.request(CallParts {
-        method: method.as_bytes(),
-        path,
-        body: body.as_bytes(),
-    });
-    assert!(rt; reply.status < 300, "{method} {path}");
-    Ok(service.into_store())
-}
-
-/// The body of an import of a map with this device alone.
-fn import_of(alloc: Global, device: u32) -> Result<String, AllocError> {
-    format!(in alloc;
-        "{{\"request\":\"m1\",\"text\":\"tunable choose_local_tries 0\\ntunable choose_local_fallback_tries 0\\ntunable choose_total_tries 50\\ntunable chooseleaf_descend_once 1\\ntunable chooseleaf_vary_r 1\\ntunable chooseleaf_stable 1\\ndevice {device} osd.{device}\\ntype 0 osd\\ntype 1 host\\ntype 10 root\\nroot default {{\\n id -1\\n alg uniform\\n hash 0\\n item osd.{device} weight 1.0\\n}}\\nrule all {{\\n id 0\\n type replicated\\n step take default\\n step choose firstn 0 type osd\\n step emit\\n}}\\n\"}}"
-    )
-}
-
-/// The paths of a tenant, of its maps and of its pools, and the body of its import.
-#[derive(Drop)]
-struct Made {
-    tenant: String,
-    maps: String,
-    pools: String,
-    import: String,
-}
-
-/// These of a tenant with a map that has this device alone.
-fn made_of(alloc: Global, tenant: &str, device: u32) -> Result<Made, AllocError> {
-    Ok(Made {
-        tenant: format!(in alloc; "/t/{tenant}")?,
-        maps: format!(in alloc; "/t/{tenant}/maps")?,
-        pools: format!(in alloc; "/t/{tenant}/pools")?,
-        import: import_of(alloc, device)?,
-    })
-}
-
-/// The store with a tenant that has a pool of 8 groups on a map with this device alone.
-pub(crate) fn with_tenant(
-    rt: &impl Abort,
-    alloc: Global,
-    store: Store,
-    tenant: &str,
-    device: u32,
-) -> Result<Store, AllocError> {
-    let made = made_of(alloc, tenant, device)?;
-    let (maps, import) = (made.maps.as_str(), made.import.as_str());
-    let store = after(rt, alloc, store, "PUT", made.tenant.as_str(), "")?;
-    let store = after(rt, alloc, store, "POST", maps, import)?;
-    after(rt, alloc, store, "POST", made.pools.as_str(), POOL)
-}
-
-/// The placement that the store has at hand of a group of a tenant's pool.
-fn placed(rt: &impl Abort, store: &mut Store, tenant: &str, group: u64) -> Rc<Placement> {
-    match store.placed(tenant, &Query::Group(1, group)) {
-        Some(placed) => placed.placement,
-        None => rt.abort(),
-    }
-}
-
-/// Asserts that a placement is on this device, which is up or not.
-fn assert_on(rt: &impl Abort, placement: &Placement, device: i32, is_up: bool) {
-    let slot: Slot = Some(ItemId(device));
-    assert_eq!(rt; placement.raw.as_slice(), [slot].as_slice());
-    assert_eq!(rt; placement.primary, if is_up { slot } else { None });
-}
-
-/// With room for one placement each of two groups has to be placed again. The first two requests
-/// for a group place it, since the map's text is short.
-#[test]
-fn a_group_has_one_placement_whatever_is_kept(rt: HostRuntime) -> Result<(), Fail> {
-    let alloc = rt.alloc();
-    for (room, is_kept) in [(1, false), (1_024, true)] {
-        let store = store_for(&rt, alloc, room)?;
-        let mut store = with_tenant(&rt, alloc, store, "a", 0)?;
-        placed(&rt, &mut store, "a", 0);
-        placed(&rt, &mut store, "a", 7);
-        let first = placed(&rt, &mut store, "a", 0);
-        let other = placed(&rt, &mut store, "a", 7);
-        let again = placed(&rt, &mut store, "a", 0);
-        let last = placed(&rt, &mut store, "a", 0);
-        assert!(rt; first.seed == again.seed && first.seed != other.seed);
-        assert_on(&rt, &first, 0, true);
-        assert_on(&rt, &other, 0, true);
-        assert_on(&rt, &again, 0, true);
-        assert_eq!(rt; Rc::ptr_eq(&first, &again), is_kept);
-        assert!(rt; Rc::ptr_eq(&again, &last));
-    }
-    Ok(())
-}
-
-/// Two groups by turns: with room for one placement none is found, and once a trial of 1,024
-/// requests, and 8 for the room, has shown that, none is looked up. With room for both they are.
-#[test]
-fn where_nothing_is_found_nothing_is_looked_up(rt: HostRuntime) -> Result<(), Fail> {
-    let alloc = rt.alloc();
-    for (room, is_looked_up) in [(1, false), (1_024, true)] {
-        let store = store_for(&rt, alloc, room)?;
-        let mut store = with_tenant(&rt, alloc, store, "a", 0)?;
-        for _ in 0..516 {
-            placed(&rt, &mut store, "a", 0);
-            placed(&rt, &mut store, "a", 7);
-        }
-        let next = store.placed("a", &Query::Group(1, 0));
-        assert_eq!(rt; next.is_some(), is_looked_up);
-    }
-    Ok(())
-}
-
-#[test]
-fn after_a_change_of_states_groups_are_placed_anew(rt: HostRuntime) -> Result<(), Fail> {
-    let alloc = rt.alloc();
-    let store = store_for(&rt, alloc, 1_024)?;
-    let mut store = with_tenant(&rt, alloc, store, "a", 0)?;
-    assert_on(&rt, &placed(&rt, &mut store, "a", 3), 0, true);
-    let mut store = after(&rt, alloc, store, "POST", "/t/a/devices", DOWN)?;
-    assert_on(&rt, &placed(&rt, &mut store, "a", 3), 0, false);
-    Ok(())
-}
-
-/// The placement that the store has at hand of a group of a tenant's pool, which is asked for three
-/// times: the first two requests place the group, and the third finds what the second kept.
-fn kept(rt: &impl Abort, store: &mut Store, tenant: &str, group: u64) -> Rc<Placement> {
-    let first = placed(rt, store, tenant, group);
-    let second = placed(rt, store, tenant, group);
-    let third = placed(rt, store, tenant, group);
-    assert_eq!(rt; first.up.as_slice(), third.up.as_slice());
-    assert!(rt; Rc::ptr_eq(&second, &third));
-    third
-}
-
-/// Asserts that a placement has this device in place of device 0, which the rule answers.
-fn assert_led_to(rt: &impl Abort, placement: &Placement, device: i32) {
-    let own: Slot = Some(ItemId(0));
-    let slot: Slot = Some(ItemId(device));
-    assert_eq!(rt; placement.raw.as_slice(), [own].as_slice());
-    assert_eq!(rt; placement.up.as_slice(), [slot].as_slice());
-    assert_eq!(rt; placement.primary, slot);
-}
-
-/// Two tenants that have the same map and the same pool.
-const TWO_TENANTS: [Asked; 6] = [
+/// A tenant that has a pool of 8 groups on a map with one device.
+const TENANT: [Asked; 3] = [
     ("PUT", "/t/a", ""),
-    ("POST", "/t/a/maps", IMPORT_OF_TWO),
+    ("POST", "/t/a/maps", IMPORT),
     ("POST", "/t/a/pools", POOL),
-    ("PUT", "/t/b", ""),
-    ("POST", "/t/b/maps", IMPORT_OF_TWO),
-    ("POST", "/t/b/pools", POOL),
 ];
 
-/// A store with these, which keeps what tenants have or shares it with the one below.
-fn store_of_two(rt: &impl Abort, alloc: Global, shares: bool) -> Result<Store, AllocError> {
-    let mut store = store_over(rt, alloc, shares, 1_024)?;
-    for (method, path, body) in &TWO_TENANTS {
-        store = after(rt, alloc, store, method, path, body)?;
+/// A store with this tenant, and with room for so many placements.
+fn with_tenant(rt: &impl Abort, alloc: Global, placements: usize) -> Held {
+    let mut held = new_store(rt, alloc, Over::Bound, placements);
+    for asked in &TENANT {
+        accept(rt, alloc, &mut held, asked);
     }
-    Ok(store)
+    held
 }
 
-/// Other groups, and the same pool of another tenant, keep their placements; with no exception left
-/// the placement that was kept before is found again.
-#[test]
-fn after_a_change_of_exceptions_groups_are_placed_anew(rt: HostRuntime) -> Result<(), Fail> {
-    let alloc = rt.alloc();
-    for shares in [false, true] {
-        let mut store = store_of_two(&rt, alloc, shares)?;
-        let before = kept(&rt, &mut store, "a", 3);
-        assert_led_to(&rt, &before, 0);
-        let mut store = after(&rt, alloc, store, "POST", "/t/a/pools/exceptions", EXCEPTED)?;
-        assert_led_to(&rt, &kept(&rt, &mut store, "a", 3), 1);
-        assert_led_to(&rt, &kept(&rt, &mut store, "a", 4), 0);
-        assert!(rt; Rc::ptr_eq(&before, &placed(&rt, &mut store, "b", 3)));
-        let mut store = after(
-            &rt,
-            alloc,
-            store,
-            "POST",
-            "/t/a/pools/exceptions",
-            NOT_EXCEPTED,
-        )?;
-        let again = kept(&rt, &mut store, "a", 3);
-        assert_led_to(&rt, &again, 0);
-        assert!(rt; Rc::ptr_eq(&before, &again));
-    }
-    Ok(())
+/// Asserts that a group has one placement, and whether it is kept while another is placed. The
+/// first two requests for a group place it, since the map's text is short.
+fn assert_one(rt: &impl Abort, held: &mut Held, is_kept: bool) {
+    let Some(store) = held else {
+        return rt.abort();
+    };
+    let _placed = placed(rt, store, "a", 0);
+    let _placed = placed(rt, store, "a", 7);
+    let first = placed(rt, store, "a", 0);
+    let other = placed(rt, store, "a", 7);
+    let again = placed(rt, store, "a", 0);
+    let last = placed(rt, store, "a", 0);
+    let is_one = first.seed == again.seed && first.seed != other.seed;
+    assert_that(rt, is_one && Rc::ptr_eq(&again, &last), "a", 0);
+    assert_that(rt, Rc::ptr_eq(&first, &again) == is_kept, "is kept", 0);
+    assert_that(rt, is_on(&first, 0, Some(0)), "first", 0);
+    assert_that(rt, is_on(&other, 0, Some(0)), "other", 7);
+    assert_that(rt, is_on(&again, 0, Some(0)), "again", 0);
 }
 
+/// With room for one placement each of two groups has to be placed again.
 #[test]
-fn a_tenant_that_is_made_again_has_placements_of_its_own(rt: HostRuntime) -> Result<(), Fail> {
-    let alloc = rt.alloc();
-    let store = store_for(&rt, alloc, 1_024)?;
-    let mut store = with_tenant(&rt, alloc, store, "a", 0)?;
-    assert_on(&rt, &placed(&rt, &mut store, "a", 3), 0, true);
-    let mut store = after(&rt, alloc, store, "DELETE", "/t/a", "")?;
-    assert!(rt; store.placed("a", &Query::Group(1, 3)).is_none());
-    let mut store = with_tenant(&rt, alloc, store, "a", 9)?;
-    assert_on(&rt, &placed(&rt, &mut store, "a", 3), 9, true);
-    Ok(())
+fn a_group_has_one_placement_whatever_is_kept(rt: HostRuntime) {
+    for (room, is_kept) in &[(1, false), (1_024, true)] {
+        let mut held = with_tenant(&rt, rt.alloc(), *room);
+        assert_one(&rt, &mut held, *is_kept);
+    }
 }
 
-/// The 257th content empties the cache, so that numbers that are kept beside tenants name nothing.
-#[test]
-fn each_of_300_tenants_has_placements_of_its_own(rt: HostRuntime) -> Result<(), Fail> {
-    let alloc = rt.alloc();
-    let mut store = store_for(&rt, alloc, 1_024)?;
-    for device in 0..300 {
-        let tenant = format!(in alloc; "t{device}")?;
-        store = with_tenant(&rt, alloc, store, tenant.as_str(), device)?;
+/// Asserts whether a group is looked up after 516 requests for each of two groups by turns.
+fn assert_looked_up(rt: &impl Abort, held: &mut Held, is_looked_up: bool) {
+    let Some(store) = held else {
+        return rt.abort();
+    };
+    for _ in 0..516 {
+        let _placed = placed(rt, store, "a", 0);
+        let _placed = placed(rt, store, "a", 7);
     }
-    for _ in 0..2 {
-        for device in 0..300 {
-            let tenant = format!(in alloc; "t{device}")?;
-            assert_on(
-                &rt,
-                &placed(&rt, &mut store, tenant.as_str(), 0),
-                device,
-                true,
-            );
-        }
-    }
-    Ok(())
+    let is_found = store.placed("a", &Query::Group(1, 0)).is_some();
+    assert_that(rt, is_found == is_looked_up, "a", 0);
 }
 
+/// With room for one placement none is found, and once a trial of 1,024 requests, and 8 for the
+/// room, has shown that, none is looked up. With room for both they are.
 #[test]
-fn nothing_is_at_hand_of_what_is_not_there(rt: HostRuntime) -> Result<(), Fail> {
-    let alloc = rt.alloc();
-    let store = store_for(&rt, alloc, 1_024)?;
-    let mut store = with_tenant(&rt, alloc, store, "a", 0)?;
-    assert!(rt; store.placed("a", &Query::Group(1, 7)).is_some());
-    assert!(rt; store.placed("a", &Query::Group(1, 8)).is_none());
-    assert!(rt; store.placed("a", &Query::Group(2, 7)).is_none());
-    assert!(rt; store.placed("b", &Query::Group(1, 7)).is_none());
-    assert!(rt; store.placed("a", &Query::Usage(1)).is_none());
-    Ok(())
+fn where_nothing_is_found_nothing_is_looked_up(rt: HostRuntime) {
+    for (room, is_looked_up) in &[(1, false), (1_024, true)] {
+        let mut held = with_tenant(&rt, rt.alloc(), *room);
+        assert_looked_up(&rt, &mut held, *is_looked_up);
+    }
+}
+
+/// After a change of states groups are placed anew.
+const STATES: &[Step] = &[
+    Step::Asks(("PUT", "/t/a", "")),
+    Step::Asks(("POST", "/t/a/maps", IMPORT)),
+    Step::Asks(("POST", "/t/a/pools", POOL)),
+    Step::Places("a", 3, (0, Some(0))),
+    Step::Asks(("POST", "/t/a/devices", DOWN)),
+    Step::Places("a", 3, (0, None)),
+];
+
+/// After a change of exceptions groups are placed anew. Other groups, and the same pool of another
+/// tenant, keep their placements; with no exception left the placement that was kept before is
+/// found again.
+const EXCEPTIONS: &[Step] = &[
+    Step::Asks(("PUT", "/t/a", "")),
+    Step::Asks(("POST", "/t/a/maps", IMPORT_OF_TWO)),
+    Step::Asks(("POST", "/t/a/pools", POOL)),
+    Step::Asks(("PUT", "/t/b", "")),
+    Step::Asks(("POST", "/t/b/maps", IMPORT_OF_TWO)),
+    Step::Asks(("POST", "/t/b/pools", POOL)),
+    Step::Keeps("a", 3, (0, Some(0))),
+    Step::Remembers("a", 3),
+    Step::Asks(("POST", "/t/a/pools/exceptions", EXCEPTED)),
+    Step::Keeps("a", 3, (0, Some(1))),
+    Step::Keeps("a", 4, (0, Some(0))),
+    Step::Finds("b", 3),
+    Step::Asks(("POST", "/t/a/pools/exceptions", NOT_EXCEPTED)),
+    Step::Keeps("a", 3, (0, Some(0))),
+    Step::Finds("a", 3),
+];
+
+/// A tenant that is made again has placements of its own.
+const MADE_AGAIN: &[Step] = &[
+    Step::Asks(("PUT", "/t/a", "")),
+    Step::Asks(("POST", "/t/a/maps", IMPORT)),
+    Step::Asks(("POST", "/t/a/pools", POOL)),
+    Step::Places("a", 3, (0, Some(0))),
+    Step::Asks(("DELETE", "/t/a", "")),
+    Step::PlacesNone("a", 1, 3),
+    Step::Asks(("PUT", "/t/a", "")),
+    Step::Asks(("POST", "/t/a/maps", IMPORT_OF_9)),
+    Step::Asks(("POST", "/t/a/pools", POOL)),
+    Step::Places("a", 3, (9, Some(9))),
+];
+
+/// Nothing is at hand of what isn't there.
+const NOT_THERE: &[Step] = &[
+    Step::Asks(("PUT", "/t/a", "")),
+    Step::Asks(("POST", "/t/a/maps", IMPORT)),
+    Step::Asks(("POST", "/t/a/pools", POOL)),
+    Step::Places("a", 7, (0, Some(0))),
+    Step::PlacesNone("a", 1, 8),
+    Step::PlacesNone("a", 2, 7),
+    Step::PlacesNone("b", 1, 7),
+];
+
+#[test]
+fn each_change_is_seen_in_the_placements_at_hand(rt: HostRuntime) {
+    let histories = [STATES, EXCEPTIONS, MADE_AGAIN, NOT_THERE];
+    assert_histories(&rt, rt.alloc(), &histories);
 }

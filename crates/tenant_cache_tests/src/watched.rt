@@ -12,7 +12,7 @@ use tenant_core::{StoreFault, TenantStore};
 use tenant_state::{Change, Inventory, Receipt};
 
 /// A fault that each call of a store may meet.
-#[derive(Clone, Copy, Debug, PartialEq, Eq)]
+#[derive(Clone, Copy)]
 pub(crate) enum Fault {
     NoMemory,
     Full,
