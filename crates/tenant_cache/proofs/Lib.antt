@@ -2,8 +2,6 @@ pub mod ContentFacts
 pub mod Following
 pub mod LengthFacts
 pub mod Loading
-pub mod MoveFacts
 pub mod NameFacts
 pub mod NumberFacts
 pub mod SizeFacts
-pub mod TouchFacts

@@ -1,19 +1,27 @@
 -- Numbers that are kept beside what tenants have, and placements by them.
-use Rattle.std.proofs.Common.{◌≡◌, ◌≢◌, ◌↔◌, ◌∙◌, ◌⊎◌, ◌<◌, ◌==◌, inl, inr, ℕ, List, [], ◌∷◌, find, Bool, true, false, nat_lt, if◌then◌else◌, ok_or, option_map, Contains, Option, Some, None, Ok, refl, sym, ap, subst, eqb-true, arith}
-use Rattle.std.proofs.lemmas.Bool.Decides.{nat_tests}
+use Rattle.std.proofs.Common.{◌≡◌, ◌≢◌, ◌↔◌, ◌∙◌, ◌⊎◌, ◌==◌, inl, inr, ℕ, List, [], ◌∷◌, find, Bool, true, false, nat_lt, if◌then◌else◌, ok_or, option_map, Contains, Option, Some, None, IfSome, Ok, refl, sym, ap, subst, eqb-true}
+use Rattle.std.specs.declared.alloc.Global.{Global}
+use Rattle.std.specs.declared.rc.Rc.{Rc}
 use Rattle.lru.proofs.Splits.{Contains-nil}
 use Rattle.crush_map.specs.Map.{Map}
 use Rattle.crush_map.specs.declared.draft.Rule.{Rule}
 use Rattle.crush_pool.specs.Placements.{placement, rule_numbered}
 use Rattle.crush_pool.specs.Placers.{PoolOnMap}
 use Rattle.crush_pool.specs.declared.placing.Placement.{Placement}
+use Rattle.crush_pool.specs.declared.pool.PoolParts.{PoolParts}
+use Rattle.crush_report.specs.Reports as reports
 use Rattle.crush_cache.specs.Caches.{KeepsNumbers, Numbered}
 use Rattle.crush_content.specs.Contents.{content_of}
 use Rattle.tenant_messages.specs.declared.reply.Problem.TheVariants.{NoRule}
-use Rattle.tenant_resources.specs.Groups.{on_map}
-use Rattle.tenant_state.specs.State.{Inventory, TenantPool, TenantState, if_there, newest, on_newest, pool, version}
-use Rattle.tenant_core.specs.Queries.{AsksFor, AsksOf, IsPlacedFor}
+use Rattle.tenant_reports.specs.Impact as impact
+use Rattle.tenant_resources.specs.Groups as groups
+use Rattle.tenant_state.specs.State.{Inventory, TenantPool, TenantState, if_there, newest, on_newest, on_version, pool, version}
+use Rattle.tenant_core.specs.Cached.{Asks, IsCachedFor}
 use Rattle.tenant_core.specs.States.{HasInventory, Same, States}
+use Rattle.tenant_core.specs.declared.cached.Asked.{Asked}
+use Rattle.tenant_core.specs.declared.cached.Asked.TheVariants as asked
+use Rattle.tenant_core.specs.declared.cached.Cached.{Cached}
+use Rattle.tenant_core.specs.declared.cached.Cached.TheVariants.{Placed, Touched}
 use Rattle.tenant_core.specs.declared.queries.Query.{Query}
 use Rattle.tenant_core.specs.declared.queries.Query.TheVariants.{Exceptions, Group, Impact, Moves, Object, Pick, Test, Usage, Version}
 use Rattle.tenant_cache.specs.Kept.{Kept, Ready, Updates, kept_at}
@@ -33,27 +41,16 @@ own : (id : ℕ) (i : Inventory) (p : TenantPool) → pool id i ≡ Some p → p
 own id i p h = subst (λ n. pool n i ≡ Some p) (sym (eqb-true p.parts.id id (found-passes (λ q. q.parts.id == id) i.pools p h))) h
 
 -- it is the one with its id
-pub asked_pool : (query : Query) (i : Inventory) (p : TenantPool) (group : ℕ) → AsksFor query i p group → pool p.parts.id i ≡ Some p
-asked_pool (Group id g) i p group asks = own id i p asks.0
-asked_pool (Object id name) i p group asks = own id i p asks.0
-asked_pool (Version v) i p group asks = absurd asks
-asked_pool (Exceptions q) i p group asks = absurd asks
-asked_pool (Usage q) i p group asks = absurd asks
-asked_pool (Moves q v w) i p group asks = absurd asks
-asked_pool (Impact q d) i p group asks = absurd asks
-asked_pool (Pick pick) i p group asks = absurd asks
-asked_pool (Test test) i p group asks = absurd asks
-
-pub asked_of : (query : Query) (i : Inventory) (p : TenantPool) (device : ℕ) → AsksOf query i p device → pool p.parts.id i ≡ Some p
-asked_of (Impact id d) i p device asks = own id i p asks.0
-asked_of (Group id g) i p device asks = absurd asks
-asked_of (Object id name) i p device asks = absurd asks
-asked_of (Version v) i p device asks = absurd asks
-asked_of (Exceptions q) i p device asks = absurd asks
-asked_of (Usage q) i p device asks = absurd asks
-asked_of (Moves q v w) i p device asks = absurd asks
-asked_of (Pick pick) i p device asks = absurd asks
-asked_of (Test test) i p device asks = absurd asks
+pub asked_pool : (query : Query) (i : Inventory) (p : TenantPool) (it : Asked) → Asks query i p it → pool p.parts.id i ≡ Some p
+asked_pool (Group id g) i p it asks = own id i p asks.0
+asked_pool (Object id name) i p it asks = own id i p asks.0
+asked_pool (Impact id d) i p it asks = own id i p asks.0
+asked_pool (Moves id v w) i p it asks = own id i p asks.0
+asked_pool (Version v) i p it asks = absurd asks
+asked_pool (Exceptions q) i p it asks = absurd asks
+asked_pool (Usage q) i p it asks = absurd asks
+asked_pool (Pick pick) i p it asks = absurd asks
+asked_pool (Test test) i p it asks = absurd asks
 
 -- ---- a pool on the newest version
 
@@ -65,16 +62,37 @@ ruled m i q p (Some r) h = let same : Ok p ≡ Ok (record { map = m; states = i.
 pub on_newest_is : (i : Inventory) (q : TenantPool) (m : Map) (p : PoolOnMap) → version (newest i) i ≡ Some m → on_newest i q ≡ Ok p → p ≡ record { map = m; states = i.devices; pool = q.parts; pairs = q.pairs }
 on_newest_is i q m p there h = ruled m i q p (rule_numbered m q.parts.rule) (sym (ap (if_there i q) there) ∙ h)
 
+pool_of : (i : Inventory) (q : TenantPool) (p : PoolOnMap) (o : Option Map) → if_there i q o ≡ Ok p → p.pool ≡ q.parts
+pool_of i q p None h = cc
+pool_of i q p (Some m) h = ap (λ (r : PoolOnMap). r.pool) (ruled m i q p (rule_numbered m q.parts.rule) h)
+
 -- the placement of a group by its rule is the one that the query asks for
-pub is_placed : (query : Query) (i : Inventory) (q : TenantPool) (p : PoolOnMap) (group : ℕ) (answer : Placement) → on_newest i q ≡ Ok p → placement p.map p.states p.pool p.pairs group ≡ Some answer
-    → group < q.parts.pg_num → AsksFor query i q group → IsPlacedFor query i group answer
+pub is_placed : (query : Query) (i : Inventory) (q : TenantPool) (p : PoolOnMap) (group : ℕ) (answer : Rc Placement Global) → on_newest i q ≡ Ok p
+    → placement p.map p.states p.pool p.pairs group ≡ Some answer.value → true ≡ nat_lt group p.pool.pg_num → Asks query i q (asked.Group group) → IsCachedFor query i (Placed group answer)
 is_placed query i q p group answer on by_rule below asks = (
   q,
   asks,
-  let inside : nat_lt group q.parts.pg_num ≡ true = grind (arith, nat_tests, below) in rw inside (ap (on_map group) on ∙ ap (λ o. ok_or o NoRule) by_rule),
+  let inside : nat_lt group q.parts.pg_num ≡ true = sym (below ∙ ap (λ (r : PoolParts). nat_lt group r.pg_num) (pool_of i q p (version (newest i) i) on)) in
+      rw inside (ap (groups.on_map group) on ∙ ap (λ o. ok_or o NoRule) by_rule),
 )
 
+-- the groups that a device can touch on the newest version are those that the query asks for
+pub is_touched : (query : Query) (i : Inventory) (q : TenantPool) (m : Map) (p : PoolOnMap) (number d : ℕ) (touched : List ℕ) → version (newest i) i ≡ Some m → on_version i q m ≡ Ok p
+    → impact.id_of p.map.devices number ≡ Some d → Some touched ≡ reports.impact p.map p.states p.pool p.pairs d → Asks query i q (asked.Device number) → IsCachedFor query i (Touched q.parts.id touched)
+is_touched query i q m p number d touched there on id of asks =
+    (q, number, asks, refl, ap (impact.on_map number) (ap (if_there i q) there ∙ on) ∙ (ap (impact.on_device p) id ∙ ap (λ o. ok_or o NoRule) (sym of)))
+
+-- what was found is what is asked, of an inventory that is the same
+pub found_for : (result : Option Cached) (i j : Inventory) (p : TenantPool) (a b : Asked) → i ≡ j → a ≡ b → IfSome result (λ r. (query : Query) → Asks query i p a → IsCachedFor query i r)
+    → IfSome result (λ r. (query : Query) → Asks query j p b → IsCachedFor query j r)
+found_for result i j p a b same is h =
+    subst (λ k. IfSome result (λ r. (query : Query) → Asks query k p b → IsCachedFor query k r)) same
+    (subst (λ c. IfSome result (λ r. (query : Query) → Asks query i p c → IsCachedFor query i r)) is h)
+
 -- ---- numbers stay known
+
+pub keeps_itself : (cache : Numbered) → KeepsNumbers cache cache
+keeps_itself cache n c h = h
 
 pub known_later : (old new : Numbered) (kept : Kept) → KeepsNumbers old new → AreKnown old kept → AreKnown new kept
 known_later old new kept keeps known name r at id n q here found p is = keeps n (content_of p) (known name r at id n q here found p is)

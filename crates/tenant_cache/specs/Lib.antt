@@ -1,5 +1,4 @@
 pub mod Bytes
 pub mod Kept
-pub mod Moving
+pub mod Last
 pub mod Ready
-pub mod Touching

@@ -3,12 +3,11 @@
 #![tactic(auto)]
 
 mod kept;
-mod moving;
+mod last;
 mod placing;
 mod ready;
 mod ready_store;
-mod touching;
-mod trial;
+mod reports;
 
 pub use kept::Kept;
 pub use ready::Ready;

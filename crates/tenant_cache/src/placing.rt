@@ -1,19 +1,19 @@
-//! Placements of groups, from a cache, for what a tenant has.
+//! What is kept for queries, for what a tenant has: placements of groups, and what reports keep.
 
 ghost use Rattle.std.specs.Prelude.{◌≡◌, ◌≤◌, ◌<◌, ◌⊎◌, ℕ, List, Contains, Some, IfSome};
 ghost use Rattle.crush_cache.specs.Caches.{KeepsNumbers};
-ghost use Rattle.tenant_core.specs.Queries.{AsksFor, IsPlacedFor};
+ghost use Rattle.tenant_core.specs.Cached.{Asks, IsCachedFor};
 ghost use Rattle.tenant_cache.specs.Kept.{kept_at};
 ghost use Rattle.tenant_cache.specs.Ready.{AreNumbersOf, HasNumber, IsWithNumber, Renumbers};
 ghost use Rattle.tenant_state.specs.State.{pool as pool_at};
 
 use crate::kept::Kept;
 use crate::ready::Ready;
-use crate::trial::Trial;
+use crate::reports::{Reports, moved, touched};
 use crush_cache::PlacementCache;
 use std::alloc::Global;
 use std::rc::Rc;
-use tenant_core::{Placed, Query};
+use tenant_core::{Asked, Cached};
 use tenant_state::{Inventory, TenantPool};
 
 /// The number that is kept beside what a tenant has for the content of a pool, while that content
@@ -68,7 +68,7 @@ fn keep_number<const BYTES: u64>(
 
 /// The number of the content of a pool of what a tenant has, on the newest version: the one that is
 /// kept beside it, or a new one, which is then kept.
-pub(crate) fn number_for<const BYTES: u64>(
+fn number_for<const BYTES: u64>(
     alloc: Global,
     cache: &mut PlacementCache,
     kept: &mut Kept<BYTES>,
@@ -91,20 +91,17 @@ pub(crate) fn number_for<const BYTES: u64>(
     Some(number)
 }
 
-/// The placement of the group of a pool that a query asks for, with what the tenant has.
-pub(crate) fn place(
+/// The placement of a group of a pool of what a tenant has. The number is that of the content.
+fn place(
     cache: &mut PlacementCache,
-    trial: &mut Trial,
     number: u64,
-    inventory: &Rc<Inventory>,
+    inventory: &Inventory,
     pool: &TenantPool,
     group: u32,
-) -> Option<Placed>
-    requires number { HasNumber cache.old inventory.now.value pool.now number }
+) -> Option<Cached>
+    requires number { HasNumber cache.old inventory.now pool.now number }
     requires live { cache.old.first ≤ number }
-    requires there { group < pool.now.parts.pg_num }
-    ensures inventory { IfSome result (λ r. r.inventory.value ≡ inventory.now.value) }
-    ensures placed { IfSome result (λ r. (query : _) → AsksFor query inventory.now.value pool.now group → IsPlacedFor query r.inventory.value r.group r.placement.value) }
+    ensures placed { IfSome result (λ r. (query : _) → Asks query inventory.now pool.now (Asked.Group group) → IsCachedFor query inventory.now r) }
     ensures same { cache.new ≡ cache.old }
 {
     let Ok(placer) = inventory.on_newest(pool) else {
@@ -113,13 +110,33 @@ pub(crate) fn place(
     let Ok(Ok(placement)) = cache.place_known(number, &placer, group) else {
         return None;
     };
-    trial.note(number, group, &placement);
-    let Ok(inventory) = inventory.clone() else {
-        return None;
-    };
-    Some(Placed {
-        inventory,
-        group,
-        placement,
-    })
+    Some(Cached::Placed(group, placement))
+}
+
+/// What a query asks of a pool of what a tenant has, from what is kept or made to be kept.
+pub(crate) fn find<const BYTES: u64>(
+    alloc: Global,
+    cache: &mut PlacementCache,
+    kept: &mut Kept<BYTES>,
+    reports: &mut Reports,
+    name: &str,
+    ready: &Ready,
+    pool: &TenantPool,
+    asked: Asked,
+) -> Option<Cached>
+    requires known { AreNumbersOf cache.old ready.now }
+    requires there { pool_at pool.now.parts.id ready.now.inventory ≡ Some pool.now }
+    ensures found { IfSome result (λ r. (query : _) → Asks query ready.now.inventory pool.now asked → IsCachedFor query ready.now.inventory r) }
+    ensures keeps { KeepsNumbers cache.old cache.new }
+    ensures beside { Renumbers name.now ready.now cache.new kept.old kept.new }
+{
+    let inventory: &Inventory = ready.inventory();
+    match asked {
+        Asked::Group(group) => {
+            let number = number_for(alloc, cache, kept, name, ready, pool)?;
+            place(cache, number, inventory, pool, group)
+        }
+        Asked::Device(device) => touched(alloc, reports, name, inventory, pool, device),
+        Asked::Versions(from, to) => moved(alloc, reports, name, inventory, pool, from, to),
+    }
 }

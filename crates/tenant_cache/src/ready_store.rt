@@ -7,38 +7,30 @@ ghost use Rattle.tenant_core.specs.States.{Found, HasInventory, IsDamaged, Leave
 ghost use Rattle.tenant_core.specs.StoreReply.{is_failed};
 
 use crate::kept::Kept;
-use crate::moving::{LastUpLists, lists_are_left, move_between};
-use crate::placing::{number_for, place};
+use crate::placing::find;
 use crate::ready::Ready;
-use crate::touching::{LastTouches, are_left, is_of_tenant, touch};
-use crate::trial::Trial;
+use crate::reports::Reports;
 use crush_cache::PlacementCache;
 use std::alloc::{AllocError, Global};
 use std::marker::Model;
 use std::num::NonZeroUsize;
 use std::rc::Rc;
-use tenant_core::{Moved, Placed, Query, StoreFault, TenantStore, Touched};
+use tenant_core::{Cached, Query, StoreFault, TenantStore};
 use tenant_state::{Change, Inventory, Receipt};
 
 /// A store over another one, which keeps in memory what the tenants that were used last have (at
-/// most `BYTES` bytes of it, or one tenant, as the type of what is kept has it: `Kept`),
-/// placements of their groups, which groups of one pool each device can touch, and the up lists of
-/// all groups of one pool on one version, from which moves were asked last. The last two are
-/// found by the whole content that they depend on, so that after a change they are of use only
-/// where it left that content as it was. Both are given up where their tenant isn't kept any more
-/// or a tenant is removed, and touched groups where the tenant that asked for them changes.
-/// Contracts see the store below alone.
+/// most `BYTES` bytes of it, or one tenant's, as the type of what is kept has it: `Kept`),
+/// placements of their groups, and what reports keep. The latter is found by the whole content that
+/// it depends on, so that after a change it is of use only where that left the content as it was.
+/// It is given up where its tenant isn't kept any more or a tenant is removed, and touched groups
+/// where the tenant that asked for them changes. Contracts see the store below alone.
 #[derive(Drop)]
 pub struct CachedStore<T: TenantStore, const BYTES: u64> {
     alloc: Global,
     below: T,
     kept: Kept<BYTES>,
     cache: PlacementCache,
-    trial: Trial,
-    /// Which groups each device can touch, for the content of which this was asked last.
-    last: Option<LastTouches>,
-    /// The up lists of all groups, for the content of the version from which moves were asked last.
-    last_lists: Option<LastUpLists>,
+    reports: Reports,
     /// Whether the store below has what tenants have in memory, and makes none of it for a load.
     shares: bool,
 }
@@ -46,7 +38,6 @@ pub struct CachedStore<T: TenantStore, const BYTES: u64> {
 impl<T: TenantStore, const BYTES: u64> Model for CachedStore<T, BYTES> {
     ghost use Rattle.std.specs.Prelude.{◌≡◌, false};
     ghost use Rattle.tenant_cache.specs.Ready.{AreKnown, AreTrue};
-    ghost use Rattle.tenant_cache.specs.Touching.{AreLast};
 
     ghost Value = { T };
 
@@ -57,7 +48,6 @@ impl<T: TenantStore, const BYTES: u64> Model for CachedStore<T, BYTES> {
     ghost invariant = { λ a. record {
       states : T.is_honest a.below → T.latched a.below ≡ false → AreTrue (T.has_state a.below) a.kept;
       numbers : AreKnown a.cache a.kept;
-      last : AreLast a.cache a.last;
     } };
 }
 
@@ -76,16 +66,11 @@ impl<T: TenantStore + Drop, const BYTES: u64> CachedStore<T, BYTES> {
         let Ok(cache) = PlacementCache::new(alloc, placements) else {
             return Err((AllocError, below));
         };
-        let Ok(trial) = Trial::new(alloc, placements) else {
-            return Err((AllocError, below));
-        };
         Ok(CachedStore {
             alloc,
             kept,
             cache,
-            trial,
-            last: None,
-            last_lists: None,
+            reports: Reports::new(),
             below,
             shares: false,
         })
@@ -105,9 +90,7 @@ impl<T: TenantStore + Drop, const BYTES: u64> CachedStore<T, BYTES> {
             alloc,
             kept: Kept::new(alloc)?,
             cache: PlacementCache::new(alloc, placements)?,
-            trial: Trial::new(alloc, placements)?,
-            last: None,
-            last_lists: None,
+            reports: Reports::new(),
             below,
             shares: true,
         })
@@ -142,45 +125,7 @@ impl<T: TenantStore, const BYTES: u64> CachedStore<T, BYTES> {
             return;
         };
         self.kept.put(key, ready);
-    }
-
-    /// Gives up the touched groups of a tenant of which nothing else is kept.
-    fn give_up_touches(&mut self)
-        ensures { self.new ≡ self.old }
-    {
-        if are_left(&self.last, &self.kept) {
-            self.last = None;
-        }
-    }
-
-    /// Gives up the up lists of a tenant of which nothing else is kept.
-    fn give_up_lists(&mut self)
-        ensures { self.new ≡ self.old }
-    {
-        if lists_are_left(&self.last_lists, &self.kept) {
-            self.last_lists = None;
-        }
-    }
-
-    /// What a tenant has, as `load`: what is kept of it, or what the store below has, which is then
-    /// kept.
-    fn load_kept(&mut self, name: &str) -> Result<Option<Rc<Inventory>>, StoreFault>
-        requires open { T.latched self.old ≡ false }
-        ensures found { T.is_honest self.new → IfOk result (λ found. HasInventory (T.has_state self.old) name.now (option_map (λ r. r.value) found)) }
-        ensures damaged { T.is_honest self.new → result ≡ Err StoreFault.Damaged → IsDamaged (T.has_state self.old) name.now }
-        ensures same { T.is_honest self.new → T.latched self.new ≡ false → T.keeps self.old self.new }
-        ensures latch { T.latched self.new ≡ is_failed result }
-        ensures crash { T.is_honest self.new → T.latched self.new ≡ true → LeavesAsItWas (T.has_state self.old) (T.may_leave self.new) }
-        ensures honest { T.is_honest self.new → T.is_honest self.old }
-    {
-        if let Some(ready) = self.kept.get(name)? {
-            return Ok(Some(ready.inventory().clone()?));
-        }
-        let found = self.below.load(name)?;
-        if let Some(inventory) = &found {
-            self.keep(name, inventory);
-        }
-        Ok(found)
+        self.reports.give_up_left(&self.kept);
     }
 
     /// Makes a change of a tenant, as `commit`, and keeps what the store below then has of it.
@@ -226,6 +171,7 @@ impl<T: TenantStore, const BYTES: u64> CachedStore<T, BYTES> {
                 let key = String::from_str(self.alloc, name)?;
                 self.below.commit(name, change)?;
                 self.kept.put(key, next);
+                self.reports.give_up_left(&self.kept);
                 Ok(())
             }
             _ => {
@@ -236,12 +182,10 @@ impl<T: TenantStore, const BYTES: u64> CachedStore<T, BYTES> {
     }
 
     /// Gives up the touched groups that are kept, if they are of this tenant.
-    fn give_up(&mut self, name: &str)
+    fn give_up_touches(&mut self, name: &str)
         ensures { self.new ≡ self.old }
     {
-        if is_of_tenant(&self.last, name) {
-            self.last = None;
-        }
+        self.reports.give_up_touches(name);
     }
 }
 
@@ -263,9 +207,14 @@ impl<T: TenantStore, const BYTES: u64> TenantStore for CachedStore<T, BYTES> {
     }
 
     fn load(&mut self, name: &str) -> Result<Option<Rc<Inventory>>, StoreFault> {
-        self.give_up_touches();
-        self.give_up_lists();
-        self.load_kept(name)
+        if let Some(ready) = self.kept.get(name)? {
+            return Ok(Some(ready.inventory().clone()?));
+        }
+        let found = self.below.load(name)?;
+        if let Some(inventory) = &found {
+            self.keep(name, inventory);
+        }
+        Ok(found)
     }
 
     fn find_receipt(
@@ -276,70 +225,32 @@ impl<T: TenantStore, const BYTES: u64> TenantStore for CachedStore<T, BYTES> {
         self.below.find_receipt(name, number)
     }
 
-    fn placed(&mut self, name: &str, query: &Query) -> Option<Placed> {
-        if !self.trial.is_on() {
+    fn cached(&mut self, name: &str, query: &Query) -> Option<(Rc<Inventory>, Cached)> {
+        // other queries look nothing up before they load
+        if !matches!(
+            query,
+            Query::Group(_, _) | Query::Object(_, _) | Query::Impact(_, _) | Query::Moves(_, _, _)
+        ) {
             return None;
         }
         let Ok(Some(ready)) = self.kept.get(name) else {
             return None;
         };
-        let (pool, group) = query.group_in(ready.inventory())?;
-        let number = number_for(
+        let (pool, asked) = query.asked_in(ready.inventory())?;
+        let cached = find(
             self.alloc,
             &mut self.cache,
             &mut self.kept,
+            &mut self.reports,
             name,
             &ready,
             pool,
+            asked,
         )?;
-        place(
-            &mut self.cache,
-            &mut self.trial,
-            number,
-            ready.inventory(),
-            pool,
-            group,
-        )
-    }
-
-    fn touched(&mut self, name: &str, query: &Query) -> Option<Touched> {
-        let Ok(Some(found)) = self.kept.get(name) else {
+        let Ok(inventory) = ready.inventory().clone() else {
             return None;
         };
-        let (pool, device) = query.device_in(found.inventory())?;
-        let number = number_for(
-            self.alloc,
-            &mut self.cache,
-            &mut self.kept,
-            name,
-            &found,
-            pool,
-        )?;
-        touch(
-            self.alloc,
-            &mut self.last,
-            name,
-            number,
-            found.inventory(),
-            pool,
-            device,
-        )
-    }
-
-    fn moved(&mut self, name: &str, query: &Query) -> Option<Moved> {
-        let Ok(Some(kept)) = self.kept.get(name) else {
-            return None;
-        };
-        let (pool, from, to) = query.versions_in(kept.inventory())?;
-        move_between(
-            self.alloc,
-            &mut self.last_lists,
-            name,
-            kept.inventory(),
-            pool,
-            from,
-            to,
-        )
+        Some((inventory, cached))
     }
 
     fn create(&mut self, name: &str) -> Result<(), StoreFault> {
@@ -348,7 +259,7 @@ impl<T: TenantStore, const BYTES: u64> TenantStore for CachedStore<T, BYTES> {
     }
 
     fn commit(&mut self, name: &str, change: &Change) -> Result<(), StoreFault> {
-        self.give_up(name);
+        self.give_up_touches(name);
         if self.shares {
             self.commit_shared(name, change)
         } else {
@@ -357,8 +268,7 @@ impl<T: TenantStore, const BYTES: u64> TenantStore for CachedStore<T, BYTES> {
     }
 
     fn remove(&mut self, name: &str) -> Result<(), StoreFault> {
-        self.last = None;
-        self.last_lists = None;
+        self.reports = Reports::new();
         self.kept.forget(name);
         self.below.remove(name)
     }

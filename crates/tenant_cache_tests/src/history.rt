@@ -9,7 +9,7 @@ use std::alloc::Global;
 use std::process::Abort;
 use std::rc::Rc;
 use tenant_cache::CachedStore;
-use tenant_core::{Moved, Query, TenantStore};
+use tenant_core::{Cached, Query, TenantStore};
 use tenant_messages::CallParts;
 use tenant_service::{MemoryStore, Service};
 
@@ -89,9 +89,9 @@ pub(crate) fn placed(
     tenant: &str,
     group: u64,
 ) -> Rc<Placement> {
-    match store.placed(tenant, &Query::Group(1, group)) {
-        Some(placed) => placed.placement,
-        None => rt.abort(),
+    match store.cached(tenant, &Query::Group(1, group)) {
+        Some((_, Cached::Placed(_, placement))) => placement,
+        _ => rt.abort(),
     }
 }
 
@@ -118,9 +118,9 @@ fn kept(rt: &impl Abort, store: &mut Store, tenant: &str, group: u64) -> Rc<Plac
 
 /// Asserts that the store has no placement of a group.
 fn assert_not_placed(rt: &impl Abort, store: &mut Store, tenant: &str, pool: u64, group: u64) {
-    let is_absent = store.placed(tenant, &Query::Group(pool, group)).is_none();
+    let is_absent = store.cached(tenant, &Query::Group(pool, group)).is_none();
     assert_that(rt, is_absent, tenant, group);
-    let is_absent = store.placed(tenant, &Query::Usage(pool)).is_none();
+    let is_absent = store.cached(tenant, &Query::Usage(pool)).is_none();
     assert_that(rt, is_absent, tenant, pool);
 }
 
@@ -132,27 +132,49 @@ pub(crate) fn assert_touched(
     device: u64,
     groups: &[u32],
 ) {
-    match store.touched(tenant, &Query::Impact(1, device)) {
-        Some(touched) => assert_that(rt, touched.groups.as_slice() == groups, tenant, device),
-        None => rt.abort(),
+    match store.cached(tenant, &Query::Impact(1, device)) {
+        Some((_, Cached::Touched(_, touched))) => {
+            assert_that(rt, touched.as_slice() == groups, tenant, device)
+        }
+        _ => rt.abort(),
     }
 }
 
 /// Asserts that the store has no groups that a device can touch.
 fn assert_not_touched(rt: &impl Abort, store: &mut Store, tenant: &str, pool: u64, device: u64) {
-    let is_absent = store
-        .touched(tenant, &Query::Impact(pool, device))
-        .is_none();
+    let is_absent = store.cached(tenant, &Query::Impact(pool, device)).is_none();
     assert_that(rt, is_absent, tenant, device);
-    let is_absent = store.touched(tenant, &Query::Usage(pool)).is_none();
+    let is_absent = store.cached(tenant, &Query::Usage(pool)).is_none();
     assert_that(rt, is_absent, tenant, pool);
 }
 
 /// Asserts how many groups move.
 fn assert_moved(rt: &impl Abort, store: &mut Store, from: u64, to: u64, count: usize) {
-    match store.moved("a", &Query::Moves(1, from, to)) {
-        Some(moved) => assert_that(rt, moved.rows.as_slice().len() == count, "to", to),
-        None => rt.abort(),
+    match store.cached("a", &Query::Moves(1, from, to)) {
+        Some((_, Cached::Moved(_, rows))) => {
+            assert_that(rt, rows.as_slice().len() == count, "to", to)
+        }
+        _ => rt.abort(),
+    }
+}
+
+/// Asserts that these are the moves of 8 groups, each from one up list to another.
+fn assert_rows(rt: &impl Abort, moved: &Cached, old: &[Slot], new: &[Slot]) {
+    let Cached::Moved(_, rows) = moved else {
+        return rt.abort();
+    };
+    let rows = rows.as_slice();
+    assert_that(rt, rows.len() == 8, "moves of groups", 8);
+    let mut group: u64 = 0;
+    for row in rows {
+        let is_moved = row.old.as_slice() == old && row.new.as_slice() == new;
+        assert_that(
+            rt,
+            is_moved && u64::from(row.group) == group,
+            "group",
+            group,
+        );
+        group = group.wrapping_add(1);
     }
 }
 
@@ -182,8 +204,8 @@ fn assert_all_moved(
     old: &[Slot],
     new: &[Slot],
 ) {
-    match store.moved("a", &Query::Moves(1, from, to)) {
-        Some(moved) => assert_rows(rt, &moved, old, new),
+    match store.cached("a", &Query::Moves(1, from, to)) {
+        Some((_, moved)) => assert_rows(rt, &moved, old, new),
         None => rt.abort(),
     }
 }
@@ -197,9 +219,11 @@ fn assert_not_moved(
     from: u64,
     to: u64,
 ) {
-    let is_absent = store.moved(tenant, &Query::Moves(pool, from, to)).is_none();
+    let is_absent = store
+        .cached(tenant, &Query::Moves(pool, from, to))
+        .is_none();
     assert_that(rt, is_absent, tenant, to);
-    let is_absent = store.moved(tenant, &Query::Usage(pool)).is_none();
+    let is_absent = store.cached(tenant, &Query::Usage(pool)).is_none();
     assert_that(rt, is_absent, tenant, pool);
 }
 

@@ -6,7 +6,6 @@ use crate::history::{Held, Step, accept, assert_histories, is_on, new_store, pla
 use std::alloc::Global;
 use std::process::Abort;
 use std::rc::Rc;
-use tenant_core::{Query, TenantStore};
 
 /// The body of an import of a map with two devices, of which the first alone is in its bucket.
 pub(crate) const IMPORT_OF_TWO: &str =
@@ -61,29 +60,6 @@ fn a_group_has_one_placement_whatever_is_kept(rt: HostRuntime) {
     for (room, is_kept) in &[(1, false), (1_024, true)] {
         let mut held = with_tenant(&rt, rt.alloc(), *room);
         assert_one(&rt, &mut held, *is_kept);
-    }
-}
-
-/// Asserts whether a group is looked up after 516 requests for each of two groups by turns.
-fn assert_looked_up(rt: &impl Abort, held: &mut Held, is_looked_up: bool) {
-    let Some(store) = held else {
-        return rt.abort();
-    };
-    for _ in 0..516 {
-        let _placed = placed(rt, store, "a", 0);
-        let _placed = placed(rt, store, "a", 7);
-    }
-    let is_found = store.placed("a", &Query::Group(1, 0)).is_some();
-    assert_that(rt, is_found == is_looked_up, "a", 0);
-}
-
-/// With room for one placement none is found, and once a trial of 1,024 requests, and 8 for the
-/// room, has shown that, none is looked up. With room for both they are.
-#[test]
-fn where_nothing_is_found_nothing_is_looked_up(rt: HostRuntime) {
-    for (room, is_looked_up) in &[(1, false), (1_024, true)] {
-        let mut held = with_tenant(&rt, rt.alloc(), *room);
-        assert_looked_up(&rt, &mut held, *is_looked_up);
     }
 }
 

@@ -1,7 +1,5 @@
 pub mod Accepting
-pub mod AskedDevices
-pub mod AskedGroups
-pub mod AskedVersions
+pub mod Answering
 pub mod Following
 pub mod InForm
 pub mod Making

@@ -1,5 +1,6 @@
 pub mod Effects
 pub mod Tenants
+pub mod Cached
 pub mod Commands
 pub mod Queries
 pub mod Target

@@ -2,15 +2,13 @@
 
 ghost use Rattle.std.specs.Prelude.{◌≡◌, Option, IfOk, option_map};
 ghost use Rattle.tenant_core.specs.Effects.{effect_of};
-ghost use Rattle.tenant_core.specs.Queries as queries;
 ghost use Rattle.tenant_state.specs.State.{TenantState, inventory_of};
 ghost use Rattle.tenant_messages.specs.Reply.{reply};
 ghost use Rattle.tenant_core.specs.Step.{decision_from, decision_on, receipt_in};
 
 use crate::commands::apply_to;
-use crate::queries::{Query, answer, answer_moved, answer_placed, answer_touched};
+use crate::queries::answer;
 use crate::request::Action;
-use crate::store::{Moved, Placed, Touched};
 use crate::tenants;
 use std::alloc::{AllocError, Global};
 use tenant_messages::{Problem, Reply, refused};
@@ -102,50 +100,4 @@ fn decide_from(
         }
         (Action::Query(query), Some(inventory)) => Ok(kept(answer(alloc, inventory, query)?)),
     }
-}
-
-/// What a query does to its tenant, which is nothing, and the reply, by the placement of the group
-/// that it asks for. `Err(AllocError)`: an allocation failed; nothing is changed.
-pub fn decide_placed(alloc: Global, placed: &Placed, query: &Query) -> Result<Decision, AllocError>
-    requires { queries.IsPlacedFor query.now placed.now.inventory.value placed.now.group placed.now.placement.value }
-    ensures effect { IfOk result (λ d. d.effect ≡ Effect.Keep) }
-    ensures reply { IfOk result (λ d. d.reply ≡ reply (queries.answer query.now placed.now.inventory.value)) }
-{
-    let reply = answer_placed(
-        alloc,
-        &placed.inventory,
-        query,
-        placed.group,
-        &placed.placement,
-    )?;
-    Ok(kept(reply))
-}
-
-/// What a query does to its tenant, which is nothing, and the reply, by the groups that the device
-/// that it asks for can touch. `Err(AllocError)`: an allocation failed; nothing is changed.
-pub fn decide_touched(
-    alloc: Global,
-    touched: &Touched,
-    query: &Query,
-) -> Result<Decision, AllocError>
-    requires { queries.IsTouchedFor query.now touched.now.inventory.value touched.now.pool touched.now.groups }
-    ensures effect { IfOk result (λ d. d.effect ≡ Effect.Keep) }
-    ensures reply { IfOk result (λ d. d.reply ≡ reply (queries.answer query.now touched.now.inventory.value)) }
-{
-    let groups = touched.groups.as_slice();
-    let reply = answer_touched(alloc, &touched.inventory, query, touched.pool, groups)?;
-    Ok(kept(reply))
-}
-
-/// What a query does to its tenant, which is nothing, and the reply, by the rows of the groups that
-/// move between the versions that it asks for. `Err(AllocError)`: an allocation failed; nothing is
-/// changed.
-pub fn decide_moved(alloc: Global, moved: &Moved, query: &Query) -> Result<Decision, AllocError>
-    requires { queries.IsMovedFor query.now moved.now.inventory.value moved.now.pool moved.now.rows }
-    ensures effect { IfOk result (λ d. d.effect ≡ Effect.Keep) }
-    ensures reply { IfOk result (λ d. d.reply ≡ reply (queries.answer query.now moved.now.inventory.value)) }
-{
-    let rows = moved.rows.as_slice();
-    let reply = answer_moved(alloc, &moved.inventory, query, moved.pool, rows)?;
-    Ok(kept(reply))
 }

@@ -1,6 +1,7 @@
 //! One tenant: requests, replies, its state, and the contract of the store that keeps states.
 #![tactic(auto)]
 
+mod cached;
 mod commands;
 mod creation;
 mod decision;
@@ -13,13 +14,14 @@ mod router;
 mod store;
 mod tenants;
 
+pub use cached::{Asked, Cached, answer_cached};
 pub use commands::{Command, Order, apply, apply_to};
 pub use creation::create;
-pub use decision::{Decision, Effect, decide, decide_moved, decide_placed, decide_touched};
-pub use queries::{Query, answer, answer_moved, answer_placed, answer_touched};
+pub use decision::{Decision, Effect, decide};
+pub use queries::{Query, answer};
 pub use request::{Action, Request, read_request};
 pub use route::{Methods, Route};
 pub use router::{Routes, Target};
-pub use store::{Moved, Placed, StoreFault, TenantStore, Touched, store_fault};
+pub use store::{StoreFault, TenantStore, store_fault};
 pub use tenant_messages::{Call, CallParts, Refusal, Reply};
 pub use tenant_state::{Change, Inventory, Receipt, TenantState};

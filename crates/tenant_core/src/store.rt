@@ -1,7 +1,7 @@
 //! The store of tenants' states: what one has to do, and the replies where it fails.
 
 ghost use Rattle.std.specs.Prelude.{◌≡◌, ◌≢◌, ◌⊎◌, ◌↔◌, ℕ, List, Bool, true, false, Option, Some, None, Err, IfOk, IfSome, OnOk, OnErr, option_map};
-ghost use Rattle.tenant_core.specs.Queries.{IsMovedFor, IsPlacedFor, IsTouchedFor};
+ghost use Rattle.tenant_core.specs.Cached.{IsCachedFor};
 ghost use Rattle.tenant_state.specs.Receipts.{receipt_of};
 ghost use Rattle.tenant_state.specs.State.{CanMake, TenantState, fresh, after};
 ghost use Rattle.tenant_state.specs.Valid.{IsState};
@@ -9,10 +9,8 @@ ghost use Rattle.tenant_core.specs.States.{Found, HasInventory, IsDamaged, Leave
 ghost use Rattle.tenant_core.specs.StoreReply as spec;
 ghost use Rattle.tenant_core.specs.StoreReply.{is_failed};
 
+use crate::cached::Cached;
 use crate::queries::Query;
-use crush_map::Listed;
-use crush_pool::Placement;
-use crush_report::MoveRow;
 use std::alloc::{AllocError, Global};
 use std::rc::Rc;
 use tenant_messages::{Reply, error, no_memory, written};
@@ -40,32 +38,6 @@ impl From<AllocError> for StoreFault {
     fn from(_error: AllocError) -> StoreFault {
         StoreFault::NoMemory
     }
-}
-
-/// What a tenant has, with the group that a query asks for and its placement.
-#[derive(Drop)]
-pub struct Placed {
-    pub inventory: Rc<Inventory>,
-    pub group: u32,
-    pub placement: Rc<Placement>,
-}
-
-/// What a tenant has, with the groups of a pool of it that the device that a query asks for can
-/// touch, and the id of the pool.
-#[derive(Drop)]
-pub struct Touched {
-    pub inventory: Rc<Inventory>,
-    pub pool: u32,
-    pub groups: Listed<u32>,
-}
-
-/// What a tenant has, with the rows of the groups of a pool of it that move between the versions
-/// that a query asks for, and the id of the pool.
-#[derive(Drop)]
-pub struct Moved {
-    pub inventory: Rc<Inventory>,
-    pub pool: u32,
-    pub rows: Listed<MoveRow>,
 }
 
 /// A store of tenants' states by name. It keeps the allocator that its constructor was given.
@@ -121,32 +93,11 @@ pub trait TenantStore {
         ensures crash { is_honest self.new → latched self.new ≡ true → LeavesAsItWas (has_state self.old) (may_leave self.new) }
         ensures honest { is_honest self.new → is_honest self.old };
 
-    /// What a tenant has, with the group that a query asks for and its placement, where the store
-    /// has these at hand; `None` says nothing. Nothing is changed that contracts see.
-    fn placed(&mut self, name: &str, query: &Query) -> Option<Placed>
-        ensures fits { IfSome result (λ r. IsPlacedFor query.now r.inventory.value r.group r.placement.value) }
-        ensures found { is_honest self.new → latched self.new ≡ false → IfSome result (λ r. HasInventory (has_state self.new) name.now (Some r.inventory.value)) }
-        ensures same { self.new ≡ self.old }
-    {
-        None
-    }
-
-    /// What a tenant has, with the groups that the device that a query asks for can touch, where
-    /// the store has these at hand; `None` says nothing. Nothing is changed that contracts see.
-    fn touched(&mut self, name: &str, query: &Query) -> Option<Touched>
-        ensures fits { IfSome result (λ r. IsTouchedFor query.now r.inventory.value r.pool r.groups) }
-        ensures found { is_honest self.new → latched self.new ≡ false → IfSome result (λ r. HasInventory (has_state self.new) name.now (Some r.inventory.value)) }
-        ensures same { self.new ≡ self.old }
-    {
-        None
-    }
-
-    /// What a tenant has, with the groups that move between the versions that a query asks for,
-    /// where the store has these at hand; `None` says nothing. Nothing is changed that contracts
-    /// see.
-    fn moved(&mut self, name: &str, query: &Query) -> Option<Moved>
-        ensures fits { IfSome result (λ r. IsMovedFor query.now r.inventory.value r.pool r.rows) }
-        ensures found { is_honest self.new → latched self.new ≡ false → IfSome result (λ r. HasInventory (has_state self.new) name.now (Some r.inventory.value)) }
+    /// What a tenant has, with what a query asks for, where the store has both in its cache; `None`
+    /// says nothing. Nothing is changed that contracts see.
+    fn cached(&mut self, name: &str, query: &Query) -> Option<(Rc<Inventory>, Cached)>
+        ensures fits { IfSome result (λ r. IsCachedFor query.now r.0.value r.1) }
+        ensures found { is_honest self.new → latched self.new ≡ false → IfSome result (λ r. HasInventory (has_state self.new) name.now (Some r.0.value)) }
         ensures same { self.new ≡ self.old }
     {
         None

@@ -14,8 +14,8 @@ use std::marker::Model;
 use std::rc::Rc;
 use tenant_core::laws::each_decision_fits_its_state;
 use tenant_core::{
-    Action, Decision, Effect, Query, Request, Routes, StoreFault, TenantStore, decide,
-    decide_moved, decide_placed, decide_touched, read_request, store_fault,
+    Action, Decision, Effect, Request, Routes, StoreFault, TenantStore, answer_cached, decide,
+    read_request, store_fault,
 };
 use tenant_messages::{Call, CallParts, Refusal, Reply, refused};
 use tenant_state::Receipt;
@@ -70,15 +70,13 @@ fn receipt_of<T: TenantStore>(
     }
 }
 
-/// Decides what a query does by what the store has at hand for it: for a group its placement,
-/// before what the tenant has is loaded, and for a report its groups, after that. `None`: the store
-/// hasn't this, or the request asks for neither. `Err(AllocError)`: an allocation failed. Nothing
-/// is changed.
-fn decide_at_hand<T: TenantStore>(
+/// Decides what a query does, which is nothing, by what the store has in its cache for it. `None`:
+/// the store hasn't this, or the request is no query. `Err(AllocError)`: an allocation failed.
+/// Nothing is changed.
+fn decide_cached<T: TenantStore>(
     alloc: Global,
     store: &mut T,
     request: &Request<'_>,
-    is_loaded: bool,
 ) -> Result<Option<Decision>, AllocError>
     requires open { T.latched store.old ≡ false }
     ensures decided { T.is_honest store.new → IfOk result (λ found. IfSome found (Decides request.now (T.has_state store.old))) }
@@ -87,27 +85,14 @@ fn decide_at_hand<T: TenantStore>(
     let Action::Query(query) = &request.action else {
         return Ok(None);
     };
-    match query {
-        Query::Group(_, _) | Query::Object(_, _) if !is_loaded => {
-            let Some(placed) = store.placed(request.tenant, query) else {
-                return Ok(None);
-            };
-            Ok(Some(decide_placed(alloc, &placed, query)?))
-        }
-        Query::Impact(_, _) if is_loaded => {
-            let Some(touched) = store.touched(request.tenant, query) else {
-                return Ok(None);
-            };
-            Ok(Some(decide_touched(alloc, &touched, query)?))
-        }
-        Query::Moves(_, _, _) if is_loaded => {
-            let Some(moved) = store.moved(request.tenant, query) else {
-                return Ok(None);
-            };
-            Ok(Some(decide_moved(alloc, &moved, query)?))
-        }
-        _ => Ok(None),
-    }
+    let Some((inventory, cached)) = store.cached(request.tenant, query) else {
+        return Ok(None);
+    };
+    let reply = answer_cached(alloc, &inventory, query, &cached)?;
+    Ok(Some(Decision {
+        effect: Effect::Keep,
+        reply,
+    }))
 }
 
 /// Loads what the tenant has, and the receipt of the request number, and decides what the request
@@ -127,10 +112,6 @@ fn decide_loaded<T: TenantStore>(
 {
     let tenant = request.tenant;
     let inventory = store.load(tenant)?;
-    // a store may have what it needs for a report once what the tenant has is loaded
-    if let Some(decision) = decide_at_hand(alloc, store, request, true)? {
-        return Ok(decision);
-    }
     let receipt = receipt_of(store, tenant, inventory.is_some(), &request.action)?;
     Ok(decide(
         alloc,
@@ -141,7 +122,7 @@ fn decide_loaded<T: TenantStore>(
     )?)
 }
 
-/// Decides what a request does, by what the store has at hand, or by what it loads.
+/// Decides what a request does, by what the store has in its cache, or by what it loads.
 /// `Err`: the store's fault; a failed allocation is one. Nothing is changed.
 fn decide_request<T: TenantStore>(
     alloc: Global,
@@ -156,7 +137,7 @@ fn decide_request<T: TenantStore>(
     ensures crash { T.is_honest store.new → T.latched store.new ≡ true → LeavesAsItWas (T.has_state store.old) (T.may_leave store.new) }
     ensures honest { T.is_honest store.new → T.is_honest store.old }
 {
-    if let Some(decision) = decide_at_hand(alloc, store, request, false)? {
+    if let Some(decision) = decide_cached(alloc, store, request)? {
         return Ok(decision);
     }
     decide_loaded(alloc, store, request)

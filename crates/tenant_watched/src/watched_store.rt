@@ -9,7 +9,7 @@ ghost use Rattle.tenant_watched.specs.Looks.{FindsTwice, next_look};
 use crate::watch::Watch;
 use std::marker::Model;
 use std::rc::Rc;
-use tenant_core::{Moved, Placed, Query, StoreFault, TenantStore, Touched};
+use tenant_core::{Cached, Query, StoreFault, TenantStore};
 use tenant_state::{Change, Inventory, Receipt};
 
 /// A store over another one. A change is made only where the files of that one are where they were,
@@ -117,16 +117,8 @@ impl<T: TenantStore, W: Watch> TenantStore for WatchedStore<T, W> {
         self.below.find_receipt(name, number)
     }
 
-    fn placed(&mut self, name: &str, query: &Query) -> Option<Placed> {
-        self.below.placed(name, query)
-    }
-
-    fn touched(&mut self, name: &str, query: &Query) -> Option<Touched> {
-        self.below.touched(name, query)
-    }
-
-    fn moved(&mut self, name: &str, query: &Query) -> Option<Moved> {
-        self.below.moved(name, query)
+    fn cached(&mut self, name: &str, query: &Query) -> Option<(Rc<Inventory>, Cached)> {
+        self.below.cached(name, query)
     }
 
     fn create(&mut self, name: &str) -> Result<(), StoreFault>

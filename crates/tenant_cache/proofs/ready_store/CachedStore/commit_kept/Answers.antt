@@ -12,7 +12,6 @@ invariant_of-self g c =
     record {
       states = λ honest live. true_among (g.T.TenantStore.has_state c.self.inside.below) c.self.inside.kept c.get.new.self c.get.ensures.same (c.self.invariant.states honest live);
       numbers = known_among c.self.inside.cache c.self.inside.kept c.get.new.self c.get.ensures.same c.self.invariant.numbers;
-      last = c.self.invariant.last;
     }
 
 pub invariant_of-self-in_err-next-in-Some : goal.invariant_of-self-in_err-next-in-Some
@@ -20,7 +19,6 @@ invariant_of-self-in_err-next-in-Some g c =
     record {
       states = λ honest live. true_among (g.T.TenantStore.has_state c.self.inside.below) c.self.inside.kept c.get.new.self c.get.ensures.same (c.self.invariant.states honest live);
       numbers = known_among c.self.inside.cache c.self.inside.kept c.get.new.self c.get.ensures.same c.self.invariant.numbers;
-      last = c.self.invariant.last;
     }
 
 pub invariant_of-self-in_err-key-in-Some : goal.invariant_of-self-in_err-key-in-Some
@@ -28,7 +26,6 @@ invariant_of-self-in_err-key-in-Some g c =
     record {
       states = λ honest live. true_among (g.T.TenantStore.has_state c.self.inside.below) c.self.inside.kept c.get.new.self c.get.ensures.same (c.self.invariant.states honest live);
       numbers = known_among c.self.inside.cache c.self.inside.kept c.get.new.self c.get.ensures.same c.self.invariant.numbers;
-      last = c.self.invariant.last;
     }
 
 -- a call that failed left the states
@@ -40,7 +37,6 @@ invariant_of-self-in_err-commit-in-Some g c =
           (g.met.T.TenantStore.keeps_states c.self.inside.below c.commit.new.self honest open' live (c.in_err-commit-in-Some.ensures.err honest live))
           (true_among (g.T.TenantStore.has_state c.self.inside.below) c.self.inside.kept c.get.new.self c.get.ensures.same (c.self.invariant.states (c.commit.ensures.honest honest) open'));
       numbers = known_among c.self.inside.cache c.self.inside.kept c.get.new.self c.get.ensures.same c.self.invariant.numbers;
-      last = c.self.invariant.last;
     }
 
 -- what a crash may leave is what the store below says of it
@@ -65,7 +61,6 @@ invariant_of-self-then-can_take g c =
           (c.in_ok-commit-in-Some.ensures.made honest there.0 there.1) (c.commit.ensures.others honest live);
       numbers = known_put c.self.inside.cache c.get.new.self c.put.new.self c.args.name.now next
           (known_among c.self.inside.cache c.self.inside.kept c.get.new.self c.get.ensures.same c.self.invariant.numbers) (ap (λ (r : Ready). r.numbers) c.in_ok-next-in-Some.ensures) updates;
-      last = c.self.invariant.last;
     }
 
 pub invariant_of-self-in_default : goal.invariant_of-self-in_default
@@ -77,7 +72,6 @@ invariant_of-self-in_default g c =
           c.forget.ensures (c.commit-in_default.ensures.others honest live);
       numbers = known_without c.self.inside.cache c.get.new.self c.forget.new.self c.args.name.now
           (known_among c.self.inside.cache c.self.inside.kept c.get.new.self c.get.ensures.same c.self.invariant.numbers) c.forget.ensures;
-      last = c.self.invariant.last;
     }
 
 -- nothing is kept of the name, and other names have what they had
@@ -90,7 +84,6 @@ invariant_of-self-in_default-2 g c =
           c.forget.ensures (c.commit-in_default.ensures.others honest live);
       numbers = known_without c.self.inside.cache c.get.new.self c.forget.new.self c.args.name.now
           (known_among c.self.inside.cache c.self.inside.kept c.get.new.self c.get.ensures.same c.self.invariant.numbers) c.forget.ensures;
-      last = c.self.invariant.last;
     }
 
 pub returns-in_default-clause-crash : goal.returns-in_default-clause-crash

@@ -13,7 +13,6 @@ invariant_of-self g c =
       states = λ honest live. true_without (g.T.TenantStore.has_state c.self.inside.below) (g.T.TenantStore.has_state c.commit.new.self) c.self.inside.kept c.forget.new.self c.args.name.now
           (c.self.invariant.states (c.commit.ensures.honest honest) open') c.forget.ensures (c.commit.ensures.others honest live);
       numbers = known_without c.self.inside.cache c.self.inside.kept c.forget.new.self c.args.name.now c.self.invariant.numbers c.forget.ensures;
-      last = c.self.invariant.last;
     }
 
 pub invariant_of-self-2 : goal.invariant_of-self-2
@@ -23,7 +22,6 @@ invariant_of-self-2 g c =
       states = λ honest live. true_without (g.T.TenantStore.has_state c.self.inside.below) (g.T.TenantStore.has_state c.commit.new.self) c.self.inside.kept c.forget.new.self c.args.name.now
           (c.self.invariant.states (c.commit.ensures.honest honest) open') c.forget.ensures (c.commit.ensures.others honest live);
       numbers = known_without c.self.inside.cache c.self.inside.kept c.forget.new.self c.args.name.now c.self.invariant.numbers c.forget.ensures;
-      last = c.self.invariant.last;
     }
 
 -- where the load failed for good

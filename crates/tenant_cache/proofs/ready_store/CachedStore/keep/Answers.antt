@@ -14,5 +14,4 @@ invariant_of-self g c =
       states = λ honest live. true_put (g.T.TenantStore.has_state c.self.inside.below) c.self.inside.kept c.put.new.self c.args.name.now c.in-Ok-new.ready.value (c.self.invariant.states honest live)
           (subst (λ i. HasInventory (g.T.TenantStore.has_state c.self.inside.below) c.args.name.now (Some i)) inventory ((rw (← c.self.view_is) at c.requires) honest live)) updates;
       numbers = known_put c.self.inside.cache c.self.inside.kept c.put.new.self c.args.name.now c.in-Ok-new.ready.value c.self.invariant.numbers (ap (λ (r : Ready). r.numbers) (value ∙ c.new.ensures)) updates;
-      last = c.self.invariant.last;
     }

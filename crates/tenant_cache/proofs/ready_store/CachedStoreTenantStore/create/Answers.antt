@@ -9,5 +9,4 @@ invariant_of-self g c =
       states = λ honest live. true_without (g.T.TenantStore.has_state c.self.inside.below) (g.T.TenantStore.has_state c.create.new.self) c.self.inside.kept c.forget.new.self c.args.name.now
           (c.self.invariant.states (c.create.ensures.honest honest) open') c.forget.ensures (c.create.ensures.others honest live);
       numbers = known_without c.self.inside.cache c.self.inside.kept c.forget.new.self c.args.name.now c.self.invariant.numbers c.forget.ensures;
-      last = c.self.invariant.last;
     }

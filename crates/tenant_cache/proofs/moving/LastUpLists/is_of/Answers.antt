@@ -1,8 +1,0 @@
-use Rattle.std.proofs.Common.{◌≡◌, ◌∙◌, ap, sym}
-use Rattle.crush_content.specs.Laws.{content_decides}
-use Rattle.tenant_cache.specs.Moving.{OfContent}
-use Rattle.tenant_cache.proofs.moving.LastUpLists.is_of.Goals as goal
-
--- contents that compare equal are one content
-pub returns : goal.returns
-returns c = λ is. sym (ap (λ (k : OfContent). k.content) c.self.view_is) ∙ (content_decides c.self.inside.content c.args.content.now).0 (sym c.eq.ensures ∙ is)

@@ -1,0 +1,70 @@
+use Rattle.std.proofs.Common.{rules, ◌≡◌, Some, ap, subst, sym, ◌∙◌}
+use Rattle.tenant_core.specs.Cached.{Asks, IsCachedFor}
+use Rattle.tenant_core.specs.States.{HasInventory}
+use Rattle.tenant_cache.specs.Kept.{Ready, kept_at}
+use Rattle.tenant_cache.specs.Ready.{AreNumbersOf}
+use Rattle.tenant_state.specs.State.{pool}
+use Rattle.tenant_cache.proofs.NumberFacts.{asked_pool, known_among, known_renumbered, true_among, true_renumbered}
+use Rattle.tenant_cache.proofs.ready_store.CachedStoreTenantStore.cached.Goals as goal
+
+-- a look-up keeps no more than was kept
+pub invariant_of-self : goal.invariant_of-self
+invariant_of-self g c =
+    record {
+      states = λ honest live. true_among (g.T.TenantStore.has_state c.self.inside.below) c.self.inside.kept c.get.new.self c.get.ensures.same (c.self.invariant.states honest live);
+      numbers = known_among c.self.inside.cache c.self.inside.kept c.get.new.self c.get.ensures.same c.self.invariant.numbers;
+    }
+
+pub invariant_of-self-in_err-pool : goal.invariant_of-self-in_err-pool
+invariant_of-self-in_err-pool g c =
+    record {
+      states = λ honest live. true_among (g.T.TenantStore.has_state c.self.inside.below) c.self.inside.kept c.get.new.self c.get.ensures.same (c.self.invariant.states honest live);
+      numbers = known_among c.self.inside.cache c.self.inside.kept c.get.new.self c.get.ensures.same c.self.invariant.numbers;
+    }
+
+-- what was found is kept, with numbers that are known
+pub find-requires-clause-known : goal.find-requires-clause-known
+find-requires-clause-known g c =
+    let at : kept_at c.self.inside.kept c.args.name.now ≡ Some c.in-Ok-Some.ready.value = search rules in
+    subst (AreNumbersOf c.self.inside.cache) (sym c.deref-3.ensures) (c.self.invariant.numbers c.args.name.now c.in-Ok-Some.ready.value at)
+
+pub find-requires-clause-there : goal.find-requires-clause-there
+find-requires-clause-there g c =
+    let inventory = c.deref-2.ensures ∙ c.inventory.ensures ∙ ap (λ (r : Ready). r.inventory) (c.deref.ensures ∙ sym c.deref-3.ensures) in
+    subst (λ i. pool c.in_ok-pool.pool.now.parts.id i ≡ Some c.in_ok-pool.pool.now) inventory
+    (asked_pool c.args.query.now c.deref-2.result.now c.in_ok-pool.pool.now c.in_ok-pool.asked c.in_ok-pool.ensures)
+
+-- beside the name there may be other numbers, which are known too
+pub invariant_of-self-in_err-cached : goal.invariant_of-self-in_err-cached
+invariant_of-self-in_err-cached g c =
+    let at : kept_at c.self.inside.kept c.args.name.now ≡ Some c.in-Ok-Some.ready.value = search rules in
+    let states = g.T.TenantStore.has_state c.self.inside.below in
+    record {
+      states = λ honest live. true_renumbered states c.find.new.cache c.get.new.self c.find.new.kept c.args.name.now c.deref-3.result.now
+          (true_among states c.self.inside.kept c.get.new.self c.get.ensures.same (c.self.invariant.states honest live))
+          (subst (λ (r : Ready). HasInventory states c.args.name.now (Some r.inventory)) (sym c.deref-3.ensures) (c.self.invariant.states honest live c.args.name.now c.in-Ok-Some.ready.value at))
+          c.find.ensures.beside;
+      numbers = known_renumbered c.self.inside.cache c.find.new.cache c.get.new.self c.find.new.kept c.args.name.now c.deref-3.result.now c.find.ensures.keeps
+          (known_among c.self.inside.cache c.self.inside.kept c.get.new.self c.get.ensures.same c.self.invariant.numbers) c.find.ensures.beside;
+    }
+
+pub invariant_of-self-2 : goal.invariant_of-self-2
+invariant_of-self-2 g c =
+    let at : kept_at c.self.inside.kept c.args.name.now ≡ Some c.in-Ok-Some.ready.value = search rules in
+    let states = g.T.TenantStore.has_state c.self.inside.below in
+    record {
+      states = λ honest live. true_renumbered states c.find.new.cache c.get.new.self c.find.new.kept c.args.name.now c.deref-3.result.now
+          (true_among states c.self.inside.kept c.get.new.self c.get.ensures.same (c.self.invariant.states honest live))
+          (subst (λ (r : Ready). HasInventory states c.args.name.now (Some r.inventory)) (sym c.deref-3.ensures) (c.self.invariant.states honest live c.args.name.now c.in-Ok-Some.ready.value at))
+          c.find.ensures.beside;
+      numbers = known_renumbered c.self.inside.cache c.find.new.cache c.get.new.self c.find.new.kept c.args.name.now c.deref-3.result.now c.find.ensures.keeps
+          (known_among c.self.inside.cache c.self.inside.kept c.get.new.self c.get.ensures.same c.self.invariant.numbers) c.find.ensures.beside;
+    }
+
+-- what was found for the name is what the query asks for
+pub returns-clause-fits : goal.returns-clause-fits
+returns-clause-fits g c =
+    let first = c.deref-2.ensures ∙ c.inventory.ensures ∙ ap (λ (r : Ready). r.inventory) (c.deref.ensures ∙ sym c.deref-3.ensures) in
+    let second = ap (λ (r : Ready). r.inventory) (c.deref-3.ensures ∙ sym c.deref-4.ensures) ∙ sym c.inventory-2.ensures in
+    let asks = subst (λ i. Asks c.args.query.now i c.in_ok-pool.pool.now c.in_ok-pool.asked) first c.in_ok-pool.ensures in
+    subst (λ i. IsCachedFor c.args.query.now i c.in_ok-cached.cached) (second ∙ sym c.in-Ok.ensures.cases) (c.in_ok-cached.ensures.found c.args.query.now asks)

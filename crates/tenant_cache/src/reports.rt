@@ -1,0 +1,153 @@
+//! What reports keep of all groups of a pool, and what they find in it.
+
+ghost use Rattle.std.specs.Prelude.{◌≡◌, ◌≤◌, ◌*◌, Some, IfSome};
+ghost use Rattle.crush_content.specs.Contents.{content_of};
+ghost use Rattle.crush_select.specs.declared.limits.TheConstants.{SIZE_LIMIT};
+ghost use Rattle.crush_pool.specs.declared.limits.TheConstants.{GROUP_LIMIT};
+ghost use Rattle.crush_report.specs.Moves.{gained_in};
+ghost use Rattle.crush_report.specs.Reports.{impact, moves};
+ghost use Rattle.tenant_core.specs.Cached.{Asks, IsCachedFor};
+
+use crate::kept::Kept;
+use crate::last::{Last, is_left, is_of_tenant, renew};
+use crush_content::Content;
+use crush_map::Listed;
+use crush_pool::Placer;
+use crush_report::MoveRow;
+use report_cache::{Touches, UpLists};
+use std::alloc::Global;
+use tenant_core::{Asked, Cached};
+use tenant_reports::impact::id_of;
+use tenant_state::{Inventory, TenantPool};
+
+/// Which groups each device can touch, and the up lists of all groups: of the content that was
+/// asked for last, and of that of the version from which moves were asked last.
+#[derive(Drop)]
+pub struct Reports {
+    touches: Option<Last<Touches>>,
+    lists: Option<Last<UpLists>>,
+}
+
+impl Reports {
+    /// Nothing is kept yet. Allocates nothing.
+    pub fn new() -> Self {
+        Reports {
+            touches: None,
+            lists: None,
+        }
+    }
+
+    /// Gives up what is kept for tenants of which nothing else is.
+    pub fn give_up_left<const BYTES: u64>(&mut self, kept: &Kept<BYTES>) {
+        if is_left(&self.touches, kept) {
+            self.touches = None;
+        }
+        if is_left(&self.lists, kept) {
+            self.lists = None;
+        }
+    }
+
+    /// Gives up the touched groups that are kept, if they are of this tenant.
+    pub fn give_up_touches(&mut self, name: &str) {
+        if is_of_tenant(&self.touches, name) {
+            self.touches = None;
+        }
+    }
+}
+
+/// The groups that a device can touch, from what is kept, which is made anew if it is of another
+/// content. The content is that of the placer. `None` where it can't be kept.
+fn find_touched(
+    alloc: Global,
+    last: &mut Option<Last<Touches>>,
+    name: &str,
+    content: Content,
+    placer: &Placer<'_>,
+    device: u32,
+) -> Option<Listed<u32>>
+    requires { content ≡ content_of placer.now }
+    ensures { IfSome result (λ groups. Some groups ≡ impact placer.now.map placer.now.states placer.now.pool placer.now.pairs device) }
+{
+    let _tunables = placer.map().tunables();
+    renew(alloc, last, name, content, placer);
+    match last {
+        Some(last) => last.groups_of(alloc, device),
+        None => None,
+    }
+}
+
+/// The groups that move from one placer to another, of the same pool, from the up lists on the
+/// first, whose content is given: from those that are kept, which are made anew if they are of
+/// another content. `None` where they can't be kept.
+fn find_moved(
+    alloc: Global,
+    last: &mut Option<Last<UpLists>>,
+    name: &str,
+    content: Content,
+    from: &Placer<'_>,
+    to: &Placer<'_>,
+) -> Option<Listed<MoveRow>>
+    requires content { content ≡ content_of from.now }
+    requires states { from.now.states ≡ to.now.states }
+    requires pool { from.now.pool ≡ to.now.pool }
+    requires pairs { from.now.pairs ≡ to.now.pairs }
+    ensures rows { IfSome result (λ rows. Some rows ≡ moves from.now.map to.now.map from.now.states from.now.pool from.now.pairs) }
+    ensures gained { IfSome result (λ rows. gained_in rows ≤ SIZE_LIMIT * GROUP_LIMIT) }
+{
+    let _tunables = from.map().tunables();
+    renew(alloc, last, name, content, from);
+    match last {
+        Some(last) => last.moves_to(alloc, to),
+        None => None,
+    }
+}
+
+/// The groups of a pool of what a tenant has that the device with a number can touch.
+pub(crate) fn touched(
+    alloc: Global,
+    reports: &mut Reports,
+    name: &str,
+    inventory: &Inventory,
+    pool: &TenantPool,
+    device: u64,
+) -> Option<Cached>
+    ensures { IfSome result (λ r. (query : _) → Asks query inventory.now pool.now (Asked.Device device) → IsCachedFor query inventory.now r) }
+{
+    let version = inventory.version(inventory.newest())?;
+    let Ok(placer) = inventory.on_version(version, pool) else {
+        return None;
+    };
+    let Ok(content) = inventory.content(version, pool) else {
+        return None;
+    };
+    let device = id_of(placer.map().devices(), device)?;
+    let groups = find_touched(alloc, &mut reports.touches, name, content, &placer, device)?;
+    Some(Cached::Touched(pool.parts().id, groups))
+}
+
+/// The groups of a pool of what a tenant has that move between the versions with two numbers.
+pub(crate) fn moved(
+    alloc: Global,
+    reports: &mut Reports,
+    name: &str,
+    inventory: &Inventory,
+    pool: &TenantPool,
+    from: u64,
+    to: u64,
+) -> Option<Cached>
+    ensures { IfSome result (λ r. (query : _) → Asks query inventory.now pool.now (Asked.Versions from to) → IsCachedFor query inventory.now r) }
+{
+    let before = inventory.version(from)?;
+    let after = inventory.version(to)?;
+    let Ok(old) = inventory.on_version(before, pool) else {
+        return None;
+    };
+    let Ok(new) = inventory.on_version(after, pool) else {
+        return None;
+    };
+    let Ok(content) = inventory.content(before, pool) else {
+        return None;
+    };
+    let rows = find_moved(alloc, &mut reports.lists, name, content, &old, &new)?;
+    Some(Cached::Moved(pool.parts().id, rows))
+}
