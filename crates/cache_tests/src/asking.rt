@@ -74,7 +74,7 @@ fn devices(alloc: Global, end: u32) -> Result<String, Fail> {
     Ok(text)
 }
 
-/// A map whose rule 0 takes one device.
+/// Returns a map whose rule 0 takes one device.
 fn map_with(alloc: Global, device: u32, is_long: bool) -> Result<CrushMap, Fail> {
     let others = devices(alloc, if is_long { 2_000 } else { 1_000 })?;
     let text = format!(in alloc;
@@ -106,7 +106,7 @@ rule all {{
     map_of(alloc, text.as_str())
 }
 
-/// The states of devices.
+/// Returns the states of devices.
 fn states_of(alloc: Global, asked: &Asked) -> Result<Vec<DeviceState>, AllocError> {
     let mut states = Vec::new(alloc);
     if let Some((reweight, up)) = asked.state {
@@ -119,7 +119,7 @@ fn states_of(alloc: Global, asked: &Asked) -> Result<Vec<DeviceState>, AllocErro
     Ok(states)
 }
 
-/// The pool.
+/// Returns the pool.
 fn pool_of(rt: &impl Abort, alloc: Global, asked: &Asked) -> Result<Pool, Fail> {
     let parts = PoolParts {
         id: asked.pool,
@@ -137,7 +137,7 @@ fn pool_of(rt: &impl Abort, alloc: Global, asked: &Asked) -> Result<Pool, Fail> 
     }
 }
 
-/// The exceptions of the pool.
+/// Returns the exceptions of the pool.
 fn exceptions_of(
     rt: &impl Abort,
     alloc: Global,
@@ -156,7 +156,7 @@ fn exceptions_of(
     }
 }
 
-/// The canonical text of a map.
+/// Returns the canonical text of a map.
 fn text_of(rt: &impl Abort, alloc: Global, map: &CrushMap) -> Result<SharedText, AllocError>
     ensures { IfOk result (λ text. text ≡ canonical map.now) }
 {
@@ -166,7 +166,7 @@ fn text_of(rt: &impl Abort, alloc: Global, map: &CrushMap) -> Result<SharedText,
     }
 }
 
-/// A cache for so many placements.
+/// Returns a cache for so many placements.
 pub(crate) fn cache_for(rt: &impl Abort, alloc: Global, capacity: usize) -> PlacementCache {
     let room = NonZeroUsize::new(capacity).expect(rt, "no room");
     PlacementCache::new(alloc, room).expect(rt, "no memory")
@@ -184,7 +184,7 @@ pub(crate) enum How {
 /// The placement of a group, and the number of its content.
 pub(crate) type Answer = (Result<Rc<Placement>, PoolFault>, u64);
 
-/// The number that a cache gives to a content.
+/// Returns the number that a cache gives to a content.
 fn number_of(rt: &impl Abort, cache: &mut PlacementCache, content: &Content) -> u64
     ensures number { WasNumberOf cache.new result content.now }
     ensures kept { KeepsNumbers cache.old cache.new }
@@ -228,7 +228,7 @@ struct Given {
     flags: DeviceStates,
 }
 
-/// The states that are asked with.
+/// Returns the states that are asked with.
 fn given_of(alloc: Global, asked: &Asked) -> Result<Given, AllocError>
     ensures weights { IfOk result (λ given. given.weights ≡ weights_of (reweights given.states)) }
     ensures flags { IfOk result (λ given. given.flags ≡ flags_of given.states) }
@@ -243,7 +243,7 @@ fn given_of(alloc: Global, asked: &Asked) -> Result<Given, AllocError>
     })
 }
 
-/// The content that a placement depends on.
+/// Returns the content that a placement depends on.
 fn content_with(
     rt: &impl Abort,
     alloc: Global,
@@ -317,7 +317,7 @@ fn try_to_ask(
     )
 }
 
-/// The same, where there is memory for it.
+/// Returns the same, where there is memory for it.
 pub(crate) fn ask(
     rt: &impl Abort,
     alloc: Global,
@@ -374,7 +374,7 @@ pub(crate) fn assert_placed(rt: &impl Abort, answer: &Answer, seed: u32, device:
     }
 }
 
-/// Whether two answers are one placement in memory, so that the second was kept.
+/// Returns whether two answers are one placement in memory, so that the second was kept.
 pub(crate) fn is_one(rt: &impl Abort, first: &Answer, second: &Answer) -> bool {
     match (&first.0, &second.0) {
         (Ok(first), Ok(second)) => Rc::ptr_eq(first, second),

@@ -16,7 +16,7 @@ const HOSTS: i32 = BUCKET_LIMIT as i32 - RACKS - 1;
 /// The id of the first rack, which stands behind the root's and those of the hosts.
 const FIRST_RACK: i32 = -2 - HOSTS;
 
-/// A bucket of items whose ids fall from the first on, all of whose weight is at one place.
+/// Returns a bucket of items whose ids fall from the first on, all of whose weight is at one place.
 fn spread(
     alloc: Global,
     (id, kind_of, alg): (i32, u32, Kind),
@@ -32,8 +32,8 @@ fn spread(
     bucket(alloc, id, kind_of, alg, &items)
 }
 
-/// The host of a device: uniform with that device alone, or, for the first 32, a list that has a
-/// further device without weight behind it.
+/// Returns the host of a device: uniform with that device alone, or, for the first 32, a list that
+/// has a further device without weight behind it.
 fn host(alloc: Global, device: i32) -> Result<Bucket, AllocError> {
     let id = (-2i32).wrapping_sub(device);
     let both = [(device, ONE), (device.wrapping_add(HOSTS), 0)];
@@ -44,9 +44,9 @@ fn host(alloc: Global, device: i32) -> Result<Bucket, AllocError> {
     }
 }
 
-/// The hosts -2 - device. The racks `FIRST_RACK` - k, trees of 32 hosts: rack k has those of the
-/// devices from 32 k on, and all its weight is in that of device 33 k. A root of the racks, all of
-/// whose weight is in rack 17.
+/// Returns the hosts -2 - device. The racks `FIRST_RACK` - k, trees of 32 hosts: rack k has those
+/// of the devices from 32 k on, and all its weight is in that of device 33 k. A root of the racks,
+/// all of whose weight is in rack 17.
 fn all_buckets(alloc: Global) -> Result<Listed<Bucket>, AllocError> {
     let mut all = Vec::new(alloc);
     for device in 0..HOSTS {

@@ -57,7 +57,7 @@ fn ask_all(
     sum
 }
 
-/// The one rule of a map.
+/// Returns the one rule of a map.
 pub(crate) fn rule_of<'a>(rt: &impl Abort, map: &'a CrushMap) -> &'a Rule
     ensures { CanRun (tables_of map.now) result.now }
 {
@@ -67,7 +67,7 @@ pub(crate) fn rule_of<'a>(rt: &impl Abort, map: &'a CrushMap) -> &'a Rule
     &rules[0]
 }
 
-/// The folded answers of the rule of a map.
+/// Returns the folded answers of the rule of a map.
 pub(crate) fn ask(
     rt: &impl Abort,
     alloc: Global,
@@ -108,7 +108,7 @@ fn folded(sum: u64, items: &[Slot]) -> u64 {
     sum
 }
 
-/// The reweights that are given to a map of the devices 0 and 3.
+/// Returns the reweights that are given to a map of the devices 0 and 3.
 fn weights(alloc: Global, given: &[(u32, u32)]) -> Result<Weights, Fail> {
     let map = map_of(alloc, draft(alloc, SOUND)?)?;
     Ok(Weights::build(alloc, &map, given)?)
@@ -145,7 +145,7 @@ fn a_reweight_counts_for_an_id_that_is_no_device_of_the_map(rt: HostRuntime) -> 
     Ok(())
 }
 
-/// The items of a bucket, of one weight, in order of a number that grows or falls.
+/// Returns the items of a bucket, of one weight, in order of a number that grows or falls.
 fn row(first: i32, step: i32, weight: u32) -> [(i32, u32); 4] {
     let second = first.wrapping_add(step);
     let third = second.wrapping_add(step);
@@ -158,8 +158,8 @@ fn row(first: i32, step: i32, weight: u32) -> [(i32, u32); 4] {
     ]
 }
 
-/// A root of 3 racks of 4 hosts of 3 devices, with a kind for each level; ids fall from -2 on, and
-/// the root has -1.
+/// Returns a root of 3 racks of 4 hosts of 3 devices, with a kind for each level; ids fall from -2
+/// on, and the root has -1.
 pub(crate) fn three_levels(alloc: Global, kinds: [Kind; 3]) -> Result<Listed<Bucket>, AllocError> {
     let [of_root, of_racks, of_hosts] = kinds;
     let mut all = Vec::new(alloc);

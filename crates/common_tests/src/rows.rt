@@ -40,7 +40,7 @@ impl From<AllocError> for Mismatch {
     }
 }
 
-/// Whether a reply is that of its row. Allocates nothing.
+/// Returns whether a reply is that of its row. Allocates nothing.
 pub fn check_reply(reply: &Reply, row: &Row) -> Result<(), Mismatch> {
     let (method, path, _, status, body) = *row;
     if reply.status == status && reply.body.as_str() == body {
@@ -50,7 +50,7 @@ pub fn check_reply(reply: &Reply, row: &Row) -> Result<(), Mismatch> {
     }
 }
 
-/// Whether requests of a service, one after the other, have the replies of these rows.
+/// Returns whether requests of a service, one after the other, have the replies of these rows.
 pub fn check_requests<T: TenantStore>(
     service: &mut Service<T>,
     rows: &[Row],
@@ -67,7 +67,7 @@ pub fn check_requests<T: TenantStore>(
     Ok(())
 }
 
-/// The calls of some rows.
+/// Returns the calls of some rows.
 pub fn calls_of(alloc: Global, rows: &[Row]) -> Result<Vec<Call>, AllocError> {
     let mut calls = Vec::new(alloc);
     for (method, path, body, _, _) in rows {
@@ -80,7 +80,8 @@ pub fn calls_of(alloc: Global, rows: &[Row]) -> Result<Vec<Call>, AllocError> {
     Ok(calls)
 }
 
-/// Whether a run of the calls of some rows, on a service without a tenant, has their replies.
+/// Returns whether a run of the calls of some rows, on a service without a tenant, has their
+/// replies.
 pub fn check_run(alloc: Global, rows: &[Row]) -> Result<(), Mismatch> {
     let calls = calls_of(alloc, rows)?;
     let replies = Service::in_memory(alloc)?.run(&calls)?;
@@ -93,8 +94,8 @@ pub fn check_run(alloc: Global, rows: &[Row]) -> Result<(), Mismatch> {
     Ok(())
 }
 
-/// How many of the tenants a, b and c are there, where these are the first so many and the replies
-/// for the others are 404; else `None`.
+/// Returns how many of the tenants a, b and c are there, where these are the first so many and the
+/// replies for the others are 404; else `None`.
 pub fn created(service: &mut Service<MemoryStore>) -> Option<usize> {
     let mut count = 0usize;
     for (place, path) in ["/t/a", "/t/b", "/t/c"].into_iter().enumerate() {

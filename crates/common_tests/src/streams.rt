@@ -53,7 +53,7 @@ pub struct Writer {
 }
 
 impl Writer {
-    /// A writer that has taken nothing. Allocates nothing.
+    /// Returns a writer that has taken nothing. Allocates nothing.
     pub fn new(alloc: Global, writes: usize) -> Writer {
         Writer {
             taken: Vec::new(alloc),

@@ -27,7 +27,7 @@ fn at_space(bytes: &[u8]) -> (&[u8], &[u8])
     }
 }
 
-/// Whether one of the bytes is a space.
+/// Returns whether one of the bytes is a space.
 fn has_space(bytes: &[u8]) -> bool
     ensures { result ≡ list_any spec.is_space bytes.now }
 {

@@ -62,7 +62,7 @@ pub(crate) fn measure<R: AllocGlobal + Clock>(
     }
 }
 
-/// The devices 0, 1, .. with weights.
+/// Returns the devices 0, 1, .. with weights.
 fn entries_of(alloc: Global, kind: Kind, size: u32) -> Result<Vec<(ItemId, Weight)>, AllocError> {
     let mut entries = Vec::new(alloc);
     for n in 0..size.min(65_535) {
@@ -90,7 +90,7 @@ fn measure_bucket<P: Picker, R: Clock>(
     Ok(Some(Measured { checksum, took }))
 }
 
-/// The checksum of all picks.
+/// Returns the checksum of all picks.
 fn pick_all<P: Picker>(bucket: &P, perm: &mut Perm, questions: Questions) -> u64
     requires { perm.old.of ≡ perm_of (P.bucket bucket.now) }
 {

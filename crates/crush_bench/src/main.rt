@@ -103,7 +103,7 @@ fn refusal<R: Eprint>(rt: &R, refused: TextFault) -> io::Result<ExitCode> {
     Ok(ExitCode::from(1))
 }
 
-/// The canonical text of the map whose text is on standard input.
+/// Returns the canonical text of the map whose text is on standard input.
 fn rewritten<R: AllocGlobal + Input + Print + Eprint>(rt: &R) -> io::Result<ExitCode> {
     match text::rewrite(rt)? {
         None => Ok(ExitCode::SUCCESS),

@@ -26,7 +26,7 @@ fn with_answer(sum: u64, slots: &[Slot]) -> u64 {
     sum
 }
 
-/// The checksum over the answers for the inputs below `count`.
+/// Returns the checksum over the answers for the inputs below `count`.
 fn checksum(ready: &mut Ready, size: Size, count: u32) -> u64 {
     let mut sum = 0;
     for x in 0..count {

@@ -26,7 +26,7 @@ pub struct Ready<'a> {
 }
 
 impl<'a> Ready<'a> {
-    /// A map with its tables and with pairs of device and reweight.
+    /// Returns a map with its tables and with pairs of device and reweight.
     pub(crate) fn build(
         alloc: Global,
         map: &'a CrushMap,
@@ -46,7 +46,7 @@ impl<'a> Ready<'a> {
         })
     }
 
-    /// The answer of the map's first rule for an input; nothing where it has no rule.
+    /// Returns the answer of the map's first rule for an input; nothing where it has no rule.
     pub(crate) fn answer(&mut self, x: u32, size: Size) -> &[Slot] {
         rules_of_a_map_can_run();
         match self.map.rules().first() {

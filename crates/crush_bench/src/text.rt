@@ -5,7 +5,7 @@ use crush_text::{TextFault, read_map, write_map};
 use std::io;
 use std::io::{Read, Write};
 
-/// The map of the text on standard input, or the text's first fault.
+/// Returns the map of the text on standard input, or the text's first fault.
 pub(crate) fn read<R: AllocGlobal + Input>(rt: &R) -> io::Result<Result<CrushMap, TextFault>> {
     let mut text = Vec::new(rt.alloc());
     rt.reader().read_to_end(&mut text)?;

@@ -32,7 +32,7 @@ pub enum Work {
     },
 }
 
-/// What the arguments ask for; the first of them is the program's own name.
+/// Returns what the arguments ask for; the first of them is the program's own name.
 pub(crate) fn work_of(words: &[String]) -> Option<Work>
     ensures { IfSome result IsInRange }
 {
@@ -100,7 +100,7 @@ fn kind_of(word: &str) -> Option<Kind> {
     }
 }
 
-/// A number from 1 to the greatest.
+/// Returns a number from 1 to the greatest.
 fn number(word: &str, greatest: u32) -> Option<u32>
     ensures { IfSome result (λ n. (1 ≤ n) × (n ≤ greatest)) }
 {
@@ -112,7 +112,7 @@ fn number(word: &str, greatest: u32) -> Option<u32>
     }
 }
 
-/// The pairs of device and reweight that words name, or nothing where a word names no pair.
+/// Returns the pairs of device and reweight that words name, or nothing where a word names no pair.
 pub(crate) fn reweights_of(
     alloc: Global,
     words: &[String],

@@ -34,7 +34,7 @@ impl Model for TableRow {
 }
 
 impl TableRow {
-    /// The row of a map's bucket.
+    /// Returns the row of a map's bucket.
     ///
     /// `Err(AllocError)`: an allocation failed; nothing is changed.
     pub(crate) fn build(alloc: Global, bucket: &Bucket) -> Result<Self, AllocError>
@@ -48,14 +48,14 @@ impl TableRow {
         })
     }
 
-    /// The number of the bucket's type.
+    /// Returns the number of the bucket's type.
     pub(crate) fn of_type(&self) -> u32
         ensures { result ≡ self.now.of_type }
     {
         self.of_type
     }
 
-    /// The bucket's id.
+    /// Returns the bucket's id.
     pub(crate) fn id(&self) -> ItemId
         ensures { result ≡ self.now.bucket.id }
     {
@@ -65,7 +65,7 @@ impl TableRow {
         }
     }
 
-    /// The bucket's kind.
+    /// Returns the bucket's kind.
     pub(crate) fn kind(&self) -> Kind
         ensures { result ≡ self.now.bucket.kind }
     {
@@ -75,7 +75,7 @@ impl TableRow {
         }
     }
 
-    /// How many items the bucket has.
+    /// Returns how many items the bucket has.
     pub(crate) fn size(&self) -> usize
         ensures value { result ≡ length self.now.bucket.items }
         ensures few { result < 2 ^ 16 }
@@ -86,7 +86,7 @@ impl TableRow {
         }
     }
 
-    /// The bucket's items with their weights, in order of place.
+    /// Returns the bucket's items with their weights, in order of place.
     pub(crate) fn items(&self) -> &[(ItemId, Weight)]
         ensures { result.now ≡ self.now.bucket.items }
     {
@@ -96,7 +96,7 @@ impl TableRow {
         }
     }
 
-    /// The bucket, if it can be asked.
+    /// Returns the bucket, if it can be asked.
     #[inline]
     pub(crate) fn content(&self) -> &Content
         ensures { bucket_in result.now ≡ self.now.bucket }

@@ -51,14 +51,14 @@ impl Model for PlacementCache {
         × AreRight (λ p. p.value) (record { first = a.first; contents = a.contents.items }) a.entries.entries };
 }
 
-/// The place of the first content that is equal to another.
+/// Returns the place of the first content that is equal to another.
 fn place_of(contents: &[Content], content: &Content) -> Option<usize>
     ensures { result ≡ position (λ c. content_eq c content.now) contents.now }
 {
     contents.iter().position(|other| *other == *content)
 }
 
-/// The placement of a group, which is made anew.
+/// Returns the placement of a group, which is made anew.
 fn place_anew(
     alloc: Global,
     placer: &Placer<'_>,
@@ -78,8 +78,8 @@ fn place_anew(
 }
 
 impl PlacementCache {
-    /// An empty cache, with room for so many placements.
-    /// `Err(AllocError)`: an allocation failed; nothing is changed.
+    /// Returns an empty cache, with room for so many placements. `Err(AllocError)`: an allocation
+    /// failed; nothing is changed.
     pub fn new(alloc: Global, capacity: NonZeroUsize) -> Result<Self, AllocError>
         ensures { IfOk result (λ cache. cache ≡ record { first = 0; contents = [] }) }
     {
@@ -124,9 +124,9 @@ impl PlacementCache {
         Some(number)
     }
 
-    /// The number of a content, which is a new one where the content isn't there. It is compared
-    /// with those that have its hash, whole. `None` where it can't be kept: no number is left, or
-    /// an allocation failed.
+    /// Returns the number of a content, which is a new one where the content isn't there. It is
+    /// compared with those that have its hash, whole. `None` where it can't be kept: no number is
+    /// left, or an allocation failed.
     pub fn number_of(&mut self, content: &Content) -> Option<u64>
         ensures number { IfSome result (λ n. IsNumberOf self.new n content.now) }
         ensures given { IfSome result (λ n. WasNumberOf self.new n content.now) }
@@ -142,14 +142,14 @@ impl PlacementCache {
         }
     }
 
-    /// Whether the content with a number that was given is still there.
+    /// Returns whether the content with a number that was given is still there.
     pub fn has(&self, number: u64) -> bool
         ensures { result ≡ nat_le self.now.first number }
     {
         self.first <= number
     }
 
-    /// The placement that is kept of a group of the content with a number, if there is one.
+    /// Returns the placement that is kept of a group of the content with a number, if there is one.
     fn kept(&mut self, number: u64, group: u32) -> Option<Rc<Placement>>
         ensures placed { IfSome result (λ p. (c : Content) → IsNumberOf self.old number c → IsPlacementOf c group p.value) }
         ensures same { self.new ≡ self.old }
@@ -165,8 +165,8 @@ impl PlacementCache {
         keep(&mut self.entries, Key { number, group }, placement);
     }
 
-    /// The placement of a group, which is made anew, and kept where there is memory for it. The
-    /// number is that of the content.
+    /// Returns the placement of a group, which is made anew, and kept where there is memory for it.
+    /// The number is that of the content.
     fn place_and_keep(
         &mut self,
         number: u64,
@@ -191,7 +191,7 @@ impl PlacementCache {
         Ok(answer)
     }
 
-    /// Whether the map of the content with a number has a long text.
+    /// Returns whether the map of the content with a number has a long text.
     fn is_long(&self, number: u64) -> bool
         requires { (c : Content) × IsNumberOf self.now number c }
         ensures { (c : Content) → IsNumberOf self.now number c → result ≡ nat_le LONG_TEXT (length c.text) }
@@ -200,9 +200,9 @@ impl PlacementCache {
         self.contents[place].is_long()
     }
 
-    /// Whether the placement of a group of the content with a number is looked up, and kept: by a
-    /// map with a long text at once, and by others from the second time on that the group is asked
-    /// for, if the placements are near.
+    /// Returns whether the placement of a group of the content with a number is looked up, and
+    /// kept: by a map with a long text at once, and by others from the second time on that the
+    /// group is asked for, if the placements are near.
     fn is_kept(&mut self, number: u64, group: u32) -> bool
         requires { (c : Content) × IsNumberOf self.old number c }
         ensures { self.new ≡ self.old }
@@ -213,7 +213,8 @@ impl PlacementCache {
         self.entries.cap().get() <= NEAR_CAPACITY && self.seen.is_asked_again(Key { number, group })
     }
 
-    /// The placement of a group, which is kept, or made anew. The number is that of the content.
+    /// Returns the placement of a group, which is kept, or made anew. The number is that of the
+    /// content.
     fn place_numbered(
         &mut self,
         number: u64,
@@ -240,9 +241,9 @@ impl PlacementCache {
         }
     }
 
-    /// The placement of a group of a pool on a map, or `P2` where the pool has no such group: what
-    /// `crush_pool::place` answers, whatever the cache held, and whether or not there is memory or
-    /// a number left to keep it. The content is that of the placer.
+    /// Returns the placement of a group of a pool on a map, or `P2` where the pool has no such
+    /// group: what `crush_pool::place` answers, whatever the cache held, and whether or not there
+    /// is memory or a number left to keep it. The content is that of the placer.
     ///
     /// `Err(AllocError)`: an allocation for the placement itself failed.
     pub fn place(
@@ -263,9 +264,9 @@ impl PlacementCache {
         }
     }
 
-    /// The same, by the number that this cache gave to the content of the placer, which isn't
-    /// looked at: where the placement is kept, nothing is allocated. Where the content isn't there
-    /// any more, the placement is made anew, and not kept.
+    /// Returns the same, by the number that this cache gave to the content of the placer, which
+    /// isn't looked at: where the placement is kept, nothing is allocated. Where the content isn't
+    /// there any more, the placement is made anew, and not kept.
     pub fn place_known(
         &mut self,
         number: u64,

@@ -17,7 +17,7 @@ pub struct Key {
 /// Placements, that used last first.
 pub type Entries = LruCache<Key, Rc<Placement>>;
 
-/// The same placement again, shared.
+/// Returns the same placement again, shared.
 fn again(found: Option<&Rc<Placement>>) -> Option<Rc<Placement>>
     ensures { IfSome result (λ p. (kept : _) × (option_copied found.entry ≡ Some kept) × (p.value ≡ kept.value)) }
 {
@@ -30,7 +30,7 @@ fn again(found: Option<&Rc<Placement>>) -> Option<Rc<Placement>>
     }
 }
 
-/// The placement that is kept under a key, shared, if there is one. Takes no memory.
+/// Returns the placement that is kept under a key, shared, if there is one. Takes no memory.
 pub(crate) fn recall(entries: &mut Entries, key: Key) -> Option<Rc<Placement>>
     ensures found { IfSome result (λ p. (kept : _) × Contains entries.old.entries (key, kept) × (p.value ≡ kept.value)) }
     ensures same { (e : _) → Contains entries.new.entries e → Contains entries.old.entries e }

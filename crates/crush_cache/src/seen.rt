@@ -34,7 +34,8 @@ impl Seen {
         })
     }
 
-    /// Whether the group of a key was asked for lately; from now on it was. Allocates nothing.
+    /// Returns whether the group of a key was asked for lately; from now on it was. Allocates
+    /// nothing.
     pub(crate) fn is_asked_again(&mut self, key: Key) -> bool {
         // the upper half of this product depends on the group and on the number
         let mixed = (key.number << 32 ^ key.group as u64).wrapping_mul(MULTIPLIER);

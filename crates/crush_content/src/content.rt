@@ -41,7 +41,7 @@ impl Model for Content {
     ghost invariant = { λ a. a.hash ≡ content_hash (record { text = a.text; states = a.states; pool = a.pool.value; pairs = a.exceptions }) };
 }
 
-/// The hash of a text's hash, that of states, that of pairs, and a pool.
+/// Returns the hash of a text's hash, that of states, that of pairs, and a pool.
 fn hash_of(text: u64, states: u64, pairs: u64, pool: &Pool) -> u64
     ensures { result ≡ joined_hash text states pairs pool.now }
 {
@@ -58,8 +58,8 @@ impl Content {
     ghost use Rattle.crush_content.specs.Contents.{content_eq};
     ghost use Rattle.crush_content.specs.declared.content.TheConstants.{LONG_TEXT};
 
-    /// The content of these. Takes no memory, and time that doesn't depend on the lengths of the
-    /// text, of the states and of the exceptions.
+    /// Returns the content of these. Takes no memory, and time that doesn't depend on the lengths
+    /// of the text, of the states and of the exceptions.
     pub fn new(
         text: SharedText,
         states: SharedStates,
@@ -78,14 +78,14 @@ impl Content {
         }
     }
 
-    /// Whether the text is long.
+    /// Returns whether the text is long.
     pub fn is_long(&self) -> bool
         ensures { result ≡ nat_le LONG_TEXT (length self.now.text) }
     {
         self.text.as_str().len() >= LONG_TEXT
     }
 
-    /// Whether pool, exceptions, states and text are the same.
+    /// Returns whether pool, exceptions, states and text are the same.
     fn is_same(&self, other: &Content) -> bool
         ensures { result ≡ content_eq self.now other.now }
     {
@@ -95,8 +95,8 @@ impl Content {
             && self.text.as_str() == other.text.as_str()
     }
 
-    /// The same content again: its parts are shared, and not copied. Takes no memory, but can be
-    /// refused where the number of those who share a part is full.
+    /// Returns the same content again: its parts are shared, and not copied. Takes no memory, but
+    /// can be refused where the number of those who share a part is full.
     pub fn share(&self) -> Result<Self, AllocError>
         ensures { IfOk result (λ again. again ≡ self.now) }
     {

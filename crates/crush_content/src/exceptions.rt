@@ -39,7 +39,7 @@ fn feed(hasher: &mut FoldHasher, pair: &Pair)
     pair.to.hash(hasher);
 }
 
-/// The hash of pairs.
+/// Returns the hash of pairs.
 fn hash_of(pairs: &[Pair]) -> u64
     ensures { result ≡ pairs_hash pairs.now }
 {
@@ -56,7 +56,7 @@ impl SharedExceptions {
     ghost use Rattle.crush_content.specs.Contents.{pair_eq};
     ghost use Rattle.crush_content.specs.Hashes.{pairs_hash};
 
-    /// These exceptions. Takes time linear in the number of pairs, for the hash.
+    /// Returns these exceptions. Takes time linear in the number of pairs, for the hash.
     /// `Err(AllocError)`: an allocation failed; the exceptions are dropped.
     pub fn new(alloc: Global, exceptions: Exceptions) -> Result<Self, AllocError>
         ensures { IfOk result (λ shared. shared ≡ exceptions) }
@@ -66,29 +66,29 @@ impl SharedExceptions {
         Ok(SharedExceptions { exceptions, hash })
     }
 
-    /// The exceptions.
+    /// Returns the exceptions.
     pub fn exceptions(&self) -> &Exceptions
         ensures { result.now ≡ self.now }
     {
         &self.exceptions
     }
 
-    /// The hash of the pairs.
+    /// Returns the hash of the pairs.
     pub fn hash(&self) -> u64
         ensures { result ≡ pairs_hash self.now }
     {
         self.hash
     }
 
-    /// Whether the pairs are the same, in the same order.
+    /// Returns whether the pairs are the same, in the same order.
     pub(crate) fn is_same(&self, other: &SharedExceptions) -> bool
         ensures { result ≡ pointwise pair_eq self.now other.now }
     {
         self.exceptions.pairs() == other.exceptions.pairs()
     }
 
-    /// The same exceptions again, shared. Takes no memory, but can be refused where the number of
-    /// those who share them is full.
+    /// Returns the same exceptions again, shared. Takes no memory, but can be refused where the
+    /// number of those who share them is full.
     pub fn share(&self) -> Result<Self, AllocError>
         ensures { IfOk result (λ again. again ≡ self.now) }
     {

@@ -7,7 +7,7 @@ ghost use Rattle.crush_content.specs.Contents.{pool_eq};
 use crush_pool::Pool;
 use std::hash::{FoldHasher, Hash, Hasher};
 
-/// Whether all settings of two pools are the same.
+/// Returns whether all settings of two pools are the same.
 pub(crate) fn is_same_pool(pool: &Pool, other: &Pool) -> bool
     ensures { result ≡ pool_eq pool.now other.now }
 {

@@ -40,7 +40,7 @@ fn feed(hasher: &mut FoldHasher, state: &DeviceState)
     state.up.hash(hasher);
 }
 
-/// The hash of states.
+/// Returns the hash of states.
 fn hash_of(states: &[DeviceState]) -> u64
     ensures { result ≡ states_hash states.now }
 {
@@ -55,7 +55,7 @@ impl SharedStates {
     ghost use Rattle.std.specs.Prelude.{◌≡◌, IfOk};
     ghost use Rattle.crush_content.specs.Hashes.{states_hash};
 
-    /// These states. Takes time linear in their number, for the hash. `Err(AllocError)`: an
+    /// Returns these states. Takes time linear in their number, for the hash. `Err(AllocError)`: an
     /// allocation failed; the list is dropped.
     pub fn new(states: Vec<DeviceState>) -> Result<Self, AllocError>
         ensures { IfOk result (λ shared. shared ≡ states.items) }
@@ -65,7 +65,7 @@ impl SharedStates {
         Ok(SharedStates { states, hash })
     }
 
-    /// The states, in order.
+    /// Returns the states, in order.
     pub fn as_slice(&self) -> &[DeviceState]
         ensures { result.now ≡ self.now }
     {
@@ -79,8 +79,8 @@ impl SharedStates {
         self.hash
     }
 
-    /// The same states again, shared. Takes no memory, but can be refused where the number of
-    /// those who share them is full.
+    /// Returns the same states again, shared. Takes no memory, but can be refused where the number
+    /// of those who share them is full.
     pub fn share(&self) -> Result<Self, AllocError>
         ensures { IfOk result (λ again. again ≡ self.now) }
     {

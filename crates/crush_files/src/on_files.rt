@@ -52,7 +52,7 @@ fn script_on_tables<S: Alter + Drop, F: Watch + Drop, R: Read, W: Write>(
     (end, conn)
 }
 
-/// Whether the file failed for good while lines were served.
+/// Returns whether the file failed for good while lines were served.
 fn failed_for_good(end: &Result<ScriptEnd, AllocError>) -> bool
     ensures { end.now ≡ Ok ScriptEnd.Latched → result ≡ true }
 {

@@ -97,14 +97,14 @@ fn declaration<'a>(
     }
 }
 
-/// Whether a declaration is one of those that come before all buckets and rules.
+/// Returns whether a declaration is one of those that come before all buckets and rules.
 fn is_early(declaration: &Declaration<'_>) -> bool
     ensures { result ≡ is_early declaration.now }
 {
     !matches!(declaration, Declaration::Bucket(_) | Declaration::Rule(_))
 }
 
-/// What was declared before an error, with its fault.
+/// Returns what was declared before an error, with its fault.
 ///
 /// `Err(AllocError)`: the error is that an allocation failed.
 #[tactic(auto, using(crate::proofs::States::read_failed))]
@@ -123,7 +123,7 @@ fn stopped<'a>(
     }
 }
 
-/// What a text declares, and its first fault of form, as the automaton reads them.
+/// Returns what a text declares, and its first fault of form, as the automaton reads them.
 ///
 /// `Err(AllocError)`: an allocation failed; nothing is changed.
 fn read_words<'a>(alloc: Global, text: &'a [u8]) -> Result<Declarations<'a>, AllocError>
@@ -148,7 +148,7 @@ fn read_words<'a>(alloc: Global, text: &'a [u8]) -> Result<Declarations<'a>, All
     })
 }
 
-/// What a text declares, up to its first fault of form, whatever its length.
+/// Returns what a text declares, up to its first fault of form, whatever its length.
 ///
 /// If there is no fault, its words are of the grammar. What is declared isn't checked.
 ///

@@ -15,7 +15,7 @@ use crate::error::ReadError;
 use crush_map::{Kind, all_are_name_bytes, is_reserved};
 use crush_words::{Cursor, Name, Word, integer_from_text, number_from_text};
 
-/// The error of a word that is not of the grammar, or of the end of a text, on this line.
+/// Returns the error of a word that is not of the grammar, or of the end of a text, on this line.
 pub(crate) fn out_of_grammar(line: usize) -> ReadError
     ensures { result ≡ out_of_grammar line }
 {
@@ -25,7 +25,7 @@ pub(crate) fn out_of_grammar(line: usize) -> ReadError
     })
 }
 
-/// The next word, and what is left after it. An error: no word is left.
+/// Returns the next word, and what is left after it. An error: no word is left.
 pub(crate) fn next<'a>(cursor: &Cursor<'a>) -> Result<(Word<'a>, Cursor<'a>), ReadError>
     ensures value { MatchResult result (λ r. (cursor.now.words ≡ r.0 ∷ r.1.words) × (r.1.line ≡ r.0.line)) (λ e. (cursor.now.words ≡ []) × (e ≡ out_of_grammar cursor.now.line)) }
 {
@@ -35,7 +35,7 @@ pub(crate) fn next<'a>(cursor: &Cursor<'a>) -> Result<(Word<'a>, Cursor<'a>), Re
     }
 }
 
-/// Whether a word has this text.
+/// Returns whether a word has this text.
 pub(crate) fn is(text: &[u8], word: &Word<'_>) -> bool
     ensures { result ≡ fronts.is text.now word.now }
 {
@@ -53,7 +53,7 @@ pub(crate) fn keyword(text: &[u8], word: &Word<'_>) -> Result<(), ReadError>
     }
 }
 
-/// The number that a word writes.
+/// Returns the number that a word writes.
 pub(crate) fn number(word: &Word<'_>) -> Result<u64, ReadError>
     ensures { result ≡ said word.now (numbers.number_of word.now.text) }
 {
@@ -63,7 +63,7 @@ pub(crate) fn number(word: &Word<'_>) -> Result<u64, ReadError>
     }
 }
 
-/// The integer that a word writes.
+/// Returns the integer that a word writes.
 pub(crate) fn integer(word: &Word<'_>) -> Result<i64, ReadError>
     ensures { result ≡ said word.now (numbers.integer_of word.now.text) }
 {
@@ -73,7 +73,7 @@ pub(crate) fn integer(word: &Word<'_>) -> Result<i64, ReadError>
     }
 }
 
-/// The text of bytes that names may have, all of which are ASCII.
+/// Returns the text of bytes that names may have, all of which are ASCII.
 #[tactic(auto, using(crate::proofs::Names::are_utf8))]
 fn as_text(bytes: &[u8]) -> &str
     requires { list_all is_name_byte bytes.now ≡ true }
@@ -85,7 +85,7 @@ fn as_text(bytes: &[u8]) -> &str
     }
 }
 
-/// The name that a word is.
+/// Returns the name that a word is.
 #[tactic(auto, unfolding(crate::specs::Sayings::name_of))]
 pub(crate) fn name_of<'a>(word: &Word<'a>) -> Option<Name<'a>>
     ensures { result ≡ spec.name_of word.now.text }
@@ -98,7 +98,7 @@ pub(crate) fn name_of<'a>(word: &Word<'a>) -> Option<Name<'a>>
     }
 }
 
-/// The name that a word is.
+/// Returns the name that a word is.
 pub(crate) fn name<'a>(word: &Word<'a>) -> Result<Name<'a>, ReadError>
     ensures { result ≡ said word.now (spec.name_of word.now.text) }
 {
@@ -108,7 +108,7 @@ pub(crate) fn name<'a>(word: &Word<'a>) -> Result<Name<'a>, ReadError>
     }
 }
 
-/// The type of a bucket that a word names.
+/// Returns the type of a bucket that a word names.
 #[tactic(auto, unfolding(crate::specs::Sayings::type_of))]
 pub(crate) fn type_of<'a>(word: &Word<'a>) -> Option<Name<'a>>
     ensures { result ≡ spec.type_of word.now.text }
@@ -120,7 +120,7 @@ pub(crate) fn type_of<'a>(word: &Word<'a>) -> Option<Name<'a>>
     }
 }
 
-/// The tunable that a word names.
+/// Returns the tunable that a word names.
 #[tactic(auto, unfolding(crate::specs::Sayings::tunable_of))]
 fn tunable_of(word: &Word<'_>) -> Option<TunableName>
     ensures { result ≡ spec.tunable_of word.now.text }
@@ -146,7 +146,7 @@ fn tunable_of(word: &Word<'_>) -> Option<TunableName>
     }
 }
 
-/// The tunable that a word names.
+/// Returns the tunable that a word names.
 pub(crate) fn tunable(word: &Word<'_>) -> Result<TunableName, ReadError>
     ensures { result ≡ said word.now (spec.tunable_of word.now.text) }
 {
@@ -156,7 +156,7 @@ pub(crate) fn tunable(word: &Word<'_>) -> Result<TunableName, ReadError>
     }
 }
 
-/// The algorithm that a word names.
+/// Returns the algorithm that a word names.
 #[tactic(auto, unfolding(crate::specs::Sayings::alg_of))]
 pub(crate) fn alg_of(word: &Word<'_>) -> Option<Kind>
     ensures { result ≡ spec.alg_of word.now.text }
@@ -164,7 +164,7 @@ pub(crate) fn alg_of(word: &Word<'_>) -> Option<Kind>
     Kind::named(word.text())
 }
 
-/// The type of a rule that a word names.
+/// Returns the type of a rule that a word names.
 #[tactic(auto, unfolding(crate::specs::Sayings::erasure_of))]
 pub(crate) fn erasure(word: &Word<'_>) -> Result<bool, ReadError>
     ensures { result ≡ said word.now (spec.erasure_of word.now.text) }
@@ -178,7 +178,7 @@ pub(crate) fn erasure(word: &Word<'_>) -> Result<bool, ReadError>
     }
 }
 
-/// How a word says that a step chooses.
+/// Returns how a word says that a step chooses.
 #[tactic(auto, unfolding(crate::specs::Sayings::firstn_of))]
 pub(crate) fn firstn(word: &Word<'_>) -> Result<bool, ReadError>
     ensures { result ≡ said word.now (spec.firstn_of word.now.text) }
@@ -192,7 +192,7 @@ pub(crate) fn firstn(word: &Word<'_>) -> Result<bool, ReadError>
     }
 }
 
-/// What a word sets.
+/// Returns what a word sets.
 #[tactic(auto, unfolding(crate::specs::Sayings::setting_of))]
 pub(crate) fn setting(word: &Word<'_>) -> Result<Setting, ReadError>
     ensures { result ≡ said word.now (spec.setting_of word.now.text) }
@@ -240,7 +240,7 @@ pub(crate) fn rule_id(word: &Word<'_>) -> Result<(), ReadError>
     }
 }
 
-/// Whether a word is of the bytes of names, or is a brace.
+/// Returns whether a word is of the bytes of names, or is a brace.
 pub(crate) fn is_token(word: &Word<'_>) -> bool
     ensures { result ≡ fronts.is_token word.now }
 {

@@ -130,7 +130,7 @@ const NAME_HASHES: [(u32, u32); 88] = [
     (1_024, 32_670_644),
 ];
 
-/// The name of a length n in the table: its byte i is (7 n + 31 i) mod 256.
+/// Returns the name of a length n in the table: its byte i is (7 n + 31 i) mod 256.
 fn name_of(alloc: Global, length: u32) -> Result<Vec<u8>, AllocError> {
     let mut name = Vec::new(alloc);
     for i in 0..length {

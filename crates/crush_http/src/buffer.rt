@@ -41,7 +41,7 @@ impl Buffer {
         self.filled = 0;
     }
 
-    /// The bytes.
+    /// Returns the bytes.
     pub(crate) fn bytes(&self) -> &[u8]
         ensures value { result.now ≡ self.now }
         ensures limit { length self.now ≤ HEAD_LIMIT }

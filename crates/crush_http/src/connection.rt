@@ -42,7 +42,7 @@ enum Turn {
     Cut,
 }
 
-/// Whether the connection ends after this message.
+/// Returns whether the connection ends after this message.
 fn is_last(closes: bool, most: u32) -> bool
     ensures { result ≡ (closes || most == 1) }
 {

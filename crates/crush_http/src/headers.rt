@@ -20,7 +20,7 @@ pub(crate) enum Values<'a> {
     Many,
 }
 
-/// Whether the header has the name, in any case of letters.
+/// Returns whether the header has the name, in any case of letters.
 fn is_named(bytes: &[u8], header: &HeaderSpan, name: &[u8]) -> bool
     requires { IsHeaderWithin (length bytes.now) header.now }
     ensures { result ≡ spec.same_word (span_bytes bytes.now header.now.name) name.now }
@@ -58,14 +58,14 @@ fn number_of(text: &[u8]) -> u64
     number
 }
 
-/// Whether each byte is a digit.
+/// Returns whether each byte is a digit.
 fn are_digits(text: &[u8]) -> bool
     ensures { result ≡ list_all is_ascii_digit text.now }
 {
     text.iter().all(|byte| byte.is_ascii_digit())
 }
 
-/// Whether the text has the form of a length.
+/// Returns whether the text has the form of a length.
 fn is_length(text: &[u8]) -> bool
     ensures { result ≡ spec.is_length text.now }
 {
@@ -102,7 +102,7 @@ pub(crate) fn size_of(bytes: &[u8], headers: &[HeaderSpan]) -> Result<usize, Rej
     }
 }
 
-/// Whether the header is `Connection: close`.
+/// Returns whether the header is `Connection: close`.
 fn is_close(bytes: &[u8], header: &HeaderSpan) -> bool
     requires { IsHeaderWithin (length bytes.now) header.now }
     ensures { result ≡ (spec.same_word (span_bytes bytes.now header.now.name) (codes "connection") && spec.same_word (span_bytes bytes.now header.now.value) (codes "close")) }
@@ -110,7 +110,7 @@ fn is_close(bytes: &[u8], header: &HeaderSpan) -> bool
     is_named(bytes, header, b"connection") && header.value.of(bytes).eq_ignore_ascii_case(b"close")
 }
 
-/// Whether one of the headers is `Connection: close`.
+/// Returns whether one of the headers is `Connection: close`.
 pub(crate) fn asks_close(bytes: &[u8], headers: &[HeaderSpan]) -> bool
     requires { All (IsHeaderWithin (length bytes.now)) headers.now }
     ensures { result ≡ spec.asks_close (map (header_bytes bytes.now) headers.now) }

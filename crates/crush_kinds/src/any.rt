@@ -38,7 +38,7 @@ impl Model for AnyBucket {
 }
 
 impl AnyBucket {
-    /// The bucket of this kind with these items, in order of place.
+    /// Returns the bucket of this kind with these items, in order of place.
     ///
     /// `Err(AllocError)`: an allocation failed; nothing is changed.
     pub fn build(
@@ -61,7 +61,7 @@ impl AnyBucket {
         Ok(AnyBucket { by_kind })
     }
 
-    /// The bucket's id.
+    /// Returns the bucket's id.
     pub fn id(&self) -> ItemId
         ensures { result ≡ self.now.id }
     {
@@ -72,7 +72,7 @@ impl AnyBucket {
         }
     }
 
-    /// The bucket's kind.
+    /// Returns the bucket's kind.
     pub fn kind(&self) -> Kind
         ensures { result ≡ self.now.kind }
     {
@@ -83,7 +83,7 @@ impl AnyBucket {
         }
     }
 
-    /// How many items the bucket has.
+    /// Returns how many items the bucket has.
     pub fn size(&self) -> usize
         ensures value { result ≡ length self.now.items }
         ensures some { 0 < result }
@@ -96,7 +96,7 @@ impl AnyBucket {
         }
     }
 
-    /// The items with their weights, in order of place.
+    /// Returns the items with their weights, in order of place.
     pub fn items(&self) -> &[(ItemId, Weight)]
         ensures { result.now ≡ self.now.items }
     {
@@ -107,7 +107,7 @@ impl AnyBucket {
         }
     }
 
-    /// The bucket, where it is a tree.
+    /// Returns the bucket, where it is a tree.
     pub fn tree(&self) -> Option<&TreeBucket>
         ensures { IfSome result (λ tree. tree.now ≡ self.now) }
     {
@@ -117,7 +117,7 @@ impl AnyBucket {
         }
     }
 
-    /// The bucket, where it is uniform.
+    /// Returns the bucket, where it is uniform.
     pub fn uniform(&self) -> Option<&UniformBucket>
         ensures { IfSome result (λ uniform. uniform.now ≡ self.now) }
     {
@@ -127,8 +127,8 @@ impl AnyBucket {
         }
     }
 
-    /// The item that is picked for an input and an attempt, by permutations of several buckets, of
-    /// which this one has a number, whatever they were asked before. Allocates nothing.
+    /// Returns the item that is picked for an input and an attempt, by permutations of several
+    /// buckets, of which this one has a number, whatever they were asked before. Allocates nothing.
     #[inline]
     pub fn pick_by(&self, perms: &mut Perms, number: usize, x: u32, r: u32) -> ItemId
         requires room { self.now.kind ≡ Kind.Uniform → length self.now.items ≤ perms.old }

@@ -10,21 +10,21 @@ use crate::limits::{DIGIT_LIMIT, FRACTION_DIGIT_LIMIT};
 use crush_types::Weight;
 use std::alloc::{AllocError, Global};
 
-/// Whether each byte is a digit.
+/// Returns whether each byte is a digit.
 fn all_are_digits(text: &[u8]) -> bool
     ensures { result ≡ list_all spec.is_digit text.now }
 {
     text.iter().all(|byte| byte.is_ascii_digit())
 }
 
-/// Whether a text is `low` to `high` digits and nothing else.
+/// Returns whether a text is `low` to `high` digits and nothing else.
 pub fn are_digits(low: usize, high: usize, text: &[u8]) -> bool
     ensures { result ≡ spec.are_digits low high text.now }
 {
     low <= text.len() && text.len() <= high && all_are_digits(text)
 }
 
-/// The number that at most `FRACTION_DIGIT_LIMIT` digits write.
+/// Returns the number that at most `FRACTION_DIGIT_LIMIT` digits write.
 fn number(digits: &[u8]) -> u128
     requires digits { list_all spec.is_digit digits.now ≡ true }
     requires few { length digits.now ≤ FRACTION_DIGIT_LIMIT }
@@ -38,7 +38,7 @@ fn number(digits: &[u8]) -> u128
     number
 }
 
-/// The weight of the digits before and after a point, rounded down.
+/// Returns the weight of the digits before and after a point, rounded down.
 fn weight_of_parts(whole: &[u8], fraction: &[u8]) -> Option<Weight>
     requires whole { list_all spec.is_digit whole.now ≡ true }
     requires fraction { list_all spec.is_digit fraction.now ≡ true }
@@ -52,15 +52,15 @@ fn weight_of_parts(whole: &[u8], fraction: &[u8]) -> Option<Weight>
     u32::try_from(weight).ok().map(Weight)
 }
 
-/// The place of the first point.
+/// Returns the place of the first point.
 fn first_point(text: &[u8]) -> Option<usize>
     ensures { result ≡ position spec.is_point text.now }
 {
     text.iter().position(|byte| *byte == b'.')
 }
 
-/// The weight that a text writes, rounded down to 16.16 fixed point: 1 to `DIGIT_LIMIT` digits,
-/// alone or followed by a point and 1 to `FRACTION_DIGIT_LIMIT` digits.
+/// Returns the weight that a text writes, rounded down to 16.16 fixed point: 1 to `DIGIT_LIMIT`
+/// digits, alone or followed by a point and 1 to `FRACTION_DIGIT_LIMIT` digits.
 ///
 /// `None`: the text has another form, or its value is 65536 or more.
 #[tactic(auto, unfolding(crate::specs::WeightText::weight_of))]
@@ -81,7 +81,7 @@ pub fn weight_from_text(text: &[u8]) -> Option<Weight>
     }
 }
 
-/// A weight in hundred-thousandths of 1.0, rounded up.
+/// Returns a weight in hundred-thousandths of 1.0, rounded up.
 fn hundred_thousandths(weight: Weight) -> u64
     ensures value { result ≡ spec.hundred_thousandths weight }
     ensures bound { result < 10 ^ 10 }
@@ -89,8 +89,8 @@ fn hundred_thousandths(weight: Weight) -> u64
     (u64::from(weight.0) * 100_000).div_ceil(65_536)
 }
 
-/// The decimal text of a weight, with five decimals, rounded up: `weight_from_text` reads the same
-/// weight from it.
+/// Returns the decimal text of a weight, with five decimals, rounded up: `weight_from_text` reads
+/// the same weight from it.
 pub fn weight_text(alloc: Global, weight: Weight) -> Result<String, AllocError>
     ensures { IfOk result (λ text. string_bytes text ≡ spec.text_of weight) }
 {

@@ -6,21 +6,21 @@ ghost use Rattle.crush_map.specs.Faults as spec;
 
 use crate::limits::NAME_LIMIT;
 
-/// Whether a byte is allowed in a name: an ASCII letter or digit, `-`, `_` or `.`.
+/// Returns whether a byte is allowed in a name: an ASCII letter or digit, `-`, `_` or `.`.
 pub fn is_name_byte(byte: u8) -> bool
     ensures { result ≡ spec.is_name_byte byte }
 {
     matches!(byte, b'a'..=b'z' | b'A'..=b'Z' | b'0'..=b'9' | b'-' | b'_' | b'.')
 }
 
-/// Whether each byte is allowed in a name.
+/// Returns whether each byte is allowed in a name.
 pub fn all_are_name_bytes(bytes: &[u8]) -> bool
     ensures { result ≡ list_all spec.is_name_byte bytes.now }
 {
     bytes.iter().all(|&byte| is_name_byte(byte))
 }
 
-/// Whether a text is a name: 1 to `NAME_LIMIT` bytes that are allowed in one.
+/// Returns whether a text is a name: 1 to `NAME_LIMIT` bytes that are allowed in one.
 pub fn is_name(name: &str) -> bool
     ensures { result ≡ spec.is_name name.now }
 {
@@ -28,14 +28,15 @@ pub fn is_name(name: &str) -> bool
     1 <= bytes.len() && bytes.len() <= NAME_LIMIT && all_are_name_bytes(bytes)
 }
 
-/// Whether two texts are the same.
+/// Returns whether two texts are the same.
 fn is(word: &[u8], name: &[u8]) -> bool
     ensures { result ≡ bytes_eq word.now name.now }
 {
     word == name
 }
 
-/// Whether a text begins a declaration in a map's text, or is `class`: no type has such a name.
+/// Returns whether a text begins a declaration in a map's text, or is `class`: no type has such a
+/// name.
 pub fn is_reserved(name: &[u8]) -> bool
     ensures { result ≡ spec.is_reserved name.now }
 {

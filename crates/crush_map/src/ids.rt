@@ -27,7 +27,7 @@ impl Model for Ids {
 }
 
 impl Ids {
-    /// The empty list.
+    /// Returns the empty list.
     pub(crate) fn new(alloc: Global) -> Self
         ensures { result ≡ spec.no_ids }
     {
@@ -37,21 +37,21 @@ impl Ids {
         }
     }
 
-    /// How many ids of devices there are.
+    /// Returns how many ids of devices there are.
     pub(crate) fn devices(&self) -> usize
         ensures { result ≡ length self.now.devices }
     {
         self.devices.len()
     }
 
-    /// How many ids of buckets there are.
+    /// Returns how many ids of buckets there are.
     pub(crate) fn buckets(&self) -> usize
         ensures { result ≡ length self.now.buckets }
     {
         self.buckets.len()
     }
 
-    /// Whether a device with this id was added.
+    /// Returns whether a device with this id was added.
     pub(crate) fn has_device(&self, id: u32) -> bool
         ensures { result ≡ spec.has_number self.now.devices id }
     {
@@ -68,7 +68,7 @@ impl Ids {
         self.devices.add(id)
     }
 
-    /// Whether a device or bucket with this id was added.
+    /// Returns whether a device or bucket with this id was added.
     pub(crate) fn has(&self, id: ItemId) -> bool
         ensures value { result ≡ spec.has_id self.now id.0 }
         ensures known { IsTrue result → IsTrue (tables.is_id id.0) }

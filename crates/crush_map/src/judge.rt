@@ -9,7 +9,7 @@ use crate::fault::{Element, FaultCode, MapFault};
 use crate::known::Known;
 use std::alloc::{AllocError, Global};
 
-/// The fault with this code at a place of a list.
+/// Returns the fault with this code at a place of a list.
 fn fault_at(element: Element, index: usize, code: FaultCode) -> MapFault
     ensures { result ≡ record { code = code; element = element; index = index } }
 {
@@ -20,8 +20,8 @@ fn fault_at(element: Element, index: usize, code: FaultCode) -> MapFault
     }
 }
 
-/// The first fault of types, each checked against those before it; if there is none, all are
-/// declared.
+/// Returns the first fault of types, each checked against those before it; if there is none, all
+/// are declared.
 #[tactic(auto, unfolding(crate::specs::Faults::first_in))]
 fn judge_types(
     alloc: Global,
@@ -39,8 +39,8 @@ fn judge_types(
     Ok(None)
 }
 
-/// The first fault of devices, each checked against those before it; if there is none, all are
-/// declared.
+/// Returns the first fault of devices, each checked against those before it; if there is none, all
+/// are declared.
 #[tactic(auto, unfolding(crate::specs::Faults::first_in))]
 fn judge_devices(
     alloc: Global,
@@ -58,8 +58,8 @@ fn judge_devices(
     Ok(None)
 }
 
-/// The first fault of buckets, each checked against those before it; if there is none, all are
-/// declared.
+/// Returns the first fault of buckets, each checked against those before it; if there is none, all
+/// are declared.
 #[tactic(auto, unfolding(crate::specs::Faults::first_in))]
 fn judge_buckets(
     alloc: Global,
@@ -78,8 +78,8 @@ fn judge_buckets(
     Ok(None)
 }
 
-/// The first fault of rules, each checked against those before it; if there is none, all are
-/// declared.
+/// Returns the first fault of rules, each checked against those before it; if there is none, all
+/// are declared.
 #[tactic(auto, unfolding(crate::specs::Faults::first_in))]
 fn judge_rules(
     alloc: Global,
@@ -98,8 +98,8 @@ fn judge_rules(
     Ok(None)
 }
 
-/// The first fault of a draft's types, devices, buckets and rules; if there is none, all are
-/// declared.
+/// Returns the first fault of a draft's types, devices, buckets and rules; if there is none, all
+/// are declared.
 #[tactic(auto, unfolding(crate::specs::Faults::element_fault))]
 fn judge_elements(
     alloc: Global,
@@ -122,8 +122,8 @@ fn judge_elements(
     judge_rules(alloc, known, draft.rules.as_slice())
 }
 
-/// The first fault of a draft of which nothing is known yet: of its elements, else the one at its
-/// end.
+/// Returns the first fault of a draft of which nothing is known yet: of its elements, else the one
+/// at its end.
 #[tactic(auto, unfolding(crate::specs::Faults::first_fault))]
 fn fault_of(
     alloc: Global,

@@ -52,7 +52,7 @@ impl Known {
         }
     }
 
-    /// The fault of a type that is declared next; a type without a fault is declared.
+    /// Returns the fault of a type that is declared next; a type without a fault is declared.
     ///
     /// `Err(AllocError)`: an allocation failed; the value must not be used any more.
     #[tactic(auto, unfolding(crate::specs::Faults::type_fault))]
@@ -82,7 +82,7 @@ impl Known {
         Ok(Some(fault))
     }
 
-    /// The fault of a device that is declared next; a device without a fault is declared.
+    /// Returns the fault of a device that is declared next; a device without a fault is declared.
     ///
     /// `Err(AllocError)`: an allocation failed; the value must not be used any more.
     #[tactic(auto, unfolding(crate::specs::Faults::device_fault))]
@@ -112,7 +112,7 @@ impl Known {
         Ok(Some(fault))
     }
 
-    /// The fault of a bucket, if it is declared next.
+    /// Returns the fault of a bucket, if it is declared next.
     ///
     /// `Err(AllocError)`: an allocation failed; nothing is changed.
     #[tactic(auto, unfolding(crate::specs::Faults::bucket_fault))]
@@ -146,7 +146,7 @@ impl Known {
         Ok(Some(fault))
     }
 
-    /// The fault of a bucket's items and weights.
+    /// Returns the fault of a bucket's items and weights.
     #[tactic(auto, unfolding(crate::specs::Faults::contents_fault))]
     fn contents_fault(
         &self,
@@ -169,7 +169,7 @@ impl Known {
         Ok(None)
     }
 
-    /// The first fault of a bucket's items, if the bucket has these ids before them.
+    /// Returns the first fault of a bucket's items, if the bucket has these ids before them.
     ///
     /// `Err(AllocError)`: an allocation failed; `before` must not be used any more.
     #[tactic(auto, unfolding(crate::specs::Faults::items_fault))]
@@ -192,7 +192,7 @@ impl Known {
         Ok(None)
     }
 
-    /// The first fault of a bucket's items.
+    /// Returns the first fault of a bucket's items.
     fn items_fault(
         &self,
         alloc: Global,
@@ -216,7 +216,7 @@ impl Known {
         self.items.add(declared.id)
     }
 
-    /// The fault of a choose step.
+    /// Returns the fault of a choose step.
     #[tactic(auto, unfolding(crate::specs::Faults::choose_fault))]
     fn choose_fault(&self, firstn: bool, leaf: bool, n: i32, wanted: u32) -> Option<FaultCode>
         ensures { result ≡ spec.choose_fault self.now firstn leaf n wanted }
@@ -232,7 +232,7 @@ impl Known {
         }
     }
 
-    /// The fault of a step of a rule.
+    /// Returns the fault of a step of a rule.
     #[tactic(auto, unfolding(crate::specs::Faults::step_fault))]
     pub fn step_fault(&self, step: Step) -> Option<FaultCode>
         ensures { result ≡ spec.step_fault self.now step }
@@ -253,7 +253,7 @@ impl Known {
         }
     }
 
-    /// The first fault of steps.
+    /// Returns the first fault of steps.
     fn steps_fault(&self, steps: &[Step]) -> Option<FaultCode>
         ensures { result ≡ spec.steps_fault self.now steps.now }
     {
@@ -265,7 +265,7 @@ impl Known {
         None
     }
 
-    /// The fault of a rule, if it is declared next, apart from the faults of its steps.
+    /// Returns the fault of a rule, if it is declared next, apart from the faults of its steps.
     #[tactic(auto, unfolding(crate::specs::Faults::rule_head_fault))]
     pub fn rule_head_fault(&self, declared: &Rule) -> Option<FaultCode>
         ensures { result ≡ spec.rule_head_fault self.now declared.now }
@@ -289,7 +289,7 @@ impl Known {
         }
     }
 
-    /// The fault of a rule, if it is declared next.
+    /// Returns the fault of a rule, if it is declared next.
     #[tactic(auto, using(crate::proofs::Checks::rule_fault_by_parts))]
     pub fn rule_fault(&self, declared: &Rule) -> Option<FaultCode>
         ensures { result ≡ spec.rule_fault self.now declared.now }
@@ -312,8 +312,8 @@ impl Known {
         self.rules.add(declared.id)
     }
 
-    /// The fault of a whole draft whose elements have none: it has no type 0, a tunable is out of
-    /// its range, or its local tries or local fallback tries aren't 0.
+    /// Returns the fault of a whole draft whose elements have none: it has no type 0, a tunable is
+    /// out of its range, or its local tries or local fallback tries aren't 0.
     #[tactic(auto, unfolding(crate::specs::Faults::end_fault))]
     pub fn end_fault(
         &self,
@@ -335,28 +335,28 @@ impl Known {
     }
 }
 
-/// The fault with this code, if a check is broken.
+/// Returns the fault with this code, if a check is broken.
 fn fault_if(broken: bool, code: FaultCode) -> Option<FaultCode>
     ensures { result ≡ (if broken then Some code else None) }
 {
     if broken { Some(code) } else { None }
 }
 
-/// Whether an id is one that a bucket of a map can have.
+/// Returns whether an id is one that a bucket of a map can have.
 fn is_bucket_id(id: ItemId) -> bool
     ensures { result ≡ spec.is_bucket_id id.0 }
 {
     id.0 < 0 && id.0.unsigned_abs() - 1 <= NUMBER_LIMIT
 }
 
-/// Whether all items of a bucket of this kind must have the same weight.
+/// Returns whether all items of a bucket of this kind must have the same weight.
 fn is_uniform(alg: Kind) -> bool
     ensures { result ≡ spec.is_uniform alg }
 {
     matches!(alg, Kind::Uniform)
 }
 
-/// Whether each tunable is in its range.
+/// Returns whether each tunable is in its range.
 pub fn are_in_range(tunables: Tunables) -> bool
     ensures { result ≡ spec.are_in_range tunables }
 {

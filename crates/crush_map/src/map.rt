@@ -34,7 +34,7 @@ impl Model for CrushMap {
 }
 
 impl CrushMap {
-    /// The map that a draft declares, or the draft and its first fault.
+    /// Returns the map that a draft declares, or the draft and its first fault.
     ///
     /// Types are checked first, then devices, buckets and rules, each list in order, and last what
     /// concerns the whole draft.
@@ -55,7 +55,7 @@ impl CrushMap {
         }
     }
 
-    /// The map of a draft that is known to have no fault. Allocates nothing.
+    /// Returns the map of a draft that is known to have no fault. Allocates nothing.
     pub fn of(draft: MapDraft) -> CrushMap
         requires { spec.first_fault draft ≡ None }
         ensures map { IsMapOf draft result }
@@ -70,7 +70,7 @@ impl CrushMap {
         }
     }
 
-    /// The types, in order of number.
+    /// Returns the types, in order of number.
     pub fn types(&self) -> &[TypeName]
         ensures same { result.now ≡ self.now.types }
         ensures valid { IsMap self.now }
@@ -78,7 +78,7 @@ impl CrushMap {
         self.types.as_slice()
     }
 
-    /// The devices, in order of id.
+    /// Returns the devices, in order of id.
     pub fn devices(&self) -> &[Device]
         ensures same { result.now ≡ self.now.devices }
         ensures valid { IsMap self.now }
@@ -86,7 +86,7 @@ impl CrushMap {
         self.devices.as_slice()
     }
 
-    /// The buckets, in order of declaration.
+    /// Returns the buckets, in order of declaration.
     pub fn buckets(&self) -> &[Bucket]
         ensures same { result.now ≡ self.now.buckets }
         ensures valid { IsMap self.now }
@@ -94,7 +94,7 @@ impl CrushMap {
         self.buckets.as_slice()
     }
 
-    /// The rules, in order of id.
+    /// Returns the rules, in order of id.
     pub fn rules(&self) -> &[Rule]
         ensures same { result.now ≡ self.now.rules }
         ensures valid { IsMap self.now }
@@ -102,7 +102,7 @@ impl CrushMap {
         self.rules.as_slice()
     }
 
-    /// The tunables that choosing reads.
+    /// Returns the tunables that choosing reads.
     pub fn tunables(&self) -> Tunables
         ensures same { result ≡ self.now.tunables }
         ensures valid { IsMap self.now }
@@ -111,7 +111,7 @@ impl CrushMap {
     }
 }
 
-/// The types, in ascending order of number.
+/// Returns the types, in ascending order of number.
 fn in_order_of_number(mut types: Vec<TypeName>) -> Vec<TypeName>
     ensures same { IsPermutation types.items result.items }
     ensures order { IsNonDecreasingBy (λ t. t.number) result.items }
@@ -120,7 +120,7 @@ fn in_order_of_number(mut types: Vec<TypeName>) -> Vec<TypeName>
     types
 }
 
-/// The devices, in ascending order of id.
+/// Returns the devices, in ascending order of id.
 fn in_order_of_id(mut devices: Vec<Device>) -> Vec<Device>
     ensures same { IsPermutation devices.items result.items }
     ensures order { IsNonDecreasingBy (λ d. d.id) result.items }
@@ -129,7 +129,7 @@ fn in_order_of_id(mut devices: Vec<Device>) -> Vec<Device>
     devices
 }
 
-/// The rules, in ascending order of id.
+/// Returns the rules, in ascending order of id.
 fn rules_in_order(mut rules: Vec<Rule>) -> Vec<Rule>
     ensures same { IsPermutation rules.items result.items }
     ensures order { IsNonDecreasingBy (λ r. r.id) result.items }

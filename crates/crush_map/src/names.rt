@@ -28,7 +28,7 @@ impl Model for Names {
 }
 
 impl Names {
-    /// The empty list.
+    /// Returns the empty list.
     pub(crate) fn new(alloc: Global) -> Self
         ensures { result ≡ [] }
     {
@@ -38,7 +38,7 @@ impl Names {
         }
     }
 
-    /// Whether a name is in the list.
+    /// Returns whether a name is in the list.
     pub(crate) fn has(&self, name: &str) -> bool
         ensures { result ≡ spec.has_name self.now name.now }
     {

@@ -35,7 +35,7 @@ impl Model for Numbers {
     ghost invariant = { λ a. IsIndexOf a.order.items a.table.items };
 }
 
-/// A table of flags that are all false.
+/// Returns a table of flags that are all false.
 fn empty_table(alloc: Global, size: usize) -> Result<Vec<bool>, AllocError>
     ensures len { IfOk result (λ t. length t.items ≡ size) }
     ensures none { IfOk result (λ t. (n : ℕ) → slice_index_or t.items n false ≡ false) }
@@ -43,7 +43,7 @@ fn empty_table(alloc: Global, size: usize) -> Result<Vec<bool>, AllocError>
     Ok(vec![in alloc; false; size]?)
 }
 
-/// The table of a list.
+/// Returns the table of a list.
 fn table_of(alloc: Global, numbers: &[u32]) -> Result<Vec<bool>, AllocError>
     requires { All (λ n. n < ID_COUNT) numbers.now }
     ensures { IfOk result (λ t. IsTableOf numbers.now t.items) }
@@ -56,7 +56,7 @@ fn table_of(alloc: Global, numbers: &[u32]) -> Result<Vec<bool>, AllocError>
 }
 
 impl Numbers {
-    /// The empty list.
+    /// Returns the empty list.
     pub(crate) fn new(alloc: Global) -> Self
         ensures { result ≡ [] }
     {
@@ -67,14 +67,14 @@ impl Numbers {
         }
     }
 
-    /// How many numbers are in the list.
+    /// Returns how many numbers are in the list.
     pub(crate) fn len(&self) -> usize
         ensures { result ≡ length self.now }
     {
         self.order.as_slice().len()
     }
 
-    /// Whether a number is in the list.
+    /// Returns whether a number is in the list.
     pub(crate) fn has(&self, number: u32) -> bool
         ensures value { result ≡ spec.has_number self.now number }
         ensures known { IsTrue result → number < ID_COUNT }

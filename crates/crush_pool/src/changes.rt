@@ -19,7 +19,7 @@ pub struct DeviceChange {
     pub up: Option<bool>,
 }
 
-/// Whether one of the changes is of this device.
+/// Returns whether one of the changes is of this device.
 fn contains(device: u32, changes: &[DeviceChange]) -> bool
     ensures { result ≡ list_any (spec.is_of_device device) changes.now }
 {
@@ -29,7 +29,7 @@ fn contains(device: u32, changes: &[DeviceChange]) -> bool
 /// The most changes that are compared two by two: that takes less time than to clear a table.
 const SHORT_LIST: usize = 64;
 
-/// Whether each change is of another device: each is compared with all after it.
+/// Returns whether each change is of another device: each is compared with all after it.
 fn are_distinct_by_pairs(changes: &[DeviceChange]) -> bool
     ensures { result ≡ spec.are_distinct changes.now }
 {
@@ -43,8 +43,8 @@ fn are_distinct_by_pairs(changes: &[DeviceChange]) -> bool
     true
 }
 
-/// Whether one of the changes is of this device. A table of flags says which of the devices that
-/// it reaches have one; for other devices the changes are looked through.
+/// Returns whether one of the changes is of this device. A table of flags says which of the devices
+/// that it reaches have one; for other devices the changes are looked through.
 fn is_again(seen: &[bool], device: u32, changes: &[DeviceChange]) -> bool
     requires { HasDevices seen.now changes.now }
     ensures { result ≡ list_any (spec.is_of_device device) changes.now }
@@ -65,8 +65,8 @@ fn mark(seen: &mut [bool], device: u32)
     }
 }
 
-/// Whether each change is of another device, by a table of flags for all ids that a device can
-/// have: in linear time where all ids are such. Allocates nothing.
+/// Returns whether each change is of another device, by a table of flags for all ids that a device
+/// can have: in linear time where all ids are such. Allocates nothing.
 fn are_distinct_by_table(changes: &[DeviceChange]) -> bool
     ensures { result ≡ spec.are_distinct changes.now }
 {
@@ -81,7 +81,7 @@ fn are_distinct_by_table(changes: &[DeviceChange]) -> bool
     true
 }
 
-/// Whether each change is of another device.
+/// Returns whether each change is of another device.
 fn are_distinct(changes: &[DeviceChange]) -> bool
     ensures { result ≡ spec.are_distinct changes.now }
 {
@@ -92,7 +92,7 @@ fn are_distinct(changes: &[DeviceChange]) -> bool
     }
 }
 
-/// Whether there are 1 to `CHANGE_LIMIT` changes, each of another device.
+/// Returns whether there are 1 to `CHANGE_LIMIT` changes, each of another device.
 pub fn are_valid_changes(changes: &[DeviceChange]) -> bool
     ensures { result ≡ spec.are_valid_changes changes.now }
 {

@@ -33,7 +33,8 @@ pub struct Pair {
     pub to: u32,
 }
 
-/// Whether a pair is of one of so many groups, with two different ids that devices can have.
+/// Returns whether a pair is of one of so many groups, with two different ids that devices can
+/// have.
 fn is_pair(groups: u32, pair: &Pair) -> bool
     ensures { result ≡ spec.is_pair groups pair.now }
 {
@@ -43,22 +44,23 @@ fn is_pair(groups: u32, pair: &Pair) -> bool
         && pair.from != pair.to
 }
 
-/// Whether each pair is of one of so many groups, with two different ids that devices can have.
+/// Returns whether each pair is of one of so many groups, with two different ids that devices can
+/// have.
 fn are_all_pairs(groups: u32, pairs: &[Pair]) -> bool
     ensures { result ≡ list_all (spec.is_pair groups) pairs.now }
 {
     pairs.iter().all(|pair| is_pair(groups, pair))
 }
 
-/// Whether there are at most `PAIR_LIMIT` pairs, each of one of so many groups, with two different
-/// ids that devices can have.
+/// Returns whether there are at most `PAIR_LIMIT` pairs, each of one of so many groups, with two
+/// different ids that devices can have.
 pub fn are_pairs(groups: u32, pairs: &[Pair]) -> bool
     ensures { result ≡ spec.are_pairs groups pairs.now }
 {
     pairs.len() <= PAIR_LIMIT && are_all_pairs(groups, pairs)
 }
 
-/// How many places a table by group has that reaches to the greatest group of the pairs.
+/// Returns how many places a table by group has that reaches to the greatest group of the pairs.
 fn reach_of(pairs: &[Pair]) -> usize
     ensures { result ≡ fold (λ reach p. max reach (p.group + 1)) 0 pairs.now }
 {
@@ -129,9 +131,9 @@ impl Exceptions {
         Ok(Exceptions { pairs, first, next })
     }
 
-    /// These pairs as the exceptions of a pool, or `P3` where they are more than `PAIR_LIMIT`, or
-    /// one of them has no group of the pool, an id above `NUMBER_LIMIT`, or one id twice.
-    /// `Err(AllocError)`: an allocation failed; the pairs are dropped.
+    /// Returns these pairs as the exceptions of a pool, or `P3` where they are more than
+    /// `PAIR_LIMIT`, or one of them has no group of the pool, an id above `NUMBER_LIMIT`, or one id
+    /// twice. `Err(AllocError)`: an allocation failed; the pairs are dropped.
     pub fn new(
         alloc: Global,
         pool: &Pool,
@@ -148,7 +150,7 @@ impl Exceptions {
         Ok(Ok(Exceptions { pairs, first, next }))
     }
 
-    /// The pairs, in their order.
+    /// Returns the pairs, in their order.
     pub fn pairs(&self) -> &[Pair]
         ensures same { result.now ≡ self.now }
         ensures valid { spec.are_pairs GROUP_LIMIT self.now ≡ true }
@@ -156,14 +158,14 @@ impl Exceptions {
         self.pairs.as_slice()
     }
 
-    /// Whether one of the pairs is of this group.
+    /// Returns whether one of the pairs is of this group.
     pub fn concern(&self, group: u32) -> bool
         ensures { result ≡ list_any (spec.is_of_group group) self.now }
     {
         self.first_of(group) < self.pairs.len()
     }
 
-    /// Whether a pair of a group leads to a device.
+    /// Returns whether a pair of a group leads to a device.
     pub fn lead_to(&self, group: u32, device: u32) -> bool
         ensures { result ≡ has_number (spec.targets_of self.now group) device }
     {
@@ -177,15 +179,15 @@ impl Exceptions {
         false
     }
 
-    /// The place of the first pair of a group, or the number of pairs where there is none.
+    /// Returns the place of the first pair of a group, or the number of pairs where there is none.
     fn first_of(&self, group: u32) -> usize
         ensures { result ≡ first_from self.now group 0 }
     {
         self.first.get(group) as usize
     }
 
-    /// The place of the next pair of the group of the one at a place, or the number of pairs where
-    /// there is none.
+    /// Returns the place of the next pair of the group of the one at a place, or the number of
+    /// pairs where there is none.
     fn next_of(&self, place: usize) -> usize
         requires { place < length self.now }
         ensures { result ≡ first_from self.now (slice_index_or self.now place no_pair).group (place + 1) }
@@ -205,7 +207,7 @@ impl Exceptions {
     }
 }
 
-/// The item that is the device with an id.
+/// Returns the item that is the device with an id.
 fn device_item(device: u32) -> ItemId
     requires { device ≤ NUMBER_LIMIT }
     ensures { result ≡ spec.device_item device }
@@ -213,7 +215,7 @@ fn device_item(device: u32) -> ItemId
     ItemId(device as i32)
 }
 
-/// Whether a pair takes effect on a list of slots.
+/// Returns whether a pair takes effect on a list of slots.
 fn takes_effect(tables: &Tables, weights: &Weights, pair: Pair, slots: &[Slot]) -> bool
     requires { spec.is_pair GROUP_LIMIT pair ≡ true }
     ensures { result ≡ spec.takes_effect tables.now weights.now pair slots.now }
@@ -224,7 +226,7 @@ fn takes_effect(tables: &Tables, weights: &Weights, pair: Pair, slots: &[Slot]) 
         && tables.has_device(pair.to)
 }
 
-/// The place of the first slot that has an item.
+/// Returns the place of the first slot that has an item.
 fn place_of(slots: &[Slot], item: ItemId) -> Option<usize>
     ensures { result ≡ position (slot_has item) slots.now }
 {
@@ -268,7 +270,7 @@ impl Model for Excepted {
 }
 
 impl Excepted {
-    /// A rule's answer for a group, with the pairs of that group. Allocates nothing.
+    /// Returns a rule's answer for a group, with the pairs of that group. Allocates nothing.
     pub(crate) fn new(
         tables: &Tables,
         weights: &Weights,
@@ -287,7 +289,7 @@ impl Excepted {
         Excepted { slots }
     }
 
-    /// The slots, in order.
+    /// Returns the slots, in order.
     pub fn items(&self) -> &[Slot]
         ensures value { result.now ≡ self.now }
         ensures fits { length result.now ≤ SIZE_LIMIT }

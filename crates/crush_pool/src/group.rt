@@ -5,7 +5,7 @@ ghost use Rattle.crush_pool.specs.Groups as spec;
 
 use crush_kinds::laws::height_is_least;
 
-/// The mask for `b` groups: 2^k - 1 for the least k such that 2^k is at least `b` (Ceph's
+/// Returns the mask for `b` groups: 2^k - 1 for the least k such that 2^k is at least `b` (Ceph's
 /// `pg_num_mask`).
 pub fn mask_of(b: u32) -> u32
     ensures { result ≡ spec.mask_of b }
@@ -20,8 +20,8 @@ pub fn mask_of(b: u32) -> u32
     (width - 1) as u32
 }
 
-/// The one of `b` groups that `x` falls into, with the mask for `b` (Ceph's `ceph_stable_mod`):
-/// where `b` grows, few numbers move.
+/// Returns the one of `b` groups that `x` falls into, with the mask for `b` (Ceph's
+/// `ceph_stable_mod`): where `b` grows, few numbers move.
 pub fn stable_mod(x: u32, b: u32, mask: u32) -> u32
     ensures { result ≡ spec.stable_mod x b mask }
 {

@@ -70,8 +70,8 @@ impl<'a> Placer<'a> {
     ghost use Rattle.crush_pool.specs.Pools.{seed_of};
     ghost use Rattle.crush_pool.specs.States.{flags_of, reweights};
 
-    /// The pool on the map, with these exceptions and states of devices; `None` exactly where the
-    /// map lacks the pool's rule.
+    /// Returns the pool on the map, with these exceptions and states of devices; `None` exactly
+    /// where the map lacks the pool's rule.
     ///
     /// The tables are those of the map, the weights are the reweights of the states, the flags say
     /// which devices are up by the states, and each exception is of a group of the pool.
@@ -103,7 +103,7 @@ impl<'a> Placer<'a> {
         })
     }
 
-    /// The map, which has the pool's rule.
+    /// Returns the map, which has the pool's rule.
     pub fn map(&self) -> &'a CrushMap
         ensures same { result.now ≡ self.now.map }
         ensures rule { is_some (rule_numbered self.now.map self.now.pool.rule) ≡ true }
@@ -111,21 +111,21 @@ impl<'a> Placer<'a> {
         self.map
     }
 
-    /// The tables of the map.
+    /// Returns the tables of the map.
     pub fn tables(&self) -> &'a Tables
         ensures { result.now ≡ tables_of self.now.map }
     {
         self.tables
     }
 
-    /// The pool.
+    /// Returns the pool.
     pub fn pool(&self) -> &'a Pool
         ensures { result.now ≡ self.now.pool }
     {
         self.pool
     }
 
-    /// The exceptions of the pool.
+    /// Returns the exceptions of the pool.
     pub fn exceptions(&self) -> &'a Exceptions
         ensures same { result.now ≡ self.now.pairs }
         ensures valid { are_pairs self.now.pool.pg_num self.now.pairs ≡ true }
@@ -133,7 +133,8 @@ impl<'a> Placer<'a> {
         self.exceptions
     }
 
-    /// What the rule answered for a group, with the exceptions of that group. Allocates nothing.
+    /// Returns what the rule answered for a group, with the exceptions of that group. Allocates
+    /// nothing.
     pub fn excepted(&self, group: u32, raw: &[Slot]) -> Excepted
         requires { length raw.now ≤ SIZE_LIMIT }
         ensures { result ≡ excepted (tables_of self.now.map) (weights_of (reweights self.now.states)) self.now.pairs group raw.now }
@@ -141,7 +142,7 @@ impl<'a> Placer<'a> {
         Excepted::new(self.tables, self.weights, self.exceptions, group, raw)
     }
 
-    /// The flags of the states: which devices are up.
+    /// Returns the flags of the states: which devices are up.
     pub fn flags(&self) -> &'a DeviceStates
         ensures { result.now ≡ flags_of self.now.states }
     {
@@ -184,8 +185,8 @@ impl<'a> Placer<'a> {
         look_ahead(self.tables, scratch, self.rule, xs, size);
     }
 
-    /// Whether a device is in the trace of a run of the pool's rule for a group. Sets `out` to the
-    /// rule's answer. Allocates nothing.
+    /// Returns whether a device is in the trace of a run of the pool's rule for a group. Sets `out`
+    /// to the rule's answer. Allocates nothing.
     pub fn touches(&self, scratch: &mut Scratch, out: &mut Out, group: u32, device: u32) -> bool
         requires fits { scratch.old ≡ scratch_of (tables_of self.now.map) }
         ensures touched { (trace : List ℕ) → IsTrace (tables_of self.now.map) (weights_of (reweights self.now.states)) (steps_of self.now) (seed_of self.now.pool group) self.now.pool.size trace → result ≡ has_number trace device }
@@ -206,8 +207,8 @@ impl<'a> Placer<'a> {
         )
     }
 
-    /// The placement of a group of the pool. Afterwards `out` has the rule's answer and the trace
-    /// of its run. `Err(AllocError)`: an allocation failed; `out` must not be used any more.
+    /// Returns the placement of a group of the pool. Afterwards `out` has the rule's answer and the
+    /// trace of its run. `Err(AllocError)`: an allocation failed; `out` must not be used any more.
     pub fn place_with(
         &self,
         alloc: Global,

@@ -36,7 +36,7 @@ pub struct Placement {
     pub primary: Slot,
 }
 
-/// The rule of a map with this id; `None` where the map has no such rule.
+/// Returns the rule of a map with this id; `None` where the map has no such rule.
 pub fn rule_with_id(map: &CrushMap, id: u32) -> Option<&Rule>
     ensures value { option_map (λ r. r.now) result ≡ spec.rule_numbered map.now id }
     ensures runs { IfSome result (λ r. CanRun (tables_of map.now) r.now) }
@@ -45,7 +45,7 @@ pub fn rule_with_id(map: &CrushMap, id: u32) -> Option<&Rule>
     map.rules().iter().find(|rule| rule.id == id)
 }
 
-/// Whether a slot has a device that is up.
+/// Returns whether a slot has a device that is up.
 pub fn is_up_slot(states: &DeviceStates, slot: Slot) -> bool
     ensures { result ≡ spec.is_up_slot states.now slot }
 {
@@ -55,7 +55,8 @@ pub fn is_up_slot(states: &DeviceStates, slot: Slot) -> bool
     }
 }
 
-/// The up list of a replicated or an erasure pool, by what the rule answered, with its exceptions.
+/// Returns the up list of a replicated or an erasure pool, by what the rule answered, with its
+/// exceptions.
 fn up_of(
     alloc: Global,
     erasure: bool,
@@ -75,8 +76,8 @@ fn up_of(
     Ok(up)
 }
 
-/// The up list of a group, by what the rule answered for it. Only where the group has exceptions
-/// they are applied, to a copy of the answer.
+/// Returns the up list of a group, by what the rule answered for it. Only where the group has
+/// exceptions they are applied, to a copy of the answer.
 #[tactic(auto, using(crate::proofs::Pairs::nothing_excepted))]
 fn up_with(
     alloc: Global,
@@ -100,7 +101,7 @@ fn up_with(
     }
 }
 
-/// The first device of an up list; `None` where there is none.
+/// Returns the first device of an up list; `None` where there is none.
 pub fn primary_of(up: &[Slot]) -> Slot
     ensures { result ≡ spec.primary_of up.now }
 {
@@ -112,7 +113,7 @@ pub fn primary_of(up: &[Slot]) -> Slot
     None
 }
 
-/// A copy of slots.
+/// Returns a copy of slots.
 fn copied(alloc: Global, slots: &[Slot]) -> Result<Vec<Slot>, AllocError>
     ensures { IfOk result (λ copy. copy.items ≡ slots.now) }
 {
@@ -144,7 +145,7 @@ pub(crate) fn run(
     run_rule(tables, scratch, rule, seed, size, weights, out);
 }
 
-/// The placement of a group by what the pool's rule answered for it.
+/// Returns the placement of a group by what the pool's rule answered for it.
 pub(crate) fn placement_by(
     alloc: Global,
     tables: &Tables,
@@ -180,8 +181,8 @@ pub(crate) fn placement_by(
     })
 }
 
-/// The placement of a group of a pool with these exceptions, or `P2` where the pool has no such
-/// group. `Err(AllocError)`: an allocation failed; nothing is changed.
+/// Returns the placement of a group of a pool with these exceptions, or `P2` where the pool has no
+/// such group. `Err(AllocError)`: an allocation failed; nothing is changed.
 #[tactic(auto, unfolding(crate::specs::Placements::placed))]
 pub fn place(
     alloc: Global,

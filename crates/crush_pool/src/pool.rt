@@ -62,7 +62,7 @@ impl Model for Pool {
     ghost invariant = { λ a. is_pool a.parts ≡ true };
 }
 
-/// Whether the numbers and the name are in range.
+/// Returns whether the numbers and the name are in range.
 fn is_pool(parts: &PoolParts) -> bool
     ensures { result ≡ spec.is_pool parts.now }
 {
@@ -75,7 +75,7 @@ fn is_pool(parts: &PoolParts) -> bool
 }
 
 impl Pool {
-    /// The pool with these settings, or `P1` where a number or the name is out of range.
+    /// Returns the pool with these settings, or `P1` where a number or the name is out of range.
     pub fn new(parts: PoolParts) -> Result<Pool, PoolFault>
         ensures there { is_ok result ≡ spec.is_pool parts }
         ensures pool { IfOk result (λ pool. pool ≡ parts) }
@@ -88,7 +88,7 @@ impl Pool {
         }
     }
 
-    /// Its settings, which are in range.
+    /// Returns its settings, which are in range.
     pub fn parts(&self) -> &PoolParts
         ensures same { result.now ≡ self.now }
         ensures valid { spec.is_pool self.now ≡ true }
@@ -96,7 +96,7 @@ impl Pool {
         &self.parts
     }
 
-    /// The group of the object with this name, which has fewer than 2^32 bytes
+    /// Returns the group of the object with this name, which has fewer than 2^32 bytes
     /// (`object_locator_to_pg` of Ceph).
     pub fn group_of(&self, name: &[u8]) -> u32
         requires { length name.now < 2 ^ 32 }
@@ -108,7 +108,7 @@ impl Pool {
         stable_mod(name_hash(name), groups, mask_of(groups))
     }
 
-    /// The input x with which the rule runs for a group (`raw_pg_to_pps` of Ceph).
+    /// Returns the input x with which the rule runs for a group (`raw_pg_to_pps` of Ceph).
     pub fn seed_of(&self, group: u32) -> u32
         ensures { result ≡ spec.seed_of self.now group }
     {

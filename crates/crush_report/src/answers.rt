@@ -29,7 +29,7 @@ impl Places {
     ghost use Rattle.std.specs.Prelude.{◌≡◌};
     ghost use Rattle.crush_pool.specs.Groups.{mask_of, stable_mod};
 
-    /// The places of the groups of a pool.
+    /// Returns the places of the groups of a pool.
     fn of(pool: &Pool) -> Places
         ensures { result.count ≡ pool.now.pgp_num }
     {
@@ -40,7 +40,7 @@ impl Places {
         }
     }
 
-    /// The place of a group.
+    /// Returns the place of a group.
     fn place_of(&self, group: u32) -> usize
         ensures { result ≡ stable_mod group self.now.count (mask_of self.now.count) }
     {
@@ -48,8 +48,8 @@ impl Places {
     }
 }
 
-/// Whether there are fewer places than groups, and a word for each slot of an answer, and one more,
-/// for each place are at most `most` words a group.
+/// Returns whether there are fewer places than groups, and a word for each slot of an answer, and
+/// one more, for each place are at most `most` words a group.
 fn are_few(pool: &Pool, most: u32) -> bool {
     let parts = pool.parts();
     let words = u64::from(most.saturating_mul(parts.pg_num));
@@ -111,8 +111,8 @@ impl Answers {
         }
     }
 
-    /// The answers for all places, if there are fewer places than groups and their answers take at
-    /// most `most` words of 8 bytes a group. `Err(AllocError)`: an allocation failed.
+    /// Returns the answers for all places, if there are fewer places than groups and their answers
+    /// take at most `most` words of 8 bytes a group. `Err(AllocError)`: an allocation failed.
     pub(crate) fn build(
         alloc: Global,
         placer: &Placer,
@@ -145,7 +145,8 @@ impl Answers {
         })
     }
 
-    /// What the rule answers for a group, if that is kept: it is the answer for the group's place.
+    /// Returns what the rule answers for a group, if that is kept: it is the answer for the group's
+    /// place.
     pub(crate) fn kept(&self, group: u32) -> Option<&[Slot]>
         ensures { (p : PoolOnMap) → AreAnswers p self.now → IfSome result (λ raw. raw.now ≡ answer_on p group) }
     {
@@ -159,7 +160,8 @@ impl Answers {
 
 // ---- traces
 
-/// Whether a device is in the trace of a group, as one of many in order: runs the pool's rule.
+/// Returns whether a device is in the trace of a group, as one of many in order: runs the pool's
+/// rule.
 pub(crate) fn is_traced(
     placer: &Placer,
     scratch: &mut Scratch,
@@ -192,8 +194,8 @@ impl Traced {
     ghost use Rattle.crush_report.specs.OnMaps.{trace_on};
     ghost use Rattle.crush_report.specs.Private.Places.{AreTraced};
 
-    /// The places in whose trace a device is, if there are fewer places than groups: one byte each.
-    /// `Err(AllocError)`: an allocation failed.
+    /// Returns the places in whose trace a device is, if there are fewer places than groups: one
+    /// byte each. `Err(AllocError)`: an allocation failed.
     pub(crate) fn build(
         alloc: Global,
         placer: &Placer,
@@ -216,8 +218,8 @@ impl Traced {
         Ok(Traced { places, found })
     }
 
-    /// Whether the device is in the trace of a group, if that is kept: it is the trace for the
-    /// group's place.
+    /// Returns whether the device is in the trace of a group, if that is kept: it is the trace for
+    /// the group's place.
     pub(crate) fn kept(&self, group: u32) -> Option<bool>
         ensures { (p : PoolOnMap) (device : ℕ) → AreTraced p device self.now → IfSome result (λ found. found ≡ has_number (trace_on p group) device) }
     {

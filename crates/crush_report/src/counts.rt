@@ -31,7 +31,7 @@ pub(crate) fn count_if(counted: bool, counts: &mut [u32], slot: Slot)
     }
 }
 
-/// Whether a slot has an item that is in a list.
+/// Returns whether a slot has an item that is in a list.
 pub(crate) fn is_again(slot: Slot, others: &[Slot]) -> bool
     ensures { result ≡ is_again slot others.now }
 {

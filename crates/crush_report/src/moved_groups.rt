@@ -21,7 +21,7 @@ use crush_select::limits::SIZE_LIMIT;
 use crush_select::{Slot, has, slot_has};
 use std::alloc::{AllocError, Global};
 
-/// Whether two slots have the same item, or both none.
+/// Returns whether two slots have the same item, or both none.
 fn same_slot(a: Slot, b: Slot) -> bool
     ensures { result ≡ spec.same_slot a b }
 {
@@ -31,7 +31,7 @@ fn same_slot(a: Slot, b: Slot) -> bool
     }
 }
 
-/// Whether two lists have the same slots in the same order.
+/// Returns whether two lists have the same slots in the same order.
 fn same_slots(first: &[Slot], second: &[Slot]) -> bool
     ensures { result ≡ spec.same_slots first.now second.now }
 {
@@ -50,8 +50,8 @@ fn same_slots(first: &[Slot], second: &[Slot]) -> bool
     right.is_empty()
 }
 
-/// Whether a slot of a new list has a device that is neither in the old list nor further on in the
-/// new one.
+/// Returns whether a slot of a new list has a device that is neither in the old list nor further on
+/// in the new one.
 fn is_gain(old: &[Slot], slot: Slot, others: &[Slot]) -> bool
     ensures { result ≡ spec.is_gain old.now slot others.now }
 {
@@ -61,7 +61,7 @@ fn is_gain(old: &[Slot], slot: Slot, others: &[Slot]) -> bool
     }
 }
 
-/// How many devices are in the new list and not in the old one.
+/// Returns how many devices are in the new list and not in the old one.
 fn gained(old: &[Slot], new: &[Slot]) -> usize
     ensures { result ≡ spec.gained old.now new.now }
 {
@@ -76,7 +76,7 @@ fn gained(old: &[Slot], new: &[Slot]) -> usize
     count
 }
 
-/// A copy of slots. `Err(AllocError)`: an allocation failed.
+/// Returns a copy of slots. `Err(AllocError)`: an allocation failed.
 fn copy_of(alloc: Global, slots: &[Slot]) -> Result<Listed<Slot>, AllocError>
     ensures { IfOk result (λ copy. copy ≡ slots.now) }
 {
@@ -85,7 +85,7 @@ fn copy_of(alloc: Global, slots: &[Slot]) -> Result<Listed<Slot>, AllocError>
     Ok(Listed::new(copy))
 }
 
-/// The row of a group; `None` where its up lists are the same, which takes no memory.
+/// Returns the row of a group; `None` where its up lists are the same, which takes no memory.
 /// `Err(AllocError)`: an allocation failed.
 pub fn move_between(
     alloc: Global,
@@ -106,7 +106,7 @@ pub fn move_between(
     }))
 }
 
-/// How many devices the groups gain in all.
+/// Returns how many devices the groups gain in all.
 pub fn gained_in(rows: &[MoveRow]) -> u64
     requires { spec.gained_in rows.now < 2 ^ 64 }
     ensures { result ≡ spec.gained_in rows.now }
@@ -188,8 +188,8 @@ pub(crate) fn set_up_of(
 /// The most words of 8 bytes a group that are kept of the answers on each of the two maps.
 const WORDS_KEPT: u32 = 2;
 
-/// The groups of a pool whose up lists differ between two maps, in order. `Err(AllocError)`: an
-/// allocation failed.
+/// Returns the groups of a pool whose up lists differ between two maps, in order.
+/// `Err(AllocError)`: an allocation failed.
 #[tactic(auto, using(crate::proofs::Groups::moves_more))]
 fn moved_rows(
     alloc: Global,
@@ -221,8 +221,8 @@ fn moved_rows(
     Ok(Listed::new(rows))
 }
 
-/// The groups of a pool whose up lists differ between two maps, in order. The exceptions and the
-/// states of devices are the same on both. `Err(AllocError)`: an allocation failed.
+/// Returns the groups of a pool whose up lists differ between two maps, in order. The exceptions
+/// and the states of devices are the same on both. `Err(AllocError)`: an allocation failed.
 pub fn moves_with(alloc: Global, from: &Placer, to: &Placer) -> Result<Listed<MoveRow>, AllocError>
     requires states { to.now.states ≡ from.now.states }
     requires pool { to.now.pool ≡ from.now.pool }

@@ -49,8 +49,8 @@ impl Tally {
     ghost use Rattle.crush_report.specs.Private.Tallies.{IsTally, IsCounting, HasRoom, HasSameLengths, count_at, row_by};
     ghost use Rattle.crush_pool.specs.Exceptions.{device_item};
 
-    /// The counts over no list, for the devices with ids below a bound. `Err(AllocError)`: an
-    /// allocation failed.
+    /// Returns the counts over no list, for the devices with ids below a bound. `Err(AllocError)`:
+    /// an allocation failed.
     fn new(alloc: Global, bound: usize) -> Result<Tally, AllocError>
         ensures { IfOk result (λ t. IsTally bound [] t) }
     {
@@ -119,7 +119,7 @@ impl Tally {
         self.count_up(raw, flags);
     }
 
-    /// The row of a device.
+    /// Returns the row of a device.
     fn row(&self, device: u32) -> UsageRow
         requires { (id : ℕ) → 1000 * count_at self.now.entries id < 2 ^ 32 }
         ensures { result ≡ row_by self.now device }
@@ -135,7 +135,7 @@ impl Tally {
     }
 }
 
-/// The count of a device; 0 past the end.
+/// Returns the count of a device; 0 past the end.
 fn count_of(counts: &[u32], device: u32) -> u32
     ensures { result ≡ count_at counts.now device }
 {
@@ -145,7 +145,7 @@ fn count_of(counts: &[u32], device: u32) -> u32
     }
 }
 
-/// A part in thousandths of the whole, rounded down; 0 of nothing.
+/// Returns a part in thousandths of the whole, rounded down; 0 of nothing.
 fn permille(part: u32, whole: u32) -> u32
     requires { 1000 * part < 2 ^ 32 }
     ensures { result ≡ spec.permille part whole }
@@ -153,7 +153,7 @@ fn permille(part: u32, whole: u32) -> u32
     if whole == 0 { 0 } else { 1000 * part / whole }
 }
 
-/// One more than the greatest id of the devices; 0 without a device.
+/// Returns one more than the greatest id of the devices; 0 without a device.
 fn bound_of(devices: &[Device]) -> usize
     ensures { result ≡ id_bound devices.now }
 {
@@ -211,8 +211,8 @@ fn count_group(
     }
 }
 
-/// The counts over the up lists of all groups of a pool, for these devices. `Err(AllocError)`: an
-/// allocation failed.
+/// Returns the counts over the up lists of all groups of a pool, for these devices.
+/// `Err(AllocError)`: an allocation failed.
 fn tally_of(alloc: Global, devices: &[Device], placer: &Placer) -> Result<Tally, AllocError>
     ensures few { IfOk result (λ t. (id : ℕ) → 1000 * count_at t.entries id < 2 ^ 32) }
     ensures tally { IfOk result (λ t. IsTally (id_bound devices.now) (map (up_on placer.now) (groups placer.now.pool)) t) }
@@ -227,7 +227,8 @@ fn tally_of(alloc: Global, devices: &[Device], placer: &Placer) -> Result<Tally,
     Ok(tally)
 }
 
-/// A row for each device, in the order of the devices. `Err(AllocError)`: an allocation failed.
+/// Returns a row for each device, in the order of the devices. `Err(AllocError)`: an allocation
+/// failed.
 fn rows_of(alloc: Global, devices: &[Device], tally: &Tally) -> Result<Listed<UsageRow>, AllocError>
     requires { (id : ℕ) → 1000 * count_at tally.now.entries id < 2 ^ 32 }
     ensures { IfOk result (λ rows. rows ≡ map (λ d. row_by tally.now d.id) devices.now) }
@@ -239,7 +240,7 @@ fn rows_of(alloc: Global, devices: &[Device], tally: &Tally) -> Result<Listed<Us
     Ok(Listed::new(rows))
 }
 
-/// How much of a pool lies on each device of a map, in the order of the devices.
+/// Returns how much of a pool lies on each device of a map, in the order of the devices.
 /// `Err(AllocError)`: an allocation failed.
 pub fn usage_with(alloc: Global, placer: &Placer) -> Result<Listed<UsageRow>, AllocError>
     ensures { IfOk result (λ rows. Some rows ≡ usage placer.now.map placer.now.states placer.now.pool placer.now.pairs) }

@@ -20,7 +20,7 @@ pub struct Client<'a, S, C: Clock> {
 }
 
 impl<'a, S, C: Clock> Client<'a, S, C> {
-    /// The client over a stream, waited for so long as this measures.
+    /// Returns the client over a stream, waited for so long as this measures.
     pub fn new(stream: S, waiting: &'a Waiting<'a, C>) -> Self
         ensures { result.stream ≡ stream }
     {

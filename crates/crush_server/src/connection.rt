@@ -46,8 +46,8 @@ fn finish(mut stream: &TcpStream, taken: &mut [u8]) -> io::Result<()> {
     Ok(())
 }
 
-/// A socket to which nobody sends, so that a read of it takes `PAUSE_MILLISECONDS`. It is made
-/// before the first accept, since an accept fails where no further socket can be made.
+/// Returns a socket to which nobody sends, so that a read of it takes `PAUSE_MILLISECONDS`. It is
+/// made before the first accept, since an accept fails where no further socket can be made.
 fn quiet_socket(rt: &HostRuntime) -> io::Result<UdpSocket> {
     let socket = UdpSocket::bind(rt, (Ipv4Addr::LOCALHOST, 0))?;
     // its one peer is itself, so that nothing comes from elsewhere
@@ -77,8 +77,8 @@ pub struct TcpClients<'a> {
 }
 
 impl<'a> TcpClients<'a> {
-    /// The clients of this port, which isn't listened on yet. `Err(AllocError)`: an allocation
-    /// failed; nothing is changed.
+    /// Returns the clients of this port, which isn't listened on yet. `Err(AllocError)`: an
+    /// allocation failed; nothing is changed.
     pub fn new(
         rt: &'a HostRuntime,
         port: u16,
@@ -96,7 +96,7 @@ impl<'a> TcpClients<'a> {
         })
     }
 
-    /// How many clients couldn't be accepted.
+    /// Returns how many clients couldn't be accepted.
     pub fn failed(&self) -> u32 {
         self.failed
     }

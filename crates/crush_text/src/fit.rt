@@ -3,7 +3,7 @@
 ghost use Rattle.std.specs.Prelude.{◌≡◌};
 ghost use Rattle.crush_text.specs.Judging as spec;
 
-/// A number, or the greatest one that fits.
+/// Returns a number, or the greatest one that fits.
 pub(crate) fn fitted(number: u64) -> u32
     ensures { result ≡ spec.fitted number }
 {
@@ -14,7 +14,7 @@ pub(crate) fn fitted(number: u64) -> u32
     }
 }
 
-/// An integer, or the nearest one that fits.
+/// Returns an integer, or the nearest one that fits.
 pub(crate) fn fitted_integer(integer: i64) -> i32
     ensures { result ≡ spec.fitted_integer integer }
 {

@@ -47,7 +47,7 @@ impl Model for Judge {
     ghost view = { λ a. record { draft = record { types = a.types.items; devices = a.devices; buckets = a.buckets; rules = a.rules.items; local_tries = a.local_tries; local_fallback_tries = a.local_fallback_tries; tunables = a.tunables }; known = a.known; tunables = a.named.items } };
 }
 
-/// A fault of what is declared, on this line.
+/// Returns a fault of what is declared, on this line.
 pub(crate) fn at_line(line: usize, code: FaultCode) -> TextFault
     ensures { result ≡ record { line = line; code = codes.Map code } }
 {
@@ -57,7 +57,7 @@ pub(crate) fn at_line(line: usize, code: FaultCode) -> TextFault
     }
 }
 
-/// A number for each tunable, by which two are compared.
+/// Returns a number for each tunable, by which two are compared.
 fn tunable_number(name: TunableName) -> u32
     ensures { result ≡ spec.tunable_number name }
 {
@@ -73,7 +73,7 @@ fn tunable_number(name: TunableName) -> u32
     }
 }
 
-/// Whether a tunable is in a list.
+/// Returns whether a tunable is in a list.
 fn is_named(names: &[TunableName], name: TunableName) -> bool
     ensures { result ≡ spec.is_named names.now name }
 {
@@ -85,7 +85,7 @@ fn is_named(names: &[TunableName], name: TunableName) -> bool
     false
 }
 
-/// Whether a tunable is `choose_local_tries` or `choose_local_fallback_tries`.
+/// Returns whether a tunable is `choose_local_tries` or `choose_local_fallback_tries`.
 fn is_local(name: TunableName) -> bool
     ensures { result ≡ spec.is_local name }
 {
@@ -95,8 +95,8 @@ fn is_local(name: TunableName) -> bool
     )
 }
 
-/// The tunables that choosing reads, with this value for one of them. If it isn't one of them, they
-/// are the same.
+/// Returns the tunables that choosing reads, with this value for one of them. If it isn't one of
+/// them, they are the same.
 fn with_value(tunables: Tunables, name: TunableName, value: u32) -> Tunables
     ensures { (d : MapDraft) → d.tunables ≡ tunables → (spec.with_tunable d name value).tunables ≡ result }
 {
@@ -112,7 +112,7 @@ fn with_value(tunables: Tunables, name: TunableName, value: u32) -> Tunables
 }
 
 impl Judge {
-    /// The state before the first declaration.
+    /// Returns the state before the first declaration.
     pub(crate) fn new(alloc: Global) -> Self
         ensures { result ≡ spec.nothing_declared }
     {
@@ -134,7 +134,7 @@ impl Judge {
         }
     }
 
-    /// The fault of a tunable that is declared next.
+    /// Returns the fault of a tunable that is declared next.
     #[tactic(auto, unfolding(crate::specs::Judging::tunable_fault))]
     fn tunable_fault(&self, declared: &DeclaredTunable) -> Option<FaultCode>
         ensures { result ≡ spec.tunable_fault self.now declared.now }
@@ -165,7 +165,7 @@ impl Judge {
         }
     }
 
-    /// The fault of a tunable; a tunable without a fault is declared.
+    /// Returns the fault of a tunable; a tunable without a fault is declared.
     ///
     /// `Err(AllocError)`: an allocation failed; the value must not be used any more.
     fn declare_tunable(
@@ -183,7 +183,7 @@ impl Judge {
         Ok(None)
     }
 
-    /// The fault of a device; a device without a fault is declared.
+    /// Returns the fault of a device; a device without a fault is declared.
     ///
     /// `Err(AllocError)`: an allocation failed; the value must not be used any more.
     #[tactic(auto, using(crate::proofs::Kept::is_small))]
@@ -206,7 +206,7 @@ impl Judge {
         Ok(None)
     }
 
-    /// The fault of a type; a type without a fault is declared.
+    /// Returns the fault of a type; a type without a fault is declared.
     ///
     /// `Err(AllocError)`: an allocation failed; the value must not be used any more.
     fn declare_type(
@@ -228,7 +228,7 @@ impl Judge {
         Ok(None)
     }
 
-    /// The id of the item with a name, and the weight that it has if a text gives none.
+    /// Returns the id of the item with a name, and the weight that it has if a text gives none.
     fn item_named(&self, name: &str) -> (ItemId, Weight)
         ensures { result ≡ spec.item_named self.now.draft name.now }
     {
@@ -241,7 +241,7 @@ impl Judge {
         }
     }
 
-    /// The id and the weight of an item of a bucket.
+    /// Returns the id and the weight of an item of a bucket.
     fn item_of(&self, item: &DeclaredItem<'_>) -> (ItemId, Weight)
         ensures { result ≡ spec.item_of self.now.draft item.now }
     {
@@ -249,7 +249,7 @@ impl Judge {
         (id, item.weight.unwrap_or(weight))
     }
 
-    /// The first item that names each place, if one does.
+    /// Returns the first item that names each place, if one does.
     fn named_places(
         &self,
         alloc: Global,
@@ -265,7 +265,7 @@ impl Judge {
         Ok(named)
     }
 
-    /// The items that name no place.
+    /// Returns the items that name no place.
     fn other_items(
         &self,
         alloc: Global,
@@ -282,7 +282,7 @@ impl Judge {
         Ok(others)
     }
 
-    /// The items of a bucket in order of place.
+    /// Returns the items of a bucket in order of place.
     fn items_of(
         &self,
         alloc: Global,
@@ -300,7 +300,7 @@ impl Judge {
         arranged(alloc, places, rest)
     }
 
-    /// The bucket of a declaration, as the draft has it.
+    /// Returns the bucket of a declaration, as the draft has it.
     fn bucket_of(&self, alloc: Global, declared: &DeclaredBucket<'_>) -> Result<Bucket, AllocError>
         ensures { IfOk result (λ bucket. bucket ≡ spec.bucket_of self.now.draft declared.now) }
     {
@@ -314,7 +314,7 @@ impl Judge {
         })
     }
 
-    /// The fault of a declared bucket, given the bucket that the draft has for it.
+    /// Returns the fault of a declared bucket, given the bucket that the draft has for it.
     #[tactic(auto, unfolding(crate::specs::Judging::declared_bucket_fault))]
     fn bucket_fault(
         &self,
@@ -348,7 +348,7 @@ impl Judge {
         self.buckets.add(alloc, bucket)
     }
 
-    /// The fault of a bucket; a bucket without a fault is declared.
+    /// Returns the fault of a bucket; a bucket without a fault is declared.
     ///
     /// `Err(AllocError)`: an allocation failed; the value must not be used any more.
     fn declare_bucket(
@@ -370,7 +370,7 @@ impl Judge {
         }
     }
 
-    /// The step of a declaration. `None`: the step sets local tries, and is dropped.
+    /// Returns the step of a declaration. `None`: the step sets local tries, and is dropped.
     fn step_of(&self, step: &DeclaredStep<'_>) -> Option<Step>
         ensures { result ≡ spec.step_of self.now.draft step.now }
     {
@@ -392,7 +392,7 @@ impl Judge {
         }
     }
 
-    /// The fault of a step.
+    /// Returns the fault of a step.
     fn step_fault(&self, step: &DeclaredStep<'_>) -> Option<FaultCode>
         ensures { result ≡ spec.declared_step_fault self.now step.now }
     {
@@ -405,7 +405,7 @@ impl Judge {
         }
     }
 
-    /// The first fault of steps.
+    /// Returns the first fault of steps.
     fn steps_fault(&self, steps: &[DeclaredStep<'_>]) -> Option<FaultCode>
         ensures { result ≡ faults.first_of (map (spec.declared_step_fault self.now) steps.now) }
     {
@@ -417,7 +417,7 @@ impl Judge {
         None
     }
 
-    /// The steps of declarations, without those that are dropped.
+    /// Returns the steps of declarations, without those that are dropped.
     fn steps_of(&self, alloc: Global, steps: &[DeclaredStep<'_>]) -> Result<Vec<Step>, AllocError>
         ensures { IfOk result (λ v. v.items ≡ filter_map (spec.step_of self.now.draft) steps.now) }
     {
@@ -430,7 +430,7 @@ impl Judge {
         Ok(kept)
     }
 
-    /// The rule of a declaration, as the draft has it.
+    /// Returns the rule of a declaration, as the draft has it.
     fn rule_of(&self, alloc: Global, declared: &DeclaredRule<'_>) -> Result<Rule, AllocError>
         ensures { IfOk result (λ rule. rule ≡ spec.rule_of self.now.draft declared.now) }
     {
@@ -443,7 +443,7 @@ impl Judge {
         })
     }
 
-    /// The fault of a declared rule, given the rule that the draft has for it.
+    /// Returns the fault of a declared rule, given the rule that the draft has for it.
     #[tactic(auto, unfolding(crate::specs::Judging::declared_rule_fault))]
     fn rule_fault(&self, declared: &DeclaredRule<'_>, rule: &Rule) -> Option<FaultCode>
         requires { rule.now ≡ spec.rule_of self.now.draft declared.now }
@@ -467,7 +467,7 @@ impl Judge {
         Ok(())
     }
 
-    /// The fault of a rule; a rule without a fault is declared.
+    /// Returns the fault of a rule; a rule without a fault is declared.
     ///
     /// `Err(AllocError)`: an allocation failed; the value must not be used any more.
     fn declare_rule(
@@ -488,7 +488,7 @@ impl Judge {
         }
     }
 
-    /// The fault of a declaration; what has no fault is declared.
+    /// Returns the fault of a declaration; what has no fault is declared.
     ///
     /// `Err(AllocError)`: an allocation failed; the value must not be used any more.
     fn declare(
@@ -508,8 +508,8 @@ impl Judge {
         }
     }
 
-    /// The first fault of declarations, each checked behind those before it; if there is none, all
-    /// are declared.
+    /// Returns the first fault of declarations, each checked behind those before it; if there is
+    /// none, all are declared.
     ///
     /// `Err(AllocError)`: an allocation failed; the value must not be used any more.
     #[tactic(auto, unfolding(crate::specs::Judging::fault_from))]
@@ -529,7 +529,7 @@ impl Judge {
         Ok(None)
     }
 
-    /// The fault at the end of a text, when all is declared.
+    /// Returns the fault at the end of a text, when all is declared.
     pub(crate) fn end_fault(&self) -> Option<FaultCode>
         ensures { result ≡ faults.end_fault self.now.known self.now.draft.tunables self.now.draft.local_tries self.now.draft.local_fallback_tries }
     {
@@ -537,7 +537,7 @@ impl Judge {
             .end_fault(self.tunables, self.local_tries, self.local_fallback_tries)
     }
 
-    /// The draft of the map. Allocates nothing.
+    /// Returns the draft of the map. Allocates nothing.
     pub(crate) fn into_draft(self) -> MapDraft
         ensures { result ≡ self.draft }
     {
@@ -563,7 +563,7 @@ impl Judge {
     }
 }
 
-/// The step that sets a setting. `None`: it sets local tries, and is dropped.
+/// Returns the step that sets a setting. `None`: it sets local tries, and is dropped.
 fn set_step(setting: Setting, n: u32) -> Option<Step>
     ensures { (d : MapDraft) (m : ℕ) → spec.fitted m ≡ n → result ≡ spec.step_of d (step_kinds.Set setting m) }
 {
@@ -576,7 +576,7 @@ fn set_step(setting: Setting, n: u32) -> Option<Step>
     }
 }
 
-/// What all declarations make, or the first fault that one of them has.
+/// Returns what all declarations make, or the first fault that one of them has.
 pub(crate) fn judge_all(
     alloc: Global,
     declarations: &[Declaration<'_>],

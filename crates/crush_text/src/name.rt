@@ -28,7 +28,7 @@ fn map_code_text(code: FaultCode) -> &'static str
     }
 }
 
-/// The name of a code, as a user reads it: `X1` to `X7`, `M1` to `M15`.
+/// Returns the name of a code, as a user reads it: `X1` to `X7`, `M1` to `M15`.
 pub fn code_text(code: TextCode) -> &'static str
     ensures { result.now ≡ spec.code_text code }
 {

@@ -11,7 +11,7 @@ use crush_grammar::{DeclaredItem, Place};
 use crush_map::{ItemId, Weight};
 use std::alloc::{AllocError, Global};
 
-/// A flag for each place: none was named yet.
+/// Returns a flag for each place: none was named yet.
 fn unnamed(alloc: Global, size: usize) -> Result<Vec<bool>, AllocError>
     ensures len { IfOk result (λ t. length t.items ≡ size) }
     ensures none { IfOk result (λ t. (k : ℕ) → slice_index_or t.items k false ≡ false) }
@@ -19,7 +19,7 @@ fn unnamed(alloc: Global, size: usize) -> Result<Vec<bool>, AllocError>
     Ok(vec![in alloc; false; size]?)
 }
 
-/// The line of the first place that is past the items or was named before.
+/// Returns the line of the first place that is past the items or was named before.
 #[tactic(auto, unfolding(crate::specs::Places::wrong_place))]
 pub(crate) fn wrong_place(
     alloc: Global,
@@ -39,7 +39,7 @@ pub(crate) fn wrong_place(
     Ok(None)
 }
 
-/// An entry for each place: none has an item yet.
+/// Returns an entry for each place: none has an item yet.
 pub(crate) fn free_places(
     alloc: Global,
     size: usize,
@@ -50,8 +50,8 @@ pub(crate) fn free_places(
     Ok(vec![in alloc; None; size]?)
 }
 
-/// The table with an item at the place that it names, unless that is past the table or has an item
-/// already.
+/// Returns the table with an item at the place that it names, unless that is past the table or has
+/// an item already.
 #[tactic(auto, using(crate::proofs::Named::named_steps))]
 pub(crate) fn with_item(
     mut named: Vec<Option<(ItemId, Weight)>>,

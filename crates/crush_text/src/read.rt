@@ -15,7 +15,7 @@ use crush_grammar::{Declarations, TextCode, TextFault, last_line, read_declarati
 use crush_map::CrushMap;
 use std::alloc::{AllocError, Global};
 
-/// The fault at the end of a text, when all is declared.
+/// Returns the fault at the end of a text, when all is declared.
 fn fault_at_end(text: &[u8], judge: &Judge) -> Option<TextFault>
     ensures { result ≡ last_fault (fronts.last_line 1 (words text.now)) judge.now }
 {
@@ -28,7 +28,7 @@ fn fault_at_end(text: &[u8], judge: &Judge) -> Option<TextFault>
     }
 }
 
-/// The map of a text whose declarations have no fault, or else the fault at its end.
+/// Returns the map of a text whose declarations have no fault, or else the fault at its end.
 fn map_of(text: &[u8], judge: Judge) -> Result<CrushMap, TextFault>
     requires { IsClean (words text.now) judge }
     ensures map { IfOk result (λ m. IsTextOf text.now m) }
@@ -40,7 +40,7 @@ fn map_of(text: &[u8], judge: Judge) -> Result<CrushMap, TextFault>
     }
 }
 
-/// The map of a text with these declarations, or else its first fault.
+/// Returns the map of a text with these declarations, or else its first fault.
 fn map_of_declarations(
     alloc: Global,
     text: &[u8],
@@ -60,7 +60,8 @@ fn map_of_declarations(
     }
 }
 
-/// The map of a stored text, whatever its length, or else its first fault, by line and code.
+/// Returns the map of a stored text, whatever its length, or else its first fault, by line and
+/// code.
 ///
 /// Declarations are checked in the order of the text, each against those before it; a word that is
 /// not of the grammar is a fault after those of the declarations before it.
@@ -74,7 +75,7 @@ pub fn read_stored(alloc: Global, text: &[u8]) -> Result<Result<CrushMap, TextFa
     map_of_declarations(alloc, text, &read)
 }
 
-/// The map of a text that may be imported, or else its first fault, by line and code.
+/// Returns the map of a text that may be imported, or else its first fault, by line and code.
 ///
 /// A text of more than `TEXT_LIMIT` bytes is refused (X7 on line 1) before it is read.
 ///

@@ -17,8 +17,8 @@ use std::marker::Model;
 /// The number of a name that isn't declared: no type has this number, and no item has this id.
 pub(crate) const UNDECLARED: u32 = NUMBER_LIMIT + 1;
 
-/// The number of the type with a name, or `UNDECLARED`. A map has few types (`TYPE_LIMIT`), so they
-/// are looked through in order.
+/// Returns the number of the type with a name, or `UNDECLARED`. A map has few types (`TYPE_LIMIT`),
+/// so they are looked through in order.
 pub(crate) fn type_number(types: &[TypeName], name: &str) -> u32
     ensures { result ≡ option_map_or (λ t. t.number) (find (λ t. bytes_eq t.name name.now) types.now) undeclared_number }
 {
@@ -47,7 +47,7 @@ fn add_first(
     Ok(())
 }
 
-/// A device as an item: its id, and the weight 1.0.
+/// Returns a device as an item: its id, and the weight 1.0.
 fn device_item(declared: &Device) -> (ItemId, Weight)
     requires { declared.now.id ≤ NUMBER_LIMIT }
     ensures { result ≡ of_device declared.now }
@@ -76,7 +76,7 @@ impl Model for DeviceTable {
 }
 
 impl DeviceTable {
-    /// The empty table.
+    /// Returns the empty table.
     pub(crate) fn new(alloc: Global) -> Self
         ensures { result ≡ [] }
     {
@@ -86,7 +86,8 @@ impl DeviceTable {
         }
     }
 
-    /// The id of the device with a name, and the weight 1.0. `None`: no device has the name.
+    /// Returns the id of the device with a name, and the weight 1.0. `None`: no device has the
+    /// name.
     pub(crate) fn item(&self, name: &str) -> Option<(ItemId, Weight)>
         ensures { result ≡ option_map of_device (find (λ d. bytes_eq d.name name.now) self.now) }
     {
@@ -108,7 +109,7 @@ impl DeviceTable {
         Ok(())
     }
 
-    /// The devices. Allocates nothing.
+    /// Returns the devices. Allocates nothing.
     pub(crate) fn into_vec(self) -> Vec<Device>
         ensures { result.items ≡ self }
     {
@@ -117,7 +118,7 @@ impl DeviceTable {
     }
 }
 
-/// A bucket as an item: its id, and the sum of the weights of its items.
+/// Returns a bucket as an item: its id, and the sum of the weights of its items.
 fn bucket_item(declared: &Bucket) -> (ItemId, Weight)
     requires few { length declared.now.items ≤ ITEM_LIMIT }
     requires light { total_weight declared.now.items ≤ TOTAL_WEIGHT_LIMIT }
@@ -150,7 +151,7 @@ impl Model for BucketTable {
 }
 
 impl BucketTable {
-    /// The empty table.
+    /// Returns the empty table.
     pub(crate) fn new(alloc: Global) -> Self
         ensures { result ≡ [] }
     {
@@ -160,8 +161,8 @@ impl BucketTable {
         }
     }
 
-    /// The id of the bucket with a name, and the sum of the weights of its items. `None`: no bucket
-    /// has the name.
+    /// Returns the id of the bucket with a name, and the sum of the weights of its items. `None`:
+    /// no bucket has the name.
     pub(crate) fn item(&self, name: &str) -> Option<(ItemId, Weight)>
         ensures { result ≡ option_map of_bucket (find (λ b. bytes_eq b.name name.now) self.now) }
     {
@@ -184,7 +185,7 @@ impl BucketTable {
         Ok(())
     }
 
-    /// The buckets. Allocates nothing.
+    /// Returns the buckets. Allocates nothing.
     pub(crate) fn into_vec(self) -> Vec<Bucket>
         ensures { result.items ≡ self }
     {

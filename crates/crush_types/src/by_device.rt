@@ -49,8 +49,8 @@ fn reach<T: Copy>(table: &mut Vec<T>, len: usize, rest: T) -> Result<(), AllocEr
 }
 
 impl<T: Copy> ByDevice<T> {
-    /// The table in which each id has the value of the rest. It has room for the first `reached`
-    /// ids, at most `ID_COUNT`.
+    /// Returns the table in which each id has the value of the rest. It has room for the first
+    /// `reached` ids, at most `ID_COUNT`.
     ///
     /// `Err(AllocError)`: an allocation failed; nothing is changed.
     pub fn new(alloc: Global, rest: T, reached: usize) -> Result<Self, AllocError>
@@ -62,8 +62,8 @@ impl<T: Copy> ByDevice<T> {
         Ok(ByDevice { rest, table })
     }
 
-    /// The table of pairs of id and value. It has room for at least the first `reached` ids, at
-    /// most `ID_COUNT`.
+    /// Returns the table of pairs of id and value. It has room for at least the first `reached`
+    /// ids, at most `ID_COUNT`.
     ///
     /// Of several pairs for one id the first counts. An id without a pair has the value of the
     /// rest, and so has each id of `ID_COUNT` or more.
@@ -103,7 +103,7 @@ impl<T: Copy> ByDevice<T> {
         Ok(())
     }
 
-    /// The value of an id.
+    /// Returns the value of an id.
     pub fn get(&self, id: u32) -> T
         ensures { result ≡ spec.value_at self.now id }
     {

@@ -20,21 +20,21 @@ impl<T> Model for Listed<T> {
 }
 
 impl<T> Listed<T> {
-    /// The list of a vector's elements. Allocates nothing.
+    /// Returns the list of a vector's elements. Allocates nothing.
     pub fn new(elements: Vec<T>) -> Self
         ensures { result ≡ elements.items }
     {
         Listed { elements }
     }
 
-    /// The elements, in order.
+    /// Returns the elements, in order.
     pub fn as_slice(&self) -> &[T]
         ensures { result.now ≡ self.now }
     {
         self.elements.as_slice()
     }
 
-    /// The vector itself. Allocates nothing.
+    /// Returns the vector itself. Allocates nothing.
     pub fn into_vec(self) -> Vec<T>
         ensures { result.items ≡ self }
     {

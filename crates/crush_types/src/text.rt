@@ -23,14 +23,14 @@ impl Model for Text {
 }
 
 impl Text {
-    /// The text of a string, which is kept. Allocates nothing.
+    /// Returns the text of a string, which is kept. Allocates nothing.
     pub fn new(string: String) -> Self
         ensures { result ≡ string_bytes string }
     {
         Text { string }
     }
 
-    /// A copy of a text.
+    /// Returns a copy of a text.
     ///
     /// `Err(AllocError)`: an allocation failed; nothing is changed.
     pub fn copy(alloc: Global, original: &str) -> Result<Self, AllocError>
@@ -40,14 +40,14 @@ impl Text {
         Ok(Text { string })
     }
 
-    /// The text as a string slice.
+    /// Returns the text as a string slice.
     pub fn as_str(&self) -> &str
         ensures { result.now ≡ self.now }
     {
         self.string.as_str()
     }
 
-    /// The string that was kept. Allocates nothing.
+    /// Returns the string that was kept. Allocates nothing.
     pub fn into_string(self) -> String
         ensures { string_bytes result ≡ self }
     {

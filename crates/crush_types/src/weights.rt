@@ -6,7 +6,8 @@ ghost use Rattle.crush_types.specs.Weights as spec;
 
 use crate::word::{ItemId, Weight};
 
-/// The sum of the weights, in 16.16 fixed point, of fewer than 2^16 items: it fits in 64 bits.
+/// Returns the sum of the weights, in 16.16 fixed point, of fewer than 2^16 items: it fits in 64
+/// bits.
 pub fn total_weight(items: &[(ItemId, Weight)]) -> u64
     requires { length items.now < 2 ^ 16 }
     ensures { result ≡ spec.total_weight items.now }
@@ -14,7 +15,7 @@ pub fn total_weight(items: &[(ItemId, Weight)]) -> u64
     items.iter().map(|item| u64::from(item.1.0)).sum()
 }
 
-/// Whether all items have the same weight, as they must in a uniform bucket.
+/// Returns whether all items have the same weight, as they must in a uniform bucket.
 pub fn has_equal_weights(items: &[(ItemId, Weight)]) -> bool
     ensures { result ≡ spec.has_equal_weights items.now }
 {
@@ -24,7 +25,7 @@ pub fn has_equal_weights(items: &[(ItemId, Weight)]) -> bool
     }
 }
 
-/// Whether each item has this weight.
+/// Returns whether each item has this weight.
 fn all_weigh(items: &[(ItemId, Weight)], weight: u32) -> bool
     ensures { result ≡ list_all (λ item. item.1.0 == weight) items.now }
 {

@@ -13,7 +13,7 @@ pub struct Weight(pub u32);
 pub struct ItemId(pub i32);
 
 impl ItemId {
-    /// The 32-bit word of an id in a hash: its two's complement.
+    /// Returns the 32-bit word of an id in a hash: its two's complement.
     pub fn word(self) -> u32
         ensures { result ≡ cast_unsigned w32 self.0 }
     {
@@ -30,7 +30,7 @@ pub enum Kind {
 }
 
 impl Kind {
-    /// The kind with a name: `uniform`, `list` or `tree`.
+    /// Returns the kind with a name: `uniform`, `list` or `tree`.
     pub fn named(name: &[u8]) -> Option<Kind>
         ensures { result ≡ kind_named name.now }
     {

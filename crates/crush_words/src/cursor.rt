@@ -27,7 +27,7 @@ impl<'a> Model for Cursor<'a> {
 }
 
 impl<'a> Cursor<'a> {
-    /// The start of a text.
+    /// Returns the start of a text.
     pub fn new(text: &'a [u8]) -> Self
         ensures { result ≡ record { line = 1; words = spec.words text.now } }
     {
@@ -37,14 +37,14 @@ impl<'a> Cursor<'a> {
         }
     }
 
-    /// The number of the line of the last word read, or 1 if none was read.
+    /// Returns the number of the line of the last word read, or 1 if none was read.
     pub fn line(&self) -> usize
         ensures { result ≡ self.now.line }
     {
         self.line
     }
 
-    /// The next word and the rest after it. `None`: no word is left.
+    /// Returns the next word and the rest after it. `None`: no word is left.
     pub fn next(&self) -> Option<(Word<'a>, Cursor<'a>)>
         ensures { MatchOption result (self.now.words ≡ []) (λ r. (self.now.words ≡ r.0 ∷ r.1.words) × (r.1.line ≡ r.0.line)) }
     {

@@ -7,7 +7,7 @@ ghost use Rattle.crush_words.specs.Words as spec;
 use crate::word::Word;
 use crush_map::is_name_byte;
 
-/// How many bytes at the front are allowed in names.
+/// Returns how many bytes at the front are allowed in names.
 fn run_len(bytes: &[u8]) -> usize
     ensures value { result ≡ scan.run_len bytes.now }
     ensures bound { result ≤ length bytes.now }
@@ -22,14 +22,14 @@ fn run_len(bytes: &[u8]) -> usize
     len
 }
 
-/// Whether a byte is blank: a space, a tab or a CR.
+/// Returns whether a byte is blank: a space, a tab or a CR.
 fn is_blank(byte: u8) -> bool
     ensures { result ≡ spec.is_blank byte }
 {
     matches!(byte, b' ' | b'\t' | b'\r')
 }
 
-/// The length of the word at the front, in bytes.
+/// Returns the length of the word at the front, in bytes.
 fn word_len(bytes: &[u8]) -> usize
     requires { scan.starts_word bytes.now ≡ true }
     ensures bound { result ≤ length bytes.now }
@@ -40,8 +40,8 @@ fn word_len(bytes: &[u8]) -> usize
     if len == 0 { 1 } else { len }
 }
 
-/// The first word of a text whose first line has this number, and what follows the word. `None`:
-/// the text has no word.
+/// Returns the first word of a text whose first line has this number, and what follows the word.
+/// `None`: the text has no word.
 pub(crate) fn first_word<'a>(line: usize, text: &'a [u8]) -> Option<(Word<'a>, &'a [u8])>
     requires { line + length text.now < 2 ^ 64 }
     ensures value { MatchOption result (spec.words_from false line text.now ≡ []) (λ r. spec.words_from false line text.now ≡ r.0 ∷ spec.words_from false r.0.line r.1.now) }

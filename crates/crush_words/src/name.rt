@@ -19,14 +19,14 @@ impl<'a> Model for Name<'a> {
 }
 
 impl<'a> Name<'a> {
-    /// The name that this text is.
+    /// Returns the name that this text is.
     pub fn new(text: &'a str) -> Self
         ensures { result ≡ text.now }
     {
         Name { text }
     }
 
-    /// Its text.
+    /// Returns its text.
     pub fn as_str(&self) -> &'a str
         ensures { result.now ≡ self.now }
     {

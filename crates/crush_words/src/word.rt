@@ -21,21 +21,21 @@ impl<'a> Model for Word<'a> {
 }
 
 impl<'a> Word<'a> {
-    /// The word of these bytes, on the line with this number.
+    /// Returns the word of these bytes, on the line with this number.
     pub(crate) fn new(line: usize, text: &'a [u8]) -> Self
         ensures { result ≡ record { line = line; text = text.now } }
     {
         Word { line, text }
     }
 
-    /// The number of its line; the first line is 1.
+    /// Returns the number of its line; the first line is 1.
     pub fn line(&self) -> usize
         ensures { result ≡ self.now.line }
     {
         self.line
     }
 
-    /// Its bytes.
+    /// Returns its bytes.
     pub fn text(&self) -> &'a [u8]
         ensures { result.now ≡ self.now.text }
     {

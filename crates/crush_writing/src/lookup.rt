@@ -11,8 +11,8 @@ use std::alloc::{AllocError, Global};
 use std::collections::BTreeMap;
 use std::marker::Model;
 
-/// The name of the type with a number, or the empty text. A map has few types (`TYPE_LIMIT`), so
-/// they are looked through in order.
+/// Returns the name of the type with a number, or the empty text. A map has few types
+/// (`TYPE_LIMIT`), so they are looked through in order.
 #[tactic(auto, unfolding(crate::specs::Canonical::type_name))]
 fn type_name<'a>(types: &'a [TypeName], number: u32) -> &'a str
     ensures { result.now ≡ spec.type_name types.now number }
@@ -25,7 +25,7 @@ fn type_name<'a>(types: &'a [TypeName], number: u32) -> &'a str
     ""
 }
 
-/// The names of devices by id. If several devices have an id, it has the name of the first.
+/// Returns the names of devices by id. If several devices have an id, it has the name of the first.
 fn device_names<'a>(
     alloc: Global,
     devices: &'a [Device],
@@ -40,7 +40,7 @@ fn device_names<'a>(
     Ok(names)
 }
 
-/// The names of buckets by id. If several buckets have an id, it has the name of the first.
+/// Returns the names of buckets by id. If several buckets have an id, it has the name of the first.
 fn bucket_names<'a>(
     alloc: Global,
     buckets: &'a [Bucket],
@@ -79,7 +79,7 @@ impl<'a> Model for Names<'a> {
 }
 
 impl<'a> Names<'a> {
-    /// The names of a map.
+    /// Returns the names of a map.
     pub(crate) fn new(alloc: Global, map: &'a CrushMap) -> Result<Self, AllocError>
         ensures { IfOk result (λ names. names ≡ map.now) }
     {
@@ -90,21 +90,21 @@ impl<'a> Names<'a> {
         })
     }
 
-    /// The map.
+    /// Returns the map.
     pub(crate) fn map(&self) -> &'a CrushMap
         ensures { result.now ≡ self.now }
     {
         self.map
     }
 
-    /// The name of the type with a number, or the empty text.
+    /// Returns the name of the type with a number, or the empty text.
     pub(crate) fn of_type(&self, number: u32) -> &'a str
         ensures { result.now ≡ spec.type_name self.now.types number }
     {
         type_name(self.map.types(), number)
     }
 
-    /// The name of the device or bucket with an id, or the empty text.
+    /// Returns the name of the device or bucket with an id, or the empty text.
     pub(crate) fn of_item(&self, id: ItemId) -> &'a str
         ensures { result.now ≡ spec.item_name self.now id.0 }
     {

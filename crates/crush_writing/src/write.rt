@@ -145,7 +145,7 @@ fn write_items(
     Ok(())
 }
 
-/// The word of a bucket's algorithm.
+/// Returns the word of a bucket's algorithm.
 fn alg_text(alg: Kind) -> &'static str
     ensures { result.now ≡ spec.alg_text alg }
 {
@@ -275,7 +275,7 @@ fn write_steps(
     Ok(())
 }
 
-/// The word of a rule's type.
+/// Returns the word of a rule's type.
 fn erasure_text(erasure: bool) -> &'static str
     ensures { result.now ≡ spec.erasure_text erasure }
 {
@@ -312,7 +312,7 @@ fn write_rules(alloc: Global, out: &mut Vec<u8>, names: &Names<'_>) -> Result<()
     Ok(())
 }
 
-/// The canonical text of a map.
+/// Returns the canonical text of a map.
 ///
 /// `Err(AllocError)`: an allocation failed; nothing is changed.
 #[tactic(auto, unfolding(crate::specs::Canonical::canonical))]

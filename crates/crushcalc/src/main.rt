@@ -103,7 +103,7 @@ fn script_over_file(
     Ok(end?)
 }
 
-/// Why the program stops after a script that ended so, if it does.
+/// Returns why the program stops after a script that ended so, if it does.
 fn stop_after(end: ScriptEnd) -> Result<(), Stop> {
     match end {
         ScriptEnd::Done => Ok(()),

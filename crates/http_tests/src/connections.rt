@@ -7,8 +7,8 @@ use std::alloc::Global;
 use std::process::Abort;
 use tenant_service::{MemoryStore, Service};
 
-/// How a connection to a service ends whose input is cut so into reads, and whose reader and writer
-/// fail after so many calls, and what was written.
+/// Returns how a connection to a service ends whose input is cut so into reads, and whose reader
+/// and writer fail after so many calls, and what was written.
 pub(crate) fn connect_to(
     alloc: Global,
     buffers: &mut Buffers,
@@ -29,7 +29,7 @@ pub(crate) fn connect_to(
     (ended, taken)
 }
 
-/// The same of a connection to a new service, with buffers of its own.
+/// Returns the same of a connection to a new service, with buffers of its own.
 pub(crate) fn connect(
     rt: &impl Abort,
     alloc: Global,

@@ -19,7 +19,7 @@ const TWO: usize = 60;
 /// The length of the reply to the first message.
 const FIRST: usize = 100;
 
-/// The replies to the messages that are whole in so many bytes of the stream.
+/// Returns the replies to the messages that are whole in so many bytes of the stream.
 fn replies_within(bytes: usize) -> &'static [u8] {
     if bytes < ONE {
         &[]
@@ -30,7 +30,8 @@ fn replies_within(bytes: usize) -> &'static [u8] {
     }
 }
 
-/// How a connection to a new service ends that brings the worked stream, and what was written.
+/// Returns how a connection to a new service ends that brings the worked stream, and what was
+/// written.
 fn connect(
     rt: &impl Abort,
     alloc: Global,
@@ -44,7 +45,8 @@ fn connect(
     connect_to(alloc, buffers, &mut service, STREAM, cuts, reads, writes)
 }
 
-/// Whether a connection whose reader fails after so many reads is closed; else it met the fault.
+/// Returns whether a connection whose reader fails after so many reads is closed; else it met the
+/// fault.
 fn is_closed_after(
     rt: &impl Abort,
     alloc: Global,
@@ -89,8 +91,8 @@ fn a_read_fault_leaves_the_replies_to_whole_messages(rt: HostRuntime) {
     }
 }
 
-/// How many bytes of the replies are written where the writer fails after so many writes, and
-/// whether the connection is closed; else it met the fault.
+/// Returns how many bytes of the replies are written where the writer fails after so many writes,
+/// and whether the connection is closed; else it met the fault.
 fn written_after(
     rt: &impl Abort,
     alloc: Global,
@@ -139,8 +141,8 @@ fn a_write_fault_leaves_a_front_of_the_replies(rt: HostRuntime) {
 const CREATIONS: &[u8] =
     b"PUT /t/a HTTP/1.1\r\nHost: l\r\n\r\nPUT /t/b HTTP/1.1\r\nHost: l\r\n\r\nPUT /t/c HTTP/1.1\r\nHost: l\r\n\r\n";
 
-/// How many tenants are there after a connection that makes three, each byte in a read of its own,
-/// and whose writer fails after so many writes; and how many bytes were written.
+/// Returns how many tenants are there after a connection that makes three, each byte in a read of
+/// its own, and whose writer fails after so many writes; and how many bytes were written.
 fn create(
     rt: &impl Abort,
     alloc: Global,

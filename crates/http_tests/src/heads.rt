@@ -89,7 +89,7 @@ const AT_LIMITS: [Long; 4] = [
     ),
 ];
 
-/// The bytes of such a head.
+/// Returns the bytes of such a head.
 fn long_head(rt: &impl Abort, alloc: Global, long: &Long) -> Vec<u8> {
     let (front, part, count, end, _, _) = *long;
     let mut head = Vec::new(alloc);

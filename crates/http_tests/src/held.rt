@@ -70,7 +70,7 @@ struct Record {
     seen: Vec<usize>,
 }
 
-/// What comes of a connection to a new service, whose writer takes so many bytes.
+/// Returns what comes of a connection to a new service, whose writer takes so many bytes.
 fn connect(
     rt: &impl Abort,
     alloc: Global,
@@ -113,7 +113,7 @@ const FIRST_TWO: Cuts = Cuts {
     later: 20_000,
 };
 
-/// The first two messages of the stream, and one more.
+/// Returns the first two messages of the stream, and one more.
 fn three_messages(rt: &impl Abort, alloc: Global) -> Vec<u8> {
     let mut input = Vec::new(alloc);
     input
@@ -133,7 +133,7 @@ fn replies_are_written_before_a_read(rt: HostRuntime) {
     assert_same(&rt, &found.seen.as_slice(), &&[0, REPLIES.len(), all][..]);
 }
 
-/// The same bytes, 16 times.
+/// Returns the same bytes, 16 times.
 fn sixteen(rt: &impl Abort, alloc: Global, bytes: &[u8]) -> Vec<u8> {
     let mut all = Vec::new(alloc);
     for _ in 0..16 {
@@ -182,7 +182,7 @@ fn a_connection_finds_nothing_of_the_last_one(rt: HostRuntime) {
     }
 }
 
-/// A body that imports a map, whose text has more bytes than are held.
+/// Returns a body that imports a map, whose text has more bytes than are held.
 fn long_map(rt: &impl Abort, alloc: Global) -> String {
     let mut body = String::new(alloc);
     body.push_str("{\"request\":\"r\",\"text\":\"tunable choose_local_tries 0\\n")

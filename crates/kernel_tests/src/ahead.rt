@@ -108,7 +108,7 @@ const MAP: Short<'static> = Short {
     ..SOUND
 };
 
-/// What a bucket of the map picks, by the plain form.
+/// Returns what a bucket of the map picks, by the plain form.
 fn plain_pick(
     rt: &impl Abort,
     alloc: Global,
@@ -214,7 +214,7 @@ fn assert_rounds(rt: &impl Abort, alloc: Global, tables: &Tables) -> Result<(), 
     Ok(())
 }
 
-/// The same of uniform buckets, of the first four places of each.
+/// Returns the same of uniform buckets, of the first four places of each.
 fn assert_uniform(rt: &impl Abort, alloc: Global, tables: &Tables) -> Result<(), AllocError> {
     let mut scratch = Scratch::build(alloc, tables)?;
     let mut seed = 77;

@@ -14,7 +14,7 @@ use crush_map::{CrushMap, ItemId, Kind, Weight, has_equal_weights};
 use std::alloc::{AllocError, Global};
 use std::process::Abort;
 
-/// The next of a row of numbers that look random, and a number of it.
+/// Returns the next of a row of numbers that look random, and a number of it.
 pub(crate) fn next(seed: &mut u64) -> u32 {
     *seed = seed
         .wrapping_mul(6_364_136_223_846_793_005)
@@ -22,7 +22,8 @@ pub(crate) fn next(seed: &mut u64) -> u32 {
     (*seed >> 33) as u32
 }
 
-/// What a bucket of this id and size picks for inputs and attempts, asked in turn with one scratch.
+/// Returns what a bucket of this id and size picks for inputs and attempts, asked in turn with one
+/// scratch.
 fn ask<P: Picker>(
     alloc: Global,
     bucket: &P,
@@ -64,7 +65,7 @@ fn assert_eight<P: Picker>(
     Ok(())
 }
 
-/// A bucket of the kind picks for eight inputs at once what it picks for each of them.
+/// Returns a bucket of the kind picks for eight inputs at once what it picks for each of them.
 fn assert_kind(
     rt: &impl Abort,
     alloc: Global,
@@ -79,7 +80,7 @@ fn assert_kind(
     assert_eight(rt, alloc, &bucket, id, entries.len(), xs)
 }
 
-/// What the bucket of a kind picks for inputs and attempts.
+/// Returns what the bucket of a kind picks for inputs and attempts.
 fn picked(
     rt: &impl Abort,
     alloc: Global,
@@ -187,7 +188,8 @@ fn a_scratch_that_was_asked_answers_as_a_new_one(rt: HostRuntime) -> Result<(), 
     Ok(())
 }
 
-/// How many items the bucket of a round has: around powers of two that are past 64, else 1 to 200.
+/// Returns how many items the bucket of a round has: around powers of two that are past 64, else 1
+/// to 200.
 fn random_size(seed: &mut u64, round: u32) -> u16 {
     match round {
         0 => 65,

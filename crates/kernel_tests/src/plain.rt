@@ -24,7 +24,7 @@ fn weight_within(entries: &[(ItemId, Weight)], from: usize, to: usize) -> u64 {
     sum
 }
 
-/// What the bucket of a kind picks.
+/// Returns what the bucket of a kind picks.
 pub(crate) fn pick(
     alloc: Global,
     kind: Kind,
@@ -40,8 +40,8 @@ pub(crate) fn pick(
     }
 }
 
-/// The list of the places 0, 1, .. after so many exchanges; after as many as there are places it is
-/// the permutation.
+/// Returns the list of the places 0, 1, .. after so many exchanges; after as many as there are
+/// places it is the permutation.
 pub(crate) fn exchanged(
     alloc: Global,
     id: ItemId,
@@ -65,7 +65,7 @@ pub(crate) fn exchanged(
     Ok(places)
 }
 
-/// The whole permutation is made for each question.
+/// Returns the whole permutation is made for each question.
 pub(crate) fn uniform(
     alloc: Global,
     id: ItemId,
@@ -78,7 +78,7 @@ pub(crate) fn uniform(
     Ok(placed(entries, &places, r))
 }
 
-/// The item that a permutation has for an attempt.
+/// Returns the item that a permutation has for an attempt.
 pub(crate) fn placed(entries: &[(ItemId, Weight)], places: &[usize], r: u32) -> ItemId {
     match places.get(r as usize % places.len().max(1)) {
         Some(place) => item_at(entries, *place),
@@ -86,7 +86,7 @@ pub(crate) fn placed(entries: &[(ItemId, Weight)], places: &[usize], r: u32) -> 
     }
 }
 
-/// Each place is tried from the first on, and the last that passes stays.
+/// Returns each place is tried from the first on, and the last that passes stays.
 pub(crate) fn list(id: ItemId, entries: &[(ItemId, Weight)], x: u32, r: u32) -> ItemId {
     let mut picked = item_at(entries, 0);
     for (place, entry) in entries.iter().enumerate() {
@@ -99,7 +99,7 @@ pub(crate) fn list(id: ItemId, entries: &[(ItemId, Weight)], x: u32, r: u32) -> 
     picked
 }
 
-/// The range of places is halved until one is left.
+/// Returns the range of places is halved until one is left.
 fn tree(id: ItemId, entries: &[(ItemId, Weight)], x: u32, r: u32) -> ItemId {
     let mut width = 1usize;
     for _ in 0..32 {

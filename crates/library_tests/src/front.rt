@@ -23,7 +23,7 @@ const SUMMARY: Row = (
 /// Requests of a new service.
 const ROWS: [Row; 3] = [CREATION_OF_A, IMPORT_BY_A, SUMMARY];
 
-/// Whether replies are those of the rows.
+/// Returns whether replies are those of the rows.
 fn are_of_rows(replies: &[Reply]) -> bool {
     replies.len() == ROWS.len()
         && replies
@@ -70,7 +70,7 @@ fn services_are_opened_and_closed(rt: HostRuntime) -> Result<(), Fail> {
     Ok(())
 }
 
-/// A reader of these bytes.
+/// Returns a reader of these bytes.
 fn reader_of(rest: &[u8]) -> Reader<'_> {
     Reader {
         rest,

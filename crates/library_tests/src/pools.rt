@@ -22,7 +22,7 @@ use std::rc::Rc;
 use std::test::Fail;
 use text_tests::texts::{DEVICE_0, DEVICE_7, map_of};
 
-/// The parts of pool 1, replicated, of one device a group by rule 0.
+/// Returns the parts of pool 1, replicated, of one device a group by rule 0.
 fn parts(
     alloc: Global,
     name: &str,
@@ -41,7 +41,7 @@ fn parts(
     })
 }
 
-/// The pool of these parts.
+/// Returns the pool of these parts.
 fn pool(alloc: Global, pg_num: u32, hashpspool: bool) -> Result<Pool, Fail> {
     match Pool::new(parts(alloc, "rbd", pg_num, hashpspool)?) {
         Ok(pool) => Ok(pool),
@@ -49,7 +49,7 @@ fn pool(alloc: Global, pg_num: u32, hashpspool: bool) -> Result<Pool, Fail> {
     }
 }
 
-/// Whether a placement is that of the device 0, with this seed.
+/// Returns whether a placement is that of the device 0, with this seed.
 fn is_on_0(placement: &Placement, seed: u32) -> bool {
     let device: Slot = Some(ItemId(0));
     placement.seed == seed
@@ -167,7 +167,7 @@ fn device_csvs_have_their_call(rt: HostRuntime) -> Result<(), Fail> {
     Ok(())
 }
 
-/// The canonical text of a map.
+/// Returns the canonical text of a map.
 fn text_of(rt: &impl Abort, alloc: Global, map: &CrushMap) -> Result<SharedText, AllocError>
     ensures { IfOk result (λ text. text ≡ canonical map.now) }
 {

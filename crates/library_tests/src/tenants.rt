@@ -11,7 +11,7 @@ use tenant_core::{
     read_request,
 };
 
-/// The import of a map by a tenant.
+/// Returns the import of a map by a tenant.
 fn import_call<'a>() -> CallParts<'a> {
     CallParts {
         method: b"POST",
@@ -20,8 +20,8 @@ fn import_call<'a>() -> CallParts<'a> {
     }
 }
 
-/// The change that an import makes of a tenant that was just created. `Err`: an allocation failed,
-/// or its reply isn't that to a first import.
+/// Returns the change that an import makes of a tenant that was just created. `Err`: an allocation
+/// failed, or its reply isn't that to a first import.
 pub(crate) fn first_change(alloc: Global) -> Result<Change, Fail>
     ensures { IfOk result (λ change. CanMake change fresh) }
 {

@@ -133,7 +133,7 @@ fn rules(alloc: Global, short: Short<'_>) -> Result<Listed<Rule>, AllocError> {
     Ok(Listed::new(rules))
 }
 
-/// The draft that is written so.
+/// Returns the draft that is written so.
 pub fn draft(alloc: Global, short: Short<'_>) -> Result<MapDraft, AllocError> {
     Ok(MapDraft {
         types: types(alloc, named(alloc, short.types)?)?,
@@ -146,7 +146,7 @@ pub fn draft(alloc: Global, short: Short<'_>) -> Result<MapDraft, AllocError> {
     })
 }
 
-/// The same draft with these buckets, and with the devices from 0 on.
+/// Returns the same draft with these buckets, and with the devices from 0 on.
 pub fn generated(
     alloc: Global,
     short: Short<'_>,
@@ -163,7 +163,7 @@ pub fn generated(
     Ok(made)
 }
 
-/// The map of a draft without a fault.
+/// Returns the map of a draft without a fault.
 pub fn map_of(alloc: Global, draft: MapDraft) -> Result<CrushMap, Fail> {
     match CrushMap::check(alloc, draft)? {
         Ok(map) => Ok(map),
@@ -171,7 +171,7 @@ pub fn map_of(alloc: Global, draft: MapDraft) -> Result<CrushMap, Fail> {
     }
 }
 
-/// A bucket that is named by its id.
+/// Returns a bucket that is named by its id.
 pub fn bucket(
     alloc: Global,
     id: i32,

@@ -23,7 +23,7 @@ struct Second<'a> {
     wanted: (Option<FaultCode>, Option<FaultCode>),
 }
 
-/// A type, a device, a bucket and a rule, each in a draft of its own.
+/// Returns a type, a device, a bucket and a rule, each in a draft of its own.
 fn assert_second(
     rt: &impl Abort,
     alloc: Global,

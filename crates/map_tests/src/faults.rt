@@ -19,7 +19,7 @@ use std::alloc::{AllocError, Global};
 use std::process::Abort;
 use std::test::Fail;
 
-/// A draft is a map where no code is wanted, or else has this fault first.
+/// Returns a draft is a map where no code is wanted, or else has this fault first.
 pub(crate) fn assert_first(
     rt: &impl Abort,
     alloc: Global,
@@ -377,8 +377,8 @@ const OUT_OF_ORDER: Short<'static> = Short {
     ..SOUND
 };
 
-/// The numbers of a map's types, and the ids of its devices, buckets and rules, as they stand in
-/// its lists.
+/// Returns the numbers of a map's types, and the ids of its devices, buckets and rules, as they
+/// stand in its lists.
 fn numbers_of(alloc: Global, map: &CrushMap) -> Result<Vec<i64>, AllocError> {
     let mut numbers = Vec::new(alloc);
     for one in map.types() {

@@ -28,7 +28,7 @@ struct Counts {
     wrong: u32,
 }
 
-/// The numbers from 0 on, each with a name.
+/// Returns the numbers from 0 on, each with a name.
 fn numbered(
     alloc: Global,
     letter: char,

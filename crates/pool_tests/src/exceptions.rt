@@ -223,7 +223,7 @@ fn groups_are_placed_with_their_exceptions(rt: HostRuntime) -> Result<(), Fail> 
 
 // ---- lists of pairs
 
-/// Whether these pairs are exceptions of a pool of twelve groups.
+/// Returns whether these pairs are exceptions of a pool of twelve groups.
 fn assert_valid(rt: &impl Abort, alloc: Global, pairs: &[Pair], valid: bool) -> Result<(), Fail> {
     let pool = pool(alloc, TWELVE)?;
     let mut list = Vec::new(alloc);

@@ -109,21 +109,22 @@ impl MapTables {
     ghost use Rattle.std.specs.Prelude.{◌≡◌};
     ghost use Rattle.crush_bucket.specs.Tables.{tables_of};
 
-    /// The map of a text, and its tables. `Err`: an allocation failed, or the text has a fault.
+    /// Returns the map of a text, and its tables. `Err`: an allocation failed, or the text has a
+    /// fault.
     pub fn of_text(alloc: Global, text: &str) -> Result<MapTables, Fail> {
         let map = map_of(alloc, text)?;
         let tables = Tables::build(alloc, &map)?;
         Ok(MapTables { map, tables })
     }
 
-    /// The map.
+    /// Returns the map.
     pub fn map(&self) -> &CrushMap
         ensures { result.now ≡ self.now }
     {
         &self.map
     }
 
-    /// The tables of the map.
+    /// Returns the tables of the map.
     pub fn tables(&self) -> &Tables
         ensures { result.now ≡ tables_of self.now }
     {

@@ -294,7 +294,7 @@ fn groups_are_placed(rt: HostRuntime) -> Result<(), Fail> {
     Ok(())
 }
 
-/// The pool of a placer has no group of this number.
+/// Returns the pool of a placer has no group of this number.
 fn assert_past(
     rt: &impl Abort,
     alloc: Global,
@@ -308,7 +308,7 @@ fn assert_past(
     Ok(())
 }
 
-/// A pool without exceptions has no group of the number of its groups, on this map.
+/// Returns a pool without exceptions has no group of the number of its groups, on this map.
 fn assert_end(rt: &impl Abort, alloc: Global, map: &MapTables, short: Short) -> Result<(), Fail> {
     let pool = PoolCase::build(alloc, short, &[], &[])?;
     let Some(placer) = pool.placer(map) else {
@@ -323,7 +323,7 @@ fn groups_end_below_pg_num(rt: HostRuntime) -> Result<(), Fail> {
     assert_end(&rt, rt.alloc(), &map, TWELVE)
 }
 
-/// A pool with this rule has a placer on a map, or none.
+/// Returns a pool with this rule has a placer on a map, or none.
 fn assert_placer(
     rt: &impl Abort,
     alloc: Global,

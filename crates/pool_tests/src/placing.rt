@@ -17,7 +17,7 @@ use std::alloc::Global;
 use std::marker::Model;
 use std::test::Fail;
 
-/// The exceptions of a pool with these pairs. `Err`: an allocation failed, or they can't be
+/// Returns the exceptions of a pool with these pairs. `Err`: an allocation failed, or they can't be
 /// exceptions of the pool.
 pub fn exceptions_of(alloc: Global, pool: &Pool, pairs: &[Pair]) -> Result<Exceptions, Fail>
     ensures { IfOk result (λ exceptions. are_pairs pool.now.pg_num exceptions ≡ true) }
@@ -59,8 +59,8 @@ impl Model for PoolCase {
 }
 
 impl PoolCase {
-    /// A pool of these parts with these exceptions, and these states. `Err`: an allocation failed,
-    /// or there is no such pool.
+    /// Returns a pool of these parts with these exceptions, and these states. `Err`: an allocation
+    /// failed, or there is no such pool.
     pub fn build(
         alloc: Global,
         short: Short,
@@ -80,7 +80,8 @@ impl PoolCase {
         })
     }
 
-    /// What places the groups of the pool on a map; `None` where the map lacks the pool's rule.
+    /// Returns what places the groups of the pool on a map; `None` where the map lacks the pool's
+    /// rule.
     pub fn placer<'a>(&'a self, map: &'a MapTables) -> Option<Placer<'a>> {
         Placer::new(
             map.map(),
@@ -93,12 +94,12 @@ impl PoolCase {
         )
     }
 
-    /// The states of devices.
+    /// Returns the states of devices.
     pub fn states(&self) -> &'static [DeviceState] {
         self.states
     }
 
-    /// The reweights of devices by the states.
+    /// Returns the reweights of devices by the states.
     pub fn weights(&self) -> &Weights {
         &self.weights
     }
@@ -113,8 +114,9 @@ pub struct Placed {
     pub out: Out,
 }
 
-/// The placement of a group of a placer's pool, by what the placer is made of and these weights.
-/// `P2` where the pool has no such group. `Err`: an allocation failed, or the map lacks the rule.
+/// Returns the placement of a group of a placer's pool, by what the placer is made of and these
+/// weights. `P2` where the pool has no such group. `Err`: an allocation failed, or the map lacks
+/// the rule.
 pub fn placement_by(
     alloc: Global,
     placer: &Placer,
@@ -144,7 +146,7 @@ pub fn placement_by(
     Ok(answer)
 }
 
-/// Whether two placements are the same.
+/// Returns whether two placements are the same.
 fn are_same(one: &Placement, other: &Placement) -> bool {
     one.seed == other.seed
         && one.raw.as_slice() == other.raw.as_slice()
@@ -152,7 +154,7 @@ fn are_same(one: &Placement, other: &Placement) -> bool {
         && one.primary == other.primary
 }
 
-/// What is left where the placer places a group, which it places as it is placed elsewhere.
+/// Returns what is left where the placer places a group, which it places as it is placed elsewhere.
 fn left(
     alloc: Global,
     placer: &Placer,
@@ -171,9 +173,9 @@ fn left(
     Ok(out)
 }
 
-/// The placement of a group of a placer's pool, by what the placer is made of and these weights,
-/// and what is left where the placer places it. `Err`: an allocation failed, the pool has no such
-/// group, or the placer places it otherwise.
+/// Returns the placement of a group of a placer's pool, by what the placer is made of and these
+/// weights, and what is left where the placer places it. `Err`: an allocation failed, the pool has
+/// no such group, or the placer places it otherwise.
 pub fn place_group(
     alloc: Global,
     placer: &Placer,

@@ -19,8 +19,8 @@ use crush_select::Slot;
 use crush_select::limits::SIZE_LIMIT;
 use std::alloc::{AllocError, Global};
 
-/// Which of the first groups of a pool have another up list than the one that is kept, in order;
-/// `new` is room for one. `Err(AllocError)`: an allocation failed.
+/// Returns which of the first groups of a pool have another up list than the one that is kept, in
+/// order; `new` is room for one. `Err(AllocError)`: an allocation failed.
 #[tactic(auto, using(crush_report::proofs::Groups::moves_more))]
 fn moved_rows(
     alloc: Global,
@@ -42,8 +42,9 @@ fn moved_rows(
     Ok(Listed::new(rows))
 }
 
-/// The groups whose up lists differ between the map of which lists are kept and another, in order.
-/// A group of which no list is kept had an empty one. `Err(AllocError)`: an allocation failed.
+/// Returns the groups whose up lists differ between the map of which lists are kept and another, in
+/// order. A group of which no list is kept had an empty one. `Err(AllocError)`: an allocation
+/// failed.
 pub fn moves_from(alloc: Global, old: &UpLists, to: &Placer) -> Result<Listed<MoveRow>, AllocError>
     ensures rows { IfOk result (λ rows. (p : PoolOnMap) → AreUpListsOn p old.now → p.states ≡ to.now.states → p.pool ≡ to.now.pool → p.pairs ≡ to.now.pairs
         → Some rows ≡ moves p.map to.now.map p.states p.pool p.pairs) }

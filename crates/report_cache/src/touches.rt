@@ -51,7 +51,7 @@ impl Model for Touches {
     ghost invariant = { λ a. IsNonDecreasingBy (λ t. t.device) a.pairs.items };
 }
 
-/// Whether a number is in a list.
+/// Returns whether a number is in a list.
 fn has_number(numbers: &[u32], number: u32) -> bool
     ensures { result ≡ has_number numbers.now number }
 {
@@ -130,15 +130,15 @@ fn add_pairs(pairs: &mut Vec<Touch>, devices: &[u32], group: u32) -> Result<(), 
     Ok(())
 }
 
-/// How many pairs there is room for at first: one more for each group than it has slots, since an
-/// item that is rejected counts too.
+/// Returns how many pairs there is room for at first: one more for each group than it has slots,
+/// since an item that is rejected counts too.
 fn usual_count(pool: &Pool) -> usize {
     let parts = pool.parts();
     let usual = (parts.size as usize + 1).saturating_mul(parts.pg_num as usize);
     usual.min(TOUCH_LIMIT)
 }
 
-/// The pairs of a pool, group by group; `None` where they are more than `TOUCH_LIMIT`.
+/// Returns the pairs of a pool, group by group; `None` where they are more than `TOUCH_LIMIT`.
 fn pairs_by_group(alloc: Global, placer: &Placer) -> Result<Option<Vec<Touch>>, AllocError>
     ensures { IfOk result (λ found. IfSome found (λ pairs. (d : ℕ) → groups_in pairs.items d ≡ touched_on placer.now d (groups placer.now.pool))) }
 {
@@ -156,8 +156,8 @@ fn pairs_by_group(alloc: Global, placer: &Placer) -> Result<Option<Vec<Touch>>, 
     Ok(Some(pairs))
 }
 
-/// The place of the first pair by device whose device has an id of at least `least`, or the number
-/// of pairs where there is none.
+/// Returns the place of the first pair by device whose device has an id of at least `least`, or the
+/// number of pairs where there is none.
 fn place_of(pairs: &[Touch], least: u64) -> usize
     requires { IsNonDecreasingBy (λ t. t.device) pairs.now }
     ensures place { IsPartitionPoint (λ t. nat_lt t.device least ≡ true) (λ t. nat_lt t.device least ≡ false) pairs.now result }
@@ -166,7 +166,7 @@ fn place_of(pairs: &[Touch], least: u64) -> usize
     pairs.partition_point(|pair| u64::from(pair.device) < least)
 }
 
-/// The groups of pairs, in their order.
+/// Returns the groups of pairs, in their order.
 fn groups_of(alloc: Global, pairs: &[Touch]) -> Result<Vec<u32>, AllocError>
     ensures { IfOk result (λ groups. groups.items ≡ map (λ t. t.group) pairs.now) }
 {
@@ -177,8 +177,9 @@ impl Touches {
     ghost use Rattle.std.specs.Prelude.{◌≡◌, IfOk, IfSome};
     ghost use Rattle.report_cache.specs.Touches.{AreTouchesOn, groups_in};
 
-    /// Which groups of the placer's pool each device can touch, by one pass over the groups. `None`
-    /// where there are more than `TOUCH_LIMIT` pairs. `Err(AllocError)`: an allocation failed.
+    /// Returns which groups of the placer's pool each device can touch, by one pass over the
+    /// groups. `None` where there are more than `TOUCH_LIMIT` pairs. `Err(AllocError)`: an
+    /// allocation failed.
     pub fn build(alloc: Global, placer: &Placer) -> Result<Option<Self>, AllocError>
         ensures { IfOk result (λ built. IfSome built (AreTouchesOn placer.now)) }
     {
@@ -192,8 +193,8 @@ impl Touches {
         Ok(Some(Touches { pairs }))
     }
 
-    /// The groups of a device, ascending: a look-up and a copy. `Err(AllocError)`: an allocation
-    /// failed.
+    /// Returns the groups of a device, ascending: a look-up and a copy. `Err(AllocError)`: an
+    /// allocation failed.
     pub fn groups_of(&self, alloc: Global, device: u32) -> Result<Listed<u32>, AllocError>
         ensures { IfOk result (λ found. found ≡ groups_in self.now device) }
     {

@@ -46,7 +46,7 @@ fn most_slots(pool: &Pool) -> usize {
     (parts.pg_num as usize * parts.size as usize).min(SLOT_LIMIT)
 }
 
-/// Where a list begins, by where the lists end.
+/// Returns where a list begins, by where the lists end.
 fn start_at(ends: &[u32], place: usize) -> u32
     requires { place ≤ length ends.now }
     ensures { result ≡ start_at 0 ends.now place }
@@ -54,7 +54,7 @@ fn start_at(ends: &[u32], place: usize) -> u32
     if place == 0 { 0 } else { ends[place - 1] }
 }
 
-/// The slots from a start to an end.
+/// Returns the slots from a start to an end.
 fn slots_between(slots: &[Slot], start: usize, end: usize) -> &[Slot]
     requires ordered { start ≤ end }
     requires within { end ≤ length slots.now }
@@ -93,8 +93,8 @@ impl UpLists {
     ghost use Rattle.std.specs.Prelude.{◌≡◌, [], IfOk, IfSome, slice_index_or};
     ghost use Rattle.report_cache.specs.UpLists.{AreUpListsOn};
 
-    /// The up lists of the groups of the placer's pool, by one pass over the groups. `None` where
-    /// they have more than `SLOT_LIMIT` slots. `Err(AllocError)`: an allocation failed.
+    /// Returns the up lists of the groups of the placer's pool, by one pass over the groups. `None`
+    /// where they have more than `SLOT_LIMIT` slots. `Err(AllocError)`: an allocation failed.
     pub fn build(alloc: Global, placer: &Placer) -> Result<Option<Self>, AllocError>
         ensures { IfOk result (λ built. IfSome built (AreUpListsOn placer.now)) }
     {
@@ -112,7 +112,7 @@ impl UpLists {
         Ok(None)
     }
 
-    /// The up list of a group; an empty one of a group that has none.
+    /// Returns the up list of a group; an empty one of a group that has none.
     pub fn list(&self, group: u32) -> &[Slot]
         ensures { result.now ≡ slice_index_or self.now group [] }
     {

@@ -191,12 +191,12 @@ pub(crate) const CASES: &[Case] = &[
     (PAIRS, &[OUT_1, DOWN_2]),
 ];
 
-/// The map whose root has six devices.
+/// Returns the map whose root has six devices.
 pub(crate) fn of_six(alloc: Global) -> Result<MapTables, Fail> {
     MapTables::of_text(alloc, OF_SIX)
 }
 
-/// The map whose root has seven devices.
+/// Returns the map whose root has seven devices.
 pub(crate) fn of_seven(alloc: Global) -> Result<MapTables, Fail> {
     MapTables::of_text(alloc, OF_SEVEN)
 }

@@ -24,7 +24,8 @@ fn assert_all_same(rt: &impl Abort, first: &[MoveRow], second: &[MoveRow]) {
     }
 }
 
-/// What moves from kept lists to the map of a placer is what moves from the map of the lists.
+/// Returns what moves from kept lists to the map of a placer is what moves from the map of the
+/// lists.
 fn assert_moved(
     rt: &impl Abort,
     alloc: Global,
@@ -40,7 +41,7 @@ fn assert_moved(
     Ok(())
 }
 
-/// What moves between two maps is what moves from the lists that are kept of the first.
+/// Returns what moves between two maps is what moves from the lists that are kept of the first.
 fn assert_kept_lists(
     rt: &impl Abort,
     alloc: Global,
@@ -53,7 +54,7 @@ fn assert_kept_lists(
     assert_moved(rt, alloc, &lists, (from, to), case)
 }
 
-/// The groups that are kept of a device are those of its impact list.
+/// Returns the groups that are kept of a device are those of its impact list.
 fn assert_groups(
     rt: &impl Abort,
     alloc: Global,
@@ -69,7 +70,7 @@ fn assert_groups(
     Ok(())
 }
 
-/// The groups that are kept of each device are those of its impact list.
+/// Returns the groups that are kept of each device are those of its impact list.
 fn assert_touches(
     rt: &impl Abort,
     alloc: Global,
@@ -85,7 +86,7 @@ fn assert_touches(
     Ok(())
 }
 
-/// What is kept of a pool answers as the reports do.
+/// Returns what is kept of a pool answers as the reports do.
 fn assert_kept(
     rt: &impl Abort,
     alloc: Global,

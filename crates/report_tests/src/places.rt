@@ -94,7 +94,7 @@ fn assert_differing(rt: &impl Abort, rows: &[MoveRow], olds: &[Placed], news: &[
     assert!(rt; rest.is_empty());
 }
 
-/// The rows are of the groups of a pool whose placements on two maps differ.
+/// Returns the rows are of the groups of a pool whose placements on two maps differ.
 fn assert_moved(
     rt: &impl Abort,
     alloc: Global,
@@ -108,7 +108,7 @@ fn assert_moved(
     Ok(())
 }
 
-/// The groups of a pool that move are those whose placements differ.
+/// Returns the groups of a pool that move are those whose placements differ.
 fn assert_moves(
     rt: &impl Abort,
     alloc: Global,
@@ -163,8 +163,8 @@ fn assert_touched(rt: &impl Abort, found: &[u32], groups: &[Placed], pairs: &[Pa
     assert!(rt; rest.is_empty());
 }
 
-/// The groups that a device can touch are those with it in their trace, and those of which a pair
-/// leads to it.
+/// Returns the groups that a device can touch are those with it in their trace, and those of which
+/// a pair leads to it.
 fn assert_impact(
     rt: &impl Abort,
     alloc: Global,

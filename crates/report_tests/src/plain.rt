@@ -7,7 +7,7 @@ use pool_tests::placing::{Placed, place_group};
 use std::alloc::Global;
 use std::test::Fail;
 
-/// All groups of a placer's pool, placed one by one.
+/// Returns all groups of a placer's pool, placed one by one.
 pub(crate) fn all_placed(
     alloc: Global,
     placer: &Placer,
@@ -21,7 +21,7 @@ pub(crate) fn all_placed(
     Ok(groups)
 }
 
-/// Whether a slot has a device.
+/// Returns whether a slot has a device.
 fn is_device(slot: Slot, device: u32) -> bool {
     match slot {
         Some(item) => i64::from(item.0) == i64::from(device),
@@ -29,7 +29,7 @@ fn is_device(slot: Slot, device: u32) -> bool {
     }
 }
 
-/// How many slots of an up list have a device.
+/// Returns how many slots of an up list have a device.
 fn entries(up: &[Slot], device: u32) -> u32 {
     let mut count: u32 = 0;
     for slot in up {
@@ -40,7 +40,7 @@ fn entries(up: &[Slot], device: u32) -> u32 {
     count
 }
 
-/// How many slots of an up list have any device.
+/// Returns how many slots of an up list have any device.
 fn filled(up: &[Slot]) -> u32 {
     let mut count: u32 = 0;
     for slot in up {
@@ -51,7 +51,7 @@ fn filled(up: &[Slot]) -> u32 {
     count
 }
 
-/// The row of a device with a group counted too.
+/// Returns the row of a device with a group counted too.
 fn with_group(row: UsageRow, placement: &Placement) -> UsageRow {
     let found = entries(placement.up.as_slice(), row.device);
     UsageRow {
@@ -64,7 +64,7 @@ fn with_group(row: UsageRow, placement: &Placement) -> UsageRow {
     }
 }
 
-/// The row of a device, counted over placements.
+/// Returns the row of a device, counted over placements.
 pub(crate) fn counted(groups: &[Placed], device: u32) -> UsageRow {
     let mut row = UsageRow {
         device,
@@ -84,7 +84,7 @@ pub(crate) fn counted(groups: &[Placed], device: u32) -> UsageRow {
     row
 }
 
-/// How many slots of a new list have a device that isn't in the old one.
+/// Returns how many slots of a new list have a device that isn't in the old one.
 pub(crate) fn gained(old: &[Slot], new: &[Slot]) -> usize {
     let mut count: usize = 0;
     for slot in new {
@@ -95,7 +95,8 @@ pub(crate) fn gained(old: &[Slot], new: &[Slot]) -> usize {
     count
 }
 
-/// Whether a device can touch a group: it is in the trace of the group, or a pair leads to it.
+/// Returns whether a device can touch a group: it is in the trace of the group, or a pair leads to
+/// it.
 pub(crate) fn touches(placed: &Placed, group: usize, pairs: &[Pair], device: u32) -> bool {
     placed.out.trace().iter().any(|id| *id == device)
         || pairs

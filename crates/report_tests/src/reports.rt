@@ -33,7 +33,7 @@ const OF_EIGHT: Short = Short {
     ..OF_TWO
 };
 
-/// The usage of a placer's pool is this CSV.
+/// Returns the usage of a placer's pool is this CSV.
 fn assert_used(
     rt: &impl Abort,
     alloc: Global,
@@ -106,14 +106,14 @@ fn a_device_that_a_pair_leads_to_is_used(rt: HostRuntime) -> Result<(), Fail> {
     Ok(())
 }
 
-/// The CSV of these rows is this one.
+/// Returns the CSV of these rows is this one.
 fn assert_csv(rt: &impl Abort, alloc: Global, rows: &[MoveRow], csv: &[u8]) -> Result<(), Fail> {
     let text = moves_csv(alloc, rows)?;
     assert!(rt; text.as_slice() == csv);
     Ok(())
 }
 
-/// What moves of a pool from one map to another is this CSV.
+/// Returns what moves of a pool from one map to another is this CSV.
 fn assert_moved(
     rt: &impl Abort,
     alloc: Global,
@@ -192,7 +192,7 @@ const OUT_0: DeviceState = DeviceState {
 /// Pairs, states of devices, a device, and the groups that it can touch.
 type Row = (&'static [Pair], &'static [DeviceState], u32, &'static [u32]);
 
-/// The groups of a placer's pool that a device can touch are these.
+/// Returns the groups of a placer's pool that a device can touch are these.
 fn assert_touched(
     rt: &impl Abort,
     alloc: Global,

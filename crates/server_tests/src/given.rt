@@ -17,7 +17,7 @@ pub struct GivenClients<'a> {
 }
 
 impl<'a> GivenClients<'a> {
-    /// These clients. `Err(AllocError)`: an allocation failed; nothing is changed.
+    /// Returns these clients. `Err(AllocError)`: an allocation failed; nothing is changed.
     pub fn new(alloc: Global, coming: &'a [Option<&'a [u8]>]) -> Result<Self, AllocError> {
         let answered = Vec::with_capacity(alloc, coming.len())?;
         Ok(GivenClients {
@@ -27,7 +27,7 @@ impl<'a> GivenClients<'a> {
         })
     }
 
-    /// What those clients got whose connections are closed.
+    /// Returns what those clients got whose connections are closed.
     pub fn answered(&self) -> &[Vec<u8>] {
         &self.answered
     }

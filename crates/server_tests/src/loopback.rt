@@ -9,13 +9,13 @@ use std::rt::HostRuntime;
 use std::test::Fail;
 use tenant_service::Service;
 
-/// A port that nobody listens on.
+/// Returns a port that nobody listens on.
 fn free_port(rt: &HostRuntime) -> Result<u16, Fail> {
     let listener = TcpListener::bind(rt, (Ipv4Addr::LOCALHOST, 0))?;
     Ok(listener.local_addr()?.port())
 }
 
-/// A client of the port that has sent the messages, and shut its side.
+/// Returns a client of the port that has sent the messages, and shut its side.
 fn client(rt: &HostRuntime, port: u16) -> Result<TcpStream, Fail> {
     let mut stream = TcpStream::connect(rt, (Ipv4Addr::LOCALHOST, port))?;
     stream.write_all(STREAM)?;
@@ -23,7 +23,7 @@ fn client(rt: &HostRuntime, port: u16) -> Result<TcpStream, Fail> {
     Ok(stream)
 }
 
-/// All that the client gets.
+/// Returns all that the client gets.
 fn replies(alloc: Global, mut stream: TcpStream) -> Result<Vec<u8>, Fail> {
     let mut got = Vec::new(alloc);
     stream.read_to_end(&mut got)?;

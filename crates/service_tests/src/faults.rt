@@ -9,8 +9,8 @@ use std::alloc::Global;
 use std::process::Abort;
 use tenant_service::Service;
 
-/// How many bytes of the replies are written where the writer fails after so many writes, and
-/// whether the script is done; else it met the fault.
+/// Returns how many bytes of the replies are written where the writer fails after so many writes,
+/// and whether the script is done; else it met the fault.
 fn written_after(rt: &impl Abort, alloc: Global, writes: usize) -> (usize, bool) {
     let (end, written) = play(rt, alloc, MANY, writes);
     assert!(rt;
@@ -52,8 +52,8 @@ const CREATIONS: &[u8] = b"PUT /t/a\nPUT /t/b\nPUT /t/c\n";
 /// How many bytes the reply to one of them has.
 const REPLY: usize = 29;
 
-/// How these lines end with a reader and a writer that fail after so many calls, how many tenants
-/// are then there, and how many bytes were written.
+/// Returns how these lines end with a reader and a writer that fail after so many calls, how many
+/// tenants are then there, and how many bytes were written.
 fn create(
     rt: &impl Abort,
     alloc: Global,

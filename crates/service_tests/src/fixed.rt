@@ -104,7 +104,7 @@ impl TenantStore for FixedStore {
     ghost settled = { λ store t found honest works there. absurd there };
 }
 
-/// A service over a store that serves so many loads.
+/// Returns a service over a store that serves so many loads.
 pub(crate) fn over_fixed(alloc: Global, left: u32) -> Result<Service<FixedStore>, AllocError>
     ensures { IfOk result (λ service. service.has_failed ≡ false) }
 {

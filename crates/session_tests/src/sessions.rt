@@ -39,8 +39,8 @@ const AGAIN_THERE: &[Row] = &[EXISTS, IMPORT_BY_A, SUMMARY];
 
 const FAILED: Row = ("", "", "", 503, "{\"error\":\"store_failed\"}");
 
-/// One session over a disk that fails for good after so many calls: what came of it, and the disk
-/// as a stop then leaves it.
+/// Returns one session over a disk that fails for good after so many calls: what came of it, and
+/// the disk as a stop then leaves it.
 fn one_session(
     alloc: Global,
     disk: MemoryStore,
@@ -63,8 +63,8 @@ fn one_session(
     Ok((end, disk))
 }
 
-/// A first session over a new disk, that is stopped at this call of the store, and one without a
-/// stop over what it left: they are a history.
+/// Returns a first session over a new disk, that is stopped at this call of the store, and one
+/// without a stop over what it left: they are a history.
 fn two_sessions(
     alloc: Global,
     stop: u32,
@@ -96,7 +96,7 @@ fn assert_silent_from(
     Ok(())
 }
 
-/// The place of the call that is in doubt after a stop at this call of the store.
+/// Returns the place of the call that is in doubt after a stop at this call of the store.
 fn doubt_at(stop: u32) -> usize {
     if stop < 2 { 0 } else { 1 }
 }

@@ -22,7 +22,7 @@ pub(crate) struct Stopping {
 impl Stopping {
     ghost use Rattle.std.specs.Prelude.{◌≡◌, false};
 
-    /// Whether this call is the one that stops. The store is then latched.
+    /// Returns whether this call is the one that stops. The store is then latched.
     fn stops(&mut self) -> bool
         requires { self.old.has_failed ≡ false }
         ensures latch { self.new.has_failed ≡ result }

@@ -44,7 +44,7 @@ const ASKED: [Asked; 12] = [
     ("GET", "/pools/1/usage", ""),
 ];
 
-/// The next number of a sequence that a seed begins.
+/// Returns the next number of a sequence that a seed begins.
 fn next(seed: &mut u64) -> u64 {
     *seed = seed
         .wrapping_mul(6_364_136_223_846_793_005)
@@ -60,26 +60,26 @@ fn call(rt: &impl Abort, alloc: Global, method: &[u8], path: &str, body: &[u8]) 
     }
 }
 
-/// A change of device 0, as JSON, with this request number.
+/// Returns a change of device 0, as JSON, with this request number.
 fn as_json(rt: &impl Abort, alloc: Global, number: u64, weight: u64) -> String {
     format!(in alloc;
         "{{\"request\":\"d{number}\",\"devices\":[{{\"id\":0,\"reweight\":{weight}}}]}}"
     ).expect(rt, "no memory")
 }
 
-/// The same as CSV.
+/// Returns the same as CSV.
 fn as_csv(rt: &impl Abort, alloc: Global, number: u64, weight: u64) -> String {
     format!(in alloc;
         "{{\"request\":\"c{number}\",\"csv\":\"id,reweight,up\\n0,{weight},1\\n\"}}"
     ).expect(rt, "no memory")
 }
 
-/// A path of a tenant.
+/// Returns a path of a tenant.
 fn path_of(rt: &impl Abort, alloc: Global, tenant: &str, rest: &str) -> String {
     format!(in alloc; "{tenant}{rest}").expect(rt, "no memory")
 }
 
-/// A change of device 0, as JSON or as CSV, with one of a hundred request numbers.
+/// Returns a change of device 0, as JSON or as CSV, with one of a hundred request numbers.
 fn drawn_change(rt: &impl Abort, alloc: Global, tenant: &str, seed: &mut u64) -> Call {
     let (number, weight) = (next(seed) % 100, next(seed) % 65_537);
     let (rest, body) = if next(seed) % 2 == 0 {
@@ -101,13 +101,13 @@ fn drawn_call(rt: &impl Abort, alloc: Global, seed: &mut u64) -> Call {
     call(rt, alloc, method.as_bytes(), path.as_str(), body.as_bytes())
 }
 
-/// The same call once more.
+/// Returns the same call once more.
 fn again(rt: &impl Abort, alloc: Global, first: &Call) -> Call {
     let it = first.parts();
     call(rt, alloc, it.method, it.path, it.body)
 }
 
-/// The call in doubt, if there is one, and drawn ones.
+/// Returns the call in doubt, if there is one, and drawn ones.
 fn drawn_calls(rt: &impl Abort, alloc: Global, doubt: &Option<Call>, seed: &mut u64) -> Vec<Call> {
     let mut calls = Vec::new(alloc);
     if let Some(first) = doubt {
@@ -121,7 +121,7 @@ fn drawn_calls(rt: &impl Abort, alloc: Global, doubt: &Option<Call>, seed: &mut 
     calls
 }
 
-/// A call on the log or on the database file, at which the next session stops.
+/// Returns a call on the log or on the database file, at which the next session stops.
 fn drawn_stop(seed: &mut u64) -> Stop {
     if next(seed) % 4 == 0 {
         Stop::Database(next(seed) % 200)
@@ -130,14 +130,14 @@ fn drawn_stop(seed: &mut u64) -> Stop {
     }
 }
 
-/// Whether the service in memory answers the call with this reply.
+/// Returns whether the service in memory answers the call with this reply.
 fn has_reply(alone: &mut Service<MemoryStore>, call: &Call, reply: &Reply) -> bool {
     let own = alone.request(call.parts());
     own.status == reply.status && own.body.as_str() == reply.body.as_str()
 }
 
-/// Whether each call that was acknowledged has the reply that it has alone. The first may be one
-/// that was in doubt: it was done before, or is done now.
+/// Returns whether each call that was acknowledged has the reply that it has alone. The first may
+/// be one that was in doubt: it was done before, or is done now.
 fn are_explained(
     alone: &mut Service<MemoryStore>,
     calls: &[Call],
@@ -157,7 +157,7 @@ fn are_explained(
     true
 }
 
-/// The call at which the session stopped: the one in doubt, or none.
+/// Returns the call at which the session stopped: the one in doubt, or none.
 fn in_doubt(rt: &impl Abort, alloc: Global, calls: &[Call], end: &SessionEnd) -> Option<Call> {
     match end.doubt.and_then(|place| calls.get(place)) {
         Some(it) => Some(again(rt, alloc, it)),
@@ -197,7 +197,7 @@ fn count(
     course.acknowledged = course.acknowledged.saturating_add(count as u64);
 }
 
-/// One more session over what a crash left of the files, which it gives back.
+/// Returns one more session over what a crash left of the files, which it gives back.
 fn next_session(
     rt: &impl Abort,
     alloc: Global,

@@ -34,14 +34,14 @@ pub(crate) fn new_files(alloc: Global, stop: Stop) -> Disks {
     }
 }
 
-/// The files after a crash of both. From then on no call fails.
+/// Returns the files after a crash of both. From then on no call fails.
 pub(crate) fn crashed(mut files: Disks) -> Disks {
     files.log.crash();
     files.db.crash();
     files
 }
 
-/// A disk with the same bytes, all of them synced, that fails after so many calls.
+/// Returns a disk with the same bytes, all of them synced, that fails after so many calls.
 fn copied(alloc: Global, disk: &Fuse<Memory>, calls: u64) -> io::Result<Fuse<Memory>> {
     let mut copy = Memory::new(alloc);
     copy.write_at(0, disk.inner().bytes())?;
@@ -49,7 +49,7 @@ fn copied(alloc: Global, disk: &Fuse<Memory>, calls: u64) -> io::Result<Fuse<Mem
     Ok(Fuse::new(copy, calls))
 }
 
-/// What a crash leaves of the files; one of them then fails again.
+/// Returns what a crash leaves of the files; one of them then fails again.
 pub(crate) fn crashed_with(rt: &impl Abort, alloc: Global, files: Disks, stop: Stop) -> Disks {
     let files = crashed(files);
     let (log, db) = stop.calls();

@@ -36,13 +36,13 @@ fn serve<T: TenantStore + Drop>(
     (end, service.into_store())
 }
 
-/// The files of a store that is let go of as it stands: nothing is copied from the log.
+/// Returns the files of a store that is let go of as it stands: nothing is copied from the log.
 fn left<D: Disk>(store: FileStore<D>) -> Files<D> {
     store.close()
 }
 
-/// The files of a connection, whose log is copied into the database file, if that is asked for and
-/// succeeds.
+/// Returns the files of a connection, whose log is copied into the database file, if that is asked
+/// for and succeeds.
 fn closed<D: Disk + Drop>(conn: Connection<FileStore<D>>, closes: bool) -> Files<D> {
     if !closes {
         return left(conn.into_store());
@@ -53,7 +53,7 @@ fn closed<D: Disk + Drop>(conn: Connection<FileStore<D>>, closes: bool) -> Files
     }
 }
 
-/// The store in the files; or the files, where the opening is refused.
+/// Returns the store in the files; or the files, where the opening is refused.
 fn opened<D: Disk + Drop>(alloc: Global, files: Files<D>) -> Result<Store<FileStore<D>>, Files<D>>
     ensures live { IfOk result (λ store. store.1 ≡ false) }
 {

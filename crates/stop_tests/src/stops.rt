@@ -31,7 +31,7 @@ const AGAIN_THERE: &[Row] = &[EXISTS, IMPORT_BY_A, SUMMARY];
 
 const DROP: &[Row] = &[("DELETE", "/t/a", "", 200, "{\"dropped\":\"a\"}")];
 
-/// Whether the replies are those of the rows.
+/// Returns whether the replies are those of the rows.
 fn are_of_rows(replies: &[Reply], rows: &[Row]) -> bool {
     replies.len() == rows.len()
         && replies
@@ -40,18 +40,18 @@ fn are_of_rows(replies: &[Reply], rows: &[Row]) -> bool {
             .all(|(reply, row)| check_reply(reply, row).is_ok())
 }
 
-/// The calls of some rows.
+/// Returns the calls of some rows.
 fn calls(rt: &impl Abort, alloc: Global, rows: &[Row]) -> Vec<Call> {
     calls_of(alloc, rows).expect(rt, "no memory")
 }
 
-/// How many replies are acknowledgements.
+/// Returns how many replies are acknowledgements.
 fn acknowledged(replies: &[Reply]) -> usize {
     replies.iter().filter(|reply| reply.status != 503).count()
 }
 
-/// Whether the tenant was there, where replies to the first requests, sent again, show that each of
-/// them has then acted once.
+/// Returns whether the tenant was there, where replies to the first requests, sent again, show that
+/// each of them has then acted once.
 fn was_there(replies: &[Reply]) -> Option<bool> {
     if are_of_rows(replies, AGAIN_THERE) {
         Some(true)
@@ -81,8 +81,8 @@ fn assert_found(
     assert!(rt; holds);
 }
 
-/// A creation and an import over new files with this stop, and then the same again: whether the
-/// first session met no stop.
+/// Returns a creation and an import over new files with this stop, and then the same again: whether
+/// the first session met no stop.
 fn creates(rt: &impl Abort, alloc: Global, stop: Stop) -> bool {
     let first = calls(rt, alloc, FIRST);
     let (end, files) = session(rt, alloc, new_files(alloc, stop), &first, false);
@@ -103,8 +103,8 @@ fn files_of_a(rt: &impl Abort, alloc: Global, stop: Stop) -> Disks {
     crashed_with(rt, alloc, files, stop)
 }
 
-/// A drop with this stop: whether it met none. Afterwards the tenant is there whole, or it isn't
-/// there and comes back as a new one.
+/// Returns a drop with this stop: whether it met none. Afterwards the tenant is there whole, or it
+/// isn't there and comes back as a new one.
 fn drops(rt: &impl Abort, alloc: Global, stop: Stop) -> bool {
     let files = files_of_a(rt, alloc, stop);
     let (end, files) = session(rt, alloc, files, &calls(rt, alloc, DROP), false);
@@ -113,8 +113,8 @@ fn drops(rt: &impl Abort, alloc: Global, stop: Stop) -> bool {
     is_dropped
 }
 
-/// An opening with this stop, of files whose log has to be taken in: whether it met none. All that
-/// was acknowledged is there afterwards.
+/// Returns an opening with this stop, of files whose log has to be taken in: whether it met none.
+/// All that was acknowledged is there afterwards.
 fn opens(rt: &impl Abort, alloc: Global, stop: Stop) -> bool {
     let files = files_of_a(rt, alloc, stop);
     let (end, files) = session(rt, alloc, files, &[], false);
@@ -130,7 +130,7 @@ enum Work {
     Opening,
 }
 
-/// Whether it met no stop.
+/// Returns whether it met no stop.
 fn is_whole(rt: &impl Abort, alloc: Global, work: Work, stop: Stop) -> bool {
     match work {
         Work::Creation => creates(rt, alloc, stop),

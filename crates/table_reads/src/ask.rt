@@ -14,7 +14,7 @@ use sqlite::types::ValueRef;
 use sqlite::{Alter, Connection, Row};
 use table_schema::refuse::{Fault, refusal};
 
-/// The rows that a query answers.
+/// Returns the rows that a query answers.
 ///
 /// `Err(Fault::NoMemory)`: nothing is changed.
 pub fn ask<S: Alter>(

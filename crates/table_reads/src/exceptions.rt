@@ -19,7 +19,7 @@ use std::alloc::Global;
 use table_schema::refuse::Fault;
 use table_schema::values::Exception;
 
-/// The exceptions of the tenant's pools, by pool and place.
+/// Returns the exceptions of the tenant's pools, by pool and place.
 fn exception_rows<S: Alter>(conn: &mut Connection<S>, id: i64) -> Result<Vec<Row>, Fault>
     requires autocommit { conn.old.in_transaction ≡ false }
     requires ready { HasCleanDisk (state S.Store conn.old) → IsReady (state S.Store conn.old) }
@@ -36,7 +36,7 @@ fn exception_rows<S: Alter>(conn: &mut Connection<S>, id: i64) -> Result<Vec<Row
     )
 }
 
-/// Whether an exception comes before another, by its pool and its place there.
+/// Returns whether an exception comes before another, by its pool and its place there.
 fn comes_before(first: &Exception, second: &Exception) -> bool
     ensures { IsTrue result ↔ Precedes (exception_row first.now) (exception_row second.now) }
 {
@@ -47,7 +47,7 @@ fn comes_before(first: &Exception, second: &Exception) -> bool
     }
 }
 
-/// Whether the exceptions stand by pool and place, none twice.
+/// Returns whether the exceptions stand by pool and place, none twice.
 fn are_placed(list: &[Exception]) -> bool
     ensures { IsTrue result ↔ IsAscending Precedes (map exception_row list.now) }
 {
@@ -59,7 +59,7 @@ fn are_placed(list: &[Exception]) -> bool
     true
 }
 
-/// The exceptions in the rows.
+/// Returns the exceptions in the rows.
 ///
 /// `Err(Fault::Damaged)`: a place of a pool stands twice, or a row is none of this service's.
 fn exceptions_in(alloc: Global, rows: &[Row]) -> Result<Vec<Exception>, Fault>
@@ -74,7 +74,7 @@ fn exceptions_in(alloc: Global, rows: &[Row]) -> Result<Vec<Exception>, Fault>
     }
 }
 
-/// The exceptions of the tenant's pools, by pool and place, none twice.
+/// Returns the exceptions of the tenant's pools, by pool and place, none twice.
 ///
 /// `Err(Fault::Damaged)`: a place of a pool stands twice, or a row is none of this service's.
 /// `Err(Fault::NoMemory)`: nothing is changed.

@@ -20,7 +20,7 @@ pub struct Tenant {
     pub epoch: i64,
 }
 
-/// The numbers and the epochs of the tenants with the name.
+/// Returns the numbers and the epochs of the tenants with the name.
 fn heads<S: Alter>(conn: &mut Connection<S>, name: &str) -> Result<Vec<Row>, Fault>
     requires autocommit { conn.old.in_transaction ≡ false }
     requires ready { HasCleanDisk (state S.Store conn.old) → IsReady (state S.Store conn.old) }
@@ -37,7 +37,7 @@ fn heads<S: Alter>(conn: &mut Connection<S>, name: &str) -> Result<Vec<Row>, Fau
     )
 }
 
-/// The tenant of the rows, which are its number and its epoch.
+/// Returns the tenant of the rows, which are its number and its epoch.
 fn tenant_in(rows: &[Row]) -> Result<Option<Tenant>, Fault>
     ensures some { IfOk result (λ o. IfSome o (λ t. rows.now ≡ (Int t.id ∷ Int t.epoch ∷ []) ∷ [])) }
     ensures none { IfOk result (λ o. o ≡ None → rows.now ≡ []) }
@@ -68,7 +68,7 @@ fn tenant_in(rows: &[Row]) -> Result<Option<Tenant>, Fault>
     }
 }
 
-/// The tenant with the name, or `None` where there is none.
+/// Returns the tenant with the name, or `None` where there is none.
 ///
 /// `Err(Fault::Damaged)`: there are several, or the row is none of this service's.
 /// `Err(Fault::NoMemory)`: nothing is changed.

@@ -19,7 +19,7 @@ use std::alloc::Global;
 use table_schema::refuse::Fault;
 use table_schema::values::State;
 
-/// The versions and the texts of the tenant's maps, by version.
+/// Returns the versions and the texts of the tenant's maps, by version.
 fn version_rows<S: Alter>(conn: &mut Connection<S>, id: i64) -> Result<Vec<Row>, Fault>
     requires autocommit { conn.old.in_transaction ≡ false }
     requires ready { HasCleanDisk (state S.Store conn.old) → IsReady (state S.Store conn.old) }
@@ -36,7 +36,7 @@ fn version_rows<S: Alter>(conn: &mut Connection<S>, id: i64) -> Result<Vec<Row>,
     )
 }
 
-/// The versions of the tenant's map, which rise strictly.
+/// Returns the versions of the tenant's map, which rise strictly.
 ///
 /// `Err(Fault::Damaged)`: a version stands twice, or a row is none of this service's.
 /// `Err(Fault::NoMemory)`: nothing is changed.
@@ -58,7 +58,7 @@ pub fn versions_of<S: Alter>(
     list_of(alloc, &rows)
 }
 
-/// The states of the tenant's devices, by device.
+/// Returns the states of the tenant's devices, by device.
 fn device_rows<S: Alter>(conn: &mut Connection<S>, id: i64) -> Result<Vec<Row>, Fault>
     requires autocommit { conn.old.in_transaction ≡ false }
     requires ready { HasCleanDisk (state S.Store conn.old) → IsReady (state S.Store conn.old) }
@@ -75,7 +75,7 @@ fn device_rows<S: Alter>(conn: &mut Connection<S>, id: i64) -> Result<Vec<Row>, 
     )
 }
 
-/// The states of the tenant's devices, whose numbers rise strictly.
+/// Returns the states of the tenant's devices, whose numbers rise strictly.
 ///
 /// `Err(Fault::Damaged)`: a device stands twice, or a row is none of this service's.
 /// `Err(Fault::NoMemory)`: nothing is changed.
@@ -97,7 +97,7 @@ pub fn devices_of<S: Alter>(
     list_of(alloc, &rows)
 }
 
-/// The pools of the tenant, by id.
+/// Returns the pools of the tenant, by id.
 fn pool_rows<S: Alter>(conn: &mut Connection<S>, id: i64) -> Result<Vec<Row>, Fault>
     requires autocommit { conn.old.in_transaction ≡ false }
     requires ready { HasCleanDisk (state S.Store conn.old) → IsReady (state S.Store conn.old) }
@@ -114,7 +114,7 @@ fn pool_rows<S: Alter>(conn: &mut Connection<S>, id: i64) -> Result<Vec<Row>, Fa
     )
 }
 
-/// The pools of the tenant, whose ids rise strictly.
+/// Returns the pools of the tenant, whose ids rise strictly.
 ///
 /// `Err(Fault::Damaged)`: an id stands twice, or a row is none of this service's.
 /// `Err(Fault::NoMemory)`: nothing is changed.
@@ -136,7 +136,7 @@ pub fn pools_of<S: Alter>(
     list_of(alloc, &rows)
 }
 
-/// The tenant's receipts with the request.
+/// Returns the tenant's receipts with the request.
 fn receipt_rows<S: Alter>(
     conn: &mut Connection<S>,
     id: i64,
@@ -157,7 +157,7 @@ fn receipt_rows<S: Alter>(
     )
 }
 
-/// The tenant's receipt of the request, or `None` where there is none.
+/// Returns the tenant's receipt of the request, or `None` where there is none.
 ///
 /// `Err(Fault::Damaged)`: there are several, or the row is none of this service's.
 /// `Err(Fault::NoMemory)`: nothing is changed.

@@ -23,7 +23,7 @@ use table_schema::refuse::Fault;
 /// The receipts on a page.
 pub const PAGE: usize = 16;
 
-/// The first receipts of the tenant, by their requests.
+/// Returns the first receipts of the tenant, by their requests.
 fn first_rows<S: Alter>(conn: &mut Connection<S>, id: i64) -> Result<Vec<Row>, Fault>
     requires autocommit { conn.old.in_transaction ≡ false }
     requires ready { HasCleanDisk (state S.Store conn.old) → IsReady (state S.Store conn.old) }
@@ -40,7 +40,7 @@ fn first_rows<S: Alter>(conn: &mut Connection<S>, id: i64) -> Result<Vec<Row>, F
     )
 }
 
-/// The first receipts of the tenant whose requests are above one, by their requests.
+/// Returns the first receipts of the tenant whose requests are above one, by their requests.
 fn next_rows<S: Alter>(conn: &mut Connection<S>, id: i64, after: &str) -> Result<Vec<Row>, Fault>
     requires autocommit { conn.old.in_transaction ≡ false }
     requires ready { HasCleanDisk (state S.Store conn.old) → IsReady (state S.Store conn.old) }
@@ -57,7 +57,7 @@ fn next_rows<S: Alter>(conn: &mut Connection<S>, id: i64, after: &str) -> Result
     )
 }
 
-/// The page of the rows, of which the last is dropped where they are more than a page.
+/// Returns the page of the rows, of which the last is dropped where they are more than a page.
 fn page_of(alloc: Global, rows: &[Row]) -> Result<Vec<ReceiptRow>, Fault>
     ensures page { IfOk result (λ page. IsPageOf rows.now (map receipt_values page.items)) }
     ensures damaged { result ≡ Err Fault.Damaged → AllByRecursion IsReceiptRow rows.now → ¬ IsRising rows.now }
@@ -70,8 +70,8 @@ fn page_of(alloc: Global, rows: &[Row]) -> Result<Vec<ReceiptRow>, Fault>
     Ok(page)
 }
 
-/// The first receipts of the tenant, in the order of their requests' bytes: a page, or fewer where
-/// there are no more.
+/// Returns the first receipts of the tenant, in the order of their requests' bytes: a page, or
+/// fewer where there are no more.
 ///
 /// `Err(Fault::Damaged)`: a request stands twice, or a row is none of this service's.
 /// `Err(Fault::NoMemory)`: nothing is changed.
@@ -93,7 +93,7 @@ pub fn first_receipts<S: Alter>(
     page_of(alloc, &rows)
 }
 
-/// The first receipts of the tenant whose requests are above `after`, in the order of their
+/// Returns the first receipts of the tenant whose requests are above `after`, in the order of their
 /// requests' bytes: a page, or fewer where there are no more.
 ///
 /// `Err(Fault::Damaged)`: a request stands twice, or a row is none of this service's.

@@ -10,7 +10,7 @@ use sqlite::Row;
 use std::alloc::{AllocError, Global};
 use table_schema::refuse::Fault;
 
-/// The one row, or `None` where there is no row.
+/// Returns the one row, or `None` where there is no row.
 ///
 /// `Err(Fault::Damaged)`: there are several, or it is no such row.
 pub fn one_of<T: TenantRow + Drop>(rows: &[Row]) -> Result<Option<T>, Fault>
@@ -32,7 +32,7 @@ pub fn one_of<T: TenantRow + Drop>(rows: &[Row]) -> Result<Option<T>, Fault>
     }
 }
 
-/// The values of the rows, in their order, or `None` where one of them is no such row.
+/// Returns the values of the rows, in their order, or `None` where one of them is no such row.
 pub fn all_in<T: TenantRow + Drop>(
     alloc: Global,
     rows: &[Row],
@@ -50,7 +50,7 @@ pub fn all_in<T: TenantRow + Drop>(
     Ok(Some(list))
 }
 
-/// Whether the keys rise strictly.
+/// Returns whether the keys rise strictly.
 fn rise<T: TenantRow>(list: &[T]) -> bool
     ensures { IsTrue result ↔ IsRising (map T.values list.now) }
 {
@@ -62,7 +62,7 @@ fn rise<T: TenantRow>(list: &[T]) -> bool
     true
 }
 
-/// The rows as values, which rise strictly by their keys.
+/// Returns the rows as values, which rise strictly by their keys.
 ///
 /// `Err(Fault::Damaged)`: they do not rise, or one is no such row.
 pub fn list_of<T: TenantRow + Drop>(alloc: Global, rows: &[Row]) -> Result<Vec<T>, Fault>

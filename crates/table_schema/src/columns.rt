@@ -72,7 +72,7 @@ pub const RECEIPTS: [(&str, Kind); 6] = [
     ("reply", Kind::Text),
 ];
 
-/// Whether the columns of a STRICT table have these names and kinds, and each is NOT NULL.
+/// Returns whether the columns of a STRICT table have these names and kinds, and each is NOT NULL.
 pub fn are_needed(columns: &[Column], expected: &[(&str, Kind)]) -> bool
     ensures { IsTrue result ↔ columns.now ≡ map (λ row. needed row.0.now row.1) expected.now }
 {
@@ -91,7 +91,7 @@ pub fn are_needed(columns: &[Column], expected: &[(&str, Kind)]) -> bool
     left.is_empty()
 }
 
-/// Whether the columns are those of SQLite's own table of counts.
+/// Returns whether the columns are those of SQLite's own table of counts.
 pub fn are_columns_of_counts(columns: &[Column]) -> bool
     ensures { IsTrue result ↔ columns.now ≡ sequence_table.columns }
 {

@@ -9,7 +9,7 @@ use crate::tables::{
 };
 use sqlite_schema::schema::{Index, Schema, Table};
 
-/// Whether the tables are those of schema 1.
+/// Returns whether the tables are those of schema 1.
 fn are_first_tables(tables: &[Table]) -> bool
     ensures { IsTrue result ↔ tables.now ≡ first_schema.tables }
 {
@@ -27,7 +27,7 @@ fn are_first_tables(tables: &[Table]) -> bool
     }
 }
 
-/// Whether the indexes are those of schema 1.
+/// Returns whether the indexes are those of schema 1.
 fn are_first_indexes(indexes: &[Index]) -> bool
     ensures { IsTrue result ↔ indexes.now ≡ first_schema.indexes }
 {
@@ -54,7 +54,7 @@ fn are_first_indexes(indexes: &[Index]) -> bool
     }
 }
 
-/// Whether the schema is schema 1.
+/// Returns whether the schema is schema 1.
 pub fn is_first(schema: &Schema) -> bool
     ensures { IsTrue result ↔ schema.now ≡ first_schema }
 {

@@ -14,7 +14,7 @@ use sqlite_schema::code::{Op, Terms};
 use sqlite_sql::ops::{BinaryOp, CompareOp};
 use sqlite_value::keys::Collation;
 
-/// Whether the node is the first column of a row.
+/// Returns whether the node is the first column of a row.
 pub fn is_first_column(nodes: &Items<Op>, at: usize) -> bool
     ensures { IsTrue result ↔ slice_index_or nodes.now at (Op.Literal Null) ≡ Op.Column 1 0 }
 {
@@ -24,7 +24,7 @@ pub fn is_first_column(nodes: &Items<Op>, at: usize) -> bool
     }
 }
 
-/// Whether the node is the number 1.
+/// Returns whether the node is the number 1.
 pub fn is_number_one(nodes: &Items<Op>, at: usize) -> bool
     ensures { IsTrue result ↔ slice_index_or nodes.now at (Op.Literal Null) ≡ Op.Literal (Int (pos 1)) }
 {
@@ -34,7 +34,7 @@ pub fn is_number_one(nodes: &Items<Op>, at: usize) -> bool
     }
 }
 
-/// The two sides, where the node tests that they are equal.
+/// Returns the two sides, where the node tests that they are equal.
 pub fn sides(nodes: &Items<Op>, at: usize) -> Option<(usize, usize)>
     ensures equal { IfSome result (λ it. slice_index_or nodes.now at (Op.Literal Null) ≡ Op.Binary (Compare Eq Binary) it.0 it.1) }
     ensures other { result ≡ None → (a b : ℕ) → slice_index_or nodes.now at (Op.Literal Null) ≢ Op.Binary (Compare Eq Binary) a b }
@@ -47,7 +47,7 @@ pub fn sides(nodes: &Items<Op>, at: usize) -> Option<(usize, usize)>
     }
 }
 
-/// Whether the node is the test that the first column of a row is 1.
+/// Returns whether the node is the test that the first column of a row is 1.
 pub fn is_test(nodes: &Items<Op>, root: usize) -> bool
     ensures { IsTrue result ↔ term_in nodes.now root ≡ op2 (Compare Eq Binary) (col 1 0) (lit (Int (pos 1))) }
 {
@@ -57,7 +57,7 @@ pub fn is_test(nodes: &Items<Op>, root: usize) -> bool
     is_first_column(nodes, first) && is_number_one(nodes, second)
 }
 
-/// Whether the terms are that one test.
+/// Returns whether the terms are that one test.
 pub fn is_one_test(terms: &Terms) -> bool
     ensures { IsTrue result ↔ terms.now ≡ op2 (Compare Eq Binary) (col 1 0) (lit (Int (pos 1))) ∷ [] }
 {

@@ -13,21 +13,21 @@ use sqlite_schema::schema::{Action, Column, Index, Kind, Reference, Stamps};
 use sqlite_value::keys::{Collation, Order};
 use sqlite_value::value::Bytes;
 
-/// Whether the name is this text.
+/// Returns whether the name is this text.
 pub fn is_name(name: &Bytes, text: &str) -> bool
     ensures { IsTrue result ↔ name.now ≡ text.now }
 {
     name.as_slice() == text.as_bytes()
 }
 
-/// Whether the places are these.
+/// Returns whether the places are these.
 pub fn are_places(places: &Items<usize>, expected: &[usize]) -> bool
     ensures { IsTrue result ↔ places.now ≡ expected.now }
 {
     places.as_slice() == expected
 }
 
-/// Whether the column of a STRICT table has this name and this kind, and is NOT NULL.
+/// Returns whether the column of a STRICT table has this name and this kind, and is NOT NULL.
 pub fn is_needed(column: &Column, name: &str, kind: Kind) -> bool
     ensures { IsTrue result ↔ column.now ≡ needed name.now kind }
 {
@@ -39,7 +39,7 @@ pub fn is_needed(column: &Column, name: &str, kind: Kind) -> bool
         && column.collation == Collation::Binary
 }
 
-/// Whether the column has this name and no type.
+/// Returns whether the column has this name and no type.
 pub fn is_loose(column: &Column, name: &str) -> bool
     ensures { IsTrue result ↔ column.now ≡ loose name.now }
 {
@@ -51,7 +51,7 @@ pub fn is_loose(column: &Column, name: &str) -> bool
         && column.collation == Collation::Binary
 }
 
-/// Whether the reference is that of a tenant's rows.
+/// Returns whether the reference is that of a tenant's rows.
 pub fn is_to_tenant(reference: &Reference) -> bool
     ensures { IsTrue result ↔ reference.now ≡ to_tenant }
 {
@@ -66,14 +66,14 @@ pub fn is_to_tenant(reference: &Reference) -> bool
         && !reference.is_deferred
 }
 
-/// Whether there is no term.
+/// Returns whether there is no term.
 pub fn are_no_terms(terms: &Terms) -> bool
     ensures { IsTrue result ↔ terms.now ≡ [] }
 {
     terms.roots.is_empty()
 }
 
-/// Whether the one key is that of the places.
+/// Returns whether the one key is that of the places.
 pub fn is_one_key(keys: &Items<Items<usize>>, places: &[usize]) -> bool
     ensures { IsTrue result ↔ keys.now ≡ places.now ∷ [] }
 {
@@ -83,7 +83,7 @@ pub fn is_one_key(keys: &Items<Items<usize>>, places: &[usize]) -> bool
     }
 }
 
-/// Whether there is one order, in which each column ascends by its bytes.
+/// Returns whether there is one order, in which each column ascends by its bytes.
 pub fn is_one_plain(orders: &Items<Order>) -> bool
     ensures { IsTrue result ↔ orders.now ≡ plain ∷ [] }
 {
@@ -93,14 +93,14 @@ pub fn is_one_plain(orders: &Items<Order>) -> bool
     }
 }
 
-/// Whether no default reads the time.
+/// Returns whether no default reads the time.
 pub fn are_no_stamps(stamps: &Stamps) -> bool
     ensures { IsTrue result ↔ stamps.now ≡ no_stamps }
 {
     stamps.places.is_empty() && are_no_terms(&stamps.terms) && stamps.formats.is_empty()
 }
 
-/// Whether the references are the one of a tenant's rows.
+/// Returns whether the references are the one of a tenant's rows.
 pub fn is_one_reference(references: &Items<Reference>) -> bool
     ensures { IsTrue result ↔ references.now ≡ to_tenant ∷ [] }
 {
@@ -110,7 +110,8 @@ pub fn is_one_reference(references: &Items<Reference>) -> bool
     }
 }
 
-/// Whether the index is the automatic one of a table's key, in the tree so many behind the table's.
+/// Returns whether the index is the automatic one of a table's key, in the tree so many behind the
+/// table's.
 pub fn is_automatic(index: &Index, name: &str, table: u32, places: &[usize], behind: u32) -> bool
     requires { table + behind < 65536 }
     ensures { IsTrue result ↔ index.now ≡ record { name = name.now; tree = table + behind; table = table; columns = places.now; order = plain; is_unique = true } }
@@ -123,7 +124,7 @@ pub fn is_automatic(index: &Index, name: &str, table: u32, places: &[usize], beh
         && index.is_unique
 }
 
-/// Whether there are two orders, in which each column ascends by its bytes.
+/// Returns whether there are two orders, in which each column ascends by its bytes.
 pub fn are_two_plain(orders: &Items<Order>) -> bool
     ensures { IsTrue result ↔ orders.now ≡ plain ∷ plain ∷ [] }
 {

@@ -31,7 +31,7 @@ impl From<AllocError> for Fault {
     }
 }
 
-/// A fault of the database. It never says anything of the rows.
+/// Returns a fault of the database. It never says anything of the rows.
 pub fn fault_of(error: Error) -> Fault
     ensures memory { result ≡ Fault.NoMemory ↔ error ≡ Error.SqliteFailure ErrorCode.OutOfMemory }
     ensures full { result ≡ Fault.Full ↔ (error ≡ Error.SqliteFailure ErrorCode.DiskFull) ⊎ (error ≡ Error.SqliteFailure ErrorCode.NoRowid) }

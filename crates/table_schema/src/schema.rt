@@ -19,7 +19,7 @@ pub enum Layout {
 }
 
 impl Layout {
-    /// The tree of `receipts`.
+    /// Returns the tree of `receipts`.
     pub fn receipts_tree(self) -> u32
         ensures tree { result ≡ receipts_tree self }
         ensures low { result < 20 }
@@ -30,7 +30,7 @@ impl Layout {
         }
     }
 
-    /// The tree of `pools_2`.
+    /// Returns the tree of `pools_2`.
     pub fn pools_tree(self) -> u32
         ensures tree { result ≡ pools_tree self }
         ensures low { result < 20 }
@@ -41,7 +41,7 @@ impl Layout {
         }
     }
 
-    /// The tree of `exceptions`.
+    /// Returns the tree of `exceptions`.
     pub fn exceptions_tree(self) -> u32
         ensures tree { result ≡ exceptions_tree self }
         ensures low { result < 20 }
@@ -53,7 +53,7 @@ impl Layout {
     }
 }
 
-/// Whether the tables are those of schema 2 in this layout.
+/// Returns whether the tables are those of schema 2 in this layout.
 fn are_tables(tables: &[Table], layout: Layout) -> bool
     ensures { IsTrue result ↔ tables.now ≡ (store_schema layout).tables }
 {
@@ -95,7 +95,7 @@ fn are_tables(tables: &[Table], layout: Layout) -> bool
     }
 }
 
-/// Whether the indexes are those of schema 2 in this layout.
+/// Returns whether the indexes are those of schema 2 in this layout.
 fn are_indexes(indexes: &[Index], layout: Layout) -> bool
     ensures { IsTrue result ↔ indexes.now ≡ (store_schema layout).indexes }
 {
@@ -134,7 +134,7 @@ fn are_indexes(indexes: &[Index], layout: Layout) -> bool
     }
 }
 
-/// Whether the schema is schema 2 in this layout.
+/// Returns whether the schema is schema 2 in this layout.
 pub fn is_laid_out(schema: &Schema, layout: Layout) -> bool
     ensures { IsTrue result ↔ schema.now ≡ store_schema layout }
 {
@@ -143,7 +143,7 @@ pub fn is_laid_out(schema: &Schema, layout: Layout) -> bool
         && schema.views.is_empty()
 }
 
-/// The layout of the schema, or `None` where it isn't schema 2.
+/// Returns the layout of the schema, or `None` where it isn't schema 2.
 pub fn layout_of(schema: &Schema) -> Option<Layout>
     ensures some { IfSome result (λ layout. schema.now ≡ store_schema layout) }
     ensures none { result ≡ None → ¬ IsStoreSchema schema.now }

@@ -15,8 +15,8 @@ use crate::parts::{
 use sqlite_items::Items;
 use sqlite_schema::schema::Table;
 
-/// Whether the table is one of tenants' rows with this name, this tree and this primary key, but
-/// for its columns and its keys.
+/// Returns whether the table is one of tenants' rows with this name, this tree and this primary
+/// key, but for its columns and its keys.
 fn is_child(table: &Table, name: &str, tree: u32, primary: &[usize]) -> bool
     ensures { IsTrue result ↔ table.now ≡ child name.now tree table.now.columns primary.now table.now.uniques table.now.orders }
 {
@@ -31,7 +31,7 @@ fn is_child(table: &Table, name: &str, tree: u32, primary: &[usize]) -> bool
         && !table.is_counted
 }
 
-/// Whether the table is `maps`.
+/// Returns whether the table is `maps`.
 pub fn is_maps(table: &Table) -> bool
     ensures { IsTrue result ↔ table.now ≡ placed 4 maps_table }
 {
@@ -41,7 +41,7 @@ pub fn is_maps(table: &Table) -> bool
         && is_one_plain(&table.orders)
 }
 
-/// Whether the table is `devices`.
+/// Returns whether the table is `devices`.
 pub fn is_devices(table: &Table) -> bool
     ensures { IsTrue result ↔ table.now ≡ placed 6 devices_table }
 {
@@ -51,7 +51,7 @@ pub fn is_devices(table: &Table) -> bool
         && is_one_plain(&table.orders)
 }
 
-/// Whether the table is `receipts`.
+/// Returns whether the table is `receipts`.
 pub fn is_receipts(table: &Table, tree: u32) -> bool
     ensures { IsTrue result ↔ table.now ≡ placed tree receipts_table }
 {
@@ -61,7 +61,7 @@ pub fn is_receipts(table: &Table, tree: u32) -> bool
         && is_one_plain(&table.orders)
 }
 
-/// Whether the keys are those of pools.
+/// Returns whether the keys are those of pools.
 fn are_keys_of_pools(keys: &Items<Items<usize>>) -> bool
     ensures { IsTrue result ↔ keys.now ≡ pools_table.uniques }
 {
@@ -71,7 +71,7 @@ fn are_keys_of_pools(keys: &Items<Items<usize>>) -> bool
     }
 }
 
-/// Whether the table is `pools` of schema 1.
+/// Returns whether the table is `pools` of schema 1.
 pub fn is_first_pools(table: &Table) -> bool
     ensures { IsTrue result ↔ table.now ≡ placed 8 first_pools_table }
 {
@@ -81,7 +81,7 @@ pub fn is_first_pools(table: &Table) -> bool
         && are_two_plain(&table.orders)
 }
 
-/// Whether the table is `pools_2`.
+/// Returns whether the table is `pools_2`.
 pub fn is_pools(table: &Table, tree: u32) -> bool
     ensures { IsTrue result ↔ table.now ≡ placed tree pools_table }
 {
@@ -91,7 +91,7 @@ pub fn is_pools(table: &Table, tree: u32) -> bool
         && are_two_plain(&table.orders)
 }
 
-/// Whether the table is `exceptions`.
+/// Returns whether the table is `exceptions`.
 pub fn are_exceptions(table: &Table, tree: u32) -> bool
     ensures { IsTrue result ↔ table.now ≡ placed tree exceptions_table }
 {
@@ -101,14 +101,14 @@ pub fn are_exceptions(table: &Table, tree: u32) -> bool
         && is_one_plain(&table.orders)
 }
 
-/// Whether the table refers to none, and no default of it is computed.
+/// Returns whether the table refers to none, and no default of it is computed.
 fn is_alone(table: &Table) -> bool
     ensures { IsTrue result ↔ ((table.now.references ≡ []) × ((table.now.computed ≡ []) × (table.now.stamps ≡ no_stamps))) }
 {
     table.references.is_empty() && table.computed.is_empty() && are_no_stamps(&table.stamps)
 }
 
-/// Whether the table is `schema_info`.
+/// Returns whether the table is `schema_info`.
 pub fn is_info(table: &Table) -> bool
     ensures { IsTrue result ↔ table.now ≡ info_table }
 {
@@ -124,7 +124,7 @@ pub fn is_info(table: &Table) -> bool
         && !table.is_counted
 }
 
-/// Whether the table is `tenants`.
+/// Returns whether the table is `tenants`.
 pub fn is_tenants(table: &Table) -> bool
     ensures { IsTrue result ↔ table.now ≡ placed 1 tenants_table }
 {
@@ -140,7 +140,7 @@ pub fn is_tenants(table: &Table) -> bool
         && table.is_counted
 }
 
-/// Whether the table is SQLite's own of counts.
+/// Returns whether the table is SQLite's own of counts.
 pub fn are_counts(table: &Table) -> bool
     ensures { IsTrue result ↔ table.now ≡ placed 3 sequence_table }
 {

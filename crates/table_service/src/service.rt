@@ -22,8 +22,8 @@ use tenant_store::Store;
 /// in memory, or one tenant's.
 pub type TableService<S, const BYTES: u64> = Service<CachedStore<Store<S>, BYTES>>;
 
-/// The service over a store, which keeps at most so many placements. `Err`: an allocation failed;
-/// the store below the connection is given back.
+/// Returns the service over a store, which keeps at most so many placements. `Err`: an allocation
+/// failed; the store below the connection is given back.
 fn service_over<S: Alter + Drop, const BYTES: u64>(
     alloc: Global,
     store: Store<S>,
@@ -42,9 +42,9 @@ fn service_over<S: Alter + Drop, const BYTES: u64>(
     }
 }
 
-/// The service of the tenants in the tables of a connection, which keeps at most so many placements
-/// of their groups. The tables are made where the database has none, those of schema 1 are
-/// replaced, and else they are tested (`Store::open`).
+/// Returns the service of the tenants in the tables of a connection, which keeps at most so many
+/// placements of their groups. The tables are made where the database has none, those of schema 1
+/// are replaced, and else they are tested (`Store::open`).
 ///
 /// `Err((StoreFault::Damaged, store))`: the tables are another's, or of another version. Nothing is
 /// changed. `Err((StoreFault::NoMemory, store))`, `Err((StoreFault::Full, store))`,

@@ -56,7 +56,7 @@ impl<const BYTES: u64> Kept<BYTES> {
         })
     }
 
-    /// How many bytes all that is kept takes together.
+    /// Returns how many bytes all that is kept takes together.
     pub fn bytes(&self) -> u64
         ensures value { result ≡ bytes_kept self.now }
         ensures within { 1 < length self.now.entries → result ≤ BYTES }
@@ -64,7 +64,7 @@ impl<const BYTES: u64> Kept<BYTES> {
         self.bytes
     }
 
-    /// What is kept of a name, which is then the one used last.
+    /// Returns what is kept of a name, which is then the one used last.
     pub fn get(&mut self, name: &str) -> Result<Option<Rc<Ready>>, AllocError>
         ensures found { IfOk result (λ found. option_map (λ r. r.value) found ≡ kept_at self.old name.now) }
         ensures same { (u : List ℕ) (r : _) → kept_at self.new u ≡ Some r → kept_at self.old u ≡ Some r }
@@ -78,7 +78,7 @@ impl<const BYTES: u64> Kept<BYTES> {
         Ok(Some(ready.clone()?))
     }
 
-    /// Whether something is kept of a name.
+    /// Returns whether something is kept of a name.
     pub fn has(&self, name: &str) -> bool
         ensures { result ≡ is_some (kept_at self.now name.now) }
     {
@@ -122,7 +122,7 @@ impl<const BYTES: u64> Kept<BYTES> {
     }
 }
 
-/// How many bytes is taken by an entry that may be there.
+/// Returns how many bytes is taken by an entry that may be there.
 fn size_of(entry: &Option<(String, Rc<Ready>)>) -> u64
     ensures { result ≡ min (bytes_of entry.now) (2 ^ 64 - 1) }
 {

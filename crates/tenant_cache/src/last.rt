@@ -19,7 +19,7 @@ pub trait OfGroups: Drop {
     /// It is that of the groups of a pool on a map.
     ghost are_on: { PoolOnMap → Self → Type 0 };
 
-    /// That of the groups of the placer's pool; `None` where it is too much to be kept.
+    /// Returns that of the groups of the placer's pool; `None` where it is too much to be kept.
     /// `Err(AllocError)`: an allocation failed.
     fn build(alloc: Global, placer: &Placer<'_>) -> Result<Option<Self>, AllocError>
         ensures { IfOk result (λ built. IfSome built (are_on placer.now)) };
@@ -69,7 +69,7 @@ impl<G: OfGroups> Last<G> {
     ghost use Rattle.std.specs.Prelude.{◌≡◌, true, IfOk};
     ghost use Rattle.crush_content.specs.Contents.{content_of};
 
-    /// What is found of the groups of a placer's pool, whose content is given.
+    /// Returns what is found of the groups of a placer's pool, whose content is given.
     /// `Err(AllocError)`: an allocation failed.
     fn build(
         alloc: Global,
@@ -92,13 +92,13 @@ impl<G: OfGroups> Last<G> {
         })
     }
 
-    /// The name of the tenant that asked.
+    /// Returns the name of the tenant that asked.
     fn tenant(&self) -> &str {
         let _content = &self.content;
         self.tenant.as_str()
     }
 
-    /// Whether it is of a content.
+    /// Returns whether it is of a content.
     fn is_of(&self, content: &Content) -> bool
         ensures { result ≡ true → self.now.content ≡ content.now }
     {
@@ -113,7 +113,8 @@ impl Last<Touches> {
     ghost use Rattle.crush_pool.specs.Placers.{PoolOnMap};
     ghost use Rattle.crush_report.specs.Reports.{impact};
 
-    /// The groups that a device can touch. `None` where none are kept, or memory is wanting.
+    /// Returns the groups that a device can touch. `None` where none are kept, or memory is
+    /// wanting.
     pub(crate) fn groups_of(&self, alloc: Global, device: u32) -> Option<Listed<u32>>
         ensures { IfSome result (λ groups. (p : PoolOnMap) → IsMap p.map → self.now.content ≡ content_of p → Some groups ≡ impact p.map p.states p.pool p.pairs device) }
     {
@@ -137,8 +138,8 @@ impl Last<UpLists> {
     ghost use Rattle.crush_report.specs.Moves.{gained_in};
     ghost use Rattle.crush_report.specs.Reports.{moves};
 
-    /// The groups that move from the map of the content to that of a placer, of the same pool.
-    /// `None` where no lists are kept, or memory is wanting.
+    /// Returns the groups that move from the map of the content to that of a placer, of the same
+    /// pool. `None` where no lists are kept, or memory is wanting.
     pub(crate) fn moves_to(&self, alloc: Global, to: &Placer<'_>) -> Option<Listed<MoveRow>>
         ensures rows { IfSome result (λ rows. (p : PoolOnMap) → IsMap p.map → self.now.content ≡ content_of p → p.states ≡ to.now.states → p.pool ≡ to.now.pool → p.pairs ≡ to.now.pairs
             → Some rows ≡ moves p.map to.now.map p.states p.pool p.pairs) }
@@ -154,7 +155,7 @@ impl Last<UpLists> {
     }
 }
 
-/// Whether what is kept is of a tenant.
+/// Returns whether what is kept is of a tenant.
 pub(crate) fn is_of_tenant<G: OfGroups>(last: &Option<Last<G>>, name: &str) -> bool {
     match last {
         Some(last) => last.tenant() == name,
@@ -162,7 +163,7 @@ pub(crate) fn is_of_tenant<G: OfGroups>(last: &Option<Last<G>>, name: &str) -> b
     }
 }
 
-/// Whether something is kept for a tenant of which nothing else is.
+/// Returns whether something is kept for a tenant of which nothing else is.
 pub(crate) fn is_left<G: OfGroups, const BYTES: u64>(
     last: &Option<Last<G>>,
     kept: &Kept<BYTES>,
@@ -173,7 +174,7 @@ pub(crate) fn is_left<G: OfGroups, const BYTES: u64>(
     }
 }
 
-/// Whether what is kept is of a content.
+/// Returns whether what is kept is of a content.
 fn is_of<G: OfGroups>(last: &Option<Last<G>>, content: &Content) -> bool
     ensures { result ≡ true → IfSome last.now (λ last. last.content ≡ content.now) }
 {

@@ -16,8 +16,8 @@ use std::rc::Rc;
 use tenant_core::{Asked, Cached};
 use tenant_state::{Inventory, TenantPool};
 
-/// The number that is kept beside what a tenant has for the content of a pool, while that content
-/// is still in the cache.
+/// Returns the number that is kept beside what a tenant has for the content of a pool, while that
+/// content is still in the cache.
 fn number_beside(cache: &PlacementCache, ready: &Ready, pool: &TenantPool) -> Option<u64>
     ensures number { IfSome result (λ n. Contains ready.now.numbers (pool.now.parts.id, n)) }
     ensures there { IfSome result (λ n. cache.now.first ≤ n) }
@@ -30,7 +30,7 @@ fn number_beside(cache: &PlacementCache, ready: &Ready, pool: &TenantPool) -> Op
     }
 }
 
-/// A number for the content of a pool of what a tenant has, on the newest version.
+/// Returns a number for the content of a pool of what a tenant has, on the newest version.
 fn give_number(cache: &mut PlacementCache, inventory: &Inventory, pool: &TenantPool) -> Option<u64>
     ensures number { IfSome result (λ n. HasNumber cache.new inventory.now pool.now n) }
     ensures there { IfSome result (λ n. cache.new.first ≤ n) }
@@ -66,8 +66,8 @@ fn keep_number<const BYTES: u64>(
     kept.put(key, next);
 }
 
-/// The number of the content of a pool of what a tenant has, on the newest version: the one that is
-/// kept beside it, or a new one, which is then kept.
+/// Returns the number of the content of a pool of what a tenant has, on the newest version: the one
+/// that is kept beside it, or a new one, which is then kept.
 fn number_for<const BYTES: u64>(
     alloc: Global,
     cache: &mut PlacementCache,
@@ -91,7 +91,8 @@ fn number_for<const BYTES: u64>(
     Some(number)
 }
 
-/// The placement of a group of a pool of what a tenant has. The number is that of the content.
+/// Returns the placement of a group of a pool of what a tenant has. The number is that of the
+/// content.
 fn place(
     cache: &mut PlacementCache,
     number: u64,
@@ -113,7 +114,7 @@ fn place(
     Some(Cached::Placed(group, placement))
 }
 
-/// What a query asks of a pool of what a tenant has, from what is kept or made to be kept.
+/// Returns what a query asks of a pool of what a tenant has, from what is kept or made to be kept.
 pub(crate) fn find<const BYTES: u64>(
     alloc: Global,
     cache: &mut PlacementCache,

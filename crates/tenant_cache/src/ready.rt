@@ -36,7 +36,7 @@ impl Ready {
     ghost use Rattle.tenant_state.specs.State.{inventory_after, suits};
     ghost use Rattle.tenant_state.specs.declared.limits.TheConstants.{RECEIPT_LIMIT};
 
-    /// What a tenant has, with no number. Allocates nothing.
+    /// Returns what a tenant has, with no number. Allocates nothing.
     pub fn new(alloc: Global, inventory: Rc<Inventory>) -> Self
         ensures { result ≡ record { inventory = inventory.value; numbers = [] } }
     {
@@ -46,14 +46,14 @@ impl Ready {
         }
     }
 
-    /// What the tenant has, shared.
+    /// Returns what the tenant has, shared.
     pub fn inventory(&self) -> &Rc<Inventory>
         ensures { result.now.value ≡ self.now.inventory }
     {
         &self.inventory
     }
 
-    /// The number of the content of the pool with an id, if it has one.
+    /// Returns the number of the content of the pool with an id, if it has one.
     pub fn number_of(&self, pool: u32) -> Option<u64>
         ensures { IfSome result (λ n. Contains self.now.numbers (pool, n)) }
     {
@@ -65,8 +65,8 @@ impl Ready {
         None
     }
 
-    /// The same, with a number for the content of a pool; the number that was given first is
-    /// forgotten where there are too many. `Err(AllocError)`: an allocation failed; nothing is
+    /// Returns the same, with a number for the content of a pool; the number that was given first
+    /// is forgotten where there are too many. `Err(AllocError)`: an allocation failed; nothing is
     /// changed.
     pub fn with_number(&self, alloc: Global, pool: u32, number: u64) -> Result<Ready, AllocError>
         ensures { IfOk result (λ r. IsWithNumber self.now pool number r) }
@@ -84,16 +84,17 @@ impl Ready {
         })
     }
 
-    /// Whether what the tenant has can take a change: there is room for one more receipt, and what
-    /// is made suits what is there. Takes time linear in the number of exceptions of the change.
+    /// Returns whether what the tenant has can take a change: there is room for one more receipt,
+    /// and what is made suits what is there. Takes time linear in the number of exceptions of the
+    /// change.
     pub fn can_take(&self, change: &Change) -> bool
         ensures { result ≡ (nat_lt self.now.inventory.epoch RECEIPT_LIMIT && suits change.now.made self.now.inventory) }
     {
         self.inventory.epoch() < RECEIPT_LIMIT as u64 && self.inventory.suits(&change.made)
     }
 
-    /// What the tenant has after a change that it can take, with no number: its contents are
-    /// others. `Err(AllocError)`: an allocation failed; nothing is changed.
+    /// Returns what the tenant has after a change that it can take, with no number: its contents
+    /// are others. `Err(AllocError)`: an allocation failed; nothing is changed.
     pub fn after(&self, alloc: Global, change: &Change) -> Result<Rc<Ready>, AllocError>
         requires room { self.now.inventory.epoch < RECEIPT_LIMIT }
         requires suits { suits change.now.made self.now.inventory ≡ true }
@@ -103,8 +104,8 @@ impl Ready {
         Ok(Rc::new(alloc, Ready::new(alloc, inventory))?)
     }
 
-    /// How many bytes of memory it takes at most, by an estimate. The numbers add nothing: those of
-    /// an inventory without its parts cover them.
+    /// Returns how many bytes of memory it takes at most, by an estimate. The numbers add nothing:
+    /// those of an inventory without its parts cover them.
     pub fn size(&self) -> u64
         ensures { result ≡ min (size self.now.inventory) (2 ^ 64 - 1) }
     {

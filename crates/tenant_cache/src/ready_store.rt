@@ -54,7 +54,7 @@ impl<T: TenantStore, const BYTES: u64> Model for CachedStore<T, BYTES> {
 impl<T: TenantStore + Drop, const BYTES: u64> CachedStore<T, BYTES> {
     ghost use Rattle.std.specs.Prelude.{◌≡◌, IfErr, IfOk};
 
-    /// A store over this one, which keeps so many placements beside. Nothing is kept yet.
+    /// Returns a store over this one, which keeps so many placements beside. Nothing is kept yet.
     /// `Err((AllocError, below))`: an allocation failed; the store below is given back.
     pub fn over(alloc: Global, below: T, placements: NonZeroUsize) -> Result<Self, (AllocError, T)>
         ensures made { IfOk result (λ store. store ≡ below) }
@@ -76,8 +76,8 @@ impl<T: TenantStore + Drop, const BYTES: u64> CachedStore<T, BYTES> {
         })
     }
 
-    /// A store over one that has what all tenants have in memory, with so many placements beside.
-    /// What it keeps is shared with that store, also after a change. Nothing is kept yet.
+    /// Returns a store over one that has what all tenants have in memory, with so many placements
+    /// beside. What it keeps is shared with that store, also after a change. Nothing is kept yet.
     /// `Err(AllocError)`: an allocation failed; the store below is dropped.
     pub fn over_memory(
         alloc: Global,
@@ -101,7 +101,7 @@ impl<T: TenantStore, const BYTES: u64> CachedStore<T, BYTES> {
     ghost use Rattle.std.specs.Prelude.{◌≡◌, false, Some};
     ghost use Rattle.tenant_core.specs.States.{HasInventory};
 
-    /// The store below. Allocates nothing.
+    /// Returns the store below. Allocates nothing.
     pub fn into_below(self) -> T
         ensures { result ≡ self }
     {

@@ -55,8 +55,8 @@ impl Reports {
     }
 }
 
-/// The groups that a device can touch, from what is kept, which is made anew if it is of another
-/// content. The content is that of the placer. `None` where it can't be kept.
+/// Returns the groups that a device can touch, from what is kept, which is made anew if it is of
+/// another content. The content is that of the placer. `None` where it can't be kept.
 fn find_touched(
     alloc: Global,
     last: &mut Option<Last<Touches>>,
@@ -76,8 +76,8 @@ fn find_touched(
     }
 }
 
-/// The groups that move from one placer to another, of the same pool, from the up lists on the
-/// first, whose content is given: from those that are kept, which are made anew if they are of
+/// Returns the groups that move from one placer to another, of the same pool, from the up lists on
+/// the first, whose content is given: from those that are kept, which are made anew if they are of
 /// another content. `None` where they can't be kept.
 fn find_moved(
     alloc: Global,
@@ -102,7 +102,7 @@ fn find_moved(
     }
 }
 
-/// The groups of a pool of what a tenant has that the device with a number can touch.
+/// Returns the groups of a pool of what a tenant has that the device with a number can touch.
 pub(crate) fn touched(
     alloc: Global,
     reports: &mut Reports,
@@ -125,7 +125,8 @@ pub(crate) fn touched(
     Some(Cached::Touched(pool.parts().id, groups))
 }
 
-/// The groups of a pool of what a tenant has that move between the versions with two numbers.
+/// Returns the groups of a pool of what a tenant has that move between the versions with two
+/// numbers.
 pub(crate) fn moved(
     alloc: Global,
     reports: &mut Reports,

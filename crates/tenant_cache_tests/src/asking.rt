@@ -37,7 +37,7 @@ pub(crate) const DOWN: &str = "{\"request\":\"d1\",\"devices\":[{\"id\":0,\"up\"
 /// A method, a path and a body.
 pub(crate) type Asked = (&'static str, &'static str, &'static str);
 
-/// A number of placements.
+/// Returns a number of placements.
 pub(crate) fn room_for(rt: &impl Abort, placements: usize) -> NonZeroUsize {
     match NonZeroUsize::new(placements) {
         Some(placements) => placements,
@@ -45,7 +45,7 @@ pub(crate) fn room_for(rt: &impl Abort, placements: usize) -> NonZeroUsize {
     }
 }
 
-/// The reply to a request.
+/// Returns the reply to a request.
 pub(crate) fn ask<T: TenantStore>(service: &mut Service<T>, asked: &Asked) -> Reply {
     let (method, path, body) = *asked;
     service.request(CallParts {

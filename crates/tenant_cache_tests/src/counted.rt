@@ -20,7 +20,7 @@ pub(crate) enum Over {
     Memory,
 }
 
-/// A store over this one, with room for so many placements.
+/// Returns a store over this one, with room for so many placements.
 pub(crate) fn cached<T: TenantStore + Drop, const BYTES: u64>(
     rt: &impl Abort,
     alloc: Global,
@@ -39,7 +39,7 @@ pub(crate) fn cached<T: TenantStore + Drop, const BYTES: u64>(
 /// Such a service.
 pub(crate) type Counted<const BYTES: u64> = Service<CachedStore<Watched<MemoryStore>, BYTES>>;
 
-/// A store without a tenant, whose call after `left` others meets a fault.
+/// Returns a store without a tenant, whose call after `left` others meets a fault.
 fn watched(
     rt: &impl Abort,
     alloc: Global,
@@ -57,7 +57,7 @@ fn watched(
     }
 }
 
-/// A service over a store that keeps tenants ready over such a store.
+/// Returns a service over a store that keeps tenants ready over such a store.
 pub(crate) fn watched_service<const BYTES: u64>(
     rt: &impl Abort,
     alloc: Global,
@@ -70,7 +70,7 @@ pub(crate) fn watched_service<const BYTES: u64>(
     Service::over(alloc, cached(rt, alloc, over, below, 16)).expect(rt, "no memory")
 }
 
-/// A number of loads, which begins at 0.
+/// Returns a number of loads, which begins at 0.
 pub(crate) fn no_loads(rt: &impl Abort, alloc: Global) -> Rc<Cell<u64>> {
     Rc::new(alloc, Cell::new(0)).expect(rt, "no memory")
 }

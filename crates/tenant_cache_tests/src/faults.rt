@@ -29,8 +29,8 @@ const ASKED: &[Asked] = &[
     ("GET", "/t/b/maps/1", ""),
 ];
 
-/// Whether a service answers a request otherwise than by 503. It then has the reply that a service
-/// gives to such requests alone.
+/// Returns whether a service answers a request otherwise than by 503. It then has the reply that a
+/// service gives to such requests alone.
 fn is_answered<const BYTES: u64>(
     rt: &impl Abort,
     service: &mut Counted<BYTES>,
@@ -57,7 +57,7 @@ fn is_answered<const BYTES: u64>(
     true
 }
 
-/// How many of these requests a service answers 503.
+/// Returns how many of these requests a service answers 503.
 fn count_unanswered<const BYTES: u64>(
     rt: &impl Abort,
     service: &mut Counted<BYTES>,
@@ -72,8 +72,8 @@ fn count_unanswered<const BYTES: u64>(
     count
 }
 
-/// How many of these requests are answered 503 where the store's call after `left` others meets a
-/// fault. The others have the replies that a service in memory gives to them alone.
+/// Returns how many of these requests are answered 503 where the store's call after `left` others
+/// meets a fault. The others have the replies that a service in memory gives to them alone.
 fn unanswered<const BYTES: u64>(
     rt: &impl Abort,
     alloc: Global,

@@ -47,7 +47,7 @@ pub(crate) enum Step {
     MovesNone(&'static str, u64, u64, u64),
 }
 
-/// A new store with room for so many placements.
+/// Returns a new store with room for so many placements.
 pub(crate) fn new_store(rt: &impl Abort, alloc: Global, over: Over, placements: usize) -> Held {
     Some(cached(rt, alloc, over, MemoryStore::new(alloc), placements))
 }
@@ -82,7 +82,7 @@ pub(crate) fn accept(rt: &impl Abort, alloc: Global, held: &mut Held, asked: &As
     accept_parts(rt, alloc, held, method, path, body);
 }
 
-/// The placement that the store has at hand of a group of a tenant's first pool.
+/// Returns the placement that the store has at hand of a group of a tenant's first pool.
 pub(crate) fn placed(
     rt: &impl Abort,
     store: &mut Store,
@@ -95,7 +95,7 @@ pub(crate) fn placed(
     }
 }
 
-/// Whether a placement is on this device by its rule, and led to the other one, or to none.
+/// Returns whether a placement is on this device by its rule, and led to the other one, or to none.
 pub(crate) fn is_on(placement: &Placement, device: i32, lead: Option<i32>) -> bool {
     let own: Slot = Some(ItemId(device));
     let primary: Slot = lead.map(ItemId);
@@ -106,7 +106,7 @@ pub(crate) fn is_on(placement: &Placement, device: i32, lead: Option<i32>) -> bo
     is_led && placement.raw.as_slice() == [own].as_slice() && placement.primary == primary
 }
 
-/// The placement that the store keeps of a group of a tenant's first pool.
+/// Returns the placement that the store keeps of a group of a tenant's first pool.
 fn kept(rt: &impl Abort, store: &mut Store, tenant: &str, group: u64) -> Rc<Placement> {
     let first = placed(rt, store, tenant, group);
     let second = placed(rt, store, tenant, group);

@@ -65,7 +65,7 @@ fn a_tenant_is_loaded_once_and_not_again_after_a_change(rt: HostRuntime) {
     }
 }
 
-/// What a store has of tenant a, on its first version.
+/// Returns what a store has of tenant a, on its first version.
 fn loaded<T: TenantStore>(rt: &impl Abort, store: &mut T) -> Rc<Inventory>
     requires { T.latched store.old ≡ false }
 {
@@ -75,8 +75,9 @@ fn loaded<T: TenantStore>(rt: &impl Abort, store: &mut T) -> Rc<Inventory>
     }
 }
 
-/// Whether what a store has of a tenant after a change is what the store below has of it, and no
-/// second one. Asserts that the store below, which is given back, has this tenant and no other.
+/// Returns whether what a store has of a tenant after a change is what the store below has of it,
+/// and no second one. Asserts that the store below, which is given back, has this tenant and no
+/// other.
 fn is_shared(rt: &impl Abort, alloc: Global, over: Over) -> bool {
     let mut held: Held = Some(cached(rt, alloc, over, MemoryStore::new(alloc), 1));
     accept(rt, alloc, &mut held, &("PUT", "/t/a", ""));

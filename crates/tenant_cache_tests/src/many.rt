@@ -8,12 +8,12 @@ use crate::touched::ALL;
 use std::alloc::Global;
 use std::process::Abort;
 
-/// The name of the tenant with a number.
+/// Returns the name of the tenant with a number.
 fn name_of(rt: &impl Abort, alloc: Global, device: u32) -> String {
     format!(in alloc; "t{device}").expect(rt, "no memory")
 }
 
-/// The body of an import of a map with this device alone.
+/// Returns the body of an import of a map with this device alone.
 fn import_of(rt: &impl Abort, alloc: Global, device: u32) -> String {
     format!(in alloc;
         "{{\"request\":\"m1\",\"text\":\"tunable choose_local_tries 0\\ntunable choose_local_fallback_tries 0\\ntunable choose_total_tries 50\\ntunable chooseleaf_descend_once 1\\ntunable chooseleaf_vary_r 1\\ntunable chooseleaf_stable 1\\ndevice {device} osd.{device}\\ntype 0 osd\\ntype 1 host\\ntype 10 root\\nroot default {{\\n id -1\\n alg uniform\\n hash 0\\n item osd.{device} weight 1.0\\n}}\\nrule all {{\\n id 0\\n type replicated\\n step take default\\n step choose firstn 0 type osd\\n step emit\\n}}\\n\"}}"
@@ -31,7 +31,7 @@ fn make(rt: &impl Abort, alloc: Global, held: &mut Held, device: u32) {
     accept_parts(rt, alloc, held, "POST", pools.as_str(), POOL);
 }
 
-/// A store with 300 such tenants.
+/// Returns a store with 300 such tenants.
 fn with_tenants(rt: &impl Abort, alloc: Global) -> Held {
     let mut held = new_store(rt, alloc, Over::Bound, 1_024);
     for device in 0..300 {

@@ -25,7 +25,7 @@ const TENANT: [Asked; 3] = [
     ("POST", "/t/a/pools", POOL),
 ];
 
-/// A store with this tenant, and with room for so many placements.
+/// Returns a store with this tenant, and with room for so many placements.
 fn with_tenant(rt: &impl Abort, alloc: Global, placements: usize) -> Held {
     let mut held = new_store(rt, alloc, Over::Bound, placements);
     for asked in &TENANT {

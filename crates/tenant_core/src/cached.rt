@@ -42,8 +42,8 @@ impl Query {
     ghost use Rattle.std.specs.Prelude.{IfSome};
     ghost use Rattle.tenant_core.specs.Cached.{Asks};
 
-    /// What it asks, and of which pool; `None` where it asks nothing that a store may have in its
-    /// cache, or where what its tenant has lacks the pool or the group.
+    /// Returns what it asks, and of which pool; `None` where it asks nothing that a store may have
+    /// in its cache, or where what its tenant has lacks the pool or the group.
     pub fn asked_in<'a>(&self, inventory: &'a Inventory) -> Option<(&'a TenantPool, Asked)>
         ensures { IfSome result (λ r. Asks self.now inventory.now r.0.now r.1) }
     {
@@ -74,8 +74,8 @@ impl Query {
     }
 }
 
-/// The reply to a query, by what a store had in its cache for it.
-/// `Err(AllocError)`: an allocation failed; nothing is changed.
+/// Returns the reply to a query, by what a store had in its cache for it. `Err(AllocError)`: an
+/// allocation failed; nothing is changed.
 pub fn answer_cached(
     alloc: Global,
     inventory: &Inventory,

@@ -59,7 +59,7 @@ impl<'a> Model for Command<'a> {
     ghost invariant = { λ a. IsCommand (record { number = a.number; path = a.path.now; body = a.body.now; order = a.order }) };
 }
 
-/// What an order makes, with the reply, or why nothing: the table of all orders.
+/// Returns what an order makes, with the reply, or why nothing: the table of all orders.
 fn accept(alloc: Global, order: &Order, inventory: &Inventory) -> Result<Accepted, Refusal>
     requires epoch { inventory.now.epoch < 2 ^ 32 }
     requires order { spec.IsOrder order.now }
@@ -84,8 +84,8 @@ fn accept(alloc: Global, order: &Order, inventory: &Inventory) -> Result<Accepte
     }
 }
 
-/// The change that an accepted order makes, with its receipt, and the reply. `Err(AllocError)`: an
-/// allocation failed; what was accepted is dropped.
+/// Returns the change that an accepted order makes, with its receipt, and the reply.
+/// `Err(AllocError)`: an allocation failed; what was accepted is dropped.
 fn with_receipt(
     alloc: Global,
     command: &Command<'_>,
@@ -111,7 +111,8 @@ fn with_receipt(
     Ok((Some(change), reply))
 }
 
-/// What a command with a new request number does: its change, if it is accepted, and the reply.
+/// Returns what a command with a new request number does: its change, if it is accepted, and the
+/// reply.
 fn apply_new(
     alloc: Global,
     inventory: &Inventory,
@@ -129,8 +130,8 @@ fn apply_new(
     }
 }
 
-/// The reply to a command whose request number has a receipt: that of the receipt again, or the one
-/// that names `RequestReused` where another request left it.
+/// Returns the reply to a command whose request number has a receipt: that of the receipt again, or
+/// the one that names `RequestReused` where another request left it.
 fn reply_again(alloc: Global, command: &Command<'_>, receipt: &Receipt) -> Result<Reply, AllocError>
     ensures { IfOk result (λ r. r ≡ reply (spec.again command.now receipt.now)) }
 {
@@ -141,9 +142,10 @@ fn reply_again(alloc: Global, command: &Command<'_>, receipt: &Receipt) -> Resul
     }
 }
 
-/// What a changing request does to a tenant that has this, from the receipt of the request number,
-/// if there is one: its change, if it is accepted, and its reply, which is that of the receipt
-/// where the request is a repeat. `Err(AllocError)`: an allocation failed; nothing is changed.
+/// Returns what a changing request does to a tenant that has this, from the receipt of the request
+/// number, if there is one: its change, if it is accepted, and its reply, which is that of the
+/// receipt where the request is a repeat. `Err(AllocError)`: an allocation failed; nothing is
+/// changed.
 ///
 /// The change isn't made yet (`TenantState::change`, `TenantState::after`).
 pub fn apply_to(
@@ -161,7 +163,7 @@ pub fn apply_to(
     }
 }
 
-/// The same from the whole state of the tenant.
+/// Returns the same from the whole state of the tenant.
 pub fn apply(
     alloc: Global,
     state: &TenantState,

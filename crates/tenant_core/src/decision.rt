@@ -34,7 +34,7 @@ pub struct Decision {
     pub reply: Reply,
 }
 
-/// The decision that leaves the tenant as it is, with this reply.
+/// Returns the decision that leaves the tenant as it is, with this reply.
 fn kept(written: Reply) -> Decision
     ensures effect { result.effect ≡ Effect.Keep }
     ensures reply { result.reply ≡ written }
@@ -45,7 +45,7 @@ fn kept(written: Reply) -> Decision
     }
 }
 
-/// The decision on a changing request, by its change, if it is accepted.
+/// Returns the decision on a changing request, by its change, if it is accepted.
 fn changed(change: Option<Change>, written: Reply) -> Decision
     ensures effect { result.effect ≡ effect_of change }
     ensures reply { result.reply ≡ written }
@@ -60,9 +60,9 @@ fn changed(change: Option<Change>, written: Reply) -> Decision
     }
 }
 
-/// What an action does to a tenant, and the reply, from what the tenant has, or from its absence
-/// (`None`), and from the receipt of the action's request number, if it has one: so from each state
-/// that has these. `Err(AllocError)`: an allocation failed; nothing is changed.
+/// Returns what an action does to a tenant, and the reply, from what the tenant has, or from its
+/// absence (`None`), and from the receipt of the action's request number, if it has one: so from
+/// each state that has these. `Err(AllocError)`: an allocation failed; nothing is changed.
 pub fn decide(
     alloc: Global,
     tenant: &str,
@@ -78,7 +78,7 @@ pub fn decide(
     decide_from(alloc, tenant, inventory, receipt, action)
 }
 
-/// The same, by the definition over what the tenant has and the receipt.
+/// Returns the same, by the definition over what the tenant has and the receipt.
 fn decide_from(
     alloc: Global,
     tenant: &str,

@@ -36,7 +36,8 @@ pub enum Query {
     Test(RuleTest),
 }
 
-/// The reply to a query, from what its tenant has, or the problem: the table of all queries.
+/// Returns the reply to a query, from what its tenant has, or the problem: the table of all
+/// queries.
 fn reply_or_refusal(alloc: Global, inventory: &Inventory, query: &Query) -> Result<Reply, Refusal>
     ensures { Answers result (spec.answer query.now inventory.now) }
 {
@@ -53,7 +54,7 @@ fn reply_or_refusal(alloc: Global, inventory: &Inventory, query: &Query) -> Resu
     }
 }
 
-/// The reply to a query, from what its tenant has, or the reply that names the problem.
+/// Returns the reply to a query, from what its tenant has, or the reply that names the problem.
 /// `Err(AllocError)`: an allocation failed; nothing is changed.
 pub fn answer(alloc: Global, inventory: &Inventory, query: &Query) -> Result<Reply, AllocError>
     ensures { IfOk result (λ r. r ≡ reply (spec.answer query.now inventory.now)) }

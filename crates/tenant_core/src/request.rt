@@ -50,7 +50,7 @@ impl<'a> Model for Request<'a> {
 
 // ---- the tenant
 
-/// The name of the tenant, from the path's parameter `t`; `None` where it isn't a name.
+/// Returns the name of the tenant, from the path's parameter `t`; `None` where it isn't a name.
 fn tenant_in<'p>(target: &Target<'_, 'p>) -> Option<&'p str>
     ensures { option_map (λ name. name.now) result ≡ spec.tenant_in target.now }
 {
@@ -60,8 +60,8 @@ fn tenant_in<'p>(target: &Target<'_, 'p>) -> Option<&'p str>
 
 // ---- all of it
 
-/// The tenant's name, and what the route asks for. The problem is `BadRequest`, exactly where one
-/// of them isn't of its form.
+/// Returns the tenant's name, and what the route asks for. The problem is `BadRequest`, exactly
+/// where one of them isn't of its form.
 fn in_form<'p>(
     alloc: Global,
     target: &Target<'_, 'p>,
@@ -75,9 +75,9 @@ fn in_form<'p>(
     Ok(Request { tenant, action })
 }
 
-/// The request of a call. The problem is that of the first check that fails, in this order: the
-/// length of the body (`TooLarge`), the path (`NoPath`), the method (`Method`), and the tenant's
-/// name, the numbers in the path and the form of the body (`BadRequest`).
+/// Returns the request of a call. The problem is that of the first check that fails, in this order:
+/// the length of the body (`TooLarge`), the path (`NoPath`), the method (`Method`), and the
+/// tenant's name, the numbers in the path and the form of the body (`BadRequest`).
 #[tactic(auto, unfolding(crate::specs::Request::request_of))]
 pub fn read_request<'a>(
     alloc: Global,

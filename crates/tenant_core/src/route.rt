@@ -89,7 +89,7 @@ pub(crate) const ROUTES: [(&str, Methods); 16] = [
     ("/t/{t}/test", methods!(post Test)),
 ];
 
-/// The route of a method, if the path has the method.
+/// Returns the route of a method, if the path has the method.
 pub(crate) fn route_of(method: &[u8], methods: Methods) -> Option<Route>
     ensures { result ≡ spec.route_of method.now methods }
 {
@@ -108,8 +108,8 @@ pub(crate) fn route_of(method: &[u8], methods: Methods) -> Option<Route>
 
 // ---- the parts of the path, and the body
 
-/// The number that a part of the path writes, in 1 to 10 digits. The problem is `BadRequest`,
-/// exactly where it writes none.
+/// Returns the number that a part of the path writes, in 1 to 10 digits. The problem is
+/// `BadRequest`, exactly where it writes none.
 fn number(target: &Target<'_, '_>, key: &str) -> Result<u64, Refusal>
     ensures { Reads (λ n. n) result (path_number key.now target.now) }
 {
@@ -117,7 +117,7 @@ fn number(target: &Target<'_, '_>, key: &str) -> Result<u64, Refusal>
     Ok(number_from_text(part.as_bytes()).ok_or(Problem::BadRequest)?)
 }
 
-/// An action whose body is empty. The problem is `BadRequest`, exactly where it isn't.
+/// Returns an action whose body is empty. The problem is `BadRequest`, exactly where it isn't.
 fn if_empty<'p>(body: &[u8], action: Action<'p>) -> Result<Action<'p>, Refusal>
     ensures { Reads (λ a. a) result (spec.if_empty body.now action.entry) }
 {
@@ -128,7 +128,7 @@ fn if_empty<'p>(body: &[u8], action: Action<'p>) -> Result<Action<'p>, Refusal>
     }
 }
 
-/// A changing request, with its path and its body, by which a repeat is known.
+/// Returns a changing request, with its path and its body, by which a repeat is known.
 fn command<'p>(target: &Target<'_, 'p>, body: &'p str, number: Text, order: Order) -> Action<'p>
     requires number { has_length number ≡ true }
     requires order { IsOrder order }
@@ -144,8 +144,8 @@ fn command<'p>(target: &Target<'_, 'p>, body: &'p str, number: Text, order: Orde
     })
 }
 
-/// What a route asks for, by the parts of the path and the body. The problem is `BadRequest`,
-/// exactly where one of them isn't of its form.
+/// Returns what a route asks for, by the parts of the path and the body. The problem is
+/// `BadRequest`, exactly where one of them isn't of its form.
 pub(crate) fn read<'p>(
     alloc: Global,
     route: Route,

@@ -23,14 +23,15 @@ impl Routes {
     ghost use Rattle.std.specs.Prelude.{◌≡◌};
     ghost use Rattle.tenant_core.specs.Router.{target_of};
 
-    /// The router of all routes. `Err(AllocError)`: an allocation failed; nothing is changed.
+    /// Returns the router of all routes. `Err(AllocError)`: an allocation failed; nothing is
+    /// changed.
     pub fn build(alloc: Global) -> Result<Self, AllocError> {
         let mut router = Router::new(alloc);
         insert_all(&mut router, &ROUTES)?;
         Ok(Routes { router })
     }
 
-    /// What a path names, or `None` where it has no route. Allocates nothing.
+    /// Returns what a path names, or `None` where it has no route. Allocates nothing.
     pub fn find<'p>(&self, path: &'p str) -> Option<Target<'_, 'p>>
         ensures { result ≡ target_of path.now }
     {
@@ -79,22 +80,22 @@ impl<'r, 'p> Target<'r, 'p> {
     ghost use Rattle.tenant_core.specs.Route.{route_of};
     ghost use Rattle.tenant_core.specs.Target.{methods_in, parameter};
 
-    /// The route of a method, if the path has the method.
+    /// Returns the route of a method, if the path has the method.
     pub fn route(&self, method: &[u8]) -> Option<Route>
         ensures { result ≡ route_of method.now (methods_in self.now) }
     {
         route_of(method, self.methods)
     }
 
-    /// The path.
+    /// Returns the path.
     pub fn path(&self) -> &'p str
         ensures { result.now ≡ self.now.path }
     {
         self.path
     }
 
-    /// The part of the path that a parameter took. A path with a byte that isn't ASCII has no
-    /// parameters.
+    /// Returns the part of the path that a parameter took. A path with a byte that isn't ASCII has
+    /// no parameters.
     pub fn parameter(&self, key: &str) -> Option<&'p str>
         ensures { option_map (λ text. text.now) result ≡ parameter key.now self.now }
     {
@@ -106,7 +107,7 @@ impl<'r, 'p> Target<'r, 'p> {
     }
 }
 
-/// Whether each byte of a text is ASCII.
+/// Returns whether each byte of a text is ASCII.
 fn is_ascii_text(text: &str) -> bool
     ensures { result ≡ list_all is_ascii text.now }
 {

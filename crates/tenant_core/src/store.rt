@@ -68,11 +68,11 @@ pub trait TenantStore {
     /// The second store holds the same data as the first, to the byte.
     ghost keeps: { Self → Self → Type 0 };
 
-    /// Whether a call failed for good.
+    /// Returns whether a call failed for good.
     fn is_latched(&self) -> bool
         ensures { result ≡ latched self.now };
 
-    /// What a tenant has, shared and not copied, or `None` where it is absent.
+    /// Returns what a tenant has, shared and not copied, or `None` where it is absent.
     fn load(&mut self, name: &str) -> Result<Option<Rc<Inventory>>, StoreFault>
         requires open { latched self.old ≡ false }
         ensures found { is_honest self.new → IfOk result (λ found. HasInventory (has_state self.old) name.now (option_map (λ r. r.value) found)) }
@@ -82,7 +82,7 @@ pub trait TenantStore {
         ensures crash { is_honest self.new → latched self.new ≡ true → LeavesAsItWas (has_state self.old) (may_leave self.new) }
         ensures honest { is_honest self.new → is_honest self.old };
 
-    /// The receipt of a request number of a tenant, which exists, shared, or `None`.
+    /// Returns the receipt of a request number of a tenant, which exists, shared, or `None`.
     fn find_receipt(&mut self, name: &str, number: &str) -> Result<Option<Rc<Receipt>>, StoreFault>
         requires open { latched self.old ≡ false }
         requires there { is_honest self.old → (s : TenantState) × has_state self.old name.now (Some s) }
@@ -93,8 +93,8 @@ pub trait TenantStore {
         ensures crash { is_honest self.new → latched self.new ≡ true → LeavesAsItWas (has_state self.old) (may_leave self.new) }
         ensures honest { is_honest self.new → is_honest self.old };
 
-    /// What a tenant has, with what a query asks for, where the store has both in its cache; `None`
-    /// says nothing. Nothing is changed that contracts see.
+    /// Returns what a tenant has, with what a query asks for, where the store has both in its
+    /// cache; `None` says nothing. Nothing is changed that contracts see.
     fn cached(&mut self, name: &str, query: &Query) -> Option<(Rc<Inventory>, Cached)>
         ensures fits { IfSome result (λ r. IsCachedFor query.now r.0.value r.1) }
         ensures found { is_honest self.new → latched self.new ≡ false → IfSome result (λ r. HasInventory (has_state self.new) name.now (Some r.0.value)) }
@@ -158,8 +158,8 @@ pub trait TenantStore {
     ghost settled: { (store : Self) (t : List ℕ) (found : Found) → is_honest store → latched store ≡ false → may_leave store t found → Shows (has_state store) t found };
 }
 
-/// The reply where a call of the store failed. `Err(AllocError)`: an allocation failed; nothing is
-/// changed.
+/// Returns the reply where a call of the store failed. `Err(AllocError)`: an allocation failed;
+/// nothing is changed.
 fn reply_to(alloc: Global, fault: StoreFault) -> Result<Reply, AllocError>
     ensures { IfOk result (λ r. r ≡ spec.store_fault fault) }
 {
@@ -184,8 +184,8 @@ fn store_failed(alloc: Global) -> Result<Reply, AllocError>
     written(alloc, 503, &error(alloc, "store_failed")?)
 }
 
-/// The reply where a call of the store failed: 500 `store_damaged`, 503 `store_failed`, or the 503
-/// where an allocation failed, which may also come in place of the others. Never fails.
+/// Returns the reply where a call of the store failed: 500 `store_damaged`, 503 `store_failed`, or
+/// the 503 where an allocation failed, which may also come in place of the others. Never fails.
 pub fn store_fault(alloc: Global, fault: StoreFault) -> Reply
     ensures { (result ≡ spec.store_fault fault) ⊎ (result ≡ spec.no_memory) }
 {

@@ -12,7 +12,7 @@ pub enum FileFault {
     Store,
 }
 
-/// The fault that an error of the database is.
+/// Returns the fault that an error of the database is.
 pub fn fault_of(error: Error) -> FileFault {
     match error {
         Error::SqliteFailure(ErrorCode::OutOfMemory) => FileFault::NoMemory,

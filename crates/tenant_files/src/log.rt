@@ -12,7 +12,7 @@ pub struct LogBefore {
     length: Option<u64>,
 }
 
-/// The log of the file at this path, if the file is there.
+/// Returns the log of the file at this path, if the file is there.
 fn log_at(rt: &HostRuntime, path: &str) -> io::Result<LogBefore> {
     // the log lies beside the file where links lead
     let real = fs::canonicalize(rt, path)?;
@@ -25,7 +25,7 @@ fn log_at(rt: &HostRuntime, path: &str) -> io::Result<LogBefore> {
     Ok(LogBefore { path, length })
 }
 
-/// The same, or none where it can't be looked up.
+/// Returns the same, or none where it can't be looked up.
 pub fn log_before(rt: &HostRuntime, path: &str) -> Option<LogBefore> {
     log_at(rt, path).ok()
 }

@@ -20,7 +20,7 @@ use tenant_store::Store;
 /// with middling maps, and leaves most of a small machine to the file's pages and to the script.
 pub const READY_BYTES: u64 = 268_435_456;
 
-/// Whether a file is refused for what it holds.
+/// Returns whether a file is refused for what it holds.
 fn is_refusal(error: Error) -> bool {
     matches!(
         error,

@@ -16,7 +16,7 @@ struct Seen {
 }
 
 impl Seen {
-    /// What was found.
+    /// Returns what was found.
     fn of(found: Metadata) -> Self {
         Seen {
             device: found.dev(),
@@ -25,7 +25,7 @@ impl Seen {
         }
     }
 
-    /// Whether it is this file, of whatever length.
+    /// Returns whether it is this file, of whatever length.
     fn is(self, other: Seen) -> bool {
         self.device == other.device && self.node == other.node
     }
@@ -51,7 +51,8 @@ pub struct FileWatch<'a> {
     last: Pair,
 }
 
-/// The files at these paths. `Err`: they aren't there, or links don't lead to the one any more.
+/// Returns the files at these paths. `Err`: they aren't there, or links don't lead to the one any
+/// more.
 fn find(rt: &HostRuntime, path: &str, real: &str, log: &str) -> io::Result<Pair> {
     let named = Seen::of(fs::metadata(rt, path)?);
     let db = Seen::of(fs::symlink_metadata(rt, real)?);
@@ -62,7 +63,7 @@ fn find(rt: &HostRuntime, path: &str, real: &str, log: &str) -> io::Result<Pair>
     Ok(Pair { db, log })
 }
 
-/// A watch over the file at a path, which is open, and over its log.
+/// Returns a watch over the file at a path, which is open, and over its log.
 fn watch_at<'a>(rt: &'a HostRuntime, path: &'a str) -> io::Result<FileWatch<'a>> {
     let real = fs::canonicalize(rt, path)?;
     let log = format!(in rt.alloc(); "{}-wal", real.as_str())?;
@@ -78,7 +79,7 @@ fn watch_at<'a>(rt: &'a HostRuntime, path: &'a str) -> io::Result<FileWatch<'a>>
 }
 
 impl<'a> FileWatch<'a> {
-    /// A watch over the file at a path, which is open, and over its log.
+    /// Returns a watch over the file at a path, which is open, and over its log.
     ///
     /// `Err(FileFault::NoMemory)`: an allocation failed. `Err(FileFault::Store)`: they aren't there
     /// any more.
@@ -90,7 +91,7 @@ impl<'a> FileWatch<'a> {
         }
     }
 
-    /// The files as they are found now, if they are those that were opened.
+    /// Returns the files as they are found now, if they are those that were opened.
     fn found(&self) -> Option<Pair> {
         match find(self.rt, self.path, self.real.as_str(), self.log.as_str()) {
             Ok(found) if found.db.is(self.last.db) && found.log.is(self.last.log) => Some(found),

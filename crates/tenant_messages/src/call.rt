@@ -18,7 +18,7 @@ pub struct Call {
 }
 
 impl Call {
-    /// The call, borrowed.
+    /// Returns the call, borrowed.
     pub fn parts(&self) -> CallParts<'_>
         ensures { call_of result ≡ self.now }
     {

@@ -12,7 +12,7 @@ use crate::reply::{Problem, Refusal};
 use serde_json::Value;
 use std::alloc::Global;
 
-/// A body as text. The problem is `BadRequest`, exactly where the body isn't UTF-8.
+/// Returns a body as text. The problem is `BadRequest`, exactly where the body isn't UTF-8.
 pub fn text_of(body: &[u8]) -> Result<&str, Refusal>
     ensures { Reads (λ t. t.now) result (spec.text_of body.now) }
 {
@@ -22,7 +22,8 @@ pub fn text_of(body: &[u8]) -> Result<&str, Refusal>
     }
 }
 
-/// The JSON value of a body. The problem is `BadRequest`, exactly where the body isn't JSON.
+/// Returns the JSON value of a body. The problem is `BadRequest`, exactly where the body isn't
+/// JSON.
 pub fn read_value(alloc: Global, body: &str) -> Result<Value, Refusal>
     ensures { Reads view result (spec.value_of body.now) }
 {
@@ -33,7 +34,7 @@ pub fn read_value(alloc: Global, body: &str) -> Result<Value, Refusal>
     }
 }
 
-/// Whether the value is an object with `count` different keys.
+/// Returns whether the value is an object with `count` different keys.
 pub fn has_keys(value: &Value, count: usize) -> bool
     ensures { result ≡ spec.has_keys count (view value.now) }
 {
@@ -43,8 +44,8 @@ pub fn has_keys(value: &Value, count: usize) -> bool
     members.len() == count
 }
 
-/// The whole number under a key, if it is from 0 to `greatest`; else `None`. It is written without
-/// sign, point and exponent.
+/// Returns the whole number under a key, if it is from 0 to `greatest`; else `None`. It is written
+/// without sign, point and exponent.
 pub fn natural(value: &Value, key: &str, greatest: u32) -> Option<u32>
     ensures { result ≡ spec.under key.now (spec.natural_of greatest) (view value.now) }
 {
@@ -56,8 +57,8 @@ pub fn natural(value: &Value, key: &str, greatest: u32) -> Option<u32>
     }
 }
 
-/// The whole number under a key, if it is from `least` to `greatest`; else `None`. It is written
-/// without point and exponent.
+/// Returns the whole number under a key, if it is from `least` to `greatest`; else `None`. It is
+/// written without point and exponent.
 pub fn integer(value: &Value, key: &str, least: i32, greatest: i32) -> Option<i32>
     ensures { result ≡ spec.under key.now (spec.integer_of least greatest) (view value.now) }
 {
@@ -69,22 +70,22 @@ pub fn integer(value: &Value, key: &str, least: i32, greatest: i32) -> Option<i3
     }
 }
 
-/// The truth value under a key, or `None` where there is none.
+/// Returns the truth value under a key, or `None` where there is none.
 pub fn boolean(value: &Value, key: &str) -> Option<bool>
     ensures { result ≡ spec.under key.now as_bool (view value.now) }
 {
     value.get(key)?.as_bool()
 }
 
-/// The text under a key, or `None` where there is none.
+/// Returns the text under a key, or `None` where there is none.
 pub fn text<'a>(value: &'a Value, key: &str) -> Option<&'a str>
     ensures { option_map (λ t. t.now) result ≡ spec.under key.now as_str (view value.now) }
 {
     value.get(key)?.as_str()
 }
 
-/// The whole number under a key, from 0 to `greatest`: `Some(None)` where the object has no such
-/// key, and `None` where the value under the key is another.
+/// Returns the whole number under a key, from 0 to `greatest`: `Some(None)` where the object has no
+/// such key, and `None` where the value under the key is another.
 pub fn optional_natural(value: &Value, key: &str, greatest: u32) -> Option<Option<u32>>
     ensures { result ≡ spec.optional key.now (spec.natural_of greatest) (view value.now) }
 {
@@ -94,8 +95,8 @@ pub fn optional_natural(value: &Value, key: &str, greatest: u32) -> Option<Optio
     }
 }
 
-/// The truth value under a key: `Some(None)` where the object has no such key, and `None` where the
-/// value under the key is another.
+/// Returns the truth value under a key: `Some(None)` where the object has no such key, and `None`
+/// where the value under the key is another.
 pub fn optional_boolean(value: &Value, key: &str) -> Option<Option<bool>>
     ensures { result ≡ spec.optional key.now as_bool (view value.now) }
 {
@@ -105,8 +106,8 @@ pub fn optional_boolean(value: &Value, key: &str) -> Option<Option<bool>>
     }
 }
 
-/// The request number of a changing request, under the key `request`: a text of at least one byte
-/// and at most `REQUEST_NUMBER_LIMIT`. Else `None`.
+/// Returns the request number of a changing request, under the key `request`: a text of at least
+/// one byte and at most `REQUEST_NUMBER_LIMIT`. Else `None`.
 pub fn request_number(value: &Value) -> Option<&str>
     ensures { option_map (λ t. t.now) result ≡ spec.under (codes "request") numbers.request_number_of (view value.now) }
 {

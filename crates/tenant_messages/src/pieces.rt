@@ -37,7 +37,7 @@ pub fn push_slot(text: &mut String, before: &str, slot: &Option<ItemId>) -> Resu
     }
 }
 
-/// A comma, where something stands before.
+/// Returns a comma, where something stands before.
 fn comma(later: bool) -> &'static str
     ensures { result.now ≡ comma_if later }
 {
@@ -66,7 +66,7 @@ pub fn push_slots(
     text.push_str("]")
 }
 
-/// The reply 200 with a body that is the text of a value. Allocates nothing.
+/// Returns the reply 200 with a body that is the text of a value. Allocates nothing.
 #[tactic(auto, unfolding(crate::specs::Reply::reply))]
 pub fn done(body: String) -> Reply
     ensures { (d : Data) → string_bytes body ≡ compact_text d → result ≡ reply (success d) }

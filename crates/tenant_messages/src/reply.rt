@@ -32,7 +32,7 @@ impl SuccessStatus {
     ghost use Rattle.std.specs.Prelude.{◌≡◌};
     ghost use Rattle.tenant_messages.specs.Reply.{success_status};
 
-    /// The HTTP status.
+    /// Returns the HTTP status.
     pub fn status(self) -> u16
         ensures { result ≡ success_status self }
     {
@@ -112,7 +112,7 @@ impl Problem {
     ghost use Rattle.std.specs.Prelude.{◌≡◌};
     ghost use Rattle.tenant_messages.specs.Reply.{problem_status, problem_code};
 
-    /// The HTTP status.
+    /// Returns the HTTP status.
     pub fn status(self) -> u16
         ensures { result ≡ problem_status self }
     {
@@ -133,7 +133,7 @@ impl Problem {
         }
     }
 
-    /// The code in the body.
+    /// Returns the code in the body.
     pub fn code(self) -> &'static str
         ensures { result.now ≡ problem_code self }
     {
@@ -157,8 +157,8 @@ impl Problem {
     }
 }
 
-/// The reply with a status and a value as compact JSON. `Err(AllocError)`: an allocation failed;
-/// nothing is changed.
+/// Returns the reply with a status and a value as compact JSON. `Err(AllocError)`: an allocation
+/// failed; nothing is changed.
 pub fn written(alloc: Global, status: u16, value: &Value) -> Result<Reply, AllocError>
     requires { has_float (view value.now) ≡ false }
     ensures { IfOk result (λ r. r ≡ spec.written status (view value.now)) }
@@ -167,14 +167,14 @@ pub fn written(alloc: Global, status: u16, value: &Value) -> Result<Reply, Alloc
     Ok(Reply { status, body })
 }
 
-/// The body that names an error: `{"error": CODE}`.
+/// Returns the body that names an error: `{"error": CODE}`.
 pub fn error(alloc: Global, code: &str) -> Result<Value, AllocError>
     ensures { IfOk result (λ v. view v ≡ spec.error code.now) }
 {
     json!(in alloc; {"error": code})
 }
 
-/// The body that names the first fault of a map text: its code, and its line from 1 on.
+/// Returns the body that names the first fault of a map text: its code, and its line from 1 on.
 fn map_error(alloc: Global, fault: TextFault) -> Result<Value, AllocError>
     ensures { IfOk result (λ v. view v ≡ spec.map_error fault) }
 {
@@ -185,7 +185,7 @@ fn map_error(alloc: Global, fault: TextFault) -> Result<Value, AllocError>
     })
 }
 
-/// The body of a refusal.
+/// Returns the body of a refusal.
 fn problem_json(alloc: Global, problem: Problem) -> Result<Value, AllocError>
     ensures { IfOk result (λ v. view v ≡ spec.problem_json problem) }
 {
@@ -195,7 +195,7 @@ fn problem_json(alloc: Global, problem: Problem) -> Result<Value, AllocError>
     }
 }
 
-/// The reply to a call that is refused: the problem's status and `{"error": CODE}`.
+/// Returns the reply to a call that is refused: the problem's status and `{"error": CODE}`.
 #[tactic(auto, unfolding(crate::specs::Reply::reply))]
 pub fn refused(alloc: Global, problem: Problem) -> Result<Reply, AllocError>
     ensures { IfOk result (λ r. r ≡ spec.reply (spec.refused problem)) }
@@ -203,8 +203,8 @@ pub fn refused(alloc: Global, problem: Problem) -> Result<Reply, AllocError>
     written(alloc, problem.status(), &problem_json(alloc, problem)?)
 }
 
-/// The value or the problem that came of a check. `Err(AllocError)`: exactly where there was no
-/// memory. Allocates nothing.
+/// Returns the value or the problem that came of a check. `Err(AllocError)`: exactly where there
+/// was no memory. Allocates nothing.
 pub fn or_problem<T>(outcome: Result<T, Refusal>) -> Result<Result<T, Problem>, AllocError>
     ensures found { IfOk result (λ found. outcome ≡ came_of found) }
     ensures no_memory { OnErr result (outcome ≡ Err Refusal.NoMemory) }
@@ -216,7 +216,7 @@ pub fn or_problem<T>(outcome: Result<T, Refusal>) -> Result<Result<T, Problem>, 
     }
 }
 
-/// The reply where there is one, or the reply that names the problem. `Err(AllocError)`: an
+/// Returns the reply where there is one, or the reply that names the problem. `Err(AllocError)`: an
 /// allocation failed, here or before; nothing is changed.
 pub fn or_refused(alloc: Global, reply: Result<Reply, Refusal>) -> Result<Reply, AllocError>
     ensures { (answer : spec.Answer) → Answers reply answer → IfOk result (λ r. r ≡ spec.reply answer) }
@@ -229,7 +229,7 @@ pub fn or_refused(alloc: Global, reply: Result<Reply, Refusal>) -> Result<Reply,
 
 // ---- answers
 
-/// The reply to a request that is done, with this body.
+/// Returns the reply to a request that is done, with this body.
 #[tactic(auto, unfolding(crate::specs::Reply::reply))]
 pub fn answered(alloc: Global, status: SuccessStatus, value: &Value) -> Result<Reply, AllocError>
     requires { has_float (view value.now) ≡ false }
@@ -238,7 +238,7 @@ pub fn answered(alloc: Global, status: SuccessStatus, value: &Value) -> Result<R
     written(alloc, status.status(), value)
 }
 
-/// The reply 200 with this body.
+/// Returns the reply 200 with this body.
 pub fn success(alloc: Global, value: &Value) -> Result<Reply, AllocError>
     requires { has_float (view value.now) ≡ false }
     ensures { IfOk result (λ r. r ≡ spec.reply (spec.success (view value.now))) }
@@ -246,7 +246,7 @@ pub fn success(alloc: Global, value: &Value) -> Result<Reply, AllocError>
     answered(alloc, SuccessStatus::Done, value)
 }
 
-/// The reply 201 with this body: something was created.
+/// Returns the reply 201 with this body: something was created.
 pub fn created(alloc: Global, value: &Value) -> Result<Reply, AllocError>
     requires { has_float (view value.now) ≡ false }
     ensures { IfOk result (λ r. r ≡ spec.reply (spec.created (view value.now))) }
@@ -254,7 +254,7 @@ pub fn created(alloc: Global, value: &Value) -> Result<Reply, AllocError>
     answered(alloc, SuccessStatus::Created, value)
 }
 
-/// The reply of an earlier request once more: its status and its body.
+/// Returns the reply of an earlier request once more: its status and its body.
 #[tactic(auto, unfolding(crate::specs::Reply::reply))]
 pub fn repeated(alloc: Global, status: SuccessStatus, body: &str) -> Result<Reply, AllocError>
     ensures { IfOk result (λ r. r ≡ spec.reply (spec.repeated status body.now)) }
@@ -265,7 +265,7 @@ pub fn repeated(alloc: Global, status: SuccessStatus, body: &str) -> Result<Repl
     })
 }
 
-/// The reply where an allocation failed: 503, with an empty body. Allocates nothing.
+/// Returns the reply where an allocation failed: 503, with an empty body. Allocates nothing.
 pub fn no_memory(alloc: Global) -> Reply
     ensures { result ≡ spec.no_memory }
 {

@@ -20,8 +20,9 @@ use tenant_state::{Inventory, TenantPool};
 
 // ---- the groups that move
 
-/// A row for each group whose up list differs between the versions with two numbers. The problem is
-/// `NoVersion` where one of them is absent, and else `NoRule` where one lacks the pool's rule.
+/// Returns a row for each group whose up list differs between the versions with two numbers. The
+/// problem is `NoVersion` where one of them is absent, and else `NoRule` where one lacks the pool's
+/// rule.
 fn rows_of(
     alloc: Global,
     inventory: &Inventory,
@@ -57,7 +58,7 @@ impl Row for MoveRow {
     }
 }
 
-/// The body of the reply, up to the list of rows.
+/// Returns the body of the reply, up to the list of rows.
 fn head_text(
     alloc: Global,
     epoch: u64,
@@ -77,7 +78,7 @@ fn head_text(
     Ok(text)
 }
 
-/// The body of the reply.
+/// Returns the body of the reply.
 #[tactic(auto, using(crate::proofs::Texts::body_by_pieces))]
 fn moves_text(
     alloc: Global,
@@ -99,8 +100,8 @@ fn moves_text(
     Ok(text)
 }
 
-/// The reply with these rows, of the pool with an id, as those of the groups that move from a
-/// version to another. `Err(AllocError)`: an allocation failed; nothing is changed.
+/// Returns the reply with these rows, of the pool with an id, as those of the groups that move from
+/// a version to another. `Err(AllocError)`: an allocation failed; nothing is changed.
 pub fn moved_reply(
     alloc: Global,
     inventory: &Inventory,
@@ -116,9 +117,9 @@ pub fn moved_reply(
     Ok(done(text))
 }
 
-/// The reply with the groups, of the pool with an id, that move between the versions with two
-/// numbers. The problem is, in this order, `NoPool`, `NoVersion` where one of the two is absent, or
-/// `NoRule` where one lacks the pool's rule.
+/// Returns the reply with the groups, of the pool with an id, that move between the versions with
+/// two numbers. The problem is, in this order, `NoPool`, `NoVersion` where one of the two is
+/// absent, or `NoRule` where one lacks the pool's rule.
 pub fn answer(
     alloc: Global,
     id: u64,

@@ -35,7 +35,7 @@ fn present(value: &Value, key: &str) -> usize
     if value.get(key).is_some() { 1 } else { 0 }
 }
 
-/// The change that a value of the list says, or `None` where it isn't of the form of one.
+/// Returns the change that a value of the list says, or `None` where it isn't of the form of one.
 fn change(value: &Value) -> Option<DeviceChange>
     ensures { result ≡ spec.change_of (view value.now) }
 {
@@ -56,8 +56,8 @@ fn change(value: &Value) -> Option<DeviceChange>
     })
 }
 
-/// The changes that the values say, in their order. The problem is `BadRequest`, exactly where a
-/// value isn't of the form of a change.
+/// Returns the changes that the values say, in their order. The problem is `BadRequest`, exactly
+/// where a value isn't of the form of a change.
 fn changes(alloc: Global, values: &[Value]) -> Result<Vec<DeviceChange>, Refusal>
     ensures { Reads (λ v. v.items) result (json.each_of spec.change_of (items_view values.now)) }
 {
@@ -71,8 +71,8 @@ fn changes(alloc: Global, values: &[Value]) -> Result<Vec<DeviceChange>, Refusal
     Ok(found)
 }
 
-/// The request number and the changes that a body's value says. The problem is `BadRequest`,
-/// exactly where the value isn't of the form of such a body.
+/// Returns the request number and the changes that a body's value says. The problem is
+/// `BadRequest`, exactly where the value isn't of the form of such a body.
 fn changes_in(alloc: Global, value: &Value) -> Result<(Text, Listed<DeviceChange>), Refusal>
     ensures { Reads (λ asked. asked) result (spec.changes_of (view value.now)) }
 {
@@ -92,8 +92,8 @@ fn changes_in(alloc: Global, value: &Value) -> Result<(Text, Listed<DeviceChange
     }
 }
 
-/// The request number and the changes that a body asks for. The problem is `BadRequest`, exactly
-/// where the body isn't of the form (`IsDevicesBody`).
+/// Returns the request number and the changes that a body asks for. The problem is `BadRequest`,
+/// exactly where the body isn't of the form (`IsDevicesBody`).
 pub fn read_changes(alloc: Global, body: &str) -> Result<(Text, Listed<DeviceChange>), Refusal>
     ensures { Reads (λ asked. asked) result (spec.devices_request_of body.now) }
 {
@@ -102,21 +102,21 @@ pub fn read_changes(alloc: Global, body: &str) -> Result<(Text, Listed<DeviceCha
 
 // ---- changing the states
 
-/// The reweight of a device, in 16.16 fixed point.
+/// Returns the reweight of a device, in 16.16 fixed point.
 fn reweight(states: &Devices, device: u32) -> u32
     ensures { result ≡ reweight_of (reweights states.now) device }
 {
     states.weights().get(device)
 }
 
-/// Whether a device is up.
+/// Returns whether a device is up.
 fn is_up(states: &Devices, device: u32) -> bool
     ensures { result ≡ is_up states.now device }
 {
     states.flags().is_up(device)
 }
 
-/// The state of a device after a change.
+/// Returns the state of a device after a change.
 fn changed(states: &Devices, change: &DeviceChange) -> DeviceState
     ensures { result ≡ spec.changed states.now change.now }
 {
@@ -135,8 +135,8 @@ fn changed(states: &Devices, change: &DeviceChange) -> DeviceState
     }
 }
 
-/// The state of each changed device after its change. `Err(AllocError)`: an allocation failed;
-/// nothing is changed.
+/// Returns the state of each changed device after its change. `Err(AllocError)`: an allocation
+/// failed; nothing is changed.
 fn all_changed(
     alloc: Global,
     states: &Devices,
@@ -151,14 +151,14 @@ fn all_changed(
     Ok(all)
 }
 
-/// Whether a version has a device.
+/// Returns whether a version has a device.
 pub(crate) fn has_device(version: &Version, device: u32) -> bool
     ensures { result ≡ spec.has_device version.now device }
 {
     version.tables().has_device(device)
 }
 
-/// Whether a version has each device.
+/// Returns whether a version has each device.
 fn has_devices(version: &Version, changes: &[DeviceChange]) -> bool
     ensures { result ≡ list_all (λ c. spec.has_device version.now c.device) changes.now }
 {
@@ -167,7 +167,7 @@ fn has_devices(version: &Version, changes: &[DeviceChange]) -> bool
         .all(|change| has_device(version, change.device))
 }
 
-/// The body of the reply: how many devices were changed, and the epoch after the change.
+/// Returns the body of the reply: how many devices were changed, and the epoch after the change.
 fn devices_reply(alloc: Global, count: usize, inventory: &Inventory) -> Result<Value, AllocError>
     requires receipts { inventory.now.epoch < 2 ^ 32 }
     ensures { IfOk result (λ v. view v ≡ spec.devices_reply count inventory.now) }
@@ -175,8 +175,8 @@ fn devices_reply(alloc: Global, count: usize, inventory: &Inventory) -> Result<V
     json!(in alloc; {"devices": count as u64, "epoch": inventory.epoch() + 1})
 }
 
-/// The new states of devices, with the reply. The problem is `NoVersion` where there is no version,
-/// and else `NoDevice` where the newest lacks one of the devices.
+/// Returns the new states of devices, with the reply. The problem is `NoVersion` where there is no
+/// version, and else `NoDevice` where the newest lacks one of the devices.
 pub fn change_devices(
     alloc: Global,
     changes: &[DeviceChange],

@@ -45,7 +45,7 @@ impl ObjectName {
     ghost use Rattle.std.specs.Prelude.{◌≡◌, ◌≤◌, length};
     ghost use Rattle.tenant_resources.specs.declared.limits.TheConstants.{OBJECT_NAME_LIMIT};
 
-    /// The name.
+    /// Returns the name.
     pub fn as_str(&self) -> &str
         ensures same { result.now ≡ self.now }
         ensures few { length self.now ≤ OBJECT_NAME_LIMIT }
@@ -56,8 +56,8 @@ impl ObjectName {
 
 // ---- the body that asks for an object
 
-/// The name that a body's value says. The problem is `BadRequest`, exactly where the value isn't of
-/// the form of such a body.
+/// Returns the name that a body's value says. The problem is `BadRequest`, exactly where the value
+/// isn't of the form of such a body.
 fn name_in(alloc: Global, value: &Value) -> Result<ObjectName, Refusal>
     ensures { Reads (λ name. name) result (spec.name_of (view value.now)) }
 {
@@ -72,8 +72,8 @@ fn name_in(alloc: Global, value: &Value) -> Result<ObjectName, Refusal>
     Ok(ObjectName { name })
 }
 
-/// The name of the object that a body asks for. The problem is `BadRequest`, exactly where the body
-/// isn't of the form (`IsLocateBody`).
+/// Returns the name of the object that a body asks for. The problem is `BadRequest`, exactly where
+/// the body isn't of the form (`IsLocateBody`).
 pub fn read_name(alloc: Global, body: &str) -> Result<ObjectName, Refusal>
     ensures { Reads (λ name. name) result (spec.locate_request_of body.now) }
 {
@@ -82,8 +82,8 @@ pub fn read_name(alloc: Global, body: &str) -> Result<ObjectName, Refusal>
 
 // ---- placing a group
 
-/// The placement of a group of a pool on the newest version. The problem is `NoVersion` where there
-/// is no version, and `NoRule` where the newest lacks the pool's rule.
+/// Returns the placement of a group of a pool on the newest version. The problem is `NoVersion`
+/// where there is no version, and `NoRule` where the newest lacks the pool's rule.
 fn placed(
     alloc: Global,
     inventory: &Inventory,
@@ -119,7 +119,7 @@ fn push_placement(text: &mut String, placement: &Placement, version: u64) -> Res
     Ok(())
 }
 
-/// The text of the reply for a group.
+/// Returns the text of the reply for a group.
 #[tactic(auto, using(crate::proofs::GroupTexts::group_by_pieces))]
 fn group_text(
     alloc: Global,
@@ -136,7 +136,8 @@ fn group_text(
     Ok(text)
 }
 
-/// The text of the reply for an object: that of its group, with the hash of the object's name.
+/// Returns the text of the reply for an object: that of its group, with the hash of the object's
+/// name.
 #[tactic(auto, using(crate::proofs::GroupTexts::object_by_pieces))]
 fn object_text(
     alloc: Global,
@@ -157,8 +158,8 @@ fn object_text(
     Ok(text)
 }
 
-/// The reply for a group that was placed. `Err(AllocError)`: an allocation failed; nothing is
-/// changed.
+/// Returns the reply for a group that was placed. `Err(AllocError)`: an allocation failed; nothing
+/// is changed.
 pub fn placed_group(
     alloc: Global,
     inventory: &Inventory,
@@ -171,8 +172,8 @@ pub fn placed_group(
     Ok(done(text))
 }
 
-/// The reply for an object whose group was placed. `Err(AllocError)`: an allocation failed; nothing
-/// is changed.
+/// Returns the reply for an object whose group was placed. `Err(AllocError)`: an allocation failed;
+/// nothing is changed.
 pub fn placed_object(
     alloc: Global,
     name: &ObjectName,
@@ -186,8 +187,8 @@ pub fn placed_object(
     Ok(done(text))
 }
 
-/// The reply with the placement of a group of the pool with an id. The problem is, in this order,
-/// `NoPool`, `NoGroup` where the pool has no such group, `NoVersion`, or `NoRule`.
+/// Returns the reply with the placement of a group of the pool with an id. The problem is, in this
+/// order, `NoPool`, `NoGroup` where the pool has no such group, `NoVersion`, or `NoRule`.
 pub fn group_answer(
     alloc: Global,
     id: u64,
@@ -205,8 +206,8 @@ pub fn group_answer(
     Ok(placed_group(alloc, inventory, group, &placement)?)
 }
 
-/// The reply with the placement of the object with a name, in the pool with an id. The problem is,
-/// in this order, `NoPool`, `NoVersion`, or `NoRule`.
+/// Returns the reply with the placement of the object with a name, in the pool with an id. The
+/// problem is, in this order, `NoPool`, `NoVersion`, or `NoRule`.
 pub fn object_answer(
     alloc: Global,
     id: u64,

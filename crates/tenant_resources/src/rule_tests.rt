@@ -53,7 +53,8 @@ impl Model for RuleTest {
 
 // ---- the body
 
-/// The test that a body's value says, or `None` where the value isn't of the form of such a body.
+/// Returns the test that a body's value says, or `None` where the value isn't of the form of such a
+/// body.
 fn test(value: &Value) -> Option<RuleTest>
     ensures { result ≡ spec.test_of (view value.now) }
 {
@@ -76,8 +77,8 @@ fn test(value: &Value) -> Option<RuleTest>
     })
 }
 
-/// The test that a body asks for. The problem is `BadRequest`, exactly where the body isn't of the
-/// form (`IsTestBody`).
+/// Returns the test that a body asks for. The problem is `BadRequest`, exactly where the body isn't
+/// of the form (`IsTestBody`).
 pub fn read_test(alloc: Global, body: &str) -> Result<RuleTest, Refusal>
     ensures { Reads (λ t. t) result (spec.test_request_of body.now) }
 {
@@ -87,8 +88,8 @@ pub fn read_test(alloc: Global, body: &str) -> Result<RuleTest, Refusal>
 
 // ---- the answer
 
-/// The body of the reply: the epoch, the items and nones that the rule gives, the devices in the
-/// outputs of its choose steps (`trace`, ascending), and the number of the version.
+/// Returns the body of the reply: the epoch, the items and nones that the rule gives, the devices
+/// in the outputs of its choose steps (`trace`, ascending), and the number of the version.
 fn outcome(
     alloc: Global,
     epoch: u64,
@@ -103,8 +104,8 @@ fn outcome(
     json!(in alloc; {"epoch": epoch, "items": items, "trace": trace, "version": number})
 }
 
-/// The body of the reply for a rule of a version, run on these reweights (16.16 fixed point).
-/// `Err(AllocError)`: an allocation failed; nothing is changed.
+/// Returns the body of the reply for a rule of a version, run on these reweights (16.16 fixed
+/// point). `Err(AllocError)`: an allocation failed; nothing is changed.
 fn tested(
     alloc: Global,
     epoch: u64,
@@ -133,7 +134,7 @@ fn tested(
     outcome(alloc, epoch, number, out.items(), out.trace())
 }
 
-/// The reply to a rule test on a version, which has a number. The problem is `NoRule`.
+/// Returns the reply to a rule test on a version, which has a number. The problem is `NoRule`.
 fn answer_on(
     alloc: Global,
     test: &RuleTest,
@@ -157,9 +158,9 @@ fn answer_on(
     Ok(success(alloc, &body)?)
 }
 
-/// The reply to a rule test: what the rule gives on the version that is named, or else on the
-/// newest, with the states of devices as they are now. The problem is `NoVersion` where there is no
-/// such version, and `NoRule` where it lacks the rule.
+/// Returns the reply to a rule test: what the rule gives on the version that is named, or else on
+/// the newest, with the states of devices as they are now. The problem is `NoVersion` where there
+/// is no such version, and `NoRule` where it lacks the rule.
 pub fn answer(alloc: Global, test: &RuleTest, inventory: &Inventory) -> Result<Reply, Refusal>
     ensures { Answers result (spec.answer test.now inventory.now) }
 {

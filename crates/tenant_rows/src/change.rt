@@ -32,7 +32,7 @@ use tenant_tables::tables::Tables;
 
 // ---- numbers
 
-/// The number of a tenant's next epoch. `None`, where it isn't one of 64 bits.
+/// Returns the number of a tenant's next epoch. `None`, where it isn't one of 64 bits.
 fn epoch_after(tenant: &Tenant) -> Option<i64>
     ensures some { IfSome result (λ next. (n : ℕ) → tenant.now.epoch ≡ pos n → next ≡ pos (n + 1)) }
     ensures none { result ≡ None → (n : ℕ) → n < 2 ^ 32 → tenant.now.epoch ≢ pos n }
@@ -40,7 +40,7 @@ fn epoch_after(tenant: &Tenant) -> Option<i64>
     tenant.epoch.checked_add(1)
 }
 
-/// The number of the version after so many. `None`, where it isn't one of 64 bits.
+/// Returns the number of the version after so many. `None`, where it isn't one of 64 bits.
 fn version_after(versions: u64) -> Option<i64>
     ensures some { IfSome result (λ number. number ≡ pos (versions + 1)) }
     ensures none { result ≡ None → 2 ^ 32 ≤ versions }
@@ -48,14 +48,14 @@ fn version_after(versions: u64) -> Option<i64>
     i64::try_from(versions.checked_add(1)?).ok()
 }
 
-/// A flag is 0 or 1.
+/// Returns a flag is 0 or 1.
 fn flag(flag: bool) -> i64
     ensures { result ≡ spec.flag flag }
 {
     if flag { 1 } else { 0 }
 }
 
-/// The number of a status.
+/// Returns the number of a status.
 fn status(status: SuccessStatus) -> i64
     ensures { result ≡ pos (success_status status) }
 {
@@ -67,7 +67,7 @@ fn status(status: SuccessStatus) -> i64
 
 // ---- values of rows
 
-/// The values of the row of a device's state.
+/// Returns the values of the row of a device's state.
 fn state_values(state: &DeviceState) -> State
     ensures { result ≡ numbers_of state.now }
 {
@@ -78,15 +78,15 @@ fn state_values(state: &DeviceState) -> State
     }
 }
 
-/// The values of the rows of states of devices, in their order. `Err(AllocError)`: an allocation
-/// failed.
+/// Returns the values of the rows of states of devices, in their order. `Err(AllocError)`: an
+/// allocation failed.
 fn all_state_values(alloc: Global, states: &[DeviceState]) -> Result<Vec<State>, AllocError>
     ensures { IfOk result (λ values. values.items ≡ map numbers_of states.now) }
 {
     states.iter().map(state_values).collect(alloc)
 }
 
-/// The values of the row of a pool that has no exceptions.
+/// Returns the values of the row of a pool that has no exceptions.
 fn pool_values(pool: &Pool) -> PoolValues<'_>
     ensures { rows.pool_row result ≡ spec.row_with_count pool.now (pos 0) }
 {
@@ -104,7 +104,7 @@ fn pool_values(pool: &Pool) -> PoolValues<'_>
     }
 }
 
-/// The values of a row of a pool that was read, with another number of exceptions.
+/// Returns the values of a row of a pool that was read, with another number of exceptions.
 fn values_with(row: &PoolRow, pairs: i64) -> PoolValues<'_>
     ensures { rows.pool_row result ≡ take 8 (read.pool_values row.now) ++ Int pairs ∷ [] }
 {
@@ -121,7 +121,7 @@ fn values_with(row: &PoolRow, pairs: i64) -> PoolValues<'_>
     }
 }
 
-/// The row of the pool with an id. `None`, where there is none.
+/// Returns the row of the pool with an id. `None`, where there is none.
 fn row_with(rows: Vec<PoolRow>, id: u32) -> Option<PoolRow>
     ensures some { IfSome result (λ row. Has (map read.pool_values rows.items) (read.pool_values row) × (row.id ≡ pos id)) }
     ensures none { result ≡ None → (row : Row) → Has (map read.pool_values rows.items) row → column row 0 ≢ Int (pos id) }
@@ -134,7 +134,7 @@ fn row_with(rows: Vec<PoolRow>, id: u32) -> Option<PoolRow>
     None
 }
 
-/// The values of the row of a pair of a pool, at its place.
+/// Returns the values of the row of a pair of a pool, at its place.
 fn pair_values(pool: u32, place: u32, pair: &Pair) -> Exception
     ensures { rows.exception_row result ≡ spec.row_of_pair pool place pair.now }
 {
@@ -147,8 +147,8 @@ fn pair_values(pool: u32, place: u32, pair: &Pair) -> Exception
     }
 }
 
-/// The values of the rows of the pairs of a pool, which have the places 0, 1, .. `Err(AllocError)`:
-/// an allocation failed.
+/// Returns the values of the rows of the pairs of a pool, which have the places 0, 1, ..
+/// `Err(AllocError)`: an allocation failed.
 fn all_pair_values(alloc: Global, pool: u32, pairs: &[Pair]) -> Result<Vec<Exception>, AllocError>
     requires { length pairs.now ≤ PAIR_LIMIT }
     ensures { IfOk result (λ values. map rows.exception_row values.items ≡ spec.rows_of_pairs pool 0 pairs.now) }
@@ -160,7 +160,7 @@ fn all_pair_values(alloc: Global, pool: u32, pairs: &[Pair]) -> Result<Vec<Excep
     Ok(values)
 }
 
-/// The values of the row of a receipt.
+/// Returns the values of the row of a receipt.
 fn receipt_values<'a>(number: &'a Text, receipt: &'a Receipt) -> ReceiptValues<'a>
     ensures { rows.receipt_row result ≡ spec.row_of_receipt (number.now, receipt.now) }
 {

@@ -25,7 +25,7 @@ struct Rest {
     left: u64,
 }
 
-/// Whether each row is that of a receipt.
+/// Returns whether each row is that of a receipt.
 fn are_receipts(rows: &[ReceiptRow]) -> bool
     ensures { IsTrue result ↔ AllByRecursion IsOfReceipt (map receipt_values rows.now) }
 {

@@ -26,7 +26,8 @@ use tenant_state::{Pools, TenantPool};
 
 // ---- pairs
 
-/// The pair of a row that has this pool and this place. `None`, exactly where there is none.
+/// Returns the pair of a row that has this pool and this place. `None`, exactly where there is
+/// none.
 fn pair_from(row: &Exception, pool: u32, place: u64) -> Option<Pair>
     ensures some { IfSome result (λ p. exception_row row.now ≡ spec.row_of_pair pool place p) }
     ensures none { result ≡ None → (p : PairOfPool) → is_pair GROUP_LIMIT p ≡ true → exception_row row.now ≢ spec.row_of_pair pool place p }
@@ -40,8 +41,8 @@ fn pair_from(row: &Exception, pool: u32, place: u64) -> Option<Pair>
     Some(Pair { group, from, to })
 }
 
-/// The pairs of a pool from the rows of its exceptions, which have the places 0, 1, .. `None`,
-/// exactly where they are the rows of none. `Err(AllocError)`: an allocation failed.
+/// Returns the pairs of a pool from the rows of its exceptions, which have the places 0, 1, ..
+/// `None`, exactly where they are the rows of none. `Err(AllocError)`: an allocation failed.
 fn pairs_from(alloc: Global, rows: &[Exception], pool: u32) -> Result<Option<Vec<Pair>>, AllocError>
     ensures some { IfOk result (λ o. IfSome o (λ pairs. map exception_row rows.now ≡ spec.rows_of_pairs pool 0 pairs.items)) }
     ensures none { IfOk result (λ o. o ≡ None → (pairs : List PairOfPool) → list_all (is_pair GROUP_LIMIT) pairs ≡ true → map exception_row rows.now ≢ spec.rows_of_pairs pool 0 pairs) }
@@ -59,7 +60,7 @@ fn pairs_from(alloc: Global, rows: &[Exception], pool: u32) -> Result<Option<Vec
 
 // ---- pools
 
-/// The settings of a pool of a row. `None`, exactly where there are none.
+/// Returns the settings of a pool of a row. `None`, exactly where there are none.
 fn settings_from(row: PoolRow) -> Option<Pool>
     ensures some { IfSome result (λ p. (is_pool p ≡ true) × (pool_values row ≡ spec.row_with_count p row.pairs)) }
     ensures none { result ≡ None → (p : PartsOfPool) → is_pool p ≡ true → pool_values row ≢ spec.row_with_count p row.pairs }
@@ -84,8 +85,8 @@ fn settings_from(row: PoolRow) -> Option<Pool>
     .ok()
 }
 
-/// The pool of a row with these rows of its exceptions, which are as many as it says. `None`,
-/// exactly where there is none. `Err(AllocError)`: an allocation failed.
+/// Returns the pool of a row with these rows of its exceptions, which are as many as it says.
+/// `None`, exactly where there is none. `Err(AllocError)`: an allocation failed.
 fn pool_from(
     alloc: Global,
     row: PoolRow,
@@ -122,10 +123,10 @@ fn split(rows: &[Exception], count: i64) -> Option<(&[Exception], &[Exception])>
     Some(rows.split_at(count))
 }
 
-/// The pools of these rows, in the order of their ids, and of the rows of their exceptions, by pool
-/// and place: each pool has as many as its row says, with the places 0, 1, .., and no row is of
-/// another pool. `None`, exactly where they are the rows of none. `Err(AllocError)`: an allocation
-/// failed.
+/// Returns the pools of these rows, in the order of their ids, and of the rows of their exceptions,
+/// by pool and place: each pool has as many as its row says, with the places 0, 1, .., and no row
+/// is of another pool. `None`, exactly where they are the rows of none. `Err(AllocError)`: an
+/// allocation failed.
 pub fn pools_from(
     alloc: Global,
     rows: Vec<PoolRow>,

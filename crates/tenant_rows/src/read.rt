@@ -16,7 +16,7 @@ use table_schema::refuse::Fault;
 use tenant_state::Inventory;
 use tenant_tables::tables::Tables;
 
-/// What the tenant with the number and the epoch has, from its rows. No row is changed.
+/// Returns what the tenant with the number and the epoch has, from its rows. No row is changed.
 ///
 /// `Err(Fault::Damaged)`, exactly where they are rows of no state. `Err(Fault::NoMemory)`: an
 /// allocation failed. `Err(Fault::Failed)`: the tables are latched.

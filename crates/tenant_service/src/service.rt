@@ -46,7 +46,8 @@ fn carry_out_effect<T: TenantStore>(
     }
 }
 
-/// The receipt of an action's request number, if the action has one and the tenant is there.
+/// Returns the receipt of an action's request number, if the action has one and the tenant is
+/// there.
 fn receipt_of<T: TenantStore>(
     store: &mut T,
     tenant: &str,
@@ -244,7 +245,8 @@ impl<T: TenantStore> Service<T> {
         store
     }
 
-    /// Whether a call of the store failed for good. The service then answers 503 to every call.
+    /// Returns whether a call of the store failed for good. The service then answers 503 to every
+    /// call.
     pub fn is_latched(&self) -> bool
         ensures { result ≡ T.latched self.now }
     {

@@ -16,7 +16,7 @@ pub struct SessionEnd {
     pub doubt: Option<usize>,
 }
 
-/// The doubt after one more call, at this place, which did or didn't latch the store.
+/// Returns the doubt after one more call, at this place, which did or didn't latch the store.
 fn doubt_after(doubt: Option<usize>, is_latched: bool, place: usize) -> Option<usize>
     ensures { result ≡ spec.doubt_after doubt is_latched place }
 {

@@ -52,9 +52,9 @@ impl Devices {
         Devices::of(alloc, Vec::new(alloc))
     }
 
-    /// These states, which are in the order of the devices' ids. `None`, exactly where a device
-    /// stands twice or out of order. Takes time linear in the number of states and the greatest id.
-    /// `Err(AllocError)`: an allocation failed; the list is dropped.
+    /// Returns these states, which are in the order of the devices' ids. `None`, exactly where a
+    /// device stands twice or out of order. Takes time linear in the number of states and the
+    /// greatest id. `Err(AllocError)`: an allocation failed; the list is dropped.
     pub fn from_list(alloc: Global, states: Vec<DeviceState>) -> Result<Option<Self>, AllocError>
         ensures { IfOk result (λ found. found ≡ if_ascending is_lower_device states.items) }
     {
@@ -65,7 +65,7 @@ impl Devices {
         }
     }
 
-    /// These states, made ready.
+    /// Returns these states, made ready.
     fn of(alloc: Global, states: Vec<DeviceState>) -> Result<Self, AllocError>
         ensures { IfOk result (λ devices. devices ≡ states.items) }
     {
@@ -79,36 +79,36 @@ impl Devices {
         })
     }
 
-    /// The states, in the order of the devices' ids.
+    /// Returns the states, in the order of the devices' ids.
     pub fn states(&self) -> &[DeviceState]
         ensures { result.now ≡ self.now }
     {
         self.states.as_slice()
     }
 
-    /// The same, to be shared.
+    /// Returns the same, to be shared.
     pub fn shared_states(&self) -> &SharedStates
         ensures { result.now ≡ self.now }
     {
         &self.states
     }
 
-    /// The reweight of each device, in 16.16 fixed point.
+    /// Returns the reweight of each device, in 16.16 fixed point.
     pub fn weights(&self) -> &Weights
         ensures { result.now ≡ weights_of (reweights self.now) }
     {
         &self.weights
     }
 
-    /// Which devices are up.
+    /// Returns which devices are up.
     pub fn flags(&self) -> &DeviceStates
         ensures { result.now ≡ flags_of self.now }
     {
         &self.flags
     }
 
-    /// A copy with some states changed, one after the other. `Err(AllocError)`: an allocation
-    /// failed; nothing is changed.
+    /// Returns a copy with some states changed, one after the other. `Err(AllocError)`: an
+    /// allocation failed; nothing is changed.
     pub fn with(&self, alloc: Global, changed: &[DeviceState]) -> Result<Self, AllocError>
         ensures { IfOk result (λ devices. devices ≡ with_states changed.now self.now) }
     {
@@ -120,15 +120,15 @@ impl Devices {
     }
 }
 
-/// The place of the first device whose id isn't below another.
+/// Returns the place of the first device whose id isn't below another.
 fn not_below(states: &[DeviceState], device: u32) -> Option<usize>
     ensures { result ≡ position (λ s. nat_le device s.device) states.now }
 {
     states.iter().position(|state| state.device >= device)
 }
 
-/// The place of the first device whose id isn't below another; where there is none, how many
-/// devices there are.
+/// Returns the place of the first device whose id isn't below another; where there is none, how
+/// many devices there are.
 fn place_of(states: &[DeviceState], device: u32) -> usize
     ensures { result ≡ position_or_len (λ s. nat_le device s.device) states.now }
 {
@@ -138,7 +138,7 @@ fn place_of(states: &[DeviceState], device: u32) -> usize
     }
 }
 
-/// Whether the ids ascend, so that no device stands twice.
+/// Returns whether the ids ascend, so that no device stands twice.
 fn are_ascending(states: &[DeviceState]) -> bool
     ensures { result ≡ is_ascending is_lower_device states.now }
 {
@@ -152,7 +152,7 @@ fn are_ascending(states: &[DeviceState]) -> bool
     true
 }
 
-/// Whether a device's id is below that of the first of others, if there is one.
+/// Returns whether a device's id is below that of the first of others, if there is one.
 fn is_below_first(state: &DeviceState, others: &[DeviceState]) -> bool
     ensures { result ≡ is_before_first is_lower_device state.now others.now }
 {

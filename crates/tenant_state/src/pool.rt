@@ -40,7 +40,8 @@ impl TenantPool {
     ghost use Rattle.crush_pool.specs.Exceptions.{are_pairs};
     ghost use Rattle.tenant_state.specs.Size.{pool_size};
 
-    /// A pool with no exceptions. `Err(AllocError)`: an allocation failed; the pool is given up.
+    /// Returns a pool with no exceptions. `Err(AllocError)`: an allocation failed; the pool is
+    /// given up.
     pub fn new(alloc: Global, pool: Rc<Pool>) -> Result<Self, AllocError>
         ensures { IfOk result (λ p. p ≡ record { parts = pool.value; pairs = [] }) }
     {
@@ -48,8 +49,8 @@ impl TenantPool {
         Ok(TenantPool::of(pool, exceptions))
     }
 
-    /// A pool with these exceptions, each of which is of a group of the pool. Takes time linear in
-    /// their number. Allocates nothing.
+    /// Returns a pool with these exceptions, each of which is of a group of the pool. Takes time
+    /// linear in their number. Allocates nothing.
     pub fn of(pool: Rc<Pool>, exceptions: SharedExceptions) -> Self
         requires { are_pairs pool.value.pg_num exceptions ≡ true }
         ensures { result ≡ record { parts = pool.value; pairs = exceptions } }
@@ -62,7 +63,7 @@ impl TenantPool {
         }
     }
 
-    /// Whether it can have these exceptions: each is of a group of the pool.
+    /// Returns whether it can have these exceptions: each is of a group of the pool.
     pub fn can_have(&self, exceptions: &SharedExceptions) -> bool
         ensures { result ≡ are_pairs self.now.parts.pg_num exceptions.now }
     {
@@ -70,8 +71,9 @@ impl TenantPool {
         are_below(exceptions.exceptions().pairs(), groups)
     }
 
-    /// The same pool with these exceptions in place of its own. Takes time linear in their number,
-    /// and no memory, but can be refused where the number of those who share a part is full.
+    /// Returns the same pool with these exceptions in place of its own. Takes time linear in their
+    /// number, and no memory, but can be refused where the number of those who share a part is
+    /// full.
     pub fn with_exceptions(&self, exceptions: &SharedExceptions) -> Result<Self, AllocError>
         requires { are_pairs self.now.parts.pg_num exceptions.now ≡ true }
         ensures { IfOk result (λ p. p ≡ record { parts = self.now.parts; pairs = exceptions.now }) }
@@ -79,28 +81,28 @@ impl TenantPool {
         Ok(TenantPool::of(self.pool.clone()?, exceptions.share()?))
     }
 
-    /// The pool.
+    /// Returns the pool.
     pub fn pool(&self) -> &Pool
         ensures { result.now ≡ self.now.parts }
     {
         self.pool.as_ref()
     }
 
-    /// The same, to be shared.
+    /// Returns the same, to be shared.
     pub fn shared_pool(&self) -> &Rc<Pool>
         ensures { result.now.value ≡ self.now.parts }
     {
         &self.pool
     }
 
-    /// The settings of the pool.
+    /// Returns the settings of the pool.
     pub fn parts(&self) -> &PoolParts
         ensures { result.now ≡ self.now.parts }
     {
         self.pool.parts()
     }
 
-    /// The exceptions of the pool.
+    /// Returns the exceptions of the pool.
     pub fn exceptions(&self) -> &Exceptions
         ensures same { result.now ≡ self.now.pairs }
         ensures valid { are_pairs self.now.parts.pg_num self.now.pairs ≡ true }
@@ -108,14 +110,14 @@ impl TenantPool {
         self.exceptions.exceptions()
     }
 
-    /// The same, to be shared.
+    /// Returns the same, to be shared.
     pub fn shared_exceptions(&self) -> &SharedExceptions
         ensures { result.now ≡ self.now.pairs }
     {
         &self.exceptions
     }
 
-    /// How many bytes of memory it takes at most, by an estimate.
+    /// Returns how many bytes of memory it takes at most, by an estimate.
     pub fn size(&self) -> u64
         ensures { result ≡ min (pool_size self.now) (2 ^ 64 - 1) }
     {
@@ -123,7 +125,7 @@ impl TenantPool {
     }
 }
 
-/// Whether the groups of all pairs are below a number.
+/// Returns whether the groups of all pairs are below a number.
 fn are_below(pairs: &[Pair], groups: u32) -> bool
     ensures { result ≡ list_all (λ p. nat_lt p.group groups) pairs.now }
 {

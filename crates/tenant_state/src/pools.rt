@@ -42,8 +42,8 @@ impl Pools {
         }
     }
 
-    /// These pools, which are in the order of their ids. `None`, exactly where an id stands twice
-    /// or out of order. Takes time linear in the list. Allocates nothing.
+    /// Returns these pools, which are in the order of their ids. `None`, exactly where an id stands
+    /// twice or out of order. Takes time linear in the list. Allocates nothing.
     pub fn from_list(pools: Vec<Rc<TenantPool>>) -> Option<Self>
         ensures { result ≡ if_ascending is_lower_pool (map (λ p. p.value) pools.items) }
     {
@@ -54,21 +54,21 @@ impl Pools {
         }
     }
 
-    /// How many pools there are.
+    /// Returns how many pools there are.
     pub fn len(&self) -> usize
         ensures { result ≡ length self.now }
     {
         self.pools.len()
     }
 
-    /// The pools, in the order of their ids.
+    /// Returns the pools, in the order of their ids.
     pub fn as_slice(&self) -> &[Rc<TenantPool>]
         ensures { map (λ p. p.value) result.now ≡ self.now }
     {
         self.pools.as_slice()
     }
 
-    /// The pool with an id, to be shared, or `None`.
+    /// Returns the pool with an id, to be shared, or `None`.
     pub fn get_shared(&self, id: u64) -> Option<&Rc<TenantPool>>
         ensures { option_map (λ p. p.now.value) result ≡ find (λ p. p.parts.id == id) self.now }
     {
@@ -78,7 +78,7 @@ impl Pools {
         }
     }
 
-    /// The pool with an id, or `None`.
+    /// Returns the pool with an id, or `None`.
     pub fn get(&self, id: u64) -> Option<&TenantPool>
         ensures { option_map (λ p. p.now) result ≡ find (λ p. p.parts.id == id) self.now }
     {
@@ -88,7 +88,8 @@ impl Pools {
         }
     }
 
-    /// A copy that shares the pools. `Err(AllocError)`: an allocation failed; nothing is changed.
+    /// Returns a copy that shares the pools. `Err(AllocError)`: an allocation failed; nothing is
+    /// changed.
     pub fn copy(&self) -> Result<Self, AllocError>
         ensures { IfOk result (λ again. again ≡ self.now) }
     {
@@ -97,8 +98,8 @@ impl Pools {
         })
     }
 
-    /// A copy with one more pool, which has no exceptions, in place of one with the same id.
-    /// `Err(AllocError)`: an allocation failed; nothing is changed.
+    /// Returns a copy with one more pool, which has no exceptions, in place of one with the same
+    /// id. `Err(AllocError)`: an allocation failed; nothing is changed.
     pub fn with(&self, alloc: Global, pool: &Rc<Pool>) -> Result<Self, AllocError>
         ensures { IfOk result (λ pools. pools ≡ with_element (λ p. p.parts.id) (record { parts = pool.now.value; pairs = [] }) self.now) }
     {
@@ -108,9 +109,8 @@ impl Pools {
         Ok(Pools { pools })
     }
 
-    /// A copy in which the pool with an id has these exceptions, each of which is of a group of
-    /// that pool. `Err(AllocError)`: an allocation failed;
-    /// nothing is changed.
+    /// Returns a copy in which the pool with an id has these exceptions, each of which is of a
+    /// group of that pool. `Err(AllocError)`: an allocation failed; nothing is changed.
     pub fn with_exceptions(
         &self,
         alloc: Global,
@@ -128,8 +128,8 @@ impl Pools {
         Ok(Pools { pools })
     }
 
-    /// A copy without the pool that has an id. `Err(AllocError)`: an allocation failed; nothing is
-    /// changed.
+    /// Returns a copy without the pool that has an id. `Err(AllocError)`: an allocation failed;
+    /// nothing is changed.
     pub fn without(&self, id: u32) -> Result<Self, AllocError>
         ensures { IfOk result (λ pools. pools ≡ without (λ p. p.parts.id) id self.now) }
     {
@@ -141,7 +141,7 @@ impl Pools {
     }
 }
 
-/// The place of the first pool with an id.
+/// Returns the place of the first pool with an id.
 fn place_with(pools: &[Rc<TenantPool>], id: u64) -> Option<usize>
     ensures { result ≡ position (λ p. p.value.parts.id == id) pools.now }
 {
@@ -150,15 +150,15 @@ fn place_with(pools: &[Rc<TenantPool>], id: u64) -> Option<usize>
         .position(|pool| u64::from(pool.parts().id) == id)
 }
 
-/// The place of the first pool whose id isn't below another.
+/// Returns the place of the first pool whose id isn't below another.
 fn not_below(pools: &[Rc<TenantPool>], id: u32) -> Option<usize>
     ensures { result ≡ position (λ p. nat_le id p.value.parts.id) pools.now }
 {
     pools.iter().position(|pool| pool.parts().id >= id)
 }
 
-/// The place of the first pool whose id isn't below another; where there is none, how many pools
-/// there are.
+/// Returns the place of the first pool whose id isn't below another; where there is none, how many
+/// pools there are.
 fn place_of(pools: &[Rc<TenantPool>], id: u32) -> usize
     ensures { result ≡ position_or_len (λ p. nat_le id p.value.parts.id) pools.now }
 {
@@ -168,7 +168,7 @@ fn place_of(pools: &[Rc<TenantPool>], id: u32) -> usize
     }
 }
 
-/// Whether the ids ascend, so that none stands twice.
+/// Returns whether the ids ascend, so that none stands twice.
 fn are_ascending(pools: &[Rc<TenantPool>]) -> bool
     ensures { result ≡ is_ascending is_lower_pool (map (λ p. p.value) pools.now) }
 {
@@ -182,7 +182,7 @@ fn are_ascending(pools: &[Rc<TenantPool>]) -> bool
     true
 }
 
-/// Whether a pool's id is below that of the first of others, if there is one.
+/// Returns whether a pool's id is below that of the first of others, if there is one.
 fn is_below_first(pool: &TenantPool, others: &[Rc<TenantPool>]) -> bool
     ensures { result ≡ is_before_first is_lower_pool pool.now (map (λ p. p.value) others.now) }
 {

@@ -20,8 +20,8 @@ pub struct Receipt {
     pub reply: Text,
 }
 
-/// Whether a request is the one that left the receipt: the same path and the same body, to the
-/// byte.
+/// Returns whether a request is the one that left the receipt: the same path and the same body, to
+/// the byte.
 pub fn is_repeat(path: &str, body: &str, receipt: &Receipt) -> bool
     ensures { result ≡ spec.is_repeat path.now body.now receipt.now }
 {
@@ -58,8 +58,8 @@ impl Receipts {
         }
     }
 
-    /// These receipts, which are in the order of their numbers' bytes. `None`, exactly where a
-    /// number stands twice or out of order. Takes time n log n in the length n of the list.
+    /// Returns these receipts, which are in the order of their numbers' bytes. `None`, exactly
+    /// where a number stands twice or out of order. Takes time n log n in the length n of the list.
     /// `Err(AllocError)`: an allocation failed; the list is dropped.
     pub fn from_list(
         alloc: Global,
@@ -78,14 +78,14 @@ impl Receipts {
         Ok(Some(Receipts { by_number }))
     }
 
-    /// How many receipts there are.
+    /// Returns how many receipts there are.
     pub fn len(&self) -> usize
         ensures { result ≡ length self.now }
     {
         self.by_number.len()
     }
 
-    /// The receipt of a request number, or `None`.
+    /// Returns the receipt of a request number, or `None`.
     pub fn get(&self, number: &str) -> Option<&Rc<Receipt>>
         ensures { option_map (λ r. r.now.value) result ≡ receipt_of number.now self.now }
     {
@@ -95,8 +95,8 @@ impl Receipts {
         }
     }
 
-    /// The receipt of a request number, shared, or `None`. `Err(AllocError)`: an allocation failed;
-    /// nothing is changed.
+    /// Returns the receipt of a request number, shared, or `None`. `Err(AllocError)`: an allocation
+    /// failed; nothing is changed.
     pub fn find(&self, number: &str) -> Result<Option<Rc<Receipt>>, AllocError>
         ensures { IfOk result (λ found. option_map (λ r. r.value) found ≡ receipt_of number.now self.now) }
     {
@@ -116,7 +116,7 @@ impl Receipts {
         Ok(())
     }
 
-    /// A copy that shares the receipts. `Err(AllocError)`: an allocation failed; nothing is
+    /// Returns a copy that shares the receipts. `Err(AllocError)`: an allocation failed; nothing is
     /// changed.
     pub fn copy(&self) -> Result<Self, AllocError>
         ensures { IfOk result (λ again. again ≡ self.now) }
@@ -127,7 +127,7 @@ impl Receipts {
     }
 }
 
-/// Whether the numbers ascend, so that none stands twice.
+/// Returns whether the numbers ascend, so that none stands twice.
 fn are_ascending(receipts: &[(String, Rc<Receipt>)]) -> bool
     ensures { result ≡ is_ascending spec.is_before (map (λ e. (string_bytes e.0, e.1.value)) receipts.now) }
 {
@@ -141,7 +141,7 @@ fn are_ascending(receipts: &[(String, Rc<Receipt>)]) -> bool
     true
 }
 
-/// Whether a receipt's number comes before that of the first of others, if there is one.
+/// Returns whether a receipt's number comes before that of the first of others, if there is one.
 fn is_before_first(first: &(String, Rc<Receipt>), others: &[(String, Rc<Receipt>)]) -> bool
     ensures { result ≡ is_before_first spec.is_before (string_bytes first.now.0, first.now.1.value) (map (λ e. (string_bytes e.0, e.1.value)) others.now) }
 {

@@ -66,21 +66,21 @@ pub const PAIR_BYTES: u64 = 32;
 /// What the table of the first pair of each group takes for each place: 2. It has no further room.
 pub const GROUP_BYTES: u64 = 2;
 
-/// A sum.
+/// Returns a sum.
 fn plus(a: u64, b: u64) -> u64
     ensures { result ≡ min (a + b) (2 ^ 64 - 1) }
 {
     a.saturating_add(b)
 }
 
-/// A product.
+/// Returns a product.
 fn times(a: u64, b: u64) -> u64
     ensures { result ≡ min (a * b) (2 ^ 64 - 1) }
 {
     a.saturating_mul(b)
 }
 
-/// How many places a list by bucket has.
+/// Returns how many places a list by bucket has.
 fn bucket_reach(buckets: &[Bucket]) -> u32
     ensures { result ≡ bucket_reach buckets.now }
 {
@@ -91,7 +91,7 @@ fn bucket_reach(buckets: &[Bucket]) -> u32
     reach
 }
 
-/// How many items buckets have together.
+/// Returns how many items buckets have together.
 fn items_in(buckets: &[Bucket]) -> u64
     ensures { result ≡ min (items_in buckets.now) (2 ^ 64 - 1) }
 {
@@ -102,7 +102,7 @@ fn items_in(buckets: &[Bucket]) -> u64
     items
 }
 
-/// How many steps rules have together.
+/// Returns how many steps rules have together.
 fn steps_in(rules: &[Rule]) -> u64
     ensures { result ≡ min (steps_in rules.now) (2 ^ 64 - 1) }
 {
@@ -113,7 +113,7 @@ fn steps_in(rules: &[Rule]) -> u64
     steps
 }
 
-/// How many bytes the parts of a map take, with its tables.
+/// Returns how many bytes the parts of a map take, with its tables.
 fn size_of_map(map: &CrushMap) -> u64
     ensures { result ≡ min (map_size map.now) (2 ^ 64 - 1) }
 {
@@ -128,7 +128,7 @@ fn size_of_map(map: &CrushMap) -> u64
     plus(plus(parts, plus(buckets, items)), index)
 }
 
-/// How many bytes a version takes that has this map, whose text has so many bytes.
+/// Returns how many bytes a version takes that has this map, whose text has so many bytes.
 pub(crate) fn size_of_version(map: &CrushMap, text: u64) -> u64
     requires { text ≡ length (canonical map.now) }
     ensures { result ≡ min (version_size map.now) (2 ^ 64 - 1) }
@@ -139,7 +139,7 @@ pub(crate) fn size_of_version(map: &CrushMap, text: u64) -> u64
     )
 }
 
-/// How many bytes versions take.
+/// Returns how many bytes versions take.
 pub(crate) fn size_of_versions(versions: &[Rc<Version>]) -> u64
     ensures { result ≡ min (sum_by version_size (map (λ v. v.value) versions.now)) (2 ^ 64 - 1) }
 {
@@ -150,7 +150,7 @@ pub(crate) fn size_of_versions(versions: &[Rc<Version>]) -> u64
     total
 }
 
-/// How many places a list by device has.
+/// Returns how many places a list by device has.
 fn device_reach(states: &[DeviceState]) -> u64
     ensures { result ≡ device_reach states.now }
 {
@@ -161,7 +161,7 @@ fn device_reach(states: &[DeviceState]) -> u64
     reach
 }
 
-/// How many bytes states of devices take, with their tables.
+/// Returns how many bytes states of devices take, with their tables.
 fn size_of_states(states: &[DeviceState]) -> u64
     ensures { result ≡ min (states_size states.now) (2 ^ 64 - 1) }
 {
@@ -170,7 +170,7 @@ fn size_of_states(states: &[DeviceState]) -> u64
     plus(each, tables)
 }
 
-/// How many places a list by group has.
+/// Returns how many places a list by group has.
 fn group_reach(pairs: &[Pair]) -> u64
     ensures { result ≡ group_reach pairs.now }
 {
@@ -181,7 +181,7 @@ fn group_reach(pairs: &[Pair]) -> u64
     reach
 }
 
-/// How many bytes a pool takes that has these pairs.
+/// Returns how many bytes a pool takes that has these pairs.
 pub(crate) fn size_of_pool(pairs: &[Pair]) -> u64
     ensures { (parts : PoolParts) → result ≡ min (pool_size (record { parts = parts; pairs = pairs.now })) (2 ^ 64 - 1) }
 {
@@ -190,7 +190,7 @@ pub(crate) fn size_of_pool(pairs: &[Pair]) -> u64
     plus(plus(POOL_BYTES, each), table)
 }
 
-/// How many bytes pools take.
+/// Returns how many bytes pools take.
 fn size_of_pools(pools: &[Rc<TenantPool>]) -> u64
     ensures { result ≡ min (sum_by pool_size (map (λ p. p.value) pools.now)) (2 ^ 64 - 1) }
 {
@@ -205,7 +205,7 @@ impl Inventory {
     ghost use Rattle.std.specs.Prelude.{◌≡◌, ◌-◌, ◌^◌, min};
     ghost use Rattle.tenant_state.specs.Size as spec;
 
-    /// How many bytes of memory it takes at most, by an estimate.
+    /// Returns how many bytes of memory it takes at most, by an estimate.
     pub fn size(&self) -> u64
         ensures { result ≡ min (spec.size self.now) (2 ^ 64 - 1) }
     {

@@ -87,8 +87,8 @@ impl Inventory {
     ghost use Rattle.tenant_state.specs.Valid.{IsInventory};
     ghost use Rattle.tenant_state.specs.declared.limits.TheConstants.{RECEIPT_LIMIT};
 
-    /// The inventory with these parts: the versions 1, 2, .., the states of devices, the pools and
-    /// the epoch. Allocates nothing.
+    /// Returns the inventory with these parts: the versions 1, 2, .., the states of devices, the
+    /// pools and the epoch. Allocates nothing.
     pub fn of(versions: Versions, devices: Rc<Devices>, pools: Pools, epoch: u64) -> Inventory
         requires { IsInventory (record { versions = versions; devices = devices.value; pools = pools; epoch = epoch }) }
         ensures { result ≡ record { versions = versions; devices = devices.value; pools = pools; epoch = epoch } }
@@ -101,8 +101,8 @@ impl Inventory {
         }
     }
 
-    /// That of a tenant that was just created. `Err(AllocError)`: an allocation failed; nothing is
-    /// changed.
+    /// Returns that of a tenant that was just created. `Err(AllocError)`: an allocation failed;
+    /// nothing is changed.
     pub fn fresh(alloc: Global) -> Result<Inventory, AllocError>
         ensures { IfOk result (λ i. i ≡ spec.inventory_of spec.fresh) }
     {
@@ -114,7 +114,7 @@ impl Inventory {
         ))
     }
 
-    /// The number of accepted changes, each of which left one receipt.
+    /// Returns the number of accepted changes, each of which left one receipt.
     pub fn epoch(&self) -> u64
         ensures same { result ≡ self.now.epoch }
         ensures valid { IsInventory self.now }
@@ -122,21 +122,21 @@ impl Inventory {
         self.epoch
     }
 
-    /// The number of the newest version, or 0 where there is none.
+    /// Returns the number of the newest version, or 0 where there is none.
     pub fn newest(&self) -> u64
         ensures { result ≡ spec.newest self.now }
     {
         self.versions().len() as u64
     }
 
-    /// The versions 1, 2, ..
+    /// Returns the versions 1, 2, ..
     pub fn versions(&self) -> &[Rc<Version>]
         ensures { map (λ v. v.value) result.now ≡ self.now.versions }
     {
         self.versions.as_slice()
     }
 
-    /// The version with a number, from 1 on, or `None`.
+    /// Returns the version with a number, from 1 on, or `None`.
     pub fn version(&self, number: u64) -> Option<&Version>
         ensures { option_map (λ v. v.now) result ≡ spec.version number self.now }
     {
@@ -149,29 +149,29 @@ impl Inventory {
         }
     }
 
-    /// How many bytes of memory the versions take at most, by an estimate.
+    /// Returns how many bytes of memory the versions take at most, by an estimate.
     pub(crate) fn size_of_versions(&self) -> u64
         ensures { result ≡ min (sum_by version_size self.now.versions) (2 ^ 64 - 1) }
     {
         self.versions.size()
     }
 
-    /// The states of devices that were stored.
+    /// Returns the states of devices that were stored.
     pub fn devices(&self) -> &Devices
         ensures { result.now ≡ self.now.devices }
     {
         self.devices.as_ref()
     }
 
-    /// The pools.
+    /// Returns the pools.
     pub fn pools(&self) -> &Pools
         ensures { result.now ≡ self.now.pools }
     {
         &self.pools
     }
 
-    /// A pool on a version, with its exceptions and the states of devices as they are now. The
-    /// problem is `NoRule`, exactly where the version lacks the pool's rule.
+    /// Returns a pool on a version, with its exceptions and the states of devices as they are now.
+    /// The problem is `NoRule`, exactly where the version lacks the pool's rule.
     pub fn on_version<'a>(
         &'a self,
         version: &'a Version,
@@ -192,8 +192,8 @@ impl Inventory {
         .ok_or(Problem::NoRule)
     }
 
-    /// A pool on the newest version. The problem is `NoVersion` where there is no version, and
-    /// `NoRule` where the newest lacks the pool's rule.
+    /// Returns a pool on the newest version. The problem is `NoVersion` where there is no version,
+    /// and `NoRule` where the newest lacks the pool's rule.
     pub fn on_newest<'a>(&'a self, pool: &'a TenantPool) -> Result<Placer<'a>, Problem>
         ensures { result ≡ spec.on_newest self.now pool.now }
     {
@@ -203,9 +203,9 @@ impl Inventory {
         }
     }
 
-    /// What the placements of a pool on a version depend on, with its exceptions and the states of
-    /// devices as they are now. It is shared, and not copied. `Err(AllocError)`: nothing is
-    /// changed.
+    /// Returns what the placements of a pool on a version depend on, with its exceptions and the
+    /// states of devices as they are now. It is shared, and not copied. `Err(AllocError)`: nothing
+    /// is changed.
     pub fn content(&self, version: &Version, pool: &TenantPool) -> Result<Content, AllocError>
         ensures { IfOk result (λ c. c ≡ content_of (record { map = version.now; states = self.now.devices; pool = pool.now.parts; pairs = pool.now.pairs })) }
     {
@@ -216,8 +216,8 @@ impl Inventory {
         Ok(Content::new(text, states, pool, exceptions))
     }
 
-    /// Whether what is made suits this: exceptions suit the pool that they are for, which is there,
-    /// and all else does. Takes time linear in the number of exceptions.
+    /// Returns whether what is made suits this: exceptions suit the pool that they are for, which
+    /// is there, and all else does. Takes time linear in the number of exceptions.
     pub fn suits(&self, made: &Made) -> bool
         ensures { result ≡ spec.suits (made_of made.now) self.now }
     {
@@ -230,7 +230,8 @@ impl Inventory {
         }
     }
 
-    /// A copy that shares what it has. `Err(AllocError)`: an allocation failed; nothing is changed.
+    /// Returns a copy that shares what it has. `Err(AllocError)`: an allocation failed; nothing is
+    /// changed.
     fn copy(&self) -> Result<Inventory, AllocError>
         ensures { IfOk result (λ again. again ≡ self.now) }
     {
@@ -242,7 +243,7 @@ impl Inventory {
         })
     }
 
-    /// What the tenant has after a change. What stays is shared, and not copied.
+    /// Returns what the tenant has after a change. What stays is shared, and not copied.
     /// `Err(AllocError)`: an allocation failed; nothing is changed.
     pub fn after(&self, alloc: Global, change: &Change) -> Result<Inventory, AllocError>
         requires room { self.now.epoch < RECEIPT_LIMIT }
@@ -308,7 +309,7 @@ impl TenantState {
     ghost use Rattle.tenant_state.specs.State as spec;
     ghost use Rattle.tenant_state.specs.Valid.{IsState};
 
-    /// The state of a tenant that has this, with these receipts. Allocates nothing.
+    /// Returns the state of a tenant that has this, with these receipts. Allocates nothing.
     pub fn of(inventory: Rc<Inventory>, receipts: Receipts) -> TenantState
         requires epoch { inventory.value.epoch ≡ length receipts }
         requires state { IsState (spec.with_receipts inventory.value receipts) }
@@ -320,8 +321,8 @@ impl TenantState {
         }
     }
 
-    /// The state of a tenant that was just created. `Err(AllocError)`: an allocation failed;
-    /// nothing is changed.
+    /// Returns the state of a tenant that was just created. `Err(AllocError)`: an allocation
+    /// failed; nothing is changed.
     pub fn fresh(alloc: Global) -> Result<TenantState, AllocError>
         ensures { IfOk result (λ s. s ≡ spec.fresh) }
     {
@@ -329,7 +330,7 @@ impl TenantState {
         Ok(TenantState::of(inventory, Receipts::new(alloc)))
     }
 
-    /// What the tenant has, shared.
+    /// Returns what the tenant has, shared.
     pub fn inventory(&self) -> &Rc<Inventory>
         ensures same { result.now.value ≡ spec.inventory_of self.now }
         ensures valid { IsState self.now }
@@ -337,7 +338,7 @@ impl TenantState {
         &self.inventory
     }
 
-    /// The receipts.
+    /// Returns the receipts.
     pub fn receipts(&self) -> &Receipts
         ensures { result.now ≡ self.now.receipts }
     {
@@ -359,8 +360,8 @@ impl TenantState {
         Ok(())
     }
 
-    /// The state after a change. What stays is shared, and not copied. `Err(AllocError)`: an
-    /// allocation failed; nothing is changed.
+    /// Returns the state after a change. What stays is shared, and not copied. `Err(AllocError)`:
+    /// an allocation failed; nothing is changed.
     pub fn after(&self, alloc: Global, change: &Change) -> Result<TenantState, AllocError>
         requires { spec.CanMake change.now self.now }
         ensures { IfOk result (λ s. s ≡ spec.after change.now self.now) }

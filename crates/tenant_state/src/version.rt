@@ -46,7 +46,8 @@ impl Version {
     ghost use Rattle.crush_writing.specs.Canonical.{canonical};
     ghost use Rattle.tenant_state.specs.Size.{version_size};
 
-    /// The version with this map. `Err(AllocError)`: an allocation failed; the map is dropped.
+    /// Returns the version with this map. `Err(AllocError)`: an allocation failed; the map is
+    /// dropped.
     pub fn build(alloc: Global, map: CrushMap) -> Result<Self, AllocError>
         ensures { IfOk result (λ version. version ≡ map) }
     {
@@ -61,8 +62,9 @@ impl Version {
         })
     }
 
-    /// The version of a canonical text, as `text` gives it. `None`, exactly where the text isn't
-    /// the canonical text of a map. `Err(AllocError)`: an allocation failed; nothing is changed.
+    /// Returns the version of a canonical text, as `text` gives it. `None`, exactly where the text
+    /// isn't the canonical text of a map. `Err(AllocError)`: an allocation failed; nothing is
+    /// changed.
     pub fn from_text(alloc: Global, text: &str) -> Result<Option<Self>, AllocError>
         ensures { IfOk result (λ found. (m : Map) → (found ≡ Some m) ↔ (IsMap m × (canonical m ≡ text.now))) }
     {
@@ -82,35 +84,35 @@ impl Version {
         }
     }
 
-    /// The map.
+    /// Returns the map.
     pub fn map(&self) -> &CrushMap
         ensures { result.now ≡ self.now }
     {
         &self.map
     }
 
-    /// Its canonical text.
+    /// Returns its canonical text.
     pub fn text(&self) -> &str
         ensures { result.now ≡ canonical self.now }
     {
         self.text.as_str()
     }
 
-    /// The same, to be shared.
+    /// Returns the same, to be shared.
     pub fn shared_text(&self) -> &SharedText
         ensures { result.now ≡ canonical self.now }
     {
         &self.text
     }
 
-    /// How many bytes of memory it takes at most, by an estimate.
+    /// Returns how many bytes of memory it takes at most, by an estimate.
     pub fn size(&self) -> u64
         ensures { result ≡ min (version_size self.now) (2 ^ 64 - 1) }
     {
         self.size
     }
 
-    /// Its tables.
+    /// Returns its tables.
     pub fn tables(&self) -> &Tables
         ensures { result.now ≡ tables_of self.now }
     {
@@ -118,8 +120,8 @@ impl Version {
     }
 }
 
-/// The canonical text of a map, which is ASCII. `Err(AllocError)`: an allocation failed; nothing is
-/// changed.
+/// Returns the canonical text of a map, which is ASCII. `Err(AllocError)`: an allocation failed;
+/// nothing is changed.
 fn canonical_text(alloc: Global, map: &CrushMap) -> Result<SharedText, AllocError>
     ensures { IfOk result (λ text. text ≡ canonical map.now) }
 {

@@ -33,7 +33,7 @@ impl Versions {
     ghost use Rattle.std.specs.List.{sum_by};
     ghost use Rattle.tenant_state.specs.Size.{version_size};
 
-    /// These versions. `Err(AllocError)`: an allocation failed; they are dropped.
+    /// Returns these versions. `Err(AllocError)`: an allocation failed; they are dropped.
     pub fn of(alloc: Global, list: Vec<Rc<Version>>) -> Result<Self, AllocError>
         ensures { IfOk result (λ versions. versions ≡ map (λ v. v.value) list.items) }
     {
@@ -42,21 +42,21 @@ impl Versions {
         Ok(Versions { list, size })
     }
 
-    /// The versions 1, 2, ..
+    /// Returns the versions 1, 2, ..
     pub fn as_slice(&self) -> &[Rc<Version>]
         ensures { map (λ v. v.value) result.now ≡ self.now }
     {
         self.list.as_ref().as_slice()
     }
 
-    /// How many bytes of memory they take at most, by an estimate.
+    /// Returns how many bytes of memory they take at most, by an estimate.
     pub fn size(&self) -> u64
         ensures { result ≡ min (sum_by version_size self.now) (2 ^ 64 - 1) }
     {
         self.size
     }
 
-    /// The same, shared. `Err(AllocError)`: an allocation failed; nothing is changed.
+    /// Returns the same, shared. `Err(AllocError)`: an allocation failed; nothing is changed.
     pub fn copy(&self) -> Result<Self, AllocError>
         ensures { IfOk result (λ again. again ≡ self.now) }
     {
@@ -66,7 +66,7 @@ impl Versions {
         })
     }
 
-    /// These and one more. `Err(AllocError)`: an allocation failed; nothing is changed.
+    /// Returns these and one more. `Err(AllocError)`: an allocation failed; nothing is changed.
     pub fn with(&self, alloc: Global, version: &Rc<Version>) -> Result<Self, AllocError>
         ensures { IfOk result (λ versions. versions ≡ self.now ++ version.now.value ∷ []) }
     {

@@ -6,7 +6,7 @@ ghost use Rattle.tenant_store.specs.Shown as spec;
 use table_schema::refuse::Fault;
 use tenant_core::StoreFault;
 
-/// The fault of a store.
+/// Returns the fault of a store.
 pub fn fault_of(fault: Fault) -> StoreFault
     ensures { result ≡ spec.fault_of fault }
 {

@@ -65,7 +65,7 @@ fn judge<S: Alter>(
     }
 }
 
-/// What a tenant has.
+/// Returns what a tenant has.
 fn load_tenant<S: Alter>(
     alloc: Global,
     tables: &mut Tables<S>,
@@ -92,7 +92,7 @@ fn load_tenant<S: Alter>(
     }
 }
 
-/// What the tenant with the name has, or `None` where there is none.
+/// Returns what the tenant with the name has, or `None` where there is none.
 pub fn load<S: Alter>(
     alloc: Global,
     tables: &mut Tables<S>,
@@ -115,7 +115,7 @@ pub fn load<S: Alter>(
     }
 }
 
-/// The receipt of a row, or `None` where there is no row.
+/// Returns the receipt of a row, or `None` where there is no row.
 fn receipt_in(alloc: Global, row: Option<ReceiptRow>) -> Result<Option<Rc<Receipt>>, StoreFault>
     ensures found { (number : List ℕ) (receipts : Receipts) (rows : List Row) → IsPermutation rows (map row_of_receipt receipts) → list_all is_receipt receipts ≡ true → is_ascending is_before receipts ≡ true
         → AreReceipt (rows_with 0 (Words number) rows) row → IfOk result (λ found. option_map (λ r. r.value) found ≡ receipt_of number receipts) }
@@ -132,7 +132,7 @@ fn receipt_in(alloc: Global, row: Option<ReceiptRow>) -> Result<Option<Rc<Receip
     }
 }
 
-/// The receipt of the request number of a tenant, or `None` where there is none.
+/// Returns the receipt of the request number of a tenant, or `None` where there is none.
 fn receipt_of_tenant<S: Alter>(
     alloc: Global,
     tables: &mut Tables<S>,
@@ -153,7 +153,7 @@ fn receipt_of_tenant<S: Alter>(
     }
 }
 
-/// The row of the tenant with the name, which is there.
+/// Returns the row of the tenant with the name, which is there.
 pub fn tenant_of<S: Alter>(tables: &mut Tables<S>, name: &str) -> Result<Tenant, StoreFault>
     requires live { tables.old.1 ≡ false }
     requires there { HasCleanDisk (state S.Store tables.old.0) → (s : TenantState) × StandsFor (state S.Store tables.old.0).now.trees name.now (Some s) }
@@ -170,7 +170,8 @@ pub fn tenant_of<S: Alter>(tables: &mut Tables<S>, name: &str) -> Result<Tenant,
     }
 }
 
-/// The receipt of the request number of the tenant with the name, or `None` where there is none.
+/// Returns the receipt of the request number of the tenant with the name, or `None` where there is
+/// none.
 pub fn find_receipt<S: Alter>(
     alloc: Global,
     tables: &mut Tables<S>,
@@ -189,7 +190,7 @@ pub fn find_receipt<S: Alter>(
     receipt_of_tenant(alloc, tables, &tenant, number)
 }
 
-/// How many versions a tenant has: as it was remembered, or else by its rows.
+/// Returns how many versions a tenant has: as it was remembered, or else by its rows.
 pub fn count_versions<S: Alter>(
     alloc: Global,
     tables: &mut Tables<S>,

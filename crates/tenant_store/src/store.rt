@@ -57,9 +57,9 @@ impl<S: Alter> Model for Store<S> {
 }
 
 impl<S: Alter + Drop> Store<S> {
-    /// The store of a connection. The tables are made where the database has none, those of schema
-    /// 1 are replaced by those of schema 2, and else they are tested: that they are this service's,
-    /// and of its version. The rows of before and after stand for the same states.
+    /// Returns the store of a connection. The tables are made where the database has none, those of
+    /// schema 1 are replaced by those of schema 2, and else they are tested: that they are this
+    /// service's, and of its version. The rows of before and after stand for the same states.
     ///
     /// `Err((StoreFault::Damaged, store))`: the tables are another's, or of another version.
     /// Nothing is changed. `Err((StoreFault::NoMemory, store))`, `Err((StoreFault::Full, store))`,

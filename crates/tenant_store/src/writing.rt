@@ -20,7 +20,7 @@ use tenant_rows::write_change;
 use tenant_state::{Change, Made};
 use tenant_tables::tables::Tables;
 
-/// How many versions there are after a change, where there were so many.
+/// Returns how many versions there are after a change, where there were so many.
 fn versions_after(versions: u64, change: &Change) -> u64
     ensures { (s : TenantState) → CanMake change.now s → versions ≡ length s.versions → result ≡ length (after change.now s).versions }
 {

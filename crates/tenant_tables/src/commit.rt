@@ -15,7 +15,7 @@ use std::alloc::{AllocError, Global};
 use table_schema::refuse::Fault;
 use table_schema::values::{Exception, Pool, Receipt, State};
 
-/// The writes that set the states of devices, the epoch and the receipt.
+/// Returns the writes that set the states of devices, the epoch and the receipt.
 ///
 /// `Err(AllocError)`: an allocation failed; nothing is changed.
 fn writes_for<'a>(
@@ -43,7 +43,7 @@ fn writes_for<'a>(
     Ok(writes)
 }
 
-/// The writes that set a pool's row, its exceptions, the epoch and the receipt.
+/// Returns the writes that set a pool's row, its exceptions, the epoch and the receipt.
 ///
 /// `Err(AllocError)`: an allocation failed; nothing is changed.
 fn exception_writes_for<'a>(

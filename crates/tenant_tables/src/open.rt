@@ -20,7 +20,7 @@ use table_schema::first::is_first;
 use table_schema::refuse::{Fault, fault_of, refusal};
 use table_schema::schema::layout_of;
 
-/// Whether the database has no table, index or view.
+/// Returns whether the database has no table, index or view.
 fn is_empty<S: Alter>(conn: &Connection<S>) -> bool
     ensures none { IsTrue result ↔ (state S.Store conn.now).now.schema ≡ no_schema }
     ensures live { IsLive (state S.Store conn.now) }
@@ -75,7 +75,7 @@ fn make<S: Alter>(conn: &mut Connection<S>) -> Result<(), Fault>
     }
 }
 
-/// Whether the rows are one row, of 1 and the version.
+/// Returns whether the rows are one row, of 1 and the version.
 ///
 /// `Err(AllocError)`: an allocation failed; nothing is changed.
 fn is_version(rows: &[Row], version: i64) -> Result<bool, AllocError>
@@ -97,7 +97,7 @@ fn is_version(rows: &[Row], version: i64) -> Result<bool, AllocError>
     Ok(one == 1 && found == version)
 }
 
-/// The versions that the tables say.
+/// Returns the versions that the tables say.
 fn versions<S: Alter>(conn: &mut Connection<S>) -> Result<Vec<Row>, Error>
     requires sound { HasCleanDisk (state S.Store conn.old) → IsDatabase (state S.Store conn.old).now }
     requires known { IsKnown (state S.Store conn.old).now.schema }

@@ -16,7 +16,7 @@ use std::alloc::Global;
 use table_schema::refuse::{Fault, fault_of};
 use table_schema::schema::{Layout, is_laid_out, layout_of};
 
-/// Whether the trees of the tables hold rows by rowids.
+/// Returns whether the trees of the tables hold rows by rowids.
 fn are_rows<S: Alter>(store: &S, layout: Layout) -> bool
     ensures sound { IsTrue result → IsClean (S.Store.view store.now) → (S.Store.view store.now).is_broken ≡ false }
     ensures tables { IsTrue result → IsClean (S.Store.view store.now) → AreTablesAt layout (S.Store.view store.now).trees }

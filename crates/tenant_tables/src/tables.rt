@@ -53,8 +53,8 @@ impl<S: Alter> Model for Tables<S> {
     ghost invariant = { λ s. (s.conn.in_transaction ≡ false) × (s.is_latched ≡ false → HasCleanDisk (state S.Store s.conn) → IsReady (state S.Store s.conn)) };
 }
 
-/// The answer of a call, which latches the tables where it is a failure, and only there. Where
-/// memory or the disk was full, a later call may succeed.
+/// Returns the answer of a call, which latches the tables where it is a failure, and only there.
+/// Where memory or the disk was full, a later call may succeed.
 fn latched<T>(is_latched: &mut bool, answer: Result<T, Fault>) -> Result<T, Fault>
     ensures latch { is_latched.new ≡ true ↔ answer ≡ Err Fault.Failed }
     ensures same { result ≡ answer }
@@ -64,10 +64,10 @@ fn latched<T>(is_latched: &mut bool, answer: Result<T, Fault>) -> Result<T, Faul
 }
 
 impl<S: Alter + Drop> Tables<S> {
-    /// The tables of a connection. They are made where the database has none, those of schema 1 are
-    /// replaced, and else they are tested: the whole schema, its version, and that rows stand by
-    /// their rowids. So what the other calls rest on holds of each file that this opens, and no
-    /// caller has to know where it came from.
+    /// Returns the tables of a connection. They are made where the database has none, those of
+    /// schema 1 are replaced, and else they are tested: the whole schema, its version, and that
+    /// rows stand by their rowids. So what the other calls rest on holds of each file that this
+    /// opens, and no caller has to know where it came from.
     ///
     /// `Err((Fault::Damaged, store))`: the tables are another's, or of another version. Nothing is
     /// changed. `Err((Fault::NoMemory, store))`, `Err((Fault::Full, store))`,
@@ -120,8 +120,8 @@ impl<S: Alter> Tables<S> {
         conn
     }
 
-    /// Whether a call has failed for good. Contracts learn of it that the connection is ready where
-    /// none has.
+    /// Returns whether a call has failed for good. Contracts learn of it that the connection is
+    /// ready where none has.
     pub fn is_latched(&self) -> bool
         ensures value { result ≡ self.now.1 }
         ensures ready { self.now.1 ≡ false → HasCleanDisk (state S.Store self.now.0) → IsReady (state S.Store self.now.0) }
@@ -146,7 +146,7 @@ impl<S: Alter> Tables<S> {
         latched(&mut self.is_latched, write_all(&mut self.conn, writes))
     }
 
-    /// The tenant with the name, or `None` where there is none.
+    /// Returns the tenant with the name, or `None` where there is none.
     ///
     /// No row is changed. `Err(Fault::Damaged)`: there are several, or the row is none of this
     /// service's. `Err(Fault::Failed)`: the tables are latched.
@@ -162,7 +162,7 @@ impl<S: Alter> Tables<S> {
         latched(&mut self.is_latched, find(&mut self.conn, name))
     }
 
-    /// The versions of the map of the tenant with the number, which rise strictly.
+    /// Returns the versions of the map of the tenant with the number, which rise strictly.
     ///
     /// No row is changed. `Err(Fault::Damaged)`: a version stands twice, or a row is none of this
     /// service's. `Err(Fault::Failed)`: the tables are latched.
@@ -181,7 +181,8 @@ impl<S: Alter> Tables<S> {
         )
     }
 
-    /// The states of devices of the tenant with the number, by the devices, which rise strictly.
+    /// Returns the states of devices of the tenant with the number, by the devices, which rise
+    /// strictly.
     ///
     /// No row is changed. `Err(Fault::Damaged)`: a device stands twice, or a row is none of this
     /// service's. `Err(Fault::Failed)`: the tables are latched.
@@ -200,7 +201,7 @@ impl<S: Alter> Tables<S> {
         )
     }
 
-    /// The pools of the tenant with the number, by their ids, which rise strictly.
+    /// Returns the pools of the tenant with the number, by their ids, which rise strictly.
     ///
     /// No row is changed. `Err(Fault::Damaged)`: an id stands twice, or a row is none of this
     /// service's. `Err(Fault::Failed)`: the tables are latched.
@@ -219,7 +220,8 @@ impl<S: Alter> Tables<S> {
         )
     }
 
-    /// The exceptions of the pools of the tenant with the number, by pool and place, none twice.
+    /// Returns the exceptions of the pools of the tenant with the number, by pool and place, none
+    /// twice.
     ///
     /// No row is changed. `Err(Fault::Damaged)`: a place of a pool stands twice, or a row is none
     /// of this service's. `Err(Fault::Failed)`: the tables are latched.
@@ -238,7 +240,8 @@ impl<S: Alter> Tables<S> {
         )
     }
 
-    /// The receipt of the request of the tenant with the number, or `None` where there is none.
+    /// Returns the receipt of the request of the tenant with the number, or `None` where there is
+    /// none.
     ///
     /// No row is changed. `Err(Fault::Damaged)`: there are several, or the row is none of this
     /// service's. `Err(Fault::Failed)`: the tables are latched.
@@ -257,8 +260,8 @@ impl<S: Alter> Tables<S> {
         )
     }
 
-    /// The first receipts of the tenant with the number, in the order of their requests' bytes: a
-    /// page, or fewer where there are no more.
+    /// Returns the first receipts of the tenant with the number, in the order of their requests'
+    /// bytes: a page, or fewer where there are no more.
     ///
     /// No row is changed. `Err(Fault::Damaged)`: a request stands twice, or a row is none of this
     /// service's. `Err(Fault::Failed)`: the tables are latched.
@@ -277,8 +280,8 @@ impl<S: Alter> Tables<S> {
         )
     }
 
-    /// The first of its receipts whose requests are above `after`: a page, or fewer where there are
-    /// no more. With the last request of a page it gives the next page.
+    /// Returns the first of its receipts whose requests are above `after`: a page, or fewer where
+    /// there are no more. With the last request of a page it gives the next page.
     ///
     /// No row is changed. `Err(Fault::Damaged)`: a request stands twice, or a row is none of this
     /// service's. `Err(Fault::Failed)`: the tables are latched.

@@ -11,12 +11,13 @@ ghost use Rattle.tenant_watched.specs.Looks.{Looks};
 pub trait Watch {
     ghost looks: { Self → Option (List Bool) } = { λ _. None };
 
-    /// Whether the files are there, and no shorter than they were after the last change. To be
-    /// asked before each change.
+    /// Returns whether the files are there, and no shorter than they were after the last change. To
+    /// be asked before each change.
     fn is_whole(&mut self) -> bool
         ensures { Looks result (looks self.old) (looks self.new) };
 
-    /// Whether the files are there. To be asked after each change; it takes note of their lengths.
+    /// Returns whether the files are there. To be asked after each change; it takes note of their
+    /// lengths.
     fn is_there(&mut self) -> bool
         ensures { Looks result (looks self.old) (looks self.new) };
 }

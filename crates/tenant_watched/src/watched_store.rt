@@ -38,7 +38,7 @@ impl<T: TenantStore, W: Watch> WatchedStore<T, W> {
     ghost use Rattle.std.specs.Prelude.{◌≡◌, ◌||◌, not, true, false};
     ghost use Rattle.tenant_watched.specs.Looks.{Looks};
 
-    /// A store over this one, whose files this looks at. Allocates nothing.
+    /// Returns a store over this one, whose files this looks at. Allocates nothing.
     pub fn over(below: T, watch: W) -> Self
         ensures { result ≡ ((below, watch), false) }
     {
@@ -49,7 +49,7 @@ impl<T: TenantStore, W: Watch> WatchedStore<T, W> {
         }
     }
 
-    /// Whether the files are missed before a change; the store then fails for good.
+    /// Returns whether the files are missed before a change; the store then fails for good.
     fn misses_before(&mut self) -> bool
         ensures below { self.new.0.0 ≡ self.old.0.0 }
         ensures missed { self.new.1 ≡ (self.old.1 || result) }
@@ -60,8 +60,8 @@ impl<T: TenantStore, W: Watch> WatchedStore<T, W> {
         !is_whole
     }
 
-    /// Whether the files are missed after a change that was made, or wasn't; where it was, the
-    /// store then fails for good.
+    /// Returns whether the files are missed after a change that was made, or wasn't; where it was,
+    /// the store then fails for good.
     fn misses_after(&mut self, is_made: bool) -> bool
         ensures below { self.new.0.0 ≡ self.old.0.0 }
         ensures missed { self.new.1 ≡ (self.old.1 || result) }
@@ -78,7 +78,7 @@ impl<T: TenantStore, W: Watch> WatchedStore<T, W> {
 impl<T: TenantStore, W: Watch + Drop> WatchedStore<T, W> {
     ghost use Rattle.std.specs.Prelude.{◌≡◌};
 
-    /// The store below. Allocates nothing.
+    /// Returns the store below. Allocates nothing.
     pub fn into_below(self) -> T
         ensures { result ≡ self.0.0 }
     {

@@ -96,7 +96,7 @@ pub(crate) const TWO_DEVICES: &str = canonical_text!(
     "\titem osd.1 weight 2.00000\n"
 );
 
-/// A text is read, and written as this canonical text.
+/// Returns a text is read, and written as this canonical text.
 pub(crate) fn assert_canonical(
     rt: &impl Abort,
     alloc: Global,

@@ -4,14 +4,15 @@ use crate::jewel::assert_canonical;
 use std::alloc::{AllocError, Global};
 use std::test::Fail;
 
-/// A text of two types and three devices with these buckets and rules.
+/// Returns a text of two types and three devices with these buckets and rules.
 fn text(alloc: Global, rest: &str) -> Result<String, AllocError> {
     format!(in alloc;
         "tunable choose_local_tries 0 tunable choose_local_fallback_tries 0 type 0 osd type 1 host device 0 a device 1 b device 2 c {rest}"
     )
 }
 
-/// The canonical text of such a map: the tunables that aren't named have their legacy values.
+/// Returns the canonical text of such a map: the tunables that aren't named have their legacy
+/// values.
 fn canonical(alloc: Global, buckets: &str, rules: &str) -> Result<String, AllocError> {
     format!(in alloc;
         "# begin crush map

@@ -11,7 +11,7 @@ use std::alloc::Global;
 use std::process::Abort;
 use std::test::Fail;
 
-/// The first fault of a text that may be imported, by line and code.
+/// Returns the first fault of a text that may be imported, by line and code.
 fn fault(alloc: Global, text: &[u8]) -> Result<Option<(usize, TextCode)>, Fail> {
     match read_map(alloc, text)? {
         Ok(_) => Ok(None),
@@ -244,7 +244,7 @@ fn a_wrong_line_of_a_map_is_named(rt: HostRuntime) -> Result<(), Fail> {
     Ok(())
 }
 
-/// A remark of this many bytes.
+/// Returns a remark of this many bytes.
 fn remark(alloc: Global, length: usize) -> Result<Vec<u8>, Fail> {
     Ok(vec![in alloc; b'#'; length]?)
 }
@@ -270,7 +270,8 @@ fn a_stored_text_may_be_longer(rt: HostRuntime) -> Result<(), Fail> {
     Ok(())
 }
 
-/// A text of so many devices, whose last one stands on the line 3 further, and of no bucket.
+/// Returns a text of so many devices, whose last one stands on the line 3 further, and of no
+/// bucket.
 fn devices_alone(alloc: Global, count: u32) -> Result<String, Fail> {
     let mut text = String::new(alloc);
     text.push_str("tunable choose_local_tries 0\ntunable choose_local_fallback_tries 0\n")?;
