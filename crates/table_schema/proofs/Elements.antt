@@ -1,4 +1,4 @@
--- Lists of so many elements, each of which is known.
+-- Lists of 6, 7 or 8 elements, each of which is known.
 use Rattle.std.proofs.Common.{◌≡◌, List, [], ◌∷◌, length, get_or, sym, ◌∙◌, arith}
 
 pub of_6 : {X : Type 0} (xs : List X) (a0 a1 a2 a3 a4 a5 u0 u1 u2 u3 u4 u5 : X) → length xs ≡ 6 → a0 ≡ get_or xs 0 a0 → a0 ≡ u0 → a1 ≡ get_or xs 1 a1 → a1 ≡ u1 → a2 ≡ get_or xs 2 a2 → a2 ≡ u2 → a3 ≡ get_or xs 3 a3 → a3 ≡ u3 → a4 ≡ get_or xs 4 a4 → a4 ≡ u4 → a5 ≡ get_or xs 5 a5 → a5 ≡ u5 → xs ≡ u0 ∷ u1 ∷ u2 ∷ u3 ∷ u4 ∷ u5 ∷ []

@@ -69,7 +69,7 @@ places layout db sound has = record {
   exceptions = tree_is (store_schema layout) db (codes "exceptions") sound has;
 }
 
--- where a file with schema 1 has them
+-- where a file with schema 1 has its tables
 pub record FirstPlaces (db : Trees) : Type 0 where
   pub info : tree_of db (codes "schema_info") ≡ 0
   pub tenants : tree_of db (codes "tenants") ≡ 1

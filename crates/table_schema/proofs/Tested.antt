@@ -1,4 +1,4 @@
--- The one test that stands in the schema, by its nodes.
+-- The one test in the schema, by its nodes.
 use Rattle.std.proofs.Common.{◌≡◌, ℕ, zero, suc, pos, List, [], ◌∷◌, length, slice_index_or, slice_get, unwrap_or, None, sym, ap, ◌∙◌}
 use Rattle.std.proofs.lemmas.Option.{unwrap_or-slice_get}
 use Rattle.sqlite_value.specs.declared.value.Value.TheVariants.{Null, Int}

@@ -19,8 +19,8 @@ use Rattle.table_schema.specs.Layout.{tenants_table, maps_table, devices_table, 
 -- A row is its rowid and then its columns, so that the first column has place 1. An INTEGER PRIMARY
 -- KEY is the rowid.
 
--- The tree of the table with the name, as sqlite_schema lists it: in the row with rowid n is what
--- has tree n - 1.
+-- The tree of the table with the name, as sqlite_schema lists it: the row with rowid n describes
+-- what has tree n - 1.
 abbrev pub tree_of : Trees → List ℕ → ℕ
 tree_of db name =
     unwrap_or (option_map (λ row. number_in (column row 0) - 1) (find (λ row. equal Binary (column row 2) (Words name)) (filter is_table_row (db catalog_tree)))) 0
@@ -37,7 +37,7 @@ rows_with place value rows = filter (λ row. equal Binary (column row place) val
 abbrev pub tenants_of : Trees → List ℕ → List Row
 tenants_of db name = rows_with 2 (Words name) (rows_in tenants_table db)
 
--- the one row of tenants with the name has this number and this epoch
+-- one row of tenants has the name, with the number `id` and the epoch `epoch`
 pub record IsTenant (db : Trees) (name : List ℕ) (id : ℤ) (epoch : ℕ) : Type 0 where
   pub row : Row
   pub one : tenants_of db name ≡ row ∷ []
@@ -86,7 +86,7 @@ pub record KeepsRowsOf (name : List ℕ) (old new : Trees) : Type 0 where
   pub tables : (row : Row) → Has (tenants_of old name) row
       → AllByRecursion (λ table. rows_with 1 (column row 0) (rows_in table new) ≡ rows_with 1 (column row 0) (rows_in table old)) tables_of_tenants
 
--- The name has come to this, and each other name keeps its rows.
+-- `Own` holds of the new trees, and the rows of each other name are unchanged.
 pub record Turns (name : List ℕ) (Own : Trees → Type 0) (old new : Trees) : Type 0 where
   pub own : Own new
   pub others : (other : List ℕ) → other ≢ name → KeepsRowsOf other old new

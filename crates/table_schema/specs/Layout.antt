@@ -85,7 +85,7 @@ tenants_table = record {
   is_counted = true;
 }
 
--- what SQLite keeps of AUTOINCREMENT
+-- SQLite's own table of the counts for AUTOINCREMENT
 abbrev pub sequence_table : Table
 sequence_table = record {
   name = codes "sqlite_sequence";
@@ -102,7 +102,7 @@ sequence_table = record {
   is_counted = false;
 }
 
--- the rows of a tenant go with it
+-- the rows of a tenant are deleted with it
 abbrev pub to_tenant : Reference
 to_tenant = record {
   columns = 1 ∷ [];
@@ -267,15 +267,15 @@ receipts_table = record {
   is_counted = false;
 }
 
--- the table in this tree
+-- the table in the tree `tree`
 abbrev pub placed : ℕ → Table → Table
 placed tree table = record table { tree = tree }
 
 -- ---- schema 2
 
--- Trees are numbered as the rows of sqlite_schema. In a file that had schema 1 those behind devices
--- stand further on by 3, where its table of pools and the two indexes of it were dropped, until
--- VACUUM writes it anew.
+-- Trees are numbered as the rows of sqlite_schema. In a file that had schema 1 those after devices
+-- have numbers that are greater by 3, since its table of pools and the two indexes of that table
+-- were dropped, until VACUUM writes the file anew.
 abbrev pub receipts_tree : Layout → ℕ
 receipts_tree Compact = 8
 receipts_tree Gapped = 11
@@ -288,7 +288,7 @@ abbrev pub exceptions_tree : Layout → ℕ
 exceptions_tree Compact = 13
 exceptions_tree Gapped = 16
 
--- the index that SQLite makes for a key of the table, in the tree so many behind it
+-- the index that SQLite makes for a key of the table, in the tree that is `behind` trees after it
 abbrev pub index : Table → ℕ → List ℕ → ℕ → Index
 index table at key behind = automatic table at key (table.tree + behind)
 
@@ -324,7 +324,7 @@ tables_of_tenants = maps_table ∷ devices_table ∷ pools_table ∷ receipts_ta
 
 -- ---- schema 1
 
--- as its tables were made, in their order
+-- the schema after its first five tables were made, in their order
 abbrev pub schema_with_devices : Schema
 schema_with_devices = created (created (created (created (created no_schema info_table) tenants_table) sequence_table) maps_table) devices_table
 

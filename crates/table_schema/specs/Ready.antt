@@ -1,4 +1,4 @@
--- The connection between transactions, and what a call leaves of it.
+-- The connection between transactions, and how a call leaves it.
 use Rattle.std.specs.Prelude.{◌≡◌, ◌⊎◌, IsTrue}
 use Rattle.sqlite_trees.specs.Tree.{Trees}
 use Rattle.sqlite.specs.Effect.{Database, IsDatabase}
@@ -12,7 +12,7 @@ pub record Keeps (old new : Shown) : Type 0 where
   pub now : IsTrue new.is_open → new.now ≡ old.committed
   pub committed : IsTrue new.is_open → new.committed ≡ old.committed
 
--- The connection shows this database, and has committed it.
+-- The connection shows `db`, and has committed it.
 pub record Commits (old new : Shown) (db : Database) : Type 0 where
   pub was_open : IsTrue old.is_open
   pub is_open : IsTrue new.is_open
@@ -32,7 +32,7 @@ pub record IsReady (s : Shown) : Type 0 where
   pub settled : s.now ≡ s.committed
 
 -- The call was refused: the connection is ready as before, with the same rows, which a crash
--- leaves alone.
+-- doesn't change.
 pub record Refuses (old new : Shown) : Type 0 where
   pub ready : IsReady new
   pub same : new.now ≡ old.now

@@ -27,7 +27,7 @@ pub const DEVICES: [(&str, Kind); 4] = [
     ("up", Kind::Integer),
 ];
 
-/// Those of `pools` of schema 1.
+/// The columns of `pools` of schema 1.
 pub const FIRST_POOLS: [(&str, Kind); 9] = [
     ("tenant", Kind::Integer),
     ("id", Kind::Integer),
@@ -40,7 +40,7 @@ pub const FIRST_POOLS: [(&str, Kind); 9] = [
     ("hashpspool", Kind::Integer),
 ];
 
-/// Those of `pools_2`.
+/// The columns of `pools_2`.
 pub const POOLS: [(&str, Kind); 10] = [
     ("tenant", Kind::Integer),
     ("id", Kind::Integer),
@@ -72,7 +72,8 @@ pub const RECEIPTS: [(&str, Kind); 6] = [
     ("reply", Kind::Text),
 ];
 
-/// Returns whether the columns of a STRICT table have these names and kinds, and each is NOT NULL.
+/// Returns whether `columns` have the names and kinds of `expected`, in a STRICT table, and each is
+/// NOT NULL.
 pub fn are_needed(columns: &[Column], expected: &[(&str, Kind)]) -> bool
     ensures { IsTrue result ↔ columns.now ≡ map (λ row. needed row.0.now row.1) expected.now }
 {

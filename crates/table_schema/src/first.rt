@@ -9,7 +9,7 @@ use crate::tables::{
 };
 use sqlite_schema::schema::{Index, Schema, Table};
 
-/// Returns whether the tables are those of schema 1.
+/// Returns whether `tables` are those of schema 1.
 fn are_first_tables(tables: &[Table]) -> bool
     ensures { IsTrue result ↔ tables.now ≡ first_schema.tables }
 {
@@ -27,7 +27,7 @@ fn are_first_tables(tables: &[Table]) -> bool
     }
 }
 
-/// Returns whether the indexes are those of schema 1.
+/// Returns whether `indexes` are those of schema 1.
 fn are_first_indexes(indexes: &[Index]) -> bool
     ensures { IsTrue result ↔ indexes.now ≡ first_schema.indexes }
 {

@@ -1,4 +1,4 @@
-//! The one test that stands in the schema: that a column is 1.
+//! The one test in the schema: a column is 1.
 
 ghost use Rattle.std.specs.Prelude.{◌≡◌, ◌≢◌, ◌↔◌, ℕ, pos, [], ◌∷◌, slice_index_or, None, IfSome, IsTrue};
 ghost use Rattle.sqlite_value.specs.declared.value.Value.TheVariants.{Null, Int};
@@ -14,7 +14,7 @@ use sqlite_schema::code::{Op, Terms};
 use sqlite_sql::ops::{BinaryOp, CompareOp};
 use sqlite_value::keys::Collation;
 
-/// Returns whether the node is the first column of a row.
+/// Returns whether the node at `at` is the first column of a row.
 pub fn is_first_column(nodes: &Items<Op>, at: usize) -> bool
     ensures { IsTrue result ↔ slice_index_or nodes.now at (Op.Literal Null) ≡ Op.Column 1 0 }
 {
@@ -24,7 +24,7 @@ pub fn is_first_column(nodes: &Items<Op>, at: usize) -> bool
     }
 }
 
-/// Returns whether the node is the number 1.
+/// Returns whether the node at `at` is the number 1.
 pub fn is_number_one(nodes: &Items<Op>, at: usize) -> bool
     ensures { IsTrue result ↔ slice_index_or nodes.now at (Op.Literal Null) ≡ Op.Literal (Int (pos 1)) }
 {
@@ -34,7 +34,7 @@ pub fn is_number_one(nodes: &Items<Op>, at: usize) -> bool
     }
 }
 
-/// Returns the two sides, where the node tests that they are equal.
+/// Returns the two sides of the node at `at` where it tests that they are equal, and else `None`.
 pub fn sides(nodes: &Items<Op>, at: usize) -> Option<(usize, usize)>
     ensures equal { IfSome result (λ it. slice_index_or nodes.now at (Op.Literal Null) ≡ Op.Binary (Compare Eq Binary) it.0 it.1) }
     ensures other { result ≡ None → (a b : ℕ) → slice_index_or nodes.now at (Op.Literal Null) ≢ Op.Binary (Compare Eq Binary) a b }
@@ -47,7 +47,7 @@ pub fn sides(nodes: &Items<Op>, at: usize) -> Option<(usize, usize)>
     }
 }
 
-/// Returns whether the node is the test that the first column of a row is 1.
+/// Returns whether the node at `root` is the test that the first column of a row is 1.
 pub fn is_test(nodes: &Items<Op>, root: usize) -> bool
     ensures { IsTrue result ↔ term_in nodes.now root ≡ op2 (Compare Eq Binary) (col 1 0) (lit (Int (pos 1))) }
 {
@@ -57,7 +57,7 @@ pub fn is_test(nodes: &Items<Op>, root: usize) -> bool
     is_first_column(nodes, first) && is_number_one(nodes, second)
 }
 
-/// Returns whether the terms are that one test.
+/// Returns whether `terms` has one term: the test that the first column of a row is 1.
 pub fn is_one_test(terms: &Terms) -> bool
     ensures { IsTrue result ↔ terms.now ≡ op2 (Compare Eq Binary) (col 1 0) (lit (Int (pos 1))) ∷ [] }
 {

@@ -13,21 +13,21 @@ use sqlite_schema::schema::{Action, Column, Index, Kind, Reference, Stamps};
 use sqlite_value::keys::{Collation, Order};
 use sqlite_value::value::Bytes;
 
-/// Returns whether the name is this text.
+/// Returns whether `name` has the bytes of `text`.
 pub fn is_name(name: &Bytes, text: &str) -> bool
     ensures { IsTrue result ↔ name.now ≡ text.now }
 {
     name.as_slice() == text.as_bytes()
 }
 
-/// Returns whether the places are these.
+/// Returns whether `places` are those in `expected`, in the same order.
 pub fn are_places(places: &Items<usize>, expected: &[usize]) -> bool
     ensures { IsTrue result ↔ places.now ≡ expected.now }
 {
     places.as_slice() == expected
 }
 
-/// Returns whether the column of a STRICT table has this name and this kind, and is NOT NULL.
+/// Returns whether `column` has `name` and `kind`, in a STRICT table, and is NOT NULL.
 pub fn is_needed(column: &Column, name: &str, kind: Kind) -> bool
     ensures { IsTrue result ↔ column.now ≡ needed name.now kind }
 {
@@ -39,7 +39,7 @@ pub fn is_needed(column: &Column, name: &str, kind: Kind) -> bool
         && column.collation == Collation::Binary
 }
 
-/// Returns whether the column has this name and no type.
+/// Returns whether `column` has `name` and no type.
 pub fn is_loose(column: &Column, name: &str) -> bool
     ensures { IsTrue result ↔ column.now ≡ loose name.now }
 {
@@ -51,7 +51,7 @@ pub fn is_loose(column: &Column, name: &str) -> bool
         && column.collation == Collation::Binary
 }
 
-/// Returns whether the reference is that of a tenant's rows.
+/// Returns whether `reference` is the one that a tenant's rows have.
 pub fn is_to_tenant(reference: &Reference) -> bool
     ensures { IsTrue result ↔ reference.now ≡ to_tenant }
 {
@@ -66,14 +66,14 @@ pub fn is_to_tenant(reference: &Reference) -> bool
         && !reference.is_deferred
 }
 
-/// Returns whether there is no term.
+/// Returns whether `terms` has no term.
 pub fn are_no_terms(terms: &Terms) -> bool
     ensures { IsTrue result ↔ terms.now ≡ [] }
 {
     terms.roots.is_empty()
 }
 
-/// Returns whether the one key is that of the places.
+/// Returns whether `keys` has one key, of the columns at `places`.
 pub fn is_one_key(keys: &Items<Items<usize>>, places: &[usize]) -> bool
     ensures { IsTrue result ↔ keys.now ≡ places.now ∷ [] }
 {
@@ -100,7 +100,7 @@ pub fn are_no_stamps(stamps: &Stamps) -> bool
     stamps.places.is_empty() && are_no_terms(&stamps.terms) && stamps.formats.is_empty()
 }
 
-/// Returns whether the references are the one of a tenant's rows.
+/// Returns whether `references` has one reference, the one that a tenant's rows have.
 pub fn is_one_reference(references: &Items<Reference>) -> bool
     ensures { IsTrue result ↔ references.now ≡ to_tenant ∷ [] }
 {
@@ -110,8 +110,8 @@ pub fn is_one_reference(references: &Items<Reference>) -> bool
     }
 }
 
-/// Returns whether the index is the automatic one of a table's key, in the tree so many behind the
-/// table's.
+/// Returns whether `index` is the one that SQLite makes for a table's key, in the tree that is
+/// `behind` trees after the table's.
 pub fn is_automatic(index: &Index, name: &str, table: u32, places: &[usize], behind: u32) -> bool
     requires { table + behind < 65536 }
     ensures { IsTrue result ↔ index.now ≡ record { name = name.now; tree = table + behind; table = table; columns = places.now; order = plain; is_unique = true } }

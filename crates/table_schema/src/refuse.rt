@@ -14,7 +14,7 @@ pub enum Fault {
     NoMemory,
     /// The disk is full, or the numbers of rows are used up.
     Full,
-    /// The rows are none that this service writes.
+    /// The tables or their rows are none that this service writes.
     Damaged,
     /// The connection must not be used any more.
     Failed,
@@ -31,7 +31,7 @@ impl From<AllocError> for Fault {
     }
 }
 
-/// Returns a fault of the database. It never says anything of the rows.
+/// Returns the fault that is reported for `error`. It is never `Fault::Damaged`.
 pub fn fault_of(error: Error) -> Fault
     ensures memory { result ≡ Fault.NoMemory ↔ error ≡ Error.SqliteFailure ErrorCode.OutOfMemory }
     ensures full { result ≡ Fault.Full ↔ (error ≡ Error.SqliteFailure ErrorCode.DiskFull) ⊎ (error ≡ Error.SqliteFailure ErrorCode.NoRowid) }
@@ -44,9 +44,10 @@ pub fn fault_of(error: Error) -> Fault
     }
 }
 
-/// Want of memory or of space, where the connection is still open, and else a failure.
+/// Returns the fault of `error` where the connection is still open, and else `Fault::Failed`.
 ///
-/// The statement is prepared when the tables are opened, so that it is there where memory is short.
+/// The statement was prepared when the tables were opened, so that it is there where memory is
+/// short.
 pub fn refusal<S: Alter>(conn: &mut Connection<S>, error: Error) -> Fault
     ensures open { HasCleanDisk (state S.Store conn.new) → result ≢ Fault.Failed → IsUnchanged (state S.Store conn.old) (state S.Store conn.new) }
     ensures rows { result ≢ Fault.Damaged }

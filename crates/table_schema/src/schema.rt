@@ -12,9 +12,9 @@ use sqlite_schema::schema::{Index, Schema, Table};
 /// Where a file has the trees of schema 2.
 #[derive(Clone, Copy, Debug, PartialEq, Eq)]
 pub enum Layout {
-    /// One behind the other: it was made with schema 2, or VACUUM wrote it anew.
+    /// The trees follow one another: the file was made with schema 2, or VACUUM wrote it anew.
     Compact,
-    /// With a gap where the pools of schema 1 were: it had schema 1.
+    /// There is a gap where the pools of schema 1 were: the file had schema 1.
     Gapped,
 }
 
@@ -53,7 +53,7 @@ impl Layout {
     }
 }
 
-/// Returns whether the tables are those of schema 2 in this layout.
+/// Returns whether `tables` are those of schema 2 in `layout`.
 fn are_tables(tables: &[Table], layout: Layout) -> bool
     ensures { IsTrue result ↔ tables.now ≡ (store_schema layout).tables }
 {
@@ -95,7 +95,7 @@ fn are_tables(tables: &[Table], layout: Layout) -> bool
     }
 }
 
-/// Returns whether the indexes are those of schema 2 in this layout.
+/// Returns whether `indexes` are those of schema 2 in `layout`.
 fn are_indexes(indexes: &[Index], layout: Layout) -> bool
     ensures { IsTrue result ↔ indexes.now ≡ (store_schema layout).indexes }
 {
@@ -134,7 +134,7 @@ fn are_indexes(indexes: &[Index], layout: Layout) -> bool
     }
 }
 
-/// Returns whether the schema is schema 2 in this layout.
+/// Returns whether the schema is schema 2 in `layout`.
 pub fn is_laid_out(schema: &Schema, layout: Layout) -> bool
     ensures { IsTrue result ↔ schema.now ≡ store_schema layout }
 {

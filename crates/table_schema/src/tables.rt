@@ -15,8 +15,8 @@ use crate::parts::{
 use sqlite_items::Items;
 use sqlite_schema::schema::Table;
 
-/// Returns whether the table is one of tenants' rows with this name, this tree and this primary
-/// key, but for its columns and its keys.
+/// Returns whether `table` is one of tenants' rows with `name`, `tree` and the primary key
+/// `primary`. Its columns and its UNIQUE keys are not tested.
 fn is_child(table: &Table, name: &str, tree: u32, primary: &[usize]) -> bool
     ensures { IsTrue result ↔ table.now ≡ child name.now tree table.now.columns primary.now table.now.uniques table.now.orders }
 {
@@ -51,7 +51,7 @@ pub fn is_devices(table: &Table) -> bool
         && is_one_plain(&table.orders)
 }
 
-/// Returns whether the table is `receipts`.
+/// Returns whether the table is `receipts` in `tree`.
 pub fn is_receipts(table: &Table, tree: u32) -> bool
     ensures { IsTrue result ↔ table.now ≡ placed tree receipts_table }
 {
@@ -61,7 +61,7 @@ pub fn is_receipts(table: &Table, tree: u32) -> bool
         && is_one_plain(&table.orders)
 }
 
-/// Returns whether the keys are those of pools.
+/// Returns whether `keys` are those of pools.
 fn are_keys_of_pools(keys: &Items<Items<usize>>) -> bool
     ensures { IsTrue result ↔ keys.now ≡ pools_table.uniques }
 {
@@ -81,7 +81,7 @@ pub fn is_first_pools(table: &Table) -> bool
         && are_two_plain(&table.orders)
 }
 
-/// Returns whether the table is `pools_2`.
+/// Returns whether the table is `pools_2` in `tree`.
 pub fn is_pools(table: &Table, tree: u32) -> bool
     ensures { IsTrue result ↔ table.now ≡ placed tree pools_table }
 {
@@ -91,7 +91,7 @@ pub fn is_pools(table: &Table, tree: u32) -> bool
         && are_two_plain(&table.orders)
 }
 
-/// Returns whether the table is `exceptions`.
+/// Returns whether the table is `exceptions` in `tree`.
 pub fn are_exceptions(table: &Table, tree: u32) -> bool
     ensures { IsTrue result ↔ table.now ≡ placed tree exceptions_table }
 {
@@ -140,7 +140,7 @@ pub fn is_tenants(table: &Table) -> bool
         && table.is_counted
 }
 
-/// Returns whether the table is SQLite's own of counts.
+/// Returns whether the table is SQLite's own table of counts.
 pub fn are_counts(table: &Table) -> bool
     ensures { IsTrue result ↔ table.now ≡ placed 3 sequence_table }
 {
