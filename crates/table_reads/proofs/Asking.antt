@@ -39,7 +39,7 @@ remains old new ready same = record {
   same = same.0.now_is;
 }
 
--- so does what goes back to the last commit, while the connection is open
+-- going back to the last commit does so too, while the connection is open
 pub remains_after : (old mid new : State) → IsReady old → Rests old mid → IsUnchanged mid new → Remains old new
 remains_after old mid new ready (inl same) after = let first = remains old mid ready same in let last = remains mid new first.ready after in record { ready = last.ready; same = last.same ∙ first.same }
 remains_after old mid new ready (inr kept) after =
@@ -98,7 +98,7 @@ names db name rows (Ok (Some t)) same some none = one_left (tenants_of db name) 
     one_left (r ∷ []) same = let e = one_permutation _ _ same in (r, refl, (let h = e in cc), (let h = e in cc))
     one_left (r ∷ s ∷ rows) same = absurd (omega (arith, length_permutation _ _ same))
 
--- rows that are no head say that there is no such tenant, and some
+-- where there are rows, but not one head alone, they fit neither a tenant nor its absence
 pub names_none : (db : Trees) (name : List ℕ) (rows : List Row) → IsPermutation (map head_of (tenants_of db name)) rows → rows ≢ [] → ((id epoch : ℤ) → rows ≢ (Int id ∷ Int epoch ∷ []) ∷ [])
     → (o : Option Tenant) → Names db name o → ⊥
 names_none db name rows same some other None h = some (none_of rows (subst (λ l. IsPermutation (map head_of l) rows) h same))

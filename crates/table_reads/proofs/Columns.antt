@@ -1,4 +1,4 @@
--- Rows of so many columns.
+-- Rows of five columns and of nine.
 use Rattle.std.proofs.Common.{◌≡◌, [], ◌∷◌, length, refl, arith}
 use Rattle.sqlite_value.specs.Order.{Row, column}
 

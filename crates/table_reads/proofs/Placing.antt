@@ -113,7 +113,7 @@ in_two_pools m n p q other = (λ low. rw (below_int m n low) refl, λ less. back
     back_from Equal e less = absurd (other (subst (λ o. MatchOrdering o (m <ℤ n) (m ≡ n) (n <ℤ m)) (sym (value_cmp-Int m n) ∙ e) (int_ranks m n)))
     back_from Greater e less = absurd cc
 
--- what comes before something comes before what that comes before
+-- the order is transitive
 pub precedes_then : (a b c : Row) → Precedes a b → Precedes b c → Precedes a c
 precedes_then a b c p q = go (value_cmp (column a 0) (column b 0)) (value_cmp (column b 0) (column c 0)) refl refl p q
   where

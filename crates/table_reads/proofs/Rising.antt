@@ -38,7 +38,7 @@ pub below_text_back : (s t : List ℕ) → value_cmp (Words s) (Words t) ≡ Les
 below_text_back s t less = ap is_lt (sym (value_cmp-Text s t) ∙ less)
 
 module _ {X : Type 0} (R : X → X → Type 0) where
-  -- each two neighbours among the first so many
+  -- `R` holds of each two neighbours among the first `n` elements
   abbrev pub RisesTo : ℕ → List X → Type 0
   RisesTo n xs = (i : ℕ) (d e : X) → suc i < n → suc i < length xs → R (get_or xs i d) (get_or xs (suc i) e)
 

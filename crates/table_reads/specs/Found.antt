@@ -1,4 +1,4 @@
--- What reads of the tables find.
+-- What is found where the tables are read.
 use Rattle.std.specs.Prelude.{◌≡◌, ℕ, ℤ, List, [], ◌∷◌, ◌++◌, ◌⊎◌, ◌≤◌, length, filter, false, Option, Some, None, IsPermutation, IsUtf8, string_bytes}
 use Rattle.std.specs.List.{AllByRecursion}
 use Rattle.std.specs.Ordering.{is_gt, ordering_then}
@@ -20,7 +20,7 @@ use Rattle.table_schema.specs.declared.values.State.{State}
 abbrev pub head_of : Row → Row
 head_of row = column row 0 ∷ column row 3 ∷ []
 
--- The one row of tenants with the name has this number and this epoch, or there is none.
+-- One row of tenants has the name, with the tenant's number and epoch, or no row has it.
 abbrev pub Names : Trees → List ℕ → Option Tenant → Type 0
 Names db name None = IsAbsent db name
 Names db name (Some tenant) =
@@ -32,12 +32,12 @@ Names db name (Some tenant) =
 abbrev pub IsRising : List Row → Type 0
 IsRising = IsAscending (λ a b. value_cmp (column a 0) (column b 0) ≡ Less)
 
--- the list has each of these rows once, in an order
+-- the list has each row of `all` once, in the order `Before`
 pub record ListsBy (Before : Row → Row → Type 0) (all list : List Row) : Type 0 where
   pub same : IsPermutation all list
   pub rising : IsAscending Before list
 
--- in the order of the keys
+-- the same in the order of the keys
 abbrev pub Lists : List Row → List Row → Type 0
 Lists = ListsBy (λ a b. value_cmp (column a 0) (column b 0) ≡ Less)
 
@@ -101,12 +101,13 @@ IsReceiptRow row =
 abbrev pub receipts_with : Trees → ℤ → List ℕ → List Row
 receipts_with db id request = rows_with 0 (Words request) (of_tenant receipts_table id db)
 
--- the rows are this receipt, or none
+-- the rows are the row of the receipt, or none
 abbrev pub AreReceipt : List Row → Option ReceiptRow → Type 0
 AreReceipt rows None = rows ≡ []
 AreReceipt rows (Some receipt) = rows ≡ receipt_values receipt ∷ []
 
--- The rows are these in some order, and in this order where no two are alike in it.
+-- The rows are those of `all` in some order, and in the order `Before` where no two are alike in
+-- it.
 pub record AreOrderedBy (Before : Row → Row → Type 0) (all rows : List Row) : Type 0 where
   pub same : IsPermutation all rows
   pub in_order : (list : List Row) → ListsBy Before all list → rows ≡ list
@@ -118,7 +119,7 @@ AreOrdered = AreOrderedBy (λ a b. value_cmp (column a 0) (column b 0) ≡ Less)
 abbrev pub rows_above : List ℕ → List Row → List Row
 rows_above after rows = filter (λ row. is_gt (value_cmp (column row 0) (Words after))) rows
 
--- The page is the first so many of these rows in the order of the keys, or all of them.
+-- The page is the first `most` rows of `all` in the order of the keys, or all of them.
 pub record Begins (most : ℕ) (all page : List Row) : Type 0 where
   pub rest : List Row
   pub same : IsPermutation all (page ++ rest)
@@ -126,8 +127,8 @@ pub record Begins (most : ℕ) (all page : List Row) : Type 0 where
   pub above : AllByRecursion (λ row. AllByRecursion (λ later. value_cmp (column row 0) (column later 0) ≡ Less) rest) page
   pub whole : (rest ≡ []) ⊎ (length page ≡ most)
 
--- The rows are the first so many of these in an order of the keys, which is the strict one where no
--- key stands twice.
+-- The rows are the first `most` rows of `all` in an order of the keys, or all of them. The order is
+-- the strict one where no key occurs twice.
 pub record AreFirst (most : ℕ) (all rows : List Row) : Type 0 where
   pub rest : List Row
   pub short : length rows ≤ most
@@ -136,7 +137,8 @@ pub record AreFirst (most : ℕ) (all rows : List Row) : Type 0 where
   pub in_order : (list : List Row) → Lists all list → rows ++ rest ≡ list
   pub whole : (rest ≡ []) ⊎ (length rows ≡ most)
 
--- The rows rise, and all of them are on the page, or all but the last of them, which are 16.
+-- The rows rise. All of them are on the page, and are at most 16, or all but the last of them are,
+-- and are at least 16.
 pub record IsPageOf (rows page : List Row) : Type 0 where
   pub rising : IsRising rows
   pub split : (rows ≡ page) × (length page ≤ 16) ⊎ ((last : Row) × (rows ≡ page ++ last ∷ []) × (16 ≤ length page))

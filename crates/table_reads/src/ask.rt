@@ -14,7 +14,7 @@ use sqlite::types::ValueRef;
 use sqlite::{Alter, Connection, Row};
 use table_schema::refuse::{Fault, refusal};
 
-/// Returns the rows that a query answers.
+/// Runs the query `sql` with the values `params`, and returns the rows that it answers.
 ///
 /// `Err(Fault::NoMemory)`: nothing is changed.
 pub fn ask<S: Alter>(

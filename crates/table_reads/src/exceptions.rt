@@ -19,7 +19,7 @@ use std::alloc::Global;
 use table_schema::refuse::Fault;
 use table_schema::values::Exception;
 
-/// Returns the exceptions of the tenant's pools, by pool and place.
+/// Reads the rows of exceptions of the tenant's pools, by pool and place.
 fn exception_rows<S: Alter>(conn: &mut Connection<S>, id: i64) -> Result<Vec<Row>, Fault>
     requires autocommit { conn.old.in_transaction ≡ false }
     requires ready { HasCleanDisk (state S.Store conn.old) → IsReady (state S.Store conn.old) }
@@ -36,7 +36,7 @@ fn exception_rows<S: Alter>(conn: &mut Connection<S>, id: i64) -> Result<Vec<Row
     )
 }
 
-/// Returns whether an exception comes before another, by its pool and its place there.
+/// Returns whether `first` comes before `second`, by its pool and its place there.
 fn comes_before(first: &Exception, second: &Exception) -> bool
     ensures { IsTrue result ↔ Precedes (exception_row first.now) (exception_row second.now) }
 {
@@ -47,7 +47,8 @@ fn comes_before(first: &Exception, second: &Exception) -> bool
     }
 }
 
-/// Returns whether the exceptions stand by pool and place, none twice.
+/// Returns whether the exceptions are ordered by pool and place, and no place of a pool occurs
+/// twice.
 fn are_placed(list: &[Exception]) -> bool
     ensures { IsTrue result ↔ IsAscending Precedes (map exception_row list.now) }
 {
@@ -59,9 +60,10 @@ fn are_placed(list: &[Exception]) -> bool
     true
 }
 
-/// Returns the exceptions in the rows.
+/// Returns the exceptions that `rows` have, in the same order.
 ///
-/// `Err(Fault::Damaged)`: a place of a pool stands twice, or a row is none of this service's.
+/// `Err(Fault::Damaged)`: a place of a pool occurs twice, or a row is none that this service
+/// writes.
 fn exceptions_in(alloc: Global, rows: &[Row]) -> Result<Vec<Exception>, Fault>
     ensures list { IfOk result (λ list. (rows.now ≡ map exception_row list.items) × IsAscending Precedes rows.now) }
     ensures damaged { result ≡ Err Fault.Damaged → AllByRecursion IsExceptionRow rows.now → ¬ IsAscending Precedes rows.now }
@@ -74,10 +76,10 @@ fn exceptions_in(alloc: Global, rows: &[Row]) -> Result<Vec<Exception>, Fault>
     }
 }
 
-/// Returns the exceptions of the tenant's pools, by pool and place, none twice.
+/// Reads the exceptions of the tenant's pools, by pool and place. No place of a pool occurs twice.
 ///
-/// `Err(Fault::Damaged)`: a place of a pool stands twice, or a row is none of this service's.
-/// `Err(Fault::NoMemory)`: nothing is changed.
+/// `Err(Fault::Damaged)`: a place of a pool occurs twice, or a row is none that this service
+/// writes. `Err(Fault::NoMemory)`: nothing is changed.
 pub fn exceptions_of<S: Alter>(
     alloc: Global,
     conn: &mut Connection<S>,

@@ -20,7 +20,7 @@ pub struct Tenant {
     pub epoch: i64,
 }
 
-/// Returns the numbers and the epochs of the tenants with the name.
+/// Reads the numbers and the epochs of the tenants with the name.
 fn heads<S: Alter>(conn: &mut Connection<S>, name: &str) -> Result<Vec<Row>, Fault>
     requires autocommit { conn.old.in_transaction ≡ false }
     requires ready { HasCleanDisk (state S.Store conn.old) → IsReady (state S.Store conn.old) }
@@ -37,7 +37,9 @@ fn heads<S: Alter>(conn: &mut Connection<S>, name: &str) -> Result<Vec<Row>, Fau
     )
 }
 
-/// Returns the tenant of the rows, which are its number and its epoch.
+/// Returns the tenant whose number and epoch are the one row, or `None` where there is no row.
+///
+/// `Err(Fault::Damaged)`: there are several rows, or the row is not two integers.
 fn tenant_in(rows: &[Row]) -> Result<Option<Tenant>, Fault>
     ensures some { IfOk result (λ o. IfSome o (λ t. rows.now ≡ (Int t.id ∷ Int t.epoch ∷ []) ∷ [])) }
     ensures none { IfOk result (λ o. o ≡ None → rows.now ≡ []) }
@@ -68,9 +70,9 @@ fn tenant_in(rows: &[Row]) -> Result<Option<Tenant>, Fault>
     }
 }
 
-/// Returns the tenant with the name, or `None` where there is none.
+/// Reads the tenant with the name, or `None` where there is none.
 ///
-/// `Err(Fault::Damaged)`: there are several, or the row is none of this service's.
+/// `Err(Fault::Damaged)`: there are several, or the row is none that this service writes.
 /// `Err(Fault::NoMemory)`: nothing is changed.
 pub fn find<S: Alter>(conn: &mut Connection<S>, name: &str) -> Result<Option<Tenant>, Fault>
     requires autocommit { conn.old.in_transaction ≡ false }

@@ -19,7 +19,7 @@ use std::alloc::Global;
 use table_schema::refuse::Fault;
 use table_schema::values::State;
 
-/// Returns the versions and the texts of the tenant's maps, by version.
+/// Reads the versions and the texts of the tenant's maps, by version.
 fn version_rows<S: Alter>(conn: &mut Connection<S>, id: i64) -> Result<Vec<Row>, Fault>
     requires autocommit { conn.old.in_transaction ≡ false }
     requires ready { HasCleanDisk (state S.Store conn.old) → IsReady (state S.Store conn.old) }
@@ -36,9 +36,9 @@ fn version_rows<S: Alter>(conn: &mut Connection<S>, id: i64) -> Result<Vec<Row>,
     )
 }
 
-/// Returns the versions of the tenant's map, which rise strictly.
+/// Reads the versions of the tenant's map, which rise strictly.
 ///
-/// `Err(Fault::Damaged)`: a version stands twice, or a row is none of this service's.
+/// `Err(Fault::Damaged)`: a version occurs twice, or a row is none that this service writes.
 /// `Err(Fault::NoMemory)`: nothing is changed.
 pub fn versions_of<S: Alter>(
     alloc: Global,
@@ -58,7 +58,7 @@ pub fn versions_of<S: Alter>(
     list_of(alloc, &rows)
 }
 
-/// Returns the states of the tenant's devices, by device.
+/// Reads the states of the tenant's devices, by device.
 fn device_rows<S: Alter>(conn: &mut Connection<S>, id: i64) -> Result<Vec<Row>, Fault>
     requires autocommit { conn.old.in_transaction ≡ false }
     requires ready { HasCleanDisk (state S.Store conn.old) → IsReady (state S.Store conn.old) }
@@ -75,9 +75,9 @@ fn device_rows<S: Alter>(conn: &mut Connection<S>, id: i64) -> Result<Vec<Row>, 
     )
 }
 
-/// Returns the states of the tenant's devices, whose numbers rise strictly.
+/// Reads the states of the tenant's devices, whose numbers rise strictly.
 ///
-/// `Err(Fault::Damaged)`: a device stands twice, or a row is none of this service's.
+/// `Err(Fault::Damaged)`: a device occurs twice, or a row is none that this service writes.
 /// `Err(Fault::NoMemory)`: nothing is changed.
 pub fn devices_of<S: Alter>(
     alloc: Global,
@@ -97,7 +97,7 @@ pub fn devices_of<S: Alter>(
     list_of(alloc, &rows)
 }
 
-/// Returns the pools of the tenant, by id.
+/// Reads the pools of the tenant, by id.
 fn pool_rows<S: Alter>(conn: &mut Connection<S>, id: i64) -> Result<Vec<Row>, Fault>
     requires autocommit { conn.old.in_transaction ≡ false }
     requires ready { HasCleanDisk (state S.Store conn.old) → IsReady (state S.Store conn.old) }
@@ -114,9 +114,9 @@ fn pool_rows<S: Alter>(conn: &mut Connection<S>, id: i64) -> Result<Vec<Row>, Fa
     )
 }
 
-/// Returns the pools of the tenant, whose ids rise strictly.
+/// Reads the pools of the tenant, whose ids rise strictly.
 ///
-/// `Err(Fault::Damaged)`: an id stands twice, or a row is none of this service's.
+/// `Err(Fault::Damaged)`: an id occurs twice, or a row is none that this service writes.
 /// `Err(Fault::NoMemory)`: nothing is changed.
 pub fn pools_of<S: Alter>(
     alloc: Global,
@@ -136,7 +136,7 @@ pub fn pools_of<S: Alter>(
     list_of(alloc, &rows)
 }
 
-/// Returns the tenant's receipts with the request.
+/// Reads the tenant's receipts of the request.
 fn receipt_rows<S: Alter>(
     conn: &mut Connection<S>,
     id: i64,
@@ -157,9 +157,9 @@ fn receipt_rows<S: Alter>(
     )
 }
 
-/// Returns the tenant's receipt of the request, or `None` where there is none.
+/// Reads the tenant's receipt of the request, or `None` where there is none.
 ///
-/// `Err(Fault::Damaged)`: there are several, or the row is none of this service's.
+/// `Err(Fault::Damaged)`: there are several, or the row is none that this service writes.
 /// `Err(Fault::NoMemory)`: nothing is changed.
 pub fn receipt_of<S: Alter>(
     conn: &mut Connection<S>,

@@ -1,7 +1,7 @@
 //! The receipts of a tenant, a page at a time.
 //!
 //! A body and a reply may have a megabyte each, so a page is short. One row more than a page is
-//! read: it shows that what follows lies above the page.
+//! read: it shows that the rows that follow are above the page.
 
 ghost use Rattle.std.specs.Prelude.{◌≡◌, ◌≢◌, ◌⊎◌, map, false, IfOk, IfErr, Err};
 ghost use Rattle.std.specs.List.{AllByRecursion};
@@ -20,10 +20,10 @@ use sqlite::{Alter, Connection, Row};
 use std::alloc::Global;
 use table_schema::refuse::Fault;
 
-/// The receipts on a page.
+/// The number of receipts on a page.
 pub const PAGE: usize = 16;
 
-/// Returns the first receipts of the tenant, by their requests.
+/// Reads the first 17 receipts of the tenant, or all where there are fewer, by their requests.
 fn first_rows<S: Alter>(conn: &mut Connection<S>, id: i64) -> Result<Vec<Row>, Fault>
     requires autocommit { conn.old.in_transaction ≡ false }
     requires ready { HasCleanDisk (state S.Store conn.old) → IsReady (state S.Store conn.old) }
@@ -40,7 +40,8 @@ fn first_rows<S: Alter>(conn: &mut Connection<S>, id: i64) -> Result<Vec<Row>, F
     )
 }
 
-/// Returns the first receipts of the tenant whose requests are above one, by their requests.
+/// Reads the first 17 receipts of the tenant whose requests are above `after`, or all of those
+/// where there are fewer, by their requests.
 fn next_rows<S: Alter>(conn: &mut Connection<S>, id: i64, after: &str) -> Result<Vec<Row>, Fault>
     requires autocommit { conn.old.in_transaction ≡ false }
     requires ready { HasCleanDisk (state S.Store conn.old) → IsReady (state S.Store conn.old) }
@@ -57,7 +58,10 @@ fn next_rows<S: Alter>(conn: &mut Connection<S>, id: i64, after: &str) -> Result
     )
 }
 
-/// Returns the page of the rows, of which the last is dropped where they are more than a page.
+/// Returns the page that `rows` begin with. The last row is dropped where there are more than a
+/// page.
+///
+/// `Err(Fault::Damaged)`: the requests do not rise, or a row is none that this service writes.
 fn page_of(alloc: Global, rows: &[Row]) -> Result<Vec<ReceiptRow>, Fault>
     ensures page { IfOk result (λ page. IsPageOf rows.now (map receipt_values page.items)) }
     ensures damaged { result ≡ Err Fault.Damaged → AllByRecursion IsReceiptRow rows.now → ¬ IsRising rows.now }
@@ -70,10 +74,10 @@ fn page_of(alloc: Global, rows: &[Row]) -> Result<Vec<ReceiptRow>, Fault>
     Ok(page)
 }
 
-/// Returns the first receipts of the tenant, in the order of their requests' bytes: a page, or
-/// fewer where there are no more.
+/// Reads the first receipts of the tenant, in the order of their requests' bytes: a page, or fewer
+/// where there are no more.
 ///
-/// `Err(Fault::Damaged)`: a request stands twice, or a row is none of this service's.
+/// `Err(Fault::Damaged)`: a request occurs twice, or a row is none that this service writes.
 /// `Err(Fault::NoMemory)`: nothing is changed.
 pub fn first_receipts<S: Alter>(
     alloc: Global,
@@ -93,10 +97,10 @@ pub fn first_receipts<S: Alter>(
     page_of(alloc, &rows)
 }
 
-/// Returns the first receipts of the tenant whose requests are above `after`, in the order of their
+/// Reads the first receipts of the tenant whose requests are above `after`, in the order of their
 /// requests' bytes: a page, or fewer where there are no more.
 ///
-/// `Err(Fault::Damaged)`: a request stands twice, or a row is none of this service's.
+/// `Err(Fault::Damaged)`: a request occurs twice, or a row is none that this service writes.
 /// `Err(Fault::NoMemory)`: nothing is changed.
 pub fn receipts_after<S: Alter>(
     alloc: Global,

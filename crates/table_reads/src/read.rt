@@ -1,4 +1,4 @@
-//! What a query answered as values: one row or none, or a list that rises.
+//! The answer of a query as values: one row or none, or a list whose keys rise.
 
 ghost use Rattle.std.specs.Prelude.{◌≡◌, ◌≢◌, ◌⊎◌, ◌↔◌, ◌<◌, [], ◌∷◌, map, false, IsTrue, IfOk, IfErr, IfSome, None, Err};
 ghost use Rattle.std.specs.List.{AllByRecursion};
@@ -10,9 +10,9 @@ use sqlite::Row;
 use std::alloc::{AllocError, Global};
 use table_schema::refuse::Fault;
 
-/// Returns the one row, or `None` where there is no row.
+/// Returns the one row as a value, or `None` where there is no row.
 ///
-/// `Err(Fault::Damaged)`: there are several, or it is no such row.
+/// `Err(Fault::Damaged)`: there are several rows, or the row is no row of a `T`.
 pub fn one_of<T: TenantRow + Drop>(rows: &[Row]) -> Result<Option<T>, Fault>
     ensures some { IfOk result (λ o. IfSome o (λ x. rows.now ≡ T.values x ∷ [])) }
     ensures none { IfOk result (λ o. o ≡ None → rows.now ≡ []) }
@@ -32,7 +32,7 @@ pub fn one_of<T: TenantRow + Drop>(rows: &[Row]) -> Result<Option<T>, Fault>
     }
 }
 
-/// Returns the values of the rows, in their order, or `None` where one of them is no such row.
+/// Returns the values of the rows, in their order, or `None` where one of them is no row of a `T`.
 pub fn all_in<T: TenantRow + Drop>(
     alloc: Global,
     rows: &[Row],
@@ -50,7 +50,7 @@ pub fn all_in<T: TenantRow + Drop>(
     Ok(Some(list))
 }
 
-/// Returns whether the keys rise strictly.
+/// Returns whether the keys of the list rise strictly.
 fn rise<T: TenantRow>(list: &[T]) -> bool
     ensures { IsTrue result ↔ IsRising (map T.values list.now) }
 {
@@ -64,7 +64,7 @@ fn rise<T: TenantRow>(list: &[T]) -> bool
 
 /// Returns the rows as values, which rise strictly by their keys.
 ///
-/// `Err(Fault::Damaged)`: they do not rise, or one is no such row.
+/// `Err(Fault::Damaged)`: the keys do not rise, or one row is no row of a `T`.
 pub fn list_of<T: TenantRow + Drop>(alloc: Global, rows: &[Row]) -> Result<Vec<T>, Fault>
     ensures list { IfOk result (λ list. (rows.now ≡ map T.values list.items) × IsRising rows.now) }
     ensures damaged { result ≡ Err Fault.Damaged → AllByRecursion T.is_one rows.now → ¬ IsRising rows.now }

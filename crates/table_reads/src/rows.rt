@@ -40,7 +40,7 @@ pub struct ReceiptRow {
     pub reply: String,
 }
 
-/// Returns the integer at a place of the row, or `None` where there is none.
+/// Returns the integer at the place `at` of the row, or `None` where there is none.
 pub fn int_at(row: &Row, at: usize) -> Result<Option<i64>, AllocError>
     ensures some { IfOk result (λ o. IfSome o (λ n. (at < length row.now) × (column row.now at ≡ Int n))) }
     ensures none { IfOk result (λ o. o ≡ None → at < length row.now → (n : ℤ) → column row.now at ≢ Int n) }
@@ -53,7 +53,7 @@ pub fn int_at(row: &Row, at: usize) -> Result<Option<i64>, AllocError>
     }
 }
 
-/// Returns the text at a place of the row, or `None` where there is none in UTF-8.
+/// Returns the text at the place `at` of the row, or `None` where there is none in UTF-8.
 fn text_at(row: &Row, at: usize) -> Result<Option<String>, AllocError>
     ensures some { IfOk result (λ o. IfSome o (λ t. (at < length row.now) × (column row.now at ≡ Words (string_bytes t)))) }
     ensures none { IfOk result (λ o. o ≡ None → at < length row.now → (t : List ℕ) → IsUtf8 t → column row.now at ≢ Words t) }
@@ -68,18 +68,20 @@ fn text_at(row: &Row, at: usize) -> Result<Option<String>, AllocError>
 
 /// A row of a tenant, without the tenant's number.
 pub trait TenantRow: Sized {
-    /// Its values.
+    /// The values of the row.
     ghost values: { Self → Values };
 
-    /// The values are those of such a row.
+    /// The values are those of a row of this type.
     ghost is_one: { Values → Type 0 };
 
-    /// Returns the row with these values, or `None` where there is none.
+    /// Returns the row with the values of `row`, or `None` where they are none of this type.
+    ///
+    /// `Err(AllocError)`: an allocation failed.
     fn from_values(row: &Row) -> Result<Option<Self>, AllocError>
         ensures some { IfOk result (λ o. IfSome o (λ x. row.now ≡ values x)) }
         ensures none { IfOk result (λ o. o ≡ None → ¬ is_one row.now) };
 
-    /// Returns whether its key comes first.
+    /// Returns whether the key of `self` comes before that of `other`.
     fn is_below(&self, other: &Self) -> bool
         ensures { IsTrue result ↔ value_cmp (column (values self.now) 0) (column (values other.now) 0) ≡ Less };
 }
