@@ -18,12 +18,13 @@ use tenant_core::{Routes, StoreFault};
 use tenant_service::Service;
 use tenant_store::Store;
 
-/// A service over the tables of a connection. Of what tenants have at most `BYTES` bytes are kept
-/// in memory, or one tenant's.
+/// A service over the tables of a connection. It keeps at most `BYTES` bytes of what tenants have
+/// in memory, or what one tenant has.
 pub type TableService<S, const BYTES: u64> = Service<CachedStore<Store<S>, BYTES>>;
 
-/// Returns the service over a store, which keeps at most so many placements. `Err`: an allocation
-/// failed; the store below the connection is given back.
+/// Makes the service over `store`, which keeps at most `placements` placements.
+///
+/// `Err(below)`: an allocation failed, and `below` is the store below the connection.
 fn service_over<S: Alter + Drop, const BYTES: u64>(
     alloc: Global,
     store: Store<S>,
@@ -42,14 +43,14 @@ fn service_over<S: Alter + Drop, const BYTES: u64>(
     }
 }
 
-/// Returns the service of the tenants in the tables of a connection, which keeps at most so many
+/// Opens the service of the tenants in the tables of `conn`, which keeps at most `placements`
 /// placements of their groups. The tables are made where the database has none, those of schema 1
 /// are replaced, and else they are tested (`Store::open`).
 ///
 /// `Err((StoreFault::Damaged, store))`: the tables are another's, or of another version. Nothing is
 /// changed. `Err((StoreFault::NoMemory, store))`, `Err((StoreFault::Full, store))`,
 /// `Err((StoreFault::Failed, store))`: the tables may have been made, or those of schema 1
-/// replaced, whole, for the same states. The store is the one below the connection, since a
+/// replaced, whole, for the same states. `store` is the one below the connection, since a
 /// connection over it takes memory.
 pub fn open_service<S: Alter + Drop, const BYTES: u64>(
     alloc: Global,
@@ -82,7 +83,7 @@ pub fn open_service<S: Alter + Drop, const BYTES: u64>(
     }
 }
 
-/// Gives the connection of a service back, as it stands. Allocates nothing.
+/// Closes the service, and gives its connection back unchanged. Allocates nothing.
 pub fn close_service<S: Alter + Drop, const BYTES: u64>(
     service: TableService<S, BYTES>,
 ) -> Connection<S>
