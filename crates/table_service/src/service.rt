@@ -18,8 +18,8 @@ use tenant_core::{Routes, StoreFault};
 use tenant_service::Service;
 use tenant_store::Store;
 
-/// A service over the tables of a connection. It keeps at most `BYTES` bytes of what tenants have
-/// in memory, or what one tenant has.
+/// A service over the tables of a connection. In memory it keeps what tenants have, at most `BYTES`
+/// bytes in all, or what one tenant has.
 pub type TableService<S, const BYTES: u64> = Service<CachedStore<Store<S>, BYTES>>;
 
 /// Makes the service over `store`, which keeps at most `placements` placements.
