@@ -67,7 +67,7 @@ pub record AreRows (id : ℤ) (db : Trees) (rows : TenantRows) : Type 0 where
   pub receipts : IsPermutation (of_tenant receipts_table id db) rows.receipts
   pub exceptions : IsPermutation (of_tenant exceptions_table id db) rows.exceptions
 
--- what some writes of the tenant's rows come to
+-- what some writes of the tenant's rows do together
 pub record Steps (name : List ℕ) (id : ℤ) (change : TenantRows → TenantRows) (old new : Database) : Type 0 where
   pub touches : Touches name id old new
   pub tenants : rows_in tenants_table new.trees ≡ rows_in tenants_table old.trees
@@ -221,7 +221,7 @@ module _ (name : List ℕ) (id : ℤ) (old new : State) (count : ℕ) (sound : A
         };
       }
 
--- the tables are sound after what concerns one tenant
+-- the tables are sound after a change of one tenant
 sound_after : (name : List ℕ) (id : ℤ) (old new : Database) → AreSound old → Touches name id old new → AreSound new
 sound_after name id old new sound it = record { schema = (sound.schema.0, it.schema ∙ sound.schema.1); tables = it.tables; sound = it.sound }
 

@@ -11,7 +11,7 @@ use Rattle.tenant_tables.proofs.TableTexts.{info_text, tenants_text, maps_text, 
 use Rattle.tenant_tables.proofs.Making.{made_bare}
 use Rattle.tenant_tables.proofs.Migrating.{migrated}
 
--- a text that is lent, wherever it lies
+-- a borrowed text, wherever it lies
 abbrev lent : List ℕ → Bor (List ℕ)
 lent text = record { ref_ptr = (0, 0); now = text }
 

@@ -138,7 +138,7 @@ numbered_shown rows (s ∷ sources) all =
     let one : with_rowid Chosen rows it ≡ Int (next_rowid rows) ∷ drop 1 it = rw all.0.blank refl in
     ap₂ ◌∷◌ (ap shown one ∙ all.0.shows (next_rowid rows)) (numbered_shown (put_row (with_rowid Chosen rows it) rows) sources all.1)
 
--- what stands in the new table in the end
+-- what the new table has in the end
 pub copies : (olds rows into : List Row) (table : List Row) → AllByRecursion (λ r. are_typed None 0 first_pools_table.columns (drop 1 r) ≡ true) olds → IsPermutation (map copied_row olds) rows → table ≡ []
     → are_fresh table (numbered Chosen table (map (λ s. cast_row new_table (drop 0 s)) rows)) ≡ true → into ≡ put_all table (numbered Chosen table (map (λ s. cast_row new_table (drop 0 s)) rows))
     → IsPermutation (map shown into) (map (λ r. shown (copied_row r)) olds)

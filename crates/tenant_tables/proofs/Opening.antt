@@ -21,7 +21,7 @@ open_store g shut s sound = go (g.view s).is_open refl
     go true e = e
     go false e = absurd (true≢false (sym (shut s e) ∙ sound))
 
--- rows that stand by rowids do so under the names of their tables
+-- rows that are stored by rowid in the trees are so under the names of their tables
 pub named_tables : (layout : Layout) (db : Database) → IsDatabase db → db.schema ≡ store_schema layout → AreTablesAt layout db.trees → AreTables db.trees
 named_tables layout db sound has at =
     let p = places layout db sound has in

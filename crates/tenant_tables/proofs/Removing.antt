@@ -62,7 +62,7 @@ plain_test : (b : Bool) → ((b && true) || false) ≡ b
 plain_test true = refl
 plain_test false = refl
 
--- the row has its key, and keeps none
+-- the row has its key, and loses it
 loses_key : (row : Row) (id : ℤ) → column row 0 ≡ Int id → loses plain (0 ∷ []) (row, []) ≡ true
 loses_key row id is =
     let own : equal Binary (column row 0) (column row 0) ≡ true = subst (λ v. equal Binary v v ≡ true) (sym is) (equal_itself id) in
@@ -88,7 +88,7 @@ last_is (y ∷ front) (x ∷ below) one w e =
     let more = last_is front below one w tail in
     (rw (head, more.0), more.1)
 
--- the last action has been carried out, on the rows of one table, and those below it wait
+-- the last action has been carried out on the rows of one table, and the actions below it wait
 record Followed (layout : Layout) (table : Table) (row : Row) (db next : Trees) (below : List Work) : Type 0 where
   mid : Trees
   left : ℕ

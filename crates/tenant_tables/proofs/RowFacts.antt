@@ -59,7 +59,7 @@ itself (x ∷ xs) = rw (eq-eqb x x refl, itself xs)
 pub apart : (a b : List ℕ) → b ≢ a → bytes_eq a b ≡ false
 apart a b other = not_true _ (λ h. other (sym (same_text a b (sym h))))
 
--- a value that is the text is that text
+-- a value that equals the text is that text
 pub words_of : (v : Value) (t : List ℕ) → equal Binary v (Words t) ≡ true → v ≡ Words t
 words_of Null t h = absurd (true≢false (equal_parts Null (Words t) h).0)
 words_of (Int n) t h = let e = sym (value_cmp-apart (Int n) (Words t) (λ e. absurd (omega (arith, e)))) ∙ (equal_parts (Int n) (Words t) h).1 in absurd cc
@@ -67,7 +67,7 @@ words_of (Real x) t h = let e = sym (value_cmp-apart (Real x) (Words t) (λ e. a
 words_of (Words s) t h = ap Words (same_text s t (sym (sym (equal_words s t) ∙ h)))
 words_of (Blob b) t h = let e = sym (value_cmp-apart (Blob b) (Words t) (λ e. absurd (omega (arith, e)))) ∙ (equal_parts (Blob b) (Words t) h).1 in absurd cc
 
--- two texts that one value is are one
+-- two texts that equal one value are the same
 pub same_words : (v : Value) (a b : List ℕ) → equal Binary v (Words a) ≡ true → equal Binary v (Words b) ≡ true → a ≡ b
 same_words v a b p q = let e = sym (words_of v a p) ∙ words_of v b q in cc
 
@@ -102,7 +102,7 @@ module _ (p : Row → Bool) (new : Row) where
       go Equal other parts more = absurd (true≢false other)
       go Greater other parts more = rw (in_it, parts.0, parts.1)
 
-  -- it stands somewhere among those that pass
+  -- it is somewhere among those that pass
   pub perm_put : (rows : List Row) → is_taken rows new ≡ false → p new ≡ true → IsPermutation (filter p (put_row new rows)) (new ∷ filter p rows)
   perm_put [] free in_it = rw in_it (IsPermutation-refl _)
   perm_put (r ∷ rows) free in_it = go (value_cmp (rowid r) (rowid new)) (p r) (or_parts _ _ free).0 refl (perm_put rows (or_parts _ _ free).1 in_it)
@@ -135,7 +135,7 @@ filter_swap p q (r ∷ rows) = go (p r) (q r) refl refl (filter_swap p q rows)
     go false true e f more = rw (e, more)
     go false false e f more = more
 
--- of two rows with one rowid there is one
+-- two rows with one rowid are the same
 pub one_row : (rows : List Row) (a b : Row) → IsTable rows → Has rows a → Has rows b → value_cmp (rowid a) (rowid b) ≡ Equal → a ≡ b
 one_row [] a b up ha hb same = absurd ha
 one_row (r ∷ rows) a b up (inl p) (inl q) same = p ∙ sym q

@@ -47,7 +47,7 @@ without_all_is : (ids : List ℤ) (rows : List Row) → without_all rows ids ≡
 without_all_is [] rows = sym (filter_all _ rows (all_from _ rows (λ r there. refl)))
 without_all_is (id ∷ ids) rows = without_all_is ids (without_rowid id rows) ∙ filter_both (λ r. list_any (λ id. has_rowid id r) ids) (has_rowid id) rows
 
--- an integer that a rowid is
+-- a value that is an integer is the one that is read from it
 pub numbered : (v : Value) → is_int v ≡ true → v ≡ Int (id_in v)
 numbered Null h = absurd (true≢false (sym h))
 numbered (Int n) h = refl

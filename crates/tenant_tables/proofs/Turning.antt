@@ -58,7 +58,7 @@ module _ (db : Trees) (name : List ℕ) (id : ℤ) (epoch : ℕ) (tenant : IsTen
 
 -- ---- what concerns one tenant
 
--- Of the rows of tenants, those of one are written at most.
+-- At most the rows of one tenant are written.
 pub record Touches (name : List ℕ) (id : ℤ) (old new : Database) : Type 0 where
   pub schema : new.schema ≡ old.schema
   pub sound : IsDatabase new
@@ -83,7 +83,7 @@ touched name id epoch old new up tenant it other apart = record {
   tables = λ row there. it.rows (column row 0) (other_number old.trees name id epoch tenant other row up apart there);
 }
 
--- what holds of the other tables still holds
+-- what held of the other tables still holds
 carried : (P : List Row → Type 0) (name : List ℕ) (tables : List Table) (old new : Trees) → AllByRecursion (λ t. P (rows_in t old)) tables → AllByRecursion (λ t. bytes_eq t.name name ≡ false → rows_in t new ≡ rows_in t old) tables
     → AllByRecursion (λ t. bytes_eq t.name name ≡ false → P (rows_in t new)) tables
 carried P name tables old new held same =
@@ -94,7 +94,7 @@ same_rows : (v : Value) (name : List ℕ) (tables : List Table) (old new : Trees
 same_rows v name tables old new same =
     all_weaker (λ t. bytes_eq t.name name ≡ false → rows_in t new ≡ rows_in t old) (λ t. bytes_eq t.name name ≡ false → rows_with 1 v (rows_in t new) ≡ rows_with 1 v (rows_in t old)) (λ t stays away. ap (rows_with 1 v) (stays away)) tables same
 
--- a value that equals the number compares as it
+-- a value that doesn't compare as equal to the number isn't equal to it
 other_value : (v : Value) (id : ℤ) → is_eq (value_cmp v (Int id)) ≡ false → equal Binary (Int id) v ≡ false
 other_value v id apart = not_true _ (λ same. true≢false (sym (ap is_eq (tied_back value_cmp_total (Int id) v (equal_parts (Int id) v same).1)) ∙ apart))
 

@@ -1,4 +1,4 @@
--- The version that the tables say.
+-- The version that the tables have.
 use Rattle.std.proofs.Common.{◌≡◌, inl, inr, ℕ, List, [], ◌∷◌, map, flat_map, false, refl, sym, ap, subst, ◌∙◌, codes}
 use Rattle.std.specs.List.Sorted.{IsPermutation}
 use Rattle.std.proofs.lemmas.List.Sorted.{IsPermutation-map, IsPermutation-sym}

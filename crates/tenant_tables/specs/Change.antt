@@ -22,7 +22,7 @@ fresh_rows = record { epoch = 0; maps = []; devices = []; pools = []; receipts =
 abbrev pub without_key : ℤ → List Row → List Row
 without_key key rows = filter (λ row. not (equal Binary (column row 0) (Int key))) rows
 
--- the state stands in place of an earlier one of its device
+-- the state takes the place of an earlier one of its device
 abbrev pub with_state : List Row → State → List Row
 with_state rows state = state_row state ∷ without_key state.device rows
 
@@ -36,12 +36,11 @@ with_states states rows = record rows { devices = fold with_state rows.devices s
 abbrev pub with_pool : Pool → TenantRows → TenantRows
 with_pool pool rows = record rows { pools = pool_row pool ∷ rows.pools }
 
--- the pool's exceptions go with it
+-- the pool is removed, and its exceptions with it
 abbrev pub without_pool : ℤ → TenantRows → TenantRows
 without_pool pool rows = record rows { pools = without_key pool rows.pools; exceptions = without_key pool rows.exceptions }
 
--- the pool's row stands in place of the earlier one, and these exceptions in place of its earlier
--- ones
+-- the pool's row takes the place of the earlier one, and the exceptions that of its earlier ones
 abbrev pub with_exceptions : Pool → List Exception → TenantRows → TenantRows
 with_exceptions pool exceptions rows = record rows {
   pools = pool_row pool ∷ without_key pool.id rows.pools;
@@ -55,18 +54,19 @@ with_receipt receipt rows = record rows { receipts = receipt_row receipt ∷ row
 abbrev pub IsNumber : Trees → ℤ → Type 0
 IsNumber db id = (name : List ℕ) × (epoch : ℕ) × IsTenant db name id epoch
 
--- The tenant with the number has this change of its rows, its receipt and this epoch, and each
--- other name keeps its rows.
+-- The rows of the tenant with the number `id` are changed by `change`, and it has the receipt and
+-- the epoch. The rows of each other name are unchanged.
 abbrev pub Accepts : ℤ → ℤ → Receipt → (TenantRows → TenantRows) → Trees → Trees → Type 0
 Accepts id epoch receipt change old new =
     (name : List ℕ) (rows : TenantRows) (e : ℕ) → (held : Holds old name rows) → held.id ≡ id → epoch ≡ pos e
     → Turns name (λ db. Holds db name (record (with_receipt receipt (change rows)) { epoch = e })) old new
 
--- The name has a new tenant, and each other name keeps its rows.
+-- The name has a new tenant, and the rows of each other name are unchanged.
 abbrev pub Creates : List ℕ → Trees → Trees → Type 0
 Creates name = Turns name (λ db. Holds db name fresh_rows)
 
--- The tenant with the number is gone with all its rows, and each other name keeps its own.
+-- The tenant with the number is gone with all its rows, and the rows of each other name are
+-- unchanged.
 abbrev pub Drops : ℤ → Trees → Trees → Type 0
 Drops id old new =
     (name : List ℕ) (epoch : ℕ) → IsTenant old name id epoch

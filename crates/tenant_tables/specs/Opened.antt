@@ -13,7 +13,7 @@ use Rattle.sqlite.specs.State.{State as Shown}
 use Rattle.table_schema.specs.Layout.{no_schema, IsStoreSchema, first_schema, receipts_tree, pools_tree, exceptions_tree, info_table, tenants_table, sequence_table, maps_table, devices_table, receipts_table, first_pools_table, pools_table, exceptions_table, tables_of_tenants}
 use Rattle.table_schema.specs.Holds.{rows_in, values_from}
 
--- The tables say that they are those of this schema, in the one row of 1 and its number.
+-- The tables say that they are those of the schema `version`, in one row of 1 and `version`.
 abbrev pub SaysVersion : ℤ → Trees → Type 0
 SaysVersion version db = map (λ row. column row 0 ∷ column row 2 ∷ []) (rows_in info_table db) ≡ (Int (pos 1) ∷ Int version ∷ []) ∷ []
 
@@ -47,7 +47,7 @@ pub record IsMigrated (old db : Database) : Type 0 where
   pub rows : Migrates old.trees db.trees
   pub sound : IsDatabase db
 
--- The tables are none of this service's, or say another version than their schema's.
+-- There are tables. They are not this service's, or say another version than their schema's.
 pub record IsStrange (db : Database) : Type 0 where
   pub some : db.schema ≢ no_schema
   pub store : IsStoreSchema db.schema → ¬ HasVersion 2 db.trees
@@ -59,12 +59,13 @@ SetsUp old trees =
     ((old.schema ≡ no_schema) × ((db : Database) × IsBare db × (trees ≡ db.trees)))
     ⊎ ((old.schema ≡ first_schema) × ((db : Database) × IsMigrated old db × (trees ≡ db.trees)))
 
--- The connection is open, and shows and has committed what it did.
+-- The connection is open, and what it shows and has committed is unchanged.
 pub record Stays (old new : Shown) : Type 0 where
   pub is_open : IsTrue new.is_open
   pub now : new.now ≡ old.now
   pub committed : new.committed ≡ old.committed
 
--- The rows of the tables in the trees of the layout stand by rowids, each of which names one row.
+-- The rows of the tables, in the trees of the layout, are stored by rowid, and each rowid names one
+-- row.
 abbrev pub AreTablesAt : Layout → Trees → Type 0
 AreTablesAt layout db = AllByRecursion (λ tree. IsShaped Table (db tree)) (1 ∷ 4 ∷ 6 ∷ pools_tree layout ∷ receipts_tree layout ∷ exceptions_tree layout ∷ [])

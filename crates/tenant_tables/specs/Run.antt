@@ -14,7 +14,7 @@ use Rattle.table_schema.specs.declared.values.State.{State}
 use Rattle.tenant_tables.specs.declared.write.Write.{Write}
 use Rattle.tenant_tables.specs.declared.write.Write.TheVariants.{Plain, Create, Remove, Raise, AddVersion, ClearState, AddState, AddPool, RemovePool, AddException, ClearExceptions, AddReceipt}
 
--- the statement
+-- the text of the statement
 abbrev pub text_of : Write → List ℕ
 text_of (Plain sql) = sql.now
 text_of (Create name) = codes "INSERT INTO tenants (name, epoch) VALUES (?1, 0)"
@@ -29,7 +29,7 @@ text_of (AddException id exception) = codes "INSERT INTO exceptions VALUES (?1, 
 text_of (ClearExceptions id pool) = codes "DELETE FROM exceptions WHERE tenant = ?1 AND pool = ?2"
 text_of (AddReceipt id receipt) = codes "INSERT INTO receipts (tenant, request, path, body, status, reply) VALUES (?1, ?2, ?3, ?4, ?5, ?6)"
 
--- the values of its parameters
+-- the values of the statement's parameters
 abbrev pub params_of : Write → Row
 params_of (Plain sql) = []
 params_of (Create name) = Words name.now ∷ []
@@ -61,7 +61,7 @@ abbrev pub state_writes : ℤ → List State → List Write
 state_writes id [] = []
 state_writes id (state ∷ states) = ClearState id state.device ∷ AddState id state ∷ state_writes id states
 
--- the writes that set a pool's row, and take its exceptions away
+-- the writes that set a pool's row, and remove its exceptions
 abbrev pub pool_writes : ℤ → Pool → List Write
 pool_writes id pool = ClearExceptions id pool.id ∷ RemovePool id pool.id ∷ AddPool id pool ∷ []
 
@@ -81,11 +81,11 @@ module _ {S : Type 0} (g : Ghosts S) where
   abbrev pub begun : Held S → Held S
   begun old = record old { in_transaction = true }
 
-  -- the database that the writes make of the connection's
+  -- the database that the writes make of the one that the connection shows
   abbrev pub Makes : List Write → Held S → Database → Type 0
   Makes writes old db = (last : Held S) × Ran writes (begun old) last × (db ≡ (state g last).now)
 
--- Inside the transaction these writes ran so far, and nothing is committed.
+-- Inside the transaction `writes` have run so far, and nothing is committed.
 pub record Inside {S : Type 0} (g : Ghosts S) (writes : List Write) (old now : Held S) : Type 0 where
   pub ran : Ran g writes (begun g old) now
   pub mode : IsTrue now.in_transaction

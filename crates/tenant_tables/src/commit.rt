@@ -1,4 +1,4 @@
-//! Changes of tenants. An accepted one is written with its epoch and its receipt.
+//! Changes of tenants. An accepted change is written with its epoch and its receipt.
 
 ghost use Rattle.std.specs.Prelude.{◌≡◌, ◌≢◌, ◌↔◌, ◌++◌, [], ◌∷◌, true, false, IfOk, OnOk, OnErr, Err};
 ghost use Rattle.sqlite.specs.Held.{state};

@@ -1,4 +1,4 @@
-//! The tables are made where there are none, and else tested for their version. Those of schema 1
+//! The tables are made where there are none, and else their version is tested. Those of schema 1
 //! are replaced.
 
 ghost use Rattle.std.specs.Prelude.{pos, [], ◌∷◌, map, IsPermutation, ◌≡◌, ◌≢◌, ◌⊎◌, ◌↔◌, false, IfOk, IfErr, OnOk, OnErr, Err, IsTrue};
@@ -75,7 +75,7 @@ fn make<S: Alter>(conn: &mut Connection<S>) -> Result<(), Fault>
     }
 }
 
-/// Returns whether the rows are one row, of 1 and the version.
+/// Returns whether `rows` are one row, of 1 and `version`.
 ///
 /// `Err(AllocError)`: an allocation failed; nothing is changed.
 fn is_version(rows: &[Row], version: i64) -> Result<bool, AllocError>
@@ -97,7 +97,7 @@ fn is_version(rows: &[Row], version: i64) -> Result<bool, AllocError>
     Ok(one == 1 && found == version)
 }
 
-/// Returns the versions that the tables say.
+/// Reads the rows of `schema_info`, which have the version of the tables.
 fn versions<S: Alter>(conn: &mut Connection<S>) -> Result<Vec<Row>, Error>
     requires sound { HasCleanDisk (state S.Store conn.old) → IsDatabase (state S.Store conn.old).now }
     requires known { IsKnown (state S.Store conn.old).now.schema }
@@ -110,9 +110,9 @@ fn versions<S: Alter>(conn: &mut Connection<S>) -> Result<Vec<Row>, Error>
     conn.query_all("SELECT one, version FROM schema_info", &[])
 }
 
-/// Tests that the tables are of this version.
+/// Tests that the tables are of the version `version`.
 ///
-/// `Err(Fault::Damaged)`: they are of another.
+/// `Err(Fault::Damaged)`: they are of another version. Nothing is changed.
 fn adopt<S: Alter>(conn: &mut Connection<S>, version: i64) -> Result<(), Fault>
     requires autocommit { conn.old.in_transaction ≡ false }
     requires settled { HasCleanDisk (state S.Store conn.old) → (state S.Store conn.old).now ≡ (state S.Store conn.old).committed }
@@ -221,7 +221,7 @@ pub fn set_up<S: Alter>(conn: &mut Connection<S>) -> Result<(), Fault>
     }
 }
 
-/// Prepares what a refusal asks, so that it takes no memory then.
+/// Prepares the statement that `refusal` prepares, so that it takes no memory then.
 pub fn get_ready<S: Alter>(conn: &mut Connection<S>) -> Result<(), Fault>
     ensures ok { HasCleanDisk (state S.Store conn.new) → OnOk result (IsUnchanged (state S.Store conn.old) (state S.Store conn.new)) }
     ensures err { IfErr result (λ fault. (fault ≡ Fault.NoMemory) ⊎ (fault ≡ Fault.Failed)) }

@@ -1,7 +1,7 @@
-//! A connection whose rows are known to stand by rising rowids.
+//! A connection whose rows are known to be in tables, ordered by rowid.
 //!
-//! Writes go by rowid, and no clause of a connection says that each names one row: a store says it.
-//! So a connection is given up for its store, and opened again over it.
+//! Writes find rows by rowid, and no clause of a connection says that each rowid names one row: a
+//! store says it. So a connection is given up for its store, and opened again over it.
 
 ghost use Rattle.std.specs.Prelude.{◌≡◌, ◌⊎◌, false, IfOk, IfErr, IsTrue};
 ghost use Rattle.sqlite.specs.Held.{state};
@@ -16,7 +16,8 @@ use std::alloc::Global;
 use table_schema::refuse::{Fault, fault_of};
 use table_schema::schema::{Layout, is_laid_out, layout_of};
 
-/// Returns whether the trees of the tables hold rows by rowids.
+/// Returns whether the store isn't broken, and the trees of the tables in `layout` hold rows by
+/// rowid.
 fn are_rows<S: Alter>(store: &S, layout: Layout) -> bool
     ensures sound { IsTrue result → IsClean (S.Store.view store.now) → (S.Store.view store.now).is_broken ≡ false }
     ensures tables { IsTrue result → IsClean (S.Store.view store.now) → AreTablesAt layout (S.Store.view store.now).trees }

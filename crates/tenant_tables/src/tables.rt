@@ -29,7 +29,7 @@ use table_schema::refuse::Fault;
 use table_schema::values::{Exception, State};
 
 /// The tables of a connection. Contracts see the connection, and whether a failure has latched the
-/// tables. Then no further call is made on them.
+/// tables. After that no further call is made on them.
 #[derive(Drop)]
 pub struct Tables<S: Alter> {
     conn: Connection<S>,
@@ -53,7 +53,7 @@ impl<S: Alter> Model for Tables<S> {
     ghost invariant = { λ s. (s.conn.in_transaction ≡ false) × (s.is_latched ≡ false → HasCleanDisk (state S.Store s.conn) → IsReady (state S.Store s.conn)) };
 }
 
-/// Returns the answer of a call, which latches the tables where it is a failure, and only there.
+/// Latches the tables where `answer` is `Err(Fault::Failed)`, and only there, and returns `answer`.
 /// Where memory or the disk was full, a later call may succeed.
 fn latched<T>(is_latched: &mut bool, answer: Result<T, Fault>) -> Result<T, Fault>
     ensures latch { is_latched.new ≡ true ↔ answer ≡ Err Fault.Failed }
@@ -64,10 +64,10 @@ fn latched<T>(is_latched: &mut bool, answer: Result<T, Fault>) -> Result<T, Faul
 }
 
 impl<S: Alter + Drop> Tables<S> {
-    /// Returns the tables of a connection. They are made where the database has none, those of
-    /// schema 1 are replaced, and else they are tested: the whole schema, its version, and that
-    /// rows stand by their rowids. So what the other calls rest on holds of each file that this
-    /// opens, and no caller has to know where it came from.
+    /// Opens the tables of a connection. They are made where the database has none, those of schema
+    /// 1 are replaced, and else they are tested: the whole schema, its version, and that rows are
+    /// stored by rowid. So what the other calls rest on holds of each file that is opened, and no
+    /// caller has to know where the file came from.
     ///
     /// `Err((Fault::Damaged, store))`: the tables are another's, or of another version. Nothing is
     /// changed. `Err((Fault::NoMemory, store))`, `Err((Fault::Full, store))`,
@@ -108,7 +108,7 @@ impl<S: Alter + Drop> Tables<S> {
 }
 
 impl<S: Alter> Tables<S> {
-    /// Gives the connection back, as it stands.
+    /// Gives the connection back unchanged.
     pub fn close(self) -> Connection<S>
         ensures { result ≡ self.0 }
     {
@@ -120,8 +120,8 @@ impl<S: Alter> Tables<S> {
         conn
     }
 
-    /// Returns whether a call has failed for good. Contracts learn of it that the connection is
-    /// ready where none has.
+    /// Returns whether a call has failed for good. Where none has, a contract says that the
+    /// connection is ready.
     pub fn is_latched(&self) -> bool
         ensures value { result ≡ self.now.1 }
         ensures ready { self.now.1 ≡ false → HasCleanDisk (state S.Store self.now.0) → IsReady (state S.Store self.now.0) }
@@ -129,7 +129,8 @@ impl<S: Alter> Tables<S> {
         self.is_latched
     }
 
-    /// Runs the writes in one transaction, all of them or none. They leave this service's tables.
+    /// Runs the writes in one transaction, all of them or none. The writes have to leave this
+    /// service's tables sound.
     ///
     /// `Err(Fault::NoMemory)`, `Err(Fault::Full)`: nothing is changed. `Err(Fault::Failed)`: the
     /// tables are latched.
@@ -146,10 +147,10 @@ impl<S: Alter> Tables<S> {
         latched(&mut self.is_latched, write_all(&mut self.conn, writes))
     }
 
-    /// Returns the tenant with the name, or `None` where there is none.
+    /// Reads the tenant with the name, or `None` where there is none.
     ///
-    /// No row is changed. `Err(Fault::Damaged)`: there are several, or the row is none of this
-    /// service's. `Err(Fault::Failed)`: the tables are latched.
+    /// No row is changed. `Err(Fault::Damaged)`: there are several, or the row is none that this
+    /// service writes. `Err(Fault::Failed)`: the tables are latched.
     pub fn find(&mut self, name: &str) -> Result<Option<Tenant>, Fault>
         requires live { self.old.1 ≡ false }
         ensures found { HasCleanDisk (state S.Store self.new.0) → IfOk result (Names (state S.Store self.old.0).now.trees name.now) }
@@ -162,10 +163,10 @@ impl<S: Alter> Tables<S> {
         latched(&mut self.is_latched, find(&mut self.conn, name))
     }
 
-    /// Returns the versions of the map of the tenant with the number, which rise strictly.
+    /// Reads the versions of the map of the tenant with the number `id`, which rise strictly.
     ///
-    /// No row is changed. `Err(Fault::Damaged)`: a version stands twice, or a row is none of this
-    /// service's. `Err(Fault::Failed)`: the tables are latched.
+    /// No row is changed. `Err(Fault::Damaged)`: a version occurs twice, or a row is none that this
+    /// service writes. `Err(Fault::Failed)`: the tables are latched.
     pub fn versions_of(&mut self, id: i64) -> Result<Vec<VersionRow>, Fault>
         requires live { self.old.1 ≡ false }
         ensures found { HasCleanDisk (state S.Store self.new.0) → IfOk result (λ versions. Lists (of_tenant maps_table id (state S.Store self.old.0).now.trees) (map version_values versions.items)) }
@@ -181,11 +182,11 @@ impl<S: Alter> Tables<S> {
         )
     }
 
-    /// Returns the states of devices of the tenant with the number, by the devices, which rise
+    /// Reads the states of devices of the tenant with the number `id`, by the devices, which rise
     /// strictly.
     ///
-    /// No row is changed. `Err(Fault::Damaged)`: a device stands twice, or a row is none of this
-    /// service's. `Err(Fault::Failed)`: the tables are latched.
+    /// No row is changed. `Err(Fault::Damaged)`: a device occurs twice, or a row is none that this
+    /// service writes. `Err(Fault::Failed)`: the tables are latched.
     pub fn devices_of(&mut self, id: i64) -> Result<Vec<State>, Fault>
         requires live { self.old.1 ≡ false }
         ensures found { HasCleanDisk (state S.Store self.new.0) → IfOk result (λ states. Lists (of_tenant devices_table id (state S.Store self.old.0).now.trees) (map state_row states.items)) }
@@ -201,10 +202,10 @@ impl<S: Alter> Tables<S> {
         )
     }
 
-    /// Returns the pools of the tenant with the number, by their ids, which rise strictly.
+    /// Reads the pools of the tenant with the number `id`, by their ids, which rise strictly.
     ///
-    /// No row is changed. `Err(Fault::Damaged)`: an id stands twice, or a row is none of this
-    /// service's. `Err(Fault::Failed)`: the tables are latched.
+    /// No row is changed. `Err(Fault::Damaged)`: an id occurs twice, or a row is none that this
+    /// service writes. `Err(Fault::Failed)`: the tables are latched.
     pub fn pools_of(&mut self, id: i64) -> Result<Vec<PoolRow>, Fault>
         requires live { self.old.1 ≡ false }
         ensures found { HasCleanDisk (state S.Store self.new.0) → IfOk result (λ pools. Lists (of_tenant pools_table id (state S.Store self.old.0).now.trees) (map pool_values pools.items)) }
@@ -220,11 +221,11 @@ impl<S: Alter> Tables<S> {
         )
     }
 
-    /// Returns the exceptions of the pools of the tenant with the number, by pool and place, none
-    /// twice.
+    /// Reads the exceptions of the pools of the tenant with the number `id`, by pool and place. No
+    /// place of a pool occurs twice.
     ///
-    /// No row is changed. `Err(Fault::Damaged)`: a place of a pool stands twice, or a row is none
-    /// of this service's. `Err(Fault::Failed)`: the tables are latched.
+    /// No row is changed. `Err(Fault::Damaged)`: a place of a pool occurs twice, or a row is none
+    /// that this service writes. `Err(Fault::Failed)`: the tables are latched.
     pub fn exceptions_of(&mut self, id: i64) -> Result<Vec<Exception>, Fault>
         requires live { self.old.1 ≡ false }
         ensures found { HasCleanDisk (state S.Store self.new.0) → IfOk result (λ exceptions. ListsBy Precedes (of_tenant exceptions_table id (state S.Store self.old.0).now.trees) (map exception_row exceptions.items)) }
@@ -240,11 +241,11 @@ impl<S: Alter> Tables<S> {
         )
     }
 
-    /// Returns the receipt of the request of the tenant with the number, or `None` where there is
-    /// none.
+    /// Reads the receipt of the request of the tenant with the number `id`, or `None` where there
+    /// is none.
     ///
-    /// No row is changed. `Err(Fault::Damaged)`: there are several, or the row is none of this
-    /// service's. `Err(Fault::Failed)`: the tables are latched.
+    /// No row is changed. `Err(Fault::Damaged)`: there are several, or the row is none that this
+    /// service writes. `Err(Fault::Failed)`: the tables are latched.
     pub fn receipt_of(&mut self, id: i64, request: &str) -> Result<Option<ReceiptRow>, Fault>
         requires live { self.old.1 ≡ false }
         ensures found { HasCleanDisk (state S.Store self.new.0) → IfOk result (AreReceipt (receipts_with (state S.Store self.old.0).now.trees id request.now)) }
@@ -260,11 +261,11 @@ impl<S: Alter> Tables<S> {
         )
     }
 
-    /// Returns the first receipts of the tenant with the number, in the order of their requests'
+    /// Reads the first receipts of the tenant with the number `id`, in the order of their requests'
     /// bytes: a page, or fewer where there are no more.
     ///
-    /// No row is changed. `Err(Fault::Damaged)`: a request stands twice, or a row is none of this
-    /// service's. `Err(Fault::Failed)`: the tables are latched.
+    /// No row is changed. `Err(Fault::Damaged)`: a request occurs twice, or a row is none that this
+    /// service writes. `Err(Fault::Failed)`: the tables are latched.
     pub fn first_receipts(&mut self, id: i64) -> Result<Vec<ReceiptRow>, Fault>
         requires live { self.old.1 ≡ false }
         ensures found { HasCleanDisk (state S.Store self.new.0) → IfOk result (λ page. Begins 16 (of_tenant receipts_table id (state S.Store self.old.0).now.trees) (map receipt_values page.items)) }
@@ -280,11 +281,12 @@ impl<S: Alter> Tables<S> {
         )
     }
 
-    /// Returns the first of its receipts whose requests are above `after`: a page, or fewer where
-    /// there are no more. With the last request of a page it gives the next page.
+    /// Reads the first receipts of the tenant with the number `id` whose requests are above
+    /// `after`: a page, or fewer where there are no more. Given the last request of a page, it
+    /// reads the next page.
     ///
-    /// No row is changed. `Err(Fault::Damaged)`: a request stands twice, or a row is none of this
-    /// service's. `Err(Fault::Failed)`: the tables are latched.
+    /// No row is changed. `Err(Fault::Damaged)`: a request occurs twice, or a row is none that this
+    /// service writes. `Err(Fault::Failed)`: the tables are latched.
     pub fn receipts_after(&mut self, id: i64, after: &str) -> Result<Vec<ReceiptRow>, Fault>
         requires live { self.old.1 ≡ false }
         ensures found { HasCleanDisk (state S.Store self.new.0) → IfOk result (λ page. Begins 16 (rows_above after.now (of_tenant receipts_table id (state S.Store self.old.0).now.trees)) (map receipt_values page.items)) }

@@ -152,7 +152,9 @@ impl Write<'_> {
     }
 }
 
-/// Runs the writes in one transaction: all of them or none.
+/// Runs the writes in one transaction, all of them or none.
+///
+/// `Err`: nothing is committed.
 pub fn run_all<S: Alter>(conn: &mut Connection<S>, writes: &[Write<'_>]) -> Result<(), Error>
     requires { conn.old.in_transaction ≡ false }
     ensures done { HasCleanDisk (state S.Store conn.new) → OnOk result ((db : _) × Makes S.Store writes.now conn.old db × Commits (state S.Store conn.old) (state S.Store conn.new) db) }
@@ -168,7 +170,8 @@ pub fn run_all<S: Alter>(conn: &mut Connection<S>, writes: &[Write<'_>]) -> Resu
     tx.commit()
 }
 
-/// Runs the writes in one transaction, all of them or none. They leave this service's tables.
+/// Runs the writes in one transaction, all of them or none. The writes have to leave this service's
+/// tables sound.
 ///
 /// `Err(Fault::NoMemory)`, `Err(Fault::Full)`: nothing is changed.
 pub fn write_all<S: Alter>(conn: &mut Connection<S>, writes: &[Write<'_>]) -> Result<(), Fault>
