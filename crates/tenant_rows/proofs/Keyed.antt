@@ -1,4 +1,4 @@
--- Rows that have numbers as keys, and stand in their order.
+-- Rows that have numbers as keys, and are in their order.
 use Rattle.std.proofs.Common.{◌≡◌, ℕ, ℤ, pos, ◌<◌, ◌≤◌, ◌==◌, ◌||◌, List, [], ◌∷◌, map, filter, Bool, true, false, not, nat_le, nat_lt, if◌then◌else◌, arith, refl, sym, ap, subst, ◌∙◌, ◌<ℤ◌}
 use Rattle.std.specs.Cmp.{int_ranks}
 use Rattle.std.specs.List.{list_any}
@@ -61,7 +61,7 @@ module _ {A : Type 0} (number : A → ℕ) (g : A → Row) (keyed : (x : A) → 
   pub is_own : (n : ℕ) (x : A) → number x ≡ n → other n (g x) ≡ false
   is_own n x same = ap not (ap (λ v. equal Binary v (Int (pos n))) (keyed x ∙ ap (λ k. Int (pos k)) same) ∙ equal_itself (pos n))
 
-  -- what stands behind a number is above it
+  -- what follows a number is above it
   pub all_above : (n : ℕ) (x : A) (xs : List A) → n ≤ number x → is_ascending lower (x ∷ xs) ≡ true → without_key (pos n) (map g xs) ≡ map g xs
   all_above n x [] low up = refl
   all_above n x (y ∷ ys) low up =

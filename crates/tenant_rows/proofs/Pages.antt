@@ -88,7 +88,7 @@ all_front : (P : Row → Type 0) (xs ys : List Row) → AllByRecursion P (xs ++ 
 all_front P [] ys all = tt
 all_front P (x ∷ xs) ys all = (all.0, all_front P xs ys all.1)
 
--- of the last of a list
+-- what holds of each element holds of the last one
 all_last : (P : Row → Type 0) (xs : List Row) (last : Row) → AllByRecursion P (xs ++ last ∷ []) → P last
 all_last P [] last all = all.0
 all_last P (x ∷ xs) last all = all_last P xs last all.1
@@ -130,7 +130,7 @@ module _ (after : List ℕ) (last : Row) (is : column last 0 ≡ Words after) wh
   later_above : (row : Row) → Below last row → is_above after row ≡ true
   later_above row less = ap is_gt (value_cmp_total.antisymm (column row 0) (Words after)) ∙ greater _ (subst (λ v. value_cmp v (column row 0) ≡ Less) is less)
 
--- what is above a text that is above another is above that
+-- what is above the higher of two texts is above the lower one
 above_both : (low high : List ℕ) → is_gt (value_cmp (Words high) (Words low)) ≡ true → (row : Row) → is_above high row ≡ true → is_above low row ≡ true
 above_both low high up row h =
     let far : value_cmp (Words high) (column row 0) ≡ Less = value_cmp_total.antisymm (Words high) (column row 0) ∙ ap ordering_reverse (is_greater _ h) in
@@ -168,12 +168,12 @@ module _ (all rows front : List Row) (last : Row) (after : List ℕ) (tail : IsT
   above : IsPermutation (rows_above after all) page.rest
   above = subst (λ l. IsPermutation l page.rest) (sym above_all) above_rows
 
--- a page and what is left of it are as many as the receipts
+-- the page and the rest together are as many as the receipts
 long : (rows page rest : List Row) (count : ℕ) → IsPermutation rows (page ++ rest) → AreReceipts count rows → length page + length rest ≡ count
 long rows page rest count same h =
     sym (length-append page rest) ∙ (length_permutation rows (page ++ rest) same ∙ (sym (length_permutation rows (map row_of_receipt h.receipts) h.same) ∙ (length-map h.receipts row_of_receipt ∙ h.number)))
 
--- what is left of so many receipts, above the last of a page
+-- the receipts above the last of a page are as many as remain
 forth : (all rows front : List Row) (last : Row) (after : List ℕ) (count left : ℕ) → IsTail all rows → Begins 16 rows (front ++ last ∷ []) → column last 0 ≡ Words after → length (front ++ last ∷ []) + left ≡ count → AreReceipts count rows → AreReceipts left (rows_above after all)
 forth all rows front last after count left tail page is split h =
     let kept : Receipts = filter (λ r. is_above after (row_of_receipt r)) h.receipts in
@@ -193,7 +193,7 @@ forth all rows front last after count left tail page is split h =
     ranges_kept : (rs : Receipts) → list_all is_receipt rs ≡ true → list_all is_receipt (filter (λ r. is_above after (row_of_receipt r)) rs) ≡ true
     ranges_kept rs h = test_from_all is_receipt _ (all-filter (λ r. is_receipt r ≡ true) (λ r. is_above after (row_of_receipt r)) rs (all_from_test is_receipt rs h))
 
--- a page of receipts, and those above it
+-- a page of receipts and those above it are all receipts
 back : (all rows front : List Row) (last : Row) (after : List ℕ) (count left : ℕ) → IsTail all rows → Begins 16 rows (front ++ last ∷ []) → column last 0 ≡ Words after → length (front ++ last ∷ []) + left ≡ count → AllByRecursion IsOfReceipt (front ++ last ∷ []) → AreReceipts left (rows_above after all) → AreReceipts count rows
 back all rows front last after count left tail page is split each h =
     let these = receipts_of (front ++ last ∷ []) each in

@@ -115,7 +115,7 @@ same_pools (p ∷ ps) (q ∷ qs) us vs same rows =
 pub same_pools_alone : (ps qs : List TenantPool) → map row_of_pool ps ≡ map row_of_pool qs → rows_of_exceptions ps ≡ rows_of_exceptions qs → ps ≡ qs
 same_pools_alone ps qs same rows = (same_pools ps qs [] [] same (ap (λ l. l ++ []) rows)).0
 
--- behind the rows of some pools there is that of a pool, and behind their pairs are its own
+-- after the rows of some pools there is that of a pool, and its own pairs follow theirs
 pub record IsNext (row : Row) (left : List Row) : Type 0 where
   pub p : TenantPool
   pub valid : is_tenant_pool p ≡ true
@@ -142,7 +142,7 @@ next_pool (q ∷ qs) (p ∷ ps) row more left all same rows =
 
 -- ---- rows that were read
 
--- the row behind those that were read
+-- the row that follows those that were read
 pub next_read : (done left all : List PoolRow) (row : PoolRow) (qs ps : List TenantPool) (every rest : List Exception) → done ++ row ∷ left ≡ all → map pool_values done ≡ map row_of_pool qs
     → map exception_row every ≡ rows_of_exceptions qs ++ map exception_row rest → list_all is_tenant_pool ps ≡ true → map pool_values all ≡ map row_of_pool ps → map exception_row every ≡ rows_of_exceptions ps
     → IsNext (pool_values row) (map exception_row rest)

@@ -56,7 +56,7 @@ parted n p ps own others is are =
 own_go : (n : ℕ) (p : TenantPool) → p.parts.id ≡ n → without_key (pos n) (rows_of_pairs p.parts.id 0 p.pairs) ≡ []
 own_go n p is = ap (λ k. without_key (pos n) (rows_of_pairs k 0 p.pairs)) is ∙ pairs_go n 0 p.pairs
 
--- what stands behind a number is above it
+-- what follows a number is above it
 pub exceptions_above : (n : ℕ) (p : TenantPool) (ps : List TenantPool) → n ≤ p.parts.id → is_ascending is_lower_pool (p ∷ ps) ≡ true → without_key (pos n) (rows_of_exceptions ps) ≡ rows_of_exceptions ps
 exceptions_above n p [] low up = refl
 exceptions_above n p (q ∷ qs) low up =
@@ -64,7 +64,7 @@ exceptions_above n p (q ∷ qs) low up =
     parted n q qs (rows_of_pairs q.parts.id 0 q.pairs) (rows_of_exceptions qs) (pairs_stay n q.parts.id 0 q.pairs (λ same. absurd (omega (arith, low, next, same))))
     (exceptions_above n q qs (omega (arith, low, next)) (tail_up p (q ∷ qs) up))
 
--- without those of the pool that has a number
+-- the rows without those of the pool that has a number
 pub exceptions_taken : (n : ℕ) (ps : List TenantPool) → is_ascending is_lower_pool ps ≡ true → without_key (pos n) (rows_of_exceptions ps) ≡ rows_of_exceptions (without id_of n ps)
 exceptions_taken n [] up = refl
 exceptions_taken n (p ∷ ps) up = left (p.parts.id == n) refl (exceptions_taken n ps (tail_up p ps up))
@@ -131,7 +131,7 @@ counts n count row same = rw same refl
 leaves : (n count : ℤ) (row : Row) → equal Binary (column row 0) (Int n) ≡ false → with_count n count row ≡ row
 leaves n count row other = rw other refl
 
--- those behind a number stay
+-- those that follow a number stay
 counts_above : (n : ℕ) (count : ℤ) (p : TenantPool) (ps : List TenantPool) → n ≤ p.parts.id → is_ascending is_lower_pool (p ∷ ps) ≡ true → map (with_count (pos n) count) (map row_of_pool ps) ≡ map row_of_pool ps
 counts_above n count p [] low up = refl
 counts_above n count p (q ∷ qs) low up =
@@ -160,7 +160,7 @@ pools_put n pairs (p ∷ ps) up = placed (p.parts.id == n) refl (pools_put n pai
 int_number : (m n : ℕ) → Int (pos m) ≡ Int (pos n) → m ≡ n
 int_number m n h = cc
 
--- a row behind a pool has a higher id
+-- a row that follows a pool has a higher id
 above_it : (n : ℕ) (p : TenantPool) (ps : List TenantPool) (row : Row) → n ≤ p.parts.id → is_ascending is_lower_pool (p ∷ ps) ≡ true → Has (map row_of_pool ps) row → column row 0 ≡ Int (pos n) → ⊥
 above_it n p [] row low up has key = has
 above_it n p (q ∷ qs) row low up (inl is) key =

@@ -42,7 +42,7 @@ pub longer : {A : Type 0} (xs : List A) (x : A) → length (xs ++ x ∷ []) ≡ 
 longer [] x = refl
 longer (w ∷ xs) x = ap suc (longer xs x)
 
--- nothing is left of a list that is read to its end
+-- a list that is read to its end has no remaining elements
 pub whole : {A : Type 0} (done left rows : List A) (n : ℕ) → done ++ left ≡ rows → n ≡ length left → n ≡ 0 → done ≡ rows
 whole [] [] rows n all long end = all
 whole [] (x ∷ left) rows n all long end = absurd (omega (arith, long, end))

@@ -18,7 +18,7 @@ use Rattle.tenant_rows.specs.Rows.{StandsFor}
 
 -- ---- names that keep their rows
 
--- what keeps its rows kept them also the other way round
+-- unchanged rows are unchanged the other way round too
 back : (name : List ℕ) (old new : Trees) → tables.KeepsRowsOf name old new → tables.KeepsRowsOf name new old
 back name old new kept = record {
   tenants = sym kept.tenants;
@@ -50,7 +50,7 @@ stands : (name : List ℕ) (old new : Trees) (s : Option TenantState) → tables
 stands name old new None kept absent = kept.tenants ∙ absent
 stands name old new (Some s) kept had = (had.0, held name _ old new kept had.1)
 
--- a name that keeps its rows stands for what it stood for
+-- a name whose rows are unchanged stands for what it stood for
 pub keeps : (name : List ℕ) (old new : Trees) (s : Option TenantState) → tables.KeepsRowsOf name old new → StandsFor old name s ↔ StandsFor new name s
 keeps name old new s kept = (stands name old new s kept, stands name new old s (back name old new kept))
 

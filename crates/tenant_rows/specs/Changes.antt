@@ -12,12 +12,12 @@ use Rattle.table_schema.specs.Holds.{of_tenant}
 use Rattle.table_reads.specs.declared.find.Tenant.{Tenant}
 use Rattle.tenant_rows.specs.Rows.{rows_of_versions, row_of_state, row_of_pool, rows_of_exceptions, row_of_receipt, StandsFor}
 
--- the name stands for this state, and each other name for what it stood for
+-- the name stands for the state `s`, and each other name for what it stood for
 pub record Turns (name : List ℕ) (s : Option TenantState) (old new : Trees) : Type 0 where
   pub own : StandsFor new name s
   pub others : (t : List ℕ) (u : Option TenantState) → t ≢ name → (StandsFor old t u ↔ StandsFor new t u)
 
--- the number and the epoch are those of a tenant that has this; its rows stand in any order
+-- The number and the epoch are those of a tenant that has the inventory. Its rows are in any order.
 pub record HasRows (db : Trees) (id epoch : ℤ) (i : Inventory) : Type 0 where
   pub epoch_is : epoch ≡ pos i.epoch
   pub versions : IsPermutation (of_tenant maps_table id db) (rows_of_versions 1 i.versions)
@@ -25,15 +25,14 @@ pub record HasRows (db : Trees) (id epoch : ℤ) (i : Inventory) : Type 0 where
   pub pools : IsPermutation (of_tenant pools_table id db) (map row_of_pool i.pools)
   pub exceptions : IsPermutation (of_tenant exceptions_table id db) (rows_of_exceptions i.pools)
 
--- the tenant with the number has these receipts, and its epoch is their number
+-- the tenant with the number has the receipts, and its epoch is their number
 pub record HasReceipts (db : Trees) (id epoch : ℤ) (receipts : Receipts) : Type 0 where
   pub epoch_is : epoch ≡ pos (length receipts)
   pub ranges : list_all is_receipt receipts ≡ true
   pub order : is_ascending is_before receipts ≡ true
   pub rows : IsPermutation (of_tenant receipts_table id db) (map row_of_receipt receipts)
 
--- the name is that of a tenant with this number and epoch, and so many versions, whose state can
--- make the change
+-- the name is that of the tenant, whose state has `versions` versions and can make the change
 pub record IsChangeable (db : Trees) (name : List ℕ) (s : TenantState) (tenant : Tenant) (versions : ℕ) (change : Change) : Type 0 where
   pub names : Names db name (Some tenant)
   pub state : StandsFor db name (Some s)

@@ -20,18 +20,18 @@ use Rattle.tenant_rows.specs.Rows.{flag, row_of_pool, rows_of_pairs}
 abbrev pub numbers_of : DeviceState → State
 numbers_of s = record { device = pos s.device; reweight = pos s.reweight; up = flag s.up }
 
--- the row of a pool, if it has this id, with another number of pairs
+-- the row of a pool; with `count` as the number of its pairs if the pool has the id
 abbrev pub with_count : ℤ → ℤ → Row → Row
 with_count id count row = if equal Binary (column row 0) (Int id) then take 8 row ++ Int count ∷ [] else row
 
--- the pool with the id has these pairs, and no others
+-- the pool with the id has the pairs, and no others
 abbrev pub with_new_pairs : ℕ → List Pair → TenantRows → TenantRows
 with_new_pairs id pairs rows = record rows {
   pools = map (with_count (pos id) (pos (length pairs))) rows.pools;
   exceptions = rows_of_pairs id 0 pairs ++ without_key (pos id) rows.exceptions;
 }
 
--- the rows with what is made, of which a version gets the number
+-- the rows with what is made; a version gets the number
 abbrev pub rows_with_made : ℤ → Made → TenantRows → TenantRows
 rows_with_made number (NewVersion m) rows = with_version number (canonical m) rows
 rows_with_made number (NewStates changed) rows = with_states (map numbers_of changed) rows
@@ -39,7 +39,7 @@ rows_with_made number (NewPool p) rows = record rows { pools = row_of_pool (reco
 rows_with_made number (NewExceptions id pairs) rows = with_new_pairs id pairs rows
 rows_with_made number (RemovedPool id) rows = without_pool (pos id) rows
 
--- what is made suits the tenant with the number, of whose pools these are the rows
+-- what is made suits the pools of the tenant with the number
 pub record HasPoolsFor (db : Trees) (id : ℤ) (made : Made) : Type 0 where
   pub i : Inventory
   pub has : IsInventory i

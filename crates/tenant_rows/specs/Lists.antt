@@ -12,8 +12,8 @@ use Rattle.table_schema.specs.declared.values.Exception.{Exception}
 use Rattle.table_schema.specs.declared.values.State.{State}
 use Rattle.tenant_rows.specs.Rows.{rows_of_versions, row_of_state, row_of_pool, rows_of_exceptions, row_of_receipt}
 
--- it is what some state has: in its ranges and orders, within the limits, with a name for each pool
--- and with each pool's rule in the newest version
+-- some state has the inventory: it is in its ranges and orders and within the limits, no two pools
+-- have one name, and the newest version has each pool's rule
 pub record IsOfState (i : Inventory) : Type 0 where
   pub has : IsInventory i
   pub few_versions : length i.versions ≤ VERSION_LIMIT
@@ -22,7 +22,7 @@ pub record IsOfState (i : Inventory) : Type 0 where
   pub names : are_named_once i.pools ≡ true
   pub rules : have_rules i ≡ true
 
--- the epoch and the rows are those of what a tenant has, in its order
+-- the epoch and the rows are those of the inventory, in its order
 pub record AreRowsOf (i : Inventory) (epoch : ℤ) (versions : List VersionRow) (states : List State) (pools : List PoolRow) (exceptions : List Exception) : Type 0 where
   pub epoch_is : epoch ≡ pos i.epoch
   pub versions_are : map version_values versions ≡ rows_of_versions 1 i.versions
@@ -30,7 +30,7 @@ pub record AreRowsOf (i : Inventory) (epoch : ℤ) (versions : List VersionRow) 
   pub pools_are : map pool_values pools ≡ map row_of_pool i.pools
   pub exceptions_are : map exception_row exceptions ≡ rows_of_exceptions i.pools
 
--- the epoch and the rows are those of a state, in its order
+-- the epoch and the rows are those of the state, in its order
 pub record AreRowsOfState (s : TenantState) (epoch : ℤ) (versions : List VersionRow) (states : List State) (pools : List PoolRow) (exceptions : List Exception) (receipts : List ReceiptRow) : Type 0 where
   pub has : AreRowsOf (inventory_of s) epoch versions states pools exceptions
   pub receipts_are : map receipt_values receipts ≡ map row_of_receipt s.receipts

@@ -1,4 +1,4 @@
--- Receipts that are judged a page at a time.
+-- Receipts are judged a page at a time.
 use Rattle.std.specs.Prelude.{ℕ, ◌≡◌, ◌⊎◌, ◌↔◌, List, length, map, true, Option, Some, None, IsPermutation, string_bytes}
 use Rattle.std.specs.List.{list_all}
 use Rattle.sqlite_value.specs.Order.{Row}
@@ -14,7 +14,7 @@ use Rattle.tenant_rows.specs.declared.judge.Rest.{Rest}
 abbrev pub IsOfReceipt : Row → Type 0
 IsOfReceipt row = (r : List ℕ × Receipt) × (is_receipt r ≡ true) × (row ≡ row_of_receipt r)
 
--- the rows are those of so many receipts, in any order
+-- the rows are those of `count` receipts, in any order
 pub record AreReceipts (count : ℕ) (rows : List Row) : Type 0 where
   pub receipts : Receipts
   pub number : length receipts ≡ count
@@ -22,12 +22,12 @@ pub record AreReceipts (count : ℕ) (rows : List Row) : Type 0 where
   pub order : is_ascending is_before receipts ≡ true
   pub same : IsPermutation rows (map row_of_receipt receipts)
 
--- they are all the rows, or those above a text
+-- the rows are all rows, or those above a text
 abbrev pub IsTail : List Row → List Row → Type 0
 IsTail all rows = (rows ≡ all) ⊎ ((after : List ℕ) × (rows ≡ rows_above after all))
 
--- The rows are those of so many receipts, or they are so exactly where those of the rows that are
--- left are.
+-- The rows are those of `count` receipts; or they are so exactly where the rows that remain to be
+-- judged are those of `rest.left` receipts.
 abbrev pub Leaves : List Row → List Row → ℕ → Option Rest → Type 0
 Leaves all rows count None = AreReceipts count rows
 Leaves all rows count (Some rest) = AreReceipts count rows ↔ AreReceipts rest.left (rows_above (string_bytes rest.after) all)

@@ -86,9 +86,9 @@ rows_of s = record {
   exceptions = rows_of_exceptions s.pools;
 }
 
--- The rows of a name stand for no tenant where there is no row of tenants with it, and else for the
--- state whose rows they are, in any order. The tenant's number is no part of it. Where they are the
--- rows of no state, they stand for nothing.
+-- The rows of a name stand for no tenant where there is no row of tenants with the name, and else
+-- for the state whose rows they are, in any order. The tenant's number is no part of the state.
+-- Where they are the rows of no state, they stand for nothing.
 abbrev pub StandsFor : Trees → List ℕ → Option TenantState → Type 0
 StandsFor db name None = IsAbsent db name
 StandsFor db name (Some s) = IsState s × Holds db name (rows_of s)
@@ -108,8 +108,8 @@ first_row_of_pool p =
     ∷ Int (flag p.hashpspool)
     ∷ []
 
--- In tables of schema 1 the name is that of a tenant with the rows of this state, in any order. No
--- pool of it has pairs.
+-- In tables of schema 1 the name is that of a tenant with the rows of the state, in any order. No
+-- pool of the state has pairs.
 pub record HoldsFirst (db : Trees) (name : List ℕ) (s : TenantState) : Type 0 where
   pub id : ℤ
   pub tenant : IsTenant db name id (epoch s)

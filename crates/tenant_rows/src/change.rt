@@ -32,7 +32,7 @@ use tenant_tables::tables::Tables;
 
 // ---- numbers
 
-/// Returns the number of a tenant's next epoch. `None`, where it isn't one of 64 bits.
+/// Returns the number of the tenant's next epoch, or `None` where it doesn't fit 64 bits.
 fn epoch_after(tenant: &Tenant) -> Option<i64>
     ensures some { IfSome result (λ next. (n : ℕ) → tenant.now.epoch ≡ pos n → next ≡ pos (n + 1)) }
     ensures none { result ≡ None → (n : ℕ) → n < 2 ^ 32 → tenant.now.epoch ≢ pos n }
@@ -40,7 +40,8 @@ fn epoch_after(tenant: &Tenant) -> Option<i64>
     tenant.epoch.checked_add(1)
 }
 
-/// Returns the number of the version after so many. `None`, where it isn't one of 64 bits.
+/// Returns the number of the version after `versions` versions, or `None` where it doesn't fit 64
+/// bits.
 fn version_after(versions: u64) -> Option<i64>
     ensures some { IfSome result (λ number. number ≡ pos (versions + 1)) }
     ensures none { result ≡ None → 2 ^ 32 ≤ versions }
@@ -48,14 +49,14 @@ fn version_after(versions: u64) -> Option<i64>
     i64::try_from(versions.checked_add(1)?).ok()
 }
 
-/// Returns a flag is 0 or 1.
+/// Returns 1 for `true`, and 0 for `false`.
 fn flag(flag: bool) -> i64
     ensures { result ≡ spec.flag flag }
 {
     if flag { 1 } else { 0 }
 }
 
-/// Returns the number of a status.
+/// Returns the number of `status`.
 fn status(status: SuccessStatus) -> i64
     ensures { result ≡ pos (success_status status) }
 {
@@ -104,7 +105,7 @@ fn pool_values(pool: &Pool) -> PoolValues<'_>
     }
 }
 
-/// Returns the values of a row of a pool that was read, with another number of exceptions.
+/// Returns the values of the row of a pool that was read, with `pairs` as the number of exceptions.
 fn values_with(row: &PoolRow, pairs: i64) -> PoolValues<'_>
     ensures { rows.pool_row result ≡ take 8 (read.pool_values row.now) ++ Int pairs ∷ [] }
 {
@@ -121,7 +122,7 @@ fn values_with(row: &PoolRow, pairs: i64) -> PoolValues<'_>
     }
 }
 
-/// Returns the row of the pool with an id. `None`, where there is none.
+/// Returns the row of the pool with `id`, or `None` where there is none.
 fn row_with(rows: Vec<PoolRow>, id: u32) -> Option<PoolRow>
     ensures some { IfSome result (λ row. Has (map read.pool_values rows.items) (read.pool_values row) × (row.id ≡ pos id)) }
     ensures none { result ≡ None → (row : Row) → Has (map read.pool_values rows.items) row → column row 0 ≢ Int (pos id) }
@@ -134,7 +135,7 @@ fn row_with(rows: Vec<PoolRow>, id: u32) -> Option<PoolRow>
     None
 }
 
-/// Returns the values of the row of a pair of a pool, at its place.
+/// Returns the values of the row of `pair`, at `place` of the pool with the id `pool`.
 fn pair_values(pool: u32, place: u32, pair: &Pair) -> Exception
     ensures { rows.exception_row result ≡ spec.row_of_pair pool place pair.now }
 {
@@ -147,8 +148,8 @@ fn pair_values(pool: u32, place: u32, pair: &Pair) -> Exception
     }
 }
 
-/// Returns the values of the rows of the pairs of a pool, which have the places 0, 1, ..
-/// `Err(AllocError)`: an allocation failed.
+/// Returns the values of the rows of `pairs`, at the places 0, 1, .. of the pool with the id
+/// `pool`. `Err(AllocError)`: an allocation failed.
 fn all_pair_values(alloc: Global, pool: u32, pairs: &[Pair]) -> Result<Vec<Exception>, AllocError>
     requires { length pairs.now ≤ PAIR_LIMIT }
     ensures { IfOk result (λ values. map rows.exception_row values.items ≡ spec.rows_of_pairs pool 0 pairs.now) }
@@ -175,7 +176,7 @@ fn receipt_values<'a>(number: &'a Text, receipt: &'a Receipt) -> ReceiptValues<'
 
 // ---- changes
 
-/// Writes states of devices, each in place of an earlier one, with the epoch and the receipt.
+/// Writes `states`, each in place of an earlier one of its device, with the epoch and the receipt.
 fn write_states<'a, S: Alter>(
     alloc: Global,
     tables: &mut Tables<S>,
@@ -198,8 +199,8 @@ fn write_states<'a, S: Alter>(
     }
 }
 
-/// Writes exceptions of the pool with an id, in place of the earlier ones, with the epoch and the
-/// receipt. The pool is there.
+/// Writes `exceptions` of the pool with the id `pool`, in place of the earlier ones, with the epoch
+/// and the receipt. The tenant has to have the pool.
 fn write_exceptions<S: Alter>(
     alloc: Global,
     tables: &mut Tables<S>,
@@ -232,7 +233,7 @@ fn write_exceptions<S: Alter>(
     }
 }
 
-/// Writes what a change makes, with the epoch and the receipt. A version gets the number.
+/// Writes `made`, with the epoch and the receipt. A version gets the number `number`.
 fn write_made<'a, S: Alter>(
     alloc: Global,
     tables: &mut Tables<S>,
@@ -268,7 +269,7 @@ fn write_made<'a, S: Alter>(
     }
 }
 
-/// Writes an accepted change of a tenant, which has so many versions, in one transaction.
+/// Writes an accepted change of `tenant`, which has `versions` versions, in one transaction.
 ///
 /// `Err(Fault::NoMemory)`, `Err(Fault::Full)`: nothing is changed. `Err(Fault::Failed)`: the tables
 /// are latched.

@@ -20,14 +20,14 @@ use table_schema::values::{Exception, State};
 use tenant_state::limits::{POOL_LIMIT, RECEIPT_LIMIT, VERSION_LIMIT};
 use tenant_state::{Inventory, TenantPool, Versions};
 
-/// Returns whether one of some pools has a name.
+/// Returns whether one of `pools` has the name `name`.
 fn is_one_named(name: &str, pools: &[Rc<TenantPool>]) -> bool
     ensures { result ≡ list_any (λ p. bytes_eq p.value.parts.name name.now) pools.now }
 {
     pools.iter().any(|pool| pool.parts().name.as_str() == name)
 }
 
-/// Returns the same of the pools' parts.
+/// Returns the same as `is_one_named`. Its contract speaks of the pools' parts.
 fn is_named(name: &str, pools: &[Rc<TenantPool>]) -> bool
     ensures { result ≡ list_any (λ p. bytes_eq p.parts.name name.now) (map (λ p. p.value) pools.now) }
 {
@@ -48,7 +48,7 @@ fn are_named_once(pools: &[Rc<TenantPool>]) -> bool
     true
 }
 
-/// Returns whether a map has the rule of each of some pools.
+/// Returns whether `map` has the rule of each of `pools`.
 fn has_each_rule(map: &CrushMap, pools: &[Rc<TenantPool>]) -> bool
     ensures { result ≡ list_all (λ p. is_some (rule_numbered map.now p.value.parts.rule)) pools.now }
 {
@@ -67,8 +67,8 @@ fn have_rules(inventory: &Inventory) -> bool
     }
 }
 
-/// Returns whether it is what some state has: within the limits, with a name for each pool, and
-/// with each pool's rule in the newest version.
+/// Returns whether `inventory` is what some state has: it is within the limits, no two pools have
+/// one name, and the newest version has each pool's rule.
 fn is_of_state(inventory: &Inventory) -> bool
     ensures { IsTrue result ↔ IsOfState inventory.now }
 {
@@ -79,8 +79,9 @@ fn is_of_state(inventory: &Inventory) -> bool
         && have_rules(inventory)
 }
 
-/// Returns what the tenant with this epoch and these rows, in the order of their keys, has. `None`,
-/// exactly where they are the rows of no state. `Err(AllocError)`: an allocation failed.
+/// Returns what the tenant with `epoch` and the rows has. Each list of rows is in the order of its
+/// keys. `None`, exactly where they are the rows of no state. `Err(AllocError)`: an allocation
+/// failed.
 pub fn inventory_from(
     alloc: Global,
     epoch: i64,

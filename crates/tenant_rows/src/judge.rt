@@ -17,8 +17,8 @@ use table_reads::rows::ReceiptRow;
 use table_schema::refuse::Fault;
 use tenant_tables::tables::Tables;
 
-/// What is still to be judged: the receipts whose request numbers are above one, and how many they
-/// have to be.
+/// The receipts that are still to be judged: those whose request numbers are above `after`, of
+/// which there have to be `left`.
 #[derive(Drop)]
 struct Rest {
     after: String,
@@ -37,9 +37,9 @@ fn are_receipts(rows: &[ReceiptRow]) -> bool
     true
 }
 
-/// Judges the first page of rows that have to be those of so many receipts. `None`: there is no
-/// other page, and they are. `Err(Fault::Damaged)`: they are not, whatever is behind the page. The
-/// page is dropped before the next one is read.
+/// Judges `page`, the first page of rows that have to be those of `left` receipts. `None`: there is
+/// no other page, and the rows are those receipts. `Err(Fault::Damaged)`: they are not, whatever
+/// follows the page. The page is dropped before the next one is read.
 fn rest_behind(page: Vec<ReceiptRow>, left: u64) -> Result<Option<Rest>, Fault>
     ensures leaves { (all rows : List Row) → IsTail all rows → Begins 16 rows (map receipt_values page.items) → IfOk result (Leaves all rows left) }
     ensures damaged { result ≡ Err Fault.Damaged → (rows : List Row) → Begins 16 rows (map receipt_values page.items) → ¬ AreReceipts left rows }
@@ -65,10 +65,10 @@ fn rest_behind(page: Vec<ReceiptRow>, left: u64) -> Result<Option<Rest>, Fault>
     }
 }
 
-/// Tests the receipts of the tenant with the number, in pages: that each is one, and that the
-/// epoch is their number. No row is changed.
+/// Tests the receipts of the tenant with the number `id`, in pages: each row has to be a receipt,
+/// and their number has to be `epoch`. No row is changed.
 ///
-/// `Err(Fault::Damaged)`, exactly where they are the receipts of no state. `Err(Fault::NoMemory)`:
+/// `Err(Fault::Damaged)`: exactly where they are the receipts of no state. `Err(Fault::NoMemory)`:
 /// an allocation failed. `Err(Fault::Failed)`: the tables are latched.
 pub fn judge_receipts<S: Alter>(tables: &mut Tables<S>, id: i64, epoch: i64) -> Result<(), Fault>
     requires live { tables.old.1 ≡ false }

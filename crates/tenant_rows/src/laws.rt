@@ -10,22 +10,23 @@ ghost use Rattle.tenant_rows.specs.Rows.{FirstStandsFor, StandsFor, StatesIn};
 
 use crush_text::written_maps_are_read_back;
 
-/// The rows of a name stand for one state at most, or for no tenant.
+/// States that the rows of a name stand for one state at most, or for no tenant.
 pub fn names_stand_for_one_state()
     ensures { (db : Trees) (name : List ℕ) (s t : Option TenantState) → StandsFor db name s → StandsFor db name t → s ≡ t }
 {
     written_maps_are_read_back();
 }
 
-/// So do rows of schema 1.
+/// States that so do rows of schema 1.
 pub fn names_of_schema_1_stand_for_one_state()
     ensures { (db : Trees) (name : List ℕ) (s t : Option TenantState) → FirstStandsFor db name s → FirstStandsFor db name t → s ≡ t }
 {
     written_maps_are_read_back();
 }
 
-/// Rows that an opening has made, or put in the place of those of schema 1, stand for the states
-/// that the database had; and so do those of a database that has this service's tables already.
+/// States that rows which an opening has made, or put in the place of those of schema 1, stand for
+/// the states that the database had, and so do those of a database that has this service's tables
+/// already.
 #[tactic(auto, using(crate::proofs::Migrated::set_up_states, crate::proofs::Migrated::found_states))]
 pub fn openings_keep_states()
     ensures set_up { (old : Database) (trees : Trees) → SetsUp old trees → (t : List ℕ) (s : Option TenantState) → StatesIn old t s ↔ StandsFor trees t s }

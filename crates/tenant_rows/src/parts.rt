@@ -28,7 +28,7 @@ use tenant_state::{Devices, Receipt, Version};
 
 // ---- numbers
 
-/// Returns the number, where it is one of 32 bits.
+/// Returns `number` where it is one of 32 bits without a sign, and else `None`.
 pub fn natural(number: i64) -> Option<u32>
     ensures some { IfSome result (λ n. number ≡ pos n) }
     ensures none { result ≡ None → (n : ℕ) → n < 2 ^ 32 → number ≢ pos n }
@@ -36,7 +36,7 @@ pub fn natural(number: i64) -> Option<u32>
     u32::try_from(number).ok()
 }
 
-/// Returns the flag, where it is 0 or 1.
+/// Returns the flag that `number` is where it is 0 or 1, and else `None`.
 pub fn flag(number: i64) -> Option<bool>
     ensures some { IfSome result (λ b. number ≡ spec.flag b) }
     ensures none { result ≡ None → (b : Bool) → number ≢ spec.flag b }
@@ -48,7 +48,7 @@ pub fn flag(number: i64) -> Option<bool>
     }
 }
 
-/// Returns the status of a receipt, where it is one.
+/// Returns the status of a receipt that `number` is, or `None` where it is none.
 fn status(number: i64) -> Option<SuccessStatus>
     ensures some { IfSome result (λ s. number ≡ pos (success_status s)) }
     ensures none { result ≡ None → (s : Status) → number ≢ pos (success_status s) }
@@ -62,7 +62,8 @@ fn status(number: i64) -> Option<SuccessStatus>
 
 // ---- versions
 
-/// Returns the version of a row that has the number. `None`, exactly where there is none.
+/// Returns the version of `row`, which has to have the number `number`. `None`, exactly where `row`
+/// is no row of such a version. `Err(AllocError)`: an allocation failed.
 fn version_from(
     alloc: Global,
     row: VersionRow,
@@ -80,7 +81,7 @@ fn version_from(
     }
 }
 
-/// Returns the versions 1, 2, .. of these rows. `None`, exactly where they are the rows of none.
+/// Returns the versions 1, 2, .. of `rows`. `None`, exactly where they are the rows of no versions.
 /// Each text is dropped as soon as its version is there. `Err(AllocError)`: an allocation failed.
 pub fn versions_from(
     alloc: Global,
@@ -102,7 +103,7 @@ pub fn versions_from(
 
 // ---- states of devices
 
-/// Returns the state of a device of a row. `None`, exactly where there is none.
+/// Returns the state of a device of `row`. `None`, exactly where `row` is the row of no state.
 fn state_from(row: State) -> Option<DeviceState>
     ensures some { IfSome result (λ s. (is_device_state s ≡ true) × (state_row row ≡ spec.row_of_state s)) }
     ensures none { result ≡ None → (s : StateOfDevice) → is_device_state s ≡ true → state_row row ≢ spec.row_of_state s }
@@ -120,8 +121,8 @@ fn state_from(row: State) -> Option<DeviceState>
     })
 }
 
-/// Returns the states of devices of these rows, in the order of the devices' ids. `None`, exactly
-/// where they are the rows of none. `Err(AllocError)`: an allocation failed.
+/// Returns the states of devices of `rows`, in the order of the devices' ids. `None`, exactly where
+/// they are the rows of no states. `Err(AllocError)`: an allocation failed.
 pub fn states_from(alloc: Global, rows: Vec<State>) -> Result<Option<Rc<Devices>>, AllocError>
     ensures some { IfOk result (λ o. IfSome o (λ d. (list_all is_device_state d.value ≡ true) × (is_ascending is_lower_device d.value ≡ true) × (map state_row rows.items ≡ map spec.row_of_state d.value))) }
     ensures none { IfOk result (λ o. o ≡ None → (states : List StateOfDevice) → list_all is_device_state states ≡ true → is_ascending is_lower_device states ≡ true → map state_row rows.items ≢ map spec.row_of_state states) }
@@ -141,7 +142,7 @@ pub fn states_from(alloc: Global, rows: Vec<State>) -> Result<Option<Rc<Devices>
 
 // ---- receipts
 
-/// Returns whether the row is that of a receipt.
+/// Returns whether `row` is that of a receipt.
 pub fn is_receipt_row(row: &ReceiptRow) -> bool
     ensures { IsTrue result ↔ IsOfReceipt (receipt_values row.now) }
 {
@@ -151,8 +152,8 @@ pub fn is_receipt_row(row: &ReceiptRow) -> bool
     }
 }
 
-/// Returns the request number and the receipt of a row. `None`, exactly where there is none.
-/// `Err(AllocError)`: an allocation failed.
+/// Returns the request number and the receipt of `row`. `None`, exactly where `row` is the row of
+/// no receipt. `Err(AllocError)`: an allocation failed.
 pub fn receipt_from(
     alloc: Global,
     row: ReceiptRow,

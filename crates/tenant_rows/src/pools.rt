@@ -26,8 +26,8 @@ use tenant_state::{Pools, TenantPool};
 
 // ---- pairs
 
-/// Returns the pair of a row that has this pool and this place. `None`, exactly where there is
-/// none.
+/// Returns the pair of `row`, which has to be at `place` of the pool with the id `pool`. `None`,
+/// exactly where `row` is the row of no such pair.
 fn pair_from(row: &Exception, pool: u32, place: u64) -> Option<Pair>
     ensures some { IfSome result (λ p. exception_row row.now ≡ spec.row_of_pair pool place p) }
     ensures none { result ≡ None → (p : PairOfPool) → is_pair GROUP_LIMIT p ≡ true → exception_row row.now ≢ spec.row_of_pair pool place p }
@@ -41,8 +41,9 @@ fn pair_from(row: &Exception, pool: u32, place: u64) -> Option<Pair>
     Some(Pair { group, from, to })
 }
 
-/// Returns the pairs of a pool from the rows of its exceptions, which have the places 0, 1, ..
-/// `None`, exactly where they are the rows of none. `Err(AllocError)`: an allocation failed.
+/// Returns the pairs of the pool with the id `pool` from the rows of its exceptions, which have the
+/// places 0, 1, .. `None`, exactly where they are the rows of no pairs. `Err(AllocError)`: an
+/// allocation failed.
 fn pairs_from(alloc: Global, rows: &[Exception], pool: u32) -> Result<Option<Vec<Pair>>, AllocError>
     ensures some { IfOk result (λ o. IfSome o (λ pairs. map exception_row rows.now ≡ spec.rows_of_pairs pool 0 pairs.items)) }
     ensures none { IfOk result (λ o. o ≡ None → (pairs : List PairOfPool) → list_all (is_pair GROUP_LIMIT) pairs ≡ true → map exception_row rows.now ≢ spec.rows_of_pairs pool 0 pairs) }
@@ -60,7 +61,8 @@ fn pairs_from(alloc: Global, rows: &[Exception], pool: u32) -> Result<Option<Vec
 
 // ---- pools
 
-/// Returns the settings of a pool of a row. `None`, exactly where there are none.
+/// Returns the settings of the pool of `row`. `None`, exactly where `row` has the settings of no
+/// pool.
 fn settings_from(row: PoolRow) -> Option<Pool>
     ensures some { IfSome result (λ p. (is_pool p ≡ true) × (pool_values row ≡ spec.row_with_count p row.pairs)) }
     ensures none { result ≡ None → (p : PartsOfPool) → is_pool p ≡ true → pool_values row ≢ spec.row_with_count p row.pairs }
@@ -85,8 +87,8 @@ fn settings_from(row: PoolRow) -> Option<Pool>
     .ok()
 }
 
-/// Returns the pool of a row with these rows of its exceptions, which are as many as it says.
-/// `None`, exactly where there is none. `Err(AllocError)`: an allocation failed.
+/// Returns the pool of `row` with the rows of its exceptions, which are as many as `row` says.
+/// `None`, exactly where they are the rows of no pool. `Err(AllocError)`: an allocation failed.
 fn pool_from(
     alloc: Global,
     row: PoolRow,
@@ -111,7 +113,7 @@ fn pool_from(
     }
 }
 
-/// So many of the first rows, and those behind them. `None`: there are not so many.
+/// Returns the first `count` rows and the rows that follow them, or `None` where there are fewer.
 fn split(rows: &[Exception], count: i64) -> Option<(&[Exception], &[Exception])>
     ensures some { IfSome result (λ r. (rows.now ≡ r.0.now ++ r.1.now) × (count ≡ pos (length r.0.now))) }
     ensures none { result ≡ None → (n : ℕ) → count ≡ pos n → length rows.now < n }
@@ -123,9 +125,9 @@ fn split(rows: &[Exception], count: i64) -> Option<(&[Exception], &[Exception])>
     Some(rows.split_at(count))
 }
 
-/// Returns the pools of these rows, in the order of their ids, and of the rows of their exceptions,
-/// by pool and place: each pool has as many as its row says, with the places 0, 1, .., and no row
-/// is of another pool. `None`, exactly where they are the rows of none. `Err(AllocError)`: an
+/// Returns the pools of `rows`, in the order of their ids, with the pairs of `exceptions`, by pool
+/// and place: each pool has as many as its row says, with the places 0, 1, .., and no row is of
+/// another pool. `None`, exactly where they are the rows of no pools. `Err(AllocError)`: an
 /// allocation failed.
 pub fn pools_from(
     alloc: Global,

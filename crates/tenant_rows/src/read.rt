@@ -16,9 +16,9 @@ use table_schema::refuse::Fault;
 use tenant_state::Inventory;
 use tenant_tables::tables::Tables;
 
-/// Returns what the tenant with the number and the epoch has, from its rows. No row is changed.
+/// Reads what the tenant with the number `id` and the epoch `epoch` has. No row is changed.
 ///
-/// `Err(Fault::Damaged)`, exactly where they are rows of no state. `Err(Fault::NoMemory)`: an
+/// `Err(Fault::Damaged)`: exactly where its rows are those of no state. `Err(Fault::NoMemory)`: an
 /// allocation failed. `Err(Fault::Failed)`: the tables are latched.
 pub fn read_inventory<S: Alter>(
     alloc: Global,

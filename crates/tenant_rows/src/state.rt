@@ -17,8 +17,8 @@ use table_reads::rows::{PoolRow, ReceiptRow, VersionRow};
 use table_schema::values::{Exception, State};
 use tenant_state::{Receipts, TenantState};
 
-/// Returns the receipts of these rows, in the order of their request numbers. `None`, exactly where
-/// they are the rows of none. `Err(AllocError)`: an allocation failed.
+/// Returns the receipts of `rows`, in the order of their request numbers. `None`, exactly where
+/// they are the rows of no receipts. `Err(AllocError)`: an allocation failed.
 pub fn receipts_from(alloc: Global, rows: Vec<ReceiptRow>) -> Result<Option<Receipts>, AllocError>
     ensures some { IfOk result (λ o. IfSome o (λ receipts. (list_all is_receipt receipts ≡ true) × (is_ascending is_before receipts ≡ true) × (map receipt_values rows.items ≡ map row_of_receipt receipts))) }
     ensures none { IfOk result (λ o. o ≡ None → (receipts : ListOfReceipts) → list_all is_receipt receipts ≡ true → is_ascending is_before receipts ≡ true → map receipt_values rows.items ≢ map row_of_receipt receipts) }
@@ -33,8 +33,9 @@ pub fn receipts_from(alloc: Global, rows: Vec<ReceiptRow>) -> Result<Option<Rece
     Receipts::from_list(alloc, receipts)
 }
 
-/// Returns the state of the tenant with this epoch and these rows, in the order of their keys.
-/// `None`, exactly where they are the rows of no state. `Err(AllocError)`: an allocation failed.
+/// Returns the state of the tenant with `epoch` and the rows. Each list of rows is in the order of
+/// its keys. `None`, exactly where they are the rows of no state. `Err(AllocError)`: an allocation
+/// failed.
 pub fn from_rows(
     alloc: Global,
     epoch: i64,

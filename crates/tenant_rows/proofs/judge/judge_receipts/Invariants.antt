@@ -7,7 +7,7 @@ use Rattle.tenant_rows.specs.Pages.{Leaves}
 use Rattle.tenant_rows.proofs.Pages.{pages_left}
 use Rattle.tenant_rows.proofs.judge.judge_receipts.Given as goal
 
--- no row is changed, and what is left decides
+-- no row is changed, and the remaining receipts decide
 abbrev pub invariant-loop-rest : goal.invariant-loop-rest
 invariant-loop-rest g l =
     let old = state g.S.Store l.fn.tables.0 in
