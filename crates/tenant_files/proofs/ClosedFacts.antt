@@ -14,7 +14,7 @@ use Rattle.sqlite.specs.State.{HasCleanDisk}
 use Rattle.tenant_files.specs.Closed.{GivesBack, IsLeft}
 use Rattle.tenant_files.specs.declared.fault.FileFault.{FileFault}
 
--- where these files return what was written, the connection's did
+-- where the files given back return what was written, the connection's did
 pub clean_before : {D : Type 0} {g : disk.Ghosts D} (c : Held (FileStore D g)) (last : FileStore D g) (files : Files D) → store.files last ≡ (files.log, files.db) → IsClosed c last
     → AreClean g files.log files.db → HasCleanDisk (file_state c)
 clean_before {D = D} {g = g} c last files is closed clean =

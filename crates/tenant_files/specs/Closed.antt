@@ -1,4 +1,4 @@
--- What a connection to a database file gave back.
+-- What a connection to a database file gives back.
 use Rattle.std.specs.Prelude.{◌≡◌, Result, Ok, Err}
 use Rattle.sqlite_disk.specs.declared.Disk as disk
 use Rattle.sqlite_disk.specs.declared.Files.{Files}
@@ -20,7 +20,7 @@ pub record IsLeft {D : Type 0} {g : disk.Ghosts D} (c : Held (FileStore D g)) (f
   pub was_clean : AreClean g files.log files.db → HasCleanDisk (file_state c)
 
 -- The connection's last commit is in the database file, where the disk returned what was written;
--- or it wasn't copied there, and the files are left as they were.
+-- or it wasn't copied there, and the files are unchanged.
 abbrev pub GivesBack : {D : Type 0} {g : disk.Ghosts D} → Held (FileStore D g) → Result (Unit {0}) FileFault → Files D → Type 0
 GivesBack {g = g} c (Ok done) files = AreClean g files.log files.db → IsCopied c files
 GivesBack c (Err fault) files = IsLeft c files

@@ -14,7 +14,7 @@ pub record Finds {D : Type 0} {g : disk.Ghosts D} (Clean : Type 0) (image : Imag
   pub opened : Clean → IsOpened was
   pub found : Clean → FindsIn image (file_state was)
 
--- an opening found a database, and its tenants have these states
+-- an opening found a database, and its tenants have the states `states`
 pub record IsFound {D : Type 0} (g : disk.Ghosts D) (Clean : Type 0) (image : Image) (states : States) : Type 0 where
   pub was : Held (FileStore D g)
   pub finds : Finds Clean image was

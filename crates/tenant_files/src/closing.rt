@@ -11,12 +11,13 @@ use sqlite_disk::{Disk, Files};
 /// file.
 #[derive(Drop)]
 pub struct Closed<D: Disk> {
-    /// `Err`: it wasn't. What was committed is in the file or in its log.
+    /// Whether the log was copied. `Err`: it wasn't, and what was committed is in the file or in
+    /// its log.
     pub copied: Result<(), FileFault>,
     pub files: Files<D>,
 }
 
-/// Copies the log into the database file, and gives both back.
+/// Copies the log into the database file, and gives both files back.
 ///
 /// `copied` is `Err(FileFault::Store)` where the file failed, and `Err(FileFault::NoMemory)` where
 /// an allocation failed.
@@ -35,7 +36,7 @@ fn close_files<D: Disk + Drop>(conn: Connection<FileStore<D>>) -> Closed<D>
     }
 }
 
-/// Gives back the files of a connection whose file failed for good, with nothing copied.
+/// Gives back the files of a connection whose file failed for good. Nothing is copied.
 fn give_up<D: Disk + Drop>(conn: Connection<FileStore<D>>) -> Closed<D>
     ensures given { GivesBack conn result.copied result.files }
     ensures failed { result.copied ≡ Err FileFault.Store }
@@ -46,7 +47,8 @@ fn give_up<D: Disk + Drop>(conn: Connection<FileStore<D>>) -> Closed<D>
     }
 }
 
-/// Closes the file of a connection, unless it failed for good: then nothing is copied.
+/// Closes the file of a connection. Nothing is copied where `has_failed` says that the file failed
+/// for good.
 pub fn close_unless_failed<D: Disk + Drop>(
     conn: Connection<FileStore<D>>,
     has_failed: bool,

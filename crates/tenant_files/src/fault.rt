@@ -12,7 +12,7 @@ pub enum FileFault {
     Store,
 }
 
-/// Returns the fault that an error of the database is.
+/// Returns the fault of a file that is reported for `error`, an error of the database.
 pub fn fault_of(error: Error) -> FileFault {
     match error {
         Error::SqliteFailure(ErrorCode::OutOfMemory) => FileFault::NoMemory,

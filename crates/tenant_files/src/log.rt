@@ -12,9 +12,9 @@ pub struct LogBefore {
     length: Option<u64>,
 }
 
-/// Returns the log of the file at this path, if the file is there.
+/// Finds the log of the file at `path`. `Err`: the file isn't there, or can't be looked up.
 fn log_at(rt: &HostRuntime, path: &str) -> io::Result<LogBefore> {
-    // the log lies beside the file where links lead
+    // the log is beside the file that the links lead to
     let real = fs::canonicalize(rt, path)?;
     let path = format!(in rt.alloc(); "{}-wal", real.as_str())?;
     let length = match fs::symlink_metadata(rt, path.as_str()) {
@@ -25,14 +25,15 @@ fn log_at(rt: &HostRuntime, path: &str) -> io::Result<LogBefore> {
     Ok(LogBefore { path, length })
 }
 
-/// Returns the same, or none where it can't be looked up.
+/// Finds the log of the file at `path`. `None`: it can't be looked up.
 pub fn log_before(rt: &HostRuntime, path: &str) -> Option<LogBefore> {
     log_at(rt, path).ok()
 }
 
 impl LogBefore {
-    /// Cuts from the log what an opening added to it that refused the file, and removes it if there
-    /// was none. To be called while the file is locked, so that no other process has the log.
+    /// Removes from the log what an opening that refused the file added to it, and removes the log
+    /// if there was none before. It has to be called while the file is locked, so that no other
+    /// process has the log.
     pub fn restore(&self, rt: &HostRuntime) -> io::Result<()> {
         let Some(length) = self.length else {
             return fs::remove_file(rt, self.path.as_str());

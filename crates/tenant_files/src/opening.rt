@@ -16,11 +16,12 @@ use std::rt::HostRuntime;
 use tenant_core::StoreFault;
 use tenant_store::Store;
 
-/// How many bytes of what tenants have are kept in memory: 256 MiB. That is hundreds of tenants
-/// with middling maps, and leaves most of a small machine to the file's pages and to the script.
+/// The greatest number of bytes of what tenants have that are kept in memory: 256 MiB. Hundreds of
+/// tenants with maps of middling size fit, and most of a small machine's memory remains for the
+/// file's pages and for the script.
 pub const READY_BYTES: u64 = 268_435_456;
 
-/// Returns whether a file is refused for what it holds.
+/// Returns whether `error` says that a file is refused for what it holds.
 fn is_refusal(error: Error) -> bool {
     matches!(
         error,
@@ -28,7 +29,8 @@ fn is_refusal(error: Error) -> bool {
     )
 }
 
-/// Lets go of files that are refused for what they hold, with their log as it was.
+/// Lets go of files that are refused for what they hold, with their log as it was before the
+/// opening.
 fn let_go<S: Start>(rt: &HostRuntime, before: &Option<LogBefore>, files: Files<FileFrom<S>>) {
     if let Some(log) = before {
         // where the log can't be cut, what was added to it holds nothing
@@ -37,13 +39,14 @@ fn let_go<S: Start>(rt: &HostRuntime, before: &Option<LogBefore>, files: Files<F
     drop(files);
 }
 
-/// Opens the tables in the file at a path. A file that is missing or empty becomes a new database,
+/// Opens the tables in the file at `path`. A file that is missing or empty becomes a new database,
 /// and tables of schema 1 are replaced by those of schema 2, for the same states. `S` stands for
 /// what the file and its log hold; no clause ties them to the path.
 ///
-/// `Err(FileFault::Store)`: the file can't be opened, or isn't a database with the tables of this
-/// service; it is then as it was. `Err(FileFault::NoMemory)`: an allocation failed; the tables may
-/// have been made, or those of schema 1 replaced, whole, for the same states.
+/// `Err(FileFault::Store)`: the file can't be opened or written, or isn't a database with the
+/// tables of this service; in the last case it is unchanged. `Err(FileFault::NoMemory)`: an
+/// allocation failed; the tables may have been made, or those of schema 1 replaced, whole, for the
+/// same states.
 pub fn open_store<S: Start>(
     rt: &HostRuntime,
     path: &str,

@@ -7,7 +7,7 @@ use std::os::unix::fs::MetadataExt;
 use std::rt::HostRuntime;
 use tenant_watched::Watch;
 
-/// Which file was found, and how long it was.
+/// The identity of a file that was found, and its length in bytes.
 #[derive(Clone, Copy)]
 struct Seen {
     device: u64,
@@ -16,7 +16,7 @@ struct Seen {
 }
 
 impl Seen {
-    /// Returns what was found.
+    /// Returns the identity and the length that `found` has.
     fn of(found: Metadata) -> Self {
         Seen {
             device: found.dev(),
@@ -25,7 +25,7 @@ impl Seen {
         }
     }
 
-    /// Returns whether it is this file, of whatever length.
+    /// Returns whether both are the same file, of whatever length.
     fn is(self, other: Seen) -> bool {
         self.device == other.device && self.node == other.node
     }
@@ -38,21 +38,21 @@ struct Pair {
     log: Seen,
 }
 
-/// Looks whether a database file and its log are found where the next opening by the same path
-/// looks for them. Contracts know nothing of it.
+/// A watch over a database file and its log: it looks whether they are found where the next opening
+/// by the same path looks for them. Contracts know nothing of it.
 #[derive(Drop)]
 pub struct FileWatch<'a> {
     rt: &'a HostRuntime,
     path: &'a str,
-    /// Where the file lies, with no link on the way.
+    /// The path of the file, with no link on the way.
     real: String,
-    /// Where its log lies.
+    /// The path of the log.
     log: String,
     last: Pair,
 }
 
-/// Returns the files at these paths. `Err`: they aren't there, or links don't lead to the one any
-/// more.
+/// Finds the file at `real` and the log at `log`. `Err`: they aren't there, or `path` doesn't lead
+/// to the file at `real` any more.
 fn find(rt: &HostRuntime, path: &str, real: &str, log: &str) -> io::Result<Pair> {
     let named = Seen::of(fs::metadata(rt, path)?);
     let db = Seen::of(fs::symlink_metadata(rt, real)?);
@@ -63,7 +63,7 @@ fn find(rt: &HostRuntime, path: &str, real: &str, log: &str) -> io::Result<Pair>
     Ok(Pair { db, log })
 }
 
-/// Returns a watch over the file at a path, which is open, and over its log.
+/// Makes a watch over the file at `path`, which is open, and over its log.
 fn watch_at<'a>(rt: &'a HostRuntime, path: &'a str) -> io::Result<FileWatch<'a>> {
     let real = fs::canonicalize(rt, path)?;
     let log = format!(in rt.alloc(); "{}-wal", real.as_str())?;
@@ -79,10 +79,10 @@ fn watch_at<'a>(rt: &'a HostRuntime, path: &'a str) -> io::Result<FileWatch<'a>>
 }
 
 impl<'a> FileWatch<'a> {
-    /// Returns a watch over the file at a path, which is open, and over its log.
+    /// Makes a watch over the file at `path`, which is open, and over its log.
     ///
-    /// `Err(FileFault::NoMemory)`: an allocation failed. `Err(FileFault::Store)`: they aren't there
-    /// any more.
+    /// `Err(FileFault::NoMemory)`: an allocation failed. `Err(FileFault::Store)`: the files aren't
+    /// there any more.
     pub fn new(rt: &'a HostRuntime, path: &'a str) -> Result<Self, FileFault> {
         match watch_at(rt, path) {
             Ok(watch) => Ok(watch),
@@ -91,7 +91,7 @@ impl<'a> FileWatch<'a> {
         }
     }
 
-    /// Returns the files as they are found now, if they are those that were opened.
+    /// Finds the files now. `None`: they aren't those that were opened.
     fn found(&self) -> Option<Pair> {
         match find(self.rt, self.path, self.real.as_str(), self.log.as_str()) {
             Ok(found) if found.db.is(self.last.db) && found.log.is(self.last.log) => Some(found),
