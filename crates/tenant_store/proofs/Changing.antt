@@ -40,7 +40,7 @@ still_judged name s n old new counts now judged turns is updates t m found = eli
   | inr it ↦ let was = judged t m it.1 in (was.0, (turns.others t (Some was.0) it.0).0 was.1, was.2)
 ]
 
--- and where the name is forgotten
+-- it stays true too where the name is forgotten
 pub others_judged : (name : List ℕ) (s : Option TenantState) (old new : Trees) (counts now : Counts) → AreJudged old counts → Turns name s old new → Forgets name counts now → AreJudged new now
 others_judged name s old new counts now judged turns forgets t m found =
     let it = forgets t m found in
@@ -63,7 +63,7 @@ commit_survives old mid new name tenant versions change one two same names count
     let it = is_changeable old.now mid.now name s tenant versions change (same late) (names late) has (count late s has) can in
     subst (λ (d : Database). Turns name (Some (after change s)) d.trees db) (same late) (made name s it)) one two
 
--- and of its removal
+-- what a stop leaves of its removal
 pub remove_survives : (old mid new : Shown) (name : List ℕ) (tenant : Tenant) → Survives old mid (λ _. ⊥) → Survives mid new (Drops tenant.id mid.now.trees) → (HasCleanDisk mid → mid.now ≡ old.now)
     → (HasCleanDisk mid → Names old.now.trees name (Some tenant)) → (HasCleanDisk old → (s : TenantState) × StandsFor old.now.trees name (Some s)) → Survives old new (Turns name None old.now.trees)
 remove_survives old mid new name tenant one two same names there =

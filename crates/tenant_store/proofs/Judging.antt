@@ -78,7 +78,7 @@ count_rows : (start : ℕ) (maps : List Map) → length (rows_of_versions start 
 count_rows start [] = refl
 count_rows start (m ∷ maps) = ap suc (count_rows (start + 1) maps)
 
--- rows of versions are those of so many
+-- the same rows are those of the same number of versions
 same_count : (all : List Row) (ms ns : List Map) → IsPermutation all (rows_of_versions 1 ms) → IsPermutation all (rows_of_versions 1 ns) → length ms ≡ length ns
 same_count all ms ns these those =
     sym (count_rows 1 ms) ∙ (length_permutation all (rows_of_versions 1 ms) these ∙ (sym (length_permutation all (rows_of_versions 1 ns) those) ∙ count_rows 1 ns))

@@ -20,7 +20,7 @@ module _ (one : OneState) where
   shown name s db Damaged own damaged = absurd (damaged s own)
   shown name s db (Has u) own has = ap Has (one db name u s has own)
 
-  -- and those of each name
+  -- what the rows of each name show after a change
   turned : (name : List ℕ) (s : Option TenantState) (old db : Trees) → Turns name s old db → (t : List ℕ) (found : Found) → Shows (StandsFor db) t found → Shows (StandsFor old) t found ⊎ ((t ≡ name) × (found ≡ Has s))
   turned name s old db turns t found shows = go (bytes_eq t name) refl
     where

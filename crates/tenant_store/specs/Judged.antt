@@ -4,22 +4,22 @@ use Rattle.sqlite_trees.specs.Tree.{Trees}
 use Rattle.tenant_state.specs.State.{TenantState}
 use Rattle.tenant_rows.specs.Rows.{StandsFor}
 
--- how many versions are remembered of a name
+-- the number of versions that is remembered of a name
 abbrev pub Counts : Type 0
 Counts = List ℕ → Option ℕ
 
--- each name that is remembered stands for a state with so many versions
+-- each remembered name stands for a state with the remembered number of versions
 abbrev pub AreJudged : Trees → Counts → Type 0
 AreJudged db counts = (t : List ℕ) (n : ℕ) → counts t ≡ Some n → (s : TenantState) × StandsFor db t (Some s) × (length s.versions ≡ n)
 
--- the name has this number or what it had, and no other name has anything new
+-- each number that is remembered is `n` for the name, or was remembered before
 abbrev pub Adds : List ℕ → ℕ → Counts → Counts → Type 0
 Adds name n old new = (t : List ℕ) (m : ℕ) → new t ≡ Some m → ((t ≡ name) × (m ≡ n)) ⊎ (old t ≡ Some m)
 
--- the name has this number or none, and no other name has anything new
+-- each number that is remembered is `n` for the name, or was remembered before for another name
 abbrev pub Updates : List ℕ → ℕ → Counts → Counts → Type 0
 Updates name n old new = (t : List ℕ) (m : ℕ) → new t ≡ Some m → ((t ≡ name) × (m ≡ n)) ⊎ ((t ≢ name) × (old t ≡ Some m))
 
--- the name has no number, and no other name has anything new
+-- each number that is remembered was remembered before, for another name
 abbrev pub Forgets : List ℕ → Counts → Counts → Type 0
 Forgets name old new = (t : List ℕ) (m : ℕ) → new t ≡ Some m → (t ≢ name) × (old t ≡ Some m)

@@ -25,6 +25,6 @@ keeps_states old new same t s = (
   λ has. subst (λ (d : Database). StandsFor d.trees t s) same has,
 )
 
--- what was committed shows what is there between calls
+-- between calls what was committed shows what the tables have
 pub settled : (now committed : Database) (left : Trees) (t : List ℕ) (found : Found) → now ≡ committed → left ≡ committed.trees → Shows (StandsFor left) t found → Shows (StandsFor now.trees) t found
 settled now committed left t found same is shows = subst (λ (db : Trees). Shows (StandsFor db) t found) (is ∙ ap (λ (d : Database). d.trees) (sym same)) shows

@@ -1,4 +1,4 @@
--- What an opening puts in the place of what a database had.
+-- What an opening puts in the place of the tables that a database had.
 use Rattle.std.specs.Prelude.{◌≡◌, ◌⊎◌}
 use Rattle.sqlite.specs.Effect.{Database}
 use Rattle.sqlite_trees.specs.Tree.{Trees}

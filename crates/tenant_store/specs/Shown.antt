@@ -25,7 +25,7 @@ fault_of Full = store.Full
 fault_of Damaged = store.Damaged
 fault_of Failed = store.Failed
 
--- What the disk returns is what was written, and rows say one thing.
+-- The disk returns what was written, and the rows of a name stand for one state at most.
 pub record IsHonest {S : Type 0} (g : Ghosts S) (store : Held S × Bool) : Type 0 where
   -- the disk has returned what was written so far
   pub clean : HasCleanDisk (state g store.0)
@@ -36,11 +36,11 @@ pub record IsHonest {S : Type 0} (g : Ghosts S) (store : Held S × Bool) : Type 
   pub one_state : OneState
 
 module _ {S : Type 0} (g : Ghosts S) where
-  -- the rows of the name stand for this
+  -- the rows of the name stand for the state, or for no tenant
   abbrev pub HasState : Held S × Bool → List ℕ → Option TenantState → Type 0
   HasState store t s = StandsFor (state g store.0).now.trees t s
 
-  -- rows that a stop now may leave show this of the name
+  -- rows that a stop now may leave show `found` of the name
   abbrev pub MayLeave : Held S × Bool → List ℕ → Found → Type 0
   MayLeave store t found = (db : Trees) × (state g store.0).may_leave db × Shows (StandsFor db) t found
 

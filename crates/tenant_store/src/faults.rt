@@ -1,4 +1,4 @@
-//! What a fault of the tables is to a store.
+//! The fault of a store for each fault of its tables.
 
 ghost use Rattle.std.specs.Prelude.{◌≡◌};
 ghost use Rattle.tenant_store.specs.Shown as spec;
@@ -6,7 +6,7 @@ ghost use Rattle.tenant_store.specs.Shown as spec;
 use table_schema::refuse::Fault;
 use tenant_core::StoreFault;
 
-/// Returns the fault of a store.
+/// Returns the fault of a store that is reported for `fault`, a fault of its tables.
 pub fn fault_of(fault: Fault) -> StoreFault
     ensures { result ≡ spec.fault_of fault }
 {

@@ -7,10 +7,11 @@ ghost use Rattle.tenant_store.specs.Judged.{Adds, Forgets, Updates};
 use std::alloc::Global;
 use std::collections::BTreeMap;
 
-/// By each such name, how many versions its tenant has.
+/// The number of versions of each tenant whose receipts were judged, by its name.
 pub type Judged = BTreeMap<String, u64>;
 
-/// Remembers how many versions a name has. Where there is no memory for it, nothing is changed.
+/// Remembers that the tenant with the name has `versions` versions. Where there is no memory for
+/// it, nothing is changed.
 pub fn remember(alloc: Global, judged: &mut Judged, name: &str, versions: u64)
     ensures { Adds name.now versions (get_by_text judged.old) (get_by_text judged.new) }
 {
@@ -19,7 +20,7 @@ pub fn remember(alloc: Global, judged: &mut Judged, name: &str, versions: u64)
     }
 }
 
-/// Sets how many versions a name has, if it is there. Allocates nothing.
+/// Sets the number of versions of the name, if the name is there. Allocates nothing.
 pub fn update(judged: &mut Judged, name: &str, versions: u64)
     ensures { Updates name.now versions (get_by_text judged.old) (get_by_text judged.new) }
 {
@@ -28,7 +29,7 @@ pub fn update(judged: &mut Judged, name: &str, versions: u64)
     }
 }
 
-/// Forgets a name. Allocates nothing.
+/// Forgets the name. Allocates nothing.
 pub fn forget(judged: &mut Judged, name: &str)
     ensures { Forgets name.now (get_by_text judged.old) (get_by_text judged.new) }
 {

@@ -1,4 +1,4 @@
-//! Laws of stores over tables: what contracts may read into them.
+//! Laws of stores over tables: what contracts may conclude of them.
 
 ghost use Rattle.std.specs.Prelude.{◌≡◌, ◌↔◌, ℕ, List, Bool, false, Option};
 ghost use Rattle.sqlite.specs.Held.{Held, state};
@@ -14,10 +14,10 @@ use sqlite::Alter;
 use tenant_core::TenantStore;
 use tenant_rows::laws::names_stand_for_one_state;
 
-/// What a store over tables says is what its rows stand for. It is honest where the disk has
+/// States that a store over tables says what its rows stand for. It is honest where the disk has
 /// returned what was written, and the connection is open with this service's tables, unless a call
-/// has failed for good. Each name has the state that its rows stand for, and a stop leaves the
-/// states that rows stand for which the disk may leave.
+/// has failed for good. Each name has the state that its rows stand for. A stop leaves states for
+/// which rows stand that the disk may leave.
 pub fn tables_pin_their_states<S: Alter>()
     ensures honest { (store : Held S × Bool) → ⟦<Store<S> as TenantStore>⟧.is_honest store ↔ (HasCleanDisk (state S.Store store.0) × (store.1 ≡ false → IsReady (state S.Store store.0))) }
     ensures states { (store : Held S × Bool) (t : List ℕ) (s : Option TenantState) → ⟦<Store<S> as TenantStore>⟧.has_state store t s ↔ StandsFor (state S.Store store.0).now.trees t s }

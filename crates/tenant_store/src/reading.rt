@@ -1,4 +1,4 @@
-//! What a store reads of its tables.
+//! Reads of the tables of a store.
 
 ghost use Rattle.std.specs.Prelude.{◌≡◌, ◌≢◌, ℕ, List, length, map, true, false, Some, Err, IfOk, OnOk, IsPermutation, option_map};
 ghost use Rattle.std.specs.List.{list_all};
@@ -32,8 +32,8 @@ use tenant_rows::{judge_receipts, read_inventory, receipt_from};
 use tenant_state::{Inventory, Receipt};
 use tenant_tables::tables::Tables;
 
-/// Judges a tenant's receipts, unless its name was judged, and remembers that it was. The tenant
-/// has so many versions.
+/// Judges the receipts of `tenant`, unless those of its name were judged, and remembers that they
+/// were. The tenant has `versions` versions.
 fn judge<S: Alter>(
     alloc: Global,
     tables: &mut Tables<S>,
@@ -65,7 +65,7 @@ fn judge<S: Alter>(
     }
 }
 
-/// Returns what a tenant has.
+/// Reads what `tenant` has, and judges its receipts, unless those of its name were judged.
 fn load_tenant<S: Alter>(
     alloc: Global,
     tables: &mut Tables<S>,
@@ -92,7 +92,7 @@ fn load_tenant<S: Alter>(
     }
 }
 
-/// Returns what the tenant with the name has, or `None` where there is none.
+/// Reads what the tenant with the name has, or `None` where there is none.
 pub fn load<S: Alter>(
     alloc: Global,
     tables: &mut Tables<S>,
@@ -115,7 +115,7 @@ pub fn load<S: Alter>(
     }
 }
 
-/// Returns the receipt of a row, or `None` where there is no row.
+/// Returns the receipt of `row`, or `None` where there is no row.
 fn receipt_in(alloc: Global, row: Option<ReceiptRow>) -> Result<Option<Rc<Receipt>>, StoreFault>
     ensures found { (number : List ℕ) (receipts : Receipts) (rows : List Row) → IsPermutation rows (map row_of_receipt receipts) → list_all is_receipt receipts ≡ true → is_ascending is_before receipts ≡ true
         → AreReceipt (rows_with 0 (Words number) rows) row → IfOk result (λ found. option_map (λ r. r.value) found ≡ receipt_of number receipts) }
@@ -132,7 +132,8 @@ fn receipt_in(alloc: Global, row: Option<ReceiptRow>) -> Result<Option<Rc<Receip
     }
 }
 
-/// Returns the receipt of the request number of a tenant, or `None` where there is none.
+/// Reads the receipt that `tenant` has for the request number `number`, or `None` where there is
+/// none.
 fn receipt_of_tenant<S: Alter>(
     alloc: Global,
     tables: &mut Tables<S>,
@@ -153,7 +154,8 @@ fn receipt_of_tenant<S: Alter>(
     }
 }
 
-/// Returns the row of the tenant with the name, which is there.
+/// Reads the row of the tenant with the name. `Err(StoreFault::Damaged)`: there is no tenant with
+/// it, or its row is none that this service writes.
 pub fn tenant_of<S: Alter>(tables: &mut Tables<S>, name: &str) -> Result<Tenant, StoreFault>
     requires live { tables.old.1 ≡ false }
     requires there { HasCleanDisk (state S.Store tables.old.0) → (s : TenantState) × StandsFor (state S.Store tables.old.0).now.trees name.now (Some s) }
@@ -170,8 +172,8 @@ pub fn tenant_of<S: Alter>(tables: &mut Tables<S>, name: &str) -> Result<Tenant,
     }
 }
 
-/// Returns the receipt of the request number of the tenant with the name, or `None` where there is
-/// none.
+/// Reads the receipt that the tenant with the name has for the request number `number`, or `None`
+/// where there is none.
 pub fn find_receipt<S: Alter>(
     alloc: Global,
     tables: &mut Tables<S>,
@@ -190,7 +192,7 @@ pub fn find_receipt<S: Alter>(
     receipt_of_tenant(alloc, tables, &tenant, number)
 }
 
-/// Returns how many versions a tenant has: as it was remembered, or else by its rows.
+/// Returns the number of versions of `tenant`: as it was remembered, or else by its rows.
 pub fn count_versions<S: Alter>(
     alloc: Global,
     tables: &mut Tables<S>,

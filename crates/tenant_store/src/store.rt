@@ -30,7 +30,7 @@ use tenant_tables::tables::Tables;
 /// for good.
 ///
 /// A tenant's receipts are judged when it is loaded for the first time after the opening, since all
-/// of them have to be read for that. What is remembered of it takes some 100 bytes a tenant; a name
+/// of them have to be read for that. What is remembered of it takes some 100 bytes a tenant. A name
 /// for which there is no memory is judged again.
 #[derive(Drop)]
 pub struct Store<S: Alter> {
@@ -57,9 +57,10 @@ impl<S: Alter> Model for Store<S> {
 }
 
 impl<S: Alter + Drop> Store<S> {
-    /// Returns the store of a connection. The tables are made where the database has none, those of
-    /// schema 1 are replaced by those of schema 2, and else they are tested: that they are this
-    /// service's, and of its version. The rows of before and after stand for the same states.
+    /// Opens the store in the tables of a connection. The tables are made where the database has
+    /// none, those of schema 1 are replaced by those of schema 2, and else they are tested: they
+    /// have to be this service's, and of its version. The rows before and after stand for the same
+    /// states.
     ///
     /// `Err((StoreFault::Damaged, store))`: the tables are another's, or of another version.
     /// Nothing is changed. `Err((StoreFault::NoMemory, store))`, `Err((StoreFault::Full, store))`,
@@ -95,7 +96,7 @@ impl<S: Alter + Drop> Store<S> {
 }
 
 impl<S: Alter> Store<S> {
-    /// Gives the connection back, as it stands.
+    /// Gives the connection back unchanged.
     pub fn close(self) -> Connection<S>
         ensures same { result ≡ self.0 }
         ensures honest { HasCleanDisk (state S.Store result) → IsHonest S.Store self }

@@ -1,4 +1,4 @@
-//! What a store writes into its tables.
+//! Writes into the tables of a store.
 
 ghost use Rattle.std.specs.Prelude.{◌≡◌, ◌≢◌, length, false, Some, None, Err, OnOk, OnErr};
 ghost use Rattle.std.specs.BTreeMap.{get_by_text};
@@ -20,7 +20,7 @@ use tenant_rows::write_change;
 use tenant_state::{Change, Made};
 use tenant_tables::tables::Tables;
 
-/// Returns how many versions there are after a change, where there were so many.
+/// Returns the number of versions after `change`, where there were `versions` before.
 fn versions_after(versions: u64, change: &Change) -> u64
     ensures { (s : TenantState) → CanMake change.now s → versions ≡ length s.versions → result ≡ length (after change.now s).versions }
 {
@@ -30,7 +30,7 @@ fn versions_after(versions: u64, change: &Change) -> u64
     }
 }
 
-/// Makes a change of the tenant with the name, which is there.
+/// Makes the change of the tenant with the name, which has to be there.
 pub fn commit<S: Alter>(
     alloc: Global,
     tables: &mut Tables<S>,
@@ -61,7 +61,7 @@ pub fn commit<S: Alter>(
     }
 }
 
-/// Removes the tenant with the name, which is there, with everything of it.
+/// Removes the tenant with the name, which has to be there, and everything that it has.
 pub fn remove<S: Alter>(tables: &mut Tables<S>, name: &str) -> Result<(), StoreFault>
     requires live { tables.old.1 ≡ false }
     requires there { HasCleanDisk (state S.Store tables.old.0) → (s : TenantState) × StandsFor (state S.Store tables.old.0).now.trees name.now (Some s) }
