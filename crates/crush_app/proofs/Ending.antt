@@ -81,7 +81,7 @@ serves_map P Q reads left follows s = record {
 pub nothing_map : (A B : Type 0) (from to : Option (List ℕ)) → (A → B) → ServesNothing A from to → ServesNothing B from to
 nothing_map A B from to follows s = record { as_before = follows s.as_before; unwritten = s.unwritten }
 
--- by the end that the script had
+-- for each end that the script may have
 pub ends_map : (A B : Type 0) (P Q : ScriptEnd → List (Option Call) → Type 0) (r : Result ScriptEnd AllocError) (reads left from to : Option (List ℕ)) → (A → B)
     → ((end : ScriptEnd) (ms : List (Option Call)) → r ≡ Ok end → P end ms → Q end ms) → EndsScript A P r reads left from to → EndsScript B Q r reads left from to
 ends_map A B P Q (Ok Done) reads left from to as_before follows s = serves_map (P Done) (Q Done) reads left (λ ms. follows Done ms refl) s

@@ -14,7 +14,7 @@ whole_input limit bytes (Some xs) None read few = absurd read.taken
 whole_input limit bytes (Some xs) (Some ys) read few =
     record { input = bytes; same = sym (read.taken ∙ ap (λ l. bytes ++ l) (read.end (omega (arith, few))) ∙ append-nil bytes); holds = (refl, few) }
 
--- and there is more than the limit otherwise
+-- otherwise the input is longer than the limit
 pub long_input : (limit : ℕ) (bytes : List ℕ) (old new : Option (List ℕ)) → IsReadUpTo (limit + 1) bytes old new → limit < length bytes → OfInput old (λ input. limit < length input)
 long_input limit bytes None new read long = record { input = bytes; same = tt; holds = long }
 long_input limit bytes (Some xs) None read long = absurd read.taken
@@ -22,11 +22,11 @@ long_input limit bytes (Some xs) (Some ys) read long = record { input = xs; same
 
 -- ---- what is said of an input
 
--- what follows from what holds of it
+-- what follows from what holds of an input holds of it too
 pub of_input : (known : Option (List ℕ)) {P Q : List ℕ → Type 0} → ((input : List ℕ) → P input → Q input) → OfInput known P → OfInput known Q
 of_input known follows said = record { input = said.input; same = said.same; holds = follows said.input said.holds }
 
--- what holds of it holds of known bytes
+-- what holds of an input holds of known bytes
 of_known : (known : Option (List ℕ)) (P : List ℕ → Type 0) → OfInput known P → IfSome known P
 of_known None P said = tt
 of_known (Some xs) P said = subst P said.same said.holds
@@ -35,13 +35,13 @@ of_known (Some xs) P said = subst P said.same said.holds
 pub of_read : (known : Option (List ℕ)) (P : List ℕ → Type 0) (read : List ℕ) → OfInput known (λ input. (read ≡ input) × (length input ≤ SCRIPT_LIMIT)) → P read → OfScript known P
 of_read known P read said holds = of_input known (λ input both. (both.1, subst P both.0 holds)) said
 
--- known bytes are then as short, or as long
+-- known bytes are then within the limit, or longer
 pub known_short : (known : Option (List ℕ)) (read : List ℕ) (limit : ℕ) → OfInput known (λ input. (read ≡ input) × (length input ≤ limit)) → IfSome known (λ input. length input ≤ limit)
 known_short known read limit said = of_known known (λ input. length input ≤ limit) (of_input known (λ input both. both.1) said)
 
 pub known_long : (known : Option (List ℕ)) (limit : ℕ) → OfInput known (λ input. limit < length input) → IfSome known (λ input. limit < length input)
 known_long known limit said = of_known known (λ input. limit < length input) said
 
--- what follows from what holds of a script
+-- what follows from what holds of a script holds of it too
 pub of_script : (known : Option (List ℕ)) {P Q : List ℕ → Type 0} → ((input : List ℕ) → P input → Q input) → OfScript known P → OfScript known Q
 of_script known follows said = of_input known (λ input both. (both.0, follows input both.1)) said

@@ -39,7 +39,7 @@ filter-front : (b : Bool) (line : List ℕ) (rest : List (List ℕ)) → map cal
 filter-front true line rest = refl
 filter-front false line rest = refl
 
--- the messages of a line and of those behind it
+-- the messages of a line and of those that follow it
 pub messages_in-front : (line : List ℕ) (rest : List (List ℕ)) → messages_in (line ∷ rest) ≡ messages_in (line ∷ []) ++ messages_in rest
 messages_in-front line rest = filter-front (is_nonempty line) line rest
 
@@ -124,7 +124,7 @@ plays_empty old a (b ∷ line) empty = let none : length (b ∷ line) ≡ 0 = gr
 
 -- ---- an input
 
--- the messages of what was taken from an input were played, and the rest is left
+-- the messages of what was taken from an input were played, and `rest` remains
 pub record PlaysRest (old mid : States) (a b : Option (List ℕ)) (input rest : List ℕ) : Type 0 where
   pub done : List (Option Call)
   pub all : done ++ messages rest ≡ messages input
@@ -148,7 +148,7 @@ rest_more old mid new a b c input rest line after h played one = record {
   plays = plays_both false old mid new a b c played.done (messages_in (line ∷ [])) played.plays one;
 }
 
--- behind messages that were played whole, and before others
+-- a cut message after messages that were played whole, and before others
 cut-between : (done before after later : List (Option Call)) (cut : Option Call) → (done ++ before) ++ cut ∷ (later ++ after) ≡ done ++ ((before ++ cut ∷ later) ++ after)
 cut-between done before after later cut = append_assoc done before (cut ∷ (later ++ after)) ∙ ap (λ ys. done ++ ys) (sym (append_assoc before (cut ∷ later) after))
 
@@ -200,7 +200,7 @@ rest_latched old mid new kept left a b c input rest line after h one played last
       written = appends_both a b c (output played.done first.replies) (wire last.reply) first.written last.written;
     }
 
--- nothing is left
+-- no line remains
 pub rest_none : (old new : States) (a b : Option (List ℕ)) (input rest : List ℕ) → length rest ≤ 0 → PlaysRest old new a b input rest → Plays false old new (messages input) a b
 rest_none old new a b input [] h played = rw (sym played.all ∙ append_none played.done) played.plays
 rest_none old new a b input (x ∷ rest) h played = absurd (omega arith)

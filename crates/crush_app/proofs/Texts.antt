@@ -9,7 +9,7 @@ no_text : (bytes : List ℕ) (b : Bool) → is_utf8 bytes ≡ b → (IsUtf8 byte
 no_text bytes true is not = absurd (not (IsUtf8-from_is_utf8 bytes is))
 no_text bytes false is not = refl
 
--- what `from_utf8` gives is the text, and where it gives none there is none
+-- what `from_utf8` gives is the text, and where it gives none the bytes are no text
 pub text_of-result : {S E : Type 0} (shown : S → List ℕ) (Why : E → Type 0) (bytes : List ℕ) (read : Result S E)
     → MatchResult read (λ s. (shown s ≡ bytes) × IsUtf8 bytes) (λ e. (IsUtf8 bytes → ⊥) × Why e) → option_map shown (result_ok read) ≡ text_of bytes
 text_of-result shown Why bytes (Ok s) h = rw (is_utf8-from_IsUtf8 bytes h.1) (ap (λ t. Some t) h.0)

@@ -16,20 +16,20 @@ accepted_line m = codes "ok devices " ++ (decimal (length m.devices) ++ (codes "
 abbrev pub refused_line : TextFault → List ℕ
 refused_line f = codes "refused line " ++ (decimal f.line ++ (codes " code " ++ (code_text f.code ++ 10 ∷ [])))
 
--- the bytes are a text that may be imported, and this is the line of its map
+-- the bytes are a text that may be imported, and `line` is the line of its map
 pub record IsAcceptedLine (input line : List ℕ) : Type 0 where
   pub map : Map
   pub short : IsShort input
   pub text : IsTextOf input map
   pub is : line ≡ accepted_line map
 
--- the bytes are refused, and this is the line of the fault for which they are
+-- the bytes are refused, and `line` is the line of the fault for which they are
 pub record IsRefusedLine (input line : List ℕ) : Type 0 where
   pub fault : TextFault
   pub refused : IsRefusedFor input fault
   pub is : line ≡ refused_line fault
 
--- the line for these bytes
+-- the second list is the line for the first one, the bytes of an input
 abbrev pub IsLineFor : List ℕ → List ℕ → Type 0
 IsLineFor input line = IsAcceptedLine input line ⊎ IsRefusedLine input line
 

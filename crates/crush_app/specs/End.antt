@@ -9,9 +9,9 @@ use Rattle.crush_app.specs.declared.limits.TheConstants.{SCRIPT_LIMIT}
 use Rattle.crush_app.specs.declared.play.ScriptEnd.{ScriptEnd}
 use Rattle.crush_app.specs.declared.play.ScriptEnd.TheVariants.{Done, Latched, TooLong, ReadFault, WriteFault}
 
--- The script was read whole, and its lines were served, all or a first part: this is said of its
--- messages. Of what the reader had, a script of the greatest length and one byte were read, and the
--- rest is left.
+-- The script was read whole, and its lines were served, all or a first part: `Says` holds of its
+-- messages. Of what the reader had, a script of the greatest length and one byte more were read,
+-- and the rest stays unread.
 pub record ServesScript (Says : List (Option Call) → Type 0) (reads left : Option (List ℕ)) : Type 0 where
   pub said : OfScript reads (λ input. Says (messages input))
   pub rest : DropsFirst (SCRIPT_LIMIT + 1) reads left

@@ -13,15 +13,15 @@ use Rattle.crush_app.specs.declared.play.ScriptEnd.TheVariants.{Done, Latched, T
 
 -- ---- messages
 
--- the messages were served, so that this is met by their calls and the replies, and their lines
--- were written
+-- the messages were served so that their calls and the replies meet `Meets`, and their lines were
+-- written
 pub record PlaysBy (Meets : List Call → List Reply → Type 0) (ms : List (Option Call)) (from to : Option (List ℕ)) : Type 0 where
   pub replies : List Reply
   pub meets : Meets (calls_in ms) replies
   pub written : Appends from to (output ms replies)
 
--- the messages before one were served and their lines written whole; that one was served, and its
--- line was written in part; no later message was served
+-- the messages before one were served and their lines written whole; that message was served, and
+-- its line was written in part; no later message was served
 pub record PlaysUpToBy (Meets : List Call → List Reply → Type 0) (ms : List (Option Call)) (from to : Option (List ℕ)) : Type 0 where
   pub before : List (Option Call)
   pub cut : Option Call
@@ -38,7 +38,7 @@ pub record PlaysUpToBy (Meets : List Call → List Reply → Type 0) (ms : List 
   pub written : Appends from to (output before replies ++ line)
 
 -- what was written is a first part of the lines for the first messages and the replies to their
--- calls, and this is met by these calls and replies
+-- calls, and these calls and replies meet `Meets`
 pub record WritesFirst (Meets : List Call → List Reply → Type 0) (ms : List (Option Call)) (from to : Option (List ℕ)) : Type 0 where
   pub served : List (Option Call)
   pub later : List (Option Call)
@@ -59,7 +59,7 @@ Plays is_latched old new ms from to = PlaysBy (MeetsDefinition is_latched old ne
 abbrev pub PlaysUpTo : Bool → States → States → List (Option Call) → Option (List ℕ) → Option (List ℕ) → Type 0
 PlaysUpTo is_latched old new ms from to = PlaysUpToBy (MeetsDefinition is_latched old new) ms from to
 
--- The messages before one were served so, and then that one: its call latched the store, was
+-- The messages before one were served so, and then that message: its call latched the store, was
 -- answered 503, and is the one in doubt, so that an opening may find it done or not. The lines of
 -- all of them were written, and nothing else; no later message was served.
 pub record PlaysUntilLatched (old new : States) (left : Outcomes) (ms : List (Option Call)) (from to : Option (List ℕ)) : Type 0 where

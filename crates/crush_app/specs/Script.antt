@@ -30,8 +30,8 @@ call_of_line line =
 abbrev pub is_nonempty : List ℕ → Bool
 is_nonempty line = nat_lt 0 (length line)
 
--- the messages of some lines: for each that isn't empty its call, or none where it doesn't have the
--- form of one
+-- the messages of some lines: for each line that isn't empty its call, or none where the line
+-- doesn't have the form of a call
 abbrev pub messages_in : List (List ℕ) → List (Option Call)
 messages_in ls = map call_of_line (filter is_nonempty ls)
 

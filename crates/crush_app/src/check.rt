@@ -36,14 +36,14 @@ pub enum CheckEnd {
     WriteFault,
 }
 
-/// What a check says of a text: its line, and whether the text is a map's.
+/// What a check says of a text: the line to write, and whether the text is a map's.
 #[derive(Drop)]
 struct Verdict {
     line: String,
     accepted: bool,
 }
 
-/// Returns the line of a map: how many devices, buckets and rules it has. `Err(AllocError)`: an
+/// Makes the line of `map`: its numbers of devices, buckets and rules. `Err(AllocError)`: an
 /// allocation failed; nothing is changed.
 fn accepted_line(alloc: Global, map: &CrushMap) -> Result<String, AllocError>
     ensures { IfOk result (λ line. string_bytes line ≡ line_of_map map.now) }
@@ -54,8 +54,8 @@ fn accepted_line(alloc: Global, map: &CrushMap) -> Result<String, AllocError>
     format!(in alloc; "ok devices {devices} buckets {buckets} rules {rules}\n")
 }
 
-/// Returns the line of a fault: the number of its line and its code. `Err(AllocError)`: an
-/// allocation failed; nothing is changed.
+/// Makes the line of `fault`: the number of its line in the text, and its code. `Err(AllocError)`:
+/// an allocation failed; nothing is changed.
 fn refused_line(alloc: Global, fault: TextFault) -> Result<String, AllocError>
     ensures { IfOk result (λ line. string_bytes line ≡ line_of_fault fault) }
 {
@@ -64,7 +64,8 @@ fn refused_line(alloc: Global, fault: TextFault) -> Result<String, AllocError>
     format!(in alloc; "refused line {line} code {code}\n")
 }
 
-/// Returns the verdict on a text. `Err(AllocError)`: an allocation failed; nothing is changed.
+/// Checks `text`, and returns the verdict on it. `Err(AllocError)`: an allocation failed; nothing
+/// is changed.
 fn verdict_on(alloc: Global, text: &[u8]) -> Result<Verdict, AllocError>
     ensures { IfOk result (λ v. IsVerdict v.accepted text.now (string_bytes v.line)) }
 {
@@ -97,7 +98,7 @@ fn too_long(alloc: Global) -> Result<Verdict, AllocError>
     })
 }
 
-/// Reads a text and returns the verdict on it, or none if it can't be read. `Err(AllocError)`: an
+/// Reads a text and returns the verdict on it, or `None` if it can't be read. `Err(AllocError)`: an
 /// allocation failed; the text may have been read in part.
 fn read_verdict<R: Read>(alloc: Global, reader: &mut R) -> Result<Option<Verdict>, AllocError>
     ensures verdict { IfOk result (λ found. IfSome found (λ v. OfInput (R.remaining reader.old) (λ input. IsVerdict v.accepted input (string_bytes v.line)))) }
@@ -111,9 +112,9 @@ fn read_verdict<R: Read>(alloc: Global, reader: &mut R) -> Result<Option<Verdict
     }
 }
 
-/// Reads a whole text, writes one line and returns how that ended. The line is
-/// `ok devices D buckets B rules R` if the text is a map's, else `refused line L code C` with its
-/// first fault. Of a text over `TEXT_LIMIT` bytes (X7) it reads one byte more than these.
+/// Reads a whole text, writes one line and returns how that ended. The line is `ok devices D
+/// buckets B rules R` if the text is a map's, else `refused line L code C` with its first fault. Of
+/// a text over `TEXT_LIMIT` bytes (X7) it reads `TEXT_LIMIT` bytes and one more.
 ///
 /// The clauses speak of an input, which is what the reader had where contracts know its bytes.
 /// `Err(AllocError)`: an allocation failed; nothing was written, and the text may have been read in
@@ -146,7 +147,7 @@ pub fn check_run<R: Read, W: Write>(
         (λ input. (line : List ℕ) × IsLineFor input line × AppendsPart (W.contents writer.old) (W.contents writer.new) line) }
 
     // In each of these cases, of what the reader had, a text of the greatest length and one byte
-    // were read, and the rest is left.
+    // more were read, and the rest stays unread.
     ensures rest { HasVerdict result → DropsFirst (TEXT_LIMIT + 1) (R.remaining reader.old) (R.remaining reader.new) }
 
     // Otherwise nothing was written.

@@ -1,4 +1,4 @@
-//! Scripts that are played from nothing: a service over a new store serves their lines.
+//! Scripts that begin without tenants: a service over a new store serves their lines.
 
 ghost use Rattle.std.specs.Prelude.{⊤};
 ghost use Rattle.crush_app.specs.End.{EndsScript};

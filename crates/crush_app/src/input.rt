@@ -9,7 +9,7 @@ ghost use Rattle.crush_app.specs.Private.Reading.{IsReadUpTo};
 use std::alloc::Global;
 use std::io::{self, ErrorKind, Read};
 
-/// The most bytes that one read asks for.
+/// The greatest number of bytes that one read asks for.
 const CHUNK: usize = 8_192;
 
 /// Why an input wasn't read whole.
@@ -56,8 +56,8 @@ fn read_up_to<R: Read>(alloc: Global, reader: &mut R, most: usize) -> io::Result
     Ok(input)
 }
 
-/// Reads and returns a whole input of at most `limit` bytes. Of a longer one (`Err(TooLong)`) it
-/// reads one byte more than these. After the other two errors the input was read in part.
+/// Reads and returns a whole input of at most `limit` bytes. Of a longer input (`Err(TooLong)`) it
+/// reads `limit` bytes and one more. After the other two errors the input was read in part.
 #[tactic(auto, using(crate::proofs::Inputs::whole_input, crate::proofs::Inputs::long_input))]
 pub(crate) fn read_input<R: Read>(
     alloc: Global,

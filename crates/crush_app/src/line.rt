@@ -5,10 +5,11 @@ ghost use Rattle.crush_app.specs.declared.line.TheConstants.{LINE_ROOM};
 
 use std::marker::Model;
 
-/// The most bytes of a line that is put together. Replies but those of reports are shorter.
+/// The greatest number of bytes of a line that is put together. All replies but those of reports
+/// are shorter.
 pub(crate) const LINE_ROOM: usize = 512;
 
-/// The front of a line, at most `LINE_ROOM` bytes.
+/// The first bytes of a line, at most `LINE_ROOM`.
 #[derive(Drop)]
 pub(crate) struct Line {
     room: [u8; LINE_ROOM],
@@ -34,7 +35,7 @@ impl Line {
         }
     }
 
-    /// Puts these bytes behind those that are there. Allocates nothing.
+    /// Appends `bytes` to those that are there. Allocates nothing.
     pub(crate) fn push(&mut self, bytes: &[u8])
         requires { length self.old + length bytes.now ≤ LINE_ROOM }
         ensures { self.new ≡ self.old ++ bytes.now }
@@ -44,7 +45,7 @@ impl Line {
         self.filled = end;
     }
 
-    /// Returns the bytes.
+    /// Returns the bytes of the line so far.
     pub(crate) fn bytes(&self) -> &[u8]
         ensures { result.now ≡ self.now }
     {

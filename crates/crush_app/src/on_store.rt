@@ -1,4 +1,4 @@
-//! Scripts that are played over a store that is given and taken back.
+//! Scripts that are played over a store, which is given back at the end.
 
 ghost use Rattle.std.specs.Prelude.{◌≡◌, false};
 ghost use Rattle.crush_app.specs.End.{EndsScript, LatchesAs};
@@ -21,7 +21,7 @@ pub fn script_on_store<T: TenantStore, R: Read, W: Write>(
 ) -> (Result<ScriptEnd, AllocError>, T)
     requires works { T.latched store ≡ false }
 
-    // As `script_run` says it of the service.
+    // This is what `script_run` says of the service.
     ensures ends { EndsScript (result.1 ≡ store)
         (λ end ms. T.is_honest result.1 → PlaysScript end (T.latched result.1) (T.has_state store) (T.has_state result.1) (T.may_leave result.1) ms (W.contents writer.old) (W.contents writer.new))
         result.0 (R.remaining reader.old) (R.remaining reader.new) (W.contents writer.old) (W.contents writer.new) }

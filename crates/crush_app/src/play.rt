@@ -30,8 +30,8 @@ pub enum ScriptEnd {
     ReadFault,
     /// A reply couldn't be written. No later line was served.
     WriteFault,
-    /// The store failed for good. The reply 503 of the call that met it was written, and no later
-    /// line was served.
+    /// The store failed for good. The reply 503 of the call that met the failure was written, and
+    /// no later line was served.
     Latched,
 }
 

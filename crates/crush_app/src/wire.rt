@@ -12,7 +12,7 @@ use std::io::Write;
 use tenant_messages::Reply;
 use tenant_service::{shown_body, write_whole};
 
-/// Writes both, one after the other, and returns whether all bytes were written. Allocates nothing.
+/// Writes `first` and then `second`, and returns whether all bytes were written. Allocates nothing.
 fn write_both<W: Write>(writer: &mut W, first: &[u8], second: &[u8]) -> bool
     ensures whole { IsTrue result → Appends (W.contents writer.old) (W.contents writer.new) (first.now ++ second.now) }
     ensures part { IsFalse result → AppendsPart (W.contents writer.old) (W.contents writer.new) (first.now ++ second.now) }
@@ -23,7 +23,7 @@ fn write_both<W: Write>(writer: &mut W, first: &[u8], second: &[u8]) -> bool
     write_whole(writer, second)
 }
 
-/// Writes the line of a status and a body in pieces, and returns whether all of it was written.
+/// Writes the line of `status` and `body` in pieces, and returns whether all of it was written.
 /// Allocates nothing.
 fn write_long<W: Write>(writer: &mut W, status: &[u8], body: &[u8]) -> bool
     ensures whole { IsTrue result → Appends (W.contents writer.old) (W.contents writer.new) ((status.now ++ 32 ∷ []) ++ (body.now ++ 10 ∷ [])) }
@@ -35,8 +35,8 @@ fn write_long<W: Write>(writer: &mut W, status: &[u8], body: &[u8]) -> bool
     write_both(writer, body, b"\n")
 }
 
-/// Writes the line of a status and a body at once, and returns whether all of it was written.
-/// Allocates nothing.
+/// Puts the line of `status` and `body` together, writes it at once, and returns whether all of it
+/// was written. Allocates nothing.
 fn write_short<W: Write>(writer: &mut W, status: &[u8], body: &[u8]) -> bool
     requires { length status.now + length body.now + 2 ≤ LINE_ROOM }
     ensures whole { IsTrue result → Appends (W.contents writer.old) (W.contents writer.new) ((status.now ++ 32 ∷ []) ++ (body.now ++ 10 ∷ [])) }
@@ -50,8 +50,8 @@ fn write_short<W: Write>(writer: &mut W, status: &[u8], body: &[u8]) -> bool
     write_whole(writer, line.bytes())
 }
 
-/// Writes a reply as a line (STATUS, a space, the body, LF), and returns whether all of it was
-/// written: a short one by one write, if that takes all bytes. Allocates nothing.
+/// Writes `reply` as a line (STATUS, a space, the body, LF), and returns whether all of it was
+/// written. A short line is written by one write, if that write takes all bytes. Allocates nothing.
 pub(crate) fn write_line<W: Write>(writer: &mut W, reply: &Reply) -> bool
     ensures whole { IsTrue result → Appends (W.contents writer.old) (W.contents writer.new) (spec.wire reply.now) }
     ensures part { IsFalse result → AppendsPart (W.contents writer.old) (W.contents writer.new) (spec.wire reply.now) }
