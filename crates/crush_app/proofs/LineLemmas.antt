@@ -22,7 +22,7 @@ none_by n len false e h = grind (arith, nat_tests)
 pub position-none : (p : ℕ → Bool) (xs : List ℕ) → position p xs ≡ None → length xs ≤ position_or_len p xs
 position-none p xs h = none_by (position_or_len p xs) (length xs) (nat_lt (position_or_len p xs) (length xs)) refl h
 
--- ---- what stands before it and after it
+-- ---- what is before it and after it
 
 pub before-some : (p : ℕ → Bool) (xs : List ℕ) (i : ℕ) → position p xs ≡ Some i → take i xs ≡ before_first p xs
 before-some p xs i h = ap (λ n. take n xs) (sym (position-some p xs i h).0)

@@ -24,7 +24,7 @@ use Rattle.crush_http.proofs.Finding.{MessageAt-append, rejected-append}
 use Rattle.crush_http.proofs.Holding.{up_to_on, part_on, up_to_written, part_written}
 use Rattle.crush_http.proofs.Streams.{consumes_none, consumes_both}
 
--- ---- lists of messages, one behind the other
+-- ---- lists of messages, one after the other
 
 calls_of-append : (ms ns : List Message) → calls_of (ms ++ ns) ≡ calls_of ms ++ calls_of ns
 calls_of-append ms ns = map-append (λ (m : Message). m.call) ms ns
@@ -36,7 +36,7 @@ output-append (m ∷ ms) ns [] qs h = absurd (omega arith)
 output-append (m ∷ ms) ns (r ∷ rs) qs h =
     ap (λ ys. reply_wire m.last r ++ ys) (output-append ms ns rs qs (omega arith)) ∙ sym (append_assoc (reply_wire m.last r) (output ms rs) (output ns qs))
 
--- ---- what a reader has left
+-- ---- the unread bytes of a reader
 
 known_left : (a : Option (List ℕ)) → (unread : List ℕ) × IfSome a (λ known. known ≡ unread)
 known_left None = ([], tt)
@@ -74,8 +74,8 @@ cut end stop a b c held xs more first ends e = inr (e, part_on a b c held xs mor
 
 -- ---- the messages so far
 
--- so far these messages were served, so that this is met by their calls and the replies, which were
--- written but for those that are held; whatever the rest has follows them
+-- so far the messages were served so that their calls and the replies meet `Meets`; the replies
+-- were written but for those that are held; whatever messages the rest has follow
 pub record Reached (Meets : List Call → List Reply → Type 0) (most : ℕ) (buffer held : List ℕ) (old new from to : Option (List ℕ)) : Type 0 where
   pub read : List ℕ
   pub taken : Consumes old new read
@@ -224,7 +224,7 @@ module _ (Same : Type 0) (One : Call → Reply → Type 0) (same : Same) (most :
 
 -- ---- a message
 
--- a message with this call, the last or not, and the rest behind it
+-- a message with the call, the last or not, and the rest that follows it
 pub record Finds (most : ℕ) (asked : Call) (ends : Bool) (rest input : List ℕ) : Type 0 where
   pub message : Message
   pub at : MessageAt most input message rest

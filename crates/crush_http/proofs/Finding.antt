@@ -1,4 +1,4 @@
--- From the buffer and what is read to a message, or to where none stands.
+-- From the buffer and what is read to a message, or to where there is none.
 use Rattle.std.proofs.Common.{◌≡◌, ℕ, ◌-◌, ◌<◌, ◌≤◌, inl, inr, min, List, [], ◌∷◌, ◌++◌, length, take, drop, Option, refl, ap, sym, ◌∙◌, arith, append_assoc, subst, length-append, length-drop, length-take}
 use Rattle.std.proofs.Math.Seq.{drop-drop, take-append_seam}
 use Rattle.std.proofs.lemmas.Bool.{cases_lt}
@@ -52,7 +52,7 @@ no_head-append : (buffer more : List ℕ) → HasNoHead buffer → HasNoHead (bu
 no_head-append buffer more (inl h) = inl (overflows-append HEADER_LIMIT buffer more h)
 no_head-append buffer more (inr h) = inr (too_long-append buffer more h)
 
--- what is rejected stays so
+-- what is rejected stays rejected when more bytes come
 pub rejected-append : (input more : List ℕ) (reason : Rejection) → IsRejected input reason → IsRejected (input ++ more) reason
 rejected-append input more reason (inl none) = inl (no_head-append input more none.0, none.1)
 rejected-append input more reason (inr wrong) = inr (record {
@@ -71,7 +71,7 @@ MessageAt-append most input more m rest h = record {
   is = h.is;
 }
 
--- ---- a body in the buffer, and what was read behind it
+-- ---- a body in the buffer, and what was read after it
 
 -- too few bytes for the body
 pub half_body : (buffer : List ℕ) (r : Request) (head : RequestHead) (n : ℕ) (first : List ℕ) (b c : Option (List ℕ)) → IsRequest buffer r head → first ≡ drop r.len buffer → n ≡ r.size
@@ -116,7 +116,7 @@ whole_body buffer r head first body room b c is e long front within read = recor
 
 -- ---- slices
 
--- the bytes behind the head
+-- the bytes that follow the head
 pub behind : (len : ℕ) (xs ys : List ℕ) → xs ≡ ys → take (length xs - len) (drop len xs) ≡ drop len ys
 behind len xs ys e = take_all (length xs - len) (drop len xs) (omega (arith, length-drop len xs)) ∙ ap (drop len) e
 

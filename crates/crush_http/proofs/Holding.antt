@@ -1,4 +1,4 @@
--- Bytes that are held behind those that were written.
+-- Bytes that are held, after those that were written.
 use Rattle.std.proofs.Common.{◌≡◌, ℕ, ◌+◌, ◌<◌, suc, List, [], ◌∷◌, ◌++◌, length, take, drop, get_or, Option, ap, sym, ◌∙◌, append_assoc, subst}
 use Rattle.std.proofs.Math.Seq.{drop-cons}
 use Rattle.std.proofs.lemmas.Grind.{flat_map-append}
@@ -37,7 +37,7 @@ written_after a b c old now bytes first none then = record {
   written = appends_both a b c old bytes first then;
 }
 
--- ---- pieces behind what is held
+-- ---- pieces after what is held
 
 pieces_at : {X : Type 0} (f : X → List ℕ) (xs : List X) (i : ℕ) (d : X) → i < length xs
     → flat_map f (take i xs) ++ (f (get_or xs i d) ++ flat_map f (drop (suc i) xs)) ≡ flat_map f xs

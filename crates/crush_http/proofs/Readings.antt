@@ -1,4 +1,4 @@
--- Two readings of one input are one.
+-- Two readings of one input are the same.
 use Rattle.std.proofs.Common.{◌≡◌, ℕ, ◌-◌, ◌<◌, ◌⊎◌, inl, inr, Bool, true, false, List, [], ◌∷◌, ◌++◌, length, refl, ap, sym, ◌∙◌, arith, subst, length-append}
 use Rattle.std.proofs.lemmas.List.{append-nil}
 use Rattle.httparse.specs.Grammar.{RequestHead, print_request}
@@ -126,7 +126,7 @@ further_on : {P Q R : Type 0} → (Q → R) → P ⊎ Q → P ⊎ R
 further_on f (inl p) = inl p
 further_on f (inr h) = inr (f h)
 
--- the messages behind one and the same
+-- the messages that follow the same message
 goes_on_one : (d e : Bool) (ms ns : List Message) (s t : Stop) (Q A B : Type 0) → d ≡ e → (A → B → (ms ≡ ns) × ((s ≡ t) ⊎ Q))
     → GoesOn d ms s A → GoesOn e ns t B → IsOfInput s → IsOfInput t → (ms ≡ ns) × ((s ≡ t) ⊎ Q)
 goes_on_one true true ms ns s t Q A B same more a b u v = let one = over_one ms ns s t a b u v in (one.0, inl one.1)

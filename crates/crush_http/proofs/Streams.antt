@@ -22,7 +22,7 @@ consumes_both (Some u) None c xs ys p q = absurd p
 consumes_both (Some u) (Some v) None xs ys p q = absurd q
 consumes_both (Some u) (Some v) (Some w) xs ys p q = p ∙ ap (λ l. xs ++ l) q ∙ sym (append_assoc xs ys w)
 
--- ---- bytes that were there, and those that were read behind them
+-- ---- bytes that were there, and those that were read after them
 
 pub reads_none : (there : List ℕ) (a : Option (List ℕ)) (P : List ℕ → Type 0) → P there → ReadsOn there a a P
 reads_none there a P h = record { more = []; taken = consumes_none a; holds = subst P (sym (append-nil there)) h }
@@ -42,7 +42,7 @@ reads_both there buffer a b c P first second = record {
   holds = subst P (ap (λ l. l ++ second.more) first.holds ∙ append_assoc there first.more second.more) second.holds;
 }
 
--- from a reader that had nothing left
+-- from a reader with no unread byte
 read_nothing : (a b : Option (List ℕ)) (more : List ℕ) → a ≡ Some [] → Consumes a b more → more ≡ []
 read_nothing None b more e taken = cc
 read_nothing (Some xs) None more e taken = absurd taken
@@ -72,7 +72,7 @@ filled_in k n len xs ys post more h g size =
 pub reads_in : (a b : Option (List ℕ)) (n : ℕ) (there bytes now : List ℕ) → Consumes a b (take n bytes) → now ≡ there ++ take n bytes → ReadsOn there a b (λ all. now ≡ all)
 reads_in a b n there bytes now taken e = record { more = take n bytes; taken = taken; holds = e }
 
--- what is left when the first n bytes of k are dropped
+-- what remains when the first n bytes of k are dropped
 pub dropped : (k n : ℕ) (xs post : List ℕ) → n ≤ k → k ≤ length xs → take (k - n) (take (k - n) (drop n xs) ++ post) ≡ drop n (take k xs)
 dropped k n xs post h g =
     let size : length (take (k - n) (drop n xs)) ≡ k - n = omega (arith, length-take (k - n) (drop n xs), length-drop n xs) in
@@ -83,7 +83,7 @@ dropped k n xs post h g =
 
 -- ---- a body
 
--- what a read took stands behind what was taken before
+-- what a read took follows what was taken before
 pub consumes_filled : (a b c : Option (List ℕ)) (start k n : ℕ) (xs ys post : List ℕ) → start ≤ k → k ≤ length xs → n ≤ length ys → Consumes a b (drop start (take k xs)) → Consumes b c (take n ys)
     → Consumes a c (drop start (take (k + n) (take k xs ++ (ys ++ post))))
 consumes_filled a b c start k n xs ys post h g f before more =

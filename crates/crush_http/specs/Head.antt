@@ -1,5 +1,5 @@
--- Whether a head stands at the front of an input. Heads are those of the grammar of `httparse`
--- (RFC 9112, sections 2 to 5): a line may end with LF alone, and empty lines may stand before.
+-- Whether there is a head at the front of an input. Heads are those of the grammar of `httparse`
+-- (RFC 9112, sections 2 to 5): a line may end with LF alone, and empty lines may come before.
 use Rattle.std.specs.Prelude.{ℕ, ◌<◌, ◌≤◌, ◌⊎◌, List, length}
 use Rattle.httparse.specs.Grammar.{RequestHead, ReadsRequest, HasNoRequest, MayBecomeRequest, print_request}
 use Rattle.httparse.specs.Spans.{RequestOverflows}
@@ -17,9 +17,9 @@ pub record IsTooLong (input : List ℕ) : Type 0 where
   pub many : HEAD_LIMIT ≤ length input
   pub none : (head : RequestHead) (rest : List ℕ) → ReadsRequest input head rest → HEAD_LIMIT < length (print_request head)
 
--- no head within the limits stands at the front, whatever bytes follow: none at all, since the
--- bytes are no head's (a target that isn't UTF-8 is one case), one with too many headers, or a long
--- one
+-- there is no head within the limits at the front, whatever bytes follow: there is none at all,
+-- since the bytes are no head's (a target that isn't UTF-8 is one case), or it has too many
+-- headers, or it is too long
 abbrev pub HasNoHead : List ℕ → Type 0
 HasNoHead input = RequestOverflows HEADER_LIMIT input ⊎ IsTooLong input
 

@@ -27,7 +27,7 @@ values name headers = flat_map (λ h. if same_word h.0 name then h.1 ∷ [] else
 
 -- ---- the body
 
--- how long a body is, in bytes, or why the message isn't served
+-- the length of a body, in bytes, or why the message isn't served
 pub data Size : Type 0 where
   bytes : ℕ → Size
   rejected : Rejection → Size
@@ -45,7 +45,7 @@ size_by_length [] = bytes 0
 size_by_length (text ∷ []) = if is_length text then limited_size (digits_value 10 text) else rejected BadRequest
 size_by_length (text ∷ again ∷ more) = rejected BadRequest
 
--- any Transfer-Encoding is refused, whatever else the headers say
+-- each Transfer-Encoding is refused, whatever else the headers say
 abbrev pub size_by_both : List (List ℕ) → List (List ℕ) → Size
 size_by_both [] lengths = size_by_length lengths
 size_by_both (coding ∷ codings) lengths = rejected Length

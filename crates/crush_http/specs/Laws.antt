@@ -11,7 +11,7 @@ use Rattle.crush_http.specs.declared.limits.TheConstants.{HEADER_LIMIT, MESSAGE_
 abbrev pub IsUndecided : List ℕ → Type 0
 IsUndecided rest = IsHalfHead rest × RequestOverflows HEADER_LIMIT rest
 
--- such bytes follow these messages of the input, of which there are at most `most`
+-- undecided bytes follow the messages of the input, which are at most `most`
 abbrev pub EndsUndecided : ℕ → List ℕ → List Message → Type 0
 EndsUndecided most input [] = IsUndecided input
 EndsUndecided most input (m ∷ ms) = (rest : List ℕ) × MessageAt most input m rest × EndsUndecided (most - 1) rest ms
@@ -37,7 +37,7 @@ OneReading =
     (input : List ℕ) (ms ns : List Message) (s t : Stop) → HasMessages MESSAGE_LIMIT input ms s → HasMessages MESSAGE_LIMIT input ns t → IsOfInput s → IsOfInput t
     → (ms ≡ ns) × ((s ≡ t) ⊎ EndsUndecided MESSAGE_LIMIT input ms)
 
--- the messages that were served up to a fault are the first of those of the input
+-- the messages that were served up to a fault are the first messages of the input
 abbrev pub FaultReading : Type 0
 FaultReading =
     (input : List ℕ) (ms ns : List Message) (s t : Stop) → HasMessages MESSAGE_LIMIT input ms s → HasMessages MESSAGE_LIMIT input ns t → IsOfFault s → IsOfInput t

@@ -18,8 +18,8 @@ pub record Message : Type 0 where
 abbrev pub calls_of : List Message → List Call
 calls_of messages = map (λ m. m.call) messages
 
--- the message of a head and a body, where at most `most` messages may come, this one among them.
--- The path is the request target as it stands
+-- the message of a head and a body, where at most `most` messages may come, that message among
+-- them. The path is the request target, unchanged
 abbrev pub message_of : ℕ → RequestHead → List ℕ → Message
 message_of most head body = record { call = record { method = head.method; path = head.target; body = body }; last = closes head || most == 1 }
 
@@ -31,9 +31,9 @@ pub record MessageAt (most : ℕ) (input : List ℕ) (message : Message) (rest :
   pub size : size_of (headers_of head) ≡ bytes (length body)
   pub is : message ≡ message_of most head body
 
--- ---- where no message stands
+-- ---- where there is no message
 
--- a head, and fewer bytes than its body has
+-- there is a head, and fewer bytes than its body has
 pub record IsHalfBody (input : List ℕ) : Type 0 where
   pub head : RequestHead
   pub after : List ℕ
@@ -46,14 +46,14 @@ pub record IsHalfBody (input : List ℕ) : Type 0 where
 abbrev pub IsHalf : List ℕ → Type 0
 IsHalf input = IsHalfHead input ⊎ IsHalfBody input
 
--- a head whose body isn't taken, for this reason
+-- there is a head whose body isn't taken, for the reason
 pub record HasBadSize (input : List ℕ) (reason : Rejection) : Type 0 where
   pub head : RequestHead
   pub after : List ℕ
   pub begins : HeadAt input head after
   pub is : size_of (headers_of head) ≡ rejected reason
 
--- what comes is no message, for this reason, whatever bytes follow
+-- what comes is no message, for the reason, whatever bytes follow
 abbrev pub IsRejected : List ℕ → Rejection → Type 0
 IsRejected input reason = (HasNoHead input × (reason ≡ BadRequest)) ⊎ HasBadSize input reason
 
@@ -67,7 +67,7 @@ pub data Stop : Type 0 where
   read_failed : List ℕ → Stop  -- a read failed before a message was whole; these bytes stay unread
   write_failed : Stop  -- a write failed; nothing is said of what follows
 
--- the connection stops at the front of this input
+-- the connection stops at the front of the input
 abbrev pub StopsAt : Stop → List ℕ → Type 0
 StopsAt input_ended input = IsHalf input
 StopsAt (refused reason) input = IsRejected input reason

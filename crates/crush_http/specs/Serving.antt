@@ -10,7 +10,7 @@ use Rattle.crush_http.specs.declared.connection.Ended.{Ended}
 use Rattle.crush_http.specs.declared.connection.Ended.TheVariants.{Closed, Bad, ReadFault, WriteFault}
 use Rattle.crush_http.specs.declared.limits.TheConstants.{MESSAGE_LIMIT}
 
--- the bytes that are due where these messages were served and the connection then stops so: the
+-- the bytes that are due where the messages were served and the connection then stops so: the
 -- replies to all of them, and the one to what is no message
 abbrev pub due : Stop → List Message → List Reply → List ℕ
 due input_ended messages replies = output messages replies
@@ -19,7 +19,7 @@ due last_served messages replies = output messages replies
 due (read_failed unread) messages replies = output messages replies
 due write_failed messages replies = output messages replies
 
--- how a connection that stops so ends, where all that is due was written
+-- the end of a connection that stops so, where all that is due was written
 abbrev pub EndsAs : Stop → Ended → Type 0
 EndsAs input_ended Closed = ⊤
 EndsAs (refused reason) Bad = ⊤
@@ -34,13 +34,13 @@ EndsAs _ _ = ⊥
 abbrev pub Writes : Ended → Stop → List ℕ → Option (List ℕ) → Option (List ℕ) → Type 0
 Writes ended stop bytes from to = (EndsAs stop ended × Appends from to bytes) ⊎ ((ended ≡ WriteFault) × AppendsPart from to bytes)
 
--- after a failed read the reader has these bytes left, where they are known
+-- after a failed read these bytes of the reader are unread, where its bytes are known
 abbrev pub LeavesUnread : Stop → Option (List ℕ) → Type 0
 LeavesUnread (read_failed unread) left = IfSome left (λ known. known ≡ unread)
 LeavesUnread _ left = ⊤
 
--- the messages of the input were served: this is met by their calls and the replies, which were
--- written so; no later message was served
+-- the messages of the input were served: their calls and the replies meet `Meets`, and the replies
+-- were written as `ended` says; no later message was served
 pub record ServesInput (Meets : List Call → List Reply → Type 0) (input : List ℕ) (left from to : Option (List ℕ)) (ended : Ended) : Type 0 where
   pub messages : List Message
   pub stop : Stop

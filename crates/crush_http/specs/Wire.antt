@@ -13,7 +13,7 @@ use Rattle.crush_http.specs.declared.rejection.Rejection.TheVariants.{BadRequest
 abbrev pub phrase : ℕ → List ℕ
 phrase status = if nat_le 100 status && nat_lt status 1000 then unwrap_or (reason_phrase status) [] else []
 
--- the line of a reply after which the connection ends
+-- the line `Connection: close` of a reply after which the connection ends
 abbrev pub close_line : Bool → List ℕ
 close_line true = codes "Connection: close\r\n"
 close_line false = []
@@ -23,7 +23,7 @@ pieces last status body =
     codes "HTTP/1.1 " ∷ decimal status ∷ codes " " ∷ phrase status ∷ codes "\r\nContent-Length: " ∷ decimal (length body)
     ∷ codes "\r\nContent-Type: application/json\r\n" ∷ close_line last ∷ codes "\r\n" ∷ body ∷ []
 
--- a reply with a status and a body, after which the connection ends, or goes on
+-- a reply with a status and a body, after which the connection ends or goes on
 unfoldable pub wire : Bool → ℕ → List ℕ → List ℕ
 wire last status body = flat_map (λ piece. piece) (pieces last status body)
 
@@ -38,7 +38,7 @@ output [] replies = []
 output (m ∷ ms) [] = []
 output (m ∷ ms) (reply ∷ replies) = reply_wire m.last reply ++ output ms replies
 
--- ---- where no message stands
+-- ---- where there is no message
 
 abbrev pub rejection_status : Rejection → ℕ
 rejection_status BadRequest = 400

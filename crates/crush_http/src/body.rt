@@ -6,7 +6,7 @@ ghost use Rattle.crush_http.specs.Private.Reading.{ReadsOn, IsBodyOf};
 
 use std::io::Read;
 
-/// What was read of a body.
+/// How the reading of a body ended.
 #[derive(Clone, Copy, PartialEq, Eq)]
 pub(crate) enum BodyRead {
     Whole,
@@ -16,7 +16,7 @@ pub(crate) enum BodyRead {
     Fault,
 }
 
-/// Reads what is missing of a body whose first bytes are there.
+/// Reads the bytes of `body` from `start` on. Those before it are there.
 fn read_rest<R: Read>(reader: &mut R, body: &mut [u8], start: usize) -> BodyRead
     requires { start ≤ length body.old }
     ensures whole { result ≡ BodyRead.Whole → Consumes (R.remaining reader.old) (R.remaining reader.new) (drop start body.new) }
@@ -36,7 +36,7 @@ fn read_rest<R: Read>(reader: &mut R, body: &mut [u8], start: usize) -> BodyRead
     BodyRead::Whole
 }
 
-/// Fills the body with bytes that were read already, and then by reads.
+/// Fills `body` with `first`, bytes that were read already, and then by reads.
 pub(crate) fn read_body<R: Read>(reader: &mut R, first: &[u8], body: &mut [u8]) -> BodyRead
     ensures whole { result ≡ BodyRead.Whole → ReadsOn first.now (R.remaining reader.old) (R.remaining reader.new) (IsBodyOf body.new first.now) }
     ensures ended { result ≡ BodyRead.Ended → IsAtEnd (R.remaining reader.new) }

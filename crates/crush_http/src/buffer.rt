@@ -26,7 +26,7 @@ impl Model for Buffer {
 }
 
 impl Buffer {
-    /// Returns an empty buffer. `Err(AllocError)`: an allocation failed; nothing is changed.
+    /// Makes an empty buffer. `Err(AllocError)`: an allocation failed; nothing is changed.
     pub(crate) fn new(alloc: Global) -> Result<Buffer, AllocError>
         ensures { IfOk result (λ b. b ≡ []) }
     {
@@ -41,7 +41,7 @@ impl Buffer {
         self.filled = 0;
     }
 
-    /// Returns the bytes.
+    /// Returns the bytes that are in the buffer.
     pub(crate) fn bytes(&self) -> &[u8]
         ensures value { result.now ≡ self.now }
         ensures limit { length self.now ≤ HEAD_LIMIT }
@@ -49,8 +49,8 @@ impl Buffer {
         &self.room[..self.filled]
     }
 
-    /// Reads once, behind the bytes that are there, and returns the number of bytes read, 0 at the
-    /// end of the input. `Err`: the read failed; nothing is changed.
+    /// Reads once, appends the bytes to those that are there, and returns the number of bytes read,
+    /// 0 at the end of the input. `Err`: the read failed; nothing is changed.
     pub(crate) fn read_from<R: Read>(&mut self, reader: &mut R) -> io::Result<usize>
         requires { length self.old < HEAD_LIMIT }
         ensures read { ReadsOn self.old (R.remaining reader.old) (R.remaining reader.new) (λ all. self.new ≡ all) }
@@ -63,7 +63,7 @@ impl Buffer {
         Ok(count)
     }
 
-    /// Drops the first bytes.
+    /// Drops the first `count` bytes.
     pub(crate) fn drop_front(&mut self, count: usize)
         requires { count ≤ length self.old }
         ensures { self.new ≡ drop count self.old }

@@ -19,7 +19,7 @@ pub struct Buffers {
 }
 
 impl Buffers {
-    /// Returns the memory of a connection: for a head, a body and replies that wait, each at its
+    /// Takes the memory of a connection: for a head, a body and replies that wait, each at its
     /// limit. `Err(AllocError)`: an allocation failed; nothing is changed.
     pub fn new(alloc: Global) -> Result<Buffers, AllocError> {
         let read = Buffer::new(alloc)?;

@@ -25,7 +25,7 @@ use tenant_service::Service;
 pub enum Ended {
     /// The input ended, or the last message was served, and all replies were written.
     Closed,
-    /// What came was no message; all replies were written, and then the one that says so.
+    /// What came was no message. All replies were written, and then the one that says so.
     Bad,
     /// A read failed. All replies were written.
     ReadFault,
@@ -36,21 +36,22 @@ pub enum Ended {
 /// Whether a connection goes on.
 enum Turn {
     Next,
-    /// It ends so once what is held is written.
+    /// The connection ends so once what is held is written.
     Ended(Ended),
     /// A write failed, and no more is written.
     Cut,
 }
 
-/// Returns whether the connection ends after this message.
+/// Returns whether the connection ends after a message that `closes` it or not, where at most
+/// `most` messages may come, that message among them.
 fn is_last(closes: bool, most: u32) -> bool
     ensures { result ≡ (closes || most == 1) }
 {
     closes || most == 1
 }
 
-/// Finds the next message. One that isn't whole in the buffer is read, and before that what is held
-/// is written, since the client may wait for it. Returns none if that can't be written.
+/// Finds the next message. A message that isn't whole in the buffer is read, and before that what
+/// is held is written, since the client may wait for it. Returns `None` if that can't be written.
 fn next_message<R: Read, W: Write>(
     buffers: &mut Buffers,
     reader: &mut R,
@@ -122,7 +123,7 @@ fn serve_one<T: TenantStore, R: Read, W: Write>(
     }
 }
 
-/// Writes what is held, and returns how the connection ended, which would end so.
+/// Writes what is held, and returns `ended`, or `Ended::WriteFault` if not all of it was written.
 fn finish<W: Write>(held: &mut Held, writer: &mut W, ended: Ended) -> Ended
     ensures { ((result ≡ ended) × Appends (W.contents writer.old) (W.contents writer.new) held.old) ⊎ ((result ≡ Ended.WriteFault) × AppendsPart (W.contents writer.old) (W.contents writer.new) held.old) }
 {
@@ -157,8 +158,8 @@ fn serve_all<T: TenantStore, R: Read, W: Write>(
     }
 }
 
-/// Serves a connection as `serve` does, in memory that is there already, whatever the last
-/// connection left in it. Allocates nothing but what the calls do.
+/// Serves a connection as `serve` does, in `buffers`, whatever the last connection left in them.
+/// Allocates nothing but what the calls do.
 pub fn serve_with<T: TenantStore, R: Read, W: Write>(
     buffers: &mut Buffers,
     service: &mut Service<T>,
@@ -178,10 +179,10 @@ pub fn serve_with<T: TenantStore, R: Read, W: Write>(
 /// returns how that ended. A service that is latched, or latches, goes on: it answers 503.
 ///
 /// Replies wait to be written together: up to the next read, to the end, or to `HELD_LIMIT` bytes.
-/// The clauses speak of an input, which is what the reader had where contracts know its bytes. Its
-/// messages don't depend on how it was cut into reads (`one_reading`).
-/// `Err(AllocError)`: an allocation failed; all are made at the start, so nothing was read, served
-/// or written.
+/// The clauses speak of an input, which is what the reader had where contracts know its bytes. The
+/// messages of the input don't depend on how it was cut into reads (`one_reading`).
+/// `Err(AllocError)`: an allocation failed; all allocations are made at the start, so nothing was
+/// read, served or written.
 pub fn serve<T: TenantStore, R: Read, W: Write>(
     alloc: Global,
     service: &mut Service<T>,

@@ -14,10 +14,10 @@ use httparse::Status;
 use httparse::spans::{HeaderSpan, RequestSpans, parse_request};
 use std::io::Read;
 
-/// What stands at the front of the input.
+/// What is at the front of the input.
 pub(crate) enum HeadRead {
     Found(RequestSpans),
-    /// No head within the limits, whatever comes.
+    /// There is no head within the limits, whatever bytes follow.
     Never,
     /// The input ends before a head is whole.
     Ended,
@@ -25,8 +25,8 @@ pub(crate) enum HeadRead {
     Fault,
 }
 
-/// Reads until a head stands in the buffer, or none can. Where its headers are is left in
-/// `headers`.
+/// Reads until the buffer begins with a head, or can't begin with one. The places of the head's
+/// headers are put into `headers`.
 pub(crate) fn read_head<R: Read>(
     reader: &mut R,
     buffer: &mut Buffer,

@@ -20,7 +20,7 @@ pub(crate) enum Values<'a> {
     Many,
 }
 
-/// Returns whether the header has the name, in any case of letters.
+/// Returns whether `header` has the name `name`, in any case of letters.
 fn is_named(bytes: &[u8], header: &HeaderSpan, name: &[u8]) -> bool
     requires { IsHeaderWithin (length bytes.now) header.now }
     ensures { result ≡ spec.same_word (span_bytes bytes.now header.now.name) name.now }
@@ -28,7 +28,7 @@ fn is_named(bytes: &[u8], header: &HeaderSpan, name: &[u8]) -> bool
     header.name.of(bytes).eq_ignore_ascii_case(name)
 }
 
-/// Returns the values of the headers of a name.
+/// Returns the values of the headers with the name `name`.
 fn values_of<'a>(bytes: &'a [u8], headers: &[HeaderSpan], name: &[u8]) -> Values<'a>
     requires { All (IsHeaderWithin (length bytes.now)) headers.now }
     ensures { AreValues result (spec.values name.now (map (header_bytes bytes.now) headers.now)) }
@@ -45,7 +45,7 @@ fn values_of<'a>(bytes: &'a [u8], headers: &[HeaderSpan], name: &[u8]) -> Values
     values
 }
 
-/// Returns the number that digits write.
+/// Returns the number that the decimal digits of `text` write.
 fn number_of(text: &[u8]) -> u64
     requires small { digits_value 10 text.now ≤ 9999999999 }
     requires digits { list_all is_ascii_digit text.now ≡ true }
@@ -58,21 +58,22 @@ fn number_of(text: &[u8]) -> u64
     number
 }
 
-/// Returns whether each byte is a digit.
+/// Returns whether each byte is a decimal digit.
 fn are_digits(text: &[u8]) -> bool
     ensures { result ≡ list_all is_ascii_digit text.now }
 {
     text.iter().all(|byte| byte.is_ascii_digit())
 }
 
-/// Returns whether the text has the form of a length.
+/// Returns whether `text` has the form of a length: 1 to 10 decimal digits.
 fn is_length(text: &[u8]) -> bool
     ensures { result ≡ spec.is_length text.now }
 {
     !text.is_empty() && text.len() <= 10 && are_digits(text)
 }
 
-/// Returns how long the body is by the one Content-Length. `Err`: why the message isn't served.
+/// Returns the length of the body, in bytes, that `text` says, the one Content-Length. `Err`: why
+/// the message isn't served.
 fn size_by_length(text: &[u8]) -> Result<usize, Rejection>
     ensures { IsSize result (spec.size_by_length (text.now ∷ [])) }
 {
@@ -86,7 +87,7 @@ fn size_by_length(text: &[u8]) -> Result<usize, Rejection>
     Ok(number as usize)
 }
 
-/// Returns how long the body is. `Err`: why the message isn't served.
+/// Returns the length of the body, in bytes. `Err`: why the message isn't served.
 pub(crate) fn size_of(bytes: &[u8], headers: &[HeaderSpan]) -> Result<usize, Rejection>
     requires { All (IsHeaderWithin (length bytes.now)) headers.now }
     ensures { IsSize result (spec.size_of (map (header_bytes bytes.now) headers.now)) }
@@ -102,7 +103,7 @@ pub(crate) fn size_of(bytes: &[u8], headers: &[HeaderSpan]) -> Result<usize, Rej
     }
 }
 
-/// Returns whether the header is `Connection: close`.
+/// Returns whether `header` is `Connection: close`.
 fn is_close(bytes: &[u8], header: &HeaderSpan) -> bool
     requires { IsHeaderWithin (length bytes.now) header.now }
     ensures { result ≡ (spec.same_word (span_bytes bytes.now header.now.name) (codes "connection") && spec.same_word (span_bytes bytes.now header.now.value) (codes "close")) }

@@ -28,7 +28,8 @@ impl Model for Held {
 }
 
 impl Held {
-    /// Holds nothing. `Err(AllocError)`: an allocation failed; nothing is changed.
+    /// Takes the memory for `HELD_LIMIT` bytes, and holds none. `Err(AllocError)`: an allocation
+    /// failed; nothing is changed.
     pub(crate) fn new(alloc: Global) -> Result<Held, AllocError>
         ensures { IfOk result (λ h. h ≡ []) }
     {
@@ -43,7 +44,7 @@ impl Held {
         self.filled = 0;
     }
 
-    /// Returns how many bytes are held.
+    /// Returns the number of bytes that are held.
     fn len(&self) -> usize
         ensures value { result ≡ length self.now }
         ensures limit { length self.now ≤ HELD_LIMIT }
@@ -51,7 +52,7 @@ impl Held {
         self.filled
     }
 
-    /// Holds these bytes too.
+    /// Appends `bytes` to what is held.
     fn hold(&mut self, bytes: &[u8])
         requires { length self.old + length bytes.now ≤ HELD_LIMIT }
         ensures { self.new ≡ self.old ++ bytes.now }
@@ -61,8 +62,8 @@ impl Held {
         self.filled = end;
     }
 
-    /// Writes what is held, and returns whether all of it was written. Then nothing is held: after
-    /// a failed write no other is tried.
+    /// Writes what is held, and returns whether all of it was written. Nothing is held afterwards:
+    /// after a failed write no other is tried.
     pub(crate) fn flush<W: Write>(&mut self, writer: &mut W) -> bool
         ensures none { self.new ≡ [] }
         ensures whole { IsTrue result → Appends (W.contents writer.old) (W.contents writer.new) self.old }
@@ -73,8 +74,8 @@ impl Held {
         whole
     }
 
-    /// Puts bytes behind what is held, and returns whether they are held or written. If no room is
-    /// left for them what is held is written first; more than `HELD_LIMIT` bytes are then written
+    /// Puts `bytes` after what is held, and returns whether they are held or written. Where they
+    /// have no room, what is held is written first; more than `HELD_LIMIT` bytes are then written
     /// at once, without a copy.
     pub(crate) fn put<W: Write>(&mut self, writer: &mut W, bytes: &[u8]) -> bool
         ensures whole { IsTrue result → AppendsUpTo self.new (W.contents writer.old) (W.contents writer.new) (self.old ++ bytes.now) }

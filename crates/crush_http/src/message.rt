@@ -15,9 +15,9 @@ use std::io::Read;
 
 /// What comes next.
 pub(crate) enum Incoming {
-    /// A message. Its head stands in the buffer, and its body is read.
+    /// A message. Its head is in the buffer, and its body was read.
     Message(Request),
-    /// No message, whatever follows.
+    /// What comes is no message, whatever bytes follow.
     Rejected(Rejection),
     /// The input ends before a message is whole.
     Ended,

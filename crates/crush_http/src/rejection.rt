@@ -3,7 +3,7 @@
 /// Why what comes is no message. It is answered, and the connection then ends.
 #[derive(Clone, Copy, Debug, PartialEq, Eq)]
 pub enum Rejection {
-    /// 400: no head within the limits stands there, or its Content-Length is no length.
+    /// 400: there is no head within the limits, or its Content-Length is no length.
     BadRequest,
     /// 413: the body is over its limit.
     TooLarge,

@@ -13,16 +13,16 @@ use crate::rejection::Rejection;
 use httparse::spans::{HeaderSpan, RequestSpans, Span};
 use tenant_messages::CallParts;
 
-/// Where the parts of a message are in the buffer, and how long its body is.
+/// The places of the parts of a message in the buffer, and the length of its body.
 #[derive(Clone, Copy)]
 pub(crate) struct Request {
     pub method: Span,
     pub path: Span,
-    /// The length of the head, where the body begins.
+    /// The length of the head, in bytes, after which the body begins.
     pub len: usize,
-    /// The length of the body.
+    /// The length of the body, in bytes.
     pub size: usize,
-    /// The connection ends after the reply.
+    /// Whether the connection ends after the reply.
     pub closes: bool,
 }
 
@@ -30,7 +30,7 @@ impl Request {
     ghost use Rattle.std.specs.Prelude.{◌≡◌, ◌≤◌};
     ghost use Rattle.crush_http.specs.Private.Reading.{used};
 
-    /// Returns how many of the `count` bytes in the buffer belong to the message.
+    /// Returns the number of bytes that belong to the message, of the `count` bytes in the buffer.
     pub(crate) fn used(&self, count: usize) -> usize
         requires { self.now.len ≤ count }
         ensures { result ≡ used self.now count }
@@ -39,7 +39,8 @@ impl Request {
     }
 }
 
-/// Returns where the parts of a message are. `Err`: why it isn't served.
+/// Finds the parts of the message whose head is `found` in `bytes`. `Err`: why the message isn't
+/// served.
 pub(crate) fn request_of(
     bytes: &[u8],
     found: &RequestSpans,

@@ -12,8 +12,8 @@ use std::io::Write;
 use tenant_messages::Reply;
 use tenant_service::shown_body;
 
-/// Puts the pieces, one after the other, behind what is held, and returns whether all bytes are
-/// held or written. Allocates nothing.
+/// Puts the pieces, one after the other, after what is held, and returns whether all bytes are held
+/// or written. Allocates nothing.
 fn put_pieces<W: Write>(held: &mut Held, writer: &mut W, pieces: &[&[u8]]) -> bool
     ensures { Puts result held.old held.new (W.contents writer.old) (W.contents writer.new) (flat_map (λ piece. piece.now) pieces.now) }
 {
@@ -25,7 +25,7 @@ fn put_pieces<W: Write>(held: &mut Held, writer: &mut W, pieces: &[&[u8]]) -> bo
     true
 }
 
-/// Returns the phrase of a status. Allocates nothing.
+/// Returns the phrase of `status` (RFC 9110, section 15), or an empty one. Allocates nothing.
 fn phrase(status: u16) -> &'static str
     ensures { result.now ≡ spec.phrase status }
 {
@@ -35,14 +35,14 @@ fn phrase(status: u16) -> &'static str
     }
 }
 
-/// Returns the line of a reply after which the connection ends, or nothing.
+/// Returns the line `Connection: close` if the connection ends after the reply, and else nothing.
 fn close_line(last: bool) -> &'static [u8]
     ensures { result.now ≡ spec.close_line last }
 {
     if last { b"Connection: close\r\n" } else { b"" }
 }
 
-/// Returns a reply in pieces.
+/// Returns the pieces of a reply, in order.
 fn pieces_of<'a>(
     status: &'a [u8],
     phrase: &'a [u8],
@@ -66,7 +66,7 @@ fn pieces_of<'a>(
     ]
 }
 
-/// Puts a reply with a status and a body behind what is held, and returns whether all of it is held
+/// Puts a reply with `status` and `body` after what is held, and returns whether all of it is held
 /// or written. Allocates nothing.
 fn put_with<W: Write>(held: &mut Held, writer: &mut W, last: bool, status: u16, body: &[u8]) -> bool
     ensures { Puts result held.old held.new (W.contents writer.old) (W.contents writer.new) (spec.wire last status body.now) }
@@ -85,8 +85,8 @@ fn put_with<W: Write>(held: &mut Held, writer: &mut W, last: bool, status: u16, 
     put_pieces(held, writer, &pieces)
 }
 
-/// Puts a reply, after which the connection ends or goes on, behind what is held, and returns
-/// whether all of it is held or written. Allocates nothing.
+/// Puts `reply` after what is held, and returns whether all of it is held or written. `last` says
+/// whether the connection ends after it. Allocates nothing.
 pub(crate) fn put_reply<W: Write>(
     held: &mut Held,
     writer: &mut W,
@@ -104,7 +104,7 @@ pub(crate) fn put_reply<W: Write>(
     )
 }
 
-/// Returns the status of the reply to what is no message.
+/// Returns the status of the reply to what is no message for `reason`.
 fn rejection_status(reason: Rejection) -> u16
     ensures { result ≡ spec.rejection_status reason }
 {
@@ -115,7 +115,7 @@ fn rejection_status(reason: Rejection) -> u16
     }
 }
 
-/// Returns the body of the reply to what is no message.
+/// Returns the body of the reply to what is no message for `reason`.
 fn rejection_body(reason: Rejection) -> &'static [u8]
     ensures { result.now ≡ spec.rejection_body reason }
 {
@@ -126,8 +126,8 @@ fn rejection_body(reason: Rejection) -> &'static [u8]
     }
 }
 
-/// Puts the reply to what is no message behind what is held, and returns whether all of it is held
-/// or written. Allocates nothing.
+/// Puts the reply to what is no message for `reason` after what is held, and returns whether all of
+/// it is held or written. Allocates nothing.
 pub(crate) fn put_rejection<W: Write>(held: &mut Held, writer: &mut W, reason: Rejection) -> bool
     ensures { Puts result held.old held.new (W.contents writer.old) (W.contents writer.new) (spec.rejection_wire reason) }
 {

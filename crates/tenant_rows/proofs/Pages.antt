@@ -138,7 +138,7 @@ above_both low high up row h =
     let joined : value_cmp (Words low) (column row 0) ≡ Less = value_cmp_total.trans (Words low) (Words high) (column row 0) near far in
     ap is_gt (value_cmp_total.antisymm (column row 0) (Words low)) ∙ greater _ joined
 
--- ---- the rows behind a page
+-- ---- the rows that follow a page
 
 -- a page of these rows whose last row has the text, with what is above it
 module _ (all rows front : List Row) (last : Row) (after : List ℕ) (tail : IsTail all rows) (page : Begins 16 rows (front ++ last ∷ [])) (is : column last 0 ≡ Words after) where

@@ -15,7 +15,7 @@ use Rattle.crush_http.specs.declared.message.Incoming.TheVariants as incoming
 use Rattle.crush_http.specs.declared.request.Request.{Request}
 use Rattle.crush_http.specs.declared.rejection.Rejection.{Rejection}
 
--- bytes were read, and this holds of those that were there and these behind them
+-- bytes were read, and `Holds` holds of those that were there, followed by the bytes read
 pub record ReadsOn (there : List ℕ) (old new : Option (List ℕ)) (Holds : List ℕ → Type 0) : Type 0 where
   pub more : List ℕ
   pub taken : Consumes old new more
@@ -23,7 +23,7 @@ pub record ReadsOn (there : List ℕ) (old new : Option (List ℕ)) (Holds : Lis
 
 -- ---- headers
 
--- none, the one, or more
+-- the headers have no value, one value, or more
 abbrev pub AreValues : Values → List (List ℕ) → Type 0
 AreValues None vs = vs ≡ []
 AreValues (One v) vs = vs ≡ v.now ∷ []
@@ -47,7 +47,7 @@ pub record IsRequest (buffer : List ℕ) (r : Request) (head : RequestHead) : Ty
   pub small : r.size ≤ BODY_LIMIT
   pub closes : r.closes ≡ closes head
 
--- how many of the `count` bytes in the buffer belong to the message
+-- the number of bytes that belong to the message, of the `count` bytes in the buffer
 abbrev pub used : Request → ℕ → ℕ
 used r count = r.len + min r.size (count - r.len)
 
@@ -56,13 +56,13 @@ call_in buffer r body = record { method = span_bytes buffer r.method; path = spa
 
 -- ---- a body
 
--- all bytes are those of the body, and then those of the first ones that are behind it
+-- all bytes are those of the body, and then the bytes of `first` that follow it
 abbrev pub IsBodyOf : List ℕ → List ℕ → List ℕ → Type 0
 IsBodyOf body first all = all ≡ body ++ drop (length body) first
 
 -- ---- a message
 
--- all bytes begin with the message of the request and the body; the rest stands in the buffer
+-- all bytes begin with the message of the request and the body; the rest is in the buffer
 pub record IsMessageOf (buffer : List ℕ) (r : Request) (body all : List ℕ) : Type 0 where
   pub head : RequestHead
   pub is : IsRequest buffer r head

@@ -14,7 +14,7 @@ use Rattle.crush_http.specs.declared.connection.Ended.{Ended}
 use Rattle.crush_http.specs.declared.connection.Turn.{Turn}
 use Rattle.crush_http.specs.declared.connection.Turn.TheVariants as turn
 
--- bytes came behind those that were held: all were written but those that are held now, or a write
+-- bytes came after those that were held: all were written but those that are held now, or a write
 -- failed, and only a part was written
 abbrev pub Puts : Bool → List ℕ → List ℕ → Option (List ℕ) → Option (List ℕ) → List ℕ → Type 0
 Puts true held now from to bytes = AppendsUpTo now from to (held ++ bytes)
@@ -28,13 +28,13 @@ pub record Replies (is_honest : Type 0) (was is : Bool) (old new : States) (kept
   pub session : is_honest → was ≡ false → IsSession old left (call ∷ []) (reply ∷ [])
   pub stays : was ≡ true → (t : List ℕ) (found : Found) → left t found → kept t found
 
--- at most one call was served: for none this is so, for one the reply is such
+-- at most one call was served: `Same` holds where none was, and `One` of the call and its reply
 abbrev pub ServesAtMostOne : Type 0 → (Call → Reply → Type 0) → List Call → List Reply → Type 0
 ServesAtMostOne Same One [] [] = Same
 ServesAtMostOne Same One (call ∷ []) (reply ∷ []) = One call reply
 ServesAtMostOne Same One _ _ = ⊥
 
--- a message that isn't the last was served, and its reply came behind what was held
+-- a message that isn't the last was served, and its reply came after what was held
 pub record ServesOne (One : Call → Reply → Type 0) (most : ℕ) (rest held now : List ℕ) (from to : Option (List ℕ)) (input : List ℕ) : Type 0 where
   pub message : Message
   pub at : MessageAt most input message rest
@@ -43,7 +43,7 @@ pub record ServesOne (One : Call → Reply → Type 0) (most : ℕ) (rest held n
   pub replied : One message.call reply
   pub put : AppendsUpTo now from to (held ++ reply_wire false reply)
 
--- the connection stops: of what was there, what was read, and what is unread. This holds of the
+-- the connection stops, by what was there, what was read, and what is unread. `Holds` holds of the
 -- stop and of what is due
 pub record EndsOn (Meets : List Call → List Reply → Type 0) (most : ℕ) (there : List ℕ) (old new : Option (List ℕ)) (Holds : Stop → List ℕ → Type 0) : Type 0 where
   pub read : List ℕ
@@ -59,11 +59,11 @@ pub record EndsOn (Meets : List Call → List Reply → Type 0) (most : ℕ) (th
   pub holds : Holds stop (due stop messages replies)
   pub leaves : LeavesUnread stop new
 
--- the connection ends so once what is held now is written; what is due came behind what was held
+-- the connection ends so once what is held now is written; what is due came after what was held
 abbrev pub EndsHeld : Ended → List ℕ → List ℕ → Option (List ℕ) → Option (List ℕ) → Stop → List ℕ → Type 0
 EndsHeld ended held now from to stop bytes = EndsAs stop ended × AppendsUpTo now from to (held ++ bytes)
 
--- a write failed: what was held, and what is due behind it, was written in part
+-- a write failed: what was held, and what is due after it, was written in part
 abbrev pub EndsCut : List ℕ → Option (List ℕ) → Option (List ℕ) → Stop → List ℕ → Type 0
 EndsCut held from to stop bytes = AppendsPart from to (held ++ bytes)
 
@@ -73,7 +73,7 @@ OnNext turn.Next P = P
 OnNext (turn.Ended e) P = ⊤
 OnNext turn.Cut P = ⊤
 
--- P of how it ends
+-- P of how the connection ends
 abbrev pub OnEnded : Turn → (Ended → Type 0) → Type 0
 OnEnded turn.Next P = ⊤
 OnEnded (turn.Ended e) P = P e

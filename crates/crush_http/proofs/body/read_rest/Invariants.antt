@@ -2,7 +2,7 @@ use Rattle.std.proofs.Common.{◌≡◌, ◌-◌, ◌≤◌, length, take, drop}
 use Rattle.std.specs.Io.KnownBytes.{Consumes}
 use Rattle.crush_http.proofs.body.read_rest.Given as goal
 
--- what was read stands behind the start
+-- what was read follows the start
 abbrev pub invariant-loop-filled : goal.invariant-loop-filled
 invariant-loop-filled g l = record {
   size : length l.body ≡ length l.fn.body;
