@@ -12,7 +12,7 @@ plays_same : (a b c d : States) (ms : _) (from to : Option (List ℕ)) → Same 
 plays_same a b c d ms from to before after plays =
     plays_map (MeetsDefinition false a c) (MeetsDefinition false b d) (λ cs rs meets. meets_same false a b c d cs rs before (λ works. after) meets) ms from to plays
 
--- where the last line was cut, what the store then shows isn't said
+-- where the last line was cut, nothing is said of what the store then shows
 meets_weaker : (latched : Bool) (a b c d : States) (cs : _) (rs : _) → Same a b → MeetsDefinition latched a c cs rs → MeetsDefinition true b d cs rs
 meets_weaker latched a b c d cs rs before meets = record {
   count = meets.count;
@@ -68,7 +68,7 @@ to_same Latched latched a b c d left ms from to before after plays = latched_sam
 to_same TooLong latched a b c d left ms from to before after plays = absurd plays
 to_same ReadFault latched a b c d left ms from to before after plays = absurd plays
 
--- what the store shows afterwards is said after a whole script alone
+-- only after a whole script is it said what the store shows afterwards
 pub script_same : (how : ScriptEnd) (latched : Bool) (a b c d : States) (left : Outcomes) (ms : _) (from to : Option (List ℕ)) → Same a b → (how ≡ Done → Same c d)
     → PlaysScript how latched a c left ms from to → PlaysScript how true b d left ms from to
 script_same how latched a b c d left ms from to before after script = record {

@@ -17,8 +17,8 @@ use Rattle.crush_app.specs.Play.{PlaysScript}
 use Rattle.crush_app.specs.declared.play.ScriptEnd.{ScriptEnd}
 use Rattle.crush_app.specs.declared.play.ScriptEnd.TheVariants.{Done}
 
--- Lines were served from the states that the rows stood for to those that the file holds, and else
--- the connection is the one of before.
+-- Lines were served from the states that the rows stood for to those that the file holds; or
+-- nothing was served, and the connection is unchanged.
 abbrev pub EndsOnFiles : {D : Type 0} (g : disk.Ghosts D) → Held (FileStore D g) → Result ScriptEnd AllocError → Result (Unit {0}) FileFault → Files D → (reads left from to : Option (List ℕ)) → Type 0
 EndsOnFiles g first end copied files reads left from to =
     UsesFiles g first copied files (end ≡ Ok Done)

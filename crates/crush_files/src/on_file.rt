@@ -14,15 +14,15 @@ use std::num::NonZeroUsize;
 use std::rt::HostRuntime;
 use tenant_files::{Closed, FileFault, FileWatch, open_store};
 
-/// Plays a script on the tenants in a database file, keeps the placements of `placements` groups,
-/// and returns how that ended, with what was given back of the file. A file that is missing or
-/// empty becomes a new database. The file is opened before the script is read.
+/// Plays a script on the tenants in the database file at `path`, keeps the placements of
+/// `placements` groups, and returns how that ended, with the files that were given back. A file
+/// that is missing or empty becomes a new database. The file is opened before the script is read.
 ///
 /// The clauses speak of what the file and its log held (`S`), which no clause ties to the path, and
 /// have the premise that the disk returned what was written (`AreClean`).
 ///
-/// `Err(FileFault::Store)`: the file can't be opened, or isn't a database with the tables of this
-/// service; it is then as it was. The same where it is moved or removed meanwhile.
+/// `Err(FileFault::Store)`: the file can't be opened or written, or it isn't a database with the
+/// tables of this service and is unchanged, or it was moved or removed meanwhile.
 /// `Err(FileFault::NoMemory)`: an allocation of the opening failed.
 pub fn script_on_file<S: Start, R: Read, W: Write>(
     rt: &HostRuntime,

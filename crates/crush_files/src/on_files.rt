@@ -23,8 +23,8 @@ use tenant_store::Store;
 use tenant_watched::{Watch, WatchedStore};
 
 /// Plays a script on the tenants of a store over tables, and gives the connection back. What
-/// tenants have is kept, within `READY_BYTES`, and the placements of `placements` groups. No change
-/// is acknowledged once the files that are watched are missed.
+/// tenants have is kept, within `READY_BYTES`, and so are the placements of `placements` groups. No
+/// change is acknowledged once `watch` misses the files.
 fn script_on_tables<S: Alter + Drop, F: Watch + Drop, R: Read, W: Write>(
     alloc: Global,
     store: Store<S>,
@@ -60,7 +60,7 @@ fn failed_for_good(end: &Result<ScriptEnd, AllocError>) -> bool
 }
 
 /// Plays a script on the tenants of a store over a database file, keeps the placements of
-/// `placements` groups, and returns how that ended, with what was given back of the file.
+/// `placements` groups, and returns how that ended, with the files that were given back.
 ///
 /// The clauses have the premise that the disk returned what was written (`AreClean`).
 /// `Err(AllocError)`: an allocation outside a request failed; no line was served.
@@ -76,7 +76,7 @@ pub fn script_on_files<D: Disk + Drop, F: Watch + Drop, R: Read, W: Write>(
 
     // Lines were served from the states that the rows stood for to those that the file holds now,
     // also after a crash, and what was written has the headline. Or nothing was served and written,
-    // and the connection is as it was.
+    // and the connection is unchanged.
     ensures ends { EndsOnFiles D.Disk store.0 result.0 result.1.copied result.1.files (R.remaining reader.old) (R.remaining reader.new) (W.contents writer.old) (W.contents writer.new) }
 
     // Where the file failed for good, it isn't closed.
