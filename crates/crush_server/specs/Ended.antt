@@ -20,7 +20,7 @@ use Rattle.crush_server.specs.declared.fault.ServerFault.TheVariants.{NoMemory, 
 
 -- ---- the clients
 
--- from 1 to `most` connections were served, and then no more
+-- from 1 to `most` connections were served, and no more
 pub record ServesSome (Says : List Call → List Reply → Type 0) (most : ℕ) (old new : Option Clients) : Type 0 where
   pub count : ℕ
   pub some : 0 < count
@@ -48,8 +48,8 @@ has_failed (Err fault) = true
 
 -- ---- the file
 
--- Clients were served from the states that the rows stood for to those that the file holds, and
--- else the connection is the one of before.
+-- Clients were served from the states that the rows stood for to those that the file holds; or no
+-- client was accepted, and the connection is unchanged.
 abbrev pub ServesOnFiles : {D : Type 0} (g : disk.Ghosts D) → Held (FileStore D g) → Result (Unit {0}) ServerFault → Result (Unit {0}) FileFault → Files D → ℕ → (old new : Option Clients) → Type 0
 ServesOnFiles g first end copied files most old new =
     UsesFiles g first copied files (has_failed end ≡ false)

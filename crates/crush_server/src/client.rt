@@ -8,7 +8,7 @@ use crate::waiting::Waiting;
 use std::io::{self, ErrorKind, Read, Write};
 use std::time::Clock;
 
-/// How many times a call is made that signals interrupt, before it fails.
+/// The number of times that a call which signals interrupt is made, before it fails.
 const TRIES: u32 = 16;
 
 /// The client of a connection, over a stream: what it sends, or where its replies go. Contracts see
@@ -20,7 +20,8 @@ pub struct Client<'a, S, C: Clock> {
 }
 
 impl<'a, S, C: Clock> Client<'a, S, C> {
-    /// Returns the client over a stream, waited for so long as this measures.
+    /// Makes the client over `stream`. `waiting` measures how long the server waits for it, and
+    /// says when that is too long.
     pub fn new(stream: S, waiting: &'a Waiting<'a, C>) -> Self
         ensures { result.stream ≡ stream }
     {
@@ -28,7 +29,7 @@ impl<'a, S, C: Clock> Client<'a, S, C> {
     }
 }
 
-/// Reads once, again where a signal interrupts that.
+/// Reads once, and again where a signal interrupts the read, at most `TRIES` times in all.
 fn read_once<R: Read>(reader: &mut R, buf: &mut [u8]) -> io::Result<usize>
     ensures bound { ReadsAtMost result buf.new }
     ensures bytes { ReadConsumes (R.remaining reader.old) (R.remaining reader.new) result buf.new }
@@ -42,7 +43,7 @@ fn read_once<R: Read>(reader: &mut R, buf: &mut [u8]) -> io::Result<usize>
     reader.read(buf)
 }
 
-/// Writes once, again where a signal interrupts that.
+/// Writes once, and again where a signal interrupts the write, at most `TRIES` times in all.
 fn write_once<W: Write>(writer: &mut W, buf: &[u8]) -> io::Result<usize>
     ensures bound { WritesAtMost result buf.now }
     ensures bytes { WriteAppends (W.contents writer.old) (W.contents writer.new) result buf.now }

@@ -10,22 +10,22 @@ use std::net::{Ipv4Addr, Shutdown, TcpListener, TcpStream, UdpSocket};
 use std::rt::HostRuntime;
 use std::time::Duration;
 
-/// How many seconds one read or write may wait for the client.
+/// The greatest number of seconds that one read or write waits for the client.
 const WAIT_SECONDS: u64 = 5;
 
-/// How many milliseconds a read at the end waits for what the client still sends.
+/// The number of milliseconds that a read at the end waits for what the client still sends.
 const LAST_MILLISECONDS: u64 = 100;
 
-/// How many reads take what the client still sends, at most.
+/// The greatest number of reads that take what the client still sends.
 const LAST_READS: u32 = 40;
 
-/// How many bytes that a client still sends are taken at once.
+/// The greatest number of bytes that one of these reads takes.
 const TAKEN_SIZE: usize = 65_536;
 
-/// How many milliseconds pass after an accept that failed.
+/// The number of milliseconds that pass after an accept that failed.
 const PAUSE_MILLISECONDS: u64 = 100;
 
-/// Sets how long the client is waited for, and that replies are sent without delay.
+/// Sets how long a read or a write waits for the client, and that replies are sent without delay.
 fn prepare(stream: &TcpStream) -> io::Result<()> {
     let wait = Duration::from_secs(WAIT_SECONDS);
     stream.set_read_timeout(Some(wait))?;
@@ -33,8 +33,8 @@ fn prepare(stream: &TcpStream) -> io::Result<()> {
     stream.set_nodelay(true)
 }
 
-/// Tells the client that nothing more is sent, and takes what it still sends for a while: a socket
-/// that is closed with bytes unread would be reset, and the last reply could be lost.
+/// Shuts the sending side of the connection, and takes what the client still sends for a while: a
+/// socket that is closed with bytes unread would be reset, and the last reply could be lost.
 fn finish(mut stream: &TcpStream, taken: &mut [u8]) -> io::Result<()> {
     stream.shutdown(Shutdown::Write)?;
     stream.set_read_timeout(Some(Duration::from_millis(LAST_MILLISECONDS)))?;
@@ -46,39 +46,39 @@ fn finish(mut stream: &TcpStream, taken: &mut [u8]) -> io::Result<()> {
     Ok(())
 }
 
-/// Returns a socket to which nobody sends, so that a read of it takes `PAUSE_MILLISECONDS`. It is
+/// Makes a socket to which nobody sends, so that a read of it takes `PAUSE_MILLISECONDS`. It is
 /// made before the first accept, since an accept fails where no further socket can be made.
 fn quiet_socket(rt: &HostRuntime) -> io::Result<UdpSocket> {
     let socket = UdpSocket::bind(rt, (Ipv4Addr::LOCALHOST, 0))?;
-    // its one peer is itself, so that nothing comes from elsewhere
+    // the socket is its own one peer, so that nothing comes from elsewhere
     socket.connect(socket.local_addr()?)?;
     socket.set_read_timeout(Some(Duration::from_millis(PAUSE_MILLISECONDS)))?;
     Ok(socket)
 }
 
-/// One of two handles of a connection's socket: a reader and a writer are values of their own.
+/// One of two handles of a connection's socket, since a reader and a writer are separate values.
 pub type TcpClient<'a> = Client<'a, TcpStream, HostRuntime>;
 
-/// The clients of a port of 127.0.0.1. Each read and each write waits 5 seconds for one at most,
-/// and a message with its reply 30 seconds in all.
+/// The clients of a port of 127.0.0.1. Each read and each write waits at most 5 seconds for a
+/// client, and none begins once a message with its reply has taken 30 seconds in all.
 #[derive(Drop)]
 pub struct TcpClients<'a> {
     rt: &'a HostRuntime,
     port: u16,
     waiting: &'a Waiting<'a, HostRuntime>,
-    /// Where they connect, once it is listened on.
+    /// The socket to which clients connect, once the port is listened on.
     listener: Option<TcpListener>,
-    /// What is read where an accept failed, so that the next one waits.
+    /// The socket that is read where an accept failed, so that the next accept waits.
     quiet: Option<UdpSocket>,
-    /// How many accepts failed.
+    /// The number of accepts that failed.
     failed: u32,
-    /// Room for what a client sends after its replies.
+    /// The memory for what a client sends after its replies.
     taken: Vec<u8>,
 }
 
 impl<'a> TcpClients<'a> {
-    /// Returns the clients of this port, which isn't listened on yet. `Err(AllocError)`: an
-    /// allocation failed; nothing is changed.
+    /// Makes the clients of `port`, which isn't listened on yet. `Err(AllocError)`: an allocation
+    /// failed; nothing is changed.
     pub fn new(
         rt: &'a HostRuntime,
         port: u16,
@@ -96,12 +96,13 @@ impl<'a> TcpClients<'a> {
         })
     }
 
-    /// Returns how many clients couldn't be accepted.
+    /// Returns the number of clients that couldn't be accepted.
     pub fn failed(&self) -> u32 {
         self.failed
     }
 
-    /// Accepts a connection.
+    /// Accepts a connection, and returns two handles of its socket. `Err`: the port isn't listened
+    /// on, or a call on a socket failed.
     fn accepted(&self) -> io::Result<(TcpStream, TcpStream)> {
         let Some(listener) = &self.listener else {
             return Err(ErrorKind::NotConnected.into());
@@ -112,7 +113,7 @@ impl<'a> TcpClients<'a> {
         Ok((stream, other))
     }
 
-    /// Counts an accept that failed, and waits for a while: the next one would most likely fail
+    /// Counts an accept that failed, and waits for a while: the next accept would most likely fail
     /// too, at once.
     fn pause(&mut self) {
         self.failed = self.failed.saturating_add(1);
@@ -158,7 +159,7 @@ impl<'a> Listener for TcpClients<'a> {
     }
 
     fn close(&mut self, reader: TcpClient<'a>, _writer: TcpClient<'a>) {
-        // where this fails the client is gone, or sends no end
+        // where this fails the client is gone, or doesn't end what it sends
         let _finished = finish(&reader.stream, &mut self.taken);
     }
 }

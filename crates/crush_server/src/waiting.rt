@@ -1,14 +1,14 @@
-//! How long a client has been waited for.
+//! How long the server has waited for a client.
 
 use std::cell::Cell;
 use std::io::{self, ErrorKind};
 use std::time::{Clock, Duration, Instant};
 
-/// How many seconds a client may take for a message and its reply, in all reads and writes
-/// together.
+/// The number of seconds that a client may take for a message and its reply, in all reads and
+/// writes together.
 const MESSAGE_SECONDS: u64 = 30;
 
-/// What was waited for so far.
+/// How long the server has waited for a client so far.
 #[derive(Clone, Copy)]
 struct Waited {
     time: Duration,
@@ -18,14 +18,15 @@ struct Waited {
     is_unknown: bool,
 }
 
-/// Nothing was waited for yet.
+/// The measure before the first read or write.
 const NOTHING: Waited = Waited {
     time: Duration::ZERO,
     replying: false,
     is_unknown: false,
 };
 
-/// Measures how long a client is waited for. Reads and writes of one connection share it.
+/// A measure of how long the server waits for a client. Reads and writes of one connection share
+/// it.
 #[derive(Drop)]
 pub struct Waiting<'a, C: Clock> {
     clock: &'a C,
@@ -33,7 +34,7 @@ pub struct Waiting<'a, C: Clock> {
 }
 
 impl<'a, C: Clock> Waiting<'a, C> {
-    /// Nothing was waited for yet.
+    /// Makes a measure by `clock`, which begins at 0 seconds.
     pub fn new(clock: &'a C) -> Self {
         Waiting {
             clock,
@@ -41,7 +42,7 @@ impl<'a, C: Clock> Waiting<'a, C> {
         }
     }
 
-    /// Nothing was waited for yet, by the next client.
+    /// Begins again at 0 seconds, for the next client.
     pub(crate) fn restart(&self) {
         self.waited.set(NOTHING);
     }
@@ -61,8 +62,8 @@ impl<'a, C: Clock> Waiting<'a, C> {
         Instant::now(self.clock)
     }
 
-    /// Ends what was begun at a time. Where the clock can't be read, what comes next fails, since
-    /// bytes were moved already.
+    /// Ends the read or write that was begun at `start`. Where the clock can't be read, the next
+    /// read or write fails, since bytes were moved already.
     pub(crate) fn end(&self, start: Instant) {
         let mut waited = self.waited.get();
         match start.elapsed(self.clock) {
