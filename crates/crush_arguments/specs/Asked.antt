@@ -10,7 +10,7 @@ use Rattle.crush_arguments.specs.declared.invocation.Invocation.TheVariants.{Scr
 abbrev pub number_of : Text → List Row → Option ℕ
 number_of id rows = option_map (λ text. digits_value 10 (without_leading_plus text)) (one_of id rows)
 
--- a command and what its arguments say are this invocation: the same command, on the same file and
+-- a command and what its arguments say are the invocation: the same command, on the same file and
 -- port, with the same numbers
 abbrev pub IsAsked : Text → List Row → Invocation → Type 0
 IsAsked name rows (Script db placements) = (name ≡ codes "script")
@@ -24,7 +24,7 @@ IsAsked name rows (Serve db placements port connections) = (name ≡ codes "serv
 IsAsked name rows (Check path) =
     (name ≡ codes "check") × (Some path.now ≡ first_of (codes "FILE") rows)
 
--- the command that was met, if one was, is this invocation
+-- the command that was named, if one was, is the invocation
 abbrev pub Asks : Option (Text × List Row) → Invocation → Type 0
 Asks None invocation = ⊥
 Asks (Some met) invocation = IsAsked met.0 met.1 invocation

@@ -16,14 +16,14 @@ number_option name least most =
 abbrev pub db : Rule
 db = value_option (codes "db")
 
--- how many placements are kept
+-- the number of placements that are kept
 abbrev pub cache : Rule
 cache = record (number_option (codes "cache") 1 65536) { defaults = codes "1024" ∷ [] }
 
 abbrev pub port : Rule
 port = record (number_option (codes "port") 1 65535) { required = true }
 
--- after how many connections the server ends
+-- the number of connections after which the server ends
 abbrev pub connections : Rule
 connections =
     record (number_option (codes "connections") 1 1000000) { defaults = codes "1000000" ∷ [] }

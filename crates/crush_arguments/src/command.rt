@@ -41,7 +41,7 @@ rule that is wrong, perhaps further down, or the line of the last word where onl
   M14  chooseleaf indep of type 0
   M15  a name over 64 bytes, or a type named by a keyword";
 
-/// Returns the option that says how many placements are kept.
+/// Makes the option that says how many placements are kept.
 fn cache_option<'a>(alloc: Global) -> Arg<'a>
     ensures rule { rule_of result ≡ spec.cache }
     ensures local { result.global ≡ false }
@@ -55,7 +55,8 @@ fn cache_option<'a>(alloc: Global) -> Arg<'a>
         .help("Keeps the placements of at most so many groups")
 }
 
-/// Returns the option that names the database file.
+/// Makes the option that names the database file, with `help`. `required` says whether it has to be
+/// given.
 fn db_option<'a>(alloc: Global, required: bool, help: &'a str) -> Arg<'a>
     ensures rule { rule_of result ≡ record spec.db { required = required } }
     ensures local { result.global ≡ false }
@@ -68,7 +69,7 @@ fn db_option<'a>(alloc: Global, required: bool, help: &'a str) -> Arg<'a>
         .help(help)
 }
 
-/// Returns the option that names the port.
+/// Makes the option that names the port.
 fn port_option<'a>(alloc: Global) -> Arg<'a>
     ensures rule { rule_of result ≡ spec.port }
     ensures local { result.global ≡ false }
@@ -82,7 +83,7 @@ fn port_option<'a>(alloc: Global) -> Arg<'a>
         .help("Listens on this port of 127.0.0.1")
 }
 
-/// Returns the option that says after how many connections the server ends.
+/// Makes the option that says after how many connections the server ends.
 fn connections_option<'a>(alloc: Global) -> Arg<'a>
     ensures rule { rule_of result ≡ spec.connections }
     ensures local { result.global ≡ false }
@@ -96,7 +97,7 @@ fn connections_option<'a>(alloc: Global) -> Arg<'a>
         .help("Ends after so many connections")
 }
 
-/// Returns the command `script`.
+/// Makes the command `script`. `Err(AllocError)`: an allocation failed.
 fn script_command<'a>(alloc: Global) -> Result<Command<'a>, AllocError>
     ensures { IfOk result (λ command. (app_of command ≡ spec.script) × ((fields_of command).has_globals ≡ false)) }
 {
@@ -111,7 +112,7 @@ fn script_command<'a>(alloc: Global) -> Result<Command<'a>, AllocError>
         .arg(cache_option(alloc))
 }
 
-/// Returns the command `serve`.
+/// Makes the command `serve`. `Err(AllocError)`: an allocation failed.
 fn serve_command<'a>(alloc: Global) -> Result<Command<'a>, AllocError>
     ensures { IfOk result (λ command. (app_of command ≡ spec.serve) × ((fields_of command).has_globals ≡ false)) }
 {
@@ -128,7 +129,7 @@ fn serve_command<'a>(alloc: Global) -> Result<Command<'a>, AllocError>
         .arg(connections_option(alloc))
 }
 
-/// Returns the command `check`.
+/// Makes the command `check`. `Err(AllocError)`: an allocation failed.
 fn check_command<'a>(alloc: Global) -> Result<Command<'a>, AllocError>
     ensures { IfOk result (λ command. (app_of command ≡ spec.check) × ((fields_of command).has_globals ≡ false)) }
 {
@@ -142,7 +143,7 @@ fn check_command<'a>(alloc: Global) -> Result<Command<'a>, AllocError>
         .arg(file)
 }
 
-/// Returns the program's command line, on which `read_arguments` reads words. `Err(AllocError)`: an
+/// Makes the program's command line, by which `read_arguments` reads words. `Err(AllocError)`: an
 /// allocation failed.
 pub fn program<'a>(alloc: Global) -> Result<Command<'a>, AllocError>
     ensures { IfOk result (λ command. app_of command ≡ spec.program) }

@@ -43,7 +43,7 @@ fn text_of<'a>(matches: &ArgMatches<'a>, id: &str) -> Option<&'a str>
     matches.get_str(id)
 }
 
-/// Returns the port that the words say.
+/// Returns the port that the words say, or `None` where they say none.
 fn port_of(matches: &ArgMatches<'_>) -> Option<u16>
     ensures { IfSome result (λ n. Some n ≡ spec.number_of (codes "port") (rows_of (found_of matches.now))) }
 {
@@ -57,14 +57,15 @@ fn number_of(matches: &ArgMatches<'_>, id: &str) -> Option<u32>
     matches.get_one::<u32>(id)
 }
 
-/// Returns how many placements the option `--cache` says.
+/// Returns the number of placements that the option `--cache` says, or its default.
 fn placements_of(matches: &ArgMatches<'_>) -> Option<NonZeroUsize>
     ensures { IfSome result (λ n. Some (non_zero_usize_get n) ≡ spec.number_of (codes "cache") (rows_of (found_of matches.now))) }
 {
     NonZeroUsize::new(number_of(matches, "cache")? as usize)
 }
 
-/// Returns what a command with these matches asks for, or nothing where they lack what it requires.
+/// Returns what the command `name` with the matches `given` asks for, or `None` where they lack
+/// what it requires.
 fn asked_of<'a>(name: &str, given: &ArgMatches<'a>) -> Option<Invocation<'a>>
     ensures { IfSome result (λ invocation. spec.IsAsked name.now (rows_of (found_of given.now)) invocation) }
 {
@@ -86,7 +87,7 @@ fn asked_of<'a>(name: &str, given: &ArgMatches<'a>) -> Option<Invocation<'a>>
     }
 }
 
-/// Returns what the matches ask for, or nothing where they lack what a command requires.
+/// Returns what `matches` ask for, or `None` where they lack what a command requires.
 #[tactic(auto, using(crate::proofs::Matched::met))]
 fn invocation_of<'a>(matches: &ArgMatches<'a>) -> Option<Invocation<'a>>
     ensures { IfSome result (λ invocation. spec.Asks (subcommand_rows_of matches.now) invocation) }

@@ -1,5 +1,5 @@
-//! The program's arguments: which command they name, on which file and port, with how many
-//! placements kept.
+//! The program's arguments: the command that they name, its file and port, and the number of
+//! placements that it keeps.
 #![tactic(auto)]
 
 mod command;
