@@ -71,7 +71,7 @@ impl From<ServerFault> for Stop {
     }
 }
 
-/// Serves the lines of standard input, with no tenant at first.
+/// Plays the script on standard input, with no tenant at first, and returns how that ended.
 fn script_from_nothing<R: AllocGlobal + Input + Print>(
     rt: &R,
     placements: NonZeroUsize,
@@ -84,7 +84,8 @@ fn script_from_nothing<R: AllocGlobal + Input + Print>(
     )?)
 }
 
-/// Serves the lines of standard input, with the tenants in a database file.
+/// Plays the script on standard input, with the tenants in the database file at `path`, and returns
+/// how that ended.
 fn script_over_file(
     rt: &HostRuntime,
     path: &str,
@@ -103,7 +104,7 @@ fn script_over_file(
     Ok(end?)
 }
 
-/// Returns why the program stops after a script that ended so, if it does.
+/// Returns `Ok` after a script that was played to its end, and else why the program stops.
 fn stop_after(end: ScriptEnd) -> Result<(), Stop> {
     match end {
         ScriptEnd::Done => Ok(()),
@@ -114,8 +115,8 @@ fn stop_after(end: ScriptEnd) -> Result<(), Stop> {
     }
 }
 
-/// Checks the text in a file, writes its line, and returns the exit status: 0 where the text is a
-/// map's, else 1.
+/// Checks the text in the file at `path`, writes its line, and returns the exit status: 0 where the
+/// text is a map's, else 1.
 fn check_file<R: AllocGlobal + Files + Print>(rt: &R, path: &str) -> Result<ExitCode, Stop> {
     let mut file = match File::open(rt, path) {
         Ok(file) => file,
@@ -130,7 +131,8 @@ fn check_file<R: AllocGlobal + Files + Print>(rt: &R, path: &str) -> Result<Exit
     }
 }
 
-/// Writes to standard error how many connections couldn't be accepted, where these are most.
+/// Writes to standard error how many of `connections` connections couldn't be accepted, where these
+/// are more than half.
 fn tell_of_failed<R: Eprint>(rt: &R, failed: u32, connections: u32) {
     if failed > connections / 2 {
         // the server has ended, whether or not this is written
@@ -180,8 +182,8 @@ fn run(rt: &HostRuntime) -> Result<ExitCode, Stop> {
     }
 }
 
-/// Writes help or the version to standard output, or why the program stops to standard error, and
-/// returns the exit status.
+/// Writes help or the version, or to standard error why the program stops, and returns the exit
+/// status.
 fn report<R: Print + Eprint>(rt: &R, stop: Stop) -> io::Result<ExitCode> {
     let why = match stop {
         Stop::Arguments(error) => {
