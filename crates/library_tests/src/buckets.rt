@@ -11,7 +11,7 @@ use crush_map::{ItemId, Kind, Step, has_equal_weights};
 use map_tests::drafts::{ONE, SOUND, Short, choose, draft, entries, map_of};
 use std::test::Fail;
 
-/// A map whose root has one device, 3, and whose rule wants two devices in their places.
+/// A map whose root has one device, 3, and whose rule asks for two devices in their places.
 const ONE_ITEM: Short<'static> = Short {
     buckets: &[(-1, "default", 10, Kind::Uniform, &[(3, ONE)])],
     rules: &[(
@@ -82,7 +82,7 @@ fn weights_have_their_calls(rt: HostRuntime) -> Result<(), Fail> {
     Ok(())
 }
 
-/// Of two devices that are wanted of a root with one, firstn finds one, and indep leaves the second
+/// Where two devices are asked of a root with one, firstn finds one, and indep leaves the second
 /// place empty.
 #[test]
 fn choosing_has_its_calls(rt: HostRuntime) -> Result<(), Fail> {

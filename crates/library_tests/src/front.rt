@@ -11,7 +11,7 @@ use table_service::{close_service, open_service};
 use tenant_service::MemoryStore;
 use text_tests::texts::DEVICE_0;
 
-/// The tenant of the rows after the import.
+/// The row that shows the tenant after the import.
 const SUMMARY: Row = (
     "GET",
     "/t/a",
@@ -20,10 +20,10 @@ const SUMMARY: Row = (
     "{\"devices\":0,\"epoch\":1,\"pools\":0,\"tenant\":\"a\",\"versions\":1}",
 );
 
-/// Requests of a new service.
+/// The requests to a new service.
 const ROWS: [Row; 3] = [CREATION_OF_A, IMPORT_BY_A, SUMMARY];
 
-/// Returns whether replies are those of the rows.
+/// Returns whether `replies` are those of the rows.
 fn are_of_rows(replies: &[Reply]) -> bool {
     replies.len() == ROWS.len()
         && replies
@@ -70,7 +70,7 @@ fn services_are_opened_and_closed(rt: HostRuntime) -> Result<(), Fail> {
     Ok(())
 }
 
-/// Returns a reader of these bytes.
+/// Makes a reader of `rest`, which gives at most 7 bytes a read.
 fn reader_of(rest: &[u8]) -> Reader<'_> {
     Reader {
         rest,
@@ -79,7 +79,7 @@ fn reader_of(rest: &[u8]) -> Reader<'_> {
     }
 }
 
-/// Two messages, of which the second ends the connection, and their replies.
+/// Two messages, and a third that ends in its body; below it the replies to the two.
 const STREAM: &[u8] =
     b"PUT /t/a HTTP/1.1\r\nHost: l\r\n\r\nGET /t/a HTTP/1.1\r\nHost: l\r\n\r\nPOST /t/a/test HTTP/1.1\r\nContent-Length: 30\r\n\r\n{\"ru";
 

@@ -1,5 +1,5 @@
-//! Callers of the library: each call of its twelve crates, at the crate and by the name by which a
-//! caller knows it, on small cases whose answers are known from elsewhere.
+//! Calls of the library, as its callers make them: each call of its twelve crates, at the crate and
+//! by the name by which a caller knows it, on small cases whose answers are known from elsewhere.
 #![tactic(auto)]
 
 #[cfg(test)]

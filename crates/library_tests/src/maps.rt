@@ -10,7 +10,8 @@ use map_tests::drafts::{JEWEL, ONE, SOUND, Short, draft};
 use std::test::Fail;
 use text_tests::texts::{DEVICE_0, map_text};
 
-/// What Ceph 16's `crush_hash32` to `crush_hash32_5` and `ceph_str_hash_rjenkins` answer.
+/// The hashes are those that Ceph 16's `crush_hash32` to `crush_hash32_5` and
+/// `ceph_str_hash_rjenkins` answer.
 #[test]
 fn crush_hash_has_its_calls(rt: HostRuntime) {
     let most = u32::MAX;
@@ -31,7 +32,7 @@ const ONE_ITEM: Short<'static> = Short {
     ..SOUND
 };
 
-/// The same with an item that isn't declared.
+/// The same map with an item that isn't declared.
 const UNDECLARED: Short<'static> = Short {
     buckets: &[(-1, "default", 10, Kind::Uniform, &[(4, ONE)])],
     ..ONE_ITEM

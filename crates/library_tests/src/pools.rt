@@ -22,7 +22,7 @@ use std::rc::Rc;
 use std::test::Fail;
 use text_tests::texts::{DEVICE_0, DEVICE_7, map_of};
 
-/// Returns the parts of pool 1, replicated, of one device a group by rule 0.
+/// Makes the parts of pool 1, which is replicated, with one device a group by rule 0.
 fn parts(
     alloc: Global,
     name: &str,
@@ -41,7 +41,7 @@ fn parts(
     })
 }
 
-/// Returns the pool of these parts.
+/// Makes the pool of these parts, with the name `rbd`.
 fn pool(alloc: Global, pg_num: u32, hashpspool: bool) -> Result<Pool, Fail> {
     match Pool::new(parts(alloc, "rbd", pg_num, hashpspool)?) {
         Ok(pool) => Ok(pool),
@@ -49,7 +49,7 @@ fn pool(alloc: Global, pg_num: u32, hashpspool: bool) -> Result<Pool, Fail> {
     }
 }
 
-/// Returns whether a placement is that of the device 0, with this seed.
+/// Returns whether `placement` is that of the device 0 alone, with `seed`.
 fn is_on_0(placement: &Placement, seed: u32) -> bool {
     let device: Slot = Some(ItemId(0));
     placement.seed == seed
@@ -123,8 +123,8 @@ fn placing_has_its_call(rt: HostRuntime) -> Result<(), Fail> {
     Ok(())
 }
 
-/// All groups of a pool are on the one device of the map; on the map of another device each of them
-/// moves; and that device touches none of them.
+/// All groups of a pool are on the one device of the map. On the map of another device each group
+/// moves. The other device touches no group.
 #[test]
 fn reports_have_their_calls(rt: HostRuntime) -> Result<(), Fail> {
     let alloc = rt.alloc();
@@ -167,7 +167,7 @@ fn device_csvs_have_their_call(rt: HostRuntime) -> Result<(), Fail> {
     Ok(())
 }
 
-/// Returns the canonical text of a map.
+/// Writes the canonical text of `map`.
 fn text_of(rt: &impl Abort, alloc: Global, map: &CrushMap) -> Result<SharedText, AllocError>
     ensures { IfOk result (λ text. text ≡ canonical map.now) }
 {

@@ -9,7 +9,8 @@ use std::test::Fail;
 use tenant_core::Change;
 use tenant_store::{Store, StoreFault, TenantStore, from_rows};
 
-/// Creates a tenant that is absent, makes its first change, and removes it where that is asked.
+/// Creates the tenant `name`, which is absent, makes its first change, and removes it where
+/// `removes` says so.
 fn write<T: TenantStore>(
     store: &mut T,
     name: &str,

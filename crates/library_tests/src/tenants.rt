@@ -20,8 +20,8 @@ fn import_call<'a>() -> CallParts<'a> {
     }
 }
 
-/// Returns the change that an import makes of a tenant that was just created. `Err`: an allocation
-/// failed, or its reply isn't that to a first import.
+/// Makes the change that an import makes of a tenant that was just created. `Err`: an allocation
+/// failed, or the reply isn't that to a first import.
 pub(crate) fn first_change(alloc: Global) -> Result<Change, Fail>
     ensures { IfOk result (λ change. CanMake change fresh) }
 {
@@ -44,7 +44,7 @@ pub(crate) fn first_change(alloc: Global) -> Result<Change, Fail>
     }
 }
 
-/// The list's second item is the one that has a weight.
+/// The list's second item is picked, which alone has a weight.
 #[test]
 fn tenant_core_has_its_calls(rt: HostRuntime) -> Result<(), Fail> {
     let alloc = rt.alloc();
