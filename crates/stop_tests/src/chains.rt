@@ -10,25 +10,25 @@ use std::process::Abort;
 use tenant_messages::{Bytes, Call, Reply};
 use tenant_service::{MemoryStore, Service, SessionEnd};
 
-/// How many sessions are opened, and how many are tried for that at most.
+/// The number of sessions that are opened. At most `TRIES` are tried for that.
 const SESSIONS: u64 = 50;
 
 const TRIES: u64 = 500;
 
-/// How many calls each of them has, beside a repeated one.
+/// The number of calls that each session has, beside a repeated one.
 const CALLS: u64 = 200;
 
-/// The tenants.
+/// The paths of the tenants.
 const TENANTS: [&str; 5] = ["/t/a", "/t/b", "/t/c", "/t/d", "/t/e"];
 
-/// A method, a path behind the tenant's, and a body.
+/// A method, a path that follows the tenant's, and a body.
 type Asked = (&'static str, &'static str, &'static str);
 
 /// The body that adds a pool of eight groups.
 const POOL: &str =
     "{\"request\":\"p1\",\"id\":1,\"name\":\"p\",\"kind\":\"replicated\",\"size\":1,\"rule\":0,\"pg_num\":8,\"pgp_num\":8,\"hashpspool\":true}";
 
-/// What is asked for, beside changes of devices with a number of their own.
+/// The calls that are drawn, beside changes of devices with a number of their own.
 const ASKED: [Asked; 12] = [
     ("PUT", "", ""),
     ("PUT", "", ""),
@@ -44,7 +44,7 @@ const ASKED: [Asked; 12] = [
     ("GET", "/pools/1/usage", ""),
 ];
 
-/// Returns the next number of a sequence that a seed begins.
+/// Returns the next number of the sequence that `seed` begins, and moves `seed` on.
 fn next(seed: &mut u64) -> u64 {
     *seed = seed
         .wrapping_mul(6_364_136_223_846_793_005)
@@ -60,26 +60,27 @@ fn call(rt: &impl Abort, alloc: Global, method: &[u8], path: &str, body: &[u8]) 
     }
 }
 
-/// Returns a change of device 0, as JSON, with this request number.
+/// Makes the body of a change of device 0, as JSON, with the request number d`number`.
 fn as_json(rt: &impl Abort, alloc: Global, number: u64, weight: u64) -> String {
     format!(in alloc;
         "{{\"request\":\"d{number}\",\"devices\":[{{\"id\":0,\"reweight\":{weight}}}]}}"
     ).expect(rt, "no memory")
 }
 
-/// Returns the same as CSV.
+/// Makes the body of a change of device 0, as CSV, with the request number c`number`.
 fn as_csv(rt: &impl Abort, alloc: Global, number: u64, weight: u64) -> String {
     format!(in alloc;
         "{{\"request\":\"c{number}\",\"csv\":\"id,reweight,up\\n0,{weight},1\\n\"}}"
     ).expect(rt, "no memory")
 }
 
-/// Returns a path of a tenant.
+/// Makes the path of `tenant` that ends with `rest`.
 fn path_of(rt: &impl Abort, alloc: Global, tenant: &str, rest: &str) -> String {
     format!(in alloc; "{tenant}{rest}").expect(rt, "no memory")
 }
 
-/// Returns a change of device 0, as JSON or as CSV, with one of a hundred request numbers.
+/// Draws a change of device 0, as JSON or as CSV, with one of a hundred request numbers of its
+/// kind.
 fn drawn_change(rt: &impl Abort, alloc: Global, tenant: &str, seed: &mut u64) -> Call {
     let (number, weight) = (next(seed) % 100, next(seed) % 65_537);
     let (rest, body) = if next(seed) % 2 == 0 {
@@ -101,13 +102,13 @@ fn drawn_call(rt: &impl Abort, alloc: Global, seed: &mut u64) -> Call {
     call(rt, alloc, method.as_bytes(), path.as_str(), body.as_bytes())
 }
 
-/// Returns the same call once more.
+/// Makes the same call once more.
 fn again(rt: &impl Abort, alloc: Global, first: &Call) -> Call {
     let it = first.parts();
     call(rt, alloc, it.method, it.path, it.body)
 }
 
-/// Returns the call in doubt, if there is one, and drawn ones.
+/// Makes the calls of a session: the call in doubt, if there is one, and drawn ones.
 fn drawn_calls(rt: &impl Abort, alloc: Global, doubt: &Option<Call>, seed: &mut u64) -> Vec<Call> {
     let mut calls = Vec::new(alloc);
     if let Some(first) = doubt {
@@ -121,7 +122,7 @@ fn drawn_calls(rt: &impl Abort, alloc: Global, doubt: &Option<Call>, seed: &mut 
     calls
 }
 
-/// Returns a call on the log or on the database file, at which the next session stops.
+/// Draws the call on the log or on the database file at which the next session stops.
 fn drawn_stop(seed: &mut u64) -> Stop {
     if next(seed) % 4 == 0 {
         Stop::Database(next(seed) % 200)
@@ -130,14 +131,14 @@ fn drawn_stop(seed: &mut u64) -> Stop {
     }
 }
 
-/// Returns whether the service in memory answers the call with this reply.
+/// Returns whether `alone`, the service in memory, answers the call with `reply`.
 fn has_reply(alone: &mut Service<MemoryStore>, call: &Call, reply: &Reply) -> bool {
     let own = alone.request(call.parts());
     own.status == reply.status && own.body.as_str() == reply.body.as_str()
 }
 
-/// Returns whether each call that was acknowledged has the reply that it has alone. The first may
-/// be one that was in doubt: it was done before, or is done now.
+/// Returns whether `alone` gives each acknowledged call the reply that it has in `replies`. The
+/// first call may be one that was in doubt: it was done before, or is done now.
 fn are_explained(
     alone: &mut Service<MemoryStore>,
     calls: &[Call],
@@ -157,7 +158,7 @@ fn are_explained(
     true
 }
 
-/// Returns the call at which the session stopped: the one in doubt, or none.
+/// Returns the call at which the session stopped, which is in doubt, or `None`.
 fn in_doubt(rt: &impl Abort, alloc: Global, calls: &[Call], end: &SessionEnd) -> Option<Call> {
     match end.doubt.and_then(|place| calls.get(place)) {
         Some(it) => Some(again(rt, alloc, it)),
@@ -165,9 +166,9 @@ fn in_doubt(rt: &impl Abort, alloc: Global, calls: &[Call], end: &SessionEnd) ->
     }
 }
 
-/// What is between two sessions beside the files: the call in doubt, and the seed. How many
-/// sessions were opened, how many of these stopped amid their calls, how many weren't opened, and
-/// how many calls were acknowledged.
+/// What passes from one session to the next beside the files: the call in doubt, and the seed. It
+/// counts the sessions that were opened, those of them that stopped amid their calls, the sessions
+/// that weren't opened, and the calls that were acknowledged.
 #[derive(Drop)]
 struct Course {
     doubt: Option<Call>,
@@ -178,7 +179,7 @@ struct Course {
     acknowledged: u64,
 }
 
-/// Asserts that what a session acknowledged is explained, and counts it.
+/// Asserts that what a session acknowledged is explained, and counts the session and its calls.
 fn count(
     rt: &impl Abort,
     alloc: Global,
@@ -197,7 +198,7 @@ fn count(
     course.acknowledged = course.acknowledged.saturating_add(count as u64);
 }
 
-/// Returns one more session over what a crash left of the files, which it gives back.
+/// Runs one more session over the files as a crash leaves them, and gives the files back.
 fn next_session(
     rt: &impl Abort,
     alloc: Global,
@@ -217,7 +218,7 @@ fn next_session(
     files
 }
 
-/// Sessions one after the other, until enough of them were opened.
+/// Runs sessions one after the other, until `SESSIONS` of them were opened or `TRIES` were tried.
 fn follow(rt: &impl Abort, alloc: Global, alone: &mut Service<MemoryStore>, course: &mut Course) {
     let mut files = new_files(alloc, Stop::Log(u64::MAX));
     for _ in 0..TRIES {

@@ -1,14 +1,14 @@
-//! A database file and its log in memory, of which one fails from some call on.
+//! A database file and its log in memory. One of them fails from some call on.
 
 use sqlite_disk::{Crash, Disk, Files, Fuse, Memory};
 use std::alloc::Global;
 use std::io;
 use std::process::Abort;
 
-/// A database file and its log.
+/// A database file and its log, each in memory with a fuse.
 pub(crate) type Disks = Files<Fuse<Memory>>;
 
-/// Which of the two fails, and after how many calls.
+/// Says which of the two files fails, and after how many calls.
 #[derive(Clone, Copy)]
 pub(crate) enum Stop {
     Log(u64),
@@ -16,7 +16,7 @@ pub(crate) enum Stop {
 }
 
 impl Stop {
-    /// After how many calls the log and the database file fail.
+    /// Returns the numbers of calls after which the log and the database file fail.
     fn calls(self) -> (u64, u64) {
         match self {
             Stop::Log(calls) => (calls, u64::MAX),
@@ -25,7 +25,7 @@ impl Stop {
     }
 }
 
-/// New files.
+/// Makes new files, of which one fails as `stop` says.
 pub(crate) fn new_files(alloc: Global, stop: Stop) -> Disks {
     let (log, db) = stop.calls();
     Files {
@@ -34,14 +34,14 @@ pub(crate) fn new_files(alloc: Global, stop: Stop) -> Disks {
     }
 }
 
-/// Returns the files after a crash of both. From then on no call fails.
+/// Crashes both files, and gives them back. From then on no call fails.
 pub(crate) fn crashed(mut files: Disks) -> Disks {
     files.log.crash();
     files.db.crash();
     files
 }
 
-/// Returns a disk with the same bytes, all of them synced, that fails after so many calls.
+/// Makes a disk with the bytes of `disk`, all of them synced, that fails after `calls` calls.
 fn copied(alloc: Global, disk: &Fuse<Memory>, calls: u64) -> io::Result<Fuse<Memory>> {
     let mut copy = Memory::new(alloc);
     copy.write_at(0, disk.inner().bytes())?;
@@ -49,7 +49,7 @@ fn copied(alloc: Global, disk: &Fuse<Memory>, calls: u64) -> io::Result<Fuse<Mem
     Ok(Fuse::new(copy, calls))
 }
 
-/// Returns what a crash leaves of the files; one of them then fails again.
+/// Crashes both files, and makes files with what the crash left, of which one fails as `stop` says.
 pub(crate) fn crashed_with(rt: &impl Abort, alloc: Global, files: Disks, stop: Stop) -> Disks {
     let files = crashed(files);
     let (log, db) = stop.calls();

@@ -1,4 +1,4 @@
-//! Tests of sessions over two disks in memory, a database file and its log, of which one fails from
+//! Tests of sessions over two disks in memory, a database file and its log. One of them fails from
 //! some call on. After each session both lose what wasn't synced, as in a crash.
 #![tactic(auto)]
 

@@ -13,13 +13,13 @@ use tenant_messages::Call;
 use tenant_service::{Service, SessionEnd};
 use tenant_store::Store;
 
-/// What the checksums of a new log begin with.
+/// The number with which the checksums of a new log begin.
 const SALT: u64 = 7;
 
-/// The bytes of what tenants have that are kept ready.
+/// The greatest number of bytes of what tenants have that are kept.
 const READY: u64 = 1_000_000;
 
-/// Serves the calls as one session over the store, and gives the store back as it stands.
+/// Serves the calls as one session over the store, and gives the store back as it then is.
 fn serve<T: TenantStore + Drop>(
     rt: &impl Abort,
     alloc: Global,
@@ -36,13 +36,13 @@ fn serve<T: TenantStore + Drop>(
     (end, service.into_store())
 }
 
-/// Returns the files of a store that is let go of as it stands: nothing is copied from the log.
+/// Lets go of the store, and gives its files back. Nothing is copied from the log.
 fn left<D: Disk>(store: FileStore<D>) -> Files<D> {
     store.close()
 }
 
-/// Returns the files of a connection, whose log is copied into the database file, if that is asked
-/// for and succeeds.
+/// Closes the connection, and gives its files back. The log is copied into the database file if
+/// `closes` says so and that succeeds.
 fn closed<D: Disk + Drop>(conn: Connection<FileStore<D>>, closes: bool) -> Files<D> {
     if !closes {
         return left(conn.into_store());
@@ -53,7 +53,7 @@ fn closed<D: Disk + Drop>(conn: Connection<FileStore<D>>, closes: bool) -> Files
     }
 }
 
-/// Returns the store in the files; or the files, where the opening is refused.
+/// Opens the store in the files. `Err`: the opening is refused, and the files are given back.
 fn opened<D: Disk + Drop>(alloc: Global, files: Files<D>) -> Result<Store<FileStore<D>>, Files<D>>
     ensures live { IfOk result (λ store. store.1 ≡ false) }
 {
@@ -70,8 +70,8 @@ fn opened<D: Disk + Drop>(alloc: Global, files: Files<D>) -> Result<Store<FileSt
     }
 }
 
-/// Serves the calls as one session of a store that keeps tenants ready over this one, and gives the
-/// files back, closed or as they then stand.
+/// Serves the calls as one session over a store that keeps what tenants have, over `store`, and
+/// gives the files back, closed or as they then are.
 fn served<D: Disk + Drop>(
     rt: &impl Abort,
     alloc: Global,
@@ -89,8 +89,8 @@ fn served<D: Disk + Drop>(
     (end, closed(ready.into_below().close(), closes))
 }
 
-/// Opens the files, serves the calls as one session, and gives the files back. There is no session
-/// where the opening is refused.
+/// Opens the files, serves the calls as one session, and gives the end of the session and the files
+/// back. There is no session (`None`) where the opening is refused.
 pub(crate) fn session<D: Disk + Drop>(
     rt: &impl Abort,
     alloc: Global,

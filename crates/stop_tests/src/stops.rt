@@ -9,7 +9,7 @@ use std::process::Abort;
 use tenant_messages::{Call, Reply};
 use tenant_service::SessionEnd;
 
-/// More calls than a session makes on a disk.
+/// A number greater than that of the calls that a session makes on a disk.
 const MANY: u64 = 2_000;
 
 const FIRST: &[Row] = &[CREATION_OF_A, IMPORT_BY_A];
@@ -22,7 +22,7 @@ const SUMMARY: Row = (
     "{\"devices\":0,\"epoch\":1,\"pools\":0,\"tenant\":\"a\",\"versions\":1}",
 );
 
-/// In place of the reply to a creation, where the tenant is there.
+/// The row that takes the place of a creation where the tenant is there.
 const EXISTS: Row = ("PUT", "/t/a", "", 409, "{\"error\":\"exists\"}");
 
 const AGAIN: &[Row] = &[CREATION_OF_A, IMPORT_BY_A, SUMMARY];
@@ -31,7 +31,7 @@ const AGAIN_THERE: &[Row] = &[EXISTS, IMPORT_BY_A, SUMMARY];
 
 const DROP: &[Row] = &[("DELETE", "/t/a", "", 200, "{\"dropped\":\"a\"}")];
 
-/// Returns whether the replies are those of the rows.
+/// Returns whether `replies` are those of `rows`.
 fn are_of_rows(replies: &[Reply], rows: &[Row]) -> bool {
     replies.len() == rows.len()
         && replies
@@ -40,18 +40,18 @@ fn are_of_rows(replies: &[Reply], rows: &[Row]) -> bool {
             .all(|(reply, row)| check_reply(reply, row).is_ok())
 }
 
-/// Returns the calls of some rows.
+/// Makes the calls of `rows`.
 fn calls(rt: &impl Abort, alloc: Global, rows: &[Row]) -> Vec<Call> {
     calls_of(alloc, rows).expect(rt, "no memory")
 }
 
-/// Returns how many replies are acknowledgements.
+/// Returns the number of replies that are acknowledgements.
 fn acknowledged(replies: &[Reply]) -> usize {
     replies.iter().filter(|reply| reply.status != 503).count()
 }
 
-/// Returns whether the tenant was there, where replies to the first requests, sent again, show that
-/// each of them has then acted once.
+/// Returns whether the tenant was there, by the replies to the first requests, which were sent
+/// again. `None`: the replies don't show that each request has acted once.
 fn was_there(replies: &[Reply]) -> Option<bool> {
     if are_of_rows(replies, AGAIN_THERE) {
         Some(true)
@@ -62,8 +62,8 @@ fn was_there(replies: &[Reply]) -> Option<bool> {
     }
 }
 
-/// In a session without a stop over what a crash left, the first requests are sent again: asserts
-/// that each of them has then acted once, and that the tenant was there or wasn't, as it may be.
+/// Sends the first requests again, in a session without a stop over what a crash left. Asserts that
+/// each of them has then acted once, and that the tenant was there or wasn't, as it may be.
 fn assert_found(
     rt: &impl Abort,
     alloc: Global,
@@ -81,8 +81,8 @@ fn assert_found(
     assert!(rt; holds);
 }
 
-/// Returns a creation and an import over new files with this stop, and then the same again: whether
-/// the first session met no stop.
+/// Makes a creation and an import over new files that fail as `stop` says, and then the same again.
+/// Returns whether the first session met no stop.
 fn creates(rt: &impl Abort, alloc: Global, stop: Stop) -> bool {
     let first = calls(rt, alloc, FIRST);
     let (end, files) = session(rt, alloc, new_files(alloc, stop), &first, false);
@@ -94,8 +94,8 @@ fn creates(rt: &impl Abort, alloc: Global, stop: Stop) -> bool {
     done == FIRST.len()
 }
 
-/// Files that a session without a stop has left, with what it wrote in the log, as a crash leaves
-/// them; one of them then fails.
+/// Makes the files that a crash leaves after a session without a stop, with what it wrote in the
+/// log. One of them then fails as `stop` says.
 fn files_of_a(rt: &impl Abort, alloc: Global, stop: Stop) -> Disks {
     let files = new_files(alloc, Stop::Log(u64::MAX));
     let first = calls(rt, alloc, FIRST);
@@ -103,8 +103,8 @@ fn files_of_a(rt: &impl Abort, alloc: Global, stop: Stop) -> Disks {
     crashed_with(rt, alloc, files, stop)
 }
 
-/// Returns a drop with this stop: whether it met none. Afterwards the tenant is there whole, or it
-/// isn't there and comes back as a new one.
+/// Makes a drop over files that fail as `stop` says, and returns whether it met no stop. Afterwards
+/// the tenant is there whole, or it isn't there and comes back as a new one.
 fn drops(rt: &impl Abort, alloc: Global, stop: Stop) -> bool {
     let files = files_of_a(rt, alloc, stop);
     let (end, files) = session(rt, alloc, files, &calls(rt, alloc, DROP), false);
@@ -113,8 +113,8 @@ fn drops(rt: &impl Abort, alloc: Global, stop: Stop) -> bool {
     is_dropped
 }
 
-/// Returns an opening with this stop, of files whose log has to be taken in: whether it met none.
-/// All that was acknowledged is there afterwards.
+/// Makes an opening of files that fail as `stop` says, and whose log has to be taken in, and
+/// returns whether it met no stop. All that was acknowledged is there afterwards.
 fn opens(rt: &impl Abort, alloc: Global, stop: Stop) -> bool {
     let files = files_of_a(rt, alloc, stop);
     let (end, files) = session(rt, alloc, files, &[], false);
@@ -122,7 +122,7 @@ fn opens(rt: &impl Abort, alloc: Global, stop: Stop) -> bool {
     end.is_some()
 }
 
-/// What is stopped.
+/// The work that is stopped.
 #[derive(Clone, Copy)]
 enum Work {
     Creation,
@@ -130,7 +130,7 @@ enum Work {
     Opening,
 }
 
-/// Returns whether it met no stop.
+/// Does `work` over files that fail as `stop` says, and returns whether it met no stop.
 fn is_whole(rt: &impl Abort, alloc: Global, work: Work, stop: Stop) -> bool {
     match work {
         Work::Creation => creates(rt, alloc, stop),
@@ -139,7 +139,8 @@ fn is_whole(rt: &impl Abort, alloc: Global, work: Work, stop: Stop) -> bool {
     }
 }
 
-/// Asserts that it meets no stop once enough calls on the log are let through; it makes some.
+/// Asserts that `work` meets no stop once enough calls on the log are let through, and that it
+/// makes some.
 fn assert_on_log(rt: &impl Abort, alloc: Global, work: Work) {
     let mut whole = 0;
     for calls in 0..MANY {
@@ -151,7 +152,7 @@ fn assert_on_log(rt: &impl Abort, alloc: Global, work: Work) {
     assert!(rt; whole > 0);
 }
 
-/// Asserts the same of calls on the database file, of which it may make none.
+/// Asserts the same of calls on the database file, of which `work` may make none.
 fn assert_on_database(rt: &impl Abort, alloc: Global, work: Work) {
     let mut met_none = false;
     for calls in 0..MANY {
@@ -163,7 +164,7 @@ fn assert_on_database(rt: &impl Abort, alloc: Global, work: Work) {
     assert!(rt; met_none);
 }
 
-/// Each stop in turn until a session meets none.
+/// The stops are tried in turn until a session meets none.
 #[test]
 fn a_creation_and_an_import_are_kept_once_they_are_acknowledged(rt: HostRuntime) {
     assert_on_log(&rt, rt.alloc(), Work::Creation);
