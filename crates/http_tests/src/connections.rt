@@ -7,8 +7,8 @@ use std::alloc::Global;
 use std::process::Abort;
 use tenant_service::{MemoryStore, Service};
 
-/// Returns how a connection to a service ends whose input is cut so into reads, and whose reader
-/// and writer fail after so many calls, and what was written.
+/// Serves a connection whose input is cut into reads by `cuts`, whose reader fails after `reads`
+/// reads, and whose writer fails after `writes` writes. Returns how it ended, and what was written.
 pub(crate) fn connect_to(
     alloc: Global,
     buffers: &mut Buffers,
@@ -29,7 +29,7 @@ pub(crate) fn connect_to(
     (ended, taken)
 }
 
-/// Returns the same of a connection to a new service, with buffers of its own.
+/// Serves such a connection by a new service, with buffers of its own, and returns the same.
 pub(crate) fn connect(
     rt: &impl Abort,
     alloc: Global,
@@ -50,8 +50,8 @@ pub(crate) fn connect(
     (ended, taken)
 }
 
-/// Asserts that a stream is answered so, and that its connection ends so, at several lengths of a
-/// read.
+/// Asserts that `stream` gets its replies and that its connection ends as it says, with reads of at
+/// most 1, 50 and 20,000 bytes.
 pub(crate) fn assert_replies(
     rt: &impl Abort,
     alloc: Global,

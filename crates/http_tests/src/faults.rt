@@ -10,16 +10,16 @@ use std::alloc::Global;
 use std::process::Abort;
 use tenant_service::Service;
 
-/// The length of the first message of the stream.
+/// The length of the first message of the stream, in bytes.
 const ONE: usize = 30;
 
-/// The length of the first two.
+/// The length of the first two messages, in bytes.
 const TWO: usize = 60;
 
-/// The length of the reply to the first message.
+/// The length of the reply to the first message, in bytes.
 const FIRST: usize = 100;
 
-/// Returns the replies to the messages that are whole in so many bytes of the stream.
+/// Returns the replies to the messages that are whole in the first `bytes` bytes of the stream.
 fn replies_within(bytes: usize) -> &'static [u8] {
     if bytes < ONE {
         &[]
@@ -30,8 +30,9 @@ fn replies_within(bytes: usize) -> &'static [u8] {
     }
 }
 
-/// Returns how a connection to a new service ends that brings the worked stream, and what was
-/// written.
+/// Serves a connection with the worked stream by a new service, with reads of at most `size` bytes.
+/// The reader fails after `reads` reads, and the writer after `writes` writes. Returns how the
+/// connection ended, and what was written.
 fn connect(
     rt: &impl Abort,
     alloc: Global,
@@ -45,8 +46,8 @@ fn connect(
     connect_to(alloc, buffers, &mut service, STREAM, cuts, reads, writes)
 }
 
-/// Returns whether a connection whose reader fails after so many reads is closed; else it met the
-/// fault.
+/// Serves a connection whose reader fails after `reads` reads, and asserts that the replies to the
+/// whole messages were written. Returns whether it is closed; else it met the fault.
 fn is_closed_after(
     rt: &impl Abort,
     alloc: Global,
@@ -76,7 +77,7 @@ fn a_read_fault_leaves_the_replies_to_whole_messages(rt: HostRuntime) {
     for size in [1usize, 7, 50, 20_000] {
         for reads in 0..MANY {
             let is_closed = is_closed_after(&rt, rt.alloc(), &mut buffers, size, reads);
-            // the read behind that of the last bytes says that nothing more comes
+            // the read after that of the last bytes says that nothing more comes
             let before = size.saturating_mul(reads.saturating_sub(1));
             assert_same_at(
                 &rt,
@@ -91,8 +92,8 @@ fn a_read_fault_leaves_the_replies_to_whole_messages(rt: HostRuntime) {
     }
 }
 
-/// Returns how many bytes of the replies are written where the writer fails after so many writes,
-/// and whether the connection is closed; else it met the fault.
+/// Serves a connection whose writer fails after `writes` writes. Returns the number of bytes of the
+/// replies that were written, and whether the connection is closed; else it met the fault.
 fn written_after(
     rt: &impl Abort,
     alloc: Global,
@@ -137,12 +138,13 @@ fn a_write_fault_leaves_a_front_of_the_replies(rt: HostRuntime) {
     }
 }
 
-/// Three messages, each with a reply of as many bytes as the first of the worked stream.
+/// Three messages, each with a reply of as many bytes as the first reply of the worked stream.
 const CREATIONS: &[u8] =
     b"PUT /t/a HTTP/1.1\r\nHost: l\r\n\r\nPUT /t/b HTTP/1.1\r\nHost: l\r\n\r\nPUT /t/c HTTP/1.1\r\nHost: l\r\n\r\n";
 
-/// Returns how many tenants are there after a connection that makes three, each byte in a read of
-/// its own, and whose writer fails after so many writes; and how many bytes were written.
+/// Serves a connection that creates three tenants, each byte in a read of its own, and whose writer
+/// fails after `writes` writes. Returns the number of tenants that are then there, and the number
+/// of bytes that were written.
 fn create(
     rt: &impl Abort,
     alloc: Global,

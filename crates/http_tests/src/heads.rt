@@ -42,8 +42,8 @@ fn heads_are_refused(rt: HostRuntime) {
     }
 }
 
-/// The front of a head, a part that stands in it so many times, and its end; how its connection
-/// ends, and the reply.
+/// The front of a head, a part, the number of times that the part follows, and the end of the head;
+/// then how its connection ends, and the reply.
 type Long = (
     &'static [u8],
     &'static [u8],
@@ -53,7 +53,7 @@ type Long = (
     &'static [u8],
 );
 
-/// Heads of 32 headers and of 8,192 bytes, and of one more.
+/// Heads of 32 headers and of 33, of 8,192 bytes and of 8,193.
 const AT_LIMITS: [Long; 4] = [
     (
         b"GET /x HTTP/1.1\r\n",
@@ -89,7 +89,7 @@ const AT_LIMITS: [Long; 4] = [
     ),
 ];
 
-/// Returns the bytes of such a head.
+/// Makes the bytes of the head that `long` describes.
 fn long_head(rt: &impl Abort, alloc: Global, long: &Long) -> Vec<u8> {
     let (front, part, count, end, _, _) = *long;
     let mut head = Vec::new(alloc);

@@ -14,10 +14,10 @@ use tenant_service::Service;
 /// A message for a path that there isn't.
 const ASKS: &[u8] = b"GET /x HTTP/1.1\r\n\r\n";
 
-/// The length of the two whole messages of the stream.
+/// The length of the two whole messages of the stream, in bytes.
 const TWO: usize = 60;
 
-/// Notes at each read how many bytes had been written by then.
+/// A reader that notes at each read the number of bytes that had been written by then.
 #[derive(Drop)]
 struct Watcher<'a> {
     reader: Reader<'a>,
@@ -32,7 +32,7 @@ impl Read for Watcher<'_> {
     }
 }
 
-/// Takes so many bytes in all, then fails, and notes the length of each write.
+/// A writer that takes `room` bytes in all, then fails, and notes the length of each write.
 #[derive(Drop)]
 struct Recorder<'a> {
     room: usize,
@@ -59,18 +59,19 @@ impl Write for Recorder<'_> {
     }
 }
 
-/// What came of a connection.
+/// What was seen of a connection: how it ended, and the bytes that were written.
 #[derive(Drop)]
 struct Record {
     ended: Ended,
     taken: Vec<u8>,
-    /// How many bytes each write was given.
+    /// The number of bytes that each write was given.
     lengths: Vec<usize>,
-    /// How many bytes had been written at each read.
+    /// The number of bytes that had been written at each read.
     seen: Vec<usize>,
 }
 
-/// Returns what comes of a connection to a new service, whose writer takes so many bytes.
+/// Serves a connection by a new service. The writer takes `room` bytes. Returns what was seen of
+/// the connection.
 fn connect(
     rt: &impl Abort,
     alloc: Global,
@@ -107,13 +108,13 @@ fn connect(
     }
 }
 
-/// Two messages, which come together, and then one more.
+/// The cuts by which the first two messages come together, and then one more.
 const FIRST_TWO: Cuts = Cuts {
     first: TWO,
     later: 20_000,
 };
 
-/// Returns the first two messages of the stream, and one more.
+/// Makes an input of the first two messages of the stream and one more.
 fn three_messages(rt: &impl Abort, alloc: Global) -> Vec<u8> {
     let mut input = Vec::new(alloc);
     input
@@ -133,7 +134,7 @@ fn replies_are_written_before_a_read(rt: HostRuntime) {
     assert_same(&rt, &found.seen.as_slice(), &&[0, REPLIES.len(), all][..]);
 }
 
-/// Returns the same bytes, 16 times.
+/// Makes a list of `bytes` 16 times.
 fn sixteen(rt: &impl Abort, alloc: Global, bytes: &[u8]) -> Vec<u8> {
     let mut all = Vec::new(alloc);
     for _ in 0..16 {
@@ -182,7 +183,7 @@ fn a_connection_finds_nothing_of_the_last_one(rt: HostRuntime) {
     }
 }
 
-/// Returns a body that imports a map, whose text has more bytes than are held.
+/// Makes a body that imports a map, whose text has more than `HELD_LIMIT` bytes.
 fn long_map(rt: &impl Abort, alloc: Global) -> String {
     let mut body = String::new(alloc);
     body.push_str("{\"request\":\"r\",\"text\":\"tunable choose_local_tries 0\\n")
@@ -199,7 +200,8 @@ fn long_map(rt: &impl Abort, alloc: Global) -> String {
     body
 }
 
-/// Messages that make a tenant, import such a map, ask for its text, and ask once more.
+/// Makes messages that create a tenant, import the long map, ask for its text, and ask for a path
+/// that there isn't.
 fn long_messages(rt: &impl Abort, alloc: Global) -> Vec<u8> {
     let body = long_map(rt, alloc);
     let length = body.len();

@@ -1,5 +1,6 @@
 //! Tests of `crush_http`: the messages of worked streams and their replies, however the streams are
-//! cut, and reads and writes that fail. They stand apart, so that the crate is proved once.
+//! cut, and reads and writes that fail. They are in a crate of their own, so that `crush_http` is
+//! proved once.
 #![tactic(auto)]
 
 #[cfg(test)]

@@ -1,15 +1,15 @@
-//! Assertions that show both values. The text of an `assert_eq!` is proved where it stands; a call
-//! of these functions takes a fraction of that time.
+//! Assertions that show both values. Each `assert_eq!` is proved in the function that has it; a
+//! call of these functions takes a fraction of that time.
 
 use std::fmt::Debug;
 use std::process::Abort;
 
-/// Asserts that a value is the expected one.
+/// Asserts that `value` is the expected one.
 pub(crate) fn assert_same<T: PartialEq + Debug>(rt: &impl Abort, value: &T, expected: &T) {
     assert_eq!(rt; value, expected);
 }
 
-/// The same, of a case that these numbers name.
+/// Asserts that `value` is the expected one in the case that the numbers `case` name.
 pub(crate) fn assert_same_at<T: PartialEq + Debug>(
     rt: &impl Abort,
     case: [u64; 2],
