@@ -6,8 +6,8 @@ use crush_server::{Listener, ServerFault};
 use std::alloc::{AllocError, Global};
 use std::io::{self, ErrorKind};
 
-/// Clients that are given: what each of them sends, or none where it can't be accepted; and what
-/// those got whose connections are closed.
+/// Clients that are given: `coming` has what each of them sends, or `None` where it can't be
+/// accepted, and `answered` what those got whose connections are closed.
 #[derive(Drop)]
 pub struct GivenClients<'a> {
     alloc: Global,
@@ -17,7 +17,8 @@ pub struct GivenClients<'a> {
 }
 
 impl<'a> GivenClients<'a> {
-    /// Returns these clients. `Err(AllocError)`: an allocation failed; nothing is changed.
+    /// Makes the clients that send `coming`. `Err(AllocError)`: an allocation failed; nothing is
+    /// changed.
     pub fn new(alloc: Global, coming: &'a [Option<&'a [u8]>]) -> Result<Self, AllocError> {
         let answered = Vec::with_capacity(alloc, coming.len())?;
         Ok(GivenClients {
@@ -27,7 +28,7 @@ impl<'a> GivenClients<'a> {
         })
     }
 
-    /// Returns what those clients got whose connections are closed.
+    /// Returns what each client got whose connection is closed.
     pub fn answered(&self) -> &[Vec<u8>] {
         &self.answered
     }

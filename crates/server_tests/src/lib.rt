@@ -1,4 +1,4 @@
-//! Tests of `crush_server`: clients in memory, clients over loopback, client and server in one
+//! Tests of `crush_server`: clients in memory, clients over loopback with client and server in one
 //! thread, and how long a client may take.
 #![tactic(auto)]
 

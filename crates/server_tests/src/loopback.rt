@@ -1,4 +1,4 @@
-//! A client that sends all it has, shuts its side and reads replies when it has been served.
+//! A client that sends all it has, shuts its side, and reads the replies when it has been served.
 
 use crate::messages::{REPLIES, REPLIES_AGAIN, STREAM};
 use crush_server::{Listener, ServerFault, TcpClients, Waiting, serve_connections};
@@ -9,13 +9,13 @@ use std::rt::HostRuntime;
 use std::test::Fail;
 use tenant_service::Service;
 
-/// Returns a port that nobody listens on.
+/// Finds a port that nobody listens on.
 fn free_port(rt: &HostRuntime) -> Result<u16, Fail> {
     let listener = TcpListener::bind(rt, (Ipv4Addr::LOCALHOST, 0))?;
     Ok(listener.local_addr()?.port())
 }
 
-/// Returns a client of the port that has sent the messages, and shut its side.
+/// Connects a client to `port`, sends the messages, and shuts the client's side.
 fn client(rt: &HostRuntime, port: u16) -> Result<TcpStream, Fail> {
     let mut stream = TcpStream::connect(rt, (Ipv4Addr::LOCALHOST, port))?;
     stream.write_all(STREAM)?;
@@ -23,7 +23,7 @@ fn client(rt: &HostRuntime, port: u16) -> Result<TcpStream, Fail> {
     Ok(stream)
 }
 
-/// Returns all that the client gets.
+/// Reads all that the client gets.
 fn replies(alloc: Global, mut stream: TcpStream) -> Result<Vec<u8>, Fail> {
     let mut got = Vec::new(alloc);
     stream.read_to_end(&mut got)?;

@@ -7,7 +7,7 @@ use std::rt::HostRuntime;
 use std::test::Fail;
 use std::time::{Clock, Duration};
 
-/// A clock that a stream moves on. It fails once it has been read so many times.
+/// A clock that a stream moves on. It fails once it has been read as often as it was given.
 #[derive(Drop)]
 struct Hand {
     now: Cell<Duration>,
@@ -44,8 +44,8 @@ impl Clock for Hand {
     }
 }
 
-/// A stream that moves a byte at a call, for which it takes so many seconds. Before that signals
-/// interrupt it so many times.
+/// A stream that moves a byte at a call, for which it takes `seconds` seconds. Before that signals
+/// interrupt `interrupts` calls.
 #[derive(Drop)]
 struct Slow<'a> {
     clock: &'a Hand,
@@ -54,7 +54,7 @@ struct Slow<'a> {
 }
 
 impl Slow<'_> {
-    /// `Err`: the call is interrupted.
+    /// Takes the seconds of a call. `Err`: the call is interrupted.
     fn wait(&self) -> io::Result<()> {
         let left = self.interrupts.get();
         if left > 0 {
@@ -88,7 +88,7 @@ impl Write for Slow<'_> {
     }
 }
 
-/// How many reads are enough for each test.
+/// A number of readings of the clock that is enough for each test.
 const MANY: u32 = 1_000;
 
 #[test]
@@ -104,7 +104,7 @@ fn a_message_may_take_thirty_seconds(rt: HostRuntime) -> Result<(), Fail> {
     let mut client = Client::new(stream, &waiting);
     let mut byte = [0];
     assert_eq!(&rt; client.read(&mut byte)?, 1);
-    // 29 seconds were waited for, and now 58
+    // the client has taken 29 seconds, and takes 58 with this read
     assert_eq!(&rt; client.read(&mut byte)?, 1);
     let late = client.read(&mut byte).map_err(|error| error.kind());
     assert_eq!(&rt; late, Err(ErrorKind::TimedOut));
