@@ -69,7 +69,7 @@ each_both (i ∷ is) (o ∷ os) js ps M N k h = (
       h.1,
 )
 
--- ---- what a listener tells
+-- ---- what a listener says
 
 sent_more : (n : ℕ) (xs : List (Option (List ℕ))) → all_sent (take n xs) ++ all_sent (take 1 (drop n xs)) ≡ all_sent (take (suc n) xs)
 sent_more zero xs = refl

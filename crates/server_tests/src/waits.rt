@@ -7,7 +7,7 @@ use std::rt::HostRuntime;
 use std::test::Fail;
 use std::time::{Clock, Duration};
 
-/// A clock that a stream moves on. It fails once it has been read as often as it was given.
+/// A clock that a stream moves on. It can be read `left` times more, and then fails.
 #[derive(Drop)]
 struct Hand {
     now: Cell<Duration>,

@@ -16,7 +16,7 @@ use Rattle.table_schema.specs.Layout.{maps_table, devices_table, pools_table, re
 use Rattle.tenant_rows.specs.Changes.{Turns}
 use Rattle.tenant_rows.specs.Rows.{StandsFor}
 
--- ---- names that keep their rows
+-- ---- names whose rows are unchanged
 
 -- unchanged rows are unchanged the other way round too
 back : (name : List ℕ) (old new : Trees) → tables.KeepsRowsOf name old new → tables.KeepsRowsOf name new old

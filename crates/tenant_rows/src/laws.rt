@@ -17,7 +17,7 @@ pub fn names_stand_for_one_state()
     written_maps_are_read_back();
 }
 
-/// States that so do rows of schema 1.
+/// States that the rows of a name in schema 1 stand for one state at most, or for no tenant.
 pub fn names_of_schema_1_stand_for_one_state()
     ensures { (db : Trees) (name : List ℕ) (s t : Option TenantState) → FirstStandsFor db name s → FirstStandsFor db name t → s ≡ t }
 {

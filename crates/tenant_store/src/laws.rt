@@ -16,8 +16,8 @@ use tenant_rows::laws::names_stand_for_one_state;
 
 /// States that a store over tables says what its rows stand for. It is honest where the disk has
 /// returned what was written, and the connection is open with this service's tables, unless a call
-/// has failed for good. Each name has the state that its rows stand for. A stop leaves states for
-/// which rows stand that the disk may leave.
+/// has failed for good. Each name has the state that its rows stand for. A stop leaves the states
+/// for which the rows stand that the disk may leave.
 pub fn tables_pin_their_states<S: Alter>()
     ensures honest { (store : Held S × Bool) → ⟦<Store<S> as TenantStore>⟧.is_honest store ↔ (HasCleanDisk (state S.Store store.0) × (store.1 ≡ false → IsReady (state S.Store store.0))) }
     ensures states { (store : Held S × Bool) (t : List ℕ) (s : Option TenantState) → ⟦<Store<S> as TenantStore>⟧.has_state store t s ↔ StandsFor (state S.Store store.0).now.trees t s }

@@ -1,4 +1,4 @@
-//! Reads of the tables of a store.
+//! Reading from the tables of a store.
 
 ghost use Rattle.std.specs.Prelude.{◌≡◌, ◌≢◌, ℕ, List, length, map, true, false, Some, Err, IfOk, OnOk, IsPermutation, option_map};
 ghost use Rattle.std.specs.List.{list_all};

@@ -1,4 +1,4 @@
-//! Writes into the tables of a store.
+//! Writing into the tables of a store.
 
 ghost use Rattle.std.specs.Prelude.{◌≡◌, ◌≢◌, length, false, Some, None, Err, OnOk, OnErr};
 ghost use Rattle.std.specs.BTreeMap.{get_by_text};

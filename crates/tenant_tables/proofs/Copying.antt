@@ -107,7 +107,7 @@ shown = values_from 1 pools_table.columns
 abbrev pub new_table : Rattle.sqlite.specs.Table.Table
 new_table = placed 13 pools_table
 
--- the row gets a rowid, and keeps its values
+-- the row gets a rowid, and its values are unchanged
 pub record IsCopy (s : Row) : Type 0 where
   pub blank : is_null (rowid (cast_row new_table s)) ≡ true
   pub shows : (n : ℤ) → shown (Int n ∷ drop 1 (cast_row new_table s)) ≡ shown s

@@ -61,7 +61,7 @@ loop-row-preserved c =
       valid = subst (λ l. list_all is_tenant_pool l ≡ true) (sym grown) (list_all_push is_tenant_pool mine pool c.loop-row.invariant.valid its.0);
     }
 
--- exceptions are left, which are those of no pool
+-- exceptions remain, which are those of no pool
 pub returns-then-not-is_empty-clause-none : goal.returns-then-not-is_empty-clause-none
 returns-then-not-is_empty-clause-none c = λ _ pools valid order same rows.
     let left = c.loop-row.left.now in

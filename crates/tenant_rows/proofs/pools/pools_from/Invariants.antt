@@ -7,7 +7,7 @@ use Rattle.table_reads.specs.Found.{pool_values}
 use Rattle.tenant_rows.specs.Rows.{row_of_pool, rows_of_exceptions}
 use Rattle.tenant_rows.proofs.pools.pools_from.Given as goal
 
--- the rows so far are those of the pools so far, and the exceptions before those that are left are
+-- the rows so far are those of the pools so far, and the exceptions before the remaining ones are
 -- their pairs
 abbrev pub invariant-loop-row : goal.invariant-loop-row
 invariant-loop-row l = record {
