@@ -112,9 +112,9 @@ fn read_verdict<R: Read>(alloc: Global, reader: &mut R) -> Result<Option<Verdict
     }
 }
 
-/// Reads a whole text, writes one line and returns how that ended. The line is `ok devices D
-/// buckets B rules R` if the text is a map's, else `refused line L code C` with its first fault. Of
-/// a text over `TEXT_LIMIT` bytes (X7) it reads `TEXT_LIMIT` bytes and one more.
+/// Reads a whole text, writes one line and returns how that ended. The line is
+/// `ok devices D buckets B rules R` if the text is a map's, else `refused line L code C` with its
+/// first fault. Of a text over `TEXT_LIMIT` bytes (X7) it reads `TEXT_LIMIT` bytes and one more.
 ///
 /// The clauses speak of an input, which is what the reader had where contracts know its bytes.
 /// `Err(AllocError)`: an allocation failed; nothing was written, and the text may have been read in

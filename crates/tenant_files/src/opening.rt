@@ -16,9 +16,9 @@ use std::rt::HostRuntime;
 use tenant_core::StoreFault;
 use tenant_store::Store;
 
-/// The greatest number of bytes of what tenants have that are kept in memory: 256 MiB. Hundreds of
-/// tenants with maps of middling size fit, and most of a small machine's memory remains for the
-/// file's pages and for the script.
+/// The greatest number of bytes of what tenants have that are kept in memory, where more than one
+/// tenant's are: 256 MiB. Hundreds of tenants with maps of middling size fit, and most of a small
+/// machine's memory remains for the file's pages and for the script.
 pub const READY_BYTES: u64 = 268_435_456;
 
 /// Returns whether `error` says that a file is refused for what it holds.

@@ -155,7 +155,7 @@ fn receipt_of_tenant<S: Alter>(
 }
 
 /// Reads the row of the tenant with the name. `Err(StoreFault::Damaged)`: there is no tenant with
-/// it, or its row is none that this service writes.
+/// it, several rows have it, or its row is none that this service writes.
 pub fn tenant_of<S: Alter>(tables: &mut Tables<S>, name: &str) -> Result<Tenant, StoreFault>
     requires live { tables.old.1 ≡ false }
     requires there { HasCleanDisk (state S.Store tables.old.0) → (s : TenantState) × StandsFor (state S.Store tables.old.0).now.trees name.now (Some s) }
