@@ -5,7 +5,7 @@ use Rattle.std.proofs.lemmas.List.Sorted.{IsPermutation-map, length_permutation}
 use Rattle.sqlite_value.specs.declared.value.Value.TheVariants.{Null, Int, Text as Words}
 use Rattle.sqlite_trees.specs.Tree.{Trees}
 use Rattle.table_reads.specs.declared.find.Tenant.{Tenant}
-use Rattle.table_schema.specs.declared.refuse.Fault.{Fault}
+use Rattle.store_faults.specs.declared.StoreFault.{StoreFault}
 use Rattle.sqlite_value.specs.Order.{Row, column}
 use Rattle.sqlite_trees.proofs.ListLemmas.{map-map}
 use Rattle.sqlite_tied.specs.Compute.{everything}
@@ -83,7 +83,7 @@ finds old new name rows ready h =
     subst (λ tree. IsPermutation (map head_of (rows_with 2 (Words name) (old.now.trees tree))) rows) (sym (places layout old.now ready.sound ready.schema.1).tenants) found
 
 -- what the rows say of the name
-pub names : (db : Trees) (name : List ℕ) (rows : List Row) (result : Result (Option Tenant) Fault) → IsPermutation (map head_of (tenants_of db name)) rows
+pub names : (db : Trees) (name : List ℕ) (rows : List Row) (result : Result (Option Tenant) StoreFault) → IsPermutation (map head_of (tenants_of db name)) rows
     → IfOk result (λ o. IfSome o (λ t. rows ≡ (Int t.id ∷ Int t.epoch ∷ []) ∷ [])) → IfOk result (λ o. o ≡ None → rows ≡ []) → IfOk result (Names db name)
 names db name rows (Err e) same some none = tt
 names db name rows (Ok None) same some none = none_left (tenants_of db name) (subst (IsPermutation (map head_of (tenants_of db name))) (none refl) same)

@@ -16,16 +16,16 @@ use crate::read::all_in;
 use sqlite::types::ValueRef;
 use sqlite::{Alter, Connection, Row};
 use std::alloc::Global;
-use table_schema::refuse::Fault;
+use store_faults::StoreFault;
 use table_schema::values::Exception;
 
 /// Reads the rows of exceptions of the tenant's pools, by pool and place.
-fn exception_rows<S: Alter>(conn: &mut Connection<S>, id: i64) -> Result<Vec<Row>, Fault>
+fn exception_rows<S: Alter>(conn: &mut Connection<S>, id: i64) -> Result<Vec<Row>, StoreFault>
     requires autocommit { conn.old.in_transaction ≡ false }
     requires ready { HasCleanDisk (state S.Store conn.old) → IsReady (state S.Store conn.old) }
     ensures found { HasCleanDisk (state S.Store conn.new) → IfOk result (λ rows. AreOrderedBy Precedes (of_tenant exceptions_table id (state S.Store conn.old).now.trees) rows.items) }
-    ensures remains { HasCleanDisk (state S.Store conn.new) → result ≢ Err Fault.Failed → Remains (state S.Store conn.old) (state S.Store conn.new) }
-    ensures faults { IfErr result (λ fault. (fault ≡ Fault.NoMemory) ⊎ (fault ≡ Fault.Failed)) }
+    ensures remains { HasCleanDisk (state S.Store conn.new) → result ≢ Err StoreFault.Failed → Remains (state S.Store conn.old) (state S.Store conn.new) }
+    ensures faults { IfErr result (λ fault. (fault ≡ StoreFault.NoMemory) ⊎ (fault ≡ StoreFault.Failed)) }
     ensures survives { Survives (state S.Store conn.old) (state S.Store conn.new) (λ _. ⊥) }
     ensures ended { conn.new.in_transaction ≡ false }
 {
@@ -62,35 +62,35 @@ fn are_placed(list: &[Exception]) -> bool
 
 /// Returns the exceptions that `rows` have, in the same order.
 ///
-/// `Err(Fault::Damaged)`: a place of a pool occurs twice, or a row is none that this service
+/// `Err(StoreFault::Damaged)`: a place of a pool occurs twice, or a row is none that this service
 /// writes.
-fn exceptions_in(alloc: Global, rows: &[Row]) -> Result<Vec<Exception>, Fault>
+fn exceptions_in(alloc: Global, rows: &[Row]) -> Result<Vec<Exception>, StoreFault>
     ensures list { IfOk result (λ list. (rows.now ≡ map exception_row list.items) × IsAscending Precedes rows.now) }
-    ensures damaged { result ≡ Err Fault.Damaged → AllByRecursion IsExceptionRow rows.now → ¬ IsAscending Precedes rows.now }
-    ensures faults { IfErr result (λ fault. (fault ≡ Fault.NoMemory) ⊎ (fault ≡ Fault.Damaged)) }
+    ensures damaged { result ≡ Err StoreFault.Damaged → AllByRecursion IsExceptionRow rows.now → ¬ IsAscending Precedes rows.now }
+    ensures faults { IfErr result (λ fault. (fault ≡ StoreFault.NoMemory) ⊎ (fault ≡ StoreFault.Damaged)) }
 {
     let list: Option<Vec<Exception>> = all_in(alloc, rows)?;
     match list {
         Some(list) if are_placed(&list) => Ok(list),
-        _ => Err(Fault::Damaged),
+        _ => Err(StoreFault::Damaged),
     }
 }
 
 /// Reads the exceptions of the tenant's pools, by pool and place. No place of a pool occurs twice.
 ///
-/// `Err(Fault::Damaged)`: a place of a pool occurs twice, or a row is none that this service
-/// writes. `Err(Fault::NoMemory)`: nothing is changed.
+/// `Err(StoreFault::Damaged)`: a place of a pool occurs twice, or a row is none that this service
+/// writes. `Err(StoreFault::NoMemory)`: nothing is changed.
 pub fn exceptions_of<S: Alter>(
     alloc: Global,
     conn: &mut Connection<S>,
     id: i64,
-) -> Result<Vec<Exception>, Fault>
+) -> Result<Vec<Exception>, StoreFault>
     requires autocommit { conn.old.in_transaction ≡ false }
     requires ready { HasCleanDisk (state S.Store conn.old) → IsReady (state S.Store conn.old) }
     ensures found { HasCleanDisk (state S.Store conn.new) → IfOk result (λ exceptions. ListsBy Precedes (of_tenant exceptions_table id (state S.Store conn.old).now.trees) (map exception_row exceptions.items)) }
-    ensures damaged { HasCleanDisk (state S.Store conn.new) → result ≡ Err Fault.Damaged → (list : _) → AllByRecursion IsExceptionRow list → ¬ ListsBy Precedes (of_tenant exceptions_table id (state S.Store conn.old).now.trees) list }
-    ensures full { result ≢ Err Fault.Full }
-    ensures remains { HasCleanDisk (state S.Store conn.new) → result ≢ Err Fault.Failed → Remains (state S.Store conn.old) (state S.Store conn.new) }
+    ensures damaged { HasCleanDisk (state S.Store conn.new) → result ≡ Err StoreFault.Damaged → (list : _) → AllByRecursion IsExceptionRow list → ¬ ListsBy Precedes (of_tenant exceptions_table id (state S.Store conn.old).now.trees) list }
+    ensures full { result ≢ Err StoreFault.Full }
+    ensures remains { HasCleanDisk (state S.Store conn.new) → result ≢ Err StoreFault.Failed → Remains (state S.Store conn.old) (state S.Store conn.new) }
     ensures survives { Survives (state S.Store conn.old) (state S.Store conn.new) (λ _. ⊥) }
     ensures ended { conn.new.in_transaction ≡ false }
 {

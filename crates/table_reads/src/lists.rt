@@ -16,16 +16,16 @@ use crate::rows::{PoolRow, ReceiptRow, VersionRow};
 use sqlite::types::ValueRef;
 use sqlite::{Alter, Connection, Row};
 use std::alloc::Global;
-use table_schema::refuse::Fault;
+use store_faults::StoreFault;
 use table_schema::values::State;
 
 /// Reads the versions and the texts of the tenant's maps, by version.
-fn version_rows<S: Alter>(conn: &mut Connection<S>, id: i64) -> Result<Vec<Row>, Fault>
+fn version_rows<S: Alter>(conn: &mut Connection<S>, id: i64) -> Result<Vec<Row>, StoreFault>
     requires autocommit { conn.old.in_transaction ≡ false }
     requires ready { HasCleanDisk (state S.Store conn.old) → IsReady (state S.Store conn.old) }
     ensures found { HasCleanDisk (state S.Store conn.new) → IfOk result (λ rows. AreOrdered (of_tenant maps_table id (state S.Store conn.old).now.trees) rows.items) }
-    ensures remains { HasCleanDisk (state S.Store conn.new) → result ≢ Err Fault.Failed → Remains (state S.Store conn.old) (state S.Store conn.new) }
-    ensures faults { IfErr result (λ fault. (fault ≡ Fault.NoMemory) ⊎ (fault ≡ Fault.Failed)) }
+    ensures remains { HasCleanDisk (state S.Store conn.new) → result ≢ Err StoreFault.Failed → Remains (state S.Store conn.old) (state S.Store conn.new) }
+    ensures faults { IfErr result (λ fault. (fault ≡ StoreFault.NoMemory) ⊎ (fault ≡ StoreFault.Failed)) }
     ensures survives { Survives (state S.Store conn.old) (state S.Store conn.new) (λ _. ⊥) }
     ensures ended { conn.new.in_transaction ≡ false }
 {
@@ -38,19 +38,19 @@ fn version_rows<S: Alter>(conn: &mut Connection<S>, id: i64) -> Result<Vec<Row>,
 
 /// Reads the versions of the tenant's map, which rise strictly.
 ///
-/// `Err(Fault::Damaged)`: a version occurs twice, or a row is none that this service writes.
-/// `Err(Fault::NoMemory)`: nothing is changed.
+/// `Err(StoreFault::Damaged)`: a version occurs twice, or a row is none that this service writes.
+/// `Err(StoreFault::NoMemory)`: nothing is changed.
 pub fn versions_of<S: Alter>(
     alloc: Global,
     conn: &mut Connection<S>,
     id: i64,
-) -> Result<Vec<VersionRow>, Fault>
+) -> Result<Vec<VersionRow>, StoreFault>
     requires autocommit { conn.old.in_transaction ≡ false }
     requires ready { HasCleanDisk (state S.Store conn.old) → IsReady (state S.Store conn.old) }
     ensures found { HasCleanDisk (state S.Store conn.new) → IfOk result (λ versions. Lists (of_tenant maps_table id (state S.Store conn.old).now.trees) (map version_values versions.items)) }
-    ensures damaged { HasCleanDisk (state S.Store conn.new) → result ≡ Err Fault.Damaged → (list : _) → AllByRecursion IsVersionRow list → ¬ Lists (of_tenant maps_table id (state S.Store conn.old).now.trees) list }
-    ensures full { result ≢ Err Fault.Full }
-    ensures remains { HasCleanDisk (state S.Store conn.new) → result ≢ Err Fault.Failed → Remains (state S.Store conn.old) (state S.Store conn.new) }
+    ensures damaged { HasCleanDisk (state S.Store conn.new) → result ≡ Err StoreFault.Damaged → (list : _) → AllByRecursion IsVersionRow list → ¬ Lists (of_tenant maps_table id (state S.Store conn.old).now.trees) list }
+    ensures full { result ≢ Err StoreFault.Full }
+    ensures remains { HasCleanDisk (state S.Store conn.new) → result ≢ Err StoreFault.Failed → Remains (state S.Store conn.old) (state S.Store conn.new) }
     ensures survives { Survives (state S.Store conn.old) (state S.Store conn.new) (λ _. ⊥) }
     ensures ended { conn.new.in_transaction ≡ false }
 {
@@ -59,12 +59,12 @@ pub fn versions_of<S: Alter>(
 }
 
 /// Reads the states of the tenant's devices, by device.
-fn device_rows<S: Alter>(conn: &mut Connection<S>, id: i64) -> Result<Vec<Row>, Fault>
+fn device_rows<S: Alter>(conn: &mut Connection<S>, id: i64) -> Result<Vec<Row>, StoreFault>
     requires autocommit { conn.old.in_transaction ≡ false }
     requires ready { HasCleanDisk (state S.Store conn.old) → IsReady (state S.Store conn.old) }
     ensures found { HasCleanDisk (state S.Store conn.new) → IfOk result (λ rows. AreOrdered (of_tenant devices_table id (state S.Store conn.old).now.trees) rows.items) }
-    ensures remains { HasCleanDisk (state S.Store conn.new) → result ≢ Err Fault.Failed → Remains (state S.Store conn.old) (state S.Store conn.new) }
-    ensures faults { IfErr result (λ fault. (fault ≡ Fault.NoMemory) ⊎ (fault ≡ Fault.Failed)) }
+    ensures remains { HasCleanDisk (state S.Store conn.new) → result ≢ Err StoreFault.Failed → Remains (state S.Store conn.old) (state S.Store conn.new) }
+    ensures faults { IfErr result (λ fault. (fault ≡ StoreFault.NoMemory) ⊎ (fault ≡ StoreFault.Failed)) }
     ensures survives { Survives (state S.Store conn.old) (state S.Store conn.new) (λ _. ⊥) }
     ensures ended { conn.new.in_transaction ≡ false }
 {
@@ -77,19 +77,19 @@ fn device_rows<S: Alter>(conn: &mut Connection<S>, id: i64) -> Result<Vec<Row>, 
 
 /// Reads the states of the tenant's devices, whose numbers rise strictly.
 ///
-/// `Err(Fault::Damaged)`: a device occurs twice, or a row is none that this service writes.
-/// `Err(Fault::NoMemory)`: nothing is changed.
+/// `Err(StoreFault::Damaged)`: a device occurs twice, or a row is none that this service writes.
+/// `Err(StoreFault::NoMemory)`: nothing is changed.
 pub fn devices_of<S: Alter>(
     alloc: Global,
     conn: &mut Connection<S>,
     id: i64,
-) -> Result<Vec<State>, Fault>
+) -> Result<Vec<State>, StoreFault>
     requires autocommit { conn.old.in_transaction ≡ false }
     requires ready { HasCleanDisk (state S.Store conn.old) → IsReady (state S.Store conn.old) }
     ensures found { HasCleanDisk (state S.Store conn.new) → IfOk result (λ states. Lists (of_tenant devices_table id (state S.Store conn.old).now.trees) (map state_row states.items)) }
-    ensures damaged { HasCleanDisk (state S.Store conn.new) → result ≡ Err Fault.Damaged → (list : _) → AllByRecursion IsStateRow list → ¬ Lists (of_tenant devices_table id (state S.Store conn.old).now.trees) list }
-    ensures full { result ≢ Err Fault.Full }
-    ensures remains { HasCleanDisk (state S.Store conn.new) → result ≢ Err Fault.Failed → Remains (state S.Store conn.old) (state S.Store conn.new) }
+    ensures damaged { HasCleanDisk (state S.Store conn.new) → result ≡ Err StoreFault.Damaged → (list : _) → AllByRecursion IsStateRow list → ¬ Lists (of_tenant devices_table id (state S.Store conn.old).now.trees) list }
+    ensures full { result ≢ Err StoreFault.Full }
+    ensures remains { HasCleanDisk (state S.Store conn.new) → result ≢ Err StoreFault.Failed → Remains (state S.Store conn.old) (state S.Store conn.new) }
     ensures survives { Survives (state S.Store conn.old) (state S.Store conn.new) (λ _. ⊥) }
     ensures ended { conn.new.in_transaction ≡ false }
 {
@@ -98,12 +98,12 @@ pub fn devices_of<S: Alter>(
 }
 
 /// Reads the pools of the tenant, by id.
-fn pool_rows<S: Alter>(conn: &mut Connection<S>, id: i64) -> Result<Vec<Row>, Fault>
+fn pool_rows<S: Alter>(conn: &mut Connection<S>, id: i64) -> Result<Vec<Row>, StoreFault>
     requires autocommit { conn.old.in_transaction ≡ false }
     requires ready { HasCleanDisk (state S.Store conn.old) → IsReady (state S.Store conn.old) }
     ensures found { HasCleanDisk (state S.Store conn.new) → IfOk result (λ rows. AreOrdered (of_tenant pools_table id (state S.Store conn.old).now.trees) rows.items) }
-    ensures remains { HasCleanDisk (state S.Store conn.new) → result ≢ Err Fault.Failed → Remains (state S.Store conn.old) (state S.Store conn.new) }
-    ensures faults { IfErr result (λ fault. (fault ≡ Fault.NoMemory) ⊎ (fault ≡ Fault.Failed)) }
+    ensures remains { HasCleanDisk (state S.Store conn.new) → result ≢ Err StoreFault.Failed → Remains (state S.Store conn.old) (state S.Store conn.new) }
+    ensures faults { IfErr result (λ fault. (fault ≡ StoreFault.NoMemory) ⊎ (fault ≡ StoreFault.Failed)) }
     ensures survives { Survives (state S.Store conn.old) (state S.Store conn.new) (λ _. ⊥) }
     ensures ended { conn.new.in_transaction ≡ false }
 {
@@ -116,19 +116,19 @@ fn pool_rows<S: Alter>(conn: &mut Connection<S>, id: i64) -> Result<Vec<Row>, Fa
 
 /// Reads the pools of the tenant, whose ids rise strictly.
 ///
-/// `Err(Fault::Damaged)`: an id occurs twice, or a row is none that this service writes.
-/// `Err(Fault::NoMemory)`: nothing is changed.
+/// `Err(StoreFault::Damaged)`: an id occurs twice, or a row is none that this service writes.
+/// `Err(StoreFault::NoMemory)`: nothing is changed.
 pub fn pools_of<S: Alter>(
     alloc: Global,
     conn: &mut Connection<S>,
     id: i64,
-) -> Result<Vec<PoolRow>, Fault>
+) -> Result<Vec<PoolRow>, StoreFault>
     requires autocommit { conn.old.in_transaction ≡ false }
     requires ready { HasCleanDisk (state S.Store conn.old) → IsReady (state S.Store conn.old) }
     ensures found { HasCleanDisk (state S.Store conn.new) → IfOk result (λ pools. Lists (of_tenant pools_table id (state S.Store conn.old).now.trees) (map pool_values pools.items)) }
-    ensures damaged { HasCleanDisk (state S.Store conn.new) → result ≡ Err Fault.Damaged → (list : _) → AllByRecursion IsPoolRow list → ¬ Lists (of_tenant pools_table id (state S.Store conn.old).now.trees) list }
-    ensures full { result ≢ Err Fault.Full }
-    ensures remains { HasCleanDisk (state S.Store conn.new) → result ≢ Err Fault.Failed → Remains (state S.Store conn.old) (state S.Store conn.new) }
+    ensures damaged { HasCleanDisk (state S.Store conn.new) → result ≡ Err StoreFault.Damaged → (list : _) → AllByRecursion IsPoolRow list → ¬ Lists (of_tenant pools_table id (state S.Store conn.old).now.trees) list }
+    ensures full { result ≢ Err StoreFault.Full }
+    ensures remains { HasCleanDisk (state S.Store conn.new) → result ≢ Err StoreFault.Failed → Remains (state S.Store conn.old) (state S.Store conn.new) }
     ensures survives { Survives (state S.Store conn.old) (state S.Store conn.new) (λ _. ⊥) }
     ensures ended { conn.new.in_transaction ≡ false }
 {
@@ -141,12 +141,12 @@ fn receipt_rows<S: Alter>(
     conn: &mut Connection<S>,
     id: i64,
     request: &str,
-) -> Result<Vec<Row>, Fault>
+) -> Result<Vec<Row>, StoreFault>
     requires autocommit { conn.old.in_transaction ≡ false }
     requires ready { HasCleanDisk (state S.Store conn.old) → IsReady (state S.Store conn.old) }
     ensures found { HasCleanDisk (state S.Store conn.new) → IfOk result (λ rows. IsPermutation (receipts_with (state S.Store conn.old).now.trees id request.now) rows.items) }
-    ensures remains { HasCleanDisk (state S.Store conn.new) → result ≢ Err Fault.Failed → Remains (state S.Store conn.old) (state S.Store conn.new) }
-    ensures faults { IfErr result (λ fault. (fault ≡ Fault.NoMemory) ⊎ (fault ≡ Fault.Failed)) }
+    ensures remains { HasCleanDisk (state S.Store conn.new) → result ≢ Err StoreFault.Failed → Remains (state S.Store conn.old) (state S.Store conn.new) }
+    ensures faults { IfErr result (λ fault. (fault ≡ StoreFault.NoMemory) ⊎ (fault ≡ StoreFault.Failed)) }
     ensures survives { Survives (state S.Store conn.old) (state S.Store conn.new) (λ _. ⊥) }
     ensures ended { conn.new.in_transaction ≡ false }
 {
@@ -159,19 +159,19 @@ fn receipt_rows<S: Alter>(
 
 /// Reads the tenant's receipt of the request, or `None` where there is none.
 ///
-/// `Err(Fault::Damaged)`: there are several, or the row is none that this service writes.
-/// `Err(Fault::NoMemory)`: nothing is changed.
+/// `Err(StoreFault::Damaged)`: there are several, or the row is none that this service writes.
+/// `Err(StoreFault::NoMemory)`: nothing is changed.
 pub fn receipt_of<S: Alter>(
     conn: &mut Connection<S>,
     id: i64,
     request: &str,
-) -> Result<Option<ReceiptRow>, Fault>
+) -> Result<Option<ReceiptRow>, StoreFault>
     requires autocommit { conn.old.in_transaction ≡ false }
     requires ready { HasCleanDisk (state S.Store conn.old) → IsReady (state S.Store conn.old) }
     ensures found { HasCleanDisk (state S.Store conn.new) → IfOk result (AreReceipt (receipts_with (state S.Store conn.old).now.trees id request.now)) }
-    ensures damaged { HasCleanDisk (state S.Store conn.new) → result ≡ Err Fault.Damaged → (receipts_with (state S.Store conn.old).now.trees id request.now ≢ []) × ((row : _) → IsReceiptRow row → receipts_with (state S.Store conn.old).now.trees id request.now ≢ row ∷ []) }
-    ensures full { result ≢ Err Fault.Full }
-    ensures remains { HasCleanDisk (state S.Store conn.new) → result ≢ Err Fault.Failed → Remains (state S.Store conn.old) (state S.Store conn.new) }
+    ensures damaged { HasCleanDisk (state S.Store conn.new) → result ≡ Err StoreFault.Damaged → (receipts_with (state S.Store conn.old).now.trees id request.now ≢ []) × ((row : _) → IsReceiptRow row → receipts_with (state S.Store conn.old).now.trees id request.now ≢ row ∷ []) }
+    ensures full { result ≢ Err StoreFault.Full }
+    ensures remains { HasCleanDisk (state S.Store conn.new) → result ≢ Err StoreFault.Failed → Remains (state S.Store conn.old) (state S.Store conn.new) }
     ensures survives { Survives (state S.Store conn.old) (state S.Store conn.new) (λ _. ⊥) }
     ensures ended { conn.new.in_transaction ≡ false }
 {

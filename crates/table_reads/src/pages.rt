@@ -18,18 +18,18 @@ use crate::rows::ReceiptRow;
 use sqlite::types::ValueRef;
 use sqlite::{Alter, Connection, Row};
 use std::alloc::Global;
-use table_schema::refuse::Fault;
+use store_faults::StoreFault;
 
 /// The number of receipts on a page.
 pub const PAGE: usize = 16;
 
 /// Reads the first 17 receipts of the tenant, or all where there are fewer, by their requests.
-fn first_rows<S: Alter>(conn: &mut Connection<S>, id: i64) -> Result<Vec<Row>, Fault>
+fn first_rows<S: Alter>(conn: &mut Connection<S>, id: i64) -> Result<Vec<Row>, StoreFault>
     requires autocommit { conn.old.in_transaction ≡ false }
     requires ready { HasCleanDisk (state S.Store conn.old) → IsReady (state S.Store conn.old) }
     ensures found { HasCleanDisk (state S.Store conn.new) → IfOk result (λ rows. AreFirst 17 (of_tenant receipts_table id (state S.Store conn.old).now.trees) rows.items) }
-    ensures remains { HasCleanDisk (state S.Store conn.new) → result ≢ Err Fault.Failed → Remains (state S.Store conn.old) (state S.Store conn.new) }
-    ensures faults { IfErr result (λ fault. (fault ≡ Fault.NoMemory) ⊎ (fault ≡ Fault.Failed)) }
+    ensures remains { HasCleanDisk (state S.Store conn.new) → result ≢ Err StoreFault.Failed → Remains (state S.Store conn.old) (state S.Store conn.new) }
+    ensures faults { IfErr result (λ fault. (fault ≡ StoreFault.NoMemory) ⊎ (fault ≡ StoreFault.Failed)) }
     ensures survives { Survives (state S.Store conn.old) (state S.Store conn.new) (λ _. ⊥) }
     ensures ended { conn.new.in_transaction ≡ false }
 {
@@ -42,12 +42,12 @@ fn first_rows<S: Alter>(conn: &mut Connection<S>, id: i64) -> Result<Vec<Row>, F
 
 /// Reads the first 17 receipts of the tenant whose requests are above `after`, or all of those
 /// where there are fewer, by their requests.
-fn next_rows<S: Alter>(conn: &mut Connection<S>, id: i64, after: &str) -> Result<Vec<Row>, Fault>
+fn next_rows<S: Alter>(conn: &mut Connection<S>, id: i64, after: &str) -> Result<Vec<Row>, StoreFault>
     requires autocommit { conn.old.in_transaction ≡ false }
     requires ready { HasCleanDisk (state S.Store conn.old) → IsReady (state S.Store conn.old) }
     ensures found { HasCleanDisk (state S.Store conn.new) → IfOk result (λ rows. AreFirst 17 (rows_above after.now (of_tenant receipts_table id (state S.Store conn.old).now.trees)) rows.items) }
-    ensures remains { HasCleanDisk (state S.Store conn.new) → result ≢ Err Fault.Failed → Remains (state S.Store conn.old) (state S.Store conn.new) }
-    ensures faults { IfErr result (λ fault. (fault ≡ Fault.NoMemory) ⊎ (fault ≡ Fault.Failed)) }
+    ensures remains { HasCleanDisk (state S.Store conn.new) → result ≢ Err StoreFault.Failed → Remains (state S.Store conn.old) (state S.Store conn.new) }
+    ensures faults { IfErr result (λ fault. (fault ≡ StoreFault.NoMemory) ⊎ (fault ≡ StoreFault.Failed)) }
     ensures survives { Survives (state S.Store conn.old) (state S.Store conn.new) (λ _. ⊥) }
     ensures ended { conn.new.in_transaction ≡ false }
 {
@@ -61,11 +61,11 @@ fn next_rows<S: Alter>(conn: &mut Connection<S>, id: i64, after: &str) -> Result
 /// Returns the page that `rows` begin with. The last row is dropped where there are more than a
 /// page.
 ///
-/// `Err(Fault::Damaged)`: the requests do not rise, or a row is none that this service writes.
-fn page_of(alloc: Global, rows: &[Row]) -> Result<Vec<ReceiptRow>, Fault>
+/// `Err(StoreFault::Damaged)`: the requests do not rise, or a row is none that this service writes.
+fn page_of(alloc: Global, rows: &[Row]) -> Result<Vec<ReceiptRow>, StoreFault>
     ensures page { IfOk result (λ page. IsPageOf rows.now (map receipt_values page.items)) }
-    ensures damaged { result ≡ Err Fault.Damaged → AllByRecursion IsReceiptRow rows.now → ¬ IsRising rows.now }
-    ensures faults { IfErr result (λ fault. (fault ≡ Fault.NoMemory) ⊎ (fault ≡ Fault.Damaged)) }
+    ensures damaged { result ≡ Err StoreFault.Damaged → AllByRecursion IsReceiptRow rows.now → ¬ IsRising rows.now }
+    ensures faults { IfErr result (λ fault. (fault ≡ StoreFault.NoMemory) ⊎ (fault ≡ StoreFault.Damaged)) }
 {
     let mut page: Vec<ReceiptRow> = list_of(alloc, rows)?;
     if page.len() > PAGE {
@@ -77,19 +77,19 @@ fn page_of(alloc: Global, rows: &[Row]) -> Result<Vec<ReceiptRow>, Fault>
 /// Reads the first receipts of the tenant, in the order of their requests' bytes: a page, or fewer
 /// where there are no more.
 ///
-/// `Err(Fault::Damaged)`: a request occurs twice, or a row is none that this service writes.
-/// `Err(Fault::NoMemory)`: nothing is changed.
+/// `Err(StoreFault::Damaged)`: a request occurs twice, or a row is none that this service writes.
+/// `Err(StoreFault::NoMemory)`: nothing is changed.
 pub fn first_receipts<S: Alter>(
     alloc: Global,
     conn: &mut Connection<S>,
     id: i64,
-) -> Result<Vec<ReceiptRow>, Fault>
+) -> Result<Vec<ReceiptRow>, StoreFault>
     requires autocommit { conn.old.in_transaction ≡ false }
     requires ready { HasCleanDisk (state S.Store conn.old) → IsReady (state S.Store conn.old) }
     ensures found { HasCleanDisk (state S.Store conn.new) → IfOk result (λ page. Begins 16 (of_tenant receipts_table id (state S.Store conn.old).now.trees) (map receipt_values page.items)) }
-    ensures damaged { HasCleanDisk (state S.Store conn.new) → result ≡ Err Fault.Damaged → (list : _) → AllByRecursion IsReceiptRow list → ¬ Lists (of_tenant receipts_table id (state S.Store conn.old).now.trees) list }
-    ensures full { result ≢ Err Fault.Full }
-    ensures remains { HasCleanDisk (state S.Store conn.new) → result ≢ Err Fault.Failed → Remains (state S.Store conn.old) (state S.Store conn.new) }
+    ensures damaged { HasCleanDisk (state S.Store conn.new) → result ≡ Err StoreFault.Damaged → (list : _) → AllByRecursion IsReceiptRow list → ¬ Lists (of_tenant receipts_table id (state S.Store conn.old).now.trees) list }
+    ensures full { result ≢ Err StoreFault.Full }
+    ensures remains { HasCleanDisk (state S.Store conn.new) → result ≢ Err StoreFault.Failed → Remains (state S.Store conn.old) (state S.Store conn.new) }
     ensures survives { Survives (state S.Store conn.old) (state S.Store conn.new) (λ _. ⊥) }
     ensures ended { conn.new.in_transaction ≡ false }
 {
@@ -100,20 +100,20 @@ pub fn first_receipts<S: Alter>(
 /// Reads the first receipts of the tenant whose requests are above `after`, in the order of their
 /// requests' bytes: a page, or fewer where there are no more.
 ///
-/// `Err(Fault::Damaged)`: a request occurs twice, or a row is none that this service writes.
-/// `Err(Fault::NoMemory)`: nothing is changed.
+/// `Err(StoreFault::Damaged)`: a request occurs twice, or a row is none that this service writes.
+/// `Err(StoreFault::NoMemory)`: nothing is changed.
 pub fn receipts_after<S: Alter>(
     alloc: Global,
     conn: &mut Connection<S>,
     id: i64,
     after: &str,
-) -> Result<Vec<ReceiptRow>, Fault>
+) -> Result<Vec<ReceiptRow>, StoreFault>
     requires autocommit { conn.old.in_transaction ≡ false }
     requires ready { HasCleanDisk (state S.Store conn.old) → IsReady (state S.Store conn.old) }
     ensures found { HasCleanDisk (state S.Store conn.new) → IfOk result (λ page. Begins 16 (rows_above after.now (of_tenant receipts_table id (state S.Store conn.old).now.trees)) (map receipt_values page.items)) }
-    ensures damaged { HasCleanDisk (state S.Store conn.new) → result ≡ Err Fault.Damaged → (list : _) → AllByRecursion IsReceiptRow list → ¬ Lists (rows_above after.now (of_tenant receipts_table id (state S.Store conn.old).now.trees)) list }
-    ensures full { result ≢ Err Fault.Full }
-    ensures remains { HasCleanDisk (state S.Store conn.new) → result ≢ Err Fault.Failed → Remains (state S.Store conn.old) (state S.Store conn.new) }
+    ensures damaged { HasCleanDisk (state S.Store conn.new) → result ≡ Err StoreFault.Damaged → (list : _) → AllByRecursion IsReceiptRow list → ¬ Lists (rows_above after.now (of_tenant receipts_table id (state S.Store conn.old).now.trees)) list }
+    ensures full { result ≢ Err StoreFault.Full }
+    ensures remains { HasCleanDisk (state S.Store conn.new) → result ≢ Err StoreFault.Failed → Remains (state S.Store conn.old) (state S.Store conn.new) }
     ensures survives { Survives (state S.Store conn.old) (state S.Store conn.new) (λ _. ⊥) }
     ensures ended { conn.new.in_transaction ≡ false }
 {

@@ -8,27 +8,27 @@ ghost use Rattle.table_reads.specs.Found.{IsRising};
 use crate::rows::TenantRow;
 use sqlite::Row;
 use std::alloc::{AllocError, Global};
-use table_schema::refuse::Fault;
+use store_faults::StoreFault;
 
 /// Returns the one row as a value, or `None` where there is no row.
 ///
-/// `Err(Fault::Damaged)`: there are several rows, or the row is no row of a `T`.
-pub fn one_of<T: TenantRow + Drop>(rows: &[Row]) -> Result<Option<T>, Fault>
+/// `Err(StoreFault::Damaged)`: there are several rows, or the row is no row of a `T`.
+pub fn one_of<T: TenantRow + Drop>(rows: &[Row]) -> Result<Option<T>, StoreFault>
     ensures some { IfOk result (λ o. IfSome o (λ x. rows.now ≡ T.values x ∷ [])) }
     ensures none { IfOk result (λ o. o ≡ None → rows.now ≡ []) }
-    ensures damaged { result ≡ Err Fault.Damaged → (rows.now ≢ []) × ((row : Values) → T.is_one row → rows.now ≢ row ∷ []) }
-    ensures faults { IfErr result (λ fault. (fault ≡ Fault.NoMemory) ⊎ (fault ≡ Fault.Damaged)) }
+    ensures damaged { result ≡ Err StoreFault.Damaged → (rows.now ≢ []) × ((row : Values) → T.is_one row → rows.now ≢ row ∷ []) }
+    ensures faults { IfErr result (λ fault. (fault ≡ StoreFault.NoMemory) ⊎ (fault ≡ StoreFault.Damaged)) }
 {
     let [row] = rows else {
         return if rows.is_empty() {
             Ok(None)
         } else {
-            Err(Fault::Damaged)
+            Err(StoreFault::Damaged)
         };
     };
     match T::from_values(row)? {
         Some(value) => Ok(Some(value)),
-        None => Err(Fault::Damaged),
+        None => Err(StoreFault::Damaged),
     }
 }
 
@@ -64,14 +64,14 @@ fn rise<T: TenantRow>(list: &[T]) -> bool
 
 /// Returns the rows as values, which rise strictly by their keys.
 ///
-/// `Err(Fault::Damaged)`: the keys do not rise, or one row is no row of a `T`.
-pub fn list_of<T: TenantRow + Drop>(alloc: Global, rows: &[Row]) -> Result<Vec<T>, Fault>
+/// `Err(StoreFault::Damaged)`: the keys do not rise, or one row is no row of a `T`.
+pub fn list_of<T: TenantRow + Drop>(alloc: Global, rows: &[Row]) -> Result<Vec<T>, StoreFault>
     ensures list { IfOk result (λ list. (rows.now ≡ map T.values list.items) × IsRising rows.now) }
-    ensures damaged { result ≡ Err Fault.Damaged → AllByRecursion T.is_one rows.now → ¬ IsRising rows.now }
-    ensures faults { IfErr result (λ fault. (fault ≡ Fault.NoMemory) ⊎ (fault ≡ Fault.Damaged)) }
+    ensures damaged { result ≡ Err StoreFault.Damaged → AllByRecursion T.is_one rows.now → ¬ IsRising rows.now }
+    ensures faults { IfErr result (λ fault. (fault ≡ StoreFault.NoMemory) ⊎ (fault ≡ StoreFault.Damaged)) }
 {
     match all_in(alloc, rows)? {
         Some(list) if rise(&list) => Ok(list),
-        _ => Err(Fault::Damaged),
+        _ => Err(StoreFault::Damaged),
     }
 }

@@ -22,6 +22,7 @@ pub use queries::{Query, answer};
 pub use request::{Action, Request, read_request};
 pub use route::{Methods, Route};
 pub use router::{Routes, Target};
-pub use store::{StoreFault, TenantStore, store_fault};
+pub use store::{TenantStore, store_fault};
+pub use store_faults::StoreFault;
 pub use tenant_messages::{Call, CallParts, Refusal, Reply};
 pub use tenant_state::{Change, Inventory, Receipt, TenantState};

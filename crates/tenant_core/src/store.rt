@@ -13,32 +13,9 @@ use crate::cached::Cached;
 use crate::queries::Query;
 use std::alloc::{AllocError, Global};
 use std::rc::Rc;
+use store_faults::StoreFault;
 use tenant_messages::{Reply, error, no_memory, written};
 use tenant_state::{Change, Inventory, Receipt};
-
-/// Why a call of a store failed.
-#[derive(Clone, Copy, Debug, PartialEq, Eq)]
-pub enum StoreFault {
-    /// An allocation failed.
-    NoMemory,
-    /// The store is full.
-    Full,
-    /// The tenant's data isn't that of any state.
-    Damaged,
-    /// Another fault, as of the disk below the store.
-    Failed,
-}
-
-impl From<AllocError> for StoreFault {
-    ghost use Rattle.std.specs.Prelude.{◌≡◌};
-    ghost use Rattle.tenant_core.specs.declared.store.StoreFault.TheVariants.{NoMemory};
-
-    ghost from_gives = { λ _ fault. fault ≡ NoMemory };
-
-    fn from(_error: AllocError) -> StoreFault {
-        StoreFault::NoMemory
-    }
-}
 
 /// A store of tenants' states by name. It keeps the allocator that its constructor was given.
 ///

@@ -10,8 +10,8 @@ use Rattle.table_schema.specs.Values.{state_row, exception_row}
 use Rattle.table_reads.specs.Found.{Lists, ListsBy, Precedes, IsVersionRow, IsStateRow, IsPoolRow, IsExceptionRow, version_values, pool_values}
 use Rattle.table_schema.specs.Holds.{of_tenant}
 use Rattle.table_schema.specs.Layout.{maps_table, devices_table, pools_table, exceptions_table}
-use Rattle.table_schema.specs.declared.refuse.Fault.{Fault}
-use Rattle.table_schema.specs.declared.refuse.Fault.TheVariants.{Failed}
+use Rattle.store_faults.specs.declared.StoreFault.{StoreFault}
+use Rattle.store_faults.specs.declared.StoreFault.TheVariants.{Failed}
 use Rattle.table_reads.specs.declared.rows.PoolRow.{PoolRow}
 use Rattle.table_reads.specs.declared.rows.VersionRow.{VersionRow}
 use Rattle.table_schema.specs.declared.values.Exception.{Exception}
@@ -28,12 +28,12 @@ pub moved : (P : Trees → ℤ → Type 0) (a b : Database) (m n : ℤ) → a �
 moved P a b m n same number it = subst (λ (d : Database). P d.trees n) same (subst (P a.trees) number it)
 
 -- a call that answered has not latched the tables
-pub is_live : {A : Type 0} (b : Bool) (x : A) → (b ≡ true → ◌≡◌ {A = Result A Fault} (Ok x) (Err Failed)) → b ≡ false
+pub is_live : {A : Type 0} (b : Bool) (x : A) → (b ≡ true → ◌≡◌ {A = Result A StoreFault} (Ok x) (Err Failed)) → b ≡ false
 is_live true x h = let no = h refl in cc
 is_live false x h = refl
 
 -- the fault is handed on
-pub same_fault : {A B : Type 0} (r : Result A Fault) (x f g : Fault) → r ≡ Err x → x ≡ f → r ≡ Err g → ◌≡◌ {A = Result B Fault} (Err f) (Err g)
+pub same_fault : {A B : Type 0} (r : Result A StoreFault) (x f g : StoreFault) → r ≡ Err x → x ≡ f → r ≡ Err g → ◌≡◌ {A = Result B StoreFault} (Err f) (Err g)
 same_fault r x f g is same answer =
     let both : f ≡ g = cc in ap Err both
 

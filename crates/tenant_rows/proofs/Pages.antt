@@ -27,7 +27,7 @@ use Rattle.table_schema.specs.Layout.{receipts_table}
 use Rattle.table_schema.specs.Holds.{of_tenant}
 use Rattle.table_reads.specs.Found.{IsRising, IsReceiptRow, Lists, Begins, rows_above, receipt_values}
 use Rattle.table_reads.specs.declared.rows.ReceiptRow.{ReceiptRow}
-use Rattle.table_schema.specs.declared.refuse.Fault.{Fault}
+use Rattle.store_faults.specs.declared.StoreFault.{StoreFault}
 use Rattle.table_reads.proofs.Rising.{below_text, below_text_back}
 use Rattle.tenant_rows.specs.Changes.{HasReceipts}
 use Rattle.tenant_rows.specs.Rows.{row_of_receipt}
@@ -318,7 +318,7 @@ receipts_are db id epoch count receipts number h =
     same m n e = cc
 
 -- the fault that was handed on
-pub same_fault : {A : Type 0} (r : Result A Fault) (e f d : Fault) → r ≡ Err e → e ≡ f → r ≡ Err d → f ≡ d
+pub same_fault : {A : Type 0} (r : Result A StoreFault) (e f d : StoreFault) → r ≡ Err e → e ≡ f → r ≡ Err d → f ≡ d
 same_fault r e f d is same other = cc
 
 -- how many pages may come yet

@@ -24,7 +24,7 @@ use sqlite::Alter;
 use std::alloc::{AllocError, Global};
 use table_reads::find::Tenant;
 use table_reads::rows::PoolRow;
-use table_schema::refuse::Fault;
+use store_faults::StoreFault;
 use table_schema::values::{Exception, Pool as PoolValues, Receipt as ReceiptValues, State};
 use tenant_messages::SuccessStatus;
 use tenant_state::{Change, Made, Receipt};
@@ -184,18 +184,18 @@ fn write_states<'a, S: Alter>(
     epoch: i64,
     states: &[DeviceState],
     receipt: &ReceiptValues<'a>,
-) -> Result<(), Fault>
+) -> Result<(), StoreFault>
     requires live { tables.old.1 ≡ false }
     requires there { HasCleanDisk (state S.Store tables.old.0) → IsNumber (state S.Store tables.old.0).now.trees id }
     ensures done { HasCleanDisk (state S.Store tables.new.0) → OnOk result (Accepts id epoch receipt.now (writes.with_states (map numbers_of states.now)) (state S.Store tables.old.0).now.trees (state S.Store tables.new.0).now.trees) }
     ensures kept { HasCleanDisk (state S.Store tables.new.0) → tables.new.1 ≡ false → OnErr result ((state S.Store tables.new.0).now ≡ (state S.Store tables.old.0).now) }
-    ensures latches { tables.new.1 ≡ true ↔ result ≡ Err Fault.Failed }
-    ensures rows { result ≢ Err Fault.Damaged }
+    ensures latches { tables.new.1 ≡ true ↔ result ≡ Err StoreFault.Failed }
+    ensures rows { result ≢ Err StoreFault.Damaged }
     ensures crash { Survives (state S.Store tables.old.0) (state S.Store tables.new.0) (Accepts id epoch receipt.now (writes.with_states (map numbers_of states.now)) (state S.Store tables.old.0).now.trees) }
 {
     match all_state_values(alloc, states) {
         Ok(values) => tables.commit_states(id, epoch, &values, receipt),
-        Err(AllocError) => Err(Fault::NoMemory),
+        Err(AllocError) => Err(StoreFault::NoMemory),
     }
 }
 
@@ -209,19 +209,19 @@ fn write_exceptions<S: Alter>(
     pool: u32,
     exceptions: &Exceptions,
     receipt: ReceiptValues<'_>,
-) -> Result<(), Fault>
+) -> Result<(), StoreFault>
     requires live { tables.old.1 ≡ false }
     requires there { HasCleanDisk (state S.Store tables.old.0) → IsNumber (state S.Store tables.old.0).now.trees id }
     requires suits { HasCleanDisk (state S.Store tables.old.0) → HasPoolsFor (state S.Store tables.old.0).now.trees id (NewExceptions pool exceptions.now) }
     ensures done { HasCleanDisk (state S.Store tables.new.0) → OnOk result (Accepts id epoch receipt.entry (with_new_pairs pool exceptions.now) (state S.Store tables.old.0).now.trees (state S.Store tables.new.0).now.trees) }
     ensures kept { HasCleanDisk (state S.Store tables.new.0) → tables.new.1 ≡ false → OnErr result ((state S.Store tables.new.0).now ≡ (state S.Store tables.old.0).now) }
-    ensures latches { tables.new.1 ≡ true ↔ result ≡ Err Fault.Failed }
-    ensures rows { HasCleanDisk (state S.Store tables.new.0) → result ≢ Err Fault.Damaged }
+    ensures latches { tables.new.1 ≡ true ↔ result ≡ Err StoreFault.Failed }
+    ensures rows { HasCleanDisk (state S.Store tables.new.0) → result ≢ Err StoreFault.Damaged }
     ensures crash { Survives (state S.Store tables.old.0) (state S.Store tables.new.0) (Accepts id epoch receipt.entry (with_new_pairs pool exceptions.now) (state S.Store tables.old.0).now.trees) }
 {
     let rows = tables.pools_of(id)?;
     let Some(row) = row_with(rows, pool) else {
-        return Err(Fault::Damaged);
+        return Err(StoreFault::Damaged);
     };
     let pairs = exceptions.pairs();
     match all_pair_values(alloc, pool, pairs) {
@@ -229,7 +229,7 @@ fn write_exceptions<S: Alter>(
             let pool = values_with(&row, values.len() as i64);
             tables.commit_exceptions(id, epoch, &pool, &values, &receipt)
         }
-        Err(AllocError) => Err(Fault::NoMemory),
+        Err(AllocError) => Err(StoreFault::NoMemory),
     }
 }
 
@@ -242,14 +242,14 @@ fn write_made<'a, S: Alter>(
     number: i64,
     made: &'a Made,
     receipt: &ReceiptValues<'a>,
-) -> Result<(), Fault>
+) -> Result<(), StoreFault>
     requires live { tables.old.1 ≡ false }
     requires there { HasCleanDisk (state S.Store tables.old.0) → IsNumber (state S.Store tables.old.0).now.trees id }
     requires suits { HasCleanDisk (state S.Store tables.old.0) → HasPoolsFor (state S.Store tables.old.0).now.trees id (made_of made.now) }
     ensures done { HasCleanDisk (state S.Store tables.new.0) → OnOk result (Accepts id epoch receipt.now (rows_with_made number (made_of made.now)) (state S.Store tables.old.0).now.trees (state S.Store tables.new.0).now.trees) }
     ensures kept { HasCleanDisk (state S.Store tables.new.0) → tables.new.1 ≡ false → OnErr result ((state S.Store tables.new.0).now ≡ (state S.Store tables.old.0).now) }
-    ensures latches { tables.new.1 ≡ true ↔ result ≡ Err Fault.Failed }
-    ensures rows { HasCleanDisk (state S.Store tables.new.0) → result ≢ Err Fault.Damaged }
+    ensures latches { tables.new.1 ≡ true ↔ result ≡ Err StoreFault.Failed }
+    ensures rows { HasCleanDisk (state S.Store tables.new.0) → result ≢ Err StoreFault.Damaged }
     ensures crash { Survives (state S.Store tables.old.0) (state S.Store tables.new.0) (Accepts id epoch receipt.now (rows_with_made number (made_of made.now)) (state S.Store tables.old.0).now.trees) }
 {
     match made {
@@ -271,30 +271,30 @@ fn write_made<'a, S: Alter>(
 
 /// Writes an accepted change of `tenant`, which has `versions` versions, in one transaction.
 ///
-/// `Err(Fault::NoMemory)`, `Err(Fault::Full)`: nothing is changed. `Err(Fault::Failed)`: the tables
-/// are latched.
+/// `Err(StoreFault::NoMemory)`, `Err(StoreFault::Full)`: nothing is changed.
+/// `Err(StoreFault::Failed)`: the tables are latched.
 pub fn write_change<S: Alter>(
     alloc: Global,
     tables: &mut Tables<S>,
     tenant: &Tenant,
     versions: u64,
     change: &Change,
-) -> Result<(), Fault>
+) -> Result<(), StoreFault>
     requires live { tables.old.1 ≡ false }
     requires there { HasCleanDisk (state S.Store tables.old.0) → (name : List ℕ) × (s : TenantState) × IsChangeable (state S.Store tables.old.0).now.trees name s tenant.now versions change.now }
     ensures done { HasCleanDisk (state S.Store tables.new.0) → (name : List ℕ) (s : TenantState) → IsChangeable (state S.Store tables.old.0).now.trees name s tenant.now versions change.now
         → OnOk result (Turns name (Some (after change.now s)) (state S.Store tables.old.0).now.trees (state S.Store tables.new.0).now.trees) }
     ensures kept { HasCleanDisk (state S.Store tables.new.0) → tables.new.1 ≡ false → OnErr result ((state S.Store tables.new.0).now ≡ (state S.Store tables.old.0).now) }
-    ensures latches { tables.new.1 ≡ true ↔ result ≡ Err Fault.Failed }
-    ensures rows { HasCleanDisk (state S.Store tables.new.0) → result ≢ Err Fault.Damaged }
+    ensures latches { tables.new.1 ≡ true ↔ result ≡ Err StoreFault.Failed }
+    ensures rows { HasCleanDisk (state S.Store tables.new.0) → result ≢ Err StoreFault.Damaged }
     ensures crash { Survives (state S.Store tables.old.0) (state S.Store tables.new.0) (λ db. (name : List ℕ) (s : TenantState) → IsChangeable (state S.Store tables.old.0).now.trees name s tenant.now versions change.now
         → Turns name (Some (after change.now s)) (state S.Store tables.old.0).now.trees db) }
 {
     let Some(epoch) = epoch_after(tenant) else {
-        return Err(Fault::Damaged);
+        return Err(StoreFault::Damaged);
     };
     let Some(number) = version_after(versions) else {
-        return Err(Fault::Damaged);
+        return Err(StoreFault::Damaged);
     };
     let receipt = receipt_values(&change.number, change.receipt.as_ref());
     write_made(

@@ -14,7 +14,7 @@ use crate::parts::is_receipt_row;
 use sqlite::Alter;
 use table_reads::pages::PAGE;
 use table_reads::rows::ReceiptRow;
-use table_schema::refuse::Fault;
+use store_faults::StoreFault;
 use tenant_tables::tables::Tables;
 
 /// The receipts that are still to be judged: those whose request numbers are above `after`, of
@@ -38,21 +38,21 @@ fn are_receipts(rows: &[ReceiptRow]) -> bool
 }
 
 /// Judges `page`, the first page of rows that have to be those of `left` receipts. `None`: there is
-/// no other page, and the rows are those receipts. `Err(Fault::Damaged)`: they are not, whatever
-/// follows the page. The page is dropped before the next one is read.
-fn rest_behind(page: Vec<ReceiptRow>, left: u64) -> Result<Option<Rest>, Fault>
+/// no other page, and the rows are those receipts. `Err(StoreFault::Damaged)`: they are not,
+/// whatever follows the page. The page is dropped before the next one is read.
+fn rest_behind(page: Vec<ReceiptRow>, left: u64) -> Result<Option<Rest>, StoreFault>
     ensures leaves { (all rows : List Row) → IsTail all rows → Begins 16 rows (map receipt_values page.items) → IfOk result (Leaves all rows left) }
-    ensures damaged { result ≡ Err Fault.Damaged → (rows : List Row) → Begins 16 rows (map receipt_values page.items) → ¬ AreReceipts left rows }
+    ensures damaged { result ≡ Err StoreFault.Damaged → (rows : List Row) → Begins 16 rows (map receipt_values page.items) → ¬ AreReceipts left rows }
     ensures fewer { IfOk result (λ o. IfSome o (λ rest. rest.left < left)) }
-    ensures faults { IfErr result (λ fault. fault ≡ Fault.Damaged) }
+    ensures faults { IfErr result (λ fault. fault ≡ StoreFault.Damaged) }
 {
     let mut page = page;
     let length = page.len();
     if !are_receipts(&page) {
-        return Err(Fault::Damaged);
+        return Err(StoreFault::Damaged);
     }
     let Some(left) = left.checked_sub(length as u64) else {
-        return Err(Fault::Damaged);
+        return Err(StoreFault::Damaged);
     };
     let last = if length < PAGE { None } else { page.pop() };
     match last {
@@ -61,26 +61,27 @@ fn rest_behind(page: Vec<ReceiptRow>, left: u64) -> Result<Option<Rest>, Fault>
             left,
         })),
         None if left == 0 => Ok(None),
-        None => Err(Fault::Damaged),
+        None => Err(StoreFault::Damaged),
     }
 }
 
 /// Tests the receipts of the tenant with the number `id`, in pages: each row has to be a receipt,
 /// and their number has to be `epoch`. No row is changed.
 ///
-/// `Err(Fault::Damaged)`: exactly where they are the receipts of no state. `Err(Fault::NoMemory)`:
-/// an allocation failed. `Err(Fault::Failed)`: the tables are latched.
-pub fn judge_receipts<S: Alter>(tables: &mut Tables<S>, id: i64, epoch: i64) -> Result<(), Fault>
+/// `Err(StoreFault::Damaged)`: exactly where they are the receipts of no state.
+/// `Err(StoreFault::NoMemory)`: an allocation failed. `Err(StoreFault::Failed)`: the tables are
+/// latched.
+pub fn judge_receipts<S: Alter>(tables: &mut Tables<S>, id: i64, epoch: i64) -> Result<(), StoreFault>
     requires live { tables.old.1 ≡ false }
     ensures found { HasCleanDisk (state S.Store tables.new.0) → OnOk result ((receipts : Receipts) × HasReceipts (state S.Store tables.old.0).now.trees id epoch receipts) }
-    ensures damaged { HasCleanDisk (state S.Store tables.new.0) → result ≡ Err Fault.Damaged → (receipts : Receipts) → ¬ HasReceipts (state S.Store tables.old.0).now.trees id epoch receipts }
-    ensures full { result ≢ Err Fault.Full }
+    ensures damaged { HasCleanDisk (state S.Store tables.new.0) → result ≡ Err StoreFault.Damaged → (receipts : Receipts) → ¬ HasReceipts (state S.Store tables.old.0).now.trees id epoch receipts }
+    ensures full { result ≢ Err StoreFault.Full }
     ensures kept { HasCleanDisk (state S.Store tables.new.0) → tables.new.1 ≡ false → (state S.Store tables.new.0).now ≡ (state S.Store tables.old.0).now }
-    ensures latches { tables.new.1 ≡ true ↔ result ≡ Err Fault.Failed }
+    ensures latches { tables.new.1 ≡ true ↔ result ≡ Err StoreFault.Failed }
     ensures crash { Survives (state S.Store tables.old.0) (state S.Store tables.new.0) (λ _. ⊥) }
 {
     let Ok(number) = u64::try_from(epoch) else {
-        return Err(Fault::Damaged);
+        return Err(StoreFault::Damaged);
     };
     let page = tables.first_receipts(id)?;
     let mut rest = rest_behind(page, number)?;

@@ -12,26 +12,27 @@ use crush_text::canonical_texts_are_ascii;
 use sqlite::Alter;
 use std::alloc::{AllocError, Global};
 use std::rc::Rc;
-use table_schema::refuse::Fault;
+use store_faults::StoreFault;
 use tenant_state::Inventory;
 use tenant_tables::tables::Tables;
 
 /// Reads what the tenant with the number `id` and the epoch `epoch` has. No row is changed.
 ///
-/// `Err(Fault::Damaged)`: exactly where its rows are those of no state. `Err(Fault::NoMemory)`: an
-/// allocation failed. `Err(Fault::Failed)`: the tables are latched.
+/// `Err(StoreFault::Damaged)`: exactly where its rows are those of no state.
+/// `Err(StoreFault::NoMemory)`: an allocation failed. `Err(StoreFault::Failed)`: the tables are
+/// latched.
 pub fn read_inventory<S: Alter>(
     alloc: Global,
     tables: &mut Tables<S>,
     id: i64,
     epoch: i64,
-) -> Result<Rc<Inventory>, Fault>
+) -> Result<Rc<Inventory>, StoreFault>
     requires live { tables.old.1 ≡ false }
     ensures found { HasCleanDisk (state S.Store tables.new.0) → IfOk result (λ i. IsOfState i.value × HasRows (state S.Store tables.old.0).now.trees id epoch i.value) }
-    ensures damaged { HasCleanDisk (state S.Store tables.new.0) → result ≡ Err Fault.Damaged → (i : Has) → IsOfState i → ¬ HasRows (state S.Store tables.old.0).now.trees id epoch i }
-    ensures full { result ≢ Err Fault.Full }
+    ensures damaged { HasCleanDisk (state S.Store tables.new.0) → result ≡ Err StoreFault.Damaged → (i : Has) → IsOfState i → ¬ HasRows (state S.Store tables.old.0).now.trees id epoch i }
+    ensures full { result ≢ Err StoreFault.Full }
     ensures kept { HasCleanDisk (state S.Store tables.new.0) → tables.new.1 ≡ false → (state S.Store tables.new.0).now ≡ (state S.Store tables.old.0).now }
-    ensures latches { tables.new.1 ≡ true ↔ result ≡ Err Fault.Failed }
+    ensures latches { tables.new.1 ≡ true ↔ result ≡ Err StoreFault.Failed }
     ensures crash { Survives (state S.Store tables.old.0) (state S.Store tables.new.0) (λ _. ⊥) }
 {
     canonical_texts_are_ascii();
@@ -41,7 +42,7 @@ pub fn read_inventory<S: Alter>(
     let exceptions = tables.exceptions_of(id)?;
     match inventory_from(alloc, epoch, versions, devices, pools, &exceptions) {
         Ok(Some(inventory)) => Ok(inventory),
-        Ok(None) => Err(Fault::Damaged),
-        Err(AllocError) => Err(Fault::NoMemory),
+        Ok(None) => Err(StoreFault::Damaged),
+        Err(AllocError) => Err(StoreFault::NoMemory),
     }
 }

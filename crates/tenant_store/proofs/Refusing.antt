@@ -3,26 +3,18 @@ use Rattle.std.proofs.Common.{◌≡◌, ◌↔◌, ℤ, Bool, true, false, Resu
 use Rattle.std.proofs.lemmas.Int.{to_z-of_z}
 use mir.Syntax.{w64}
 use mir.Val.{SFits}
-use Rattle.tenant_core.specs.declared.store.StoreFault.{StoreFault}
-use Rattle.tenant_core.specs.declared.store.StoreFault.TheVariants as store
-use Rattle.table_schema.specs.declared.refuse.Fault.{Fault}
-use Rattle.table_schema.specs.declared.refuse.Fault.TheVariants.{NoMemory, Full, Damaged, Failed}
-use Rattle.tenant_store.specs.Shown.{fault_of}
+use Rattle.store_faults.specs.declared.StoreFault.{StoreFault}
+use Rattle.store_faults.specs.declared.StoreFault.TheVariants.{Damaged, Failed}
 
-is_damaged : (f : Fault) → fault_of f ≡ store.Damaged → f ≡ Damaged
-is_damaged NoMemory h = cc
-is_damaged Full h = cc
-is_damaged Damaged h = λ _. Damaged
-is_damaged Failed h = cc
+fault_is : {A : Type 0} (x y : StoreFault) → ◌≡◌ {A = Result A StoreFault} (Err x) (Err y) → x ≡ y
+fault_is x y h = cc
 
-fault_is : (A : Type 0) (x y : StoreFault) → ◌≡◌ {A = Result A StoreFault} (Err x) (Err y) → x ≡ y
-fault_is A x y h = cc
-
-pub damaged_below : {A B : Type 0} (f : Fault) (x : StoreFault) → x ≡ fault_of f → ◌≡◌ {A = Result A StoreFault} (Err x) (Err store.Damaged) → ◌≡◌ {A = Result B Fault} (Err f) (Err Damaged)
-damaged_below {A} {B} f x is h = let same : fault_of f ≡ store.Damaged = let y = fault_is A x store.Damaged h in cc in ap Err (is_damaged f same)
+-- a fault that is passed on is that of the call below
+pub damaged_below : {A B : Type 0} (f : StoreFault) → ◌≡◌ {A = Result A StoreFault} (Err f) (Err Damaged) → ◌≡◌ {A = Result B StoreFault} (Err f) (Err Damaged)
+damaged_below f h = ap Err (fault_is f Damaged h)
 
 -- tables that answered have not failed for good
-pub live_at_ok : {A : Type 0} (b : Bool) (x : A) → (b ≡ true ↔ ◌≡◌ {A = Result A Fault} (Ok x) (Err Failed)) → b ≡ false
+pub live_at_ok : {A : Type 0} (b : Bool) (x : A) → (b ≡ true ↔ ◌≡◌ {A = Result A StoreFault} (Ok x) (Err Failed)) → b ≡ false
 live_at_ok true x h = let never = h.0 refl in absurd cc
 live_at_ok false x h = refl
 

@@ -6,24 +6,13 @@ use Rattle.sqlite.specs.State.{HasCleanDisk}
 use Rattle.sqlite.specs.Store.{Ghosts}
 use Rattle.sqlite_trees.specs.Tree.{Trees}
 use Rattle.tenant_core.specs.States.{Found, Shows}
-use Rattle.tenant_core.specs.declared.store.StoreFault.{StoreFault}
-use Rattle.tenant_core.specs.declared.store.StoreFault.TheVariants as store
 use Rattle.tenant_rows.specs.Rows.{StandsFor}
 use Rattle.tenant_state.specs.State.{TenantState}
 use Rattle.table_schema.specs.Ready.{IsReady}
-use Rattle.table_schema.specs.declared.refuse.Fault.{Fault}
-use Rattle.table_schema.specs.declared.refuse.Fault.TheVariants.{NoMemory, Full, Damaged, Failed}
 
 -- the rows of a name stand for one state at most
 abbrev pub OneState : Type 0
 OneState = (db : Trees) (name : List ℕ) (s t : Option TenantState) → StandsFor db name s → StandsFor db name t → s ≡ t
-
--- the fault of a store
-abbrev pub fault_of : Fault → StoreFault
-fault_of NoMemory = store.NoMemory
-fault_of Full = store.Full
-fault_of Damaged = store.Damaged
-fault_of Failed = store.Failed
 
 -- The disk returns what was written, and the rows of a name stand for one state at most.
 pub record IsHonest {S : Type 0} (g : Ghosts S) (store : Held S × Bool) : Type 0 where

@@ -1,7 +1,6 @@
 //! A store of tenants' states in the tables of a database.
 #![tactic(auto)]
 
-mod faults;
 mod judged;
 pub mod laws;
 mod reading;

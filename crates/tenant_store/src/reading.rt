@@ -20,7 +20,6 @@ ghost use Rattle.tenant_rows.specs.Lists.{IsOfState};
 ghost use Rattle.tenant_rows.specs.Rows.{StandsFor, row_of_receipt};
 ghost use Rattle.tenant_store.specs.Judged.{AreJudged};
 
-use crate::faults::fault_of;
 use crate::judged::{Judged, remember};
 use sqlite::Alter;
 use std::alloc::Global;
@@ -56,13 +55,9 @@ fn judge<S: Alter>(
     if judged.contains_key(name) {
         return Ok(());
     }
-    match judge_receipts(tables, tenant.id, tenant.epoch) {
-        Ok(()) => {
-            remember(alloc, judged, name, versions);
-            Ok(())
-        }
-        Err(fault) => Err(fault_of(fault)),
-    }
+    judge_receipts(tables, tenant.id, tenant.epoch)?;
+    remember(alloc, judged, name, versions);
+    Ok(())
 }
 
 /// Reads what `tenant` has, and judges its receipts, unless those of its name were judged.
@@ -83,13 +78,9 @@ fn load_tenant<S: Alter>(
     ensures latches { tables.new.1 ≡ is_failed result }
     ensures crash { Survives (state S.Store tables.old.0) (state S.Store tables.new.0) (λ _. ⊥) }
 {
-    match read_inventory(alloc, tables, tenant.id, tenant.epoch) {
-        Ok(inventory) => {
-            judge(alloc, tables, judged, name, tenant, inventory.newest())?;
-            Ok(inventory)
-        }
-        Err(fault) => Err(fault_of(fault)),
-    }
+    let inventory = read_inventory(alloc, tables, tenant.id, tenant.epoch)?;
+    judge(alloc, tables, judged, name, tenant, inventory.newest())?;
+    Ok(inventory)
 }
 
 /// Reads what the tenant with the name has, or `None` where there is none.
@@ -108,10 +99,9 @@ pub fn load<S: Alter>(
     ensures latches { tables.new.1 ≡ is_failed result }
     ensures crash { Survives (state S.Store tables.old.0) (state S.Store tables.new.0) (λ _. ⊥) }
 {
-    match tables.find(name) {
-        Ok(Some(tenant)) => Ok(Some(load_tenant(alloc, tables, judged, name, &tenant)?)),
-        Ok(None) => Ok(None),
-        Err(fault) => Err(fault_of(fault)),
+    match tables.find(name)? {
+        Some(tenant) => Ok(Some(load_tenant(alloc, tables, judged, name, &tenant)?)),
+        None => Ok(None),
     }
 }
 
@@ -148,10 +138,8 @@ fn receipt_of_tenant<S: Alter>(
     ensures latches { tables.new.1 ≡ is_failed result }
     ensures crash { Survives (state S.Store tables.old.0) (state S.Store tables.new.0) (λ _. ⊥) }
 {
-    match tables.receipt_of(tenant.id, number) {
-        Ok(row) => receipt_in(alloc, row),
-        Err(fault) => Err(fault_of(fault)),
-    }
+    let row = tables.receipt_of(tenant.id, number)?;
+    receipt_in(alloc, row)
 }
 
 /// Reads the row of the tenant with the name. `Err(StoreFault::Damaged)`: there is no tenant with
@@ -165,10 +153,9 @@ pub fn tenant_of<S: Alter>(tables: &mut Tables<S>, name: &str) -> Result<Tenant,
     ensures latches { tables.new.1 ≡ is_failed result }
     ensures crash { Survives (state S.Store tables.old.0) (state S.Store tables.new.0) (λ _. ⊥) }
 {
-    match tables.find(name) {
-        Ok(Some(tenant)) => Ok(tenant),
-        Ok(None) => Err(StoreFault::Damaged),
-        Err(fault) => Err(fault_of(fault)),
+    match tables.find(name)? {
+        Some(tenant) => Ok(tenant),
+        None => Err(StoreFault::Damaged),
     }
 }
 
@@ -212,8 +199,6 @@ pub fn count_versions<S: Alter>(
     if let Some(versions) = judged.get(name) {
         return Ok(*versions);
     }
-    match read_inventory(alloc, tables, tenant.id, tenant.epoch) {
-        Ok(inventory) => Ok(inventory.newest()),
-        Err(fault) => Err(fault_of(fault)),
-    }
+    let inventory = read_inventory(alloc, tables, tenant.id, tenant.epoch)?;
+    Ok(inventory.newest())
 }

@@ -12,7 +12,6 @@ ghost use Rattle.tenant_rows.specs.Rows.{StandsFor, StatesIn};
 ghost use Rattle.tenant_store.specs.Replaced.{Replaces};
 ghost use Rattle.tenant_store.specs.Shown.{IsHonest};
 
-use crate::faults::fault_of;
 use crate::judged::{Judged, forget};
 use crate::reading::{find_receipt, load};
 use crate::writing::{commit, remove};
@@ -90,7 +89,7 @@ impl<S: Alter + Drop> Store<S> {
                 tables,
                 judged: BTreeMap::new(alloc),
             }),
-            Err((fault, store)) => Err((fault_of(fault), store)),
+            Err(refused) => Err(refused),
         }
     }
 }
@@ -151,10 +150,7 @@ impl<S: Alter> TenantStore for Store<S> {
         // for the prover, which learns from a call what holds of its value
         let _live = self.tables.is_latched();
         forget(&mut self.judged, name);
-        match self.tables.create(name) {
-            Ok(()) => Ok(()),
-            Err(fault) => Err(fault_of(fault)),
-        }
+        self.tables.create(name)
     }
 
     fn commit(&mut self, name: &str, change: &Change) -> Result<(), StoreFault> {

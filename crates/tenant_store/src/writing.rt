@@ -10,7 +10,6 @@ ghost use Rattle.tenant_rows.specs.Changes.{Turns};
 ghost use Rattle.tenant_rows.specs.Rows.{StandsFor};
 ghost use Rattle.tenant_store.specs.Judged.{AreJudged};
 
-use crate::faults::fault_of;
 use crate::judged::{Judged, update};
 use crate::reading::{count_versions, tenant_of};
 use sqlite::Alter;
@@ -52,13 +51,9 @@ pub fn commit<S: Alter>(
 {
     let tenant = tenant_of(tables, name)?;
     let versions = count_versions(alloc, tables, judged, name, &tenant)?;
-    match write_change(alloc, tables, &tenant, versions, change) {
-        Ok(()) => {
-            update(judged, name, versions_after(versions, change));
-            Ok(())
-        }
-        Err(fault) => Err(fault_of(fault)),
-    }
+    write_change(alloc, tables, &tenant, versions, change)?;
+    update(judged, name, versions_after(versions, change));
+    Ok(())
 }
 
 /// Removes the tenant with the name, which has to be there, and everything that it has.
@@ -72,8 +67,5 @@ pub fn remove<S: Alter>(tables: &mut Tables<S>, name: &str) -> Result<(), StoreF
     ensures crash { Survives (state S.Store tables.old.0) (state S.Store tables.new.0) (Turns name.now None (state S.Store tables.old.0).now.trees) }
 {
     let tenant = tenant_of(tables, name)?;
-    match tables.remove(tenant.id) {
-        Ok(()) => Ok(()),
-        Err(fault) => Err(fault_of(fault)),
-    }
+    tables.remove(tenant.id)
 }

@@ -12,7 +12,7 @@ use crate::tables::Tables;
 use crate::write::Write;
 use sqlite::Alter;
 use std::alloc::{AllocError, Global};
-use table_schema::refuse::Fault;
+use store_faults::StoreFault;
 use table_schema::values::{Exception, Pool, Receipt, State};
 
 /// Returns the writes that set the states of devices, the epoch and the receipt.
@@ -77,15 +77,15 @@ fn exception_writes_for<'a>(
 impl<S: Alter> Tables<S> {
     /// Makes a tenant with epoch 0 and no other row, under a number that no tenant had before.
     ///
-    /// `Err(Fault::NoMemory)`, `Err(Fault::Full)`: nothing is changed. `Err(Fault::Failed)`: the
-    /// tables are latched.
-    pub fn create(&mut self, name: &str) -> Result<(), Fault>
+    /// `Err(StoreFault::NoMemory)`, `Err(StoreFault::Full)`: nothing is changed.
+    /// `Err(StoreFault::Failed)`: the tables are latched.
+    pub fn create(&mut self, name: &str) -> Result<(), StoreFault>
         requires live { self.old.1 ≡ false }
         requires absent { HasCleanDisk (state S.Store self.old.0) → IsAbsent (state S.Store self.old.0).now.trees name.now }
         ensures done { HasCleanDisk (state S.Store self.new.0) → OnOk result (Creates name.now (state S.Store self.old.0).now.trees (state S.Store self.new.0).now.trees) }
         ensures kept { HasCleanDisk (state S.Store self.new.0) → self.new.1 ≡ false → OnErr result ((state S.Store self.new.0).now ≡ (state S.Store self.old.0).now) }
-        ensures latches { self.new.1 ≡ true ↔ result ≡ Err Fault.Failed }
-        ensures rows { result ≢ Err Fault.Damaged }
+        ensures latches { self.new.1 ≡ true ↔ result ≡ Err StoreFault.Failed }
+        ensures rows { result ≢ Err StoreFault.Damaged }
         ensures crash { Survives (state S.Store self.old.0) (state S.Store self.new.0) (Creates name.now (state S.Store self.old.0).now.trees) }
     {
         self.write(&[Write::Create { name }])
@@ -93,15 +93,15 @@ impl<S: Alter> Tables<S> {
 
     /// Removes the tenant with the number, and with it each of its rows.
     ///
-    /// `Err(Fault::NoMemory)`, `Err(Fault::Full)`: nothing is changed. `Err(Fault::Failed)`: the
-    /// tables are latched.
-    pub fn remove(&mut self, id: i64) -> Result<(), Fault>
+    /// `Err(StoreFault::NoMemory)`, `Err(StoreFault::Full)`: nothing is changed.
+    /// `Err(StoreFault::Failed)`: the tables are latched.
+    pub fn remove(&mut self, id: i64) -> Result<(), StoreFault>
         requires live { self.old.1 ≡ false }
         requires there { HasCleanDisk (state S.Store self.old.0) → IsNumber (state S.Store self.old.0).now.trees id }
         ensures done { HasCleanDisk (state S.Store self.new.0) → OnOk result (Drops id (state S.Store self.old.0).now.trees (state S.Store self.new.0).now.trees) }
         ensures kept { HasCleanDisk (state S.Store self.new.0) → self.new.1 ≡ false → OnErr result ((state S.Store self.new.0).now ≡ (state S.Store self.old.0).now) }
-        ensures latches { self.new.1 ≡ true ↔ result ≡ Err Fault.Failed }
-        ensures rows { result ≢ Err Fault.Damaged }
+        ensures latches { self.new.1 ≡ true ↔ result ≡ Err StoreFault.Failed }
+        ensures rows { result ≢ Err StoreFault.Damaged }
         ensures crash { Survives (state S.Store self.old.0) (state S.Store self.new.0) (Drops id (state S.Store self.old.0).now.trees) }
     {
         self.write(&[Write::Remove { id }])
@@ -109,8 +109,8 @@ impl<S: Alter> Tables<S> {
 
     /// Adds a version of the map. `id` is the tenant's number, and `epoch` the new one.
     ///
-    /// `Err(Fault::NoMemory)`, `Err(Fault::Full)`: nothing is changed. `Err(Fault::Failed)`: the
-    /// tables are latched.
+    /// `Err(StoreFault::NoMemory)`, `Err(StoreFault::Full)`: nothing is changed.
+    /// `Err(StoreFault::Failed)`: the tables are latched.
     pub fn commit_version<'a>(
         &mut self,
         id: i64,
@@ -118,13 +118,13 @@ impl<S: Alter> Tables<S> {
         version: i64,
         text: &'a str,
         receipt: &Receipt<'a>,
-    ) -> Result<(), Fault>
+    ) -> Result<(), StoreFault>
         requires live { self.old.1 ≡ false }
         requires there { HasCleanDisk (state S.Store self.old.0) → IsNumber (state S.Store self.old.0).now.trees id }
         ensures done { HasCleanDisk (state S.Store self.new.0) → OnOk result (Accepts id epoch receipt.now (with_version version text.now) (state S.Store self.old.0).now.trees (state S.Store self.new.0).now.trees) }
         ensures kept { HasCleanDisk (state S.Store self.new.0) → self.new.1 ≡ false → OnErr result ((state S.Store self.new.0).now ≡ (state S.Store self.old.0).now) }
-        ensures latches { self.new.1 ≡ true ↔ result ≡ Err Fault.Failed }
-        ensures rows { result ≢ Err Fault.Damaged }
+        ensures latches { self.new.1 ≡ true ↔ result ≡ Err StoreFault.Failed }
+        ensures rows { result ≢ Err StoreFault.Damaged }
         ensures crash { Survives (state S.Store self.old.0) (state S.Store self.new.0) (Accepts id epoch receipt.now (with_version version text.now) (state S.Store self.old.0).now.trees) }
     {
         self.write(&[
@@ -140,21 +140,21 @@ impl<S: Alter> Tables<S> {
     /// Sets the states of devices, each in place of an earlier one. `id` is the tenant's number,
     /// and `epoch` the new one.
     ///
-    /// `Err(Fault::NoMemory)`, `Err(Fault::Full)`: nothing is changed. `Err(Fault::Failed)`: the
-    /// tables are latched.
+    /// `Err(StoreFault::NoMemory)`, `Err(StoreFault::Full)`: nothing is changed.
+    /// `Err(StoreFault::Failed)`: the tables are latched.
     pub fn commit_states<'a>(
         &mut self,
         id: i64,
         epoch: i64,
         states: &[State],
         receipt: &Receipt<'a>,
-    ) -> Result<(), Fault>
+    ) -> Result<(), StoreFault>
         requires live { self.old.1 ≡ false }
         requires there { HasCleanDisk (state S.Store self.old.0) → IsNumber (state S.Store self.old.0).now.trees id }
         ensures done { HasCleanDisk (state S.Store self.new.0) → OnOk result (Accepts id epoch receipt.now (with_states states.now) (state S.Store self.old.0).now.trees (state S.Store self.new.0).now.trees) }
         ensures kept { HasCleanDisk (state S.Store self.new.0) → self.new.1 ≡ false → OnErr result ((state S.Store self.new.0).now ≡ (state S.Store self.old.0).now) }
-        ensures latches { self.new.1 ≡ true ↔ result ≡ Err Fault.Failed }
-        ensures rows { result ≢ Err Fault.Damaged }
+        ensures latches { self.new.1 ≡ true ↔ result ≡ Err StoreFault.Failed }
+        ensures rows { result ≢ Err StoreFault.Damaged }
         ensures crash { Survives (state S.Store self.old.0) (state S.Store self.new.0) (Accepts id epoch receipt.now (with_states states.now) (state S.Store self.old.0).now.trees) }
     {
         let writes = writes_for(self.alloc, id, epoch, states, receipt)?;
@@ -163,21 +163,21 @@ impl<S: Alter> Tables<S> {
 
     /// Adds a pool. `id` is the tenant's number, and `epoch` the new one.
     ///
-    /// `Err(Fault::NoMemory)`, `Err(Fault::Full)`: nothing is changed. `Err(Fault::Failed)`: the
-    /// tables are latched.
+    /// `Err(StoreFault::NoMemory)`, `Err(StoreFault::Full)`: nothing is changed.
+    /// `Err(StoreFault::Failed)`: the tables are latched.
     pub fn commit_pool<'a>(
         &mut self,
         id: i64,
         epoch: i64,
         pool: &Pool<'a>,
         receipt: &Receipt<'a>,
-    ) -> Result<(), Fault>
+    ) -> Result<(), StoreFault>
         requires live { self.old.1 ≡ false }
         requires there { HasCleanDisk (state S.Store self.old.0) → IsNumber (state S.Store self.old.0).now.trees id }
         ensures done { HasCleanDisk (state S.Store self.new.0) → OnOk result (Accepts id epoch receipt.now (with_pool pool.now) (state S.Store self.old.0).now.trees (state S.Store self.new.0).now.trees) }
         ensures kept { HasCleanDisk (state S.Store self.new.0) → self.new.1 ≡ false → OnErr result ((state S.Store self.new.0).now ≡ (state S.Store self.old.0).now) }
-        ensures latches { self.new.1 ≡ true ↔ result ≡ Err Fault.Failed }
-        ensures rows { result ≢ Err Fault.Damaged }
+        ensures latches { self.new.1 ≡ true ↔ result ≡ Err StoreFault.Failed }
+        ensures rows { result ≢ Err StoreFault.Damaged }
         ensures crash { Survives (state S.Store self.old.0) (state S.Store self.new.0) (Accepts id epoch receipt.now (with_pool pool.now) (state S.Store self.old.0).now.trees) }
     {
         self.write(&[
@@ -194,8 +194,8 @@ impl<S: Alter> Tables<S> {
     /// tenant's number, and `epoch` the new one. `pool.pairs` is to be the number of the
     /// exceptions, each of which names the pool.
     ///
-    /// `Err(Fault::NoMemory)`, `Err(Fault::Full)`: nothing is changed. `Err(Fault::Failed)`: the
-    /// tables are latched.
+    /// `Err(StoreFault::NoMemory)`, `Err(StoreFault::Full)`: nothing is changed.
+    /// `Err(StoreFault::Failed)`: the tables are latched.
     pub fn commit_exceptions<'a>(
         &mut self,
         id: i64,
@@ -203,13 +203,13 @@ impl<S: Alter> Tables<S> {
         pool: &Pool<'a>,
         exceptions: &[Exception],
         receipt: &Receipt<'a>,
-    ) -> Result<(), Fault>
+    ) -> Result<(), StoreFault>
         requires live { self.old.1 ≡ false }
         requires there { HasCleanDisk (state S.Store self.old.0) → IsNumber (state S.Store self.old.0).now.trees id }
         ensures done { HasCleanDisk (state S.Store self.new.0) → OnOk result (Accepts id epoch receipt.now (with_exceptions pool.now exceptions.now) (state S.Store self.old.0).now.trees (state S.Store self.new.0).now.trees) }
         ensures kept { HasCleanDisk (state S.Store self.new.0) → self.new.1 ≡ false → OnErr result ((state S.Store self.new.0).now ≡ (state S.Store self.old.0).now) }
-        ensures latches { self.new.1 ≡ true ↔ result ≡ Err Fault.Failed }
-        ensures rows { result ≢ Err Fault.Damaged }
+        ensures latches { self.new.1 ≡ true ↔ result ≡ Err StoreFault.Failed }
+        ensures rows { result ≢ Err StoreFault.Damaged }
         ensures crash { Survives (state S.Store self.old.0) (state S.Store self.new.0) (Accepts id epoch receipt.now (with_exceptions pool.now exceptions.now) (state S.Store self.old.0).now.trees) }
     {
         let writes = exception_writes_for(self.alloc, id, epoch, pool, exceptions, receipt)?;
@@ -219,21 +219,21 @@ impl<S: Alter> Tables<S> {
     /// Removes the pool with the id, and its exceptions. `id` is the tenant's number, and `epoch`
     /// the new one.
     ///
-    /// `Err(Fault::NoMemory)`, `Err(Fault::Full)`: nothing is changed. `Err(Fault::Failed)`: the
-    /// tables are latched.
+    /// `Err(StoreFault::NoMemory)`, `Err(StoreFault::Full)`: nothing is changed.
+    /// `Err(StoreFault::Failed)`: the tables are latched.
     pub fn commit_no_pool<'a>(
         &mut self,
         id: i64,
         epoch: i64,
         pool: i64,
         receipt: &Receipt<'a>,
-    ) -> Result<(), Fault>
+    ) -> Result<(), StoreFault>
         requires live { self.old.1 ≡ false }
         requires there { HasCleanDisk (state S.Store self.old.0) → IsNumber (state S.Store self.old.0).now.trees id }
         ensures done { HasCleanDisk (state S.Store self.new.0) → OnOk result (Accepts id epoch receipt.now (without_pool pool) (state S.Store self.old.0).now.trees (state S.Store self.new.0).now.trees) }
         ensures kept { HasCleanDisk (state S.Store self.new.0) → self.new.1 ≡ false → OnErr result ((state S.Store self.new.0).now ≡ (state S.Store self.old.0).now) }
-        ensures latches { self.new.1 ≡ true ↔ result ≡ Err Fault.Failed }
-        ensures rows { result ≢ Err Fault.Damaged }
+        ensures latches { self.new.1 ≡ true ↔ result ≡ Err StoreFault.Failed }
+        ensures rows { result ≢ Err StoreFault.Damaged }
         ensures crash { Survives (state S.Store self.old.0) (state S.Store self.new.0) (Accepts id epoch receipt.now (without_pool pool) (state S.Store self.old.0).now.trees) }
     {
         self.write(&[

@@ -17,7 +17,8 @@ use sqlite::{Alter, Connection, Error, Row};
 use std::alloc::AllocError;
 use table_reads::rows::int_at;
 use table_schema::first::is_first;
-use table_schema::refuse::{Fault, fault_of, refusal};
+use store_faults::StoreFault;
+use table_schema::refuse::{fault_of, refusal};
 use table_schema::schema::layout_of;
 
 /// Returns whether the database has no table, index or view.
@@ -31,14 +32,14 @@ fn is_empty<S: Alter>(conn: &Connection<S>) -> bool
 
 /// Makes the tables in a database that has none, all of them or none.
 ///
-/// `Err(Fault::NoMemory)`, `Err(Fault::Full)`: nothing is changed.
-fn make<S: Alter>(conn: &mut Connection<S>) -> Result<(), Fault>
+/// `Err(StoreFault::NoMemory)`, `Err(StoreFault::Full)`: nothing is changed.
+fn make<S: Alter>(conn: &mut Connection<S>) -> Result<(), StoreFault>
     requires autocommit { conn.old.in_transaction ≡ false }
     requires settled { HasCleanDisk (state S.Store conn.old) → (state S.Store conn.old).now ≡ (state S.Store conn.old).committed }
     requires none { (state S.Store conn.old).now.schema ≡ no_schema }
     ensures done { HasCleanDisk (state S.Store conn.new) → OnOk result ((db : _) × IsBare db × Commits (state S.Store conn.old) (state S.Store conn.new) db) }
-    ensures refused { HasCleanDisk (state S.Store conn.new) → result ≢ Err Fault.Failed → OnErr result (Stays (state S.Store conn.old) (state S.Store conn.new)) }
-    ensures rows { result ≢ Err Fault.Damaged }
+    ensures refused { HasCleanDisk (state S.Store conn.new) → result ≢ Err StoreFault.Failed → OnErr result (Stays (state S.Store conn.old) (state S.Store conn.new)) }
+    ensures rows { result ≢ Err StoreFault.Damaged }
     ensures crash { Survives (state S.Store conn.old) (state S.Store conn.new) (λ trees. (db : _) × IsBare db × (trees ≡ db.trees)) }
     ensures ended { conn.new.in_transaction ≡ false }
 {
@@ -112,15 +113,15 @@ fn versions<S: Alter>(conn: &mut Connection<S>) -> Result<Vec<Row>, Error>
 
 /// Tests that the tables are of the version `version`.
 ///
-/// `Err(Fault::Damaged)`: they are of another version. Nothing is changed.
-fn adopt<S: Alter>(conn: &mut Connection<S>, version: i64) -> Result<(), Fault>
+/// `Err(StoreFault::Damaged)`: they are of another version. Nothing is changed.
+fn adopt<S: Alter>(conn: &mut Connection<S>, version: i64) -> Result<(), StoreFault>
     requires autocommit { conn.old.in_transaction ≡ false }
     requires settled { HasCleanDisk (state S.Store conn.old) → (state S.Store conn.old).now ≡ (state S.Store conn.old).committed }
     requires sound { HasCleanDisk (state S.Store conn.old) → IsDatabase (state S.Store conn.old).now }
     requires known { IsKnown (state S.Store conn.old).now.schema }
     ensures version { HasCleanDisk (state S.Store conn.new) → OnOk result (SaysVersion version (state S.Store conn.old).now.trees) }
-    ensures damaged { HasCleanDisk (state S.Store conn.new) → result ≡ Err Fault.Damaged → ¬ SaysVersion version (state S.Store conn.old).now.trees }
-    ensures same { HasCleanDisk (state S.Store conn.new) → result ≢ Err Fault.Failed → Stays (state S.Store conn.old) (state S.Store conn.new) }
+    ensures damaged { HasCleanDisk (state S.Store conn.new) → result ≡ Err StoreFault.Damaged → ¬ SaysVersion version (state S.Store conn.old).now.trees }
+    ensures same { HasCleanDisk (state S.Store conn.new) → result ≢ Err StoreFault.Failed → Stays (state S.Store conn.old) (state S.Store conn.new) }
     ensures survives { Survives (state S.Store conn.old) (state S.Store conn.new) (λ _. ⊥) }
     ensures ended { conn.new.in_transaction ≡ false }
 {
@@ -131,22 +132,22 @@ fn adopt<S: Alter>(conn: &mut Connection<S>, version: i64) -> Result<(), Fault>
     if is_version(&rows, version)? {
         Ok(())
     } else {
-        Err(Fault::Damaged)
+        Err(StoreFault::Damaged)
     }
 }
 
 /// Puts the tables of schema 2 in the place of those of schema 1, all of them or none.
 ///
-/// `Err(Fault::NoMemory)`, `Err(Fault::Full)`: nothing is changed.
-fn replace<S: Alter>(conn: &mut Connection<S>) -> Result<(), Fault>
+/// `Err(StoreFault::NoMemory)`, `Err(StoreFault::Full)`: nothing is changed.
+fn replace<S: Alter>(conn: &mut Connection<S>) -> Result<(), StoreFault>
     requires autocommit { conn.old.in_transaction ≡ false }
     requires settled { HasCleanDisk (state S.Store conn.old) → (state S.Store conn.old).now ≡ (state S.Store conn.old).committed }
     requires sound { HasCleanDisk (state S.Store conn.old) → IsDatabase (state S.Store conn.old).now }
     requires first { HasCleanDisk (state S.Store conn.old) → (state S.Store conn.old).now.schema ≡ first_schema }
     requires version { HasCleanDisk (state S.Store conn.old) → HasVersion 1 (state S.Store conn.old).now.trees }
     ensures done { HasCleanDisk (state S.Store conn.new) → OnOk result ((db : _) × IsMigrated (state S.Store conn.old).now db × Commits (state S.Store conn.old) (state S.Store conn.new) db) }
-    ensures refused { HasCleanDisk (state S.Store conn.new) → result ≢ Err Fault.Failed → OnErr result (Stays (state S.Store conn.old) (state S.Store conn.new)) }
-    ensures rows { result ≢ Err Fault.Damaged }
+    ensures refused { HasCleanDisk (state S.Store conn.new) → result ≢ Err StoreFault.Failed → OnErr result (Stays (state S.Store conn.old) (state S.Store conn.new)) }
+    ensures rows { result ≢ Err StoreFault.Damaged }
     ensures crash { Survives (state S.Store conn.old) (state S.Store conn.new) (λ trees. (db : _) × IsMigrated (state S.Store conn.old).now db × (trees ≡ db.trees)) }
     ensures ended { conn.new.in_transaction ≡ false }
 {
@@ -174,17 +175,17 @@ fn replace<S: Alter>(conn: &mut Connection<S>) -> Result<(), Fault>
 
 /// Tests that the tables are of version 1, and replaces them.
 ///
-/// `Err(Fault::Damaged)`: they are of another version. Nothing is changed.
-/// `Err(Fault::NoMemory)`, `Err(Fault::Full)`: nothing is changed.
-fn migrate<S: Alter>(conn: &mut Connection<S>) -> Result<(), Fault>
+/// `Err(StoreFault::Damaged)`: they are of another version. Nothing is changed.
+/// `Err(StoreFault::NoMemory)`, `Err(StoreFault::Full)`: nothing is changed.
+fn migrate<S: Alter>(conn: &mut Connection<S>) -> Result<(), StoreFault>
     requires autocommit { conn.old.in_transaction ≡ false }
     requires open { HasCleanDisk (state S.Store conn.old) → IsTrue (state S.Store conn.old).is_open }
     requires settled { HasCleanDisk (state S.Store conn.old) → (state S.Store conn.old).now ≡ (state S.Store conn.old).committed }
     requires sound { HasCleanDisk (state S.Store conn.old) → IsDatabase (state S.Store conn.old).now }
     requires first { (state S.Store conn.old).now.schema ≡ first_schema }
     ensures done { HasCleanDisk (state S.Store conn.new) → OnOk result ((db : _) × IsMigrated (state S.Store conn.old).now db × Commits (state S.Store conn.old) (state S.Store conn.new) db) }
-    ensures damaged { HasCleanDisk (state S.Store conn.new) → result ≡ Err Fault.Damaged → ¬ HasVersion 1 (state S.Store conn.old).now.trees }
-    ensures refused { HasCleanDisk (state S.Store conn.new) → result ≢ Err Fault.Failed → OnErr result (Stays (state S.Store conn.old) (state S.Store conn.new)) }
+    ensures damaged { HasCleanDisk (state S.Store conn.new) → result ≡ Err StoreFault.Damaged → ¬ HasVersion 1 (state S.Store conn.old).now.trees }
+    ensures refused { HasCleanDisk (state S.Store conn.new) → result ≢ Err StoreFault.Failed → OnErr result (Stays (state S.Store conn.old) (state S.Store conn.new)) }
     ensures crash { Survives (state S.Store conn.old) (state S.Store conn.new) (λ trees. (db : _) × IsMigrated (state S.Store conn.old).now db × (trees ≡ db.trees)) }
     ensures ended { conn.new.in_transaction ≡ false }
 {
@@ -195,9 +196,9 @@ fn migrate<S: Alter>(conn: &mut Connection<S>) -> Result<(), Fault>
 /// Makes the tables in a database that has none, replaces those of schema 1, and else tests that
 /// they are schema 2.
 ///
-/// `Err(Fault::Damaged)`: they are another's, or of another version. Nothing is changed.
-/// `Err(Fault::NoMemory)`, `Err(Fault::Full)`: nothing is changed.
-pub fn set_up<S: Alter>(conn: &mut Connection<S>) -> Result<(), Fault>
+/// `Err(StoreFault::Damaged)`: they are another's, or of another version. Nothing is changed.
+/// `Err(StoreFault::NoMemory)`, `Err(StoreFault::Full)`: nothing is changed.
+pub fn set_up<S: Alter>(conn: &mut Connection<S>) -> Result<(), StoreFault>
     requires autocommit { conn.old.in_transaction ≡ false }
     requires open { HasCleanDisk (state S.Store conn.old) → IsTrue (state S.Store conn.old).is_open }
     requires settled { HasCleanDisk (state S.Store conn.old) → (state S.Store conn.old).now ≡ (state S.Store conn.old).committed }
@@ -205,8 +206,8 @@ pub fn set_up<S: Alter>(conn: &mut Connection<S>) -> Result<(), Fault>
     ensures adopted { HasCleanDisk (state S.Store conn.new) → IsStoreSchema (state S.Store conn.old).now.schema → OnOk result (Stays (state S.Store conn.old) (state S.Store conn.new) × HasVersion 2 (state S.Store conn.old).now.trees) }
     ensures migrated { HasCleanDisk (state S.Store conn.new) → (state S.Store conn.old).now.schema ≡ first_schema → OnOk result ((db : _) × IsMigrated (state S.Store conn.old).now db × Commits (state S.Store conn.old) (state S.Store conn.new) db) }
     ensures known { OnOk result (((state S.Store conn.old).now.schema ≡ no_schema) ⊎ IsKnown (state S.Store conn.old).now.schema) }
-    ensures damaged { HasCleanDisk (state S.Store conn.new) → result ≡ Err Fault.Damaged → IsStrange (state S.Store conn.old).now }
-    ensures refused { HasCleanDisk (state S.Store conn.new) → result ≢ Err Fault.Failed → OnErr result (Stays (state S.Store conn.old) (state S.Store conn.new)) }
+    ensures damaged { HasCleanDisk (state S.Store conn.new) → result ≡ Err StoreFault.Damaged → IsStrange (state S.Store conn.old).now }
+    ensures refused { HasCleanDisk (state S.Store conn.new) → result ≢ Err StoreFault.Failed → OnErr result (Stays (state S.Store conn.old) (state S.Store conn.new)) }
     ensures crash { Survives (state S.Store conn.old) (state S.Store conn.new) (SetsUp (state S.Store conn.old).now) }
     ensures ended { conn.new.in_transaction ≡ false }
 {
@@ -217,22 +218,22 @@ pub fn set_up<S: Alter>(conn: &mut Connection<S>) -> Result<(), Fault>
     } else if is_first(conn.schema()) {
         migrate(conn)
     } else {
-        Err(Fault::Damaged)
+        Err(StoreFault::Damaged)
     }
 }
 
 /// Prepares the statement that `refusal` prepares, so that it takes no memory then.
-pub fn get_ready<S: Alter>(conn: &mut Connection<S>) -> Result<(), Fault>
+pub fn get_ready<S: Alter>(conn: &mut Connection<S>) -> Result<(), StoreFault>
     ensures ok { HasCleanDisk (state S.Store conn.new) → OnOk result (IsUnchanged (state S.Store conn.old) (state S.Store conn.new)) }
-    ensures err { IfErr result (λ fault. (fault ≡ Fault.NoMemory) ⊎ (fault ≡ Fault.Failed)) }
+    ensures err { IfErr result (λ fault. (fault ≡ StoreFault.NoMemory) ⊎ (fault ≡ StoreFault.Failed)) }
     ensures survives { Survives (state S.Store conn.old) (state S.Store conn.new) (λ _. ⊥) }
     ensures ended { conn.old.in_transaction ≡ false → conn.new.in_transaction ≡ false }
 {
     match conn.prepare("SELECT 1") {
         Ok(_) => Ok(()),
         Err(error) => match fault_of(error) {
-            Fault::NoMemory => Err(Fault::NoMemory),
-            _ => Err(Fault::Failed),
+            StoreFault::NoMemory => Err(StoreFault::NoMemory),
+            _ => Err(StoreFault::Failed),
         },
     }
 }

@@ -13,7 +13,8 @@ ghost use Rattle.table_schema.specs.Ready.{IsReady};
 use sqlite::{Alter, Connection};
 use sqlite_trees::store::Shape;
 use std::alloc::Global;
-use table_schema::refuse::{Fault, fault_of};
+use store_faults::StoreFault;
+use table_schema::refuse::fault_of;
 use table_schema::schema::{Layout, is_laid_out, layout_of};
 
 /// Returns whether the store isn't broken, and the trees of the tables in `layout` hold rows by
@@ -33,38 +34,38 @@ fn are_rows<S: Alter>(store: &S, layout: Layout) -> bool
 
 /// Opens a connection again, with this service's tables as they were committed.
 ///
-/// `Err((Fault::NoMemory, store))`, `Err((Fault::Failed, store))`: no row is changed.
+/// `Err((StoreFault::NoMemory, store))`, `Err((StoreFault::Failed, store))`: no row is changed.
 pub fn reopen<S: Alter + Drop>(
     alloc: Global,
     conn: Connection<S>,
-) -> Result<Connection<S>, (Fault, S)>
+) -> Result<Connection<S>, (StoreFault, S)>
     ensures ready { IfOk result (λ c. HasCleanDisk (state S.Store c) → IsReady (state S.Store c)) }
     ensures same { IfOk result (λ c. HasCleanDisk (state S.Store c) → (state S.Store c).now.trees ≡ (state S.Store conn).committed.trees) }
     ensures left { IfOk result (λ c. HasCleanDisk (state S.Store c) → (state S.Store conn).may_leave (state S.Store c).now.trees) }
     ensures clean { IfOk result (λ c. HasCleanDisk (state S.Store c) → HasCleanDisk (state S.Store conn)) }
     ensures ended { IfOk result (λ c. c.in_transaction ≡ false) }
-    ensures faults { IfErr result (λ e. (e.0 ≡ Fault.NoMemory) ⊎ (e.0 ≡ Fault.Failed)) }
+    ensures faults { IfErr result (λ e. (e.0 ≡ StoreFault.NoMemory) ⊎ (e.0 ≡ StoreFault.Failed)) }
     ensures crash { IfErr result (λ e. IsClean (S.Store.view e.1) → (db : _) → S.Store.recovers e.1 db → (state S.Store conn).may_leave db) }
     ensures was_clean { IfErr result (λ e. IsClean (S.Store.view e.1) → HasCleanDisk (state S.Store conn)) }
 {
     let Some(layout) = layout_of(conn.schema()) else {
-        return Err((Fault::Failed, conn.into_store()));
+        return Err((StoreFault::Failed, conn.into_store()));
     };
     let store = conn.into_store();
     if !are_rows(&store, layout) {
-        return Err((Fault::Failed, store));
+        return Err((StoreFault::Failed, store));
     }
     match Connection::over(alloc, store) {
         Ok(conn) => {
             if is_laid_out(conn.schema(), layout) {
                 Ok(conn)
             } else {
-                Err((Fault::Failed, conn.into_store()))
+                Err((StoreFault::Failed, conn.into_store()))
             }
         }
         Err((error, store)) => match fault_of(error) {
-            Fault::NoMemory => Err((Fault::NoMemory, store)),
-            _ => Err((Fault::Failed, store)),
+            StoreFault::NoMemory => Err((StoreFault::NoMemory, store)),
+            _ => Err((StoreFault::Failed, store)),
         },
     }
 }

@@ -25,7 +25,7 @@ use table_reads::find::{Tenant, find};
 use table_reads::lists::{devices_of, pools_of, receipt_of, versions_of};
 use table_reads::pages::{first_receipts, receipts_after};
 use table_reads::rows::{PoolRow, ReceiptRow, VersionRow};
-use table_schema::refuse::Fault;
+use store_faults::StoreFault;
 use table_schema::values::{Exception, State};
 
 /// The tables of a connection. Contracts see the connection, and whether a failure has latched the
@@ -53,13 +53,13 @@ impl<S: Alter> Model for Tables<S> {
     ghost invariant = { λ s. (s.conn.in_transaction ≡ false) × (s.is_latched ≡ false → HasCleanDisk (state S.Store s.conn) → IsReady (state S.Store s.conn)) };
 }
 
-/// Latches the tables where `answer` is `Err(Fault::Failed)`, and only there, and returns `answer`.
-/// Where memory or the disk was full, a later call may succeed.
-fn latched<T>(is_latched: &mut bool, answer: Result<T, Fault>) -> Result<T, Fault>
-    ensures latch { is_latched.new ≡ true ↔ answer ≡ Err Fault.Failed }
+/// Latches the tables where `answer` is `Err(StoreFault::Failed)`, and only there, and returns
+/// `answer`. Where memory or the disk was full, a later call may succeed.
+fn latched<T>(is_latched: &mut bool, answer: Result<T, StoreFault>) -> Result<T, StoreFault>
+    ensures latch { is_latched.new ≡ true ↔ answer ≡ Err StoreFault.Failed }
     ensures same { result ≡ answer }
 {
-    *is_latched = matches!(answer, Err(Fault::Failed));
+    *is_latched = matches!(answer, Err(StoreFault::Failed));
     answer
 }
 
@@ -69,11 +69,11 @@ impl<S: Alter + Drop> Tables<S> {
     /// stored by rowid. So what the other calls rest on holds of each file that is opened, and no
     /// caller has to know where the file came from.
     ///
-    /// `Err((Fault::Damaged, store))`: the tables are another's, or of another version. Nothing is
-    /// changed. `Err((Fault::NoMemory, store))`, `Err((Fault::Full, store))`,
-    /// `Err((Fault::Failed, store))`: the tables may have been made, or those of schema 1 replaced,
-    /// and no row of a tenant is lost.
-    pub fn open(alloc: Global, conn: Connection<S>) -> Result<Tables<S>, (Fault, S)>
+    /// `Err((StoreFault::Damaged, store))`: the tables are another's, or of another version.
+    /// Nothing is changed. `Err((StoreFault::NoMemory, store))`, `Err((StoreFault::Full, store))`,
+    /// `Err((StoreFault::Failed, store))`: the tables may have been made, or those of schema 1
+    /// replaced, and no row of a tenant is lost.
+    pub fn open(alloc: Global, conn: Connection<S>) -> Result<Tables<S>, (StoreFault, S)>
         requires autocommit { conn.in_transaction ≡ false }
         requires open { HasCleanDisk (state S.Store conn) → IsTrue (state S.Store conn).is_open }
         requires settled { HasCleanDisk (state S.Store conn) → (state S.Store conn).now ≡ (state S.Store conn).committed }
@@ -85,7 +85,7 @@ impl<S: Alter + Drop> Tables<S> {
             → ((state S.Store tables.0).now.trees ≡ (state S.Store conn).now.trees) × HasVersion 2 (state S.Store conn).now.trees) }
         ensures migrated { IfOk result (λ tables. HasCleanDisk (state S.Store tables.0) → (state S.Store conn).now.schema ≡ first_schema → IsMigrated (state S.Store conn).now (state S.Store tables.0).now) }
         ensures alone { IfOk result (λ tables. HasCleanDisk (state S.Store tables.0) → (db : _) → (state S.Store tables.0).may_leave db → db ≡ (state S.Store tables.0).now.trees) }
-        ensures damaged { IfErr result (λ e. IsClean (S.Store.view e.1) → e.0 ≡ Fault.Damaged → IsStrange (state S.Store conn).now) }
+        ensures damaged { IfErr result (λ e. IsClean (S.Store.view e.1) → e.0 ≡ StoreFault.Damaged → IsStrange (state S.Store conn).now) }
         ensures crash { IfErr result (λ e. IsClean (S.Store.view e.1) → (trees : _) → S.Store.recovers e.1 trees → (state S.Store conn).may_leave trees ⊎ SetsUp (state S.Store conn).now trees) }
     {
         let mut conn = conn;
@@ -132,16 +132,16 @@ impl<S: Alter> Tables<S> {
     /// Runs the writes in one transaction, all of them or none. The writes have to leave this
     /// service's tables sound.
     ///
-    /// `Err(Fault::NoMemory)`, `Err(Fault::Full)`: nothing is changed. `Err(Fault::Failed)`: the
-    /// tables are latched.
-    pub(crate) fn write(&mut self, writes: &[Write<'_>]) -> Result<(), Fault>
+    /// `Err(StoreFault::NoMemory)`, `Err(StoreFault::Full)`: nothing is changed.
+    /// `Err(StoreFault::Failed)`: the tables are latched.
+    pub(crate) fn write(&mut self, writes: &[Write<'_>]) -> Result<(), StoreFault>
         requires live { self.old.1 ≡ false }
         requires sound { HasCleanDisk (state S.Store self.old.0) → IsReady (state S.Store self.old.0) → (db : Database) → Makes S.Store writes.now self.old.0 db → AreSound db }
         ensures ready { HasCleanDisk (state S.Store self.old.0) → IsReady (state S.Store self.old.0) }
         ensures done { HasCleanDisk (state S.Store self.new.0) → OnOk result ((db : Database) × Makes S.Store writes.now self.old.0 db × Commits (state S.Store self.old.0) (state S.Store self.new.0) db) }
         ensures kept { HasCleanDisk (state S.Store self.new.0) → self.new.1 ≡ false → OnErr result ((state S.Store self.new.0).now ≡ (state S.Store self.old.0).now) }
-        ensures latches { self.new.1 ≡ true ↔ result ≡ Err Fault.Failed }
-        ensures rows { result ≢ Err Fault.Damaged }
+        ensures latches { self.new.1 ≡ true ↔ result ≡ Err StoreFault.Failed }
+        ensures rows { result ≢ Err StoreFault.Damaged }
         ensures crash { Survives (state S.Store self.old.0) (state S.Store self.new.0) (λ trees. (db : Database) × Makes S.Store writes.now self.old.0 db × (trees ≡ db.trees)) }
     {
         latched(&mut self.is_latched, write_all(&mut self.conn, writes))
@@ -149,15 +149,15 @@ impl<S: Alter> Tables<S> {
 
     /// Reads the tenant with the name, or `None` where there is none.
     ///
-    /// No row is changed. `Err(Fault::Damaged)`: there are several, or the row is none that this
-    /// service writes. `Err(Fault::Failed)`: the tables are latched.
-    pub fn find(&mut self, name: &str) -> Result<Option<Tenant>, Fault>
+    /// No row is changed. `Err(StoreFault::Damaged)`: there are several, or the row is none that
+    /// this service writes. `Err(StoreFault::Failed)`: the tables are latched.
+    pub fn find(&mut self, name: &str) -> Result<Option<Tenant>, StoreFault>
         requires live { self.old.1 ≡ false }
         ensures found { HasCleanDisk (state S.Store self.new.0) → IfOk result (Names (state S.Store self.old.0).now.trees name.now) }
-        ensures damaged { HasCleanDisk (state S.Store self.new.0) → result ≡ Err Fault.Damaged → (tenant : _) → ¬ Names (state S.Store self.old.0).now.trees name.now tenant }
-        ensures full { result ≢ Err Fault.Full }
+        ensures damaged { HasCleanDisk (state S.Store self.new.0) → result ≡ Err StoreFault.Damaged → (tenant : _) → ¬ Names (state S.Store self.old.0).now.trees name.now tenant }
+        ensures full { result ≢ Err StoreFault.Full }
         ensures kept { HasCleanDisk (state S.Store self.new.0) → self.new.1 ≡ false → (state S.Store self.new.0).now ≡ (state S.Store self.old.0).now }
-        ensures latches { self.new.1 ≡ true ↔ result ≡ Err Fault.Failed }
+        ensures latches { self.new.1 ≡ true ↔ result ≡ Err StoreFault.Failed }
         ensures crash { Survives (state S.Store self.old.0) (state S.Store self.new.0) (λ _. ⊥) }
     {
         latched(&mut self.is_latched, find(&mut self.conn, name))
@@ -165,15 +165,15 @@ impl<S: Alter> Tables<S> {
 
     /// Reads the versions of the map of the tenant with the number `id`, which rise strictly.
     ///
-    /// No row is changed. `Err(Fault::Damaged)`: a version occurs twice, or a row is none that this
-    /// service writes. `Err(Fault::Failed)`: the tables are latched.
-    pub fn versions_of(&mut self, id: i64) -> Result<Vec<VersionRow>, Fault>
+    /// No row is changed. `Err(StoreFault::Damaged)`: a version occurs twice, or a row is none that
+    /// this service writes. `Err(StoreFault::Failed)`: the tables are latched.
+    pub fn versions_of(&mut self, id: i64) -> Result<Vec<VersionRow>, StoreFault>
         requires live { self.old.1 ≡ false }
         ensures found { HasCleanDisk (state S.Store self.new.0) → IfOk result (λ versions. Lists (of_tenant maps_table id (state S.Store self.old.0).now.trees) (map version_values versions.items)) }
-        ensures damaged { HasCleanDisk (state S.Store self.new.0) → result ≡ Err Fault.Damaged → (list : _) → AllByRecursion IsVersionRow list → ¬ Lists (of_tenant maps_table id (state S.Store self.old.0).now.trees) list }
-        ensures full { result ≢ Err Fault.Full }
+        ensures damaged { HasCleanDisk (state S.Store self.new.0) → result ≡ Err StoreFault.Damaged → (list : _) → AllByRecursion IsVersionRow list → ¬ Lists (of_tenant maps_table id (state S.Store self.old.0).now.trees) list }
+        ensures full { result ≢ Err StoreFault.Full }
         ensures kept { HasCleanDisk (state S.Store self.new.0) → self.new.1 ≡ false → (state S.Store self.new.0).now ≡ (state S.Store self.old.0).now }
-        ensures latches { self.new.1 ≡ true ↔ result ≡ Err Fault.Failed }
+        ensures latches { self.new.1 ≡ true ↔ result ≡ Err StoreFault.Failed }
         ensures crash { Survives (state S.Store self.old.0) (state S.Store self.new.0) (λ _. ⊥) }
     {
         latched(
@@ -185,15 +185,15 @@ impl<S: Alter> Tables<S> {
     /// Reads the states of devices of the tenant with the number `id`, by the devices, which rise
     /// strictly.
     ///
-    /// No row is changed. `Err(Fault::Damaged)`: a device occurs twice, or a row is none that this
-    /// service writes. `Err(Fault::Failed)`: the tables are latched.
-    pub fn devices_of(&mut self, id: i64) -> Result<Vec<State>, Fault>
+    /// No row is changed. `Err(StoreFault::Damaged)`: a device occurs twice, or a row is none that
+    /// this service writes. `Err(StoreFault::Failed)`: the tables are latched.
+    pub fn devices_of(&mut self, id: i64) -> Result<Vec<State>, StoreFault>
         requires live { self.old.1 ≡ false }
         ensures found { HasCleanDisk (state S.Store self.new.0) → IfOk result (λ states. Lists (of_tenant devices_table id (state S.Store self.old.0).now.trees) (map state_row states.items)) }
-        ensures damaged { HasCleanDisk (state S.Store self.new.0) → result ≡ Err Fault.Damaged → (list : _) → AllByRecursion IsStateRow list → ¬ Lists (of_tenant devices_table id (state S.Store self.old.0).now.trees) list }
-        ensures full { result ≢ Err Fault.Full }
+        ensures damaged { HasCleanDisk (state S.Store self.new.0) → result ≡ Err StoreFault.Damaged → (list : _) → AllByRecursion IsStateRow list → ¬ Lists (of_tenant devices_table id (state S.Store self.old.0).now.trees) list }
+        ensures full { result ≢ Err StoreFault.Full }
         ensures kept { HasCleanDisk (state S.Store self.new.0) → self.new.1 ≡ false → (state S.Store self.new.0).now ≡ (state S.Store self.old.0).now }
-        ensures latches { self.new.1 ≡ true ↔ result ≡ Err Fault.Failed }
+        ensures latches { self.new.1 ≡ true ↔ result ≡ Err StoreFault.Failed }
         ensures crash { Survives (state S.Store self.old.0) (state S.Store self.new.0) (λ _. ⊥) }
     {
         latched(
@@ -204,15 +204,15 @@ impl<S: Alter> Tables<S> {
 
     /// Reads the pools of the tenant with the number `id`, by their ids, which rise strictly.
     ///
-    /// No row is changed. `Err(Fault::Damaged)`: an id occurs twice, or a row is none that this
-    /// service writes. `Err(Fault::Failed)`: the tables are latched.
-    pub fn pools_of(&mut self, id: i64) -> Result<Vec<PoolRow>, Fault>
+    /// No row is changed. `Err(StoreFault::Damaged)`: an id occurs twice, or a row is none that
+    /// this service writes. `Err(StoreFault::Failed)`: the tables are latched.
+    pub fn pools_of(&mut self, id: i64) -> Result<Vec<PoolRow>, StoreFault>
         requires live { self.old.1 ≡ false }
         ensures found { HasCleanDisk (state S.Store self.new.0) → IfOk result (λ pools. Lists (of_tenant pools_table id (state S.Store self.old.0).now.trees) (map pool_values pools.items)) }
-        ensures damaged { HasCleanDisk (state S.Store self.new.0) → result ≡ Err Fault.Damaged → (list : _) → AllByRecursion IsPoolRow list → ¬ Lists (of_tenant pools_table id (state S.Store self.old.0).now.trees) list }
-        ensures full { result ≢ Err Fault.Full }
+        ensures damaged { HasCleanDisk (state S.Store self.new.0) → result ≡ Err StoreFault.Damaged → (list : _) → AllByRecursion IsPoolRow list → ¬ Lists (of_tenant pools_table id (state S.Store self.old.0).now.trees) list }
+        ensures full { result ≢ Err StoreFault.Full }
         ensures kept { HasCleanDisk (state S.Store self.new.0) → self.new.1 ≡ false → (state S.Store self.new.0).now ≡ (state S.Store self.old.0).now }
-        ensures latches { self.new.1 ≡ true ↔ result ≡ Err Fault.Failed }
+        ensures latches { self.new.1 ≡ true ↔ result ≡ Err StoreFault.Failed }
         ensures crash { Survives (state S.Store self.old.0) (state S.Store self.new.0) (λ _. ⊥) }
     {
         latched(
@@ -224,15 +224,15 @@ impl<S: Alter> Tables<S> {
     /// Reads the exceptions of the pools of the tenant with the number `id`, by pool and place. No
     /// place of a pool occurs twice.
     ///
-    /// No row is changed. `Err(Fault::Damaged)`: a place of a pool occurs twice, or a row is none
-    /// that this service writes. `Err(Fault::Failed)`: the tables are latched.
-    pub fn exceptions_of(&mut self, id: i64) -> Result<Vec<Exception>, Fault>
+    /// No row is changed. `Err(StoreFault::Damaged)`: a place of a pool occurs twice, or a row is
+    /// none that this service writes. `Err(StoreFault::Failed)`: the tables are latched.
+    pub fn exceptions_of(&mut self, id: i64) -> Result<Vec<Exception>, StoreFault>
         requires live { self.old.1 ≡ false }
         ensures found { HasCleanDisk (state S.Store self.new.0) → IfOk result (λ exceptions. ListsBy Precedes (of_tenant exceptions_table id (state S.Store self.old.0).now.trees) (map exception_row exceptions.items)) }
-        ensures damaged { HasCleanDisk (state S.Store self.new.0) → result ≡ Err Fault.Damaged → (list : _) → AllByRecursion IsExceptionRow list → ¬ ListsBy Precedes (of_tenant exceptions_table id (state S.Store self.old.0).now.trees) list }
-        ensures full { result ≢ Err Fault.Full }
+        ensures damaged { HasCleanDisk (state S.Store self.new.0) → result ≡ Err StoreFault.Damaged → (list : _) → AllByRecursion IsExceptionRow list → ¬ ListsBy Precedes (of_tenant exceptions_table id (state S.Store self.old.0).now.trees) list }
+        ensures full { result ≢ Err StoreFault.Full }
         ensures kept { HasCleanDisk (state S.Store self.new.0) → self.new.1 ≡ false → (state S.Store self.new.0).now ≡ (state S.Store self.old.0).now }
-        ensures latches { self.new.1 ≡ true ↔ result ≡ Err Fault.Failed }
+        ensures latches { self.new.1 ≡ true ↔ result ≡ Err StoreFault.Failed }
         ensures crash { Survives (state S.Store self.old.0) (state S.Store self.new.0) (λ _. ⊥) }
     {
         latched(
@@ -244,15 +244,15 @@ impl<S: Alter> Tables<S> {
     /// Reads the receipt of the request of the tenant with the number `id`, or `None` where there
     /// is none.
     ///
-    /// No row is changed. `Err(Fault::Damaged)`: there are several, or the row is none that this
-    /// service writes. `Err(Fault::Failed)`: the tables are latched.
-    pub fn receipt_of(&mut self, id: i64, request: &str) -> Result<Option<ReceiptRow>, Fault>
+    /// No row is changed. `Err(StoreFault::Damaged)`: there are several, or the row is none that
+    /// this service writes. `Err(StoreFault::Failed)`: the tables are latched.
+    pub fn receipt_of(&mut self, id: i64, request: &str) -> Result<Option<ReceiptRow>, StoreFault>
         requires live { self.old.1 ≡ false }
         ensures found { HasCleanDisk (state S.Store self.new.0) → IfOk result (AreReceipt (receipts_with (state S.Store self.old.0).now.trees id request.now)) }
-        ensures damaged { HasCleanDisk (state S.Store self.new.0) → result ≡ Err Fault.Damaged → (receipts_with (state S.Store self.old.0).now.trees id request.now ≢ []) × ((row : _) → IsReceiptRow row → receipts_with (state S.Store self.old.0).now.trees id request.now ≢ row ∷ []) }
-        ensures full { result ≢ Err Fault.Full }
+        ensures damaged { HasCleanDisk (state S.Store self.new.0) → result ≡ Err StoreFault.Damaged → (receipts_with (state S.Store self.old.0).now.trees id request.now ≢ []) × ((row : _) → IsReceiptRow row → receipts_with (state S.Store self.old.0).now.trees id request.now ≢ row ∷ []) }
+        ensures full { result ≢ Err StoreFault.Full }
         ensures kept { HasCleanDisk (state S.Store self.new.0) → self.new.1 ≡ false → (state S.Store self.new.0).now ≡ (state S.Store self.old.0).now }
-        ensures latches { self.new.1 ≡ true ↔ result ≡ Err Fault.Failed }
+        ensures latches { self.new.1 ≡ true ↔ result ≡ Err StoreFault.Failed }
         ensures crash { Survives (state S.Store self.old.0) (state S.Store self.new.0) (λ _. ⊥) }
     {
         latched(
@@ -264,15 +264,15 @@ impl<S: Alter> Tables<S> {
     /// Reads the first receipts of the tenant with the number `id`, in the order of their requests'
     /// bytes: a page, or fewer where there are no more.
     ///
-    /// No row is changed. `Err(Fault::Damaged)`: a request occurs twice, or a row is none that this
-    /// service writes. `Err(Fault::Failed)`: the tables are latched.
-    pub fn first_receipts(&mut self, id: i64) -> Result<Vec<ReceiptRow>, Fault>
+    /// No row is changed. `Err(StoreFault::Damaged)`: a request occurs twice, or a row is none that
+    /// this service writes. `Err(StoreFault::Failed)`: the tables are latched.
+    pub fn first_receipts(&mut self, id: i64) -> Result<Vec<ReceiptRow>, StoreFault>
         requires live { self.old.1 ≡ false }
         ensures found { HasCleanDisk (state S.Store self.new.0) → IfOk result (λ page. Begins 16 (of_tenant receipts_table id (state S.Store self.old.0).now.trees) (map receipt_values page.items)) }
-        ensures damaged { HasCleanDisk (state S.Store self.new.0) → result ≡ Err Fault.Damaged → (list : _) → AllByRecursion IsReceiptRow list → ¬ Lists (of_tenant receipts_table id (state S.Store self.old.0).now.trees) list }
-        ensures full { result ≢ Err Fault.Full }
+        ensures damaged { HasCleanDisk (state S.Store self.new.0) → result ≡ Err StoreFault.Damaged → (list : _) → AllByRecursion IsReceiptRow list → ¬ Lists (of_tenant receipts_table id (state S.Store self.old.0).now.trees) list }
+        ensures full { result ≢ Err StoreFault.Full }
         ensures kept { HasCleanDisk (state S.Store self.new.0) → self.new.1 ≡ false → (state S.Store self.new.0).now ≡ (state S.Store self.old.0).now }
-        ensures latches { self.new.1 ≡ true ↔ result ≡ Err Fault.Failed }
+        ensures latches { self.new.1 ≡ true ↔ result ≡ Err StoreFault.Failed }
         ensures crash { Survives (state S.Store self.old.0) (state S.Store self.new.0) (λ _. ⊥) }
     {
         latched(
@@ -285,15 +285,15 @@ impl<S: Alter> Tables<S> {
     /// `after`: a page, or fewer where there are no more. Given the last request of a page, it
     /// reads the next page.
     ///
-    /// No row is changed. `Err(Fault::Damaged)`: a request occurs twice, or a row is none that this
-    /// service writes. `Err(Fault::Failed)`: the tables are latched.
-    pub fn receipts_after(&mut self, id: i64, after: &str) -> Result<Vec<ReceiptRow>, Fault>
+    /// No row is changed. `Err(StoreFault::Damaged)`: a request occurs twice, or a row is none that
+    /// this service writes. `Err(StoreFault::Failed)`: the tables are latched.
+    pub fn receipts_after(&mut self, id: i64, after: &str) -> Result<Vec<ReceiptRow>, StoreFault>
         requires live { self.old.1 ≡ false }
         ensures found { HasCleanDisk (state S.Store self.new.0) → IfOk result (λ page. Begins 16 (rows_above after.now (of_tenant receipts_table id (state S.Store self.old.0).now.trees)) (map receipt_values page.items)) }
-        ensures damaged { HasCleanDisk (state S.Store self.new.0) → result ≡ Err Fault.Damaged → (list : _) → AllByRecursion IsReceiptRow list → ¬ Lists (rows_above after.now (of_tenant receipts_table id (state S.Store self.old.0).now.trees)) list }
-        ensures full { result ≢ Err Fault.Full }
+        ensures damaged { HasCleanDisk (state S.Store self.new.0) → result ≡ Err StoreFault.Damaged → (list : _) → AllByRecursion IsReceiptRow list → ¬ Lists (rows_above after.now (of_tenant receipts_table id (state S.Store self.old.0).now.trees)) list }
+        ensures full { result ≢ Err StoreFault.Full }
         ensures kept { HasCleanDisk (state S.Store self.new.0) → self.new.1 ≡ false → (state S.Store self.new.0).now ≡ (state S.Store self.old.0).now }
-        ensures latches { self.new.1 ≡ true ↔ result ≡ Err Fault.Failed }
+        ensures latches { self.new.1 ≡ true ↔ result ≡ Err StoreFault.Failed }
         ensures crash { Survives (state S.Store self.old.0) (state S.Store self.new.0) (λ _. ⊥) }
     {
         latched(

@@ -9,7 +9,8 @@ ghost use Rattle.table_schema.specs.Ready.{Keeps, Commits, IsReady, Refuses};
 
 use sqlite::types::ValueRef;
 use sqlite::{Alter, Connection, Error, Transaction};
-use table_schema::refuse::{Fault, refusal};
+use store_faults::StoreFault;
+use table_schema::refuse::refusal;
 use table_schema::values::{Exception, Pool, Receipt, State};
 
 /// A statement that writes, with its values. `id` is the number of a tenant.
@@ -173,15 +174,15 @@ pub fn run_all<S: Alter>(conn: &mut Connection<S>, writes: &[Write<'_>]) -> Resu
 /// Runs the writes in one transaction, all of them or none. The writes have to leave this service's
 /// tables sound.
 ///
-/// `Err(Fault::NoMemory)`, `Err(Fault::Full)`: nothing is changed.
-pub fn write_all<S: Alter>(conn: &mut Connection<S>, writes: &[Write<'_>]) -> Result<(), Fault>
+/// `Err(StoreFault::NoMemory)`, `Err(StoreFault::Full)`: nothing is changed.
+pub fn write_all<S: Alter>(conn: &mut Connection<S>, writes: &[Write<'_>]) -> Result<(), StoreFault>
     requires autocommit { conn.old.in_transaction ≡ false }
     requires ready { HasCleanDisk (state S.Store conn.old) → IsReady (state S.Store conn.old) }
     requires sound { HasCleanDisk (state S.Store conn.old) → (db : Database) → Makes S.Store writes.now conn.old db → AreSound db }
     ensures done { HasCleanDisk (state S.Store conn.new) → OnOk result ((db : _) × Makes S.Store writes.now conn.old db × Commits (state S.Store conn.old) (state S.Store conn.new) db) }
     ensures ready { HasCleanDisk (state S.Store conn.new) → OnOk result (IsReady (state S.Store conn.new)) }
-    ensures refused { HasCleanDisk (state S.Store conn.new) → result ≢ Err Fault.Failed → OnErr result (Refuses (state S.Store conn.old) (state S.Store conn.new)) }
-    ensures rows { result ≢ Err Fault.Damaged }
+    ensures refused { HasCleanDisk (state S.Store conn.new) → result ≢ Err StoreFault.Failed → OnErr result (Refuses (state S.Store conn.old) (state S.Store conn.new)) }
+    ensures rows { result ≢ Err StoreFault.Damaged }
     ensures crash { Survives (state S.Store conn.old) (state S.Store conn.new) (λ trees. (db : _) × Makes S.Store writes.now conn.old db × (trees ≡ db.trees)) }
     ensures ended { conn.new.in_transaction ≡ false }
 {

@@ -33,4 +33,4 @@ returns-in-Err-clause-damaged g c clean same =
     let also : SFits w64 c.args.tenant.now.epoch = search rules in
     no_rows db c.args.name.now c.args.tenant.now it.2
     (at_words (λ n e. (i : Inventory) → IsOfState i → ¬ HasRows db n e i) c.args.tenant.now.id c.args.tenant.now.epoch fits also
-    (c.in-Err.ensures.damaged clean (damaged_below c.in-Err.fault c.fault_of.result c.fault_of.ensures same))) it.0 it.1
+    (c.in-Err.ensures.damaged clean (damaged_below c.in-Err.error same))) it.0 it.1

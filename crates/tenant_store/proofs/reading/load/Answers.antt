@@ -25,4 +25,4 @@ returns-in_ok-load_tenant-in-Ok-Some-clause-judged g c clean =
     subst (λ (d : Database). AreJudged d.trees (get_by_text c.load_tenant.new.judged)) same (c.in_ok-load_tenant-in-Ok-Some.ensures.judged clean)
 
 pub returns-in-Err-clause-damaged : goal.returns-in-Err-clause-damaged
-returns-in-Err-clause-damaged g c clean same = no_tenant (state g.S.Store c.args.tables.now.0).now.trees c.args.name.now (c.in-Err.ensures.damaged clean (damaged_below c.in-Err.fault c.fault_of.result c.fault_of.ensures same))
+returns-in-Err-clause-damaged g c clean same = no_tenant (state g.S.Store c.args.tables.now.0).now.trees c.args.name.now (c.in-Err.ensures.damaged clean (damaged_below c.in-Err.error same))

@@ -35,4 +35,4 @@ returns-in-Err-clause-damaged g c clean same =
     let fits : SFits w64 c.args.tenant.now.id = search rules in
     not_damaged c.args.number.now it.0 (of_tenant receipts_table c.args.tenant.now.id db) it.1.rows it.1.order it.1.ranges
     (at_word (λ n. (receipts_with db n c.args.number.now ≢ []) × ((row : Row) → IsReceiptRow row → receipts_with db n c.args.number.now ≢ row ∷ [])) c.args.tenant.now.id fits
-    (c.in-Err.ensures.damaged clean (damaged_below c.in-Err.fault c.fault_of.result c.fault_of.ensures same)))
+    (c.in-Err.ensures.damaged clean (damaged_below c.in-Err.error same)))

@@ -17,4 +17,4 @@ pub returns-in-Err-clause-damaged : goal.returns-in-Err-clause-damaged
 returns-in-Err-clause-damaged g c clean same =
     let early : HasCleanDisk (state g.S.Store c.args.tables.now.0) = omega (arith, clean, c.find.ensures.crash.clean) in
     let it = c.requires.there early in
-    there (state g.S.Store c.args.tables.now.0).now.trees c.args.name.now it.0 it.1 (c.in-Err.ensures.damaged clean (damaged_below c.in-Err.fault c.fault_of.result c.fault_of.ensures same))
+    there (state g.S.Store c.args.tables.now.0).now.trees c.args.name.now it.0 it.1 (c.in-Err.ensures.damaged clean (damaged_below c.in-Err.error same))
