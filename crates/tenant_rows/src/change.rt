@@ -193,10 +193,8 @@ fn write_states<'a, S: Alter>(
     ensures rows { result ≢ Err StoreFault.Damaged }
     ensures crash { Survives (state S.Store tables.old.0) (state S.Store tables.new.0) (Accepts id epoch receipt.now (writes.with_states (map numbers_of states.now)) (state S.Store tables.old.0).now.trees) }
 {
-    match all_state_values(alloc, states) {
-        Ok(values) => tables.commit_states(id, epoch, &values, receipt),
-        Err(AllocError) => Err(StoreFault::NoMemory),
-    }
+    let values = all_state_values(alloc, states)?;
+    tables.commit_states(id, epoch, &values, receipt)
 }
 
 /// Writes `exceptions` of the pool with the id `pool`, in place of the earlier ones, with the epoch
@@ -223,14 +221,9 @@ fn write_exceptions<S: Alter>(
     let Some(row) = row_with(rows, pool) else {
         return Err(StoreFault::Damaged);
     };
-    let pairs = exceptions.pairs();
-    match all_pair_values(alloc, pool, pairs) {
-        Ok(values) => {
-            let pool = values_with(&row, values.len() as i64);
-            tables.commit_exceptions(id, epoch, &pool, &values, &receipt)
-        }
-        Err(AllocError) => Err(StoreFault::NoMemory),
-    }
+    let values = all_pair_values(alloc, pool, exceptions.pairs())?;
+    let pool = values_with(&row, values.len() as i64);
+    tables.commit_exceptions(id, epoch, &pool, &values, &receipt)
 }
 
 /// Writes `made`, with the epoch and the receipt. A version gets the number `number`.

@@ -10,7 +10,7 @@ ghost use Rattle.tenant_rows.specs.Lists.{IsOfState};
 use crate::inventory::inventory_from;
 use crush_text::canonical_texts_are_ascii;
 use sqlite::Alter;
-use std::alloc::{AllocError, Global};
+use std::alloc::Global;
 use std::rc::Rc;
 use store_faults::StoreFault;
 use tenant_state::Inventory;
@@ -40,9 +40,8 @@ pub fn read_inventory<S: Alter>(
     let devices = tables.devices_of(id)?;
     let pools = tables.pools_of(id)?;
     let exceptions = tables.exceptions_of(id)?;
-    match inventory_from(alloc, epoch, versions, devices, pools, &exceptions) {
-        Ok(Some(inventory)) => Ok(inventory),
-        Ok(None) => Err(StoreFault::Damaged),
-        Err(AllocError) => Err(StoreFault::NoMemory),
+    match inventory_from(alloc, epoch, versions, devices, pools, &exceptions)? {
+        Some(inventory) => Ok(inventory),
+        None => Err(StoreFault::Damaged),
     }
 }

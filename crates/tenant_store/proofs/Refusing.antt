@@ -6,12 +6,9 @@ use mir.Val.{SFits}
 use Rattle.store_faults.specs.declared.StoreFault.{StoreFault}
 use Rattle.store_faults.specs.declared.StoreFault.TheVariants.{Damaged, Failed}
 
-fault_is : {A : Type 0} (x y : StoreFault) → ◌≡◌ {A = Result A StoreFault} (Err x) (Err y) → x ≡ y
-fault_is x y h = cc
-
 -- a fault that is passed on is that of the call below
-pub damaged_below : {A B : Type 0} (f : StoreFault) → ◌≡◌ {A = Result A StoreFault} (Err f) (Err Damaged) → ◌≡◌ {A = Result B StoreFault} (Err f) (Err Damaged)
-damaged_below f h = ap Err (fault_is f Damaged h)
+pub same_fault : {A B : Type 0} (r : Result A StoreFault) (x f g : StoreFault) → r ≡ Err x → x ≡ f → r ≡ Err g → ◌≡◌ {A = Result B StoreFault} (Err f) (Err g)
+same_fault r x f g is same at = cc
 
 -- tables that answered have not failed for good
 pub live_at_ok : {A : Type 0} (b : Bool) (x : A) → (b ≡ true ↔ ◌≡◌ {A = Result A StoreFault} (Ok x) (Err Failed)) → b ≡ false
