@@ -8,7 +8,8 @@ use Rattle.store_faults.specs.declared.StoreFault.TheVariants.{Damaged, Failed}
 
 -- a fault that is passed on is that of the call below
 pub same_fault : {A B : Type 0} (r : Result A StoreFault) (x f g : StoreFault) → r ≡ Err x → x ≡ f → r ≡ Err g → ◌≡◌ {A = Result B StoreFault} (Err f) (Err g)
-same_fault r x f g is same at = cc
+same_fault r x f g is same answer =
+    let both : f ≡ g = cc in ap Err both
 
 -- tables that answered have not failed for good
 pub live_at_ok : {A : Type 0} (b : Bool) (x : A) → (b ≡ true ↔ ◌≡◌ {A = Result A StoreFault} (Ok x) (Err Failed)) → b ≡ false
