@@ -2,4 +2,5 @@ pub mod Sayings
 pub mod Syntax
 pub mod Fronts
 pub mod Automaton
+pub mod Codes
 pub mod Private

@@ -11,6 +11,7 @@ mod early;
 mod error;
 mod law;
 mod line;
+mod name;
 mod read;
 mod rule;
 mod say;
@@ -24,4 +25,5 @@ pub use law::{
     words_are_read_as_they_say, words_are_whole_or_break, words_break_once, words_declare_once,
 };
 pub use line::last_line;
+pub use name::code_text;
 pub use read::{Declarations, read_declarations};

@@ -8,17 +8,15 @@ mod fit;
 mod judge;
 mod law;
 pub mod limits;
-mod name;
 mod places;
 mod read;
 mod tables;
 
-pub use crush_grammar::{TextCode, TextFault};
+pub use crush_grammar::{TextCode, TextFault, code_text};
 pub use crush_writing::write_map;
 pub use law::{
     canonical_texts_are_ascii, canonical_texts_are_read, texts_are_read_as_they_say,
     texts_have_a_map_or_one_fault, texts_of_maps_have_no_fault, texts_say_one_map,
     written_maps_are_read_back,
 };
-pub use name::code_text;
 pub use read::{read_map, read_stored};

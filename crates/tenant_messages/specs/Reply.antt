@@ -2,7 +2,7 @@
 -- their bytes.
 use Rattle.std.specs.Prelude.{ℕ, List, [], ◌∷◌, codes}
 use Rattle.crush_grammar.specs.declared.code.TextFault.{TextFault}
-use Rattle.crush_text.specs.Codes.{code_text}
+use Rattle.crush_grammar.specs.Codes.{code_text}
 use Rattle.serde_json.specs.Data.{Data, Members, number, unsigned, string, object, no_members, member}
 use Rattle.serde_json.specs.Written.{compact_text}
 use Rattle.tenant_messages.specs.declared.reply.Reply.{Reply}

@@ -6,8 +6,8 @@ ghost use Rattle.serde_json.specs.Written.{has_float};
 ghost use Rattle.tenant_messages.specs.Refusals.{Answers, came_of};
 ghost use Rattle.tenant_messages.specs.Reply as spec;
 
+use crush_grammar::{TextFault, code_text};
 use crush_map::Text;
-use crush_text::{TextFault, code_text};
 use serde_json::{Value, json};
 use std::alloc::{AllocError, Global};
 

@@ -1,9 +1,9 @@
 //! The names of faults.
 
 ghost use Rattle.std.specs.Prelude.{◌≡◌};
-ghost use Rattle.crush_text.specs.Codes as spec;
+ghost use Rattle.crush_grammar.specs.Codes as spec;
 
-use crush_grammar::TextCode;
+use crate::code::TextCode;
 use crush_map::FaultCode;
 
 fn map_code_text(code: FaultCode) -> &'static str
