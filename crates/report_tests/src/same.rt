@@ -9,7 +9,7 @@ pub(crate) fn assert_same<T: PartialEq + Debug>(rt: &impl Abort, value: &T, expe
     assert_eq!(rt; value, expected);
 }
 
-/// The same, of a case that these numbers name.
+/// Asserts that a value is the expected one, in the case that the numbers name.
 pub(crate) fn assert_same_at<T: PartialEq + Debug>(
     rt: &impl Abort,
     case: [u64; 2],
