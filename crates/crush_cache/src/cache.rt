@@ -124,7 +124,7 @@ impl PlacementCache {
         Some(number)
     }
 
-    /// Returns the number of a content. It is a new one where the content isn't there, which is
+    /// Returns the number of a content, a new one where the content isn't there. The content is
     /// compared, whole, with those that have its hash. `None`: it can't be kept, since no number
     /// is left or an allocation failed.
     pub fn number_of(&mut self, content: &Content) -> Option<u64>
