@@ -126,7 +126,7 @@ pub fn can_look_ahead(tables: &Tables, rule: &Rule) -> bool {
 }
 
 /// Picks ahead what a rule asks for at its first tries, for eight inputs and an answer of at most
-/// `size` slots. What the rule answers afterwards is the same, for these inputs and for others. It
+/// `size` slots. What the rule answers afterwards is the same, for `xs` and for other inputs. It
 /// may allocate; where that fails less is picked ahead.
 pub fn look_ahead(tables: &Tables, scratch: &mut Scratch, rule: &Rule, xs: [u32; LANES], size: u32)
     requires { scratch.old ≡ scratch_of tables.now }
