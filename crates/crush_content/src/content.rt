@@ -19,7 +19,7 @@ use std::rc::Rc;
 pub const LONG_TEXT: usize = 65_536;
 
 /// What placements depend on: the canonical text of a map, all states of devices, a pool, and the
-/// exceptions of the pool. Contracts see these four, of the exceptions the pairs.
+/// exceptions of the pool. Contracts see the four, of the exceptions the pairs.
 #[derive(Drop)]
 pub struct Content {
     text: SharedText,
