@@ -1,6 +1,6 @@
 //! rjenkins1, the hash of CRUSH, over words of 32 bits, and the hash of a name.
 //!
-//! Sources: Ceph's `src/crush/hash.c` and `src/common/ceph_hash.cc`. These functions allocate
+//! Sources: Ceph's `src/crush/hash.c` and `src/common/ceph_hash.cc`. The functions allocate
 //! nothing and can't fail.
 #![tactic(auto)]
 
