@@ -148,7 +148,7 @@ fn fault_of(
 }
 
 /// Finds the first fault of a draft, if it has one.
-// One way out while the tables live keeps the check of this function short.
+// One way out while the tables live makes the check of this function short.
 pub(crate) fn first_fault(alloc: Global, draft: &MapDraft) -> Result<Option<MapFault>, AllocError>
     ensures { IfOk result (λ fault. fault ≡ spec.first_fault draft.now) }
 {
