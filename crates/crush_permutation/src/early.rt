@@ -1,4 +1,4 @@
-//! Members at the first places of a permutation, by the hashes of these places alone.
+//! Members at the first places of a permutation, by the hashes of those places alone.
 
 ghost use Rattle.std.specs.Prelude.{◌≡◌, ℕ, ◌<◌, slice_index};
 ghost use Rattle.crush_permutation.specs.Permutation.{permutation};
