@@ -176,7 +176,7 @@ first_within pairs group =
             let same : nat_lt (suc (position_or_len (is_of_group group) ps)) (suc (length ps)) ≡ nat_lt (position_or_len (is_of_group group) ps) (length ps) = grind (arith, nat_tests) in
             rw next (same ∙ e)
 
--- the pair at such a place is of the group
+-- the pair at the first place of a group from a place on is of the group
 pub first_is : (pairs : List Pair) (group from place : ℕ) → place ≡ first_from pairs group from → place < length pairs
     → (slice_index_or pairs place no_pair).group ≡ group
 first_is pairs group from place is low =

@@ -123,7 +123,8 @@ impl Model for Exceptions {
 }
 
 impl Exceptions {
-    /// Makes no exceptions, which any pool can have. `Err(AllocError)`: an allocation failed.
+    /// Makes the empty list of exceptions, which any pool can have. `Err(AllocError)`: an
+    /// allocation failed.
     pub fn none(alloc: Global) -> Result<Exceptions, AllocError>
         ensures { IfOk result (λ exceptions. exceptions ≡ []) }
     {
@@ -271,7 +272,7 @@ impl Model for Excepted {
 }
 
 impl Excepted {
-    /// Changes a rule's answer for a group by the pairs of that group. Allocates nothing.
+    /// Applies the pairs of a group to a copy of a rule's answer for it. Allocates nothing.
     pub(crate) fn new(
         tables: &Tables,
         weights: &Weights,

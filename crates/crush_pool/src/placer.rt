@@ -133,7 +133,7 @@ impl<'a> Placer<'a> {
         self.exceptions
     }
 
-    /// Changes what the rule answered for a group by the exceptions of that group. Allocates
+    /// Applies the exceptions of a group to a copy of what the rule answered for it. Allocates
     /// nothing.
     pub fn excepted(&self, group: u32, raw: &[Slot]) -> Excepted
         requires { length raw.now ≤ SIZE_LIMIT }
