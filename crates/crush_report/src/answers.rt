@@ -99,7 +99,7 @@ impl Answers {
     ghost use Rattle.crush_report.specs.OnMaps.{answer_on};
     ghost use Rattle.crush_report.specs.Private.Places.{AreAnswers};
 
-    /// Makes no answers: the rule is run for each group.
+    /// Makes the value without answers: the rule is run for each group.
     fn none(alloc: Global, places: Places) -> Answers
         ensures places { result.places ≡ places }
         ensures starts { result.starts.items ≡ [] }
