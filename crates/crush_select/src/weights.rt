@@ -11,7 +11,7 @@ use std::alloc::{AllocError, Global};
 use std::marker::Model;
 
 /// 1.0 as a reweight, in 16.16 fixed point. A device with this reweight or more is always in, and a
-/// device that is given no reweight has this one.
+/// device that is given no reweight has `FULL`.
 pub const FULL: u32 = 65_536;
 
 /// Reweights of devices in 16.16 fixed point. Contracts see those of all ids that a device can
