@@ -166,7 +166,8 @@ const PAST: &[(Counts, Element, usize)] = &[
     ),
 ];
 
-/// The first element past its limit is the fault, also with a number out of range and no name.
+/// The fault is at the first element past its limit, also where the element has a number out of
+/// range and no name.
 #[test]
 fn one_too_many_comes_before_its_number(rt: HostRuntime) -> Result<(), Fail> {
     let alloc = rt.alloc();
