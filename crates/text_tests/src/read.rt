@@ -175,7 +175,7 @@ fn each_fault_of_what_is_declared_has_its_code(rt: HostRuntime) -> Result<(), Fa
 const OF_TWO: &[Row] = &[
     // a device is whole without a class, so the wrong word is behind it
     ("device 0 a\ndevice 0 b\n@", 2, Map(M2)),
-    // a bucket is read whole before its places are looked at, and they before all else of it
+    // a bucket is read whole before its places are looked at, and its places before all else
     ("root r {\n id -1\n alg list\n item a pos 1\n item", 5, X1),
     (
         "root r {\n id 0\n alg list\n item a pos 0\n item b pos 0\n}",
