@@ -64,8 +64,8 @@ pub(crate) const LONG: Asked = Asked {
     ..FIRST
 };
 
-/// Declarations of the devices with the ids from 1,000 on below `end`, with names of 64 bytes: some
-/// 77,000 bytes below 2,000.
+/// Makes declarations of the devices with the ids from 1,000 on below `end`, with names of 64
+/// bytes: some 77,000 bytes below 2,000.
 fn devices(alloc: Global, end: u32) -> Result<String, Fail> {
     let mut text = String::new(alloc);
     for id in 1_000..end {
@@ -74,7 +74,7 @@ fn devices(alloc: Global, end: u32) -> Result<String, Fail> {
     Ok(text)
 }
 
-/// Returns a map whose rule 0 takes one device.
+/// Makes a map whose rule 0 takes one device.
 fn map_with(alloc: Global, device: u32, is_long: bool) -> Result<CrushMap, Fail> {
     let others = devices(alloc, if is_long { 2_000 } else { 1_000 })?;
     let text = format!(in alloc;
@@ -106,7 +106,7 @@ rule all {{
     map_of(alloc, text.as_str())
 }
 
-/// Returns the states of devices.
+/// Makes the states of devices.
 fn states_of(alloc: Global, asked: &Asked) -> Result<Vec<DeviceState>, AllocError> {
     let mut states = Vec::new(alloc);
     if let Some((reweight, up)) = asked.state {
@@ -119,7 +119,7 @@ fn states_of(alloc: Global, asked: &Asked) -> Result<Vec<DeviceState>, AllocErro
     Ok(states)
 }
 
-/// Returns the pool.
+/// Makes the pool.
 fn pool_of(rt: &impl Abort, alloc: Global, asked: &Asked) -> Result<Pool, Fail> {
     let parts = PoolParts {
         id: asked.pool,
@@ -137,7 +137,7 @@ fn pool_of(rt: &impl Abort, alloc: Global, asked: &Asked) -> Result<Pool, Fail> 
     }
 }
 
-/// Returns the exceptions of the pool.
+/// Makes the exceptions of the pool.
 fn exceptions_of(
     rt: &impl Abort,
     alloc: Global,
@@ -156,7 +156,7 @@ fn exceptions_of(
     }
 }
 
-/// Returns the canonical text of a map.
+/// Writes the canonical text of a map.
 fn text_of(rt: &impl Abort, alloc: Global, map: &CrushMap) -> Result<SharedText, AllocError>
     ensures { IfOk result (λ text. text ≡ canonical map.now) }
 {
@@ -166,7 +166,7 @@ fn text_of(rt: &impl Abort, alloc: Global, map: &CrushMap) -> Result<SharedText,
     }
 }
 
-/// Returns a cache for so many placements.
+/// Makes a cache for `capacity` placements.
 pub(crate) fn cache_for(rt: &impl Abort, alloc: Global, capacity: usize) -> PlacementCache {
     let room = NonZeroUsize::new(capacity).expect(rt, "no room");
     PlacementCache::new(alloc, room).expect(rt, "no memory")
@@ -177,7 +177,7 @@ pub(crate) fn cache_for(rt: &impl Abort, alloc: Global, capacity: usize) -> Plac
 pub(crate) enum How {
     /// By the content.
     ByContent,
-    /// By the number of the content, after so many other contents were given numbers.
+    /// By the number of the content, after the given number of other contents were given numbers.
     ByNumber(u32),
 }
 
@@ -195,7 +195,7 @@ fn number_of(rt: &impl Abort, cache: &mut PlacementCache, content: &Content) -> 
     }
 }
 
-/// Asks a cache for the placement of a group of a placer, whose content this is.
+/// Asks a cache for the placement of a group of a placer, which has the content `content`.
 fn answer_of(
     rt: &impl Abort,
     alloc: Global,
@@ -228,7 +228,7 @@ struct Given {
     flags: DeviceStates,
 }
 
-/// Returns the states that are asked with.
+/// Makes the states that are asked with.
 fn given_of(alloc: Global, asked: &Asked) -> Result<Given, AllocError>
     ensures weights { IfOk result (λ given. given.weights ≡ weights_of (reweights given.states)) }
     ensures flags { IfOk result (λ given. given.flags ≡ flags_of given.states) }
@@ -243,7 +243,7 @@ fn given_of(alloc: Global, asked: &Asked) -> Result<Given, AllocError>
     })
 }
 
-/// Returns the content that a placement depends on.
+/// Makes the content that a placement depends on.
 fn content_with(
     rt: &impl Abort,
     alloc: Global,
@@ -317,7 +317,7 @@ fn try_to_ask(
     )
 }
 
-/// Returns the same, where there is memory for it.
+/// Asks as `try_to_ask` does, where there is memory for it.
 pub(crate) fn ask(
     rt: &impl Abort,
     alloc: Global,
@@ -332,7 +332,7 @@ pub(crate) fn ask(
     }
 }
 
-/// Gives numbers to so many contents, which have a text that is no map's.
+/// Gives numbers to `count` contents, which have a text that is no map's.
 pub(crate) fn give_numbers(
     rt: &impl Abort,
     alloc: Global,
@@ -355,7 +355,7 @@ pub(crate) fn give_numbers(
     Ok(())
 }
 
-/// Asserts that a placement is that of the group with a seed: on this device, which is up or not.
+/// Asserts that a placement is that of the group with a seed: on `device`, which is up or not.
 pub(crate) fn assert_placed(rt: &impl Abort, answer: &Answer, seed: u32, device: u32, is_up: bool) {
     let Ok(placement) = &answer.0 else {
         return rt.abort();

@@ -6,7 +6,7 @@ use crush_cache::PlacementCache;
 use std::alloc::Global;
 use std::process::Abort;
 
-/// Gives numbers to so many contents, where there is memory for them.
+/// Gives numbers to `count` contents, where there is memory for them.
 fn give_some(rt: &impl Abort, alloc: Global, cache: &mut PlacementCache, count: u32) {
     match give_numbers(rt, alloc, cache, count) {
         Ok(()) => {}

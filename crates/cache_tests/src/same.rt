@@ -1,5 +1,5 @@
 //! Assertions that show both values. The text of an `assert_eq!` is proved where it stands; a call
-//! of these functions takes a fraction of that time.
+//! of a function below takes a fraction of that time.
 
 use std::fmt::Debug;
 use std::process::Abort;

@@ -7,7 +7,7 @@ use crush_pool::{Pair, PoolFault};
 use crush_select::Slot;
 use std::process::Abort;
 
-/// What is asked after the one that is kept: how, and of which group.
+/// What is asked after the placement that is kept: how, and of which group.
 const AGAIN: &[(How, u32)] = &[
     (How::ByContent, 3),
     (How::ByNumber(0), 3),
@@ -147,7 +147,7 @@ const EXCEPTIONS: &[(&[Pair], i32)] = &[
     (&[ON, AWAY], 1_000),
 ];
 
-/// The up list of the group 3 has this device alone.
+/// Asserts that the up list of the group 3 has `device` alone.
 fn assert_up(rt: &impl Abort, answer: &Answer, device: i32) {
     let Ok(placement) = &answer.0 else {
         return rt.abort();
@@ -182,7 +182,7 @@ fn other_exceptions_are_another_content(rt: HostRuntime) {
     assert!(rt; is_one(&rt, &first, &again));
 }
 
-/// Also where the pool's last group is kept.
+/// A group past the last is refused also where the pool's last group is kept.
 #[test]
 fn a_group_past_the_last_is_refused(rt: HostRuntime) {
     let alloc = rt.alloc();

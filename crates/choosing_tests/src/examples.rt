@@ -7,7 +7,7 @@ use crush_map::{ItemId, Kind, Step, Tunables};
 use crush_select::Slot;
 use std::test::Fail;
 
-/// A rule on a map of seven devices, and what it answers for each of so many inputs.
+/// A rule on a map of seven devices, and what it answers for each of the inputs below `inputs`.
 #[derive(Clone, Copy)]
 pub(crate) struct Example<'a> {
     pub(crate) buckets: &'a [ShortBucket<'a>],

@@ -1,4 +1,4 @@
-//! Rules with so many tries that a call asks whether any can still succeed: where none can it gives
+//! Rules with enough tries that a call asks whether any can still succeed: where none can it gives
 //! up, and where one can, however late, it goes on. The answers are those of
 //! `tests/model/choosing.py`, which makes every try.
 

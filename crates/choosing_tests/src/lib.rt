@@ -1,4 +1,4 @@
-//! Tests of `crush_select` and `crush_choose`, on maps of drafts. They stand apart, so that these
+//! Tests of `crush_select` and `crush_choose`, on maps of drafts. They stand apart, so that the two
 //! crates are proved once.
 #![tactic(auto)]
 

@@ -16,7 +16,7 @@ const HOSTS: i32 = BUCKET_LIMIT as i32 - RACKS - 1;
 /// The id of the first rack, which stands behind the root's and those of the hosts.
 const FIRST_RACK: i32 = -2 - HOSTS;
 
-/// Returns a bucket of items whose ids fall from the first on, all of whose weight is at one place.
+/// Makes a bucket of items whose ids fall from `first` on, all of whose weight is at one place.
 fn spread(
     alloc: Global,
     (id, kind_of, alg): (i32, u32, Kind),
@@ -32,7 +32,7 @@ fn spread(
     bucket(alloc, id, kind_of, alg, &items)
 }
 
-/// Returns the host of a device: uniform with that device alone, or, for the first 32, a list that
+/// Makes the host of a device: uniform with that device alone, or, for the first 32, a list that
 /// has a further device without weight behind it.
 fn host(alloc: Global, device: i32) -> Result<Bucket, AllocError> {
     let id = (-2i32).wrapping_sub(device);
@@ -44,8 +44,8 @@ fn host(alloc: Global, device: i32) -> Result<Bucket, AllocError> {
     }
 }
 
-/// Returns the hosts -2 - device. The racks `FIRST_RACK` - k, trees of 32 hosts: rack k has those
-/// of the devices from 32 k on, and all its weight is in that of device 33 k. A root of the racks,
+/// Makes the hosts -2 - device; the racks `FIRST_RACK` - k, trees of 32 hosts: rack k has those of
+/// the devices from 32 k on, and all its weight is in that of device 33 k; and a root of the racks,
 /// all of whose weight is in rack 17.
 fn all_buckets(alloc: Global) -> Result<Listed<Bucket>, AllocError> {
     let mut all = Vec::new(alloc);
@@ -64,7 +64,7 @@ fn all_buckets(alloc: Global) -> Result<Listed<Bucket>, AllocError> {
 
 const ONE_DEVICE: Step = choose!(true, false, 1, 0);
 
-/// Steps that choose a device from each of these buckets.
+/// Steps that choose a device from each of the given buckets.
 macro_rules! a_device_of_each {
     ($($bucket:expr),*) => {
         &[$(Step::Take(ItemId($bucket)), ONE_DEVICE, Step::Emit),*]
@@ -85,7 +85,7 @@ const STEPS: &[Step] = a_device_of_each!(
     FIRST_RACK - 24
 );
 
-/// Devices with an even number are out, the others are in.
+/// Makes reweights: devices with an even number are out, the others are in.
 fn reweights(alloc: Global) -> Result<Vec<(u32, u32)>, AllocError> {
     let mut given = Vec::new(alloc);
     for device in 0..DEVICE_LIMIT as u32 {

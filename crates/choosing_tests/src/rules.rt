@@ -25,7 +25,7 @@ pub(crate) const LEGACY: Tunables = Tunables {
 
 pub(crate) const TAKE: Step = Step::Take(ItemId(-1));
 
-/// The wanted answer and trace of each input, where they are the same.
+/// The expected answer and trace of each input, where they are the same.
 pub(crate) type Wanted<'a> = Option<(&'a [Slot], &'a [u32])>;
 
 /// Runs a rule for inputs from 0 on, and folds all answers.
@@ -67,7 +67,7 @@ pub(crate) fn rule_of<'a>(rt: &impl Abort, map: &'a CrushMap) -> &'a Rule
     &rules[0]
 }
 
-/// Returns the folded answers of the rule of a map.
+/// Runs the rule of a map, and folds its answers.
 pub(crate) fn ask(
     rt: &impl Abort,
     alloc: Global,
@@ -108,7 +108,7 @@ fn folded(sum: u64, items: &[Slot]) -> u64 {
     sum
 }
 
-/// Returns the reweights that are given to a map of the devices 0 and 3.
+/// Makes the reweights `given`, on a map of the devices 0 and 3.
 fn weights(alloc: Global, given: &[(u32, u32)]) -> Result<Weights, Fail> {
     let map = map_of(alloc, draft(alloc, SOUND)?)?;
     Ok(Weights::build(alloc, &map, given)?)
@@ -145,7 +145,7 @@ fn a_reweight_counts_for_an_id_that_is_no_device_of_the_map(rt: HostRuntime) -> 
     Ok(())
 }
 
-/// Returns the items of a bucket, of one weight, in order of a number that grows or falls.
+/// Makes the items of a bucket, of one weight, whose ids begin at `first` and change by `step`.
 fn row(first: i32, step: i32, weight: u32) -> [(i32, u32); 4] {
     let second = first.wrapping_add(step);
     let third = second.wrapping_add(step);
@@ -158,7 +158,7 @@ fn row(first: i32, step: i32, weight: u32) -> [(i32, u32); 4] {
     ]
 }
 
-/// Returns a root of 3 racks of 4 hosts of 3 devices, with a kind for each level; ids fall from -2
+/// Makes a root of 3 racks of 4 hosts of 3 devices, with a kind for each level; ids fall from -2
 /// on, and the root has -1.
 pub(crate) fn three_levels(alloc: Global, kinds: [Kind; 3]) -> Result<Listed<Bucket>, AllocError> {
     let [of_root, of_racks, of_hosts] = kinds;

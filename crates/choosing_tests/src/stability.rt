@@ -31,8 +31,8 @@ const TWO_DEVICES: Short<'static> = Short {
     ..SOUND
 };
 
-/// Each of 64 inputs has one device in its trace, and each device is in some. With the device 0 out
-/// its inputs move to the device 1, and no other changes.
+/// Asserts that each of 64 inputs has one device in its trace, and each device is in some. With the
+/// device 0 out its inputs move to the device 1, and no other changes.
 fn assert_all_move_from_0(
     rt: &impl Abort,
     tables: &Tables,
@@ -82,7 +82,8 @@ fn what_does_not_have_a_lowered_device_in_its_trace_stays(rt: HostRuntime) -> Re
     Ok(())
 }
 
-/// Each of 64 inputs touches the device that is in its trace, and no other of the devices 0 to 2.
+/// Asserts that each of 64 inputs touches the device that is in its trace, and no other of the
+/// devices 0 to 2.
 fn assert_one_is_touched(
     rt: &impl Abort,
     tables: &Tables,

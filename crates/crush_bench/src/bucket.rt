@@ -30,7 +30,7 @@ pub struct Questions {
     pub tries: u32,
 }
 
-/// Times the picks from a bucket of this kind with `size` items; none if there is no such bucket.
+/// Times the picks from a bucket of `kind` with `size` items. `None`: there is no such bucket.
 pub(crate) fn measure<R: AllocGlobal + Clock>(
     rt: &R,
     kind: Kind,
@@ -62,7 +62,7 @@ pub(crate) fn measure<R: AllocGlobal + Clock>(
     }
 }
 
-/// Returns the devices 0, 1, .. with weights.
+/// Makes the devices 0, 1, .. with weights in 16.16 fixed point.
 fn entries_of(alloc: Global, kind: Kind, size: u32) -> Result<Vec<(ItemId, Weight)>, AllocError> {
     let mut entries = Vec::new(alloc);
     for n in 0..size.min(65_535) {
@@ -90,7 +90,7 @@ fn measure_bucket<P: Picker, R: Clock>(
     Ok(Some(Measured { checksum, took }))
 }
 
-/// Returns the checksum of all picks.
+/// Makes all picks. Returns their checksum.
 fn pick_all<P: Picker>(bucket: &P, perm: &mut Perm, questions: Questions) -> u64
     requires { perm.old.of ≡ perm_of (P.bucket bucket.now) }
 {
@@ -101,7 +101,7 @@ fn pick_all<P: Picker>(bucket: &P, perm: &mut Perm, questions: Questions) -> u64
     checksum
 }
 
-/// Adds the picks for one input to a checksum.
+/// Makes the picks for the input `x`. Returns the checksum `before` with them.
 #[inline]
 fn pick_tries<P: Picker>(bucket: &P, perm: &mut Perm, x: u32, tries: u32, before: u64) -> u64
     requires { perm.old.of ≡ perm_of (P.bucket bucket.now) }

@@ -41,8 +41,8 @@ pub(crate) fn check<R: AllocGlobal + Clock>(rt: &R) -> io::Result<Checked> {
     Ok(Checked { fault, took })
 }
 
-/// Returns the greatest number of types, of devices, of buckets with as many devices as they may
-/// have, and of rules with all steps, each with a name of 64 bytes.
+/// Makes the greatest draft: the most types, devices, buckets with as many devices as they may
+/// have, and rules with all steps, each with a name of 64 bytes.
 fn fullest(alloc: Global) -> Result<MapDraft, AllocError> {
     Ok(MapDraft {
         types: types(alloc)?,
@@ -60,7 +60,7 @@ fn fullest(alloc: Global) -> Result<MapDraft, AllocError> {
     })
 }
 
-/// Returns a name of 64 bytes.
+/// Makes a name of 64 bytes.
 fn name(alloc: Global, letter: char, number: u32) -> Result<Text, AllocError> {
     Ok(Text::new(format!(in alloc; "{letter}{number:063}")?))
 }
@@ -83,7 +83,7 @@ fn devices(alloc: Global) -> Result<Listed<Device>, AllocError> {
     Ok(Listed::new(devices))
 }
 
-/// As many devices as a bucket may have, each with the same weight.
+/// Makes as many devices as a bucket may have, each with the same weight.
 fn items(alloc: Global) -> Result<Listed<(ItemId, Weight)>, AllocError> {
     let mut items = Vec::new(alloc);
     for id in 0..ITEM_LIMIT as u32 {
@@ -106,7 +106,7 @@ fn buckets(alloc: Global) -> Result<Listed<Bucket>, AllocError> {
     Ok(Listed::new(buckets))
 }
 
-/// Returns the kinds by turns.
+/// Returns the kind of the bucket with a number; the three kinds take turns.
 fn kind_at(number: u32) -> Kind {
     match number % 3 {
         0 => Kind::Uniform,
@@ -128,7 +128,7 @@ fn rules(alloc: Global) -> Result<Listed<Rule>, AllocError> {
     Ok(Listed::new(rules))
 }
 
-/// Returns a take step of the last bucket, then steps that choose devices.
+/// Makes a take step of the last bucket, then steps that choose devices.
 fn steps(alloc: Global) -> Result<Listed<Step>, AllocError> {
     let mut steps = Vec::new(alloc);
     steps.push(Step::Take(ItemId(-(BUCKETS as i32))))?;

@@ -103,7 +103,8 @@ fn refusal<R: Eprint>(rt: &R, refused: TextFault) -> io::Result<ExitCode> {
     Ok(ExitCode::from(1))
 }
 
-/// Returns the canonical text of the map whose text is on standard input.
+/// Prints the canonical text of the map whose text is on standard input, or that text's first
+/// fault.
 fn rewritten<R: AllocGlobal + Input + Print + Eprint>(rt: &R) -> io::Result<ExitCode> {
     match text::rewrite(rt)? {
         None => Ok(ExitCode::SUCCESS),

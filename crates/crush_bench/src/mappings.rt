@@ -26,7 +26,7 @@ fn with_answer(sum: u64, slots: &[Slot]) -> u64 {
     sum
 }
 
-/// Returns the checksum over the answers for the inputs below `count`.
+/// Computes the checksum over the answers for the inputs below `count`.
 fn checksum(ready: &mut Ready, size: Size, count: u32) -> u64 {
     let mut sum = 0;
     for x in 0..count {
@@ -35,7 +35,7 @@ fn checksum(ready: &mut Ready, size: Size, count: u32) -> u64 {
     sum
 }
 
-/// Times the mappings for the inputs below `count`; the time is the shortest.
+/// Times the mappings for the inputs below `count`; the time is the shortest of `RUNS` runs.
 pub(crate) fn measure<R: Clock>(
     rt: &R,
     ready: &mut Ready,

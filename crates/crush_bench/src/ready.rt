@@ -26,7 +26,7 @@ pub struct Ready<'a> {
 }
 
 impl<'a> Ready<'a> {
-    /// Returns a map with its tables and with pairs of device and reweight.
+    /// Makes a map ready to answer, with its tables and with pairs of device and reweight.
     pub(crate) fn build(
         alloc: Global,
         map: &'a CrushMap,
@@ -46,7 +46,8 @@ impl<'a> Ready<'a> {
         })
     }
 
-    /// Returns the answer of the map's first rule for an input; nothing where it has no rule.
+    /// Runs the map's first rule for the input `x`. Returns its answer; nothing where it has no
+    /// rule.
     pub(crate) fn answer(&mut self, x: u32, size: Size) -> &[Slot] {
         rules_of_a_map_can_run();
         match self.map.rules().first() {

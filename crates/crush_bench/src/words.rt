@@ -100,7 +100,7 @@ fn kind_of(word: &str) -> Option<Kind> {
     }
 }
 
-/// Returns a number from 1 to the greatest.
+/// Reads a number from 1 to `greatest`. `None`: the word is no such number.
 fn number(word: &str, greatest: u32) -> Option<u32>
     ensures { IfSome result (λ n. (1 ≤ n) × (n ≤ greatest)) }
 {
@@ -112,7 +112,7 @@ fn number(word: &str, greatest: u32) -> Option<u32>
     }
 }
 
-/// Returns the pairs of device and reweight that words name, or nothing where a word names no pair.
+/// Reads the pairs of device and reweight that words name. `None`: a word names no pair.
 pub(crate) fn reweights_of(
     alloc: Global,
     words: &[String],
@@ -127,7 +127,7 @@ pub(crate) fn reweights_of(
     Ok(Some(reweights))
 }
 
-/// DEVICE:REWEIGHT.
+/// Reads the pair that a word `DEVICE:REWEIGHT` names.
 fn reweight_of(word: &str) -> Option<(u32, u32)> {
     let (device, reweight) = word.split_once(':')?;
     Some((device.parse::<u32>().ok()?, reweight.parse::<u32>().ok()?))

@@ -77,7 +77,7 @@ HasItemsBelow t = (number place : ℕ) → number < length t.buckets → place <
 
 -- ---- the scratch
 
--- what contracts see of a scratch of these tables: the tables themselves. It has permutations, and
--- picks that were made ahead, of no other buckets
+-- what contracts see of a scratch of tables: the tables themselves. It has permutations, and picks
+-- that were made ahead, of no other buckets
 abbrev pub scratch_of : TablesView → TablesView
 scratch_of t = t

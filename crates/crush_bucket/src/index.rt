@@ -8,7 +8,7 @@ use crate::number::{BucketNo, index_place};
 use crate::table_row::TableRow;
 use std::alloc::{AllocError, Global};
 
-/// Returns a list that has at n the `BucketNo` of the bucket with the id -1 - n.
+/// Makes a list that has at n the `BucketNo` of the bucket with the id -1 - n.
 ///
 /// `Err(AllocError)`: an allocation failed; nothing is changed.
 pub(crate) fn index_of(
@@ -35,7 +35,7 @@ fn put(index: &mut Vec<Option<BucketNo>>, n: usize, place: usize)
     index[n] = Some(BucketNo::new(place));
 }
 
-/// Returns an index with no bucket.
+/// Makes an index of the length `size` with no bucket.
 fn empty_index(alloc: Global, size: usize) -> Result<Vec<Option<BucketNo>>, AllocError>
     ensures len { IfOk result (λ index. length index.items ≡ size) }
     ensures none { IfOk result (λ index. (n : ℕ) → slice_index_or index.items n None ≡ None) }

@@ -22,7 +22,7 @@ impl Model for BucketNo {
 }
 
 impl BucketNo {
-    /// Returns the number of the bucket at a place.
+    /// Makes the number of the bucket at a place.
     pub fn new(place: usize) -> Self
         ensures { result ≡ place }
     {

@@ -15,7 +15,7 @@ use std::marker::Model;
 /// How many inputs are picked for at once.
 pub const LANES: usize = 8;
 
-/// How many permutations a scratch for few inputs has at most, and how many pairs these have room
+/// How many permutations a scratch for few inputs has at most, and how many pairs they have room
 /// for together, unless `LEAST_SLOTS` need more: to make more would take longer than it saves.
 const FEW_SLOTS: usize = 32;
 
@@ -27,7 +27,7 @@ const MANY_PAIRS: usize = 262_144;
 /// How many permutations a scratch has at least, where there are as many buckets.
 const LEAST_SLOTS: usize = 4;
 
-/// The most picks of an input that are kept.
+/// The most picks of an input that are stored.
 const STEP_LIMIT: usize = 64;
 
 /// A pick that was made for eight inputs at once: for each of them a bucket, and the item that it
@@ -40,7 +40,7 @@ pub(crate) struct Step {
 }
 
 impl Step {
-    /// Returns what a lane's bucket picked, where it is this one and this attempt.
+    /// Returns what the bucket of `lane` picked, where it is `bucket` and the attempt is `r`.
     #[inline]
     fn item(&self, lane: usize, bucket: BucketNo, r: u32) -> Option<ItemId>
         requires { lane < 8 }
@@ -60,7 +60,7 @@ impl Step {
 pub struct Scratch<'a> {
     tables: &'a Tables,
     perms: Perms,
-    /// The inputs for which picks are made ahead, and these picks.
+    /// The inputs for which picks are made ahead, and the picks.
     xs: [u32; LANES],
     steps: Vec<Step>,
     /// The lane of the input that was asked last, and the step behind the one that was found for
@@ -93,7 +93,7 @@ impl<'a> Scratch<'a> {
     ghost use Rattle.crush_bucket.specs.Ahead.{ArePicks, IsPick};
     ghost use Rattle.crush_bucket.specs.Private.Ahead.{IsBucketOf};
 
-    /// Returns the scratch of tables, with few permutations of uniform buckets, for a few inputs.
+    /// Makes the scratch of tables, with few permutations of uniform buckets, for a few inputs.
     ///
     /// `Err(AllocError)`: an allocation failed; nothing is changed.
     pub fn build(alloc: Global, tables: &'a Tables) -> Result<Scratch<'a>, AllocError>
@@ -102,7 +102,7 @@ impl<'a> Scratch<'a> {
         Scratch::with_slots(alloc, tables, FEW_SLOTS, FEW_PAIRS)
     }
 
-    /// Returns the scratch of tables for many inputs: each uniform bucket has a permutation for
+    /// Makes the scratch of tables for many inputs: each uniform bucket has a permutation for
     /// itself, where the memory for that isn't more than 2 MiB.
     ///
     /// `Err(AllocError)`: an allocation failed; nothing is changed.
@@ -112,7 +112,8 @@ impl<'a> Scratch<'a> {
         Scratch::with_slots(alloc, tables, tables.len(), MANY_PAIRS)
     }
 
-    /// Returns the scratch of tables with at most so many permutations, and room for so many pairs.
+    /// Makes the scratch of tables with at most `most` permutations, and room for `pairs` pairs
+    /// together unless `LEAST_SLOTS` need more.
     fn with_slots(
         alloc: Global,
         tables: &'a Tables,
@@ -133,7 +134,7 @@ impl<'a> Scratch<'a> {
         })
     }
 
-    /// Returns the item that a bucket with a number picks.
+    /// Picks the item of `bucket`, which has the number `number`.
     #[inline]
     pub(crate) fn pick(&mut self, bucket: &AnyBucket, number: usize, x: u32, r: u32) -> ItemId
         requires fits { IsBucketOf self.old bucket.now }
@@ -144,7 +145,7 @@ impl<'a> Scratch<'a> {
         bucket.pick_by(&mut self.perms, number, x, r)
     }
 
-    /// Forgets what was picked ahead. What will be is for these inputs alone.
+    /// Forgets what was picked ahead. Picks are made ahead for the inputs `xs` alone from now on.
     pub fn turn_to(&mut self, xs: [u32; LANES])
         ensures { self.new ≡ self.old }
     {
@@ -156,9 +157,9 @@ impl<'a> Scratch<'a> {
 
     /// Picks ahead from a bucket for each of the eight inputs that were turned to, side by side,
     /// where all are tree buckets that have items, or all are uniform ones that are asked for the
-    /// same of their first four places; keeps what is picked, so that it isn't picked again, and
-    /// returns it. `None`: they aren't, these are other inputs, or there is no room or no memory
-    /// for more.
+    /// same of their first four places; stores what is picked, so that it isn't picked again, and
+    /// returns it. `None`: the buckets are others, `xs` are other inputs, or there is no room or
+    /// no memory for more.
     pub fn pick_ahead(
         &mut self,
         buckets: [BucketNo; LANES],
@@ -178,7 +179,7 @@ impl<'a> Scratch<'a> {
         }
     }
 
-    /// Returns what a bucket picks for an input and an attempt, where that was picked ahead.
+    /// Finds what a bucket picks for an input and an attempt, where that was picked ahead.
     #[inline]
     pub(crate) fn found(&mut self, bucket: BucketNo, x: u32, r: u32) -> Option<ItemId>
         ensures found { IfSome result (IsPick self.old bucket x r) }
@@ -190,7 +191,7 @@ impl<'a> Scratch<'a> {
         self.found_in_steps(bucket, x, r)
     }
 
-    /// Returns the same, where something was picked ahead.
+    /// Finds as `found` does, where something was picked ahead.
     fn found_in_steps(&mut self, bucket: BucketNo, x: u32, r: u32) -> Option<ItemId>
         ensures found { IfSome result (IsPick self.old bucket x r) }
         ensures same { self.new ≡ self.old }
@@ -205,8 +206,8 @@ impl<'a> Scratch<'a> {
     }
 }
 
-/// Returns the place of a step at which a lane's bucket was picked from at this attempt, and the
-/// item. What is asked for next mostly stands at `next`.
+/// Finds the step in which the bucket of `lane` is `bucket`, and the attempt is `r`. Returns its
+/// place and the item. What is asked for next mostly stands at `next`.
 fn find(
     steps: &[Step],
     next: usize,
@@ -231,7 +232,7 @@ fn find(
     None
 }
 
-/// Returns the lane of an input, if it has one.
+/// Finds the lane of an input, if it has one.
 fn lane_of(xs: &[u32; LANES], x: u32) -> Option<usize>
     ensures within { IfSome result (λ lane. lane < 8) }
     ensures value { IfSome result (λ lane. slice_index xs.now lane ≡ x) }

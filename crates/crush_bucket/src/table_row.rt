@@ -34,7 +34,7 @@ impl Model for TableRow {
 }
 
 impl TableRow {
-    /// Returns the row of a map's bucket.
+    /// Makes the row of a map's bucket.
     ///
     /// `Err(AllocError)`: an allocation failed; nothing is changed.
     pub(crate) fn build(alloc: Global, bucket: &Bucket) -> Result<Self, AllocError>

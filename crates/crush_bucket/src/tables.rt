@@ -47,7 +47,7 @@ impl Model for Tables {
 }
 
 impl Tables {
-    /// Returns the tables of a map.
+    /// Makes the tables of a map.
     ///
     /// `Err(AllocError)`: an allocation failed; nothing is changed.
     pub fn build(alloc: Global, map: &CrushMap) -> Result<Self, AllocError>
@@ -84,8 +84,8 @@ impl Tables {
         }
     }
 
-    /// Returns the items that eight buckets pick for eight inputs and one attempt, side by side,
-    /// where all eight are trees, or all are uniform and asked for the same early place.
+    /// Picks the items of eight buckets for eight inputs and one attempt, side by side, where all
+    /// eight are trees, or all are uniform and asked for the same early place.
     pub(crate) fn pick_eight(
         &self,
         buckets: &[BucketNo; 8],
@@ -100,7 +100,7 @@ impl Tables {
         }
     }
 
-    /// Returns the same where all eight are trees that have items.
+    /// Picks as `pick_eight` does where all eight are trees that have items.
     fn pick_trees(&self, buckets: &[BucketNo; 8], xs: &[u32; 8], r: u32) -> Option<[ItemId; 8]>
         ensures { IfSome result (λ items. ArePicks self.now buckets.now xs.now r items) }
     {
@@ -112,7 +112,7 @@ impl Tables {
         Some(pick_trees(&trees, xs, r))
     }
 
-    /// Returns the same where all eight are uniform and asked for the same early place.
+    /// Picks as `pick_eight` does where all eight are uniform and asked for the same early place.
     fn pick_uniforms(&self, buckets: &[BucketNo; 8], xs: &[u32; 8], r: u32) -> Option<[ItemId; 8]>
         ensures { IfSome result (λ items. ArePicks self.now buckets.now xs.now r items) }
     {
@@ -131,7 +131,7 @@ impl Tables {
         self.rows.len()
     }
 
-    /// Returns the number of the bucket with an id, if there is one.
+    /// Finds the number of the bucket with an id, if there is one.
     pub fn bucket_of(&self, item: ItemId) -> Option<BucketNo>
         ensures value { result ≡ bucket_numbered self.now item }
         ensures within { IfSome result (λ n. n < length self.now.buckets) }
@@ -186,7 +186,7 @@ impl Tables {
         self.rows[bucket.place()].items()
     }
 
-    /// Each item of a bucket is a bucket of a smaller number, or a device.
+    /// Says that each item of a bucket is a bucket of a smaller number, or a device. Does nothing.
     pub fn items_are_below(&self)
         ensures { HasItemsBelow self.now }
     {
@@ -207,8 +207,8 @@ impl Tables {
         self.devices.binary_search(&id).is_ok()
     }
 
-    /// Returns the item that a bucket picks for an input and an attempt, whatever the scratch was
-    /// asked before and whatever was picked ahead. Allocates nothing.
+    /// Picks the item of a bucket for an input and an attempt, whatever the scratch was asked
+    /// before and whatever was picked ahead. Allocates nothing.
     #[tactic(auto, unfolding(crate::specs::Tables::pick_at))]
     pub fn pick(&self, bucket: BucketNo, scratch: &mut Scratch, x: u32, r: u32) -> ItemId
         requires within { bucket < length self.now.buckets }
@@ -231,7 +231,7 @@ impl Tables {
     }
 }
 
-/// Returns the rows of a map's buckets.
+/// Makes the rows of a map's buckets.
 fn rows_of(alloc: Global, buckets: &[Bucket]) -> Result<Vec<TableRow>, AllocError>
     requires { All IsFit buckets.now }
     ensures { IfOk result (λ rows. rows.items ≡ map typed_bucket buckets.now) }
@@ -243,7 +243,7 @@ fn rows_of(alloc: Global, buckets: &[Bucket]) -> Result<Vec<TableRow>, AllocErro
     Ok(rows)
 }
 
-/// Returns the most items that a uniform bucket has.
+/// Finds the most items that a uniform bucket has.
 fn widest_of(rows: &[TableRow]) -> usize
     ensures { IsWidest rows.now result }
 {
@@ -256,7 +256,7 @@ fn widest_of(rows: &[TableRow]) -> usize
     most
 }
 
-/// Returns the ids of devices.
+/// Makes the list of the ids of devices.
 fn ids_of(alloc: Global, devices: &[Device]) -> Result<Vec<u32>, AllocError>
     ensures { IfOk result (λ ids. ids.items ≡ map (λ d. d.id) devices.now) }
 {

@@ -11,7 +11,7 @@ use Rattle.crush_cache.specs.Caches.{IsNumberOf, Numbered, WasNumberOf}
 use Rattle.crush_cache.specs.Private.Entries.{AreNumbered, AreRight, IsPlacementIn, IsPlacementOf}
 use Rattle.crush_cache.specs.declared.entries.Key.{Key}
 
--- an element keeps its place where the list gets longer
+-- an element's place is unchanged where the list gets longer
 slice_get-longer : {X : Type 0} (xs ys : List X) (i : ℕ) (x : X) → slice_get xs i ≡ Some x → slice_get (xs ++ ys) i ≡ Some x
 slice_get-longer xs ys i x h =
     let within : i < length xs = slice_get_within xs i x h in

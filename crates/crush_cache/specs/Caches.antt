@@ -7,11 +7,11 @@ pub record Numbered : Type 0 where
   pub first : ℕ
   pub contents : List Content
 
--- the content with a number is there, and is this one
+-- the content with the number n is there, and is c
 abbrev pub IsNumberOf : Numbered → ℕ → Content → Type 0
 IsNumberOf k n c = (k.first ≤ n) × (slice_get k.contents (n - k.first) ≡ Some c)
 
--- the number was given, and if its content is still there, it is this one
+-- the number n was given, and if its content is still there, it is c
 abbrev pub WasNumberOf : Numbered → ℕ → Content → Type 0
 WasNumberOf k n c = (n < k.first + length k.contents) × (k.first ≤ n → slice_get k.contents (n - k.first) ≡ Some c)
 

@@ -51,14 +51,14 @@ impl Model for PlacementCache {
         × AreRight (λ p. p.value) (record { first = a.first; contents = a.contents.items }) a.entries.entries };
 }
 
-/// Returns the place of the first content that is equal to another.
+/// Finds the place of the first content that is equal to another.
 fn place_of(contents: &[Content], content: &Content) -> Option<usize>
     ensures { result ≡ position (λ c. content_eq c content.now) contents.now }
 {
     contents.iter().position(|other| *other == *content)
 }
 
-/// Returns the placement of a group, which is made anew.
+/// Places a group anew, by its placer alone.
 fn place_anew(
     alloc: Global,
     placer: &Placer<'_>,
@@ -78,7 +78,7 @@ fn place_anew(
 }
 
 impl PlacementCache {
-    /// Returns an empty cache, with room for so many placements. `Err(AllocError)`: an allocation
+    /// Makes an empty cache, with room for `capacity` placements. `Err(AllocError)`: an allocation
     /// failed; nothing is changed.
     pub fn new(alloc: Global, capacity: NonZeroUsize) -> Result<Self, AllocError>
         ensures { IfOk result (λ cache. cache ≡ record { first = 0; contents = [] }) }
@@ -104,7 +104,7 @@ impl PlacementCache {
         }
     }
 
-    /// Gives a content the next number. `None` where no number is left, or memory is wanting.
+    /// Gives a content the next number. `None`: no number is left, or an allocation failed.
     fn add(&mut self, content: &Content) -> Option<u64>
         requires { length self.old.contents < CONTENT_LIMIT }
         ensures number { IfSome result (λ n. IsNumberOf self.new n content.now) }
@@ -124,9 +124,9 @@ impl PlacementCache {
         Some(number)
     }
 
-    /// Returns the number of a content, which is a new one where the content isn't there. It is
-    /// compared with those that have its hash, whole. `None` where it can't be kept: no number is
-    /// left, or an allocation failed.
+    /// Returns the number of a content, a new one where the content isn't there. The content is
+    /// compared, whole, with those that have its hash. `None`: it can't be kept, since no number
+    /// is left or an allocation failed.
     pub fn number_of(&mut self, content: &Content) -> Option<u64>
         ensures number { IfSome result (λ n. IsNumberOf self.new n content.now) }
         ensures given { IfSome result (λ n. WasNumberOf self.new n content.now) }
@@ -149,7 +149,7 @@ impl PlacementCache {
         self.first <= number
     }
 
-    /// Returns the placement that is kept of a group of the content with a number, if there is one.
+    /// Finds the placement that is kept of a group of the content with a number, if there is one.
     fn kept(&mut self, number: u64, group: u32) -> Option<Rc<Placement>>
         ensures placed { IfSome result (λ p. (c : Content) → IsNumberOf self.old number c → IsPlacementOf c group p.value) }
         ensures same { self.new ≡ self.old }
@@ -165,8 +165,8 @@ impl PlacementCache {
         keep(&mut self.entries, Key { number, group }, placement);
     }
 
-    /// Returns the placement of a group, which is made anew, and kept where there is memory for it.
-    /// The number is that of the content.
+    /// Places a group anew, and keeps the placement where there is memory for it. The number is
+    /// that of the content.
     fn place_and_keep(
         &mut self,
         number: u64,
@@ -264,9 +264,9 @@ impl PlacementCache {
         }
     }
 
-    /// Returns the same, by the number that this cache gave to the content of the placer, which
-    /// isn't looked at: where the placement is kept, nothing is allocated. Where the content isn't
-    /// there any more, the placement is made anew, and not kept.
+    /// Answers as `place` does, by the number that this cache gave to the content of the placer,
+    /// which isn't looked at: where the placement is kept, nothing is allocated. Where the content
+    /// isn't there any more, the placement is made anew, and not kept.
     pub fn place_known(
         &mut self,
         number: u64,

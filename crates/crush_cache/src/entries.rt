@@ -30,7 +30,8 @@ fn again(found: Option<&Rc<Placement>>) -> Option<Rc<Placement>>
     }
 }
 
-/// Returns the placement that is kept under a key, shared, if there is one. Takes no memory.
+/// Finds the placement that is kept under a key, and shares it. `None`: there is none. Takes no
+/// memory.
 pub(crate) fn recall(entries: &mut Entries, key: Key) -> Option<Rc<Placement>>
     ensures found { IfSome result (λ p. (kept : _) × Contains entries.old.entries (key, kept) × (p.value ≡ kept.value)) }
     ensures same { (e : _) → Contains entries.new.entries e → Contains entries.old.entries e }

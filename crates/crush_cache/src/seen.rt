@@ -7,7 +7,7 @@ use std::num::NonZeroUsize;
 /// How many placements of a cache share 64 marks.
 const PLACEMENTS_TO_A_WORD: usize = 4;
 
-/// Of each word's 64 marks so many are set on average when all are cleared.
+/// How many of each word's 64 marks are set on average when all are cleared.
 const SET_IN_A_WORD: usize = 8;
 
 /// 2^64 over the golden ratio: the multiples of it are spread evenly.
@@ -24,8 +24,8 @@ pub(crate) struct Seen {
 }
 
 impl Seen {
-    /// Nothing was asked for yet of a cache for so many placements. `Err(AllocError)`: an
-    /// allocation failed; nothing is changed.
+    /// Makes the marks of a cache for `capacity` placements: nothing was asked for yet.
+    /// `Err(AllocError)`: an allocation failed; nothing is changed.
     pub(crate) fn new(alloc: Global, capacity: NonZeroUsize) -> Result<Self, AllocError> {
         let count = capacity.get() / PLACEMENTS_TO_A_WORD + 1;
         Ok(Seen {

@@ -81,7 +81,7 @@ pub leafless : (t : TablesView) (w : List ℕ) (c : FirstnCall) → HasNoDeviceB
 unfolding firstn
 leafless t w c typed e = grown-leafless t w c typed e c.numrep
 
--- ---- leaves if none is wanted
+-- ---- leaves if none is required
 
 append_same : {a b d e : List Slot} → a ≡ b → d ≡ e → a ++ d ≡ b ++ e
 append_same p q = rw (p, q) refl
@@ -139,7 +139,7 @@ grown_owns t w c (suc n) =
     let own = room_owns (nat_lt (length (items_of ms)) c.room) (decided t w (leafless_call c) (items_of ms) (leaves_of ms) n) (decided_owns t w c (items_of ms) (leaves_of ms) n) in
     slots_append (λ s. Some s.leaf) ms (next ms n ∷ []) ∙ (append_same (grown_owns t w c n) own ∙ sym (slots_append (λ s. Some s.item) ms (next ms n ∷ [])))
 
--- if no leaf is wanted, the leaves are the items
+-- if no leaf is required, the leaves are the items
 firstn_owns : (t : TablesView) (w : List ℕ) (c : FirstnCall) → leaves_of (firstn t w (leafless_call c)) ≡ items_of (firstn t w (leafless_call c))
 unfolding firstn
 firstn_owns t w c = grown_owns t w c c.numrep

@@ -115,7 +115,7 @@ in_same : (w v : List ℕ) (x device : ℕ) → weight_at v device ≡ weight_at
 unfolding is_in
 in_same w v x device same = rw same refl
 
--- the second reweights are the same for these devices
+-- the second reweights are the same for each of the devices
 abbrev AreSame : List ℕ → List ℕ → List ℕ → Type 0
 AreSame w v devices = (device : ℕ) → has_number devices device ≡ true → weight_at v device ≡ weight_at w device
 
@@ -231,7 +231,7 @@ pub either_holds : (a b : Bool) → (a || b) ≡ true → (a ≡ true) ⊎ (b �
 either_holds true b e = inl refl
 either_holds false b e = inr e
 
--- a device among these whose reweight is lower
+-- one of the devices, with a lower second reweight
 abbrev IsLoweredAmong : List ℕ → List ℕ → List ℕ → Type 0
 IsLoweredAmong w v devices = (device : ℕ) × (has_number devices device ≡ true) × (weight_at v device < weight_at w device)
 

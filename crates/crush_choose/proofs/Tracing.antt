@@ -1,4 +1,4 @@
--- Sorting a list and dropping duplicates keeps its numbers.
+-- A list has the same numbers once it is sorted and its duplicates are dropped.
 use Rattle.std.proofs.Common.{◌≡◌, ℕ, List, [], ◌∷◌, Bool, true, false, ◌||◌, ◌==◌, if◌then◌else◌, eqb, refl, ap, sym, ◌∙◌, arith}
 use Rattle.std.specs.List.{dedup, dedup_from}
 use Rattle.std.specs.List.Sorted.{IsPermutation}

@@ -1,3 +1,3 @@
--- What private clauses alone cite: what the code keeps, and the bounds that it stays within. No
+-- What private clauses alone cite: what the code stores, and the bounds that it stays within. No
 -- public clause rests on it.
 pub mod Runs

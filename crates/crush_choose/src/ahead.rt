@@ -43,7 +43,7 @@ impl Guess {
     }
 }
 
-/// Returns the buckets that these items are; `None` where one is a device.
+/// Finds the buckets that `items` are. `None`: one of them is a device.
 fn buckets_of(tables: &Tables, items: &[ItemId; LANES]) -> Option<[BucketNo; LANES]> {
     let first = tables.bucket_of(items[0])?;
     let second = tables.bucket_of(items[1])?;
@@ -56,13 +56,13 @@ fn buckets_of(tables: &Tables, items: &[ItemId; LANES]) -> Option<[BucketNo; LAN
     Some([first, second, third, fourth, fifth, sixth, seventh, eighth])
 }
 
-/// Returns whether a bucket has the wanted type.
+/// Returns whether a bucket has the type `wanted`.
 fn is_wanted(tables: &Tables, bucket: BucketNo, wanted: u32) -> bool {
     bucket.place() < tables.len() && tables.type_of(bucket) == wanted
 }
 
 /// Picks ahead down from eight buckets, for eight inputs and an attempt. Returns the buckets of the
-/// wanted type that are reached; `None` where the walks part or end before.
+/// type `wanted` that are reached. `None`: the walks part or end before.
 fn walk_ahead(
     tables: &Tables,
     scratch: &mut Scratch,
@@ -126,7 +126,7 @@ pub fn can_look_ahead(tables: &Tables, rule: &Rule) -> bool {
 }
 
 /// Picks ahead what a rule asks for at its first tries, for eight inputs and an answer of at most
-/// `size` slots. What the rule answers afterwards is the same, for these inputs and for others. It
+/// `size` slots. What the rule answers afterwards is the same, for `xs` and for other inputs. It
 /// may allocate; where that fails less is picked ahead.
 pub fn look_ahead(tables: &Tables, scratch: &mut Scratch, rule: &Rule, xs: [u32; LANES], size: u32)
     requires { scratch.old ≡ scratch_of tables.now }

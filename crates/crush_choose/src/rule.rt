@@ -1,4 +1,4 @@
-//! Rules are run.
+//! Running a rule.
 
 ghost use Rattle.std.specs.Prelude.{◌≡◌, ◌<◌, ◌≤◌, ◌+◌, ◌-◌, ◌*◌, ◌++◌, [], ◌∷◌, take, length, vec_len, vec_capacity, slice_index_or, IfOk, Some, true, ℕ, List};
 ghost use Rattle.std.specs.List.Sorted.{IsStrictlyIncreasing};
@@ -44,7 +44,7 @@ pub(crate) struct Run {
     pub made: Vec<u32>,
 }
 
-/// Returns how many items a choose step with count n asks for, in an answer of this size.
+/// Returns how many items a choose step with count n asks for, in an answer of `size` slots.
 pub(crate) fn reps(n: i32, size: u32) -> u32
     ensures { result ≡ spec.reps n size }
 {
@@ -323,7 +323,7 @@ impl Model for Out {
 }
 
 impl Out {
-    /// Returns an empty answer and an empty trace, with the memory that any rule needs.
+    /// Makes an empty answer and an empty trace, with the memory that any rule needs.
     ///
     /// `Err(AllocError)`: an allocation failed; nothing is changed.
     pub fn build(alloc: Global) -> Result<Out, AllocError>

@@ -1,4 +1,4 @@
--- The hashes that are kept beside texts, states of devices, exceptions of pools and contents, so
+-- The hashes that are stored beside texts, states of devices, exceptions of pools and contents, so
 -- that each is made once.
 use Rattle.std.specs.Prelude.{ℕ, List, ◌++◌, flat_map, fold}
 use Rattle.std.specs.Hash as fed
@@ -8,11 +8,11 @@ use Rattle.crush_pool.specs.declared.exceptions.Pair.{Pair}
 use Rattle.crush_pool.specs.declared.pool.PoolParts.{PoolParts}
 use Rattle.crush_pool.specs.declared.states.DeviceState.{DeviceState}
 
--- a hasher after these writes
+-- a hasher after the writes
 abbrev pub fed_with : FoldHasher → List (List ℕ) → FoldHasher
 fed_with hasher writes = fold folding.write hasher writes
 
--- what a new hasher answers after these writes
+-- what a new hasher answers after the writes
 abbrev pub hash_of : List (List ℕ) → ℕ
 hash_of writes = folding.finish (fed_with folding.initial writes)
 

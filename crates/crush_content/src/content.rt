@@ -19,7 +19,7 @@ use std::rc::Rc;
 pub const LONG_TEXT: usize = 65_536;
 
 /// What placements depend on: the canonical text of a map, all states of devices, a pool, and the
-/// exceptions of the pool. Contracts see these four, of the exceptions the pairs.
+/// exceptions of the pool. Contracts see the four, of the exceptions the pairs.
 #[derive(Drop)]
 pub struct Content {
     text: SharedText,
@@ -41,7 +41,7 @@ impl Model for Content {
     ghost invariant = { λ a. a.hash ≡ content_hash (record { text = a.text; states = a.states; pool = a.pool.value; pairs = a.exceptions }) };
 }
 
-/// Returns the hash of a text's hash, that of states, that of pairs, and a pool.
+/// Hashes a text's hash, that of states, that of pairs, and a pool.
 fn hash_of(text: u64, states: u64, pairs: u64, pool: &Pool) -> u64
     ensures { result ≡ joined_hash text states pairs pool.now }
 {
@@ -58,8 +58,8 @@ impl Content {
     ghost use Rattle.crush_content.specs.Contents.{content_eq};
     ghost use Rattle.crush_content.specs.declared.content.TheConstants.{LONG_TEXT};
 
-    /// Returns the content of these. Takes no memory, and time that doesn't depend on the lengths
-    /// of the text, of the states and of the exceptions.
+    /// Makes the content of a text, states, a pool and its exceptions. Takes no memory, and time
+    /// that doesn't depend on the lengths of the text, of the states and of the exceptions.
     pub fn new(
         text: SharedText,
         states: SharedStates,
@@ -95,7 +95,7 @@ impl Content {
             && self.text.as_str() == other.text.as_str()
     }
 
-    /// Returns the same content again: its parts are shared, and not copied. Takes no memory, but
+    /// Shares the content: the copy has the same parts, which aren't copied. Takes no memory, but
     /// can be refused where the number of those who share a part is full.
     pub fn share(&self) -> Result<Self, AllocError>
         ensures { IfOk result (λ again. again ≡ self.now) }
@@ -118,7 +118,7 @@ impl PartialEq for Content {
 
     ghost laws = { content_laws.0 };
 
-    // contents with different hashes differ, so that most of them are told apart in no time
+    // contents with different hashes differ, so that most of them are found to differ in no time
     fn eq(&self, other: &Content) -> bool {
         self.hash == other.hash && self.is_same(other)
     }

@@ -39,7 +39,7 @@ fn feed(hasher: &mut FoldHasher, pair: &Pair)
     pair.to.hash(hasher);
 }
 
-/// Returns the hash of pairs.
+/// Hashes pairs.
 fn hash_of(pairs: &[Pair]) -> u64
     ensures { result ≡ pairs_hash pairs.now }
 {
@@ -56,7 +56,7 @@ impl SharedExceptions {
     ghost use Rattle.crush_content.specs.Contents.{pair_eq};
     ghost use Rattle.crush_content.specs.Hashes.{pairs_hash};
 
-    /// Returns these exceptions. Takes time linear in the number of pairs, for the hash.
+    /// Makes exceptions that can be shared. Takes time linear in the number of pairs, for the hash.
     /// `Err(AllocError)`: an allocation failed; the exceptions are dropped.
     pub fn new(alloc: Global, exceptions: Exceptions) -> Result<Self, AllocError>
         ensures { IfOk result (λ shared. shared ≡ exceptions) }
@@ -87,8 +87,8 @@ impl SharedExceptions {
         self.exceptions.pairs() == other.exceptions.pairs()
     }
 
-    /// Returns the same exceptions again, shared. Takes no memory, but can be refused where the
-    /// number of those who share them is full.
+    /// Shares the exceptions with one more who has them. Takes no memory, but can be refused where
+    /// the number of those who share them is full.
     pub fn share(&self) -> Result<Self, AllocError>
         ensures { IfOk result (λ again. again ≡ self.now) }
     {

@@ -40,7 +40,7 @@ fn feed(hasher: &mut FoldHasher, state: &DeviceState)
     state.up.hash(hasher);
 }
 
-/// Returns the hash of states.
+/// Hashes states.
 fn hash_of(states: &[DeviceState]) -> u64
     ensures { result ≡ states_hash states.now }
 {
@@ -55,8 +55,8 @@ impl SharedStates {
     ghost use Rattle.std.specs.Prelude.{◌≡◌, IfOk};
     ghost use Rattle.crush_content.specs.Hashes.{states_hash};
 
-    /// Returns these states. Takes time linear in their number, for the hash. `Err(AllocError)`: an
-    /// allocation failed; the list is dropped.
+    /// Makes states that can be shared. Takes time linear in their number, for the hash.
+    /// `Err(AllocError)`: an allocation failed; the list is dropped.
     pub fn new(states: Vec<DeviceState>) -> Result<Self, AllocError>
         ensures { IfOk result (λ shared. shared ≡ states.items) }
     {
@@ -72,15 +72,15 @@ impl SharedStates {
         self.states.as_slice()
     }
 
-    /// Their hash.
+    /// Returns the hash of the states.
     pub fn hash(&self) -> u64
         ensures { result ≡ states_hash self.now }
     {
         self.hash
     }
 
-    /// Returns the same states again, shared. Takes no memory, but can be refused where the number
-    /// of those who share them is full.
+    /// Shares the states with one more who has them. Takes no memory, but can be refused where the
+    /// number of those who share them is full.
     pub fn share(&self) -> Result<Self, AllocError>
         ensures { IfOk result (λ again. again ≡ self.now) }
     {

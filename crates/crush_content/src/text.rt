@@ -28,7 +28,7 @@ impl Model for SharedText {
     ghost invariant = { λ a. a.hash ≡ text_hash (rc_str_bytes a.text) };
 }
 
-/// Returns the hash of a text.
+/// Hashes a text.
 fn hash_of(text: &str) -> u64
     ensures { result ≡ text_hash text.now }
 {
@@ -41,7 +41,7 @@ impl SharedText {
     ghost use Rattle.std.specs.Prelude.{◌≡◌, IfOk, string_bytes, bytes_eq};
     ghost use Rattle.crush_content.specs.Hashes.{text_hash};
 
-    /// Returns the text of a string, which is kept. Takes time linear in its length, for the hash.
+    /// Makes the text of a string, which it holds. Takes time linear in its length, for the hash.
     /// `Err(AllocError)`: an allocation failed; the string is dropped.
     pub fn new(string: String) -> Result<Self, AllocError>
         ensures { IfOk result (λ text. text ≡ string_bytes string) }
@@ -58,15 +58,15 @@ impl SharedText {
         self.text.as_str()
     }
 
-    /// Returns its hash.
+    /// Returns the hash of the text.
     pub fn hash(&self) -> u64
         ensures { result ≡ text_hash self.now }
     {
         self.hash
     }
 
-    /// Returns the same text again, shared. Takes no memory, but can be refused where the number of
-    /// those who share it is full.
+    /// Shares the text with one more who has it. Takes no memory, but can be refused where the
+    /// number of those who share it is full.
     pub fn share(&self) -> Result<Self, AllocError>
         ensures { IfOk result (λ again. again ≡ self.now) }
     {

@@ -233,7 +233,7 @@ no_weight c text b before item e h w =
     let m : None ≡ item.weight = ap (λ z. z.weight) l in
     cc
 
--- list and a brace end a bucket without items where an algorithm is wanted, and nowhere else
+-- list and a brace end a bucket without items where an algorithm is expected, and nowhere else
 pub at_alg : (q : State) (line : ℕ) (b : DeclaredBucket) (xs ds : List Declaration) → Ends q line (closed_by (codes "list")) →
     xs ++ (reading q line (closed_by (codes "list"))).decls ≡ ds ++ declarations.Bucket b ∷ [] → b.items ≡ [] → wants_alg q ≡ true
 unfolding step number_of weight_of integer_of name_of type_of tunable_of alg_of hash_of rule_id_of erasure_of firstn_of setting_of
@@ -249,7 +249,7 @@ at_alg (IdClass x None) line b xs ds e d none = cc
 at_alg (IdClass x (Some i)) line b xs ds e d none = cc
 at_alg other line b xs ds e d none = cc
 
--- 0.5 and a brace end a bucket whose last item has that weight where a weight is wanted, and
+-- 0.5 and a brace end a bucket whose last item has that weight where a weight is expected, and
 -- nowhere else
 pub at_weight : (q : State) (line : ℕ) (b : DeclaredBucket) (before : List DeclaredItem) (item : DeclaredItem) (xs ds : List Declaration) → Ends q line (closed_by (codes "0.5")) →
     xs ++ (reading q line (closed_by (codes "0.5"))).decls ≡ ds ++ declarations.Bucket b ∷ [] → b.items ≡ before ++ item ∷ [] → item.weight ≡ Some one_half → wants_weight q ≡ true

@@ -122,12 +122,12 @@ abbrev pub is_taken : State → Bool
 is_taken (Taken r) = true
 is_taken other = false
 
--- the algorithm of a bucket is wanted
+-- the algorithm of a bucket is expected
 abbrev pub wants_alg : State → Bool
 wants_alg (AlgWord h i) = true
 wants_alg other = false
 
--- the weight of an item is wanted
+-- the weight of an item is expected
 abbrev pub wants_weight : State → Bool
 wants_weight (WeightWord b e) = true
 wants_weight other = false

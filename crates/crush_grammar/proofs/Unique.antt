@@ -30,15 +30,15 @@ use Rattle.crush_grammar.proofs.Whole.{one_place, not_both}
 
 -- ---- the code
 
--- one of these at most
+-- at most one of the four holds
 abbrev pub one_of : Bool → Bool → Bool → Bool → Bool
 one_of true b c d = not (b || (c || d))
 one_of false true c d = not (c || d)
 one_of false false true d = not d
 one_of false false false d = true
 
--- a state wants a weight, or an algorithm, or may begin a declaration, or is behind a take, and no
--- two of these
+-- a state expects a weight, or an algorithm, or may begin a declaration, or is behind a take, and
+-- no two of these hold
 pub one_at : (q : State) → one_of (wants_weight q) (wants_alg q) (is_open q) (is_taken q) ≡ true
 one_at (AlgWord h i) = refl
 one_at (WeightWord b e) = refl

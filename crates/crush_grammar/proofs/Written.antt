@@ -167,7 +167,7 @@ After (ChooseType r leaf h n) ds ws = Said name_of (λ w x vs. AfterSteps (with_
 After (Steps r) ds ws = AfterSteps r ds ws
 After (Dead f) ds ws = ⊥
 
--- a step takes what may follow the next state to what may follow this one
+-- a step takes what may follow the next state to what may follow the state before it
 abbrev Joins : State → Word → Move → Type 0
 Joins p w s = (ws : List Word) (r : Reading) → After s.state r.decls ws → After p (give s.done r).decls (w ∷ ws)
 

@@ -96,7 +96,7 @@ FrontDeclares front ds = Declares front ds ⊎ (¬ (IsWhole front) × ((xs : Lis
 
 -- ---- faults of the form
 
--- the line of the last word, or this one
+-- the line of the last word, or `line` where there is no word
 abbrev pub last_line : ℕ → List Word → ℕ
 last_line line [] = line
 last_line line (w ∷ ws) = last_line w.line ws

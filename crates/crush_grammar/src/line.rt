@@ -6,7 +6,7 @@ ghost use Rattle.crush_grammar.specs.Fronts as spec;
 
 use crush_words::Cursor;
 
-/// Returns the line of the last word of a text, or 1.
+/// Finds the line of the last word of a text, or 1.
 pub fn last_line(text: &[u8]) -> usize
     ensures { result ≡ spec.last_line 1 (words text.now) }
 {

@@ -26,7 +26,7 @@ pub struct Declarations<'a> {
     pub fault: Option<TextFault>,
 }
 
-/// Reads a tunable, a device or a type, of which this is the first word.
+/// Reads a tunable, a device or a type, whose first word is `word`.
 #[tactic(auto, using(crate::proofs::States::dead), unfolding(crate::specs::Automaton::step))]
 fn early_declaration<'a>(
     word: &Word<'a>,
@@ -48,7 +48,7 @@ fn early_declaration<'a>(
     Ok((Declaration::TypeName(declared), rest))
 }
 
-/// Reads a bucket or a rule, of which this is the first word.
+/// Reads a bucket or a rule, whose first word is `word`.
 #[tactic(auto, using(crate::proofs::States::dead), unfolding(crate::specs::Automaton::step))]
 fn late_declaration<'a>(
     alloc: Global,
@@ -75,7 +75,7 @@ fn late_declaration<'a>(
     Ok((Declaration::Bucket(bucket), rest))
 }
 
-/// Reads a declaration, of which this is the first word.
+/// Reads a declaration, whose first word is `word`.
 #[tactic(auto, using(crate::proofs::States::dead), unfolding(crate::specs::Automaton::step))]
 fn declaration<'a>(
     alloc: Global,
@@ -123,7 +123,7 @@ fn stopped<'a>(
     }
 }
 
-/// Returns what a text declares, and its first fault of form, as the automaton reads them.
+/// Reads what a text declares, and finds its first fault of form, as the automaton does.
 ///
 /// `Err(AllocError)`: an allocation failed; nothing is changed.
 fn read_words<'a>(alloc: Global, text: &'a [u8]) -> Result<Declarations<'a>, AllocError>
@@ -148,7 +148,7 @@ fn read_words<'a>(alloc: Global, text: &'a [u8]) -> Result<Declarations<'a>, All
     })
 }
 
-/// Returns what a text declares, up to its first fault of form, whatever its length.
+/// Reads what a text declares, up to its first fault of form, whatever its length.
 ///
 /// If there is no fault, its words are of the grammar. What is declared isn't checked.
 ///

@@ -146,7 +146,7 @@ fn choose_number<'a>(
     Ok(((firstn, n), rest))
 }
 
-/// Reads the type that a choose step wants.
+/// Reads the type of the items that a choose step chooses.
 #[tactic(auto, using(crate::proofs::States::dead), unfolding(crate::specs::Automaton::step))]
 fn choose_type<'a>(
     leaf: bool,
@@ -182,7 +182,7 @@ fn choose_step<'a>(
     choose_type(leaf, firstn, n, &rest)
 }
 
-/// Reads what a set step sets.
+/// Reads the value of a set step.
 #[tactic(auto, using(crate::proofs::States::dead), unfolding(crate::specs::Automaton::step))]
 fn set_value<'a>(
     setting: Setting,

@@ -15,7 +15,7 @@ use crate::error::ReadError;
 use crush_map::{Kind, all_are_name_bytes, is_reserved};
 use crush_words::{Cursor, Name, Word, integer_from_text, number_from_text};
 
-/// Returns the error of a word that is not of the grammar, or of the end of a text, on this line.
+/// Returns the error of a word that is not of the grammar, or of the end of a text, on line `line`.
 pub(crate) fn out_of_grammar(line: usize) -> ReadError
     ensures { result ≡ out_of_grammar line }
 {
@@ -25,7 +25,7 @@ pub(crate) fn out_of_grammar(line: usize) -> ReadError
     })
 }
 
-/// Returns the next word, and what is left after it. An error: no word is left.
+/// Reads the next word. Returns it, and the words after it. `Err`: no word remains.
 pub(crate) fn next<'a>(cursor: &Cursor<'a>) -> Result<(Word<'a>, Cursor<'a>), ReadError>
     ensures value { MatchResult result (λ r. (cursor.now.words ≡ r.0 ∷ r.1.words) × (r.1.line ≡ r.0.line)) (λ e. (cursor.now.words ≡ []) × (e ≡ out_of_grammar cursor.now.line)) }
 {
@@ -35,14 +35,14 @@ pub(crate) fn next<'a>(cursor: &Cursor<'a>) -> Result<(Word<'a>, Cursor<'a>), Re
     }
 }
 
-/// Returns whether a word has this text.
+/// Returns whether a word has the text `text`.
 pub(crate) fn is(text: &[u8], word: &Word<'_>) -> bool
     ensures { result ≡ fronts.is text.now word.now }
 {
     word.text() == text
 }
 
-/// Nothing if a word has this text, or else the error that it is not of the grammar.
+/// Checks that a word has the text `text`. `Err`: it has another, which is not of the grammar.
 pub(crate) fn keyword(text: &[u8], word: &Word<'_>) -> Result<(), ReadError>
     ensures { MatchResult result (λ _. fronts.is text.now word.now ≡ true) (λ e. (fronts.is text.now word.now ≡ false) × (e ≡ out_of_grammar word.now.line)) }
 {
@@ -53,7 +53,7 @@ pub(crate) fn keyword(text: &[u8], word: &Word<'_>) -> Result<(), ReadError>
     }
 }
 
-/// Returns the number that a word writes.
+/// Reads the number that a word writes. `Err`: it writes none.
 pub(crate) fn number(word: &Word<'_>) -> Result<u64, ReadError>
     ensures { result ≡ said word.now (numbers.number_of word.now.text) }
 {
@@ -63,7 +63,7 @@ pub(crate) fn number(word: &Word<'_>) -> Result<u64, ReadError>
     }
 }
 
-/// Returns the integer that a word writes.
+/// Reads the integer that a word writes. `Err`: it writes none.
 pub(crate) fn integer(word: &Word<'_>) -> Result<i64, ReadError>
     ensures { result ≡ said word.now (numbers.integer_of word.now.text) }
 {
@@ -85,7 +85,7 @@ fn as_text(bytes: &[u8]) -> &str
     }
 }
 
-/// Returns the name that a word is.
+/// Reads the name that a word is. `None`: it is no name.
 #[tactic(auto, unfolding(crate::specs::Sayings::name_of))]
 pub(crate) fn name_of<'a>(word: &Word<'a>) -> Option<Name<'a>>
     ensures { result ≡ spec.name_of word.now.text }
@@ -98,7 +98,7 @@ pub(crate) fn name_of<'a>(word: &Word<'a>) -> Option<Name<'a>>
     }
 }
 
-/// Returns the name that a word is.
+/// Reads the name that a word is. `Err`: it is no name.
 pub(crate) fn name<'a>(word: &Word<'a>) -> Result<Name<'a>, ReadError>
     ensures { result ≡ said word.now (spec.name_of word.now.text) }
 {
@@ -108,7 +108,7 @@ pub(crate) fn name<'a>(word: &Word<'a>) -> Result<Name<'a>, ReadError>
     }
 }
 
-/// Returns the type of a bucket that a word names.
+/// Reads the type of a bucket that a word names. `None`: it names none.
 #[tactic(auto, unfolding(crate::specs::Sayings::type_of))]
 pub(crate) fn type_of<'a>(word: &Word<'a>) -> Option<Name<'a>>
     ensures { result ≡ spec.type_of word.now.text }
@@ -120,7 +120,7 @@ pub(crate) fn type_of<'a>(word: &Word<'a>) -> Option<Name<'a>>
     }
 }
 
-/// Returns the tunable that a word names.
+/// Reads the tunable that a word names. `None`: it names none.
 #[tactic(auto, unfolding(crate::specs::Sayings::tunable_of))]
 fn tunable_of(word: &Word<'_>) -> Option<TunableName>
     ensures { result ≡ spec.tunable_of word.now.text }
@@ -146,7 +146,7 @@ fn tunable_of(word: &Word<'_>) -> Option<TunableName>
     }
 }
 
-/// Returns the tunable that a word names.
+/// Reads the tunable that a word names. `Err`: it names none.
 pub(crate) fn tunable(word: &Word<'_>) -> Result<TunableName, ReadError>
     ensures { result ≡ said word.now (spec.tunable_of word.now.text) }
 {
@@ -156,7 +156,7 @@ pub(crate) fn tunable(word: &Word<'_>) -> Result<TunableName, ReadError>
     }
 }
 
-/// Returns the algorithm that a word names.
+/// Reads the algorithm that a word names. `None`: it names none.
 #[tactic(auto, unfolding(crate::specs::Sayings::alg_of))]
 pub(crate) fn alg_of(word: &Word<'_>) -> Option<Kind>
     ensures { result ≡ spec.alg_of word.now.text }
@@ -164,7 +164,7 @@ pub(crate) fn alg_of(word: &Word<'_>) -> Option<Kind>
     Kind::named(word.text())
 }
 
-/// Returns the type of a rule that a word names.
+/// Reads the type of a rule: whether it is for erasure coded pools. `Err`: the word names no type.
 #[tactic(auto, unfolding(crate::specs::Sayings::erasure_of))]
 pub(crate) fn erasure(word: &Word<'_>) -> Result<bool, ReadError>
     ensures { result ≡ said word.now (spec.erasure_of word.now.text) }
@@ -178,7 +178,7 @@ pub(crate) fn erasure(word: &Word<'_>) -> Result<bool, ReadError>
     }
 }
 
-/// Returns how a word says that a step chooses.
+/// Reads how a step chooses: whether by firstn, else by indep. `Err`: the word is neither.
 #[tactic(auto, unfolding(crate::specs::Sayings::firstn_of))]
 pub(crate) fn firstn(word: &Word<'_>) -> Result<bool, ReadError>
     ensures { result ≡ said word.now (spec.firstn_of word.now.text) }
@@ -192,7 +192,7 @@ pub(crate) fn firstn(word: &Word<'_>) -> Result<bool, ReadError>
     }
 }
 
-/// Returns what a word sets.
+/// Reads what a set step sets. `Err`: the word names no setting.
 #[tactic(auto, unfolding(crate::specs::Sayings::setting_of))]
 pub(crate) fn setting(word: &Word<'_>) -> Result<Setting, ReadError>
     ensures { result ≡ said word.now (spec.setting_of word.now.text) }
@@ -214,7 +214,7 @@ pub(crate) fn setting(word: &Word<'_>) -> Result<Setting, ReadError>
     }
 }
 
-/// Nothing if a word names the one hash that there is, or else the error that it is not of the
+/// Checks that a word names the one hash that there is. `Err`: it doesn't, so it is not of the
 /// grammar.
 #[tactic(auto, unfolding(crate::specs::Sayings::hash_of))]
 pub(crate) fn hash(word: &Word<'_>) -> Result<(), ReadError>
@@ -227,7 +227,7 @@ pub(crate) fn hash(word: &Word<'_>) -> Result<(), ReadError>
     }
 }
 
-/// Nothing if a word may be before the id of a rule, or else the error that it is not of the
+/// Checks that a word may be before the id of a rule. `Err`: it may not, so it is not of the
 /// grammar.
 #[tactic(auto, unfolding(crate::specs::Sayings::rule_id_of))]
 pub(crate) fn rule_id(word: &Word<'_>) -> Result<(), ReadError>

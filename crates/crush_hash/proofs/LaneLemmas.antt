@@ -12,7 +12,7 @@ lane_of f size x y lx ly n h = get_or-zip2 f x y n 0 0 0 (omega arith) (omega ar
 sized : (f : ℕ → ℕ → ℕ) (size : ℕ) (x y : List ℕ) → length x ≡ size → length y ≡ size → length (zip2 f x y) ≡ size
 sized f size x y lx ly = length-zip2 f x y (lx ∙ sym ly) ∙ lx
 
--- x - y - z, xor z shifted by so many bits, in each lane
+-- x - y - z, xor z shifted by `bits` bits, in each lane
 pub line_of : (shift : ℕ → ℕ → ℕ) (bits size : ℕ) (x y z : List ℕ) → length x ≡ size → length y ≡ size → length z ≡ size → (n : ℕ) → n < size
     → slice_index (zip2 bit_xor (zip2 minus (zip2 minus x y) z) (zip2 shift z (replicate size bits))) n
     ≡ bit_xor (minus (minus (slice_index x n) (slice_index y n)) (slice_index z n)) (shift (slice_index z n) bits)

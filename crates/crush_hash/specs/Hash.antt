@@ -16,11 +16,11 @@ plus x y = (x + y) % 2 ^ 32
 abbrev pub minus : ℕ → ℕ → ℕ
 minus x y = (x + (2 ^ 32 - y)) % 2 ^ 32
 
--- x - y - z, xor z shifted right by so many bits
+-- x - y - z, xor z shifted right by `bits` bits
 unfoldable pub down : ℕ → ℕ → ℕ → ℕ → ℕ
 down bits x y z = bit_xor (minus (minus x y) z) (z / 2 ^ bits)
 
--- x - y - z, xor z shifted left by so many bits; what leaves the word is dropped
+-- x - y - z, xor z shifted left by `bits` bits; what leaves the word is dropped
 unfoldable pub up : ℕ → ℕ → ℕ → ℕ → ℕ
 up bits x y z = bit_xor (minus (minus x y) z) ((z * 2 ^ bits) % 2 ^ 32)
 
@@ -72,7 +72,7 @@ stirred (words, hash) (i, j) =
     let mixed = mix (slice_index words i, slice_index words j, hash) in
     (slice_set (slice_set words i mixed.0) j mixed.1, mixed.2)
 
--- what a hash becomes, stirred at these pairs of places in turn
+-- what a hash becomes, stirred at each of `pairs` of places in turn
 abbrev pub hash_from : ℕ → List (ℕ × ℕ) → List ℕ → ℕ
 hash_from hash pairs words = (fold stirred (231232 ∷ 1232 ∷ words, hash) pairs).1
 
@@ -114,7 +114,7 @@ word_at name place =
     let byte = λ (k : ℕ). slice_index name (place + k) in
     (byte 0 + 2 ^ 8 * byte 1 + 2 ^ 16 * byte 2 + 2 ^ 24 * byte 3) % 2 ^ 32
 
--- words, to each of which a word is added, mixed
+-- three words, to each of which a word is added, mixed
 unfoldable pub absorb : Words → Words → Words
 absorb (a, b, c) (p, q, r) = mix (plus a p, plus b q, plus c r)
 
@@ -122,13 +122,13 @@ absorb (a, b, c) (p, q, r) = mix (plus a p, plus b q, plus c r)
 abbrev pub group : List ℕ → ℕ → Words
 group name place = (word_at name place, word_at name (place + 4), word_at name (place + 8))
 
--- those of what is behind the last whole group, at most 11 bytes: in the last word the lowest byte
--- is left to the length, which is added
+-- the three words of the bytes behind the last whole group, at most 11, and of the length: the
+-- lowest byte of the last word is free for the length, which is added
 unfoldable pub last_group : List ℕ → ℕ → Words
 last_group name place =
     (word_at name place, word_at name (place + 4), plus (length name) (2 ^ 8 * word_at name (place + 8)))
 
--- the words after so many groups of 12 bytes; at first two are of the golden ratio
+-- the words after n groups of 12 bytes; before the first group two words are the golden ratio's
 abbrev pub after_groups : List ℕ → ℕ → Words
 after_groups name zero = (2654435769, 2654435769, 0)
 after_groups name (suc n) = absorb (after_groups name n) (group name (12 * n))

@@ -9,7 +9,7 @@ use std::simd::u32x4;
 /// Three words in each lane.
 type Lanes = (u32x4, u32x4, u32x4);
 
-/// Returns a vector with a word in each lane.
+/// Returns a vector with `word` in each lane.
 #[inline(always)]
 fn splat(word: u32) -> u32x4
     ensures { (n : ℕ) → n < 4 → slice_index result n ≡ word }
@@ -24,7 +24,7 @@ fn xor(x: u32x4, y: u32x4) -> u32x4
     x ^ y
 }
 
-/// Returns `x - y - z`, xor `z` shifted right, in each lane.
+/// Returns `x - y - z`, xor `z` shifted right by `bits` bits, in each lane.
 #[inline(always)]
 fn down(bits: u32, x: u32x4, y: u32x4, z: u32x4) -> u32x4
     requires { bits < 32 }
@@ -33,7 +33,7 @@ fn down(bits: u32, x: u32x4, y: u32x4, z: u32x4) -> u32x4
     (x - y - z) ^ (z >> u32x4::splat(bits))
 }
 
-/// Returns `x - y - z`, xor `z` shifted left, in each lane.
+/// Returns `x - y - z`, xor `z` shifted left by `bits` bits, in each lane.
 #[inline(always)]
 fn up(bits: u32, x: u32x4, y: u32x4, z: u32x4) -> u32x4
     requires { bits < 32 }

@@ -9,7 +9,7 @@ use std::simd::u32x8;
 /// Three words in each lane.
 type Lanes = (u32x8, u32x8, u32x8);
 
-/// Returns a vector with a word in each lane.
+/// Returns a vector with `word` in each lane.
 #[inline(always)]
 fn splat(word: u32) -> u32x8
     ensures { (n : ℕ) → n < 8 → slice_index result n ≡ word }
@@ -24,7 +24,7 @@ fn xor(x: u32x8, y: u32x8) -> u32x8
     x ^ y
 }
 
-/// Returns `x - y - z`, xor `z` shifted right, in each lane.
+/// Returns `x - y - z`, xor `z` shifted right by `bits` bits, in each lane.
 #[inline(always)]
 fn down(bits: u32, x: u32x8, y: u32x8, z: u32x8) -> u32x8
     requires { bits < 32 }
@@ -33,7 +33,7 @@ fn down(bits: u32, x: u32x8, y: u32x8, z: u32x8) -> u32x8
     (x - y - z) ^ (z >> u32x8::splat(bits))
 }
 
-/// Returns `x - y - z`, xor `z` shifted left, in each lane.
+/// Returns `x - y - z`, xor `z` shifted left by `bits` bits, in each lane.
 #[inline(always)]
 fn up(bits: u32, x: u32x8, y: u32x8, z: u32x8) -> u32x8
     requires { bits < 32 }
@@ -92,7 +92,8 @@ pub fn hash4_each(xs: &[u32; 8], items: &[u32; 8], rs: &[u32; 8], ids: &[u32; 8]
     v.2.to_array()
 }
 
-/// Returns the hashes of four words, of which the second differs from lane to lane.
+/// Returns the hashes of four words, of which the second differs from lane to lane
+/// (`crush_hash32_4`).
 #[inline(always)]
 pub fn hash4_lanes(x: u32, items: &[u32; 8], r: u32, id: u32) -> [u32; 8]
     ensures { (n : ℕ) → n < 8 → slice_index result n ≡ hash4 x (slice_index items.now n) r id }

@@ -1,6 +1,6 @@
 //! rjenkins1, the hash of CRUSH, over words of 32 bits, and the hash of a name.
 //!
-//! Sources: Ceph's `src/crush/hash.c` and `src/common/ceph_hash.cc`. These functions allocate
+//! Sources: Ceph's `src/crush/hash.c` and `src/common/ceph_hash.cc`. The functions allocate
 //! nothing and can't fail.
 #![tactic(auto)]
 
@@ -21,7 +21,7 @@ const GOLDEN: u32 = 2_654_435_769;
 /// Three words that are mixed.
 type Words = (u32, u32, u32);
 
-/// Returns `x - y - z`, xor `z` shifted right. Differences wrap.
+/// Returns `x - y - z`, xor `z` shifted right by `bits` bits. Differences wrap.
 #[tactic(auto, unfolding(crate::specs::Hash::down))]
 fn down(bits: u32, x: u32, y: u32, z: u32) -> u32
     requires { bits < 32 }
@@ -30,7 +30,7 @@ fn down(bits: u32, x: u32, y: u32, z: u32) -> u32
     x.wrapping_sub(y).wrapping_sub(z) ^ (z >> bits)
 }
 
-/// Returns `x - y - z`, xor `z` shifted left. Differences wrap.
+/// Returns `x - y - z`, xor `z` shifted left by `bits` bits. Differences wrap.
 #[tactic(auto, unfolding(crate::specs::Hash::up))]
 fn up(bits: u32, x: u32, y: u32, z: u32) -> u32
     requires { bits < 32 }
@@ -64,7 +64,7 @@ fn mix(a: u32, b: u32, c: u32) -> Words
     mixed!((a, b, c))
 }
 
-/// Mixes two words with the hash. Returns what the two become.
+/// Mixes `p` and `q` with the hash. Returns what the two become.
 fn stir(hash: &mut u32, p: u32, q: u32) -> (u32, u32)
     ensures { mix (p, q, hash.old) ≡ (result.0, result.1, hash.new) }
 {
@@ -142,7 +142,7 @@ pub fn hash5(a: u32, b: u32, c: u32, d: u32, e: u32) -> u32
     hash
 }
 
-/// Returns the byte at a place, or 0 past the end.
+/// Returns the byte at `place`, or 0 past the end.
 fn byte_at(name: &[u8], place: usize) -> u32
     ensures value { result ≡ slice_index name.now place }
     ensures small { result < 256 }
@@ -150,7 +150,7 @@ fn byte_at(name: &[u8], place: usize) -> u32
     u32::from(name.get(place).copied().unwrap_or(0))
 }
 
-/// Returns the four bytes from a place on as a word, the lowest byte first.
+/// Returns the four bytes from `place` on as a word, the lowest byte first.
 #[tactic(auto, unfolding(crate::specs::Hash::word_at))]
 fn word_at(name: &[u8], place: usize) -> u32
     requires { place + 4 < 2 ^ 63 }
@@ -170,7 +170,7 @@ fn absorb(words: Words, group: Words) -> Words
     mix(a.wrapping_add(p), b.wrapping_add(q), c.wrapping_add(r))
 }
 
-/// Returns the three words of the 12 bytes from a place on.
+/// Returns the three words of the 12 bytes from `place` on.
 fn group(name: &[u8], place: usize) -> Words
     requires { place + 16 < 2 ^ 63 }
     ensures { result ≡ group name.now place }
@@ -182,7 +182,7 @@ fn group(name: &[u8], place: usize) -> Words
     )
 }
 
-/// Returns the three words of the last bytes, which are at most 11, and of the name's length.
+/// Returns the three words of the bytes from `place` on, the last 11 at most, and of the length.
 #[tactic(auto, unfolding(crate::specs::Hash::last_group))]
 fn last_group(name: &[u8], place: usize) -> Words
     requires near { place + 16 < 2 ^ 63 }

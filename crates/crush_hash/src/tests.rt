@@ -1,7 +1,7 @@
 use super::*;
 use std::alloc::{AllocError, Global};
 
-/// What Ceph 16's `crush_hash32` to `crush_hash32_5` answer.
+/// The hashes of words are what Ceph 16's `crush_hash32` to `crush_hash32_5` answer.
 #[test]
 fn hashes_of_words_are_those_of_ceph(rt: HostRuntime) {
     let most = 0xffff_ffff;
@@ -20,8 +20,8 @@ fn hashes_of_words_are_those_of_ceph(rt: HostRuntime) {
     assert_eq!(rt; hash5(most, most, most, most, most), 4_292_350_227);
 }
 
-/// What Ceph 16's `ceph_str_hash_rjenkins` answers: at whole groups of 12 bytes, one byte to either
-/// side, and high bytes.
+/// The hashes of names are what Ceph 16's `ceph_str_hash_rjenkins` answers: at whole groups of 12
+/// bytes, one byte to either side, and high bytes.
 #[test]
 fn hashes_of_names_are_those_of_ceph(rt: HostRuntime) {
     assert_eq!(rt; name_hash(b""), 3_175_731_469);
@@ -130,7 +130,7 @@ const NAME_HASHES: [(u32, u32); 88] = [
     (1_024, 32_670_644),
 ];
 
-/// Returns the name of a length n in the table: its byte i is (7 n + 31 i) mod 256.
+/// Returns the name of n = `length` bytes in the table: its byte i is (7 n + 31 i) mod 256.
 fn name_of(alloc: Global, length: u32) -> Result<Vec<u8>, AllocError> {
     let mut name = Vec::new(alloc);
     for i in 0..length {
@@ -140,8 +140,8 @@ fn name_of(alloc: Global, length: u32) -> Result<Vec<u8>, AllocError> {
     Ok(name)
 }
 
-/// Each end of a name behind whole groups, lengths of one byte and of two, and each value of a
-/// byte; the bytes 1 to 255 twice.
+/// Ceph's hashes are met at each number of bytes behind whole groups, at lengths of one byte and of
+/// two, and by each value of a byte; and by the bytes 1 to 255 twice.
 #[test]
 fn hashes_of_names_of_many_lengths_are_those_of_ceph(rt: HostRuntime) -> Result<(), AllocError> {
     for (length, wanted) in NAME_HASHES {

@@ -93,7 +93,7 @@ first_low nodes hash node half =
       | false ↦ λ e. rw e (omega arith)
     ] in go (is_left nodes hash node half) refl
 
--- the last two steps by these hashes
+-- the last two steps by the hashes of a node and of its children
 pub last_two : (id : ItemId) (nodes : List ℕ) (x r node : ℕ) (hashes : List ℕ) (one two : ℕ × ℕ) → AreThree id x r node hashes
     → one ≡ (child nodes (slice_index hashes 0) node 2, lane_below nodes (slice_index hashes 0) node 2 0)
     → two ≡ (child nodes (slice_index hashes one.1) one.0 1, lane_below nodes (slice_index hashes one.1) one.0 1 one.1)

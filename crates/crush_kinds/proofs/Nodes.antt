@@ -121,7 +121,7 @@ step_down id items nodes x r height h node whole at =
       | false ↦ λ e. (let more : slice_index nodes (node - 2 ^ h) ≤ drawn id nodes x r node = grind (arith, nat_tests, e) in rw e (at_right id items nodes x r height h node whole at more))
     ] in go (is_left nodes (hash4 x node r (word id)) node (2 ^ h)) refl
 
--- the node so many levels below
+-- the node k levels below
 pub down_is : (id : ItemId) (items : List WeightedItem) (nodes : List ℕ) (x r height k level node : ℕ) → k ≤ level → HasNodes items nodes 0 height → AtNode id items x r height level node → AtNode id items x r height (level - k) (down_by id nodes x r k level node)
 down_is id items nodes x r height zero level node few whole at = let e : level - 0 ≡ level = omega arith in rw e at
 down_is id items nodes x r height (suc k) level node few whole at =

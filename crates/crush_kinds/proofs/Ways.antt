@@ -71,7 +71,7 @@ way_ends b leaf item kind is among x r way =
     let place = at_leaf b.id b.items x r (tree_height b) leaf at in
     record { picked = rw kind (is ∙ ap (λ (k : ℕ). item_at b.items (min k (length b.items - 1))) place); is_item = among }
 
--- what a tree bucket keeps, said of the bucket
+-- what a tree bucket has stored, said of the bucket
 pub record Keeps (b : BucketView) (height : ℕ) (nodes : List ℕ) : Type 0 where
   pub tree : b.kind ≡ Tree
   pub some : 0 < length b.items

@@ -41,7 +41,7 @@ abbrev pub least_from : (ℕ → Bool) → ℕ → ℕ → ℕ
 least_from p k zero = k
 least_from p k (suc n) = if p k then k else least_from p (k + 1) n
 
--- the least k such that 2^k places hold a bucket of this size
+-- the least k for which 2^k places hold a bucket of `size` items
 abbrev pub height_of : ℕ → ℕ
 height_of size = least_from (λ k. nat_le size (2 ^ k)) 0 size
 

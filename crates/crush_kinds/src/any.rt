@@ -38,7 +38,7 @@ impl Model for AnyBucket {
 }
 
 impl AnyBucket {
-    /// Returns the bucket of this kind with these items, in order of place.
+    /// Makes the bucket of the kind `kind` with `items`, in order of place.
     ///
     /// `Err(AllocError)`: an allocation failed; nothing is changed.
     pub fn build(
@@ -127,8 +127,8 @@ impl AnyBucket {
         }
     }
 
-    /// Returns the item that is picked for an input and an attempt, by permutations of several
-    /// buckets, of which this one has a number, whatever they were asked before. Allocates nothing.
+    /// Picks the item for an input and an attempt, by permutations of several buckets, among which
+    /// this bucket has the number `number`, whatever they were asked before. Allocates nothing.
     #[inline]
     pub fn pick_by(&self, perms: &mut Perms, number: usize, x: u32, r: u32) -> ItemId
         requires room { self.now.kind ≡ Kind.Uniform → length self.now.items ≤ perms.old }

@@ -7,7 +7,7 @@ ghost use Rattle.crush_kinds.specs.Private.Descent.{child, lane_below, down_by, 
 use crush_hash::{hash4, hash4_four, hash4_lanes};
 use crush_types::ItemId;
 
-/// Returns how many places a range of this height has.
+/// Returns how many places a range of the height `height` has.
 pub(crate) fn places(height: u32) -> usize
     requires { height < 32 }
     ensures { result ≡ 2 ^ height }
@@ -15,8 +15,8 @@ pub(crate) fn places(height: u32) -> usize
     1 << height
 }
 
-/// Returns the labels of a node and of those two levels below it. A node's children are at `2 *
-/// lane + 1` and `2 * lane + 2`.
+/// Returns the labels of a node and of the nodes one and two levels below it. A node's children are
+/// at `2 * lane + 1` and `2 * lane + 2`.
 #[inline]
 fn labels(node: usize, quarter: usize) -> [u32; 8]
     requires above { 4 * quarter ≤ node }
@@ -73,7 +73,7 @@ fn step(hashes: &[u32; 8], nodes: &[u32], node: usize, half: usize, lane: usize)
     }
 }
 
-/// Returns the node to which the hashes lead three levels below a node.
+/// Finds the node to which the hashes lead three levels below a node.
 #[inline]
 pub(crate) fn down(id: ItemId, nodes: &[u32], x: u32, r: u32, node: usize, level: u32) -> usize
     requires some { 2 < level }
@@ -90,7 +90,7 @@ pub(crate) fn down(id: ItemId, nodes: &[u32], x: u32, r: u32, node: usize, level
     step(&hashes, nodes, third, places(level - 3), lane).0
 }
 
-/// Returns the leaf to which the hashes lead two levels below a node. Three hashes are enough, for
+/// Finds the leaf to which the hashes lead two levels below a node. Three hashes are enough, for
 /// which four lanes take half of what eight do.
 #[inline]
 pub(crate) fn two_down(id: ItemId, nodes: &[u32], x: u32, r: u32, node: usize) -> usize
@@ -106,7 +106,7 @@ pub(crate) fn two_down(id: ItemId, nodes: &[u32], x: u32, r: u32, node: usize) -
     step(&hashes, nodes, below, 1, lane).0
 }
 
-/// Returns the child to which the hash of a node above the leaves leads.
+/// Finds the child to which the hash of a node above the leaves leads.
 pub(crate) fn last_down(id: ItemId, nodes: &[u32], x: u32, r: u32, node: usize) -> usize
     requires above { 2 ≤ node }
     requires inside { node + 2 ≤ length nodes.now }

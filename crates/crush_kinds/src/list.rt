@@ -37,7 +37,7 @@ impl Model for ListBucket {
 }
 
 impl ListBucket {
-    /// Returns the list bucket of these items, in order of place.
+    /// Makes the list bucket of `items`, in order of place.
     ///
     /// `Err(AllocError)`: an allocation failed; nothing is changed.
     pub fn build(alloc: Global, id: ItemId, items: &[(ItemId, Weight)]) -> Result<Self, AllocError>
@@ -82,7 +82,7 @@ impl ListBucket {
         self.items.as_slice()
     }
 
-    /// Returns the item that is picked.
+    /// Picks the item for the input `x` and the attempt `r`.
     #[tactic(auto, unfolding(crate::specs::Kinds::list_pick, crate::specs::Pick::pick))]
     pub(crate) fn item_for(&self, x: u32, r: u32) -> ItemId
         ensures picked { result ≡ pick self.now x r }
@@ -102,7 +102,7 @@ impl Picker for ListBucket {
     }
 }
 
-/// Returns the sum of the weights up to each place, in 16.16 fixed point.
+/// Makes the list of the sums of the weights up to each place, in 16.16 fixed point.
 fn sums_of(alloc: Global, items: &[(ItemId, Weight)]) -> Result<Vec<u32>, AllocError>
     requires { total_weight items.now < 2 ^ 32 }
     ensures { IfOk result (λ sums. AreSums items.now sums.items) }
@@ -116,7 +116,7 @@ fn sums_of(alloc: Global, items: &[(ItemId, Weight)]) -> Result<Vec<u32>, AllocE
     Ok(sums)
 }
 
-/// Returns the greatest place that takes the input, or the first where none does. It goes from the
+/// Finds the greatest place that takes the input, or the first where none does. It goes from the
 /// last place down, eight places at a time, and then through the first `size mod 8`, whose hashes
 /// are made at once too.
 fn list_place(id: ItemId, items: &[(ItemId, Weight)], sums: &[u32], x: u32, r: u32) -> usize
@@ -134,7 +134,7 @@ fn list_place(id: ItemId, items: &[(ItemId, Weight)], sums: &[u32], x: u32, r: u
     last_of_rest(id, items, sums, x, r, rest)
 }
 
-/// Returns the last of the first `rest` places that takes the input, or the first place where none
+/// Finds the last of the first `rest` places that takes the input, or the first place where none
 /// does. The first place isn't tried, since it is the answer in either case.
 #[inline]
 fn last_of_rest(
@@ -162,8 +162,8 @@ fn last_of_rest(
     last
 }
 
-/// Returns the words by which the first items enter a hash. Each lane that is left has the word of
-/// the last of them.
+/// Returns the words by which the first `count` items enter a hash. Each further lane has the word
+/// of the last of them.
 #[inline]
 fn first_words(items: &[(ItemId, Weight)], count: usize) -> [u32; 8]
     requires some { 0 < count }
@@ -183,7 +183,7 @@ fn first_words(items: &[(ItemId, Weight)], count: usize) -> [u32; 8]
     ]
 }
 
-/// Returns the word of the item at a place, or of the item at the last one where that is lower.
+/// Returns the word of the item at `place`, or of the item at `last` where that is lower.
 #[inline]
 fn word_up_to(items: &[(ItemId, Weight)], last: usize, place: usize) -> u32
     requires { last < length items.now }
@@ -192,7 +192,7 @@ fn word_up_to(items: &[(ItemId, Weight)], last: usize, place: usize) -> u32
     items[place.min(last)].0.word()
 }
 
-/// Returns the last of eight places that takes the input.
+/// Finds the last of the eight places from `from` on that takes the input. `None`: none takes it.
 #[inline]
 fn last_of_eight(
     id: ItemId,
@@ -219,7 +219,7 @@ fn last_of_eight(
     last
 }
 
-/// Returns the words by which eight items enter a hash.
+/// Returns the words by which the eight items from `from` on enter a hash.
 #[inline]
 fn words(items: &[(ItemId, Weight)], from: usize) -> [u32; 8]
     requires within { from + 8 ≤ length items.now }

@@ -13,8 +13,8 @@ pub trait Picker {
     /// The bucket that contracts see.
     ghost bucket: { Self → BucketView };
 
-    /// Returns the item that is picked for an input and an attempt, whatever the scratch was asked
-    /// before. Allocates nothing.
+    /// Picks the item for an input and an attempt, whatever the scratch was asked before. Allocates
+    /// nothing.
     fn pick(&self, perm: &mut Perm, x: u32, r: u32) -> ItemId
         requires { perm.old.of ≡ perm_of (bucket self.now) }
         ensures picked { result ≡ pick (bucket self.now) x r }
@@ -22,9 +22,9 @@ pub trait Picker {
         ensures same { perm.new.of ≡ perm.old.of }
         ensures asked { perm.new ≡ after_pick (bucket self.now) perm.old x r };
 
-    /// Returns the items that are picked for eight inputs and one attempt, in the order of the
-    /// inputs, whatever the scratch was asked before. Trees, and uniform buckets at early places,
-    /// pick them side by side. Allocates nothing.
+    /// Picks the items for eight inputs and one attempt, in the order of the inputs, whatever the
+    /// scratch was asked before. Trees, and uniform buckets at early places, pick them side by
+    /// side. Allocates nothing.
     fn pick_eight(&self, perm: &mut Perm, xs: &[u32; 8], r: u32) -> [ItemId; 8]
         requires { perm.old.of ≡ perm_of (bucket self.now) }
         ensures picked { (lane : ℕ) → lane < 8 → slice_index_or result lane no_id ≡ pick (bucket self.now) (slice_index xs.now lane) r }

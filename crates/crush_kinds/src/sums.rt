@@ -5,7 +5,7 @@ ghost use Rattle.crush_kinds.specs.Bucket.{CanBeAsked, total_weight, weight_with
 
 use crush_types::{ItemId, Weight, total_weight};
 
-/// Returns whether a bucket of these items can be built: they are 1 to 65,535, and the sum of their
+/// Returns whether a bucket of `items` can be built: they are 1 to 65,535, and the sum of their
 /// weights is below 2^32.
 pub fn can_be_asked(items: &[(ItemId, Weight)]) -> bool
     ensures yes { IsTrue result → CanBeAsked items.now }
@@ -14,7 +14,7 @@ pub fn can_be_asked(items: &[(ItemId, Weight)]) -> bool
     !items.is_empty() && items.len() < 65_536 && total_weight(items) < 4_294_967_296
 }
 
-/// Returns the sum of the weights at so many places from a place on.
+/// Adds the weights at `count` places from `from` on, in 16.16 fixed point.
 pub(crate) fn weight_within(items: &[(ItemId, Weight)], from: usize, count: usize) -> u32
     requires few { length items.now < 2 ^ 16 }
     requires light { total_weight items.now < 2 ^ 32 }

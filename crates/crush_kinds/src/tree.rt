@@ -41,7 +41,7 @@ impl Model for TreeBucket {
 }
 
 impl TreeBucket {
-    /// Returns the tree bucket of these items, in order of place.
+    /// Makes the tree bucket of `items`, in order of place.
     ///
     /// `Err(AllocError)`: an allocation failed; nothing is changed.
     pub fn build(alloc: Global, id: ItemId, items: &[(ItemId, Weight)]) -> Result<Self, AllocError>
@@ -108,7 +108,7 @@ impl TreeBucket {
         places(self.height) as u32
     }
 
-    /// Returns the child to which a node's hash leads where so many levels are left below it. The
+    /// Returns the child to which a node's hash leads where `left` levels are below the child. The
     /// walk down a tree that has fewer waits at the root.
     #[inline]
     pub(crate) fn child(&self, node: u32, hash: u32, left: u32) -> u32
@@ -129,7 +129,7 @@ impl TreeBucket {
         self.items[(leaf as usize / 2).min(self.items.len() - 1)].0
     }
 
-    /// Returns the place at which the walk from the root ends.
+    /// Finds the place at which the walk from the root ends.
     fn place_for(&self, x: u32, r: u32) -> usize
         ensures { result ≡ place_within self.now.id self.now.items x r 0 (tree_height self.now) }
     {
@@ -147,7 +147,7 @@ impl TreeBucket {
         node / 2
     }
 
-    /// Returns the item that is picked.
+    /// Picks the item for the input `x` and the attempt `r`.
     #[tactic(auto, unfolding(crate::specs::Kinds::tree_pick, crate::specs::Pick::pick))]
     pub(crate) fn item_for(&self, x: u32, r: u32) -> ItemId
         ensures picked { result ≡ pick self.now x r }
@@ -171,7 +171,7 @@ impl Picker for TreeBucket {
     }
 }
 
-/// Returns the least height of a tree with so many leaves.
+/// Finds the least height of a tree with at least `size` leaves.
 fn height_for(size: usize) -> u32
     requires some { 0 < size }
     requires few { size < 2 ^ 16 }
@@ -189,7 +189,7 @@ fn height_for(size: usize) -> u32
     height
 }
 
-/// Returns the weights of all nodes, at their labels; no node has the label 0.
+/// Makes the list of the weights of all nodes, at their labels; no node has the label 0.
 fn nodes_of(alloc: Global, items: &[(ItemId, Weight)], height: u32) -> Result<Vec<u32>, AllocError>
     requires few { length items.now < 2 ^ 16 }
     requires light { total_weight items.now < 2 ^ 32 }

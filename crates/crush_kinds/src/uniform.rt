@@ -34,7 +34,7 @@ impl Model for UniformBucket {
 }
 
 impl UniformBucket {
-    /// Returns the uniform bucket of these items, in order of place.
+    /// Makes the uniform bucket of `items`, in order of place.
     ///
     /// `Err(AllocError)`: an allocation failed; nothing is changed.
     pub fn build(alloc: Global, id: ItemId, items: &[(ItemId, Weight)]) -> Result<Self, AllocError>
@@ -99,8 +99,8 @@ impl UniformBucket {
         self.items[place].0
     }
 
-    /// Returns the item that is picked, by the bucket's permutation among those of several buckets,
-    /// of which it has a number.
+    /// Picks the item for an input and an attempt, by the bucket's permutation, which has the
+    /// number `number` among those of several buckets.
     #[inline]
     pub(crate) fn pick_by(&self, perms: &mut Perms, number: usize, x: u32, r: u32) -> ItemId
         requires room { self.now.kind ≡ Kind.Uniform → length self.now.items ≤ perms.old }

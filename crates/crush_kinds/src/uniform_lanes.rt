@@ -11,12 +11,12 @@ use crush_permutation::eight_members;
 use crush_types::ItemId;
 
 /// The places up to which eight buckets are asked at once. A later one takes more hashes, and is
-/// found sooner in a permutation that is kept.
+/// found sooner in a permutation that is stored.
 const EARLY_PLACES: usize = 4;
 
-/// Returns the items that eight uniform buckets pick for eight inputs and one attempt, in their
-/// order. `None` where the attempt asks for another place of one than of the first, or for a late
-/// one. Allocates nothing.
+/// Picks the items of eight uniform buckets for eight inputs and one attempt, in their order.
+/// `None`: the attempt asks for another place of one than of the first, or for a late place.
+/// Allocates nothing.
 pub fn pick_uniforms(buckets: &[&UniformBucket; 8], xs: &[u32; 8], r: u32) -> Option<[ItemId; 8]>
     ensures { IfSome result (λ items. (lane : ℕ) (d : _) → lane < 8 → IsPickedBy (slice_index_or buckets.now lane d).now (slice_index xs.now lane) r (slice_index_or items lane no_id)) }
 {
@@ -29,7 +29,7 @@ pub fn pick_uniforms(buckets: &[&UniformBucket; 8], xs: &[u32; 8], r: u32) -> Op
     Some(items_of(buckets, &members))
 }
 
-/// Returns the ids and the sizes of eight buckets, where an attempt asks for this place of each.
+/// Returns the ids and sizes of eight buckets. `None`: `r` asks for another place than `place`.
 #[inline]
 fn asked(buckets: &[&UniformBucket; 8], place: usize, r: u32) -> Option<([ItemId; 8], [u32; 8])>
     ensures { IfSome result (λ found. (lane : ℕ) (d : _) → lane < 8 → IsAsked (slice_index_or buckets.now lane d).now place r (slice_index_or found.0 lane no_id) (slice_index found.1 lane)) }

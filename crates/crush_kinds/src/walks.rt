@@ -10,8 +10,8 @@ use crate::tree::TreeBucket;
 use crush_hash::hash4_each;
 use crush_types::ItemId;
 
-/// Returns the items that eight trees pick for eight inputs and one attempt, in their order.
-/// Allocates nothing.
+/// Picks the items of eight trees for eight inputs and one attempt, in their order. Allocates
+/// nothing.
 pub fn pick_trees(trees: &[&TreeBucket; 8], xs: &[u32; 8], r: u32) -> [ItemId; 8]
     ensures { (lane : ℕ) (d : _) → lane < 8 → IsPickedBy (slice_index_or trees.now lane d).now (slice_index xs.now lane) r (slice_index_or result lane no_id) }
 {
@@ -41,8 +41,8 @@ fn begin(trees: &[&TreeBucket; 8]) -> ([u32; 8], [u32; 8], u32)
     (words, roots, highest)
 }
 
-/// Returns the children to which the hashes of eight nodes lead, where so many levels are left
-/// below the children.
+/// Returns the children to which the hashes of eight nodes lead, where `left` levels are below the
+/// children.
 #[inline]
 fn children(trees: &[&TreeBucket; 8], nodes: &[u32; 8], hashes: &[u32; 8], left: u32) -> [u32; 8]
     requires { (lane : ℕ) (d : _) → lane < 8 → IsNode (slice_index_or trees.now lane d).now (left + 1) (slice_index nodes.now lane) }

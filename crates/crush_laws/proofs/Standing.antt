@@ -21,7 +21,7 @@ pub record HasLaws (m : Map) : Type 0 where
   pub sound : HasSoundBuckets m
   pub once : IsEachOnce (bucket_ids m)
 
--- a bucket of a map stands in the tables at this number
+-- a bucket of a map stands in the tables at the number k
 pub record StandsAt (m : Map) (b : Bucket) (k : ℕ) : Type 0 where
   pub within : k < length m.buckets
   pub numbered : bucket_numbered (tables_of m) b.id ≡ Some k

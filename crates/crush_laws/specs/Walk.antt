@@ -23,7 +23,7 @@ unfoldable mutual
       let b : BucketView = record { id = id; kind = kind; items = items_of below } in
       if length b.items == 0 then Empty else walk_into x rr wanted (pick b x (rr b)) (rr b) below
 
-  -- where a walk ends after attempt r picked an item: there, if the item is of the wanted type,
+  -- where a walk ends after attempt r picked an item: there, if the item is of the type `wanted`,
   -- else where the walk down its tree ends. A bucket picks one of its items, so there is a branch
   pub walk_into : ℕ → (BucketView → ℕ) → ℕ → ItemId → ℕ → Branches → Reached
   walk_into x rr wanted item r no_branches = Wrong

@@ -20,7 +20,7 @@ distinct_push e (x ∷ xs) y h new =
     (all_push (λ z. e x z ≡ false) xs y (IsDistinct-head e x xs h) (left_false (e x y) _ new))
     (distinct_push e xs y (IsDistinct-tail e x xs h) (right_false (e x y) _ new))
 
--- an element of such a list is none of the earlier ones
+-- an element of a list whose elements differ is none of the earlier ones
 pub new_at : {K : Type 0} (e : K → K → Bool) (xs : List K) (y : K) (ys : List K) → IsDistinct e (xs ++ y ∷ ys) → list_any (λ x. e x y) xs ≡ false
 new_at e [] y ys h = refl
 new_at e (x ∷ xs) y ys h =

@@ -105,7 +105,7 @@ keys_apart e keys key more new n k (b ∷ bs) apart h =
     let rest = keys_apart e keys key more new (n + 1) (with_bucket k b) bs next (second_none (at_place Buckets n (bucket_fault k b)) _ h) in
     rw (append_assoc (keys k) (key b ∷ []) (map key bs)) at (rw (more k b passed) at rest)
 
--- the number that is kept of a bucket's id
+-- the number that is stored for a bucket's id
 abbrev kept_number : ℤ → ℕ
 kept_number (pos n) = 0
 kept_number (negsuc n) = n

@@ -35,7 +35,7 @@ pub record Kind {X : Type 0} (check : Known → X → Option FaultCode) (with : 
   pub splits : (k : Known) (x : X) → check k x ≡ None → Passes Own limit number name (numbers k) (names k) k x
   pub joins : (k : Known) (x : X) → Passes Own limit number name (numbers k) (names k) k x → check k x ≡ None
 
--- what holds for a list of such elements without a fault
+-- what holds for a list without a fault, of elements with a number and a name
 pub record Good {X : Type 0} (Own : Known → X → Type 0) (limit : ℕ) (number : X → ℕ) (name : X → List ℕ) (numbers : List ℕ) (names : List (List ℕ)) (known : Known) (xs : List X) : Type 0 where
   pub room : (i : ℕ) → i < length xs → length numbers + i < limit
   pub own : AllByRecursion (Own known) xs

@@ -42,7 +42,7 @@ first_of (check ∷ checks) = or_else check (first_of checks)
 
 -- ---- what was declared before
 
--- ids of devices, and of buckets, where the id -1 - n is kept as n
+-- ids of devices, and of buckets, where the id -1 - n is stored as n
 pub record Ids : Type 0 where
   pub devices : List ℕ
   pub buckets : List ℕ
@@ -89,11 +89,11 @@ has_name names name = list_any (λ n. bytes_eq n name) names
 abbrev pub is_name_byte : ℕ → Bool
 is_name_byte b = (nat_le 97 b && nat_le b 122) || (nat_le 65 b && nat_le b 90) || (nat_le 48 b && nat_le b 57) || (b == 45) || (b == 95) || (b == 46)
 
--- 1 to NAME_LIMIT such bytes
+-- 1 to NAME_LIMIT bytes that are allowed in a name
 abbrev pub is_name : List ℕ → Bool
 is_name name = nat_le 1 (length name) && nat_le (length name) NAME_LIMIT && list_all is_name_byte name
 
--- the words that begin a declaration, and `class`: no type has such a name
+-- the words that begin a declaration, and `class`: no type has one of them as its name
 abbrev pub is_reserved : List ℕ → Bool
 is_reserved name = list_any (λ word. bytes_eq word name) (codes "tunable" ∷ codes "device" ∷ codes "type" ∷ codes "rule" ∷ codes "choose_args" ∷ codes "class" ∷ [])
 

@@ -1,3 +1,3 @@
--- What private clauses alone cite: how the code keeps what was declared. No public clause rests on
+-- What private clauses alone cite: how the code stores what was declared. No public clause rests on
 -- it.
 pub mod Tables

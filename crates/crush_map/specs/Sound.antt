@@ -33,7 +33,7 @@ has_device devices id = list_any (λ d. d.id == id) devices
 abbrev pub has_type : List TypeName → ℕ → Bool
 has_type types number = list_any (λ t. t.number == number) types
 
--- whether an id is that of a device or of a bucket in these lists
+-- whether an id is that of a device or of a bucket in the lists
 abbrev pub has_item : List Device → List Bucket → ℤ → Bool
 has_item devices buckets (pos n) = has_device devices n
 has_item devices buckets (negsuc n) = has_bucket buckets (negsuc n)

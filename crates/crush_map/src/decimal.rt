@@ -24,7 +24,7 @@ pub fn are_digits(low: usize, high: usize, text: &[u8]) -> bool
     low <= text.len() && text.len() <= high && all_are_digits(text)
 }
 
-/// Returns the number that at most `FRACTION_DIGIT_LIMIT` digits write.
+/// Reads the number that at most `FRACTION_DIGIT_LIMIT` digits write.
 fn number(digits: &[u8]) -> u128
     requires digits { list_all spec.is_digit digits.now ≡ true }
     requires few { length digits.now ≤ FRACTION_DIGIT_LIMIT }
@@ -52,14 +52,14 @@ fn weight_of_parts(whole: &[u8], fraction: &[u8]) -> Option<Weight>
     u32::try_from(weight).ok().map(Weight)
 }
 
-/// Returns the place of the first point.
+/// Finds the place of the first point.
 fn first_point(text: &[u8]) -> Option<usize>
     ensures { result ≡ position spec.is_point text.now }
 {
     text.iter().position(|byte| *byte == b'.')
 }
 
-/// Returns the weight that a text writes, rounded down to 16.16 fixed point: 1 to `DIGIT_LIMIT`
+/// Reads the weight that a text writes, rounded down to 16.16 fixed point: 1 to `DIGIT_LIMIT`
 /// digits, alone or followed by a point and 1 to `FRACTION_DIGIT_LIMIT` digits.
 ///
 /// `None`: the text has another form, or its value is 65536 or more.
@@ -89,7 +89,7 @@ fn hundred_thousandths(weight: Weight) -> u64
     (u64::from(weight.0) * 100_000).div_ceil(65_536)
 }
 
-/// Returns the decimal text of a weight, with five decimals, rounded up: `weight_from_text` reads
+/// Writes the decimal text of a weight, with five decimals, rounded up: `weight_from_text` reads
 /// the same weight from it.
 pub fn weight_text(alloc: Global, weight: Weight) -> Result<String, AllocError>
     ensures { IfOk result (λ text. string_bytes text ≡ spec.text_of weight) }

@@ -47,8 +47,7 @@ pub enum Step {
     /// Sets the tries for a leaf in the chooseleaf steps that follow, 0..`TRIES_LIMIT` in a map; 0
     /// has no effect.
     SetLeafTries(u32),
-    /// Sets `chooseleaf_vary_r` for the steps that follow, 0..`VARY_R_LIMIT` in a
-    /// map.
+    /// Sets `chooseleaf_vary_r` for the steps that follow, 0..`VARY_R_LIMIT` in a map.
     SetVaryR(u32),
     /// Sets `chooseleaf_stable` for the steps that follow, 0..1 in a map.
     SetStable(u32),
@@ -61,7 +60,7 @@ pub enum Step {
         /// How many items; a number of 0 or below is added to the size of the answer. |n| is at
         /// most `COUNT_LIMIT` in a map.
         n: i32,
-        /// The number of the wanted type.
+        /// The number of the type of the items that it chooses.
         wanted: u32,
     },
     /// Appends the working list to the answer, and empties it.

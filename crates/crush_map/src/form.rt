@@ -35,8 +35,8 @@ fn is(word: &[u8], name: &[u8]) -> bool
     word == name
 }
 
-/// Returns whether a text begins a declaration in a map's text, or is `class`: no type has such a
-/// name.
+/// Returns whether a text begins a declaration in a map's text, or is `class`: no type has it as
+/// its name.
 pub fn is_reserved(name: &[u8]) -> bool
     ensures { result ≡ spec.is_reserved name.now }
 {

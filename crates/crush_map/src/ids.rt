@@ -11,7 +11,7 @@ use std::alloc::{AllocError, Global};
 use std::marker::Model;
 
 /// Ids of devices and ids of buckets, each in the order in which they were added. The id `-1 - n`
-/// of a bucket is kept as `n`.
+/// of a bucket is stored as `n`.
 #[derive(Drop)]
 pub struct Ids {
     devices: Numbers,

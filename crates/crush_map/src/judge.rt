@@ -9,7 +9,7 @@ use crate::fault::{Element, FaultCode, MapFault};
 use crate::known::Known;
 use std::alloc::{AllocError, Global};
 
-/// Returns the fault with this code at a place of a list.
+/// Returns the fault `code` at the place `index` of a list.
 fn fault_at(element: Element, index: usize, code: FaultCode) -> MapFault
     ensures { result ≡ record { code = code; element = element; index = index } }
 {
@@ -20,8 +20,8 @@ fn fault_at(element: Element, index: usize, code: FaultCode) -> MapFault
     }
 }
 
-/// Returns the first fault of types, each checked against those before it; if there is none, all
-/// are declared.
+/// Declares types, each checked against those before it. Returns their first fault; if there is
+/// none, all are declared.
 #[tactic(auto, unfolding(crate::specs::Faults::first_in))]
 fn judge_types(
     alloc: Global,
@@ -39,8 +39,8 @@ fn judge_types(
     Ok(None)
 }
 
-/// Returns the first fault of devices, each checked against those before it; if there is none, all
-/// are declared.
+/// Declares devices, each checked against those before it. Returns their first fault; if there is
+/// none, all are declared.
 #[tactic(auto, unfolding(crate::specs::Faults::first_in))]
 fn judge_devices(
     alloc: Global,
@@ -58,8 +58,8 @@ fn judge_devices(
     Ok(None)
 }
 
-/// Returns the first fault of buckets, each checked against those before it; if there is none, all
-/// are declared.
+/// Declares buckets, each checked against those before it. Returns their first fault; if there is
+/// none, all are declared.
 #[tactic(auto, unfolding(crate::specs::Faults::first_in))]
 fn judge_buckets(
     alloc: Global,
@@ -78,8 +78,8 @@ fn judge_buckets(
     Ok(None)
 }
 
-/// Returns the first fault of rules, each checked against those before it; if there is none, all
-/// are declared.
+/// Declares rules, each checked against those before it. Returns their first fault; if there is
+/// none, all are declared.
 #[tactic(auto, unfolding(crate::specs::Faults::first_in))]
 fn judge_rules(
     alloc: Global,
@@ -98,8 +98,8 @@ fn judge_rules(
     Ok(None)
 }
 
-/// Returns the first fault of a draft's types, devices, buckets and rules; if there is none, all
-/// are declared.
+/// Declares a draft's types, devices, buckets and rules. Returns their first fault; if there is
+/// none, all are declared.
 #[tactic(auto, unfolding(crate::specs::Faults::element_fault))]
 fn judge_elements(
     alloc: Global,
@@ -122,7 +122,7 @@ fn judge_elements(
     judge_rules(alloc, known, draft.rules.as_slice())
 }
 
-/// Returns the first fault of a draft of which nothing is known yet: of its elements, else the one
+/// Finds the first fault of a draft of which nothing is known yet: of its elements, else the one
 /// at its end.
 #[tactic(auto, unfolding(crate::specs::Faults::first_fault))]
 fn fault_of(
@@ -147,8 +147,8 @@ fn fault_of(
     })
 }
 
-/// The first fault of a draft, if it has one.
-// One way out while the tables live keeps the check of this function short.
+/// Finds the first fault of a draft, if it has one.
+// One way out while the tables live makes the check of this function short.
 pub(crate) fn first_fault(alloc: Global, draft: &MapDraft) -> Result<Option<MapFault>, AllocError>
     ensures { IfOk result (λ fault. fault ≡ spec.first_fault draft.now) }
 {

@@ -38,7 +38,7 @@ impl Model for Known {
 }
 
 impl Known {
-    /// Nothing declared yet.
+    /// Returns what is known before anything is declared.
     pub fn new(alloc: Global) -> Self
         ensures { result ≡ spec.nothing }
     {
@@ -52,7 +52,7 @@ impl Known {
         }
     }
 
-    /// Returns the fault of a type that is declared next; a type without a fault is declared.
+    /// Declares a type that has no fault. Returns the fault if it has one.
     ///
     /// `Err(AllocError)`: an allocation failed; the value must not be used any more.
     #[tactic(auto, unfolding(crate::specs::Faults::type_fault))]
@@ -82,7 +82,7 @@ impl Known {
         Ok(Some(fault))
     }
 
-    /// Returns the fault of a device that is declared next; a device without a fault is declared.
+    /// Declares a device that has no fault. Returns the fault if it has one.
     ///
     /// `Err(AllocError)`: an allocation failed; the value must not be used any more.
     #[tactic(auto, unfolding(crate::specs::Faults::device_fault))]
@@ -112,7 +112,7 @@ impl Known {
         Ok(Some(fault))
     }
 
-    /// Returns the fault of a bucket, if it is declared next.
+    /// Finds the fault of a bucket, if it is declared next.
     ///
     /// `Err(AllocError)`: an allocation failed; nothing is changed.
     #[tactic(auto, unfolding(crate::specs::Faults::bucket_fault))]
@@ -169,7 +169,7 @@ impl Known {
         Ok(None)
     }
 
-    /// Returns the first fault of a bucket's items, if the bucket has these ids before them.
+    /// Finds the first fault of a bucket's items that come behind items with the ids `before`.
     ///
     /// `Err(AllocError)`: an allocation failed; `before` must not be used any more.
     #[tactic(auto, unfolding(crate::specs::Faults::items_fault))]
@@ -192,7 +192,7 @@ impl Known {
         Ok(None)
     }
 
-    /// Returns the first fault of a bucket's items.
+    /// Finds the first fault of a bucket's items.
     fn items_fault(
         &self,
         alloc: Global,
@@ -253,7 +253,7 @@ impl Known {
         }
     }
 
-    /// Returns the first fault of steps.
+    /// Finds the first fault of steps.
     fn steps_fault(&self, steps: &[Step]) -> Option<FaultCode>
         ensures { result ≡ spec.steps_fault self.now steps.now }
     {
@@ -335,7 +335,7 @@ impl Known {
     }
 }
 
-/// Returns the fault with this code, if a check is broken.
+/// Returns the fault `code`, if `broken`.
 fn fault_if(broken: bool, code: FaultCode) -> Option<FaultCode>
     ensures { result ≡ (if broken then Some code else None) }
 {
@@ -349,7 +349,7 @@ fn is_bucket_id(id: ItemId) -> bool
     id.0 < 0 && id.0.unsigned_abs() - 1 <= NUMBER_LIMIT
 }
 
-/// Returns whether all items of a bucket of this kind must have the same weight.
+/// Returns whether all items of a bucket of the kind `alg` must have the same weight.
 fn is_uniform(alg: Kind) -> bool
     ensures { result ≡ spec.is_uniform alg }
 {

@@ -34,7 +34,7 @@ impl Model for CrushMap {
 }
 
 impl CrushMap {
-    /// Returns the map that a draft declares, or the draft and its first fault.
+    /// Checks a draft. Returns the map that it declares, or the draft and its first fault.
     ///
     /// Types are checked first, then devices, buckets and rules, each list in order, and last what
     /// concerns the whole draft.
@@ -55,7 +55,7 @@ impl CrushMap {
         }
     }
 
-    /// Returns the map of a draft that is known to have no fault. Allocates nothing.
+    /// Makes the map of a draft that is known to have no fault. Allocates nothing.
     pub fn of(draft: MapDraft) -> CrushMap
         requires { spec.first_fault draft ≡ None }
         ensures map { IsMapOf draft result }
@@ -111,7 +111,7 @@ impl CrushMap {
     }
 }
 
-/// Returns the types, in ascending order of number.
+/// Sorts types in ascending order of number.
 fn in_order_of_number(mut types: Vec<TypeName>) -> Vec<TypeName>
     ensures same { IsPermutation types.items result.items }
     ensures order { IsNonDecreasingBy (λ t. t.number) result.items }
@@ -120,7 +120,7 @@ fn in_order_of_number(mut types: Vec<TypeName>) -> Vec<TypeName>
     types
 }
 
-/// Returns the devices, in ascending order of id.
+/// Sorts devices in ascending order of id.
 fn in_order_of_id(mut devices: Vec<Device>) -> Vec<Device>
     ensures same { IsPermutation devices.items result.items }
     ensures order { IsNonDecreasingBy (λ d. d.id) result.items }
@@ -129,7 +129,7 @@ fn in_order_of_id(mut devices: Vec<Device>) -> Vec<Device>
     devices
 }
 
-/// Returns the rules, in ascending order of id.
+/// Sorts rules in ascending order of id.
 fn rules_in_order(mut rules: Vec<Rule>) -> Vec<Rule>
     ensures same { IsPermutation rules.items result.items }
     ensures order { IsNonDecreasingBy (λ r. r.id) result.items }

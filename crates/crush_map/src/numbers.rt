@@ -35,7 +35,7 @@ impl Model for Numbers {
     ghost invariant = { λ a. IsIndexOf a.order.items a.table.items };
 }
 
-/// Returns a table of flags that are all false.
+/// Makes a table of `size` flags that are all false.
 fn empty_table(alloc: Global, size: usize) -> Result<Vec<bool>, AllocError>
     ensures len { IfOk result (λ t. length t.items ≡ size) }
     ensures none { IfOk result (λ t. (n : ℕ) → slice_index_or t.items n false ≡ false) }
@@ -43,7 +43,7 @@ fn empty_table(alloc: Global, size: usize) -> Result<Vec<bool>, AllocError>
     Ok(vec![in alloc; false; size]?)
 }
 
-/// Returns the table of a list.
+/// Makes the table of a list.
 fn table_of(alloc: Global, numbers: &[u32]) -> Result<Vec<bool>, AllocError>
     requires { All (λ n. n < ID_COUNT) numbers.now }
     ensures { IfOk result (λ t. IsTableOf numbers.now t.items) }

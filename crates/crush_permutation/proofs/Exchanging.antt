@@ -31,7 +31,7 @@ own_or_lower id size x (suc n) p above within =
       | inr other ↦ (let is : slice_index (swap xs n q) p ≡ slice_index xs p = swapped.2 p (λ e. omega arith) other in elim at_p [ inl e ↦ inl (is ∙ e) | inr e ↦ inr (omega (arith, is, e)) ])
     ]
 
--- so of two such places neither has the other's number
+-- so of the place n and a higher place neither has the other's number
 pub own_differs : (id : ItemId) (size x n q : ℕ) → n < q → q < size → (slice_index (after_swaps id size x n) n ≢ q) × (slice_index (after_swaps id size x n) q ≢ n)
 own_differs id size x n q less within =
     let at_n = own_or_lower id size x n n (omega arith) (omega arith) in

@@ -35,7 +35,7 @@ length-after_swaps id size x (suc n) =
 pub after_swaps_more : (id : ItemId) (size x n : ℕ) → swap (after_swaps id size x n) n (partner id size x n) ≡ after_swaps id size x (n + 1)
 after_swaps_more id size x n = let e : n + 1 ≡ suc n = omega arith in rw e refl
 
--- a place outside an exchange keeps its contents
+-- a place outside an exchange has the contents that it had
 other_place : (xs : List ℕ) (a b p : ℕ) → a < length xs → b < length xs → p ≢ a → p ≢ b → slice_index_or (swap xs a b) p 0 ≡ slice_index_or xs p 0
 other_place xs a b p la lb na nb = (swapped_from_swap xs (swap xs a b) a b 0 la lb refl).2 p na nb
 

@@ -64,7 +64,7 @@ first_is id size x q pairs is low none two = elim (either_way q 0) [
   | inr other ↦ two other ∙ sym (first_pairs id size x q is low other)
 ]
 
--- so many pairs are counted, written or not
+-- `len_by` counts the pairs, written or not
 counted : (r : Reached) (row : List Pair) (written : Bool) → r.written ≡ written → IsReached r row → len_by r ≡ length (differing 0 (after_swaps r.hashes r.size r.x (swaps_of r)))
 counted r row true is reached = rw is (sym (length-take-le r.len row reached.len) ∙ ap (λ (ps : List Pair). length ps) (reached.pairs is ∙ rw is refl))
 counted r row false is reached =

@@ -1,4 +1,4 @@
-//! Members at the first places of a permutation, by the hashes of these places alone.
+//! Members at the first places of a permutation, by the hashes of those places alone.
 
 ghost use Rattle.std.specs.Prelude.{◌≡◌, ℕ, ◌<◌, slice_index};
 ghost use Rattle.crush_permutation.specs.Permutation.{permutation};
@@ -10,7 +10,7 @@ use crate::eight::place_before;
 /// How many places are early: their hashes are made at once.
 pub(crate) const EARLY: usize = 4;
 
-/// Returns the member at an early place of a bucket's permutation for an input, by the hashes of
+/// Finds the member at an early place of a bucket's permutation for an input, by the hashes of
 /// the first four places. It follows what comes to the place back through the exchanges, which
 /// takes less than making them where they are few.
 #[inline]

@@ -26,7 +26,7 @@ pub(crate) fn place_before(at: u32, n: u32, hash: u32, size: u32) -> u32
     }
 }
 
-/// Returns the same for eight places.
+/// Returns for eight places what `place_before` returns for one.
 #[inline]
 fn places_before(at: &[u32; 8], n: u32, hashes: &[u32; 8], sizes: &[u32; 8]) -> [u32; 8]
     requires { (lane : ℕ) → lane < 8 → n < slice_index sizes.now lane }
@@ -44,9 +44,9 @@ fn places_before(at: &[u32; 8], n: u32, hashes: &[u32; 8], sizes: &[u32; 8]) -> 
     ]
 }
 
-/// Returns the members at a place of the permutations of eight buckets, each with an id, a number
-/// of items and an input. It follows what comes to the place back through the exchanges, so it
-/// takes time in proportion to the place, and no memory.
+/// Finds the members at the place `place` of the permutations of eight buckets, each with an id, a
+/// number of items and an input. It follows what comes to the place back through the exchanges, so
+/// it takes time in proportion to the place, and no memory.
 pub fn eight_members(ids: &[ItemId; 8], sizes: &[u32; 8], xs: &[u32; 8], place: u32) -> [u32; 8]
     requires { (lane : ℕ) → lane < 8 → place < slice_index sizes.now lane }
     ensures members { (lane : ℕ) → lane < 8 → slice_index result lane ≡ slice_index (permutation (slice_index_or ids.now lane no_id) (slice_index sizes.now lane) (slice_index xs.now lane)) place }

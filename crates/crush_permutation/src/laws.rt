@@ -13,9 +13,9 @@ pub fn permutation_has_each_place()
     ensures places { (id : ItemId) (size x place : ℕ) → place < size → slice_index (permutation id size x) place < size }
 {}
 
-/// A new `Perm` keeps no place. The first question for an input makes it keep at most twice as many
-/// places as exchanges. A new `Perm` is asked for each input for the first time, for 0 too, which
-/// it remembers without an exchange.
+/// A new `Perm` stores no place. The first question for an input makes it store at most twice as
+/// many places as exchanges. A new `Perm` is asked for each input for the first time, for 0 too,
+/// which it remembers without an exchange.
 pub fn a_perm_keeps_few_places()
     ensures none { (of : PermView) (x : ℕ) → kept (record { of = of; x = x; swaps = 0 }) ≡ 0 }
     ensures few { (m : Remembered) (x place : ℕ) → m.x ≢ x ⊎ m.swaps ≡ 0 → place < m.of.size → kept (asked m x place) ≤ 2 * (place + 1) }

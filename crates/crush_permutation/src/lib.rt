@@ -1,5 +1,5 @@
-//! The permutations by which uniform buckets pick, kept as the places at which they differ from the
-//! identity.
+//! The permutations by which uniform buckets pick, stored as the places at which they differ from
+//! the identity.
 //!
 //! Source: `bucket_perm_choose` of Ceph's `src/crush/mapper.c`. The tests are in the crate
 //! `kernel_tests`.

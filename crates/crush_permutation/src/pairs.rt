@@ -7,9 +7,9 @@ ghost use Rattle.crush_permutation.specs.Private.Pairs.{no_pair, index, member_a
 /// A place and its member.
 pub(crate) type Pair = (u32, u32);
 
-/// Writes the pairs of a permutation in which place 0 changed contents with this place, and no
-/// others, to the front of a row. Returns how many they are. Two pairs are written in any case, so
-/// that no branch depends on the place.
+/// Writes the pairs of a permutation in which place 0 changed contents with the place `first`, and
+/// no others, to the front of a row. Returns how many they are. Two pairs are written in any case,
+/// so that no branch depends on the place.
 #[inline]
 pub(crate) fn begin(row: &mut [Pair], first: u32) -> usize
     requires { 2 ≤ length row.old }
@@ -23,7 +23,7 @@ pub(crate) fn begin(row: &mut [Pair], first: u32) -> usize
     if first == 0 { 0 } else { 2 }
 }
 
-/// Returns the member at a place.
+/// Finds the member at a place.
 #[inline]
 pub(crate) fn member_at(pairs: &[Pair], place: u32) -> u32
     requires { IsRising pairs.now }
@@ -32,8 +32,8 @@ pub(crate) fn member_at(pairs: &[Pair], place: u32) -> u32
     member_by(pairs, index_of(pairs, place), place)
 }
 
-/// Returns how many pairs are of lower places than this one. The search goes down from the place
-/// itself, since there are at most as many.
+/// Counts the pairs of lower places than `place`. The search goes down from the place itself, since
+/// there are at most as many.
 #[inline]
 fn index_of(pairs: &[Pair], place: u32) -> usize
     requires { IsRising pairs.now }
@@ -47,7 +47,7 @@ fn index_of(pairs: &[Pair], place: u32) -> usize
     at
 }
 
-/// Returns how many pairs are of lower places than one, where so many are from the front on; the
+/// Returns how many pairs are of lower places than `place`, where the first `from` of them are; the
 /// member at that place; and whether it has a pair. It compares all pairs from there on: a
 /// processor predicts a loop of a known length better than a search that may end anywhere.
 #[inline]

@@ -10,7 +10,7 @@ use std::alloc::{AllocError, Global};
 use std::marker::Model;
 
 /// The permutation of a bucket's places for the input that was asked last, as far as it was needed
-/// (`crush_work_bucket` of `mapper.c`). It keeps only the places at which it differs from the
+/// (`crush_work_bucket` of `mapper.c`). It stores only the places at which it differs from the
 /// identity, as pairs of a place and its member, in order of place.
 ///
 /// Contracts see the bucket's id and size, that input, and how many exchanges were made for it.
@@ -32,7 +32,7 @@ impl Model for Perm {
 }
 
 impl Perm {
-    /// Returns the scratch of a bucket with this id and so many items.
+    /// Makes the scratch of a bucket with the id `id` and `size` items.
     ///
     /// `Err(AllocError)`: an allocation failed; nothing is changed.
     pub fn build(alloc: Global, id: ItemId, size: usize) -> Result<Self, AllocError>
@@ -46,7 +46,7 @@ impl Perm {
         })
     }
 
-    /// Returns the member of the permutation for x at a place (`bucket_perm_choose` of `mapper.c`).
+    /// Finds the member of the permutation for x at a place (`bucket_perm_choose` of `mapper.c`).
     /// Allocates nothing.
     pub fn member(&mut self, x: u32, place: usize) -> usize
         requires { place < self.old.of.size }
@@ -61,7 +61,7 @@ impl Perm {
     }
 
     /// Returns at how many places the permutation's list differs from the identity, after the
-    /// exchanges made for the input that was asked last. No other place is kept.
+    /// exchanges made for the input that was asked last. No other place is stored.
     pub fn kept(&self) -> usize
         ensures { result ≡ kept self.now }
     {

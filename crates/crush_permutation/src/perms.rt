@@ -39,7 +39,7 @@ impl Model for Perms {
 }
 
 impl Perms {
-    /// Returns so many permutations, at least one, of buckets with at most `size` items each; none
+    /// Makes `slots` permutations, at least one, of buckets with at most `size` items each; none
     /// where `size` is 0. It makes two allocations at most.
     ///
     /// `Err(AllocError)`: an allocation failed; nothing is changed.
@@ -64,8 +64,8 @@ impl Perms {
         })
     }
 
-    /// Returns the member at a place of the permutation of a bucket with this id and so many items,
-    /// for x. Buckets with numbers below that of the slots are kept apart. Allocates nothing.
+    /// Finds the member at a place of the permutation, for x, of a bucket with the id `id` and
+    /// `size` items. Each number below that of the slots has a slot for itself. Allocates nothing.
     #[inline]
     pub fn member(&mut self, number: usize, id: ItemId, size: usize, x: u32, place: usize) -> usize
         requires within { place < size }
@@ -94,7 +94,7 @@ struct Slot {
 }
 
 impl Slot {
-    /// Returns a slot with this part of the row, of which no exchange is made.
+    /// Makes a slot with the part of the row from `start` to `end`, in which no exchange is made.
     fn new(start: usize, end: usize) -> Self
         requires { start + 2 ≤ end }
         ensures new { IsNew end result }
@@ -108,7 +108,7 @@ impl Slot {
         }
     }
 
-    /// Returns the member at a place of a bucket's permutation for x.
+    /// Finds the member at a place of a bucket's permutation for x.
     #[inline]
     fn member(&mut self, row: &mut [Pair], id: ItemId, size: usize, x: u32, place: usize) -> u32
         requires within { place < size }

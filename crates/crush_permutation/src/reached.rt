@@ -46,8 +46,8 @@ impl Reached {
         }
     }
 
-    /// Makes this the permutation of a bucket with this id and size. Where it is another's no
-    /// exchange is made then.
+    /// Makes it the permutation of a bucket with the id `id` and `size` items. Where it is another
+    /// bucket's, no exchange is made then.
     #[inline]
     pub(crate) fn turn_to(&mut self, id: ItemId, size: usize)
         requires { size < 2 ^ 32 }
@@ -100,7 +100,7 @@ impl Reached {
         self.first
     }
 
-    /// Returns the member of the permutation for x at one of the first four places. It makes no
+    /// Finds the member of the permutation for x at one of the first four places. It makes no
     /// exchange and remembers none.
     #[inline]
     pub(crate) fn early(&mut self, x: u32, place: usize) -> u32
@@ -116,8 +116,8 @@ impl Reached {
         early_member(&hashes, self.size as u32, place as u32)
     }
 
-    /// Returns the member of the permutation for x at a place. It isn't inlined, so that a question
-    /// for place 0 alone, which needs no row, doesn't spill the registers that this one uses.
+    /// Finds the member of the permutation for x at a place. It isn't inlined, so that a question
+    /// for place 0 alone, which needs no row, doesn't spill the registers that it uses.
     #[inline(never)]
     pub(crate) fn member(&mut self, row: &mut [Pair], x: u32, place: usize) -> u32
         requires within { place < self.old.size }

@@ -29,7 +29,7 @@ height_is b k enough below most least =
       ]
     ]
 
--- ---- what the mask keeps
+-- ---- the bits that the mask leaves
 
 pub some_power : (k : ℕ) → 0 < 2 ^ k
 some_power = pow_pos
@@ -59,7 +59,7 @@ by_test x b false e some least = rw e (less_by_half x b (height_of b) refl some 
 pub below_all : (x b : ℕ) → 0 < b → ((j : ℕ) → j < height_of b → 2 ^ j < b) → stable_mod x b (mask_of b) < b
 below_all x b some least = by_test x b (nat_lt (bit_and x (mask_of b)) b) refl some least
 
--- where what is kept is below b, it is the group
+-- where the bits that the mask leaves are below b, they are the group
 pub kept_group : (x b : ℕ) → x % 2 ^ height_of b < b → stable_mod x b (mask_of b) ≡ x % 2 ^ height_of b
 kept_group x b low =
     let kept = kept_is x b in

@@ -38,7 +38,7 @@ all_more few more (p ∷ pairs) le valid =
     let parts = and_parts (is_pair few p) (list_all (is_pair few) pairs) valid in
     and_from _ _ (pair_more few more p le parts.0) (all_more few more pairs le parts.1)
 
--- pairs of so many groups are pairs of more groups
+-- pairs of `few` groups are pairs of `more` groups
 pub pairs_more : (few more : ℕ) (pairs : List Pair) → few ≤ more → are_pairs few pairs ≡ true → are_pairs more pairs ≡ true
 pairs_more few more pairs le valid =
     let parts = and_parts (nat_le (length pairs) PAIR_LIMIT) (list_all (is_pair few) pairs) valid in
@@ -66,7 +66,7 @@ few_pairs groups pairs valid =
 
 -- ---- the table of groups, while the pairs from a place on are in it
 
--- the groups of pairs, each with the place of its pair: the first has this place
+-- the groups of pairs, each with the place of its pair: the first has the place `place`
 abbrev pub marks : ℕ → List Pair → List (ℕ × ℕ)
 marks place [] = []
 marks place (p ∷ pairs) = (p.group, place) ∷ marks (place + 1) pairs
@@ -105,7 +105,7 @@ first_marked none place (p ∷ pairs) group last = by (p.group == group) (first_
     by true e = omega arith
     by false e = omega (arith, e)
 
--- no pair is of a group that is none of so many
+-- no pair of a pool with `groups` groups is of a group past them
 none_above : (groups : ℕ) (pairs : List Pair) (group : ℕ) → groups ≤ group → list_all (is_pair groups) pairs ≡ true
     → position_or_len (is_of_group group) pairs ≡ length pairs
 none_above groups [] group high valid = refl
@@ -176,7 +176,7 @@ first_within pairs group =
             let same : nat_lt (suc (position_or_len (is_of_group group) ps)) (suc (length ps)) ≡ nat_lt (position_or_len (is_of_group group) ps) (length ps) = grind (arith, nat_tests) in
             rw next (same ∙ e)
 
--- the pair at such a place is of the group
+-- the pair at the first place of a group from a place on is of the group
 pub first_is : (pairs : List Pair) (group from place : ℕ) → place ≡ first_from pairs group from → place < length pairs
     → (slice_index_or pairs place no_pair).group ≡ group
 first_is pairs group from place is low =

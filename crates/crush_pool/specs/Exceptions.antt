@@ -14,11 +14,11 @@ use Rattle.crush_pool.specs.declared.limits.TheConstants.{PAIR_LIMIT}
 
 -- ---- lists of pairs
 
--- the group is one of so many, and the ids are two different ones that devices can have
+-- the group is below `groups`, and the ids are two different ones that devices can have
 abbrev pub is_pair : ℕ → Pair → Bool
 is_pair groups p = nat_lt p.group groups && nat_le p.from NUMBER_LIMIT && nat_le p.to NUMBER_LIMIT && not (p.from == p.to)
 
--- at most PAIR_LIMIT pairs, of a pool with so many groups
+-- at most PAIR_LIMIT pairs, of a pool with `groups` groups
 abbrev pub are_pairs : ℕ → List Pair → Bool
 are_pairs groups pairs = nat_le (length pairs) PAIR_LIMIT && list_all (is_pair groups) pairs
 

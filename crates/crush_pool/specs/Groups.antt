@@ -8,6 +8,6 @@ use Rattle.crush_kinds.specs.Kinds.{height_of}
 abbrev pub mask_of : ℕ → ℕ
 mask_of b = 2 ^ height_of b - 1
 
--- the bits of x that the mask keeps; where they are not below b, without the highest of them
+-- the bits of x that the mask leaves; where they are not below b, without the highest of them
 abbrev pub stable_mod : ℕ → ℕ → ℕ → ℕ
 stable_mod x b mask = let kept = bit_and x mask in if nat_lt kept b then kept else bit_and x (mask / 2)

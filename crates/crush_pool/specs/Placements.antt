@@ -56,7 +56,7 @@ placed t w flags steps p pairs group =
 abbrev pub rule_numbered : Map → ℕ → Option Rule
 rule_numbered m id = find (λ r. r.id == id) m.rules
 
--- the placement of a group of a pool with these pairs on a map, with these states of devices; none
+-- the placement of a group of a pool on a map, with pairs of the pool and states of devices; none
 -- where the map lacks the pool's rule
 abbrev pub placement : Map → List DeviceState → PoolParts → List Pair → ℕ → Option Placement
 placement m states p pairs group =

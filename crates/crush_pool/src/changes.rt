@@ -8,7 +8,7 @@ ghost use Rattle.crush_pool.specs.Private.Seen.{HasDevices};
 use crate::limits::CHANGE_LIMIT;
 use crush_map::limits::ID_COUNT;
 
-/// A change of the state of a device. What is `None` stays as it is.
+/// A change of the state of a device. What is `None` is unchanged.
 #[derive(Clone, Copy, Debug, PartialEq, Eq)]
 pub struct DeviceChange {
     /// The id of the device, 0..`NUMBER_LIMIT`.
@@ -19,7 +19,7 @@ pub struct DeviceChange {
     pub up: Option<bool>,
 }
 
-/// Returns whether one of the changes is of this device.
+/// Returns whether one of the changes is of the device `device`.
 fn contains(device: u32, changes: &[DeviceChange]) -> bool
     ensures { result ≡ list_any (spec.is_of_device device) changes.now }
 {
@@ -43,8 +43,8 @@ fn are_distinct_by_pairs(changes: &[DeviceChange]) -> bool
     true
 }
 
-/// Returns whether one of the changes is of this device. A table of flags says which of the devices
-/// that it reaches have one; for other devices the changes are looked through.
+/// Returns whether one of the changes is of the device `device`. A table of flags says which of the
+/// devices that it reaches have one; for other devices the changes are looked through.
 fn is_again(seen: &[bool], device: u32, changes: &[DeviceChange]) -> bool
     requires { HasDevices seen.now changes.now }
     ensures { result ≡ list_any (spec.is_of_device device) changes.now }
@@ -66,7 +66,7 @@ fn mark(seen: &mut [bool], device: u32)
 }
 
 /// Returns whether each change is of another device, by a table of flags for all ids that a device
-/// can have: in linear time where all ids are such. Allocates nothing.
+/// can have: in linear time where each id is one of them. Allocates nothing.
 fn are_distinct_by_table(changes: &[DeviceChange]) -> bool
     ensures { result ≡ spec.are_distinct changes.now }
 {

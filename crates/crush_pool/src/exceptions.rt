@@ -33,7 +33,7 @@ pub struct Pair {
     pub to: u32,
 }
 
-/// Returns whether a pair is of one of so many groups, with two different ids that devices can
+/// Returns whether a pair is of a group below `groups`, with two different ids that devices can
 /// have.
 fn is_pair(groups: u32, pair: &Pair) -> bool
     ensures { result ≡ spec.is_pair groups pair.now }
@@ -44,7 +44,7 @@ fn is_pair(groups: u32, pair: &Pair) -> bool
         && pair.from != pair.to
 }
 
-/// Returns whether each pair is of one of so many groups, with two different ids that devices can
+/// Returns whether each pair is of a group below `groups`, with two different ids that devices can
 /// have.
 fn are_all_pairs(groups: u32, pairs: &[Pair]) -> bool
     ensures { result ≡ list_all (spec.is_pair groups) pairs.now }
@@ -52,7 +52,7 @@ fn are_all_pairs(groups: u32, pairs: &[Pair]) -> bool
     pairs.iter().all(|pair| is_pair(groups, pair))
 }
 
-/// Returns whether there are at most `PAIR_LIMIT` pairs, each of one of so many groups, with two
+/// Returns whether there are at most `PAIR_LIMIT` pairs, each of a group below `groups`, with two
 /// different ids that devices can have.
 pub fn are_pairs(groups: u32, pairs: &[Pair]) -> bool
     ensures { result ≡ spec.are_pairs groups pairs.now }
@@ -71,8 +71,9 @@ fn reach_of(pairs: &[Pair]) -> usize
     reach
 }
 
-/// For each group the place of its first pair, and for each pair the place of the next one of its
-/// group. Where there is none, the number of pairs stands.
+/// Finds for each group the place of its first pair, and for each pair the place of the next one of
+/// its group. Where there is none, the number of pairs stands. `Err(AllocError)`: an allocation
+/// failed.
 fn places_of(alloc: Global, pairs: &[Pair]) -> Result<(ByDevice<u16>, Vec<u16>), AllocError>
     requires { spec.are_pairs GROUP_LIMIT pairs.now ≡ true }
     ensures first { IfOk result (λ places. HasFirst places.0 pairs.now) }
@@ -122,7 +123,8 @@ impl Model for Exceptions {
 }
 
 impl Exceptions {
-    /// No exceptions, which any pool can have. `Err(AllocError)`: an allocation failed.
+    /// Makes the empty list of exceptions, which any pool can have. `Err(AllocError)`: an
+    /// allocation failed.
     pub fn none(alloc: Global) -> Result<Exceptions, AllocError>
         ensures { IfOk result (λ exceptions. exceptions ≡ []) }
     {
@@ -131,7 +133,7 @@ impl Exceptions {
         Ok(Exceptions { pairs, first, next })
     }
 
-    /// Returns these pairs as the exceptions of a pool, or `P3` where they are more than
+    /// Makes `pairs` the exceptions of a pool, or answers `P3` where they are more than
     /// `PAIR_LIMIT`, or one of them has no group of the pool, an id above `NUMBER_LIMIT`, or one id
     /// twice. `Err(AllocError)`: an allocation failed; the pairs are dropped.
     pub fn new(
@@ -158,7 +160,7 @@ impl Exceptions {
         self.pairs.as_slice()
     }
 
-    /// Returns whether one of the pairs is of this group.
+    /// Returns whether one of the pairs is of the group `group`.
     pub fn concern(&self, group: u32) -> bool
         ensures { result ≡ list_any (spec.is_of_group group) self.now }
     {
@@ -179,15 +181,15 @@ impl Exceptions {
         false
     }
 
-    /// Returns the place of the first pair of a group, or the number of pairs where there is none.
+    /// Finds the place of the first pair of a group, or the number of pairs where there is none.
     fn first_of(&self, group: u32) -> usize
         ensures { result ≡ first_from self.now group 0 }
     {
         self.first.get(group) as usize
     }
 
-    /// Returns the place of the next pair of the group of the one at a place, or the number of
-    /// pairs where there is none.
+    /// Finds the place of the next pair of the group of the pair at `place`, or the number of pairs
+    /// where there is none.
     fn next_of(&self, place: usize) -> usize
         requires { place < length self.now }
         ensures { result ≡ first_from self.now (slice_index_or self.now place no_pair).group (place + 1) }
@@ -226,14 +228,14 @@ fn takes_effect(tables: &Tables, weights: &Weights, pair: Pair, slots: &[Slot]) 
         && tables.has_device(pair.to)
 }
 
-/// Returns the place of the first slot that has an item.
+/// Finds the place of the first slot that has an item.
 fn place_of(slots: &[Slot], item: ItemId) -> Option<usize>
     ensures { result ≡ position (slot_has item) slots.now }
 {
     slots.iter().position(|slot| slot_has(*slot, item))
 }
 
-/// Puts another item into the first slot that has an item.
+/// Puts the item `to` into the first slot that has the item `from`.
 #[tactic(auto, using(crate::proofs::Pairs::exchanged_at))]
 fn exchange(slots: &mut [Slot], from: ItemId, to: ItemId)
     ensures { slots.new ≡ spec.exchanged from to slots.old }
@@ -243,7 +245,7 @@ fn exchange(slots: &mut [Slot], from: ItemId, to: ItemId)
     }
 }
 
-/// Changes a list of slots by a pair, if that takes effect.
+/// Changes a list of slots by a pair, if the pair takes effect.
 fn apply(tables: &Tables, weights: &Weights, pair: Pair, slots: &mut [Slot])
     requires { spec.is_pair GROUP_LIMIT pair ≡ true }
     ensures { slots.new ≡ spec.after_pair tables.now weights.now pair slots.old }
@@ -270,7 +272,7 @@ impl Model for Excepted {
 }
 
 impl Excepted {
-    /// Returns a rule's answer for a group, with the pairs of that group. Allocates nothing.
+    /// Applies the pairs of a group to a copy of a rule's answer for it. Allocates nothing.
     pub(crate) fn new(
         tables: &Tables,
         weights: &Weights,

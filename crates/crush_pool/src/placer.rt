@@ -70,7 +70,7 @@ impl<'a> Placer<'a> {
     ghost use Rattle.crush_pool.specs.Pools.{seed_of};
     ghost use Rattle.crush_pool.specs.States.{flags_of, reweights};
 
-    /// Returns the pool on the map, with these exceptions and states of devices; `None` exactly
+    /// Makes the placer of a pool on a map, with exceptions and states of devices. `None` exactly
     /// where the map lacks the pool's rule.
     ///
     /// The tables are those of the map, the weights are the reweights of the states, the flags say
@@ -133,7 +133,7 @@ impl<'a> Placer<'a> {
         self.exceptions
     }
 
-    /// Returns what the rule answered for a group, with the exceptions of that group. Allocates
+    /// Applies the exceptions of a group to a copy of what the rule answered for it. Allocates
     /// nothing.
     pub fn excepted(&self, group: u32, raw: &[Slot]) -> Excepted
         requires { length raw.now ≤ SIZE_LIMIT }
@@ -168,8 +168,8 @@ impl<'a> Placer<'a> {
         );
     }
 
-    /// Picks ahead what the pool's rule asks for first for this group and the three behind it, side
-    /// by side. What is answered later is the same with and without; it takes less time.
+    /// Picks ahead what the pool's rule asks for first for the group `group` and the seven behind
+    /// it, side by side. What is answered later is the same with and without; it takes less time.
     pub fn look_ahead(&self, scratch: &mut Scratch, group: u32)
         requires fits { scratch.old ≡ scratch_of (tables_of self.now.map) }
         ensures fits { scratch.new ≡ scratch_of (tables_of self.now.map) }
@@ -207,8 +207,8 @@ impl<'a> Placer<'a> {
         )
     }
 
-    /// Returns the placement of a group of the pool. Afterwards `out` has the rule's answer and the
-    /// trace of its run. `Err(AllocError)`: an allocation failed; `out` must not be used any more.
+    /// Places a group of the pool. Afterwards `out` has the rule's answer and the trace of its run.
+    /// `Err(AllocError)`: an allocation failed; `out` must not be used any more.
     pub fn place_with(
         &self,
         alloc: Global,

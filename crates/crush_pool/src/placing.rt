@@ -36,7 +36,7 @@ pub struct Placement {
     pub primary: Slot,
 }
 
-/// Returns the rule of a map with this id; `None` where the map has no such rule.
+/// Finds the rule of a map with an id. `None` where the map has no such rule.
 pub fn rule_with_id(map: &CrushMap, id: u32) -> Option<&Rule>
     ensures value { option_map (λ r. r.now) result ≡ spec.rule_numbered map.now id }
     ensures runs { IfSome result (λ r. CanRun (tables_of map.now) r.now) }
@@ -55,8 +55,8 @@ pub fn is_up_slot(states: &DeviceStates, slot: Slot) -> bool
     }
 }
 
-/// Returns the up list of a replicated or an erasure pool, by what the rule answered, with its
-/// exceptions.
+/// Makes the up list of a replicated or an erasure pool, by what the rule answered, with its
+/// exceptions. `Err(AllocError)`: an allocation failed.
 fn up_of(
     alloc: Global,
     erasure: bool,
@@ -76,8 +76,8 @@ fn up_of(
     Ok(up)
 }
 
-/// Returns the up list of a group, by what the rule answered for it. Only where the group has
-/// exceptions they are applied, to a copy of the answer.
+/// Makes the up list of a group, by what the rule answered for it. Only where the group has
+/// exceptions they are applied, to a copy of the answer. `Err(AllocError)`: an allocation failed.
 #[tactic(auto, using(crate::proofs::Pairs::nothing_excepted))]
 fn up_with(
     alloc: Global,
@@ -101,7 +101,7 @@ fn up_with(
     }
 }
 
-/// Returns the first device of an up list; `None` where there is none.
+/// Finds the first device of an up list. `None` where there is none.
 pub fn primary_of(up: &[Slot]) -> Slot
     ensures { result ≡ spec.primary_of up.now }
 {
@@ -113,7 +113,7 @@ pub fn primary_of(up: &[Slot]) -> Slot
     None
 }
 
-/// Returns a copy of slots.
+/// Copies slots. `Err(AllocError)`: an allocation failed.
 fn copied(alloc: Global, slots: &[Slot]) -> Result<Vec<Slot>, AllocError>
     ensures { IfOk result (λ copy. copy.items ≡ slots.now) }
 {
@@ -145,7 +145,7 @@ pub(crate) fn run(
     run_rule(tables, scratch, rule, seed, size, weights, out);
 }
 
-/// Returns the placement of a group by what the pool's rule answered for it.
+/// Makes the placement of a group by what the pool's rule answered for it.
 pub(crate) fn placement_by(
     alloc: Global,
     tables: &Tables,
@@ -181,8 +181,8 @@ pub(crate) fn placement_by(
     })
 }
 
-/// Returns the placement of a group of a pool with these exceptions, or `P2` where the pool has no
-/// such group. `Err(AllocError)`: an allocation failed; nothing is changed.
+/// Places a group of a pool with exceptions, or answers `P2` where the pool has no such group.
+/// `Err(AllocError)`: an allocation failed; nothing is changed.
 #[tactic(auto, unfolding(crate::specs::Placements::placed))]
 pub fn place(
     alloc: Global,

@@ -75,7 +75,7 @@ fn is_pool(parts: &PoolParts) -> bool
 }
 
 impl Pool {
-    /// Returns the pool with these settings, or `P1` where a number or the name is out of range.
+    /// Makes a pool of its settings, or answers `P1` where a number or the name is out of range.
     pub fn new(parts: PoolParts) -> Result<Pool, PoolFault>
         ensures there { is_ok result ≡ spec.is_pool parts }
         ensures pool { IfOk result (λ pool. pool ≡ parts) }
@@ -88,7 +88,7 @@ impl Pool {
         }
     }
 
-    /// Returns its settings, which are in range.
+    /// Returns the pool's settings, which are in range.
     pub fn parts(&self) -> &PoolParts
         ensures same { result.now ≡ self.now }
         ensures valid { spec.is_pool self.now ≡ true }
@@ -96,7 +96,7 @@ impl Pool {
         &self.parts
     }
 
-    /// Returns the group of the object with this name, which has fewer than 2^32 bytes
+    /// Returns the group of the object with the name `name`, which has fewer than 2^32 bytes
     /// (`object_locator_to_pg` of Ceph).
     pub fn group_of(&self, name: &[u8]) -> u32
         requires { length name.now < 2 ^ 32 }

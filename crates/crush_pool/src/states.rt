@@ -19,7 +19,7 @@ pub struct DeviceState {
     pub up: bool,
 }
 
-/// Returns the pairs of device and reweight. `Err(AllocError)`: an allocation failed.
+/// Makes the list of pairs of device and reweight. `Err(AllocError)`: an allocation failed.
 pub fn reweights_of(alloc: Global, states: &[DeviceState]) -> Result<Vec<(u32, u32)>, AllocError>
     ensures { IfOk result (λ given. given.items ≡ spec.reweights states.now) }
 {
@@ -47,7 +47,7 @@ impl Model for DeviceStates {
 }
 
 impl DeviceStates {
-    /// Returns the flags of these states, with memory up to the greatest id of a state.
+    /// Makes the flags of `states`, with memory up to the greatest id of a state.
     /// `Err(AllocError)`: an allocation failed.
     ///
     /// Of several states for one id the first counts. An id without a state is up, and so is each
@@ -64,7 +64,7 @@ impl DeviceStates {
         Ok(DeviceStates { by_device })
     }
 
-    /// Returns whether the device with this id is up.
+    /// Returns whether the device with the id `device` is up.
     pub fn is_up(&self, device: u32) -> bool
         ensures { result ≡ spec.up_at self.now device }
     {

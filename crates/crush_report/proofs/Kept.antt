@@ -1,4 +1,4 @@
--- What is kept of the places of a pool's groups.
+-- What is stored of the places of a pool's groups.
 use denote.Ref.{Bor}
 use Rattle.std.specs.Slice.{IsGetRangeResult}
 use Rattle.std.proofs.Common.{◌≡◌, ◌<◌, ◌≤◌, ◌+◌, ◌-◌, ◌++◌, ◌∷◌, ◌∙◌, ℕ, List, [], true, length, take, drop, Option, None, Some, IfSome, inl, inr, refl, sym, ap, arith, length-append, length-drop}
@@ -76,7 +76,7 @@ last_start starts place end len = rw (sym len) (get_or-append_seam starts end []
 places_some : (p : PoolParts) → is_pool p ≡ true → 0 < p.pgp_num
 places_some p is = grind (arith, nat_tests, is)
 
--- nothing is kept
+-- nothing is stored
 pub none_kept : (p : PoolOnMap) (a : Answers) → is_pool p.pool ≡ true → a.places.count ≡ p.pool.pgp_num → a.starts.items ≡ [] → AreAnswers p a
 none_kept p a valid count none =
     record {

@@ -1,4 +1,4 @@
--- What is written as records is read as these records.
+-- What is written as records is read as those records.
 use Rattle.std.proofs.Common.{◌≡◌, ◌∷◌, [], ℕ, List, None, map, refl, sym}
 use Rattle.csv.specs.Machine.{next_record}
 use Rattle.csv.specs.Reading.{Reached, default_config, records}

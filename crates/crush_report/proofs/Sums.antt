@@ -65,7 +65,7 @@ module _ (p : ℕ → Bool) (k : ℕ) (only : (id : ℕ) → p id ≡ true → i
 
 -- ---- slots
 
--- the slot is none, or a device with one of these ids
+-- the slot is none, or a device with one of the ids
 abbrev pub IsAmong : List ℕ → Slot → Type 0
 IsAmong ids slot = IfSome slot (λ item. (k : ℕ) × (item.0 ≡ pos k) × (list_any (λ n. n == k) ids ≡ true))
 

@@ -29,7 +29,7 @@ abbrev pub gained : List Slot → List Slot → ℕ
 gained old [] = 0
 gained old (slot ∷ new) = if is_gain old slot new then suc (gained old new) else gained old new
 
--- the row of a group with these up lists, if they differ
+-- the row of a group with two up lists, if they differ
 abbrev pub move_between : ℕ → List Slot → List Slot → Option MoveRow
 move_between group old new =
     if same_slots old new then None else Some (record { group = group; gained = gained old new; old = old; new = new })

@@ -16,7 +16,7 @@ use Rattle.crush_report.specs.Reports.{up_list}
 abbrev pub up_on : PoolOnMap → ℕ → List Slot
 up_on p = up_list (tables_of p.map) (weights_of (reweights p.states)) (flags_of p.states) (steps_of p) p.pool p.pairs
 
--- the up list of a group for which the rule gave this answer
+-- the up list of a group for which the rule gave the answer `raw`
 abbrev pub up_from : PoolOnMap → ℕ → List Slot → List Slot
 up_from p group raw = up_of p.pool.erasure (flags_of p.states) (excepted (tables_of p.map) (weights_of (reweights p.states)) p.pairs group raw)
 

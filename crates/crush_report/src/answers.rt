@@ -17,7 +17,7 @@ use std::alloc::{AllocError, Global};
 
 // ---- places
 
-/// How many places the groups of a pool have, with the mask for so many.
+/// How many places the groups of a pool have, with the mask for that number.
 #[derive(Clone, Copy)]
 struct Places {
     count: u32,
@@ -58,8 +58,8 @@ fn are_few(pool: &Pool, most: u32) -> bool {
 
 // ---- runs
 
-/// At each group that is a multiple of eight, what the pool's rule asks for first is picked ahead
-/// for the eight groups from there on.
+/// Picks ahead, at each group that is a multiple of eight, what the pool's rule asks for first for
+/// the eight groups from there on.
 pub fn look_ahead(placer: &Placer, scratch: &mut Scratch, group: u32)
     requires fits { scratch.old ≡ scratch_of (tables_of placer.now.map) }
     ensures fits { scratch.new ≡ scratch_of (tables_of placer.now.map) }
@@ -99,7 +99,7 @@ impl Answers {
     ghost use Rattle.crush_report.specs.OnMaps.{answer_on};
     ghost use Rattle.crush_report.specs.Private.Places.{AreAnswers};
 
-    /// No answers: the rule is run for each group.
+    /// Makes the value without answers: the rule is run for each group.
     fn none(alloc: Global, places: Places) -> Answers
         ensures places { result.places ≡ places }
         ensures starts { result.starts.items ≡ [] }
@@ -111,7 +111,7 @@ impl Answers {
         }
     }
 
-    /// Returns the answers for all places, if there are fewer places than groups and their answers
+    /// Makes the answers for all places, if there are fewer places than groups and their answers
     /// take at most `most` words of 8 bytes a group. `Err(AllocError)`: an allocation failed.
     pub(crate) fn build(
         alloc: Global,
@@ -145,8 +145,8 @@ impl Answers {
         })
     }
 
-    /// Returns what the rule answers for a group, if that is kept: it is the answer for the group's
-    /// place.
+    /// Returns what the rule answers for a group, if that is stored: it is the answer for the
+    /// group's place.
     pub(crate) fn kept(&self, group: u32) -> Option<&[Slot]>
         ensures { (p : PoolOnMap) → AreAnswers p self.now → IfSome result (λ raw. raw.now ≡ answer_on p group) }
     {
@@ -194,8 +194,8 @@ impl Traced {
     ghost use Rattle.crush_report.specs.OnMaps.{trace_on};
     ghost use Rattle.crush_report.specs.Private.Places.{AreTraced};
 
-    /// Returns the places in whose trace a device is, if there are fewer places than groups: one
-    /// byte each. `Err(AllocError)`: an allocation failed.
+    /// Makes the flags of the places in whose trace a device is, if there are fewer places than
+    /// groups: one byte each. `Err(AllocError)`: an allocation failed.
     pub(crate) fn build(
         alloc: Global,
         placer: &Placer,
@@ -218,8 +218,8 @@ impl Traced {
         Ok(Traced { places, found })
     }
 
-    /// Returns whether the device is in the trace of a group, if that is kept: it is the trace for
-    /// the group's place.
+    /// Returns whether the device is in the trace of a group, if that is stored: it is the trace
+    /// for the group's place.
     pub(crate) fn kept(&self, group: u32) -> Option<bool>
         ensures { (p : PoolOnMap) (device : ℕ) → AreTraced p device self.now → IfSome result (λ found. found ≡ has_number (trace_on p group) device) }
     {

@@ -15,7 +15,7 @@ pub fn reports_are_read_back()
     ensures moves { (rows : List MoveRow) → records default_config (strip_bom (spec.moves_text rows)) ≡ spec.move_records rows }
 {}
 
-/// Changes of devices are read from a CSV exactly where the text has the form and says these
+/// Changes of devices are read from a CSV exactly where the text has the form and says those
 /// changes. Any other text is refused.
 pub fn device_csvs_are_of_the_form()
     ensures read { (text : List ℕ) (cs : List DeviceChange) → (device_changes_of text ≡ Some cs) ↔ IsDeviceCsv text cs }

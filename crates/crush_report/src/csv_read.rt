@@ -23,7 +23,7 @@ pub enum CsvFault {
 
 // ---- fields
 
-/// Returns the number from 0 to `greatest` that 1 to 10 digits write.
+/// Reads the number from 0 to `greatest` that 1 to 10 digits write. `None`: they write none.
 fn number_up_to(greatest: u32, text: &[u8]) -> Option<u32>
     ensures { result ≡ spec.number_up_to greatest text.now }
 {
@@ -35,7 +35,7 @@ fn number_up_to(greatest: u32, text: &[u8]) -> Option<u32>
     }
 }
 
-/// Returns the flag that `1` or `0` writes.
+/// Reads the flag that `1` or `0` writes. `None`: the text is neither.
 fn flag(text: &[u8]) -> Option<bool>
     ensures { result ≡ spec.flag_of text.now }
 {
@@ -48,7 +48,7 @@ fn flag(text: &[u8]) -> Option<bool>
     }
 }
 
-/// Returns the change that the fields of a record write.
+/// Reads the change that the fields of a record write. `None`: they write none.
 fn change_of_fields(id: &[u8], reweight: &[u8], up: &[u8]) -> Option<DeviceChange>
     ensures { result ≡ spec.change_of_fields id.now reweight.now up.now }
 {
@@ -64,7 +64,7 @@ fn change_of_fields(id: &[u8], reweight: &[u8], up: &[u8]) -> Option<DeviceChang
 
 // ---- records
 
-/// Returns the fields of a record that has three.
+/// Returns the fields of a record that has three. `None`: it has another number of fields.
 fn three_fields(row: &ByteRecord) -> Option<(&[u8], &[u8], &[u8])>
     ensures { option_map (λ f. (f.0.now, f.1.now, f.2.now)) result ≡ spec.three_of (fields_of row.now) }
 {
@@ -74,7 +74,7 @@ fn three_fields(row: &ByteRecord) -> Option<(&[u8], &[u8], &[u8])>
     Some((row.get(0)?, row.get(1)?, row.get(2)?))
 }
 
-/// Returns the change that a record says.
+/// Reads the change that a record says. `None`: it says none.
 fn change(row: &ByteRecord) -> Option<DeviceChange>
     ensures { result ≡ spec.change_of (fields_of row.now) }
 {
@@ -82,7 +82,7 @@ fn change(row: &ByteRecord) -> Option<DeviceChange>
     change_of_fields(id, reweight, up)
 }
 
-/// Returns the changes that records say; none where one of them says no change.
+/// Reads the changes that records say. `None`: one of them says no change.
 fn changes(alloc: Global, rows: &[ByteRecord]) -> Result<Option<Vec<DeviceChange>>, AllocError>
     ensures { IfOk result (λ found. option_map (λ v. v.items) found ≡ spec.changes_of (map fields_of rows.now)) }
 {
@@ -106,8 +106,8 @@ fn is_head(row: &ByteRecord) -> bool
     id == b"id".as_slice() && reweight == b"reweight".as_slice() && up == b"up".as_slice()
 }
 
-/// Returns the changes that records say, of which the first has the names of the columns; none
-/// where they aren't of the form.
+/// Reads the changes that records say, of which the first has the names of the columns. `None`:
+/// they aren't of the form.
 fn changes_under_head(
     alloc: Global,
     rows: &[ByteRecord],
@@ -128,7 +128,7 @@ fn changes_under_head(
 
 // ---- texts
 
-/// Returns the error for one that stopped a reader.
+/// Returns the error for the error that stopped a reader.
 ///
 /// `csv` doesn't say when `Io` comes. Over bytes in memory it has no cause.
 fn allocation_error(error: &Error) -> AllocError
@@ -143,7 +143,7 @@ fn allocation_error(error: &Error) -> AllocError
     }
 }
 
-/// Returns the first records of a text: at most one more than a text of the form has.
+/// Reads the first records of a text: at most one more than a text of the form has.
 fn first_records(alloc: Global, text: &[u8]) -> Result<Vec<ByteRecord>, AllocError>
     ensures { IfOk result (λ found. map fields_of found.items ≡ take (CHANGE_LIMIT + 2) (records default_config (strip_bom text.now))) }
 {
@@ -164,7 +164,7 @@ fn first_records(alloc: Global, text: &[u8]) -> Result<Vec<ByteRecord>, AllocErr
     Ok(found)
 }
 
-/// Returns the changes that a text says; none where it isn't of the form.
+/// Reads the changes that a text says. `None`: it isn't of the form.
 fn changes_in(alloc: Global, text: &[u8]) -> Result<Option<Vec<DeviceChange>>, AllocError>
     ensures { IfOk result (λ found. option_map (λ v. v.items) found ≡ spec.device_changes_of text.now) }
 {
@@ -172,8 +172,8 @@ fn changes_in(alloc: Global, text: &[u8]) -> Result<Option<Vec<DeviceChange>>, A
     changes_under_head(alloc, &rows)
 }
 
-/// Returns the changes that a text says, or `C1` where it isn't of the form. `Err(AllocError)`: an
-/// allocation failed.
+/// Reads the changes that a text says, or answers `C1` where it isn't of the form.
+/// `Err(AllocError)`: an allocation failed.
 pub fn read_device_csv(
     alloc: Global,
     text: &[u8],

@@ -36,7 +36,7 @@ fn write_usage(out: &mut Vec<u8>, row: &UsageRow) -> Result<(), AllocError>
     Ok(())
 }
 
-/// Returns the CSV of usage. `Err(AllocError)`: an allocation failed.
+/// Writes usage as CSV. `Err(AllocError)`: an allocation failed.
 #[tactic(auto, using(crate::proofs::CsvTexts::usage_head_line, crate::proofs::CsvTexts::one_more))]
 pub fn usage_csv(alloc: Global, rows: &[UsageRow]) -> Result<Vec<u8>, AllocError>
     ensures { IfOk result (λ text. text.items ≡ spec.usage_text rows.now) }
@@ -93,7 +93,7 @@ fn write_move(out: &mut Vec<u8>, row: &MoveRow) -> Result<(), AllocError>
     Ok(())
 }
 
-/// Returns the CSV of moves. `Err(AllocError)`: an allocation failed.
+/// Writes moves as CSV. `Err(AllocError)`: an allocation failed.
 #[tactic(auto, using(crate::proofs::CsvTexts::move_head_line, crate::proofs::CsvTexts::one_more))]
 pub fn moves_csv(alloc: Global, rows: &[MoveRow]) -> Result<Vec<u8>, AllocError>
     ensures { IfOk result (λ text. text.items ≡ spec.moves_text rows.now) }

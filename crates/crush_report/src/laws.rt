@@ -41,10 +41,10 @@ pub fn gained_counts_each_new_device_once()
 {}
 
 /// A group whose raw list changes where reweights of devices are lowered is in the impact list of
-/// one of these devices, by the reweights before. So is a group whose up list changes, if no device
+/// one of those devices, by the reweights before. So is a group whose up list changes, if no device
 /// goes down or up: where no lowered device is in the trace of a group, and no pair of the group
 /// leads to one, its up list stays too. The law says nothing of reweights that are raised. A group
-/// of such a list need not move.
+/// of an impact list need not move.
 pub fn groups_that_move_are_in_an_impact_list()
     ensures raw { (m : Map) (states lowered : List DeviceState) (p : PoolParts) (pairs : List Pair) (rule : Rule) (group : ℕ) → group < p.pg_num
         → ((device : ℕ) → weight_at (weights_of (reweights lowered)) device ≤ weight_at (weights_of (reweights states)) device)

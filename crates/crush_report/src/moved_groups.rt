@@ -61,7 +61,7 @@ fn is_gain(old: &[Slot], slot: Slot, others: &[Slot]) -> bool
     }
 }
 
-/// Returns how many devices are in the new list and not in the old one.
+/// Counts the devices that are in the new list and not in the old one.
 fn gained(old: &[Slot], new: &[Slot]) -> usize
     ensures { result ≡ spec.gained old.now new.now }
 {
@@ -76,7 +76,7 @@ fn gained(old: &[Slot], new: &[Slot]) -> usize
     count
 }
 
-/// Returns a copy of slots. `Err(AllocError)`: an allocation failed.
+/// Copies slots. `Err(AllocError)`: an allocation failed.
 fn copy_of(alloc: Global, slots: &[Slot]) -> Result<Listed<Slot>, AllocError>
     ensures { IfOk result (λ copy. copy ≡ slots.now) }
 {
@@ -85,7 +85,7 @@ fn copy_of(alloc: Global, slots: &[Slot]) -> Result<Listed<Slot>, AllocError>
     Ok(Listed::new(copy))
 }
 
-/// Returns the row of a group; `None` where its up lists are the same, which takes no memory.
+/// Makes the row of a group. `None` where its up lists are the same, which takes no memory.
 /// `Err(AllocError)`: an allocation failed.
 pub fn move_between(
     alloc: Global,
@@ -106,7 +106,7 @@ pub fn move_between(
     }))
 }
 
-/// Returns how many devices the groups gain in all.
+/// Adds up how many devices the groups gain.
 pub fn gained_in(rows: &[MoveRow]) -> u64
     requires { spec.gained_in rows.now < 2 ^ 64 }
     ensures { result ≡ spec.gained_in rows.now }
@@ -141,8 +141,8 @@ fn set_up(
     Ok(())
 }
 
-/// Sets `up` to the up list of a group for which the rule gave this answer. `Err(AllocError)`: an
-/// allocation failed.
+/// Sets `up` to the up list of a group for which the rule gave the answer `raw`.
+/// `Err(AllocError)`: an allocation failed.
 fn set_up_by(
     up: &mut Vec<Slot>,
     placer: &Placer,
@@ -162,7 +162,7 @@ fn set_up_by(
 }
 
 /// Sets `up` to the up list of a group. The rule runs where the answer for the group's place isn't
-/// kept. `Err(AllocError)`: an allocation failed.
+/// stored. `Err(AllocError)`: an allocation failed.
 pub(crate) fn set_up_of(
     up: &mut Vec<Slot>,
     placer: &Placer,
@@ -185,10 +185,10 @@ pub(crate) fn set_up_of(
     }
 }
 
-/// The most words of 8 bytes a group that are kept of the answers on each of the two maps.
+/// The most words of 8 bytes a group that are stored of the answers on each of the two maps.
 const WORDS_KEPT: u32 = 2;
 
-/// Returns the groups of a pool whose up lists differ between two maps, in order.
+/// Finds the groups of a pool whose up lists differ between two maps, in order.
 /// `Err(AllocError)`: an allocation failed.
 #[tactic(auto, using(crate::proofs::Groups::moves_more))]
 fn moved_rows(
@@ -221,8 +221,8 @@ fn moved_rows(
     Ok(Listed::new(rows))
 }
 
-/// Returns the groups of a pool whose up lists differ between two maps, in order. The exceptions
-/// and the states of devices are the same on both. `Err(AllocError)`: an allocation failed.
+/// Finds the groups of a pool whose up lists differ between two maps, in order. The exceptions and
+/// the states of devices are the same on both. `Err(AllocError)`: an allocation failed.
 pub fn moves_with(alloc: Global, from: &Placer, to: &Placer) -> Result<Listed<MoveRow>, AllocError>
     requires states { to.now.states ≡ from.now.states }
     requires pool { to.now.pool ≡ from.now.pool }

@@ -17,16 +17,16 @@ use crush_pool::{DeviceState, DeviceStates, Exceptions, Placer, Pool, reweights_
 use crush_select::Weights;
 use std::alloc::{AllocError, Global};
 
-/// Returns the table of the reweights of these states. `Err(AllocError)`: an allocation failed.
+/// Makes the table of the reweights of `states`. `Err(AllocError)`: an allocation failed.
 fn weights_of(alloc: Global, states: &[DeviceState]) -> Result<Weights, AllocError>
     ensures { IfOk result (λ w. w ≡ weights_of (reweights states.now)) }
 {
     Weights::of(alloc, &reweights_of(alloc, states)?)
 }
 
-/// Returns how much of a pool lies on each device of a map, in the order of the devices. The map
-/// has the pool's rule, and each exception is of a group of the pool. `Err(AllocError)`: an
-/// allocation failed.
+/// Counts how much of a pool lies on each device of a map, in the order of the devices. The map has
+/// the pool's rule, and each exception is of a group of the pool. `Err(AllocError)`: an allocation
+/// failed.
 pub fn usage(
     alloc: Global,
     map: &CrushMap,
@@ -47,7 +47,7 @@ pub fn usage(
     }
 }
 
-/// Returns the groups whose up lists differ between the map of a placer and another map, in order.
+/// Finds the groups whose up lists differ between the map of a placer and another map, in order.
 /// `Err(AllocError)`: an allocation failed.
 fn moves_to(
     alloc: Global,
@@ -75,8 +75,8 @@ fn moves_to(
     }
 }
 
-/// Returns the groups of a pool whose up lists differ between two maps, in order. Both maps have
-/// the pool's rule, and each exception is of a group of the pool. The exceptions are those of both
+/// Finds the groups of a pool whose up lists differ between two maps, in order. Both maps have the
+/// pool's rule, and each exception is of a group of the pool. The exceptions are those of both
 /// maps: on each, only one that leads to a device of it can take effect. `Err(AllocError)`: an
 /// allocation failed.
 pub fn moves(
@@ -101,8 +101,8 @@ pub fn moves(
     }
 }
 
-/// Returns the groups of a pool in whose trace a device is, and those of which a pair leads to it,
-/// in order, each once. The map has the pool's rule, and each exception is of a group of the pool.
+/// Finds the groups of a pool in whose trace a device is, and those of which a pair leads to it, in
+/// order, each once. The map has the pool's rule, and each exception is of a group of the pool.
 /// `Err(AllocError)`: an allocation failed.
 ///
 /// A group whose raw or up list changes where reweights are lowered is in the list of one of the

@@ -14,7 +14,7 @@ use crush_pool::Placer;
 use std::alloc::{AllocError, Global};
 
 /// Returns whether a pair of a group leads to a device, or the device is in the trace of the group.
-/// The rule runs only where no pair does and the trace for the group's place isn't kept.
+/// The rule runs only where no pair does and the trace for the group's place isn't stored.
 fn is_touched(
     placer: &Placer,
     traced: &Traced,
@@ -37,8 +37,8 @@ fn is_touched(
     }
 }
 
-/// Returns the groups of a pool in whose trace a device is, and those of which a pair leads to it,
-/// in order. `Err(AllocError)`: an allocation failed.
+/// Finds the groups of a pool in whose trace a device is, and those of which a pair leads to it, in
+/// order. `Err(AllocError)`: an allocation failed.
 ///
 /// A lower reweight of the device leaves the raw and the up list of each other group as they are
 /// (`laws::groups_that_move_are_in_an_impact_list`).

@@ -39,8 +39,8 @@ impl<'a> UpRun<'a> {
     ghost use Rattle.std.specs.Prelude.{◌≡◌, IfOk, OnOk};
     ghost use Rattle.crush_report.specs.OnMaps.{up_on};
 
-    /// Returns what finds the up lists of the placer's pool. It keeps at most `most` words of 8
-    /// bytes a group of what groups share. `Err(AllocError)`: an allocation failed.
+    /// Makes the run that finds the up lists of the placer's pool. It stores at most `most` words
+    /// of 8 bytes a group of what groups share. `Err(AllocError)`: an allocation failed.
     pub fn build(alloc: Global, placer: &'a Placer<'a>, most: u32) -> Result<UpRun<'a>, AllocError>
         ensures { IfOk result (λ run. run ≡ placer.now) }
     {

@@ -49,8 +49,8 @@ impl Tally {
     ghost use Rattle.crush_report.specs.Private.Tallies.{IsTally, IsCounting, HasRoom, HasSameLengths, count_at, row_by};
     ghost use Rattle.crush_pool.specs.Exceptions.{device_item};
 
-    /// Returns the counts over no list, for the devices with ids below a bound. `Err(AllocError)`:
-    /// an allocation failed.
+    /// Makes the counts over no list, for the devices with ids below a bound. `Err(AllocError)`: an
+    /// allocation failed.
     fn new(alloc: Global, bound: usize) -> Result<Tally, AllocError>
         ensures { IfOk result (λ t. IsTally bound [] t) }
     {
@@ -101,7 +101,7 @@ impl Tally {
         }
     }
 
-    /// Counts the up list of one more group, for which the rule gave this answer, with its
+    /// Counts the up list of one more group, for which the rule gave the answer `raw`, with its
     /// exceptions.
     ///
     /// An entry counts where its device is up, and the first one that counts is the primary. So it
@@ -145,7 +145,7 @@ fn count_of(counts: &[u32], device: u32) -> u32
     }
 }
 
-/// Returns a part in thousandths of the whole, rounded down; 0 of nothing.
+/// Returns `part` in thousandths of `whole`, rounded down; 0 of nothing.
 fn permille(part: u32, whole: u32) -> u32
     requires { 1000 * part < 2 ^ 32 }
     ensures { result ≡ spec.permille part whole }
@@ -164,10 +164,10 @@ fn bound_of(devices: &[Device]) -> usize
     bound
 }
 
-/// The most words of 8 bytes a group that are kept of answers.
+/// The most words of 8 bytes a group that are stored of answers.
 const WORDS_KEPT: u32 = 4;
 
-/// Counts the up list of one more group, for which the rule gave this answer.
+/// Counts the up list of one more group, for which the rule gave the answer `raw`.
 fn add_group(tally: &mut Tally, placer: &Placer, group: u32, raw: &[Slot])
     requires short { length raw.now ≤ SIZE_LIMIT }
     requires groups { HasRoom tally.old.groups SIZE_LIMIT }
@@ -184,7 +184,7 @@ fn add_group(tally: &mut Tally, placer: &Placer, group: u32, raw: &[Slot])
 }
 
 /// Counts the up list of one more group. The rule runs where the answer for the group's place isn't
-/// kept.
+/// stored.
 fn count_group(
     tally: &mut Tally,
     placer: &Placer,
@@ -211,8 +211,8 @@ fn count_group(
     }
 }
 
-/// Returns the counts over the up lists of all groups of a pool, for these devices.
-/// `Err(AllocError)`: an allocation failed.
+/// Counts the up lists of all groups of a pool, for `devices`. `Err(AllocError)`: an allocation
+/// failed.
 fn tally_of(alloc: Global, devices: &[Device], placer: &Placer) -> Result<Tally, AllocError>
     ensures few { IfOk result (λ t. (id : ℕ) → 1000 * count_at t.entries id < 2 ^ 32) }
     ensures tally { IfOk result (λ t. IsTally (id_bound devices.now) (map (up_on placer.now) (groups placer.now.pool)) t) }
@@ -227,7 +227,7 @@ fn tally_of(alloc: Global, devices: &[Device], placer: &Placer) -> Result<Tally,
     Ok(tally)
 }
 
-/// Returns a row for each device, in the order of the devices. `Err(AllocError)`: an allocation
+/// Makes a row for each device, in the order of the devices. `Err(AllocError)`: an allocation
 /// failed.
 fn rows_of(alloc: Global, devices: &[Device], tally: &Tally) -> Result<Listed<UsageRow>, AllocError>
     requires { (id : ℕ) → 1000 * count_at tally.now.entries id < 2 ^ 32 }
@@ -240,7 +240,7 @@ fn rows_of(alloc: Global, devices: &[Device], tally: &Tally) -> Result<Listed<Us
     Ok(Listed::new(rows))
 }
 
-/// Returns how much of a pool lies on each device of a map, in the order of the devices.
+/// Counts how much of a pool lies on each device of a map, in the order of the devices.
 /// `Err(AllocError)`: an allocation failed.
 pub fn usage_with(alloc: Global, placer: &Placer) -> Result<Listed<UsageRow>, AllocError>
     ensures { IfOk result (λ rows. Some rows ≡ usage placer.now.map placer.now.states placer.now.pool placer.now.pairs) }

@@ -59,7 +59,7 @@ leaves_are rep (Some (Placed s) ∷ marks) = ap (λ (xs : List Slot). Some s.lea
 
 -- ---- entries in ascending order of rep
 
--- the reps ascend, and the first is at least this one
+-- the reps ascend, and the first is at least `low`
 abbrev pub Rises : ℕ → List Entry → Type 0
 Rises low [] = Unit {0}
 Rises low (e ∷ found) = (low ≤ e.rep) × Rises (suc e.rep) found

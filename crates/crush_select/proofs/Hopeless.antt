@@ -75,7 +75,7 @@ pub leaf_asked : (t : TablesView) (w : List ℕ) (x : ℕ) (leaves : List Slot) 
 unfolding can_choose
 leaf_asked t w x leaves bucket = refl
 
--- where it counts whether a leaf is wanted, one is, and there is none
+-- where it counts whether a leaf is required, one is, and there is none
 pub wants_leaf : (tries : ℕ) (can : Bool) → (if nat_lt 0 tries then can else true) ≡ false → ((tries == 0) ≡ false) × (can ≡ false)
 wants_leaf zero can e = cc
 wants_leaf (suc n) can e =

@@ -59,7 +59,7 @@ no_leaf_of picks t w c pos item r (Some k) none =
 
 -- ---- what is taken
 
--- each item that is placed was placed in a round before this one
+-- each item that is placed was placed in a round before round f
 abbrev pub IsBefore : ℕ → Marks → Type 0
 IsBefore f now = (q : ℕ) (s : Spot) → q < length now → at now q ≡ Some (Placed s) → s.round < f
 
@@ -158,7 +158,7 @@ module _ (tries : Tries) (is : IsOrderly tries) (now : Marks) (f : ℕ) (hopeles
   later_rounds n rounds le is_now =
       holds_from (λ k. PlaceTheSame now (after_rounds tries n k)) f rounds le (rw (← is_now) (place_same-itself now)) (λ k low same. one_round k n _ low same)
 
--- the marks after some rounds were placed in these
+-- the marks after some rounds were placed in those rounds
 settled_before : (tries : Tries) (is : IsOrderly tries) (n f : ℕ) (now : Marks) → now ≡ after_rounds tries n f → IsBefore f now
 settled_before tries is n f now e q s fits placed =
     let settled : IsSettled tries n f now = rw e (rounds_settle tries is n f) in

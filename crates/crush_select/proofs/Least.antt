@@ -15,7 +15,7 @@ holds_from P low (suc n) le start step = elim (eq-or-lt_of_le le) [
 
 -- ---- the place of the first success
 
--- the first of the tries below n that has a value has this one, or none has a value
+-- the first of the tries below n that has a value has the value a; or none of them has one
 abbrev IsFirst : {A : Type 0} → (ℕ → Option A) → ℕ → Option A → Type 0
 IsFirst said n None = (j : ℕ) → j < n → said j ≡ None
 IsFirst said n (Some a) = (i : ℕ) × (i < n) × (said i ≡ Some a) × ((j : ℕ) → j < i → said j ≡ None)

@@ -115,7 +115,7 @@ module _ (tries : Tries) (is : IsOrderly tries) where
       holds_from (λ k. earlier f pos q (least (tries a q) low) ≡ earlier f pos q (least (tries a q) k)) low rounds le refl (λ k from same.
       same ∙ sym (unseen f pos q (least (tries a q) k) (tries a q k) (hidden k q f pos (tries a q k) (is.numbered a k q) (later k from))))
 
-  -- no try up to this one sees what this one places
+  -- no try up to the one at pos in round f sees what that one places
   try_unseen : (f pos : ℕ) (now : Marks) → pos < length now → (g q : ℕ) → g ≤ f → (g ≡ f → q < suc pos) → PlaceAlike g q now (after_try tries f pos now)
   try_unseen f pos now lt g q le order = record {
     long = simp length-set refl;

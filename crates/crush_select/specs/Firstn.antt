@@ -21,7 +21,7 @@ use Rattle.crush_select.specs.Marks.{Marks, Slot, placed_by, items_of, leaves_of
 use Rattle.crush_map.specs.declared.limits.TheConstants.{TRIES_LIMIT, COUNT_LIMIT, VARY_R_LIMIT}
 use Rattle.crush_select.specs.declared.limits.TheConstants.{SIZE_LIMIT}
 
--- a call in range; room is `out_size` of `mapper.c`, and 0 leaf tries mean that no leaf is wanted
+-- a call in range; room is `out_size` of `mapper.c`, and 0 leaf tries mean that no leaf is required
 -- (`recurse_to_leaf` 0)
 pub record IsFirstnCall (t : TablesView) (c : FirstnCall) : Type 0 where
   pub bucket : c.bucket < length t.buckets
@@ -72,7 +72,7 @@ leaf_start c count r = leaf_base c count + leaf_sub c r
 unfoldable pub leaf_below : TablesView → List ℕ → FirstnCall → List Slot → ℕ → ℕ → Option ItemId
 leaf_below t w c leaves bucket start = least (λ g. leaf_by t w c leaves bucket (start + g)) c.leaf_tries
 
--- the leaf of an item: a device that is in is its own leaf; a bucket too, if no leaf is wanted,
+-- the leaf of an item: a device that is in is its own leaf; a bucket too, if no leaf is required,
 -- else it is a leaf below the bucket
 abbrev pub leaf_of : TablesView → List ℕ → FirstnCall → List Slot → ℕ → ItemId → ℕ → Option ℕ → Option ItemId
 leaf_of t w c leaves count item r None = then_some (is_device_in w c.x item) item

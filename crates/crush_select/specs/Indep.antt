@@ -21,8 +21,8 @@ use Rattle.crush_select.specs.Marks.{Marks, placed_by}
 use Rattle.crush_map.specs.declared.limits.TheConstants.{TRIES_LIMIT, COUNT_LIMIT}
 use Rattle.crush_select.specs.declared.limits.TheConstants.{SIZE_LIMIT}
 
--- a call in range; 0 leaf tries mean that no leaf is wanted (`recurse_to_leaf` 0), as is always so
--- where devices are wanted
+-- a call in range; 0 leaf tries mean that no leaf is required (`recurse_to_leaf` 0), as is always
+-- so where devices are looked for
 pub record IsIndepCall (t : TablesView) (c : IndepCall) : Type 0 where
   pub bucket : c.bucket < length t.buckets
   pub positions : c.n ≤ SIZE_LIMIT
@@ -76,7 +76,7 @@ indep_leaf_by t w c bucket start g = leaf_in w c.x (reach t c.x (λ k. start + s
 unfoldable pub indep_leaf : TablesView → List ℕ → IndepCall → ℕ → ℕ → Option ItemId
 indep_leaf t w c bucket start = least (indep_leaf_by t w c bucket start) c.leaf_tries
 
--- the leaf of an item: a device that is in is its own leaf; a bucket too, if no leaf is wanted,
+-- the leaf of an item: a device that is in is its own leaf; a bucket too, if no leaf is required,
 -- else it is a leaf below the bucket
 abbrev pub indep_leaf_of : TablesView → List ℕ → IndepCall → ℕ → ItemId → ℕ → Option ℕ → Option ItemId
 indep_leaf_of t w c pos item r None = then_some (is_device_in w c.x item) item

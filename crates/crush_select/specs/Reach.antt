@@ -11,7 +11,7 @@ use Rattle.crush_select.specs.declared.walk.Reached.{Reached}
 use Rattle.crush_select.specs.declared.walk.Reached.TheVariants.{Empty, Wrong, Found}
 
 -- the walk after an item was picked by attempt r: it ends at a device, whose type is 0, and at a
--- bucket of the wanted type; from another bucket it goes on by `down`
+-- bucket of the required type; from another bucket it goes on by `down`
 abbrev pub at_item : TablesView → ℕ → (ℕ → Reached) → ItemId → ℕ → Option ℕ → Reached
 at_item t wanted down item r None = if 0 == wanted then Found item r else Wrong
 at_item t wanted down item r (Some bucket) = if type_at t bucket == wanted then Found item r else down bucket

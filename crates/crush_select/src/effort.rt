@@ -7,8 +7,8 @@ ghost use Rattle.std.specs.Prelude.{◌<◌, length};
 
 use crush_bucket::{BucketNo, Tables};
 
-/// What a pick counts, in items that the question looks at: it takes at least about as long as so
-/// many of them.
+/// What a pick counts, in items that the question looks at: a pick takes at least about as long as
+/// looking at that number of them.
 const PICK: u64 = 16;
 
 /// What the question takes beside its price, whatever the map is: 16 picks.
@@ -22,7 +22,7 @@ pub(crate) struct Effort {
 }
 
 impl Effort {
-    /// Nothing is spent so far.
+    /// Returns the effort of a call that has spent nothing so far.
     pub(crate) fn new() -> Self {
         Effort {
             spent: 0,
@@ -59,7 +59,7 @@ impl Effort {
     }
 }
 
-/// Returns how many items the buckets up to a bucket have, by number.
+/// Counts the items of the buckets up to a bucket, by number.
 fn price_of(tables: &Tables, bucket: BucketNo) -> u64
     requires { bucket < length tables.now.buckets }
 {

@@ -31,11 +31,11 @@ pub struct FirstnCall {
     pub numrep: u32,
     /// How many items are chosen at most: 0..`SIZE_LIMIT`.
     pub room: u32,
-    /// The number of the wanted type.
+    /// The number of the required type.
     pub wanted: u32,
     /// How many tries a rep has: 1..`TRIES_LIMIT`.
     pub tries: u32,
-    /// How many tries a leaf has: 0..`TRIES_LIMIT`; with 0 no leaf is wanted.
+    /// How many tries a leaf has: 0..`TRIES_LIMIT`; with 0 no leaf is required.
     pub leaf_tries: u32,
     /// `chooseleaf_vary_r`, 0..`VARY_R_LIMIT`.
     pub vary_r: u32,
@@ -43,7 +43,7 @@ pub struct FirstnCall {
     pub stable: u32,
 }
 
-/// Returns whether a slot has this item.
+/// Returns whether a slot has the item `item`.
 pub fn slot_has(slot: Slot, item: ItemId) -> bool
     ensures { result ≡ spec.slot_has item slot }
 {
@@ -53,14 +53,14 @@ pub fn slot_has(slot: Slot, item: ItemId) -> bool
     }
 }
 
-/// Returns whether a slot of a list has this item.
+/// Returns whether a slot of a list has the item `item`.
 pub fn has(slots: &[Slot], item: ItemId) -> bool
     ensures { result ≡ spec.has slots.now item }
 {
     slots.iter().any(|slot| slot_has(*slot, item))
 }
 
-/// Returns the leaf that one attempt finds below a bucket, if it finds one.
+/// Makes one attempt for a leaf below a bucket. Returns the leaf that it finds, if it finds one.
 #[tactic(auto, unfolding(crate::specs::Firstn::leaf_by))]
 fn leaf_by(
     tables: &Tables,
@@ -104,7 +104,7 @@ fn leaf_start(call: &FirstnCall, count: u32, r: u32) -> u32
     base + sub
 }
 
-/// Returns the leaf of the first attempt that finds one. It gives up where none can.
+/// Finds the leaf of the first attempt that finds one. It gives up where none can.
 #[tactic(auto, unfolding(crate::specs::Firstn::leaf_below))]
 fn leaf_below(
     tables: &Tables,
@@ -143,7 +143,7 @@ fn leaf_below(
     None
 }
 
-/// Returns the leaf of an item that attempt r found, after `count` items were chosen.
+/// Finds the leaf of an item that attempt r found, after `count` items were chosen.
 fn leaf_of(
     tables: &Tables,
     scratch: &mut Scratch,
@@ -228,7 +228,7 @@ enum Decision {
     Hopeless,
 }
 
-/// Returns whether a try can place an item, given these items and leaves.
+/// Returns whether a try can place an item, given the `items` and `leaves` of smaller reps.
 fn can_place(
     tables: &Tables,
     weights: &Weights,
@@ -337,7 +337,7 @@ fn add(items: &mut Row, leaves: &mut Row, mark: Option<Mark>)
 /// Chooses items of a type below a bucket, without gaps, and a leaf for each (`crush_choose_firstn`
 /// of Ceph's `mapper.c`).
 ///
-/// Where no leaf is wanted, or where an item is a device, the leaf is the item itself.
+/// Where no leaf is required, or where an item is a device, the leaf is the item itself.
 #[tactic(auto, unfolding(crate::specs::Firstn::firstn))]
 pub fn choose_firstn(
     tables: &Tables,

@@ -33,16 +33,16 @@ pub struct IndepCall {
     /// What each round adds to an attempt: 1..`COUNT_LIMIT`. At some uniform buckets it adds one
     /// more.
     pub numrep: u32,
-    /// The number of the wanted type.
+    /// The number of the required type.
     pub wanted: u32,
     /// How many rounds there are: 1..`TRIES_LIMIT`.
     pub tries: u32,
-    /// How many rounds a leaf has: 0..`TRIES_LIMIT`; with 0 no leaf is wanted.
+    /// How many rounds a leaf has: 0..`TRIES_LIMIT`; with 0 no leaf is required.
     pub leaf_tries: u32,
 }
 
-/// Returns whether the mark of position q placed the item before the try of position `pos` in this
-/// round.
+/// Returns whether the mark of position q placed the item before the try of position `pos` in the
+/// round `round`.
 fn is_taken_at(mark: Option<Mark>, q: u32, round: u32, pos: u32, item: ItemId) -> bool
     ensures { result ≡ spec.is_of item (spec.earlier round pos q mark) }
 {
@@ -58,7 +58,7 @@ fn is_taken_at(mark: Option<Mark>, q: u32, round: u32, pos: u32, item: ItemId) -
     }
 }
 
-/// Returns whether some position got the item before the try of position `pos` in this round.
+/// Returns whether some position got the item before the try of position `pos` in round `round`.
 #[tactic(auto, unfolding(crate::specs::Indep::taken))]
 fn taken(marks: &[Option<Mark>], round: u32, pos: u32, item: ItemId) -> bool
     requires { length marks.now ≤ SIZE_LIMIT }
@@ -72,7 +72,7 @@ fn taken(marks: &[Option<Mark>], round: u32, pos: u32, item: ItemId) -> bool
     false
 }
 
-/// Returns the leaf that one round finds below a bucket, if it finds one.
+/// Makes one round for a leaf below a bucket. Returns the leaf that it finds, if it finds one.
 #[tactic(auto, unfolding(crate::specs::Indep::indep_leaf_by))]
 fn leaf_by(
     tables: &Tables,
@@ -104,7 +104,7 @@ fn leaf_by(
     }
 }
 
-/// Returns the leaf of the first round that finds one. It gives up where none can.
+/// Finds the leaf of the first round that finds one. It gives up where none can.
 #[tactic(auto, unfolding(crate::specs::Indep::indep_leaf))]
 fn leaf_below(
     tables: &Tables,
@@ -140,7 +140,7 @@ fn leaf_below(
     None
 }
 
-/// Returns the leaf of an item that attempt r found for a position.
+/// Finds the leaf of an item that attempt r found for a position.
 fn leaf_of(
     tables: &Tables,
     scratch: &mut Scratch,
@@ -264,14 +264,14 @@ fn all_decided(marks: &[Option<Mark>]) -> bool
     marks.iter().all(|mark| mark.is_some())
 }
 
-/// Returns how many positions are undecided.
+/// Counts the positions that are undecided.
 fn undecided(marks: &[Option<Mark>]) -> usize
     ensures { result ≤ length marks.now }
 {
     marks.iter().filter(|mark| mark.is_none()).count()
 }
 
-/// Returns whether a try of a position can place an item, given these marks.
+/// Returns whether a try of a position can place an item, given `marks`.
 fn can_place(tables: &Tables, weights: &Weights, call: &IndepCall, marks: &[Option<Mark>]) -> bool
     requires bucket { call.now.bucket < length tables.now.buckets }
     requires few { length marks.now ≤ SIZE_LIMIT }
@@ -367,7 +367,7 @@ fn fill(items: &mut Row, leaves: &mut Row, marks: &[Option<Mark>])
 /// Chooses items of a type below a bucket, each at its position, and a leaf for each; a position
 /// for which no try succeeds is left empty (`crush_choose_indep` of Ceph's `mapper.c`).
 ///
-/// Where no leaf is wanted, or where an item is a device, the leaf is the item itself.
+/// Where no leaf is required, or where an item is a device, the leaf is the item itself.
 pub fn choose_indep(
     tables: &Tables,
     scratch: &mut Scratch,

@@ -58,7 +58,7 @@ fn some_weighs(items: &[(ItemId, Weight)]) -> bool
     items.iter().any(|item| item.1.0 > 0)
 }
 
-/// Returns whether a bucket of this kind picks items of weight above 0 alone.
+/// Returns whether a bucket of the kind `kind` picks items of weight above 0 alone.
 fn picks_by_weight(kind: Kind, items: &[(ItemId, Weight)]) -> bool
     ensures { result ≡ spec.picks_by_weight kind items.now }
 {
@@ -68,7 +68,7 @@ fn picks_by_weight(kind: Kind, items: &[(ItemId, Weight)]) -> bool
     }
 }
 
-/// Returns the items that a bucket of this kind can pick where it doesn't go by weights.
+/// Returns the items that a bucket of the kind `kind` can pick where it doesn't go by weights.
 fn without_weights(kind: Kind, items: &[(ItemId, Weight)]) -> &[(ItemId, Weight)]
     ensures { result.now ≡ spec.without_weights kind items.now }
 {
@@ -79,7 +79,7 @@ fn without_weights(kind: Kind, items: &[(ItemId, Weight)]) -> &[(ItemId, Weight)
     }
 }
 
-/// Returns whether this is so of some of these items that has at least this weight.
+/// Returns whether `can_end_at` holds for one of `items` that has at least the weight `least`.
 fn can_end_among(
     tables: &Tables,
     weights: &Weights,
@@ -98,7 +98,7 @@ fn can_end_among(
     })
 }
 
-/// Returns whether this is so of some item that a bucket can pick.
+/// Returns whether `can_end_at` holds for some item that a bucket can pick.
 fn can_end_below(
     tables: &Tables,
     weights: &Weights,
@@ -122,8 +122,8 @@ fn can_end_below(
     }
 }
 
-/// Marks each bucket up to a bucket, by number, from which a walk can end at an item of the wanted
-/// type that can be placed, given the buckets that have a leaf.
+/// Marks each bucket up to a bucket, by number, from which a walk can end at an item of the type
+/// `wanted` that can be placed, given the buckets that have a leaf.
 fn mark_reachable(
     tables: &Tables,
     weights: &Weights,
@@ -154,8 +154,8 @@ fn mark_reachable(
     found
 }
 
-/// Marks the buckets up to a bucket, by number, that can be placed: all if no leaf is wanted, else
-/// those below which there is a device that is in and isn't a leaf already.
+/// Marks the buckets up to a bucket, by number, that can be placed: all if no leaf is required,
+/// else those below which there is a device that is in and isn't a leaf already.
 fn mark_leafy(
     tables: &Tables,
     weights: &Weights,
@@ -177,10 +177,10 @@ fn mark_leafy(
     }
 }
 
-/// Returns whether a walk from a bucket can end at an item of the wanted type that can be placed
+/// Returns whether a walk from a bucket can end at an item of the type `wanted` that can be placed
 /// beside the items that are chosen already: a device that is in, or a bucket below which, where a
-/// leaf is wanted, there is a device that is in and isn't a leaf already. Of a bucket whose number
-/// is `BUCKET_LIMIT` or more the answer is yes; no map has one.
+/// leaf is required, there is a device that is in and isn't a leaf already. Of a bucket whose
+/// number is `BUCKET_LIMIT` or more the answer is yes; no map has one.
 pub(crate) fn can_choose(
     tables: &Tables,
     weights: &Weights,

@@ -34,7 +34,7 @@ impl Model for Row {
 }
 
 impl Row {
-    /// Returns a row without slots.
+    /// Makes a row without slots.
     pub fn new() -> Self
         ensures { result ≡ [] }
     {

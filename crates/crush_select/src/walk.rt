@@ -23,9 +23,9 @@ pub(crate) struct Attempts {
 pub enum Reached {
     /// It ended at a bucket without items.
     Empty,
-    /// It ended at a device where another type is wanted.
+    /// It ended at a device where another type is required.
     Wrong,
-    /// It ended at this item of the wanted type, which this attempt picked.
+    /// It ended at this item of the required type, which this attempt picked.
     Found(ItemId, u32),
 }
 
@@ -49,7 +49,7 @@ fn attempt_at(tables: &Tables, attempts: Attempts, bucket: BucketNo) -> u32
     attempts.start + (attempts.numrep + extra) * attempts.round
 }
 
-/// Picks from a bucket and on from each bucket that is picked, until an item has the wanted type.
+/// Picks from a bucket and on from each bucket that is picked, until an item has the type `wanted`.
 /// It is inlined: a mapping has few picks for each walk.
 #[inline(always)]
 pub(crate) fn reach(

@@ -11,7 +11,7 @@ use std::alloc::{AllocError, Global};
 use std::marker::Model;
 
 /// 1.0 as a reweight, in 16.16 fixed point. A device with this reweight or more is always in, and a
-/// device that is given no reweight has this one.
+/// device that is given no reweight has `FULL`.
 pub const FULL: u32 = 65_536;
 
 /// Reweights of devices in 16.16 fixed point. Contracts see those of all ids that a device can
@@ -33,8 +33,8 @@ impl Model for Weights {
 }
 
 impl Weights {
-    /// Returns the reweights in `given`, pairs of id and reweight, with memory up to the greatest
-    /// id of a device of the map or of a pair.
+    /// Makes the table of the reweights in `given`, pairs of id and reweight, with memory up to the
+    /// greatest id of a device of the map or of a pair.
     ///
     /// Of several pairs for one id the first counts. An id without a pair has `FULL`, and so has
     /// each id that no device can have. The map need not have a device with the id.
@@ -47,8 +47,8 @@ impl Weights {
         Weights::reaching(alloc, ids_reached(map.devices()), given)
     }
 
-    /// Returns the reweights in `given`, whatever the map is, with memory up to the greatest id of
-    /// a pair.
+    /// Makes the table of the reweights in `given`, whatever the map is, with memory up to the
+    /// greatest id of a pair.
     ///
     /// `Err(AllocError)`: an allocation failed; nothing is changed.
     pub fn of(alloc: Global, given: &[(u32, u32)]) -> Result<Weights, AllocError>
@@ -58,7 +58,7 @@ impl Weights {
         Weights::reaching(alloc, 0, given)
     }
 
-    /// Returns the reweights in `given`, with memory for at least the first `reached` ids.
+    /// Makes the table of the reweights in `given`, with memory for at least `reached` ids.
     #[tactic(auto, unfolding(crate::specs::Weights::weights_of))]
     fn reaching(alloc: Global, reached: usize, given: &[(u32, u32)]) -> Result<Weights, AllocError>
         ensures all { IfOk result (λ w. w ≡ weights_of given.now) }

@@ -103,7 +103,7 @@ in_turn items h =
     let same : filter (λ item. is_none item.place) items ≡ items = all_of_it _ items h in
     rw same (filled_in_turn items 0 items (λ j. none_found items j (all_pass _ items h)))
 
--- where as many items name no place as there are, these are the items in order of place
+-- where as many items name no place as there are, they are the items in order of place
 pub others_are_in_place : {X : Type 0} (f : DeclaredItem → X) (items : List DeclaredItem) (others : List X) → others ≡ map f (filter (λ item. is_none item.place) items) → length others ≡ length items →
     others ≡ map f (in_place items)
 others_are_in_place f items others e h =

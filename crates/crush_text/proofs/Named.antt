@@ -27,7 +27,7 @@ past n k m o x h lt =
     let apart : (n == k) ≡ false = ne_eqb n k (λ e. absurd (omega arith)) in
     rw apart (or_none o)
 
--- a place that has an item keeps it
+-- a place that has an item is unchanged
 pub taken : {X : Type 0} (table : List (Option X)) (n k : ℕ) (x : X) → is_some (get_or table n None) ≡ true → option_or (get_or table k None) (cond (n == k) (Some x) None) ≡ get_or table k None
 taken table n k x there = elim (eqb_tells n k) [
   | inl h ↦ stays (get_or table k None) _ (ap (λ j. is_some (get_or table j None)) (sym h.1) ∙ there)

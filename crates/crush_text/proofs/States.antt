@@ -35,7 +35,7 @@ devices_keep : (k : Known) (xs : List Device) → fold with_device k xs ≡ item
 devices_keep k [] = refl
 devices_keep k (x ∷ xs) = devices_keep (with_device k x) xs
 
--- what is known behind these devices, and no types
+-- what is known behind devices alone
 abbrev pub by_devices : List Device → Known
 by_devices xs = fold with_device nothing xs
 
@@ -67,7 +67,7 @@ either_order m =
 abbrev pub all_tunables : List TunableName
 all_tunables = LocalTries ∷ LocalFallbackTries ∷ TotalTries ∷ DescendOnce ∷ VaryR ∷ Stable ∷ []
 
--- the first of these, where the tunables were declared before
+-- what was declared behind the tunables: types, devices, buckets and rules, and what is known
 abbrev pub declared_so_far : Tunables → List TypeName → List Device → List Bucket → List Rule → Known → Declared
 declared_so_far t types devices buckets rules known = record {
   draft = record { types = types; devices = devices; buckets = buckets; rules = rules; local_tries = 0; local_fallback_tries = 0; tunables = t };

@@ -23,7 +23,7 @@ at_end s = end_fault s.known s.draft.tunables s.draft.local_tries s.draft.local_
 draft_of_form : (ws : List Word) (ds : List Declaration) → Declares ws ds → declared_fault ds ≡ None → at_end (declared ds) ≡ None → first_fault (declared ds).draft ≡ None
 draft_of_form ws ds (t, words, says) each end = rw says (faultless t (rw says at each) (rw says at end))
 
--- such a text declares a draft without a fault
+-- a text in which no declaration has a fault, and the end has none, declares a draft without one
 pub clean_draft : (ws : List Word) (s : Declared) → IsClean ws s → at_end s ≡ None → first_fault s.draft ≡ None
 clean_draft ws s clean end = rw clean.all (draft_of_form ws clean.declarations clean.form clean.each (rw clean.all at end))
 

@@ -378,7 +378,7 @@ pub record IsWrittenRule (m : Map) (r : Rule) : Type 0 where
   pub name : is_name r.name ≡ true
   pub steps : AllByRecursion (StepForm m) r.steps
 
--- a rule of these steps
+-- a rule whose steps are a first one and others
 steps_spell : (m : Map) (r : Rule) (s : Step) (ss : List Step) → r.id ≤ RULE_ID_LIMIT → is_name r.name ≡ true → StepForm m s → AllByRecursion (StepForm m) ss → (n : ℕ) →
     Spells late_words late_declares n (rule_lines m (record r { steps = s ∷ ss })) (n + rule_height (record r { steps = s ∷ ss })) (rule_declared m n (record r { steps = s ∷ ss }))
 unfolding rule_lines

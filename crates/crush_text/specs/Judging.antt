@@ -42,7 +42,7 @@ pub record Declared : Type 0 where
   pub known : Known
   pub tunables : List TunableName
 
--- before the first declaration; a tunable that no declaration names keeps its legacy value
+-- before the first declaration; a tunable that no declaration names has its legacy value
 abbrev pub nothing_declared : Declared
 nothing_declared = record {
   draft = record {

@@ -1,4 +1,4 @@
--- The places of a bucket's items: an item may name its own, and the others fill what is left.
+-- The places of a bucket's items: an item may name its own, and the others fill the remaining ones.
 use Rattle.std.specs.Prelude.{ℕ, zero, suc, ◌+◌, nat_le, ◌==◌, ◌||◌, Bool, false, List, [], ◌∷◌, ◌++◌, length, take, drop, find, filter, Option, Some, None, is_none, if◌then◌else◌}
 use Rattle.std.specs.List.{list_any}
 use Rattle.std.specs.Option.{option_map_or}
@@ -17,8 +17,8 @@ abbrev pub wrong_line : ℕ → List DeclaredItem → Option Place → Option �
 wrong_line n before None = None
 wrong_line n before (Some p) = if nat_le n p.number || list_any (names_place p.number) before then Some p.line else None
 
--- the line of the first wrong place, of these items behind those of a bucket of n items that come
--- before
+-- the line of the first wrong place of a bucket of n items, among those of its items that come
+-- behind `before`
 abbrev pub wrong_place_from : ℕ → List DeclaredItem → List DeclaredItem → Option ℕ
 wrong_place_from n before [] = None
 wrong_place_from n before (item ∷ items) = or_else (wrong_line n before item.place) (wrong_place_from n (before ++ item ∷ []) items)

@@ -47,7 +47,7 @@ impl Model for Judge {
     ghost view = { λ a. record { draft = record { types = a.types.items; devices = a.devices; buckets = a.buckets; rules = a.rules.items; local_tries = a.local_tries; local_fallback_tries = a.local_fallback_tries; tunables = a.tunables }; known = a.known; tunables = a.named.items } };
 }
 
-/// Returns a fault of what is declared, on this line.
+/// Returns a fault of what is declared, on the line `line`.
 pub(crate) fn at_line(line: usize, code: FaultCode) -> TextFault
     ensures { result ≡ record { line = line; code = codes.Map code } }
 {
@@ -95,8 +95,8 @@ fn is_local(name: TunableName) -> bool
     )
 }
 
-/// Returns the tunables that choosing reads, with this value for one of them. If it isn't one of
-/// them, they are the same.
+/// Returns the tunables that choosing reads, where `name` has the value `value`. If `name` isn't
+/// one of them, they are the same.
 fn with_value(tunables: Tunables, name: TunableName, value: u32) -> Tunables
     ensures { (d : MapDraft) → d.tunables ≡ tunables → (spec.with_tunable d name value).tunables ≡ result }
 {
@@ -165,7 +165,7 @@ impl Judge {
         }
     }
 
-    /// Returns the fault of a tunable; a tunable without a fault is declared.
+    /// Declares a tunable that has no fault. Returns the fault if it has one.
     ///
     /// `Err(AllocError)`: an allocation failed; the value must not be used any more.
     fn declare_tunable(
@@ -183,7 +183,7 @@ impl Judge {
         Ok(None)
     }
 
-    /// Returns the fault of a device; a device without a fault is declared.
+    /// Declares a device that has no fault. Returns the fault if it has one.
     ///
     /// `Err(AllocError)`: an allocation failed; the value must not be used any more.
     #[tactic(auto, using(crate::proofs::Kept::is_small))]
@@ -206,7 +206,7 @@ impl Judge {
         Ok(None)
     }
 
-    /// Returns the fault of a type; a type without a fault is declared.
+    /// Declares a type that has no fault. Returns the fault if it has one.
     ///
     /// `Err(AllocError)`: an allocation failed; the value must not be used any more.
     fn declare_type(
@@ -228,7 +228,7 @@ impl Judge {
         Ok(None)
     }
 
-    /// Returns the id of the item with a name, and the weight that it has if a text gives none.
+    /// Finds the id of the item with a name, and the weight that it has if a text gives none.
     fn item_named(&self, name: &str) -> (ItemId, Weight)
         ensures { result ≡ spec.item_named self.now.draft name.now }
     {
@@ -249,7 +249,7 @@ impl Judge {
         (id, item.weight.unwrap_or(weight))
     }
 
-    /// Returns the first item that names each place, if one does.
+    /// Makes the table of places, with the first item that names each place, if one does.
     fn named_places(
         &self,
         alloc: Global,
@@ -282,7 +282,7 @@ impl Judge {
         Ok(others)
     }
 
-    /// Returns the items of a bucket in order of place.
+    /// Makes the items of a bucket, in order of place.
     fn items_of(
         &self,
         alloc: Global,
@@ -300,7 +300,7 @@ impl Judge {
         arranged(alloc, places, rest)
     }
 
-    /// Returns the bucket of a declaration, as the draft has it.
+    /// Makes the bucket of a declaration, as the draft has it.
     fn bucket_of(&self, alloc: Global, declared: &DeclaredBucket<'_>) -> Result<Bucket, AllocError>
         ensures { IfOk result (λ bucket. bucket ≡ spec.bucket_of self.now.draft declared.now) }
     {
@@ -314,7 +314,7 @@ impl Judge {
         })
     }
 
-    /// Returns the fault of a declared bucket, given the bucket that the draft has for it.
+    /// Finds the fault of a declared bucket, given the bucket that the draft has for it.
     #[tactic(auto, unfolding(crate::specs::Judging::declared_bucket_fault))]
     fn bucket_fault(
         &self,
@@ -348,7 +348,7 @@ impl Judge {
         self.buckets.add(alloc, bucket)
     }
 
-    /// Returns the fault of a bucket; a bucket without a fault is declared.
+    /// Declares a bucket that has no fault. Returns the fault if it has one.
     ///
     /// `Err(AllocError)`: an allocation failed; the value must not be used any more.
     fn declare_bucket(
@@ -370,7 +370,7 @@ impl Judge {
         }
     }
 
-    /// Returns the step of a declaration. `None`: the step sets local tries, and is dropped.
+    /// Makes the step of a declaration. `None`: the step sets local tries, and is dropped.
     fn step_of(&self, step: &DeclaredStep<'_>) -> Option<Step>
         ensures { result ≡ spec.step_of self.now.draft step.now }
     {
@@ -405,7 +405,7 @@ impl Judge {
         }
     }
 
-    /// Returns the first fault of steps.
+    /// Finds the first fault of steps.
     fn steps_fault(&self, steps: &[DeclaredStep<'_>]) -> Option<FaultCode>
         ensures { result ≡ faults.first_of (map (spec.declared_step_fault self.now) steps.now) }
     {
@@ -417,7 +417,7 @@ impl Judge {
         None
     }
 
-    /// Returns the steps of declarations, without those that are dropped.
+    /// Makes the steps of declarations, without those that are dropped.
     fn steps_of(&self, alloc: Global, steps: &[DeclaredStep<'_>]) -> Result<Vec<Step>, AllocError>
         ensures { IfOk result (λ v. v.items ≡ filter_map (spec.step_of self.now.draft) steps.now) }
     {
@@ -430,7 +430,7 @@ impl Judge {
         Ok(kept)
     }
 
-    /// Returns the rule of a declaration, as the draft has it.
+    /// Makes the rule of a declaration, as the draft has it.
     fn rule_of(&self, alloc: Global, declared: &DeclaredRule<'_>) -> Result<Rule, AllocError>
         ensures { IfOk result (λ rule. rule ≡ spec.rule_of self.now.draft declared.now) }
     {
@@ -467,7 +467,7 @@ impl Judge {
         Ok(())
     }
 
-    /// Returns the fault of a rule; a rule without a fault is declared.
+    /// Declares a rule that has no fault. Returns the fault if it has one.
     ///
     /// `Err(AllocError)`: an allocation failed; the value must not be used any more.
     fn declare_rule(
@@ -488,7 +488,7 @@ impl Judge {
         }
     }
 
-    /// Returns the fault of a declaration; what has no fault is declared.
+    /// Declares what a declaration says, if it has no fault. Returns the fault if it has one.
     ///
     /// `Err(AllocError)`: an allocation failed; the value must not be used any more.
     fn declare(
@@ -508,8 +508,8 @@ impl Judge {
         }
     }
 
-    /// Returns the first fault of declarations, each checked behind those before it; if there is
-    /// none, all are declared.
+    /// Declares what declarations say, each checked behind those before it. Returns their first
+    /// fault; if there is none, all are declared.
     ///
     /// `Err(AllocError)`: an allocation failed; the value must not be used any more.
     #[tactic(auto, unfolding(crate::specs::Judging::fault_from))]
@@ -563,7 +563,7 @@ impl Judge {
     }
 }
 
-/// Returns the step that sets a setting. `None`: it sets local tries, and is dropped.
+/// Makes the step that sets a setting. `None`: it sets local tries, and is dropped.
 fn set_step(setting: Setting, n: u32) -> Option<Step>
     ensures { (d : MapDraft) (m : ℕ) → spec.fitted m ≡ n → result ≡ spec.step_of d (step_kinds.Set setting m) }
 {
@@ -576,7 +576,7 @@ fn set_step(setting: Setting, n: u32) -> Option<Step>
     }
 }
 
-/// Returns what all declarations make, or the first fault that one of them has.
+/// Declares what all declarations say. Returns what they make, or the first fault of one of them.
 pub(crate) fn judge_all(
     alloc: Global,
     declarations: &[Declaration<'_>],

@@ -11,7 +11,7 @@ use crush_grammar::{DeclaredItem, Place};
 use crush_map::{ItemId, Weight};
 use std::alloc::{AllocError, Global};
 
-/// Returns a flag for each place: none was named yet.
+/// Makes a table with a flag for each of `size` places: none was named yet.
 fn unnamed(alloc: Global, size: usize) -> Result<Vec<bool>, AllocError>
     ensures len { IfOk result (λ t. length t.items ≡ size) }
     ensures none { IfOk result (λ t. (k : ℕ) → slice_index_or t.items k false ≡ false) }
@@ -19,7 +19,7 @@ fn unnamed(alloc: Global, size: usize) -> Result<Vec<bool>, AllocError>
     Ok(vec![in alloc; false; size]?)
 }
 
-/// Returns the line of the first place that is past the items or was named before.
+/// Finds the line of the first place that is past the items or was named before.
 #[tactic(auto, unfolding(crate::specs::Places::wrong_place))]
 pub(crate) fn wrong_place(
     alloc: Global,
@@ -39,7 +39,7 @@ pub(crate) fn wrong_place(
     Ok(None)
 }
 
-/// Returns an entry for each place: none has an item yet.
+/// Makes a table with an entry for each of `size` places: none has an item yet.
 pub(crate) fn free_places(
     alloc: Global,
     size: usize,
@@ -50,8 +50,8 @@ pub(crate) fn free_places(
     Ok(vec![in alloc; None; size]?)
 }
 
-/// Returns the table with an item at the place that it names, unless that is past the table or has
-/// an item already.
+/// Puts an item at the place that it names, unless that is past the table or has an item already.
+/// Returns the table.
 #[tactic(auto, using(crate::proofs::Named::named_steps))]
 pub(crate) fn with_item(
     mut named: Vec<Option<(ItemId, Weight)>>,
@@ -75,7 +75,7 @@ pub(crate) fn with_item(
     named
 }
 
-/// For each place the item that names it, or the next of the others.
+/// Arranges items in order of place: at each the item that names it, or the next of the others.
 pub(crate) fn arranged(
     alloc: Global,
     places: &[Option<(ItemId, Weight)>],

@@ -40,7 +40,7 @@ fn map_of(text: &[u8], judge: Judge) -> Result<CrushMap, TextFault>
     }
 }
 
-/// Returns the map of a text with these declarations, or else its first fault.
+/// Makes the map of a text with the declarations `read`, or else finds its first fault.
 fn map_of_declarations(
     alloc: Global,
     text: &[u8],
@@ -60,7 +60,7 @@ fn map_of_declarations(
     }
 }
 
-/// Returns the map of a stored text, whatever its length, or else its first fault, by line and
+/// Reads the map of a stored text, whatever its length, or else finds its first fault, by line and
 /// code.
 ///
 /// Declarations are checked in the order of the text, each against those before it; a word that is
@@ -75,7 +75,7 @@ pub fn read_stored(alloc: Global, text: &[u8]) -> Result<Result<CrushMap, TextFa
     map_of_declarations(alloc, text, &read)
 }
 
-/// Returns the map of a text that may be imported, or else its first fault, by line and code.
+/// Reads the map of a text that may be imported, or else finds its first fault, by line and code.
 ///
 /// A text of more than `TEXT_LIMIT` bytes is refused (X7 on line 1) before it is read.
 ///

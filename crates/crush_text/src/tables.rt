@@ -17,7 +17,7 @@ use std::marker::Model;
 /// The number of a name that isn't declared: no type has this number, and no item has this id.
 pub(crate) const UNDECLARED: u32 = NUMBER_LIMIT + 1;
 
-/// Returns the number of the type with a name, or `UNDECLARED`. A map has few types (`TYPE_LIMIT`),
+/// Finds the number of the type with a name, or `UNDECLARED`. A map has few types (`TYPE_LIMIT`),
 /// so they are looked through in order.
 pub(crate) fn type_number(types: &[TypeName], name: &str) -> u32
     ensures { result ≡ option_map_or (λ t. t.number) (find (λ t. bytes_eq t.name name.now) types.now) undeclared_number }
@@ -86,8 +86,7 @@ impl DeviceTable {
         }
     }
 
-    /// Returns the id of the device with a name, and the weight 1.0. `None`: no device has the
-    /// name.
+    /// Finds the id of the device with a name, and the weight 1.0. `None`: no device has the name.
     pub(crate) fn item(&self, name: &str) -> Option<(ItemId, Weight)>
         ensures { result ≡ option_map of_device (find (λ d. bytes_eq d.name name.now) self.now) }
     {
@@ -161,8 +160,8 @@ impl BucketTable {
         }
     }
 
-    /// Returns the id of the bucket with a name, and the sum of the weights of its items. `None`:
-    /// no bucket has the name.
+    /// Finds the id of the bucket with a name, and the sum of the weights of its items. `None`: no
+    /// bucket has the name.
     pub(crate) fn item(&self, name: &str) -> Option<(ItemId, Weight)>
         ensures { result ≡ option_map of_bucket (find (λ b. bytes_eq b.name name.now) self.now) }
     {

@@ -25,10 +25,10 @@ abbrev pub first_given : {T : Type 0} → T → List (ℕ × T) → ℕ → T
 first_given rest [] id = rest
 first_given rest (given ∷ more) id = if given.0 == id then given.1 else first_given rest more id
 
--- the value of an id by such pairs; an id that no device can have has that of the rest
+-- the value of an id by pairs of id and value; an id that no device can have has that of the rest
 abbrev pub value_of : {T : Type 0} → T → List (ℕ × T) → ℕ → T
 value_of rest given id = if nat_lt id ID_COUNT then first_given rest given id else rest
 
--- the values by such pairs
+-- the values of all ids by pairs of id and value
 unfoldable pub values_of : {T : Type 0} → T → List (ℕ × T) → Values T
 values_of rest given = record { values = map (value_of rest given) (range_with_len 0 ID_COUNT); rest = rest }

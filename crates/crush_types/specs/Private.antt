@@ -1,2 +1,2 @@
--- What private clauses alone cite: how the code keeps values. No public clause rests on it.
+-- What private clauses alone cite: how the code stores values. No public clause rests on it.
 pub mod Padded

@@ -32,7 +32,7 @@ impl<T> Model for ByDevice<T> {
     ghost invariant = { λ a. length a.table.items ≤ ID_COUNT };
 }
 
-/// Extends a table to a length, if it is shorter.
+/// Extends `table` to `len` values, if it is shorter; each further value is `rest`.
 ///
 /// `Err(AllocError)`: an allocation failed; nothing is changed.
 fn reach<T: Copy>(table: &mut Vec<T>, len: usize, rest: T) -> Result<(), AllocError>
@@ -49,8 +49,8 @@ fn reach<T: Copy>(table: &mut Vec<T>, len: usize, rest: T) -> Result<(), AllocEr
 }
 
 impl<T: Copy> ByDevice<T> {
-    /// Returns the table in which each id has the value of the rest. It has room for the first
-    /// `reached` ids, at most `ID_COUNT`.
+    /// Makes the table in which each id has the value `rest`. It has room for the first `reached`
+    /// ids, at most `ID_COUNT`.
     ///
     /// `Err(AllocError)`: an allocation failed; nothing is changed.
     pub fn new(alloc: Global, rest: T, reached: usize) -> Result<Self, AllocError>
@@ -62,11 +62,11 @@ impl<T: Copy> ByDevice<T> {
         Ok(ByDevice { rest, table })
     }
 
-    /// Returns the table of pairs of id and value. It has room for at least the first `reached`
-    /// ids, at most `ID_COUNT`.
+    /// Makes the table of pairs of id and value. It has room for at least the first `reached` ids,
+    /// at most `ID_COUNT`.
     ///
-    /// Of several pairs for one id the first counts. An id without a pair has the value of the
-    /// rest, and so has each id of `ID_COUNT` or more.
+    /// Of several pairs for one id the first counts. An id without a pair has the value `rest`, and
+    /// so has each id of `ID_COUNT` or more.
     ///
     /// `Err(AllocError)`: an allocation failed; nothing is changed.
     pub fn of(

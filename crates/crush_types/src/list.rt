@@ -20,7 +20,7 @@ impl<T> Model for Listed<T> {
 }
 
 impl<T> Listed<T> {
-    /// Returns the list of a vector's elements. Allocates nothing.
+    /// Makes the list of a vector's elements. Allocates nothing.
     pub fn new(elements: Vec<T>) -> Self
         ensures { result ≡ elements.items }
     {

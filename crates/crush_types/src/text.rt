@@ -23,14 +23,14 @@ impl Model for Text {
 }
 
 impl Text {
-    /// Returns the text of a string, which is kept. Allocates nothing.
+    /// Makes the text of a string, which it holds. Allocates nothing.
     pub fn new(string: String) -> Self
         ensures { result ≡ string_bytes string }
     {
         Text { string }
     }
 
-    /// Returns a copy of a text.
+    /// Copies a text.
     ///
     /// `Err(AllocError)`: an allocation failed; nothing is changed.
     pub fn copy(alloc: Global, original: &str) -> Result<Self, AllocError>
@@ -47,7 +47,7 @@ impl Text {
         self.string.as_str()
     }
 
-    /// Returns the string that was kept. Allocates nothing.
+    /// Returns the string that the text holds. Allocates nothing.
     pub fn into_string(self) -> String
         ensures { string_bytes result ≡ self }
     {

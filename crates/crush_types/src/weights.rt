@@ -25,7 +25,7 @@ pub fn has_equal_weights(items: &[(ItemId, Weight)]) -> bool
     }
 }
 
-/// Returns whether each item has this weight.
+/// Returns whether each item has the weight `weight`, in 16.16 fixed point.
 fn all_weigh(items: &[(ItemId, Weight)], weight: u32) -> bool
     ensures { result ≡ list_all (λ item. item.1.0 == weight) items.now }
 {

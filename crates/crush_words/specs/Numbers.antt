@@ -8,7 +8,7 @@ pub use Rattle.crush_map.specs.WeightText.{is_digit}
 abbrev pub are_digits : List ℕ → Bool
 are_digits text = weights.are_digits 1 DIGIT_LIMIT text
 
--- the number that is written by the digits of n followed by these
+-- the number that is written by the digits of n followed by further digits
 abbrev pub number_from : ℕ → List ℕ → ℕ
 number_from n [] = n
 number_from n (b ∷ bytes) = number_from (n * 10 + (b - 48)) bytes

@@ -28,8 +28,8 @@ onto b (w ∷ ws) = record { line = w.line; text = b ∷ w.text } ∷ ws
 abbrev pub alone : ℕ → ℕ → List Word → List Word
 alone line b ws = record { line = line; text = b ∷ [] } ∷ ws
 
--- the words of bytes whose first line has this number, and whether they begin inside a comment; a
--- comment goes from # to the end of its line
+-- the words of bytes whose first line has the number `line`; `comment` says whether they begin
+-- inside a comment, which goes from # to the end of its line
 abbrev pub words_from : Bool → ℕ → List ℕ → List Word
 words_from comment line [] = []
 words_from true line (b ∷ bytes) = if b == 10 then words_from false (line + 1) bytes else words_from true line bytes
@@ -44,7 +44,7 @@ words_from false line (b ∷ bytes) =
 abbrev pub words : List ℕ → List Word
 words bytes = words_from false 1 bytes
 
--- the rest of a text: the words that are left, and the line of the last word read
+-- the rest of a text: the words that remain, and the line of the last word read
 pub record Rest : Type 0 where
   pub line : ℕ
   pub words : List Word

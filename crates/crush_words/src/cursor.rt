@@ -7,8 +7,8 @@ use crate::lex::first_word;
 use crate::word::Word;
 use std::marker::Model;
 
-/// The rest of a text that is read word by word. Contracts see the words that are left, and the
-/// line of the last word read.
+/// The rest of a text that is read word by word. Contracts see the words that remain, and the line
+/// of the last word read.
 #[derive(Drop)]
 pub struct Cursor<'a> {
     line: usize,
@@ -44,7 +44,7 @@ impl<'a> Cursor<'a> {
         self.line
     }
 
-    /// Returns the next word and the rest after it. `None`: no word is left.
+    /// Reads the next word. Returns it and the rest after it. `None`: no word remains.
     pub fn next(&self) -> Option<(Word<'a>, Cursor<'a>)>
         ensures { MatchOption result (self.now.words ≡ []) (λ r. (self.now.words ≡ r.0 ∷ r.1.words) × (r.1.line ≡ r.0.line)) }
     {

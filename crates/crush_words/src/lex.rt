@@ -40,8 +40,8 @@ fn word_len(bytes: &[u8]) -> usize
     if len == 0 { 1 } else { len }
 }
 
-/// Returns the first word of a text whose first line has this number, and what follows the word.
-/// `None`: the text has no word.
+/// Finds the first word of a text whose first line has the number `line`. Returns it, and what
+/// follows it. `None`: the text has no word.
 pub(crate) fn first_word<'a>(line: usize, text: &'a [u8]) -> Option<(Word<'a>, &'a [u8])>
     requires { line + length text.now < 2 ^ 64 }
     ensures value { MatchOption result (spec.words_from false line text.now ≡ []) (λ r. spec.words_from false line text.now ≡ r.0 ∷ spec.words_from false r.0.line r.1.now) }

@@ -19,14 +19,14 @@ impl<'a> Model for Name<'a> {
 }
 
 impl<'a> Name<'a> {
-    /// Returns the name that this text is.
+    /// Makes the name that `text` is.
     pub fn new(text: &'a str) -> Self
         ensures { result ≡ text.now }
     {
         Name { text }
     }
 
-    /// Returns its text.
+    /// Returns the name's text.
     pub fn as_str(&self) -> &'a str
         ensures { result.now ≡ self.now }
     {

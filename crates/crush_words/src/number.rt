@@ -16,7 +16,7 @@ fn digit(byte: u8) -> u64
     u64::from(byte - b'0')
 }
 
-/// Returns the number that at most `DIGIT_LIMIT` digits write.
+/// Reads the number that at most `DIGIT_LIMIT` digits write.
 #[tactic(auto, using(crate::proofs::Digits::more_below, crate::proofs::Digits::first_is, crate::proofs::Digits::others_are))]
 fn number(text: &[u8]) -> u64
     requires digits { list_all spec.is_digit text.now ≡ true }
@@ -31,7 +31,7 @@ fn number(text: &[u8]) -> u64
     number
 }
 
-/// Returns the number that 1 to `DIGIT_LIMIT` digits write. `None`: the text has another form.
+/// Reads the number that 1 to `DIGIT_LIMIT` digits write. `None`: the text has another form.
 #[tactic(auto, using(crate::proofs::Digits::below_ten), unfolding(crate::specs::Numbers::number_of))]
 pub fn number_from_text(text: &[u8]) -> Option<u64>
     ensures value { result ≡ spec.number_of text.now }
@@ -44,7 +44,7 @@ pub fn number_from_text(text: &[u8]) -> Option<u64>
     }
 }
 
-/// Returns the integer that 1 to `DIGIT_LIMIT` digits write, with or without a minus before them.
+/// Reads the integer that 1 to `DIGIT_LIMIT` digits write, with or without a minus before them.
 /// `None`: the text has another form.
 #[tactic(auto, unfolding(crate::specs::Numbers::integer_of))]
 pub fn integer_from_text(text: &[u8]) -> Option<i64>

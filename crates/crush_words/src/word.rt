@@ -21,21 +21,21 @@ impl<'a> Model for Word<'a> {
 }
 
 impl<'a> Word<'a> {
-    /// Returns the word of these bytes, on the line with this number.
+    /// Makes the word with the bytes `text`, on the line `line`.
     pub(crate) fn new(line: usize, text: &'a [u8]) -> Self
         ensures { result ≡ record { line = line; text = text.now } }
     {
         Word { line, text }
     }
 
-    /// Returns the number of its line; the first line is 1.
+    /// Returns the number of the word's line; the first line is 1.
     pub fn line(&self) -> usize
         ensures { result ≡ self.now.line }
     {
         self.line
     }
 
-    /// Returns its bytes.
+    /// Returns the word's bytes.
     pub fn text(&self) -> &'a [u8]
         ensures { result.now ≡ self.now.text }
     {

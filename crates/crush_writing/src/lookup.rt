@@ -11,8 +11,8 @@ use std::alloc::{AllocError, Global};
 use std::collections::BTreeMap;
 use std::marker::Model;
 
-/// Returns the name of the type with a number, or the empty text. A map has few types
-/// (`TYPE_LIMIT`), so they are looked through in order.
+/// Finds the name of the type with a number, or the empty text. A map has few types (`TYPE_LIMIT`),
+/// so they are looked through in order.
 #[tactic(auto, unfolding(crate::specs::Canonical::type_name))]
 fn type_name<'a>(types: &'a [TypeName], number: u32) -> &'a str
     ensures { result.now ≡ spec.type_name types.now number }
@@ -25,7 +25,7 @@ fn type_name<'a>(types: &'a [TypeName], number: u32) -> &'a str
     ""
 }
 
-/// Returns the names of devices by id. If several devices have an id, it has the name of the first.
+/// Makes the table of the names of devices by id. If devices share an id, it has the first's name.
 fn device_names<'a>(
     alloc: Global,
     devices: &'a [Device],
@@ -40,7 +40,7 @@ fn device_names<'a>(
     Ok(names)
 }
 
-/// Returns the names of buckets by id. If several buckets have an id, it has the name of the first.
+/// Makes the table of the names of buckets by id. If buckets share an id, it has the first's name.
 fn bucket_names<'a>(
     alloc: Global,
     buckets: &'a [Bucket],
@@ -79,7 +79,7 @@ impl<'a> Model for Names<'a> {
 }
 
 impl<'a> Names<'a> {
-    /// Returns the names of a map.
+    /// Makes the tables of the names of a map.
     pub(crate) fn new(alloc: Global, map: &'a CrushMap) -> Result<Self, AllocError>
         ensures { IfOk result (λ names. names ≡ map.now) }
     {

@@ -312,7 +312,7 @@ fn write_rules(alloc: Global, out: &mut Vec<u8>, names: &Names<'_>) -> Result<()
     Ok(())
 }
 
-/// Returns the canonical text of a map.
+/// Writes the canonical text of a map.
 ///
 /// `Err(AllocError)`: an allocation failed; nothing is changed.
 #[tactic(auto, unfolding(crate::specs::Canonical::canonical))]

@@ -33,7 +33,7 @@ fn each_device_has_a_line_of_its_numbers(rt: HostRuntime) -> Result<(), Fail> {
     Ok(())
 }
 
-/// Returns a list of these devices, with none where it is below 0.
+/// Makes a list of `devices`, with none where the number is below 0.
 fn list(alloc: Global, devices: &[i32]) -> Result<Listed<Option<ItemId>>, AllocError> {
     let mut all = Vec::new(alloc);
     for device in devices {
@@ -133,7 +133,7 @@ fn other_texts_are_refused(rt: HostRuntime) -> Result<(), Fail> {
     Ok(())
 }
 
-/// Returns a text with a line for each of the devices 0, 1, ..
+/// Makes a text with a line for each of the devices 0, 1, ..
 fn lines(alloc: Global, count: u32) -> Result<Vec<u8>, AllocError> {
     let mut text = Vec::new(alloc);
     text.extend_from_slice(b"id,reweight,up\n".as_slice())?;

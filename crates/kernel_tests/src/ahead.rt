@@ -108,7 +108,7 @@ const MAP: Short<'static> = Short {
     ..SOUND
 };
 
-/// Returns what a bucket of the map picks, by the plain form.
+/// Picks from a bucket of the map by the plain form.
 fn plain_pick(
     rt: &impl Abort,
     alloc: Global,
@@ -122,8 +122,8 @@ fn plain_pick(
     plain::pick(alloc, *kind, ItemId(*id), &entries(alloc, items)?, x, r)
 }
 
-/// With a scratch in which picks may have been made ahead the tables pick what the plain form
-/// picks.
+/// Asserts that the tables pick what the plain form picks, with a scratch in which picks may have
+/// been made ahead.
 fn assert_pick(
     rt: &impl Abort,
     alloc: Global,
@@ -168,7 +168,7 @@ fn assert_ahead(
     for lane in 0..LANES {
         buckets[lane] = BucketNo::new(numbers[lane] as usize);
     }
-    // these can be picked ahead: only want of memory keeps them from it
+    // picks from the given buckets can be made ahead: only a lack of memory prevents them
     let Some(items) = scratch.pick_ahead(buckets, &xs, r) else {
         return Err(AllocError);
     };
@@ -214,7 +214,7 @@ fn assert_rounds(rt: &impl Abort, alloc: Global, tables: &Tables) -> Result<(), 
     Ok(())
 }
 
-/// Returns the same of uniform buckets, of the first four places of each.
+/// Asserts the same of uniform buckets, for the first four places of each.
 fn assert_uniform(rt: &impl Abort, alloc: Global, tables: &Tables) -> Result<(), AllocError> {
     let mut scratch = Scratch::build(alloc, tables)?;
     let mut seed = 77;
@@ -260,7 +260,7 @@ fn later_and_different_places_are_not_picked_ahead(rt: HostRuntime) -> Result<()
     Ok(())
 }
 
-/// Five steps at a time are kept for eight inputs, and then those of eight others.
+/// Five steps at a time are stored for eight inputs, and then those of eight others.
 #[test]
 fn what_is_picked_ahead_is_what_is_picked(rt: HostRuntime) -> Result<(), AllocError> {
     let alloc = rt.alloc();
@@ -282,7 +282,7 @@ fn what_is_picked_ahead_is_what_is_picked(rt: HostRuntime) -> Result<(), AllocEr
             assert!(rt; scratch.pick_ahead(buckets, &xs, 0).is_none());
         }
     }
-    // so many steps are kept, and no more
+    // 64 steps are stored, and no more
     for r in 0..64 {
         // for other inputs than those that were turned to nothing is picked ahead
         assert!(rt;

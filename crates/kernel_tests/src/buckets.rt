@@ -14,7 +14,7 @@ use crush_map::{CrushMap, ItemId, Kind, Weight, has_equal_weights};
 use std::alloc::{AllocError, Global};
 use std::process::Abort;
 
-/// Returns the next of a row of numbers that look random, and a number of it.
+/// Moves `seed` on to the next of a row of numbers that look random, and returns a number of it.
 pub(crate) fn next(seed: &mut u64) -> u32 {
     *seed = seed
         .wrapping_mul(6_364_136_223_846_793_005)
@@ -22,8 +22,8 @@ pub(crate) fn next(seed: &mut u64) -> u32 {
     (*seed >> 33) as u32
 }
 
-/// Returns what a bucket of this id and size picks for inputs and attempts, asked in turn with one
-/// scratch.
+/// Picks from a bucket with the id `id` and `size` items for inputs and attempts, asked in turn
+/// with one scratch.
 fn ask<P: Picker>(
     alloc: Global,
     bucket: &P,
@@ -42,8 +42,8 @@ fn ask<P: Picker>(
     Ok(picks)
 }
 
-/// Asks a bucket of this id and size for eight inputs at once, at attempts from 0 on, and for each
-/// of the inputs alone.
+/// Asks a bucket with the id `id` and `size` items for eight inputs at once, at attempts from 0 on,
+/// and for each of the inputs alone.
 fn assert_eight<P: Picker>(
     rt: &impl Abort,
     alloc: Global,
@@ -65,7 +65,7 @@ fn assert_eight<P: Picker>(
     Ok(())
 }
 
-/// Returns a bucket of the kind picks for eight inputs at once what it picks for each of them.
+/// Asserts that a bucket of the kind picks for eight inputs at once what it picks for each of them.
 fn assert_kind(
     rt: &impl Abort,
     alloc: Global,
@@ -80,7 +80,7 @@ fn assert_kind(
     assert_eight(rt, alloc, &bucket, id, entries.len(), xs)
 }
 
-/// Returns what the bucket of a kind picks for inputs and attempts.
+/// Picks from the bucket of a kind for inputs and attempts.
 fn picked(
     rt: &impl Abort,
     alloc: Global,
@@ -137,7 +137,8 @@ const LIGHT: [(i32, u32); 17] = [
     (19, 0),
 ];
 
-/// The list without weight has 1, 7, 8, 9, 16 and 17 items, below, at and above full eights.
+/// The worked rows are met. The list without weight has 1, 7, 8, 9, 16 and 17 items, below, at and
+/// above full eights.
 #[test]
 fn buckets_answer_the_worked_rows(rt: HostRuntime) -> Result<(), AllocError> {
     let alloc = rt.alloc();
@@ -167,7 +168,8 @@ fn buckets_answer_the_worked_rows(rt: HostRuntime) -> Result<(), AllocError> {
     Ok(())
 }
 
-/// The short cut is taken and left, and x changes and comes back.
+/// A scratch answers as a new one where the short cut is taken or left, and x changes and comes
+/// back.
 #[test]
 fn a_scratch_that_was_asked_answers_as_a_new_one(rt: HostRuntime) -> Result<(), AllocError> {
     let alloc = rt.alloc();
@@ -200,7 +202,7 @@ fn random_size(seed: &mut u64, round: u32) -> u16 {
     }
 }
 
-/// So many items of random weights, whose sum is below 2^32, or of one weight.
+/// Makes `size` items of random weights, whose sum is below 2^32, or of one weight.
 fn random_entries(
     alloc: Global,
     seed: &mut u64,
@@ -327,7 +329,7 @@ const SMALL: Short<'static> = Short {
     ..SOUND
 };
 
-/// Tables of the small map are what its draft says.
+/// Asserts that the tables of the small map are what its draft says.
 fn assert_small(rt: &impl Abort, tables: &Tables) {
     assert!(rt; tables.has_device(2) && !tables.has_device(3));
     assert!(rt; tables.bucket_of(ItemId(-5)).is_none() && tables.bucket_of(ItemId(2)).is_none());
@@ -346,7 +348,7 @@ fn assert_small(rt: &impl Abort, tables: &Tables) {
     assert!(rt; list.place() == 0 && !tables.is_empty(list));
 }
 
-/// With a scratch they pick what the plain forms pick.
+/// Asserts that the tables, with a scratch, pick what the plain forms pick.
 fn assert_picks(
     rt: &impl Abort,
     alloc: Global,

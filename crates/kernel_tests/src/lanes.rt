@@ -5,8 +5,8 @@ use crate::same::assert_same;
 use crush_hash::{hash3, hash3_each, hash3_lanes, hash4, hash4_each, hash4_lanes};
 use std::process::Abort;
 
-/// What Ceph 16's `crush_hash32_4` answers stands in the third lane; each lane is the hash of its
-/// item.
+/// Each lane is the hash of its item; in the third lane it is what Ceph 16's `crush_hash32_4`
+/// answers.
 #[test]
 fn lanes_hash_as_one_by_one(rt: HostRuntime) {
     let hashes = hash4_lanes(1, &[0, 1, 2, 3, 4, 5, 6, 7], 3, 4);
@@ -25,8 +25,8 @@ fn lanes_hash_as_one_by_one(rt: HostRuntime) {
     }
 }
 
-/// What Ceph 16's `crush_hash32_3` answers stands in the last lane; each lane is the hash of its
-/// place.
+/// Each lane is the hash of its place; in the last lane it is what Ceph 16's `crush_hash32_3`
+/// answers.
 #[test]
 fn places_hash_as_one_by_one(rt: HostRuntime) {
     assert_same(&rt, &hash3_lanes(1, 2, &[0, 1, 2, 3])[3], &1_935_332_395);
@@ -52,7 +52,7 @@ fn eight_words(seed: &mut u64) -> [u32; 8] {
     words
 }
 
-/// Where all words differ from lane to lane, too. What Ceph answers stands in the second lane.
+/// Each lane is its own hash where all words differ; in the second lane it is what Ceph answers.
 #[test]
 fn each_lane_hashes_its_own_words(rt: HostRuntime) {
     let one = [0, 1, 0, 0, 0, 0, 0, 0];

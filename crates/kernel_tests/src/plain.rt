@@ -24,7 +24,7 @@ fn weight_within(entries: &[(ItemId, Weight)], from: usize, to: usize) -> u64 {
     sum
 }
 
-/// Returns what the bucket of a kind picks.
+/// Picks from the bucket of a kind.
 pub(crate) fn pick(
     alloc: Global,
     kind: Kind,
@@ -40,8 +40,8 @@ pub(crate) fn pick(
     }
 }
 
-/// Returns the list of the places 0, 1, .. after so many exchanges; after as many as there are
-/// places it is the permutation.
+/// Makes the list of the places 0, 1, .. after the number `exchanges` of exchanges; after as many
+/// as there are places it is the permutation.
 pub(crate) fn exchanged(
     alloc: Global,
     id: ItemId,
@@ -65,7 +65,7 @@ pub(crate) fn exchanged(
     Ok(places)
 }
 
-/// Returns the whole permutation is made for each question.
+/// Picks from a uniform bucket: the whole permutation is made for each question.
 pub(crate) fn uniform(
     alloc: Global,
     id: ItemId,
@@ -86,7 +86,7 @@ pub(crate) fn placed(entries: &[(ItemId, Weight)], places: &[usize], r: u32) -> 
     }
 }
 
-/// Returns each place is tried from the first on, and the last that passes stays.
+/// Picks from a list: each place is tried from the first on, and the last that passes is picked.
 pub(crate) fn list(id: ItemId, entries: &[(ItemId, Weight)], x: u32, r: u32) -> ItemId {
     let mut picked = item_at(entries, 0);
     for (place, entry) in entries.iter().enumerate() {
@@ -99,7 +99,7 @@ pub(crate) fn list(id: ItemId, entries: &[(ItemId, Weight)], x: u32, r: u32) -> 
     picked
 }
 
-/// Returns the range of places is halved until one is left.
+/// Picks from a tree: the range of places is halved until one is left.
 fn tree(id: ItemId, entries: &[(ItemId, Weight)], x: u32, r: u32) -> ItemId {
     let mut width = 1usize;
     for _ in 0..32 {

@@ -1,4 +1,4 @@
-//! The places that a permutation keeps.
+//! The places that a permutation stores.
 
 use crate::buckets::{next, random_id};
 use crate::drafts::{ONE, entries};
@@ -26,7 +26,7 @@ fn a_uniform_bucket_keeps_what_was_exchanged(rt: HostRuntime) -> Result<(), Allo
     Ok(())
 }
 
-/// A list and a tree leave what a permutation keeps as it is.
+/// A list and a tree don't change what a permutation has stored.
 #[test]
 fn lists_and_trees_keep_nothing(rt: HostRuntime) -> Result<(), AllocError> {
     let alloc = rt.alloc();
@@ -50,7 +50,7 @@ fn lists_and_trees_keep_nothing(rt: HostRuntime) -> Result<(), AllocError> {
     Ok(())
 }
 
-/// At how many places a permutation differs from 0, 1, .. after so many exchanges.
+/// Counts the places at which a permutation differs from 0, 1, .. after `exchanges` exchanges.
 fn plain_kept(
     alloc: Global,
     id: ItemId,
@@ -67,8 +67,8 @@ fn plain_kept(
     )
 }
 
-/// 200 permutations, each asked ten times for few inputs: what is kept is what the exchanges moved,
-/// and after a first question few places.
+/// 200 permutations, each asked ten times for few inputs, store what the exchanges moved, and after
+/// a first question few places.
 #[test]
 fn a_perm_keeps_what_its_plain_form_moves(rt: HostRuntime) -> Result<(), AllocError> {
     let alloc = rt.alloc();

@@ -22,7 +22,7 @@ pub const JEWEL: Tunables = Tunables {
 pub const EMIT: &[Step] = &[Step::Emit];
 
 /// A choose step: whether it is firstn, whether it is chooseleaf, its count, and the number of the
-/// wanted type.
+/// required type.
 #[macro_export]
 macro_rules! choose {
     ($firstn:expr, $leaf:expr, $n:expr, $wanted:expr) => {
@@ -68,7 +68,7 @@ pub const SOUND: Short<'static> = Short {
     tunables: JEWEL,
 };
 
-/// Numbers with their names.
+/// Makes numbers with their names.
 fn named(alloc: Global, short: &[(u32, &str)]) -> Result<Vec<(u32, Text)>, AllocError> {
     let mut named = Vec::new(alloc);
     for (number, name) in short {
@@ -77,7 +77,7 @@ fn named(alloc: Global, short: &[(u32, &str)]) -> Result<Vec<(u32, Text)>, Alloc
     Ok(named)
 }
 
-/// Types of these numbers and names.
+/// Makes the types of numbers and names.
 pub fn types(alloc: Global, named: Vec<(u32, Text)>) -> Result<Listed<TypeName>, AllocError> {
     let mut types = Vec::new(alloc);
     for (number, name) in named {
@@ -86,7 +86,7 @@ pub fn types(alloc: Global, named: Vec<(u32, Text)>) -> Result<Listed<TypeName>,
     Ok(Listed::new(types))
 }
 
-/// Devices of these ids and names.
+/// Makes the devices of ids and names.
 pub fn devices(alloc: Global, named: Vec<(u32, Text)>) -> Result<Listed<Device>, AllocError> {
     let mut devices = Vec::new(alloc);
     for (id, name) in named {
@@ -95,7 +95,7 @@ pub fn devices(alloc: Global, named: Vec<(u32, Text)>) -> Result<Listed<Device>,
     Ok(Listed::new(devices))
 }
 
-/// Items with their weights.
+/// Makes items with their weights.
 pub fn entries(alloc: Global, short: &[(i32, u32)]) -> Result<Vec<(ItemId, Weight)>, AllocError> {
     let mut entries = Vec::new(alloc);
     for (id, weight) in short {
@@ -133,7 +133,7 @@ fn rules(alloc: Global, short: Short<'_>) -> Result<Listed<Rule>, AllocError> {
     Ok(Listed::new(rules))
 }
 
-/// Returns the draft that is written so.
+/// Makes the draft that `short` writes.
 pub fn draft(alloc: Global, short: Short<'_>) -> Result<MapDraft, AllocError> {
     Ok(MapDraft {
         types: types(alloc, named(alloc, short.types)?)?,
@@ -146,7 +146,7 @@ pub fn draft(alloc: Global, short: Short<'_>) -> Result<MapDraft, AllocError> {
     })
 }
 
-/// Returns the same draft with these buckets, and with the devices from 0 on.
+/// Makes the draft that `short` writes, with `buckets`, and with the devices 0 to `count` - 1.
 pub fn generated(
     alloc: Global,
     short: Short<'_>,
@@ -163,7 +163,7 @@ pub fn generated(
     Ok(made)
 }
 
-/// Returns the map of a draft without a fault.
+/// Makes the map of a draft without a fault.
 pub fn map_of(alloc: Global, draft: MapDraft) -> Result<CrushMap, Fail> {
     match CrushMap::check(alloc, draft)? {
         Ok(map) => Ok(map),
@@ -171,7 +171,7 @@ pub fn map_of(alloc: Global, draft: MapDraft) -> Result<CrushMap, Fail> {
     }
 }
 
-/// Returns a bucket that is named by its id.
+/// Makes a bucket that is named by its id.
 pub fn bucket(
     alloc: Global,
     id: i32,

@@ -12,8 +12,8 @@ use std::alloc::Global;
 use std::process::Abort;
 use std::test::Fail;
 
-/// What the second of a draft's types, devices, buckets or rules has; in what is wanted a type
-/// stands before the others.
+/// What the second of a draft's types, devices, buckets or rules has; in `wanted` the fault of a
+/// type stands before that of the others.
 #[derive(Clone, Copy)]
 struct Second<'a> {
     number: u32,
@@ -23,7 +23,7 @@ struct Second<'a> {
     wanted: (Option<FaultCode>, Option<FaultCode>),
 }
 
-/// Returns a type, a device, a bucket and a rule, each in a draft of its own.
+/// Asserts the fault of a type, a device, a bucket and a rule, each in a draft of its own.
 fn assert_second(
     rt: &impl Abort,
     alloc: Global,

@@ -19,7 +19,7 @@ use std::alloc::{AllocError, Global};
 use std::process::Abort;
 use std::test::Fail;
 
-/// Returns a draft is a map where no code is wanted, or else has this fault first.
+/// Asserts that a draft is a map where there is no `code`, or else has that fault first.
 pub(crate) fn assert_first(
     rt: &impl Abort,
     alloc: Global,
@@ -234,7 +234,7 @@ const RULES: &[(&[ShortRule], FaultCode)] = &[
     ),
 ];
 
-/// There are the types 0, 1, 3 and 10, and a bucket named host.
+/// First faults of rules are found where there are types 0, 1, 3 and 10 and a bucket named host.
 #[test]
 fn first_faults_of_rules(rt: HostRuntime) -> Result<(), Fail> {
     let alloc = rt.alloc();
@@ -377,8 +377,8 @@ const OUT_OF_ORDER: Short<'static> = Short {
     ..SOUND
 };
 
-/// Returns the numbers of a map's types, and the ids of its devices, buckets and rules, as they
-/// stand in its lists.
+/// Lists the numbers of a map's types, and the ids of its devices, buckets and rules, as they stand
+/// in its lists.
 fn numbers_of(alloc: Global, map: &CrushMap) -> Result<Vec<i64>, AllocError> {
     let mut numbers = Vec::new(alloc);
     for one in map.types() {

@@ -13,8 +13,8 @@ use std::alloc::{AllocError, Global};
 use std::process::Abort;
 use std::test::Fail;
 
-/// The least number that is too large for a type, a device or a bucket; no list has so many
-/// elements.
+/// The least number that is too large for a type, a device or a bucket; it is greater than the
+/// number of elements of any list.
 const OUT_OF_RANGE: u32 = NUMBER_LIMIT + 1;
 
 /// How many elements each list of a draft has, and which of them, if it is there, has no name and a
@@ -28,7 +28,7 @@ struct Counts {
     wrong: u32,
 }
 
-/// Returns the numbers from 0 on, each with a name.
+/// Makes the numbers from 0 on, each with a name; the number `wrong` is out of range, without one.
 fn numbered(
     alloc: Global,
     letter: char,
@@ -47,7 +47,7 @@ fn numbered(
     Ok(pairs)
 }
 
-/// Buckets of no items, but the last, which has as many of the devices as a bucket may have.
+/// Makes buckets of no items, but the last, which has as many devices as a bucket may have.
 fn buckets(alloc: Global, counts: Counts) -> Result<Listed<Bucket>, AllocError> {
     let mut buckets = Vec::new(alloc);
     for (number, name) in numbered(alloc, 'b', counts.buckets, counts.wrong)? {
@@ -71,7 +71,7 @@ fn buckets(alloc: Global, counts: Counts) -> Result<Listed<Bucket>, AllocError> 
     Ok(Listed::new(buckets))
 }
 
-/// Rules of as many steps as a rule may have.
+/// Makes rules of as many steps as a rule may have.
 fn rules(alloc: Global, counts: Counts) -> Result<Listed<Rule>, AllocError> {
     let mut rules = Vec::new(alloc);
     for (id, name) in numbered(alloc, 'r', counts.rules, counts.wrong)? {
@@ -166,7 +166,8 @@ const PAST: &[(Counts, Element, usize)] = &[
     ),
 ];
 
-/// The first element past its limit, also where it has a number out of range and no name.
+/// The fault is at the first element past its limit, also where the element has a number out of
+/// range and no name.
 #[test]
 fn one_too_many_comes_before_its_number(rt: HostRuntime) -> Result<(), Fail> {
     let alloc = rt.alloc();

@@ -223,7 +223,7 @@ fn groups_are_placed_with_their_exceptions(rt: HostRuntime) -> Result<(), Fail> 
 
 // ---- lists of pairs
 
-/// Returns whether these pairs are exceptions of a pool of twelve groups.
+/// Asserts that `pairs` are exceptions of a pool of twelve groups, or are none, as `valid` says.
 fn assert_valid(rt: &impl Abort, alloc: Global, pairs: &[Pair], valid: bool) -> Result<(), Fail> {
     let pool = pool(alloc, TWELVE)?;
     let mut list = Vec::new(alloc);
@@ -269,7 +269,7 @@ fn at_most_1024_pairs_are_exceptions(rt: HostRuntime) -> Result<(), Fail> {
     Ok(())
 }
 
-/// Of the groups the exceptions concern 5, which they lead to 9, and 0, which they lead to 1.
+/// Asserts that the exceptions concern two groups: 5, which they lead to 9, and 0, to 1.
 fn assert_known(rt: &impl Abort, exceptions: &Exceptions) {
     for group in 0..13 {
         assert_same(rt, &exceptions.concern(group), &(group == 0 || group == 5));

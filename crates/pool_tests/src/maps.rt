@@ -109,8 +109,8 @@ impl MapTables {
     ghost use Rattle.std.specs.Prelude.{◌≡◌};
     ghost use Rattle.crush_bucket.specs.Tables.{tables_of};
 
-    /// Returns the map of a text, and its tables. `Err`: an allocation failed, or the text has a
-    /// fault.
+    /// Reads the map of a text, and makes its tables. `Err`: an allocation failed, or the text has
+    /// a fault.
     pub fn of_text(alloc: Global, text: &str) -> Result<MapTables, Fail> {
         let map = map_of(alloc, text)?;
         let tables = Tables::build(alloc, &map)?;

@@ -1,5 +1,5 @@
 //! Placements of groups: the rule's answer, the devices of it that are up, the primary, and the
-//! trace that is left.
+//! trace that a run leaves.
 
 use crate::maps::{MapTables, THREE};
 use crate::placing::{PoolCase, place_group, placement_by};
@@ -16,8 +16,8 @@ use std::process::Abort;
 use std::test::Fail;
 use text_tests::texts::{DEVICE_0, DEVICE_7};
 
-/// A group of a pool, on the map of a text with these exceptions and states, and its placement with
-/// the trace that is left.
+/// A group of a pool, on the map of a text with exceptions and states, and its placement with the
+/// trace that the run leaves.
 #[derive(Clone, Copy)]
 pub(crate) struct Case {
     pub(crate) what: &'static str,
@@ -33,7 +33,7 @@ pub(crate) struct Case {
     pub(crate) trace: &'static [u32],
 }
 
-/// Slots of a case are those that are wanted.
+/// Asserts that slots of a case are the expected ones.
 fn assert_slots(rt: &impl Abort, slots: &[Slot], wanted: &[Slot], part: &str, case: &Case) {
     assert_eq!(rt; slots, wanted, "{part}: {}", case.what);
 }
@@ -294,7 +294,7 @@ fn groups_are_placed(rt: HostRuntime) -> Result<(), Fail> {
     Ok(())
 }
 
-/// Returns the pool of a placer has no group of this number.
+/// Asserts that the pool of a placer has no group `group`.
 fn assert_past(
     rt: &impl Abort,
     alloc: Global,
@@ -308,7 +308,7 @@ fn assert_past(
     Ok(())
 }
 
-/// Returns a pool without exceptions has no group of the number of its groups, on this map.
+/// Asserts that a pool without exceptions has no group with the number of its groups, on the map.
 fn assert_end(rt: &impl Abort, alloc: Global, map: &MapTables, short: Short) -> Result<(), Fail> {
     let pool = PoolCase::build(alloc, short, &[], &[])?;
     let Some(placer) = pool.placer(map) else {
@@ -323,7 +323,7 @@ fn groups_end_below_pg_num(rt: HostRuntime) -> Result<(), Fail> {
     assert_end(&rt, rt.alloc(), &map, TWELVE)
 }
 
-/// Returns a pool with this rule has a placer on a map, or none.
+/// Asserts that a pool with the rule `rule` has a placer on a map, or none.
 fn assert_placer(
     rt: &impl Abort,
     alloc: Global,

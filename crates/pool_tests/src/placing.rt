@@ -17,8 +17,8 @@ use std::alloc::Global;
 use std::marker::Model;
 use std::test::Fail;
 
-/// Returns the exceptions of a pool with these pairs. `Err`: an allocation failed, or they can't be
-/// exceptions of the pool.
+/// Makes `pairs` the exceptions of a pool. `Err`: an allocation failed, or they can't be exceptions
+/// of the pool.
 pub fn exceptions_of(alloc: Global, pool: &Pool, pairs: &[Pair]) -> Result<Exceptions, Fail>
     ensures { IfOk result (λ exceptions. are_pairs pool.now.pg_num exceptions ≡ true) }
 {
@@ -59,8 +59,8 @@ impl Model for PoolCase {
 }
 
 impl PoolCase {
-    /// Returns a pool of these parts with these exceptions, and these states. `Err`: an allocation
-    /// failed, or there is no such pool.
+    /// Makes a pool of parts with exceptions, and states. `Err`: an allocation failed, or there is
+    /// no such pool.
     pub fn build(
         alloc: Global,
         short: Short,
@@ -80,7 +80,7 @@ impl PoolCase {
         })
     }
 
-    /// Returns what places the groups of the pool on a map; `None` where the map lacks the pool's
+    /// Makes what places the groups of the pool on a map. `None` where the map lacks the pool's
     /// rule.
     pub fn placer<'a>(&'a self, map: &'a MapTables) -> Option<Placer<'a>> {
         Placer::new(
@@ -114,9 +114,8 @@ pub struct Placed {
     pub out: Out,
 }
 
-/// Returns the placement of a group of a placer's pool, by what the placer is made of and these
-/// weights. `P2` where the pool has no such group. `Err`: an allocation failed, or the map lacks
-/// the rule.
+/// Places a group of a placer's pool, by what the placer is made of and `weights`. `P2` where the
+/// pool has no such group. `Err`: an allocation failed, or the map lacks the rule.
 pub fn placement_by(
     alloc: Global,
     placer: &Placer,
@@ -154,7 +153,8 @@ fn are_same(one: &Placement, other: &Placement) -> bool {
         && one.primary == other.primary
 }
 
-/// Returns what is left where the placer places a group, which it places as it is placed elsewhere.
+/// Places a group by the placer, and returns what the run leaves. `Err`: an allocation failed, or
+/// the placer doesn't place the group as `placed`.
 fn left(
     alloc: Global,
     placer: &Placer,
@@ -173,9 +173,9 @@ fn left(
     Ok(out)
 }
 
-/// Returns the placement of a group of a placer's pool, by what the placer is made of and these
-/// weights, and what is left where the placer places it. `Err`: an allocation failed, the pool has
-/// no such group, or the placer places it otherwise.
+/// Places a group of a placer's pool, by what the placer is made of and `weights`. Returns the
+/// placement, and what the run leaves where the placer places it. `Err`: an allocation failed, the
+/// pool has no such group, or the placer places it otherwise.
 pub fn place_group(
     alloc: Global,
     placer: &Placer,

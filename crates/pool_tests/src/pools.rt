@@ -38,7 +38,7 @@ pub const OF_TWO: Short = Short {
     ..TWELVE
 };
 
-/// Returns the pool of parts in range. `Err`: an allocation failed, or a part is out of range.
+/// Makes the pool of parts in range. `Err`: an allocation failed, or a part is out of range.
 pub fn pool(alloc: Global, short: Short) -> Result<Pool, Fail> {
     let name = Text::copy(alloc, short.name)?;
     let made = Pool::new(PoolParts {

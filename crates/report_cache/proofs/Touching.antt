@@ -40,7 +40,7 @@ pub has_push : (xs : List ℕ) (n d : ℕ) → has_number (xs ++ n ∷ []) d ≡
 has_push [] n d = sym (or_none (n == d))
 has_push (x ∷ xs) n d = ap (λ b. (x == d) || b) (has_push xs n d) ∙ or_assoc (x == d) (has_number xs d) (n == d)
 
--- one that is there adds nothing
+-- a number that is there adds nothing
 pub has_again : (xs : List ℕ) (n d : ℕ) → has_number xs n ≡ true → has_number xs d ≡ (has_number xs d || (n == d))
 has_again xs n d there = at (n == d) refl
   where
@@ -208,7 +208,7 @@ of_rest pairs d a n first last =
     ap (filter p) (sym (take-append-drop a pairs)) ∙ (filter-append p (take a pairs) rest ∙ (ap (λ ys. ys ++ filter p rest) front
     ∙ (ap (filter p) (sym (take-append-drop n rest)) ∙ (filter-append p (take n rest) (drop n rest) ∙ (ap (λ ys. filter p (take n rest) ++ ys) back ∙ (append-nil (filter p (take n rest)) ∙ mid))))))
 
--- what is left is `pairs[a..]`
+-- the remaining pairs are `pairs[a..]`
 pub of_device : (pairs : List Touch) (d a n : ℕ) → Ends pairs d a → Ends (take (length pairs - a) (drop a pairs)) (d + 1) n
     → groups_in pairs d ≡ map (λ t. t.group) (take n (take (length pairs - a) (drop a pairs)))
 of_device pairs d a n first last =

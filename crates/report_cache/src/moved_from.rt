@@ -19,8 +19,8 @@ use crush_select::Slot;
 use crush_select::limits::SIZE_LIMIT;
 use std::alloc::{AllocError, Global};
 
-/// Returns which of the first groups of a pool have another up list than the one that is kept, in
-/// order; `new` is room for one. `Err(AllocError)`: an allocation failed.
+/// Finds which of the first `count` groups of a pool have another up list than the one that is
+/// kept, in order; `new` is room for one. `Err(AllocError)`: an allocation failed.
 #[tactic(auto, using(crush_report::proofs::Groups::moves_more))]
 fn moved_rows(
     alloc: Global,
@@ -42,7 +42,7 @@ fn moved_rows(
     Ok(Listed::new(rows))
 }
 
-/// Returns the groups whose up lists differ between the map of which lists are kept and another, in
+/// Finds the groups whose up lists differ between the map of which lists are kept and another, in
 /// order. A group of which no list is kept had an empty one. `Err(AllocError)`: an allocation
 /// failed.
 pub fn moves_from(alloc: Global, old: &UpLists, to: &Placer) -> Result<Listed<MoveRow>, AllocError>

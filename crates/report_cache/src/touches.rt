@@ -58,7 +58,7 @@ fn has_number(numbers: &[u32], number: u32) -> bool
     numbers.iter().any(|other| *other == number)
 }
 
-/// Adds a device to a list of devices, unless it is there.
+/// Adds a device to a list of devices, unless it is there. `Err(AllocError)`: an allocation failed.
 fn add_device(devices: &mut Vec<u32>, device: u32) -> Result<(), AllocError>
     ensures each { OnOk result ((d : ℕ) → has_number devices.new.items d ≡ (has_number devices.old.items d || (device == d))) }
     ensures once { OnOk result (AreOnce devices.old.items → AreOnce devices.new.items) }
@@ -70,7 +70,7 @@ fn add_device(devices: &mut Vec<u32>, device: u32) -> Result<(), AllocError>
 }
 
 /// Adds the device to which a pair leads to a list of devices, if the pair is of a group, unless
-/// the device is there.
+/// the device is there. `Err(AllocError)`: an allocation failed.
 fn add_target(devices: &mut Vec<u32>, pair: Pair, group: u32) -> Result<(), AllocError>
     ensures each { OnOk result ((d : ℕ) → has_number devices.new.items d ≡ (has_number devices.old.items d || has_number (targets_of (pair ∷ []) group) d)) }
     ensures once { OnOk result (AreOnce devices.old.items → AreOnce devices.new.items) }
@@ -82,6 +82,7 @@ fn add_target(devices: &mut Vec<u32>, pair: Pair, group: u32) -> Result<(), Allo
 }
 
 /// Adds the devices to which the pairs of a group lead to a list of devices, unless they are there.
+/// `Err(AllocError)`: an allocation failed.
 fn add_targets(devices: &mut Vec<u32>, pairs: &[Pair], group: u32) -> Result<(), AllocError>
     ensures each { OnOk result ((d : ℕ) → has_number devices.new.items d ≡ (has_number devices.old.items d || has_number (targets_of pairs.now group) d)) }
     ensures once { OnOk result (AreOnce devices.old.items → AreOnce devices.new.items) }
@@ -92,7 +93,8 @@ fn add_targets(devices: &mut Vec<u32>, pairs: &[Pair], group: u32) -> Result<(),
     Ok(())
 }
 
-/// Sets `devices` to the devices that can touch a group, each once.
+/// Sets `devices` to the devices that can touch a group, each once. `Err(AllocError)`: an
+/// allocation failed.
 fn find_devices(
     placer: &Placer,
     scratch: &mut Scratch,
@@ -117,7 +119,7 @@ fn find_devices(
     Ok(())
 }
 
-/// Adds a pair of each of these devices and a group.
+/// Adds a pair of each of `devices` and a group. `Err(AllocError)`: an allocation failed.
 fn add_pairs(pairs: &mut Vec<Touch>, devices: &[u32], group: u32) -> Result<(), AllocError>
     ensures { OnOk result (pairs.new.items ≡ pairs.old.items ++ touches_of group devices.now) }
 {
@@ -138,7 +140,8 @@ fn usual_count(pool: &Pool) -> usize {
     usual.min(TOUCH_LIMIT)
 }
 
-/// Returns the pairs of a pool, group by group; `None` where they are more than `TOUCH_LIMIT`.
+/// Finds the pairs of a pool, group by group. `None` where they are more than `TOUCH_LIMIT`.
+/// `Err(AllocError)`: an allocation failed.
 fn pairs_by_group(alloc: Global, placer: &Placer) -> Result<Option<Vec<Touch>>, AllocError>
     ensures { IfOk result (λ found. IfSome found (λ pairs. (d : ℕ) → groups_in pairs.items d ≡ touched_on placer.now d (groups placer.now.pool))) }
 {
@@ -156,7 +159,7 @@ fn pairs_by_group(alloc: Global, placer: &Placer) -> Result<Option<Vec<Touch>>, 
     Ok(Some(pairs))
 }
 
-/// Returns the place of the first pair by device whose device has an id of at least `least`, or the
+/// Finds the place of the first pair by device whose device has an id of at least `least`, or the
 /// number of pairs where there is none.
 fn place_of(pairs: &[Touch], least: u64) -> usize
     requires { IsNonDecreasingBy (λ t. t.device) pairs.now }
@@ -166,7 +169,7 @@ fn place_of(pairs: &[Touch], least: u64) -> usize
     pairs.partition_point(|pair| u64::from(pair.device) < least)
 }
 
-/// Returns the groups of pairs, in their order.
+/// Makes the list of the groups of pairs, in their order. `Err(AllocError)`: an allocation failed.
 fn groups_of(alloc: Global, pairs: &[Touch]) -> Result<Vec<u32>, AllocError>
     ensures { IfOk result (λ groups. groups.items ≡ map (λ t. t.group) pairs.now) }
 {
@@ -177,9 +180,9 @@ impl Touches {
     ghost use Rattle.std.specs.Prelude.{◌≡◌, IfOk, IfSome};
     ghost use Rattle.report_cache.specs.Touches.{AreTouchesOn, groups_in};
 
-    /// Returns which groups of the placer's pool each device can touch, by one pass over the
-    /// groups. `None` where there are more than `TOUCH_LIMIT` pairs. `Err(AllocError)`: an
-    /// allocation failed.
+    /// Finds which groups of the placer's pool each device can touch, by one pass over the groups.
+    /// `None` where there are more than `TOUCH_LIMIT` pairs. `Err(AllocError)`: an allocation
+    /// failed.
     pub fn build(alloc: Global, placer: &Placer) -> Result<Option<Self>, AllocError>
         ensures { IfOk result (λ built. IfSome built (AreTouchesOn placer.now)) }
     {
@@ -193,7 +196,7 @@ impl Touches {
         Ok(Some(Touches { pairs }))
     }
 
-    /// Returns the groups of a device, ascending: a look-up and a copy. `Err(AllocError)`: an
+    /// Finds the groups of a device, ascending, by a look-up and a copy. `Err(AllocError)`: an
     /// allocation failed.
     pub fn groups_of(&self, alloc: Global, device: u32) -> Result<Listed<u32>, AllocError>
         ensures { IfOk result (λ found. found ≡ groups_in self.now device) }

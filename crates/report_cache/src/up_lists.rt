@@ -15,7 +15,7 @@ use std::marker::Model;
 /// The most slots of up lists that are kept of a pool, of 8 bytes each. It is itself allowed.
 pub const SLOT_LIMIT: usize = 1_048_576;
 
-/// The most words of 8 bytes a group that are kept of answers while up lists are found.
+/// The most words of 8 bytes a group that are stored of answers while up lists are found.
 pub(crate) const WORDS_KEPT: u32 = 4;
 
 /// The up lists of all groups of a pool, on a map, with states of devices and exceptions: at most
@@ -40,7 +40,7 @@ impl Model for UpLists {
     ghost invariant = { λ a. AreEnds (length a.slots.items) 0 a.ends.items };
 }
 
-/// Room for the slots of all groups of a pool.
+/// Returns how many slots there is room for at first: those of all groups of a pool, or the limit.
 fn most_slots(pool: &Pool) -> usize {
     let parts = pool.parts();
     (parts.pg_num as usize * parts.size as usize).min(SLOT_LIMIT)
@@ -54,7 +54,7 @@ fn start_at(ends: &[u32], place: usize) -> u32
     if place == 0 { 0 } else { ends[place - 1] }
 }
 
-/// Returns the slots from a start to an end.
+/// Returns the slots from `start` to `end`.
 fn slots_between(slots: &[Slot], start: usize, end: usize) -> &[Slot]
     requires ordered { start ≤ end }
     requires within { end ≤ length slots.now }
@@ -63,9 +63,9 @@ fn slots_between(slots: &[Slot], start: usize, end: usize) -> &[Slot]
     &slots[start..end]
 }
 
-/// Puts the up lists of the first groups of a pool behind one another, and where each ends; `up` is
-/// room for one of them. `false`: they have more than `SLOT_LIMIT` slots. `Err(AllocError)`: an
-/// allocation failed.
+/// Puts the up lists of the first `count` groups of a pool behind one another, and where each ends;
+/// `up` is room for one of them. `false`: they have more than `SLOT_LIMIT` slots.
+/// `Err(AllocError)`: an allocation failed.
 fn put_lists(
     run: &mut UpRun,
     up: &mut Vec<Slot>,
@@ -93,7 +93,7 @@ impl UpLists {
     ghost use Rattle.std.specs.Prelude.{◌≡◌, [], IfOk, IfSome, slice_index_or};
     ghost use Rattle.report_cache.specs.UpLists.{AreUpListsOn};
 
-    /// Returns the up lists of the groups of the placer's pool, by one pass over the groups. `None`
+    /// Finds the up lists of the groups of the placer's pool, by one pass over the groups. `None`
     /// where they have more than `SLOT_LIMIT` slots. `Err(AllocError)`: an allocation failed.
     pub fn build(alloc: Global, placer: &Placer) -> Result<Option<Self>, AllocError>
         ensures { IfOk result (λ built. IfSome built (AreUpListsOn placer.now)) }

@@ -8,7 +8,7 @@ use std::alloc::Global;
 use std::test::Fail;
 use text_tests::texts::map_text;
 
-/// A map of seven devices, with two rules. Its root has the first six of them and these items.
+/// A map of seven devices, with two rules. Its root has the first six of them and the given items.
 macro_rules! seven {
     ($($more:literal)*) => {
         map_text!(
@@ -72,7 +72,7 @@ pub(crate) const ELEVEN: Short = Short {
     ..TWELVE
 };
 
-/// Pools with fewer places than groups: few enough that answers are kept for usage and for moves,
+/// Pools with fewer places than groups: few enough that answers are stored for usage and for moves,
 /// for usage alone, and for neither. And one with as many.
 pub(crate) const POOLS: &[Short] = &[
     ELEVEN,
@@ -191,12 +191,12 @@ pub(crate) const CASES: &[Case] = &[
     (PAIRS, &[OUT_1, DOWN_2]),
 ];
 
-/// Returns the map whose root has six devices.
+/// Makes the map whose root has six devices.
 pub(crate) fn of_six(alloc: Global) -> Result<MapTables, Fail> {
     MapTables::of_text(alloc, OF_SIX)
 }
 
-/// Returns the map whose root has seven devices.
+/// Makes the map whose root has seven devices.
 pub(crate) fn of_seven(alloc: Global) -> Result<MapTables, Fail> {
     MapTables::of_text(alloc, OF_SEVEN)
 }

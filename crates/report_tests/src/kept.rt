@@ -14,7 +14,7 @@ use std::alloc::Global;
 use std::process::Abort;
 use std::test::Fail;
 
-/// Two lists of rows are the same.
+/// Asserts that two lists of rows are the same.
 fn assert_all_same(rt: &impl Abort, first: &[MoveRow], second: &[MoveRow]) {
     assert_same(rt, &first.len(), &second.len());
     for (one, other) in first.iter().zip(second.iter()) {
@@ -24,7 +24,7 @@ fn assert_all_same(rt: &impl Abort, first: &[MoveRow], second: &[MoveRow]) {
     }
 }
 
-/// Returns what moves from kept lists to the map of a placer is what moves from the map of the
+/// Asserts that what moves from kept lists to the map of a placer is what moves from the map of the
 /// lists.
 fn assert_moved(
     rt: &impl Abort,
@@ -41,7 +41,8 @@ fn assert_moved(
     Ok(())
 }
 
-/// Returns what moves between two maps is what moves from the lists that are kept of the first.
+/// Asserts that what moves between two maps is what moves from the lists that are kept of the
+/// first.
 fn assert_kept_lists(
     rt: &impl Abort,
     alloc: Global,
@@ -54,7 +55,7 @@ fn assert_kept_lists(
     assert_moved(rt, alloc, &lists, (from, to), case)
 }
 
-/// Returns the groups that are kept of a device are those of its impact list.
+/// Asserts that the groups that are kept of a device are those of its impact list.
 fn assert_groups(
     rt: &impl Abort,
     alloc: Global,
@@ -70,7 +71,7 @@ fn assert_groups(
     Ok(())
 }
 
-/// Returns the groups that are kept of each device are those of its impact list.
+/// Asserts that the groups that are kept of each device are those of its impact list.
 fn assert_touches(
     rt: &impl Abort,
     alloc: Global,
@@ -86,7 +87,7 @@ fn assert_touches(
     Ok(())
 }
 
-/// Returns what is kept of a pool answers as the reports do.
+/// Asserts that what is kept of a pool answers as the reports do.
 fn assert_kept(
     rt: &impl Abort,
     alloc: Global,
@@ -123,14 +124,14 @@ const GREAT: Short = Short {
     ..TWELVE
 };
 
-/// No lists are kept of a placer's pool.
+/// Asserts that no lists are kept of a placer's pool.
 fn assert_none_kept(rt: &impl Abort, alloc: Global, placer: &Placer) -> Result<(), Fail> {
     let found = UpLists::build(alloc, placer)?;
     assert!(rt; found.is_none());
     Ok(())
 }
 
-/// No lists are kept of a pool on a map.
+/// Asserts that no lists are kept of a pool on a map.
 fn assert_none_kept_of(
     rt: &impl Abort,
     alloc: Global,

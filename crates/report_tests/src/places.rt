@@ -16,7 +16,7 @@ use std::test::Fail;
 
 // ---- usage
 
-/// The rows are those that are counted over placements.
+/// Asserts that the rows are those that are counted over placements.
 fn assert_counted(rt: &impl Abort, rows: &[UsageRow], groups: &[Placed]) {
     assert_same(rt, &rows.len(), &7);
     for row in rows {
@@ -24,7 +24,7 @@ fn assert_counted(rt: &impl Abort, rows: &[UsageRow], groups: &[Placed]) {
     }
 }
 
-/// Usage of a pool counts what is counted over its placements.
+/// Asserts that the usage of a pool counts what is counted over its placements.
 fn assert_usage(
     rt: &impl Abort,
     alloc: Global,
@@ -65,20 +65,20 @@ fn usage_counts_each_group_that_shares_a_place(rt: HostRuntime) -> Result<(), Fa
 
 // ---- moves
 
-/// The row has these lists.
+/// Asserts that the row has the lists `old` and `new`.
 pub(crate) fn assert_lists(rt: &impl Abort, row: &MoveRow, old: &[Slot], new: &[Slot]) {
     assert_same(rt, &row.old.as_slice(), &old);
     assert_same(rt, &row.new.as_slice(), &new);
 }
 
-/// The row is of this group with these lists.
+/// Asserts that the row is of the group `group`, with the lists `old` and `new`.
 fn assert_row(rt: &impl Abort, row: &MoveRow, group: usize, old: &[Slot], new: &[Slot]) {
     assert_same(rt, &(row.group as usize), &group);
     assert_same(rt, &row.gained, &gained(old, new));
     assert_lists(rt, row, old, new);
 }
 
-/// The rows are of the groups whose up lists differ.
+/// Asserts that the rows are of the groups whose up lists differ.
 fn assert_differing(rt: &impl Abort, rows: &[MoveRow], olds: &[Placed], news: &[Placed]) {
     let mut rest = rows;
     for (group, (old, new)) in olds.iter().zip(news.iter()).enumerate() {
@@ -94,7 +94,7 @@ fn assert_differing(rt: &impl Abort, rows: &[MoveRow], olds: &[Placed], news: &[
     assert!(rt; rest.is_empty());
 }
 
-/// Returns the rows are of the groups of a pool whose placements on two maps differ.
+/// Asserts that the rows are of the groups of a pool whose placements on two maps differ.
 fn assert_moved(
     rt: &impl Abort,
     alloc: Global,
@@ -108,7 +108,7 @@ fn assert_moved(
     Ok(())
 }
 
-/// Returns the groups of a pool that move are those whose placements differ.
+/// Asserts that the groups of a pool that move are those whose placements differ.
 fn assert_moves(
     rt: &impl Abort,
     alloc: Global,
@@ -148,7 +148,7 @@ fn each_group_that_shares_a_place_moves_by_itself(rt: HostRuntime) -> Result<(),
 
 // ---- impact
 
-/// The groups are those that a device can touch.
+/// Asserts that the groups are those that a device can touch.
 fn assert_touched(rt: &impl Abort, found: &[u32], groups: &[Placed], pairs: &[Pair], device: u32) {
     let mut rest = found;
     for (group, placed) in groups.iter().enumerate() {
@@ -163,8 +163,8 @@ fn assert_touched(rt: &impl Abort, found: &[u32], groups: &[Placed], pairs: &[Pa
     assert!(rt; rest.is_empty());
 }
 
-/// Returns the groups that a device can touch are those with it in their trace, and those of which
-/// a pair leads to it.
+/// Asserts that the groups that a device can touch are those with it in their trace, and those of
+/// which a pair leads to it.
 fn assert_impact(
     rt: &impl Abort,
     alloc: Global,
@@ -208,7 +208,7 @@ fn a_device_can_touch_each_group_that_shares_a_place(rt: HostRuntime) -> Result<
 
 // ---- exceptions
 
-/// Two groups have the same raw list, and the same up list or another.
+/// Asserts that two groups have the same raw list, and the same up list or another.
 fn assert_alike(rt: &impl Abort, groups: &[Placed], (group, other): (usize, usize), same: bool) {
     let (Some(first), Some(second)) = (groups.get(group), groups.get(other)) else {
         return rt.abort();
@@ -229,7 +229,7 @@ const ALIKE: &[((usize, usize), bool)] = &[
     ((0, 16), false),
 ];
 
-/// On a map, the groups of a pool with these pairs are alike as it is said above.
+/// Asserts that, on a map, the groups of a pool with `pairs` are alike as `ALIKE` says.
 fn assert_alike_on(
     rt: &impl Abort,
     alloc: Global,

@@ -7,7 +7,7 @@ use pool_tests::placing::{Placed, place_group};
 use std::alloc::Global;
 use std::test::Fail;
 
-/// Returns all groups of a placer's pool, placed one by one.
+/// Places all groups of a placer's pool, one by one.
 pub(crate) fn all_placed(
     alloc: Global,
     placer: &Placer,
@@ -29,7 +29,7 @@ fn is_device(slot: Slot, device: u32) -> bool {
     }
 }
 
-/// Returns how many slots of an up list have a device.
+/// Counts the slots of an up list that have a device.
 fn entries(up: &[Slot], device: u32) -> u32 {
     let mut count: u32 = 0;
     for slot in up {
@@ -40,7 +40,7 @@ fn entries(up: &[Slot], device: u32) -> u32 {
     count
 }
 
-/// Returns how many slots of an up list have any device.
+/// Counts the slots of an up list that have any device.
 fn filled(up: &[Slot]) -> u32 {
     let mut count: u32 = 0;
     for slot in up {
@@ -51,7 +51,7 @@ fn filled(up: &[Slot]) -> u32 {
     count
 }
 
-/// Returns the row of a device with a group counted too.
+/// Counts a group in the row of a device too, and returns the row.
 fn with_group(row: UsageRow, placement: &Placement) -> UsageRow {
     let found = entries(placement.up.as_slice(), row.device);
     UsageRow {
@@ -64,7 +64,7 @@ fn with_group(row: UsageRow, placement: &Placement) -> UsageRow {
     }
 }
 
-/// Returns the row of a device, counted over placements.
+/// Counts the row of a device over placements.
 pub(crate) fn counted(groups: &[Placed], device: u32) -> UsageRow {
     let mut row = UsageRow {
         device,
@@ -84,7 +84,7 @@ pub(crate) fn counted(groups: &[Placed], device: u32) -> UsageRow {
     row
 }
 
-/// Returns how many slots of a new list have a device that isn't in the old one.
+/// Counts the slots of a new list that have a device that isn't in the old one.
 pub(crate) fn gained(old: &[Slot], new: &[Slot]) -> usize {
     let mut count: usize = 0;
     for slot in new {

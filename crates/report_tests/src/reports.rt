@@ -17,7 +17,7 @@ use std::process::Abort;
 use std::test::Fail;
 use text_tests::texts::{DEVICE_0, DEVICE_7, map_of};
 
-/// A map has the rule of a pool.
+/// Asserts that a map has the rule of a pool.
 pub(crate) fn assert_rule(rt: &impl Abort, map: &CrushMap, pool: &Pool)
     ensures { is_some (rule_numbered map.now pool.now.rule) ≡ true }
 {
@@ -33,7 +33,7 @@ const OF_EIGHT: Short = Short {
     ..OF_TWO
 };
 
-/// Returns the usage of a placer's pool is this CSV.
+/// Asserts that the usage of a placer's pool is `csv`.
 fn assert_used(
     rt: &impl Abort,
     alloc: Global,
@@ -48,7 +48,7 @@ fn assert_used(
     Ok(())
 }
 
-/// With these exceptions and states, the usage of a pool of eight groups on a map is this CSV.
+/// Asserts that, with exceptions and states, the usage of a pool of eight groups on a map is `csv`.
 fn assert_usage(
     rt: &impl Abort,
     alloc: Global,
@@ -106,14 +106,14 @@ fn a_device_that_a_pair_leads_to_is_used(rt: HostRuntime) -> Result<(), Fail> {
     Ok(())
 }
 
-/// Returns the CSV of these rows is this one.
+/// Asserts that the CSV of `rows` is `csv`.
 fn assert_csv(rt: &impl Abort, alloc: Global, rows: &[MoveRow], csv: &[u8]) -> Result<(), Fail> {
     let text = moves_csv(alloc, rows)?;
     assert!(rt; text.as_slice() == csv);
     Ok(())
 }
 
-/// Returns what moves of a pool from one map to another is this CSV.
+/// Asserts that what moves of a pool from one map to another is `csv`.
 fn assert_moved(
     rt: &impl Abort,
     alloc: Global,
@@ -127,7 +127,7 @@ fn assert_moved(
     assert_csv(rt, alloc, rows.as_slice(), csv)
 }
 
-/// With these exceptions, what moves of a pool of two groups between these maps is this CSV.
+/// Asserts that, with exceptions, what moves of a pool of two groups between two maps is `csv`.
 fn assert_moves(
     rt: &impl Abort,
     alloc: Global,
@@ -142,7 +142,7 @@ fn assert_moves(
     assert_moved(rt, alloc, from, &to, csv)
 }
 
-/// With these exceptions, what moves from the map of a text to that of another is this CSV.
+/// Asserts that, with exceptions, what moves from the map of a text to that of another is `csv`.
 fn assert_moves_of(
     rt: &impl Abort,
     alloc: Global,
@@ -168,7 +168,7 @@ fn groups_move_to_the_device_of_another_map(rt: HostRuntime) -> Result<(), Fail>
     Ok(())
 }
 
-/// On the first map no device 1 is there that the pair could lead to.
+/// A group moves where the pair has no effect on the first map, which has no device 1.
 #[test]
 fn a_group_moves_where_its_pair_takes_effect_on_one_map(rt: HostRuntime) -> Result<(), Fail> {
     for (maps, csv) in [
@@ -192,7 +192,7 @@ const OUT_0: DeviceState = DeviceState {
 /// Pairs, states of devices, a device, and the groups that it can touch.
 type Row = (&'static [Pair], &'static [DeviceState], u32, &'static [u32]);
 
-/// Returns the groups of a placer's pool that a device can touch are these.
+/// Asserts that the groups of a placer's pool that a device can touch are `wanted`.
 fn assert_touched(
     rt: &impl Abort,
     alloc: Global,
@@ -207,8 +207,8 @@ fn assert_touched(
     Ok(())
 }
 
-/// On the map of a text, with the pairs and the states, the groups of a pool of two that the device
-/// can touch are those of the row.
+/// Asserts that, on the map of a text, with the pairs and the states, the groups of a pool of two
+/// that the device can touch are those of the row.
 fn assert_impact(
     rt: &impl Abort,
     alloc: Global,

@@ -8,7 +8,7 @@ use crush_grammar::{TextCode, read_declarations};
 use std::alloc::Global;
 use std::test::Fail;
 
-/// Returns the first fault of form, by line and code.
+/// Finds the first fault of form, by line and code.
 fn fault(alloc: Global, text: &str) -> Result<Option<(usize, TextCode)>, Fail> {
     match read_declarations(alloc, text.as_bytes())?.fault {
         Some(fault) => Ok(Some((fault.line, fault.code))),

@@ -96,7 +96,7 @@ pub(crate) const TWO_DEVICES: &str = canonical_text!(
     "\titem osd.1 weight 2.00000\n"
 );
 
-/// Returns a text is read, and written as this canonical text.
+/// Asserts that a text is read, and written as the text `canonical`.
 pub(crate) fn assert_canonical(
     rt: &impl Abort,
     alloc: Global,

@@ -4,15 +4,15 @@ use crate::jewel::assert_canonical;
 use std::alloc::{AllocError, Global};
 use std::test::Fail;
 
-/// Returns a text of two types and three devices with these buckets and rules.
+/// Makes a text of two types and three devices, with the buckets and rules of `rest`.
 fn text(alloc: Global, rest: &str) -> Result<String, AllocError> {
     format!(in alloc;
         "tunable choose_local_tries 0 tunable choose_local_fallback_tries 0 type 0 osd type 1 host device 0 a device 1 b device 2 c {rest}"
     )
 }
 
-/// Returns the canonical text of such a map: the tunables that aren't named have their legacy
-/// values.
+/// Makes the canonical text of a map of two types and three devices: the tunables that aren't named
+/// have their legacy values.
 fn canonical(alloc: Global, buckets: &str, rules: &str) -> Result<String, AllocError> {
     format!(in alloc;
         "# begin crush map
@@ -41,7 +41,7 @@ type 1 host
     )
 }
 
-/// The host h with these items.
+/// The host h with the given items.
 macro_rules! host {
     ($($item:literal)*) => {
         concat!("host h {\n\tid -1\n\talg list\n\thash 0\n", $("\titem ", $item, "\n",)* "}\n")

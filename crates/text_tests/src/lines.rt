@@ -8,7 +8,7 @@ fn push_line(text: &mut String, line: &str) -> Result<(), AllocError> {
     text.push_str("\n")
 }
 
-/// Returns its lines from the first to the last of these numbers.
+/// Returns the text's lines from the number `first` to the number `last`.
 pub(crate) fn lines_within(alloc: Global, first: usize, last: usize) -> Result<String, AllocError> {
     let mut text = String::new(alloc);
     for (index, line) in DEVICE_0.lines().enumerate() {
@@ -19,7 +19,7 @@ pub(crate) fn lines_within(alloc: Global, first: usize, last: usize) -> Result<S
     Ok(text)
 }
 
-/// Returns the text with another line of this number; line 24 is one more.
+/// Returns the text with `line` in the place of the line `number`; line 24 is one more.
 pub(crate) fn with_line(alloc: Global, number: usize, line: &str) -> Result<String, AllocError> {
     let mut text = String::new(alloc);
     for (index, old) in DEVICE_0.lines().enumerate() {

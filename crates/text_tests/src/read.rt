@@ -11,7 +11,7 @@ use std::alloc::Global;
 use std::process::Abort;
 use std::test::Fail;
 
-/// Returns the first fault of a text that may be imported, by line and code.
+/// Finds the first fault of a text that may be imported, by line and code.
 fn fault(alloc: Global, text: &[u8]) -> Result<Option<(usize, TextCode)>, Fail> {
     match read_map(alloc, text)? {
         Ok(_) => Ok(None),
@@ -175,7 +175,7 @@ fn each_fault_of_what_is_declared_has_its_code(rt: HostRuntime) -> Result<(), Fa
 const OF_TWO: &[Row] = &[
     // a device is whole without a class, so the wrong word is behind it
     ("device 0 a\ndevice 0 b\n@", 2, Map(M2)),
-    // a bucket is read whole before its places are looked at, and these before all else of it
+    // a bucket is read whole before its places are looked at, and its places before all else
     ("root r {\n id -1\n alg list\n item a pos 1\n item", 5, X1),
     (
         "root r {\n id 0\n alg list\n item a pos 0\n item b pos 0\n}",
@@ -244,7 +244,7 @@ fn a_wrong_line_of_a_map_is_named(rt: HostRuntime) -> Result<(), Fail> {
     Ok(())
 }
 
-/// Returns a remark of this many bytes.
+/// Makes a remark of `length` bytes.
 fn remark(alloc: Global, length: usize) -> Result<Vec<u8>, Fail> {
     Ok(vec![in alloc; b'#'; length]?)
 }
@@ -270,7 +270,7 @@ fn a_stored_text_may_be_longer(rt: HostRuntime) -> Result<(), Fail> {
     Ok(())
 }
 
-/// Returns a text of so many devices, whose last one stands on the line 3 further, and of no
+/// Makes a text of `count` devices, whose last one stands on the line `count` + 3, and of no
 /// bucket.
 fn devices_alone(alloc: Global, count: u32) -> Result<String, Fail> {
     let mut text = String::new(alloc);

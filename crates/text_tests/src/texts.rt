@@ -64,7 +64,7 @@ pub const DEVICE_0: &str = one_device!(0);
 /// A map of the device 7.
 pub const DEVICE_7: &str = one_device!(7);
 
-/// Returns the map of a text without a fault.
+/// Reads the map of a text without a fault.
 pub fn map_of(alloc: Global, text: &str) -> Result<CrushMap, Fail> {
     match read_map(alloc, text.as_bytes())? {
         Ok(map) => Ok(map),

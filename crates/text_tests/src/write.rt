@@ -10,7 +10,7 @@ use std::alloc::Global;
 use std::process::Abort;
 use std::test::Fail;
 
-/// Returns the map of a draft is written as this text, and that text, read again, as itself.
+/// Asserts that the map of a draft is written as `text`, and that `text`, read again, as itself.
 fn assert_written(
     rt: &impl Abort,
     alloc: Global,

@@ -7,8 +7,8 @@ use Rattle.crush_types.specs.declared.Kind.TheVariants.{Uniform}
 use Rattle.crush_kinds.specs.Bucket.{total_weight, HasEqualWeights}
 use Rattle.crush_bucket.specs.Tables.{TypedBucket, TablesView, bucket_at, HasItemsBelow}
 
--- what a bucket must be so that it can be kept: few items, a sum of weights that is a word, equal
--- weights where it is uniform
+-- what a bucket must be so that tables can have it: few items, a sum of weights that is a word,
+-- equal weights where it is uniform
 pub record IsFit (b : Bucket) : Type 0 where
   pub few : length b.items < 2 ^ 16
   pub light : total_weight b.items < 2 ^ 32

@@ -1,4 +1,4 @@
--- The bucket that a row of the tables keeps.
+-- The bucket that a row of the tables has.
 use Rattle.std.specs.Prelude.{[]}
 use Rattle.crush_bucket.specs.declared.table_row.Content.{Content}
 use Rattle.crush_bucket.specs.declared.table_row.Content.TheVariants.{Empty, Bucket}

@@ -1,4 +1,4 @@
--- The values that a rule's run keeps, their ranges, and what they mean in the definitions.
+-- The values that a rule's run stores, their ranges, and what they mean in the definitions.
 use Rattle.std.specs.Prelude.{◌≡◌, ℕ, pos, ◌*◌, ◌≤◌, length, vec_len, vec_capacity, Bool, false}
 use Rattle.crush_map.specs.declared.draft.Step.{Step}
 use Rattle.crush_map.specs.declared.draft.Step.TheVariants.{Take, SetChooseTries, SetLeafTries, SetVaryR, SetStable, Choose, Emit}
@@ -33,7 +33,7 @@ pub record AreSettings (s : kept.Settings) : Type 0 where
   pub vary_r : s.vary_r ≤ VARY_R_LIMIT
   pub stable : s.stable ≤ 1
 
--- the definitions' settings of kept ones
+-- the definitions' settings of those that the code stores
 abbrev pub settings_in : kept.Settings → Settings
 settings_in s = record { tries = s.tries; leaf_tries = s.leaf_tries; vary_r = s.vary_r; stable = s.stable }
 

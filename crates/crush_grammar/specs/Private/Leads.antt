@@ -9,7 +9,7 @@ use Rattle.crush_grammar.specs.declared.declaration.Declaration.TheVariants as d
 use Rattle.crush_grammar.specs.declared.error.ReadError.{ReadError}
 use Rattle.crush_grammar.specs.declared.error.ReadError.TheVariants as errors
 
--- what is read of what is left
+-- what is read of the rest of a text
 abbrev pub ahead : State → Rest → Reading
 ahead s rest = reading s rest.line rest.words
 

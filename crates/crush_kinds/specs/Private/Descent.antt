@@ -16,14 +16,14 @@ child nodes hash node half = if is_left nodes hash node half then node - half el
 abbrev pub lane_below : List ℕ → ℕ → ℕ → ℕ → ℕ → ℕ
 lane_below nodes hash node half lane = if is_left nodes hash node half then 2 * lane + 1 else 2 * lane + 2
 
--- the labels of a node and of those two levels below it
+-- the labels of a node and of the nodes one and two levels below it
 abbrev pub labels : ℕ → ℕ → List ℕ
 labels node quarter =
     let left = node - 2 * quarter in
     let right = node + 2 * quarter in
     node ∷ left ∷ right ∷ (left - quarter) ∷ (left + quarter) ∷ (right - quarter) ∷ (right + quarter) ∷ 0 ∷ []
 
--- the node so many levels below a node of a level
+-- the node k levels below a node of a level
 abbrev pub down_by : ItemId → List ℕ → ℕ → ℕ → ℕ → ℕ → ℕ → ℕ
 down_by id nodes x r zero level node = node
 down_by id nodes x r (suc k) level node =

@@ -11,8 +11,8 @@ use Rattle.crush_kinds.specs.Private.Kept.{AtNode}
 abbrev pub tree_height : BucketView → ℕ
 tree_height b = height_of (length b.items)
 
--- how many levels are below a walk's node where the walks have so many left: the walk down a tree
--- that has fewer waits at its root
+-- how many levels are below a walk's node where the walks have `left` levels below theirs: the
+-- walk down a tree that has fewer waits at its root
 abbrev pub levels : BucketView → ℕ → ℕ
 levels b left = min (tree_height b) left
 
@@ -21,15 +21,15 @@ pub record IsNode (b : BucketView) (left node : ℕ) : Type 0 where
   pub low : 2 ^ levels b left ≤ node
   pub high : node + 2 ^ levels b left ≤ 2 ^ suc (tree_height b)
 
--- the walk down the bucket's tree for x and r has come to this node
+-- the walk down the bucket's tree for x and r has come to the node
 abbrev pub IsOnWay : BucketView → ℕ → ℕ → ℕ → ℕ → Type 0
 IsOnWay b x r left node = AtNode b.id b.items x r (tree_height b) (levels b left) node
 
--- by the node's hash each walk that has come to a node goes on to this one
+-- by the node's hash each walk that has come to `node` goes on to `to`
 abbrev pub GoesOn : BucketView → ℕ → ℕ → ℕ → ℕ → Type 0
 GoesOn b left node hash to =
     (x r : ℕ) → IsOnWay b x r (left + 1) node → hash ≡ hash4 x node r (word b.id) → IsOnWay b x r left to
 
--- each walk that ends at this leaf picks the item
+-- each walk that ends at the leaf picks the item
 abbrev pub IsPickAt : BucketView → ℕ → ItemId → Type 0
 IsPickAt b leaf item = (x r : ℕ) → IsOnWay b x r 0 leaf → IsPickedBy b x r item

@@ -17,7 +17,7 @@ pub record IsIndexOf (numbers : List ℕ) (table : List Bool) : Type 0 where
   pub flags : 0 < length table → IsTableOf numbers table
   pub long : SHORT_LIST < length numbers → 0 < length table
 
--- the ids of which a table is kept: up to NUMBER_LIMIT, and -1 down to -1 - NUMBER_LIMIT
+-- the ids that tables of flags are for: up to NUMBER_LIMIT, and -1 down to -1 - NUMBER_LIMIT
 abbrev pub is_id : ℤ → Bool
 is_id (pos n) = nat_le n NUMBER_LIMIT
 is_id (negsuc n) = nat_le n NUMBER_LIMIT

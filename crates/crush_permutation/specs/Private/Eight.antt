@@ -7,7 +7,7 @@ use Rattle.crush_permutation.specs.Permutation.{after_swaps, permutation}
 abbrev pub place_before : ℕ → ℕ → ℕ → ℕ
 place_before at n other = if at == n then other else (if at == other then n else at)
 
--- what stands at this place after n exchanges comes to the asked place in the end
+-- what stands at the place `at` after n exchanges comes to the place `place` in the end
 pub record ComesTo (id : ItemId) (size x place n at : ℕ) : Type 0 where
   pub within : at < size
   pub comes : slice_index (after_swaps id size x n) at ≡ slice_index (permutation id size x) place

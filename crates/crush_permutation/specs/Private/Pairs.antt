@@ -61,6 +61,6 @@ pub record IsMovedRight (before after : List Pair) (at to len up more : ℕ) : T
   pub lower : (k : ℕ) → at ≤ k → k < len → k < to → slice_index_or after (k + up) no_pair ≡ slice_index_or before k no_pair
   pub higher : (k : ℕ) → at ≤ k → k < len → to ≤ k → slice_index_or after (k + up + more) no_pair ≡ slice_index_or before k no_pair
 
--- the hashes of four places from 4 * block on, where these are words
+-- the hashes of four places from 4 * block on, where the places are words
 abbrev pub AreHashes : ItemId → ℕ → ℕ → List ℕ → Type 0
 AreHashes id x block hashes = (n : ℕ) → n < 4 → 4 * block + n < 2 ^ 32 → slice_index hashes n ≡ hash3 x (word id) (4 * block + n)

@@ -24,7 +24,7 @@ pub record AreParts (slots : List Slot) (row : List Pair) : Type 0 where
 abbrev pub HaveRoom : ℕ → List Slot → Type 0
 HaveRoom size slots = All (λ s. s.start + room_of size ≤ s.end) slots
 
--- no exchange is made in a slot, and its part, which has room for two pairs, ends here at the
+-- no exchange is made in a slot, and its part, which has room for two pairs, ends at `end` at the
 -- latest
 pub record IsNew (end : ℕ) (s : Slot) : Type 0 where
   pub empty : IsEmpty s.reached

@@ -1,4 +1,4 @@
--- How far a scratch has made a permutation, and the pairs that it keeps.
+-- How far a scratch has made a permutation, and the pairs that it has stored.
 use Rattle.std.specs.Prelude.{◌≡◌, ℕ, ◌-◌, ◌<◌, ◌≤◌, ◌^◌, true, false, ◌==◌, if◌then◌else◌, List, length, take, min, max}
 use Rattle.crush_permutation.specs.declared.reached.Reached.{Reached}
 use Rattle.crush_permutation.specs.Permutation.{Remembered, after_swaps, differing, partner}

@@ -1,4 +1,4 @@
--- What is kept of the places of a pool's groups. It may be of no place.
+-- What is stored of the places of a pool's groups. It may be of no place.
 use Rattle.std.specs.Prelude.{◌≡◌, ◌<◌, ◌≤◌, ◌+◌, ℕ, List, false, length, slice_index_or, slice_range}
 use Rattle.crush_map.specs.Faults.{has_number}
 use Rattle.crush_select.specs.Marks.{Slot}
@@ -19,14 +19,14 @@ abbrev pub AreInOrder : PoolOnMap → List Slot → List ℕ → Type 0
 AreInOrder p slots starts =
     (place : ℕ) → place + 1 < length starts → IsPart slots (slice_index_or starts place 0) (slice_index_or starts (place + 1) 0) (answer_on p place)
 
--- what is kept are answers of the pool's rule
+-- what is stored are answers of the pool's rule
 pub record AreAnswers (p : PoolOnMap) (a : Answers) : Type 0 where
   pub count : a.places.count ≡ p.pool.pgp_num
   pub some : 0 < p.pool.pgp_num
   pub size : p.pool.size ≤ SIZE_LIMIT
   pub each : AreInOrder p a.slots.items a.starts.items
 
--- what is kept is whether the device is in traces
+-- what is stored is whether the device is in traces
 pub record AreTraced (p : PoolOnMap) (device : ℕ) (t : Traced) : Type 0 where
   pub count : t.places.count ≡ p.pool.pgp_num
   pub some : 0 < p.pool.pgp_num

@@ -12,12 +12,12 @@ use Rattle.crush_report.specs.declared.rows.UsageRow.{UsageRow}
 abbrev pub count_at : List ℕ → ℕ → ℕ
 count_at counts id = slice_index_or counts id 0
 
--- one more than the greatest id of the devices, and 0 without a device: so many counts are kept
+-- how many counts are stored: one more than the greatest id of the devices, and 0 without a device
 unfoldable pub id_bound : List Device → ℕ
 id_bound [] = 0
 id_bound (d ∷ rest) = max (d.id + 1) (id_bound rest)
 
--- each count can grow by so much
+-- each count can grow by `more`
 abbrev pub HasRoom : List ℕ → ℕ → Type 0
 HasRoom counts more = (id : ℕ) → count_at counts id + more < 2 ^ 32
 
@@ -68,7 +68,7 @@ pub record IsCounting (flags : List Bool) (raw : List Slot) (first : Bool) (befo
   pub primaries : (id : ℕ) → id < length before.primaries → count_at now.primaries id + primaries_in first flags id rest ≡ count_at before.primaries id + primaries_in true flags id raw
   pub filled : now.filled + filled_in flags rest ≡ before.filled + filled_in flags raw
 
--- it is counted of these up lists, for the devices whose ids are below a bound
+-- it is counted of the up lists, for the devices whose ids are below a bound
 pub record IsTally (bound : ℕ) (ups : List (List Slot)) (t : TallyView) : Type 0 where
   pub groups_len : length t.groups ≡ bound
   pub entries_len : length t.entries ≡ bound

@@ -18,8 +18,8 @@ use Rattle.crush_select.specs.Firstn.{has}
 
 -- ---- where walks can end
 
--- whether a walk that picked the item can end at an item of the wanted type that passes: there, or
--- from another bucket by `down`; devices have type 0
+-- whether a walk that picked the item can end at an item of the required type that passes: there,
+-- or from another bucket by `down`; devices have type 0
 abbrev pub can_end_at : TablesView → ℕ → (ItemId → Bool) → (ℕ → Bool) → ItemId → Option ℕ → Bool
 can_end_at t wanted passes down item None = (wanted == 0) && passes item
 can_end_at t wanted passes down item (Some bucket) = if type_at t bucket == wanted then passes item else down bucket
@@ -30,8 +30,8 @@ can_reach_below t wanted passes zero bucket = false
 can_reach_below t wanted passes (suc n) bucket =
     list_any (λ e. can_end_at t wanted passes (can_reach_below t wanted passes n) e.0 (bucket_numbered t e.0)) (pickable (bucket_at t bucket))
 
--- whether below the bucket, through items that can be picked and buckets that aren't of the wanted
--- type, there is an item of the wanted type that passes
+-- whether below the bucket, through items that can be picked and buckets that aren't of the
+-- required type, there is an item of the required type that passes
 unfoldable pub can_reach : TablesView → ℕ → (ItemId → Bool) → ℕ → Bool
 can_reach t wanted passes bucket = can_reach_below t wanted passes (suc bucket) bucket
 
@@ -46,7 +46,7 @@ has_leaf w x leafy item (Some bucket) = leafy bucket
 abbrev pub can_be_placed : TablesView → List ℕ → ℕ → List Slot → (ℕ → Bool) → ItemId → Bool
 can_be_placed t w x chosen leafy item = has_leaf w x leafy item (bucket_numbered t item) && not (has chosen item)
 
--- every bucket, if no leaf is wanted
+-- every bucket, if no leaf is required
 abbrev pub any_bucket : ℕ → Bool
 any_bucket bucket = true
 
@@ -54,7 +54,7 @@ any_bucket bucket = true
 abbrev pub can_have_leaf : TablesView → List ℕ → ℕ → List Slot → ℕ → Bool
 can_have_leaf t w x leaves bucket = can_reach t 0 (can_be_placed t w x leaves any_bucket) bucket
 
--- the buckets that can be placed: those with such a device below them, if a leaf is wanted
+-- the buckets that can be placed: if a leaf is required, those that can have one below them
 abbrev pub leafy : TablesView → List ℕ → ℕ → Bool → List Slot → ℕ → Bool
 leafy t w x leaf leaves bucket = if leaf then can_have_leaf t w x leaves bucket else any_bucket bucket
 

@@ -1,4 +1,4 @@
--- How the values of ids are kept.
+-- How the values of ids are stored.
 use Rattle.std.specs.Prelude.{◌-◌, List, ◌++◌, length, replicate}
 use Rattle.crush_types.specs.declared.limits.TheConstants.{ID_COUNT}
 

@@ -7,7 +7,7 @@ abbrev pub parts_of : List Slot → ℕ → List ℕ → List (List Slot)
 parts_of slots start [] = []
 parts_of slots start (end ∷ ends) = slice_range slots start end ∷ parts_of slots end ends
 
--- each list ends where it begins or later, and the last one within so many slots
+-- each list ends where it begins or later, and the last one within `size` slots
 abbrev pub AreEnds : ℕ → ℕ → List ℕ → Type 0
 AreEnds size start [] = start ≤ size
 AreEnds size start (end ∷ ends) = (start ≤ end) × AreEnds size end ends

@@ -4,6 +4,6 @@ use Rattle.std.specs.List.{flat_map}
 use Rattle.crush_content.specs.Hashes.{fed_with, pair_writes}
 use Rattle.crush_content.proofs.exceptions.hash_of.Given as goal
 
--- what is left is fed to what the pairs so far made
+-- the remaining pairs are fed to what the pairs so far made
 abbrev pub invariant-loop-pair : goal.invariant-loop-pair
 invariant-loop-pair l = fed_with l.hasher (flat_map pair_writes (drop l.pair-index l.pairs)) ≡ fed_with folding.initial (flat_map pair_writes l.pairs)

@@ -4,7 +4,7 @@ use Rattle.crush_grammar.specs.Automaton.{State, text}
 use Rattle.crush_grammar.specs.Private.Leads.{ahead, behind}
 use Rattle.crush_grammar.proofs.read.read_words.Given as goal
 
--- the declarations found, and what is read of what is left, are what is read of all
+-- the declarations found, and what is read of the remaining words, are what is read of all
 abbrev pub invariant-loop-word : goal.invariant-loop-word
 invariant-loop-word l = behind l.found.items (ahead (State.Between l.early) l.cursor) ≡ text (words l.text)
 

@@ -9,7 +9,7 @@ use Rattle.crush_pool.proofs.laws.groups_have_the_seeds_of_their_places.Goals as
 abbrev place_of : PoolParts → ℕ → ℕ
 place_of p group = stable_mod group p.pgp_num (mask_of p.pgp_num)
 
--- the seed of a group with this place
+-- the seed of a group with a place
 abbrev seed_at : PoolParts → ℕ → ℕ
 seed_at p place = if p.hashpspool then hash2 place p.id else (place + p.id) % 2 ^ 32
 

@@ -2,7 +2,7 @@ use Rattle.std.proofs.Common.{◌<◌, ◌+◌, ◌^◌, length}
 use Rattle.crush_report.specs.Private.Tallies.{HasRoom, IsCounting}
 use Rattle.crush_report.proofs.usage_counts.Tally.count_up.Given as goal
 
--- what was counted, with what is left, is all of it
+-- what was counted, with the remaining slots, is all of it
 abbrev pub invariant-loop-rest : goal.invariant-loop-rest
 invariant-loop-rest l = record {
   counting : IsCounting l.flags l.raw l.first l.initial.self l.rest l.self;
