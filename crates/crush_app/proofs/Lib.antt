@@ -1,6 +1,5 @@
 pub mod Checking
 pub mod Ending
-pub mod FromNothing
 pub mod Inputs
 pub mod LineLemmas
 pub mod LongTexts

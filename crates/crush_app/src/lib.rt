@@ -2,7 +2,6 @@
 #![tactic(auto)]
 
 mod check;
-mod from_nothing;
 mod input;
 pub mod limits;
 mod line;
@@ -12,6 +11,5 @@ mod script;
 mod wire;
 
 pub use check::{CheckEnd, check_run};
-pub use from_nothing::script_in_memory;
 pub use on_store::script_on_store;
 pub use play::{ScriptEnd, script_run};

@@ -3,7 +3,8 @@
 use crate::same::assert_same;
 use common_tests::rows::{CREATION_OF_A, Row, check_run};
 use common_tests::streams::{Cuts, MANY, Reader, Writer};
-use crush_app::{ScriptEnd, script_in_memory, script_run};
+use crush_app::{ScriptEnd, script_run};
+use crush_memory::script_in_memory;
 use std::alloc::Global;
 use std::num::NonZeroUsize;
 use std::process::Abort;
