@@ -92,7 +92,7 @@ replaced {A} {B} v number new d i xs is within same =
     (λ k lower. fails_before_first p xs k d (omega (arith, lower, is)))
     (rw is (passes_at_first p xs d (omega (arith, within, is)))) (equals (number (v (slice_index_or xs i d))) (number (v new)) same)
 
--- the same of a list as it is
+-- the same where the elements of a list are the values themselves
 pub inserted_here : {A : Type 0} (number : A → ℕ) (new d : A) (i : ℕ) (xs : List A) → i ≡ position_or_len (λ x. nat_le (number new) (number x)) xs
     → (i < length xs → number (slice_index_or xs i d) ≡ number new → ⊥) → insert xs i new ≡ with_element number new xs
 inserted_here number new d i xs is other =

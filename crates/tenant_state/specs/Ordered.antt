@@ -25,6 +25,6 @@ abbrev pub is_ascending : {A : Type 0} → (A → A → Bool) → List A → Boo
 is_ascending before [] = true
 is_ascending before (x ∷ xs) = is_before_first before x xs && is_ascending before xs
 
--- a list that is in order: none where a key stands twice or out of order
+-- a list that is in order: none where an element comes twice or out of order
 abbrev pub if_ascending : {A : Type 0} → (A → A → Bool) → List A → Option (List A)
 if_ascending before xs = if is_ascending before xs then Some xs else None
