@@ -147,8 +147,7 @@ pub trait TenantStore {
     /// A law: each state of a name is within the limits of a state, with its orders and ranges.
     ghost are_states: { (store : Self) (t : List ℕ) (s : TenantState) → is_honest store → latched store ≡ false → has_state store t (Some s) → IsState s };
 
-    /// Laws: each store has its own data, and `keeps` leads from one store over a second to a
-    /// third.
+    /// Laws: `keeps` is reflexive and transitive.
     ghost keeps_itself: { (store : Self) → keeps store store };
 
     ghost keeps_both: { (old mid new : Self) → keeps old mid → keeps mid new → keeps old new };
