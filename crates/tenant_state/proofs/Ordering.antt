@@ -188,7 +188,7 @@ second-of : (a b : Bool) → (a && b) ≡ true → b ≡ true
 second-of true b h = h
 second-of false b h = cc
 
--- each element stands before what follows it
+-- each element comes before what follows it
 pub before_rest : {A : Type 0} (before : A → A → Bool) (xs : List A) (x : A) (ys : List A) → is_ascending before (xs ++ x ∷ ys) ≡ true → is_before_first before x ys ≡ true
 before_rest before [] x ys h = first-of (is_before_first before x ys) (is_ascending before ys) h
 before_rest before (w ∷ xs) x ys h =

@@ -65,8 +65,8 @@ impl Devices {
         }
     }
 
-    /// Makes the tables of reweights and of flags for `states`. `Err(AllocError)`: an allocation
-    /// failed; the list is dropped.
+    /// Makes the tables of reweights and of flags for `states`, and shares the list.
+    /// `Err(AllocError)`: an allocation failed; the list is dropped.
     fn of(alloc: Global, states: Vec<DeviceState>) -> Result<Self, AllocError>
         ensures { IfOk result (λ devices. devices ≡ states.items) }
     {
