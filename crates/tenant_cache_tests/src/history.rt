@@ -23,8 +23,8 @@ pub(crate) type Held = Option<Store>;
 pub(crate) enum Step {
     /// A request, which is accepted.
     Asks(Asked),
-    /// A group of a tenant's first pool lies on the first device by its rule, and is up on the second
-    /// one, or on none.
+    /// A group of a tenant's first pool lies on the first device by its rule, and is up on the
+    /// second one, or on none.
     Places(&'static str, u64, (i32, Option<i32>)),
     /// The same, asked for three times: the first two requests place the group, and the third finds
     /// the placement that the second kept.

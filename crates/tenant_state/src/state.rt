@@ -169,8 +169,9 @@ impl Inventory {
         &self.pools
     }
 
-    /// Makes the placer of `pool` on `version`, with the pool's exceptions and the states of devices
-    /// as they are now. The problem is `NoRule`, exactly where the version lacks the pool's rule.
+    /// Makes the placer of `pool` on `version`, with the pool's exceptions and the states of
+    /// devices as they are now. The problem is `NoRule`, exactly where the version lacks the
+    /// pool's rule.
     pub fn on_version<'a>(
         &'a self,
         version: &'a Version,
@@ -191,8 +192,8 @@ impl Inventory {
         .ok_or(Problem::NoRule)
     }
 
-    /// Makes the placer of `pool` on the newest version. The problem is `NoVersion` where there is no
-    /// version, and `NoRule` where the newest lacks the pool's rule.
+    /// Makes the placer of `pool` on the newest version. The problem is `NoVersion` where there is
+    /// no version, and `NoRule` where the newest lacks the pool's rule.
     pub fn on_newest<'a>(&'a self, pool: &'a TenantPool) -> Result<Placer<'a>, Problem>
         ensures { result ≡ spec.on_newest self.now pool.now }
     {
