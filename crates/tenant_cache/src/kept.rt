@@ -46,7 +46,7 @@ impl<const BYTES: u64> Kept<BYTES> {
     ghost use Rattle.tenant_cache.specs.declared.kept.TheConstants.{GREATEST_SIZE};
     ghost use Rattle.tenant_state.specs.Size.{size};
 
-    /// Makes it with nothing kept. `Err(AllocError)`: an allocation failed; nothing is changed.
+    /// Makes a cache that keeps nothing yet. `Err(AllocError)`: an allocation failed; nothing is changed.
     pub fn new(alloc: Global) -> Result<Self, AllocError>
         ensures { IfOk result (λ kept. kept ≡ record { entries = [] }) }
     {
@@ -64,8 +64,8 @@ impl<const BYTES: u64> Kept<BYTES> {
         self.bytes
     }
 
-    /// Returns what is kept of a name, which is then the one used last. `Err(AllocError)`: it can't
-    /// be shared; of each name the same is kept, or nothing.
+    /// Returns what is kept of a name, which is then the one used last. `Err(AllocError)`: it
+    /// can't be shared; of each name the same is kept as before, or nothing.
     pub fn get(&mut self, name: &str) -> Result<Option<Rc<Ready>>, AllocError>
         ensures found { IfOk result (λ found. option_map (λ r. r.value) found ≡ kept_at self.old name.now) }
         ensures same { (u : List ℕ) (r : _) → kept_at self.new u ≡ Some r → kept_at self.old u ≡ Some r }

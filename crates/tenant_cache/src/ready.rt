@@ -36,7 +36,7 @@ impl Ready {
     ghost use Rattle.tenant_state.specs.State.{inventory_after, suits};
     ghost use Rattle.tenant_state.specs.declared.limits.TheConstants.{RECEIPT_LIMIT};
 
-    /// Makes it from what a tenant has, with no number. Allocates nothing.
+    /// Makes the entry of a tenant from what it has, with no number. Allocates nothing.
     pub fn new(alloc: Global, inventory: Rc<Inventory>) -> Self
         ensures { result ≡ record { inventory = inventory.value; numbers = [] } }
     {

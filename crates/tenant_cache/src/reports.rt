@@ -29,7 +29,7 @@ pub struct Reports {
 }
 
 impl Reports {
-    /// Makes it with nothing kept. Allocates nothing.
+    /// Makes a cache that keeps nothing yet. Allocates nothing.
     pub fn new() -> Self {
         Reports {
             touches: None,

@@ -5,7 +5,8 @@ ghost use Rattle.tenant_watched.specs.Looks.{Looks};
 
 /// Looks whether the files of a store are where they were when it was opened, so that the next
 /// opening finds what is written to them.
-/// | The ghost `looks`: what each look from here on finds, where contracts know it. Of real files
+///
+/// The ghost `looks`: what each look from here on finds, where contracts know it. Of real files
 /// contracts know nothing.
 /// of real files.
 pub trait Watch {
