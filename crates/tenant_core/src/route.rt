@@ -117,7 +117,7 @@ fn number(target: &Target<'_, '_>, key: &str) -> Result<u64, Refusal>
     Ok(number_from_text(part.as_bytes()).ok_or(Problem::BadRequest)?)
 }
 
-/// Returns the action, whose body is empty. The problem is `BadRequest`, exactly where it isn't.
+/// Returns `action` if `body` is empty. The problem is `BadRequest`, exactly where it isn't.
 fn if_empty<'p>(body: &[u8], action: Action<'p>) -> Result<Action<'p>, Refusal>
     ensures { Reads (λ a. a) result (spec.if_empty body.now action.entry) }
 {

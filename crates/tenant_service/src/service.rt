@@ -255,7 +255,7 @@ impl<T: TenantStore> Service<T> {
     /// call's tenant, which then has the definition's new state, and the state of every other
     /// tenant is unchanged; or the reply is 503, and the state of every tenant is unchanged. A call
     /// that latches the store is answered 503; after a crash an opening may then find it done or
-    /// not. A latched store isn't called.
+    /// not. A latched store is only asked whether it is latched.
     pub fn request(&mut self, call: CallParts<'_>) -> Reply
         ensures serves { T.is_honest self.new → T.latched self.new ≡ false → Serves (call_of call.entry) (T.has_state self.old) (T.has_state self.new) result }
         ensures rows { T.is_honest self.new → T.latched self.new ≡ false → (t : List ℕ) → is_of t (call_of call.entry) ≡ true → IsDamaged (T.has_state self.old) t → T.keeps self.old self.new }

@@ -8,7 +8,6 @@ ghost use Rattle.tenant_watched.specs.Looks.{Looks};
 ///
 /// The ghost `looks`: what each look from here on finds, where contracts know it. Of real files
 /// contracts know nothing.
-/// of real files.
 pub trait Watch {
     ghost looks: { Self → Option (List Bool) } = { λ _. None };
 

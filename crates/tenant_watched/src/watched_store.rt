@@ -50,8 +50,8 @@ impl<T: TenantStore, W: Watch> WatchedStore<T, W> {
         }
     }
 
-    /// Looks whether the files are missed before a change; if they are, the store then fails for
-    /// good.
+    /// Looks at the files before a change, and returns whether they are missed; the store then
+    /// fails for good.
     fn misses_before(&mut self) -> bool
         ensures below { self.new.0.0 ≡ self.old.0.0 }
         ensures missed { self.new.1 ≡ (self.old.1 || result) }
@@ -62,8 +62,8 @@ impl<T: TenantStore, W: Watch> WatchedStore<T, W> {
         !is_whole
     }
 
-    /// Looks whether the files are missed after a change, and returns this if the change was made
-    /// (`is_made`); if it was and they are, the store then fails for good.
+    /// Looks at the files after a change, and returns whether the change was made (`is_made`) and
+    /// they are missed; the store then fails for good.
     fn misses_after(&mut self, is_made: bool) -> bool
         ensures below { self.new.0.0 ≡ self.old.0.0 }
         ensures missed { self.new.1 ≡ (self.old.1 || result) }
