@@ -1,7 +1,7 @@
 //! Bodies of imports of small maps.
 
-/// The body of an import of a map with one device under a request number, by whose rule 0 this step
-/// chooses.
+/// The body of an import under the request number `$number`, of a map with one device and a rule 0
+/// that chooses by the step `$step`.
 macro_rules! import {
     ($number:literal, $device:literal, $step:literal) => {
         concat!(
@@ -23,7 +23,7 @@ macro_rules! import {
 /// An import of a map with the device 0.
 pub const FIRST: &str = import!("m1", 0, "choose firstn 0 type osd");
 
-/// An import of a map with the device 3, whose rule wants two items in their places.
+/// An import of a map with the device 3, whose rule chooses two items in their places.
 pub const SECOND: &str = import!("m2", 3, "choose indep 2 type osd");
 
 /// The second map under the request number of the first import.

@@ -1,5 +1,6 @@
-//! Calls with their replies: some that several tests make, and what asks them. A crate below others
-//! can't end a failed test itself, so what differs is an error, with which the test ends.
+//! Calls with their replies: some that several tests make, and the calls that compare. A crate
+//! below others can't end a failed test itself, so a difference is an error, with which the test
+//! ends.
 
 use crate::imports::FIRST;
 use crush_map::Text;
@@ -23,14 +24,14 @@ pub const IMPORT_BY_A: Row = (
     "{\"epoch\":1,\"version\":1}",
 );
 
-/// How replies differ from their rows, or why they couldn't be looked at.
+/// How replies differ from their rows, or why they weren't compared.
 #[derive(Debug, Drop)]
 pub enum Mismatch {
     /// An allocation failed.
     NoMemory,
-    /// There are so many replies, and not one for each call.
+    /// There are this many replies, and not one for each call.
     Replies(usize),
-    /// The reply to this method and path has this status; it or the body is another than its row's.
+    /// The reply to this method and path has this status; status or body isn't that of the row.
     Reply(&'static str, &'static str, u16),
 }
 
@@ -40,7 +41,7 @@ impl From<AllocError> for Mismatch {
     }
 }
 
-/// Returns whether a reply is that of its row. Allocates nothing.
+/// Compares a reply with its row. `Err(Mismatch::Reply)`: they differ. Allocates nothing.
 pub fn check_reply(reply: &Reply, row: &Row) -> Result<(), Mismatch> {
     let (method, path, _, status, body) = *row;
     if reply.status == status && reply.body.as_str() == body {
@@ -50,7 +51,8 @@ pub fn check_reply(reply: &Reply, row: &Row) -> Result<(), Mismatch> {
     }
 }
 
-/// Returns whether requests of a service, one after the other, have the replies of these rows.
+/// Serves the requests of `rows` one after the other, and compares each reply with its row.
+/// `Err(Mismatch::Reply)`: a reply differs.
 pub fn check_requests<T: TenantStore>(
     service: &mut Service<T>,
     rows: &[Row],
@@ -67,7 +69,7 @@ pub fn check_requests<T: TenantStore>(
     Ok(())
 }
 
-/// Returns the calls of some rows.
+/// Makes the calls of `rows`. `Err(AllocError)`: an allocation failed.
 pub fn calls_of(alloc: Global, rows: &[Row]) -> Result<Vec<Call>, AllocError> {
     let mut calls = Vec::new(alloc);
     for (method, path, body, _, _) in rows {
@@ -80,8 +82,8 @@ pub fn calls_of(alloc: Global, rows: &[Row]) -> Result<Vec<Call>, AllocError> {
     Ok(calls)
 }
 
-/// Returns whether a run of the calls of some rows, on a service without a tenant, has their
-/// replies.
+/// Runs the calls of `rows` on a service without a tenant, and compares the replies with the rows.
+/// `Err`: a reply differs or is missing, or an allocation failed.
 pub fn check_run(alloc: Global, rows: &[Row]) -> Result<(), Mismatch> {
     let calls = calls_of(alloc, rows)?;
     let replies = Service::in_memory(alloc)?.run(&calls)?;
@@ -94,8 +96,8 @@ pub fn check_run(alloc: Global, rows: &[Row]) -> Result<(), Mismatch> {
     Ok(())
 }
 
-/// Returns how many of the tenants a, b and c are there, where these are the first so many and the
-/// replies for the others are 404; else `None`.
+/// Counts the tenants that are there, if they are the first ones of a, b and c and the replies for
+/// the others are 404; else returns `None`.
 pub fn created(service: &mut Service<MemoryStore>) -> Option<usize> {
     let mut count = 0usize;
     for (place, path) in ["/t/a", "/t/b", "/t/c"].into_iter().enumerate() {

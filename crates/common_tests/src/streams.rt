@@ -1,4 +1,4 @@
-//! A reader and a writer that take a few bytes a call, and fail after so many calls.
+//! A reader and a writer that take a few bytes a call, and fail after a given number of calls.
 
 use std::alloc::Global;
 use std::io::{self, ErrorKind, Read, Write};
@@ -14,7 +14,7 @@ pub struct Cuts {
 }
 
 impl Cuts {
-    /// So many bytes a read at most.
+    /// Makes each read give at most `size` bytes.
     pub fn each(size: usize) -> Cuts {
         Cuts {
             first: size,
@@ -23,7 +23,7 @@ impl Cuts {
     }
 }
 
-/// Gives so many bytes a read at most, and fails after so many reads.
+/// Gives at most the bytes of `cuts` a read, and fails after `reads` reads.
 #[derive(Drop)]
 pub struct Reader<'a> {
     pub rest: &'a [u8],
@@ -45,7 +45,7 @@ impl Read for Reader<'_> {
     }
 }
 
-/// Takes at most three bytes a write, and fails after so many writes.
+/// Takes at most three bytes a write, and fails after `writes` writes.
 #[derive(Drop)]
 pub struct Writer {
     pub taken: Vec<u8>,
@@ -53,7 +53,7 @@ pub struct Writer {
 }
 
 impl Writer {
-    /// Returns a writer that has taken nothing. Allocates nothing.
+    /// Makes a writer that has taken nothing. Allocates nothing.
     pub fn new(alloc: Global, writes: usize) -> Writer {
         Writer {
             taken: Vec::new(alloc),

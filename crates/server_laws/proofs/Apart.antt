@@ -19,7 +19,7 @@ calls_in clients = flat_map (λ (c : Client). c.calls) clients
 abbrev pub replies_in : List Client → List Reply
 replies_in clients = flat_map (λ (c : Client). c.replies) clients
 
--- clients with these inputs and outputs were served, and their calls and replies meet this
+-- clients with these inputs and outputs were served, and their calls and replies meet `Meets`
 pub record Apart (Meets : Says) (inputs outputs : List (List ℕ)) : Type 0 where
   pub clients : List Client
   pub sent : map (λ (c : Client). c.input) clients ≡ inputs
@@ -83,7 +83,7 @@ together (c ∷ clients) Meets all meets =
       },
     )
 
--- as many outputs as inputs
+-- there are as many outputs as inputs
 pub as_many : (Meets : Says) (inputs outputs : List (List ℕ)) → Apart Meets inputs outputs → length outputs ≡ length inputs
 as_many Meets inputs outputs they =
     sym (ap (λ (l : List (List ℕ)). length l) they.got) ∙ (length-map they.clients (λ (c : Client). c.output)

@@ -12,8 +12,8 @@ pub record Client : Type 0 where
   pub calls : List Call
   pub replies : List Reply
 
--- it was served on a connection of its own: its input has just these calls, and its output is what
--- is due with just these replies
+-- the client was served on a connection of its own: its input has just these calls, and its output
+-- is what is due with just these replies
 abbrev pub IsServed : Client → Type 0
 IsServed client =
     (ended : Ended) × ServesInput (λ calls replies. (calls ≡ client.calls) × (replies ≡ client.replies)) client.input None (Some []) (Some client.output) ended

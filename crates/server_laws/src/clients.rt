@@ -1,4 +1,4 @@
-//! Laws of clients that are served: each contract holds of the definitions alone.
+//! Laws of clients that are served: each contract is about the definitions alone.
 
 ghost use Rattle.std.specs.Prelude.{◌≡◌, ◌+◌, ℕ, List, length, map, take, drop, flat_map, Some};
 ghost use Rattle.std.specs.List.{All};

@@ -1,4 +1,4 @@
-//! Laws of files that are given back: each contract holds of every disk.
+//! Laws of files that are given back: each contract is about every disk.
 
 ghost use Rattle.std.specs.Prelude.{◌≡◌, Ok};
 ghost use Rattle.sqlite_disk.specs.declared.Files.{Files};
@@ -13,8 +13,8 @@ ghost use Rattle.tenant_files.specs.Closed.{GivesBack};
 
 use sqlite_disk::Disk;
 
-/// What a connection gave back copied is found again by the next opening of the two files, at once
-/// and after a crash.
+/// The next opening of the two files finds what a connection copied before it gave them back, at
+/// once and after a crash.
 pub fn what_was_copied_is_found_again<D: Disk>()
     ensures now { (last next : Held (FileStore D D.Disk)) (files : Files D) → AreClean D.Disk files.log files.db → GivesBack last (Ok tt) files
         → FindsIn (image_of D.Disk files) (file_state next) → (file_state next).committed.trees ≡ (file_state last).committed.trees }

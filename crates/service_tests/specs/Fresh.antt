@@ -1,4 +1,4 @@
--- The states of a store of the tests are those of tenants that were just made.
+-- The states of the store in `fixed.rt` are those of tenants that were just created.
 use Rattle.std.proofs.Common.{◌≡◌, ℕ, List, Bool, true, false, if◌then◌else◌, Some, None, subst}
 use Rattle.service_tests.specs.Fixed.{begins_with, state_of}
 use Rattle.tenant_state.proofs.Leaving.{fresh_is_state}

@@ -9,8 +9,8 @@ use std::alloc::Global;
 use std::process::Abort;
 use tenant_service::Service;
 
-/// Returns how many bytes of the replies are written where the writer fails after so many writes,
-/// and whether the script is done; else it met the fault.
+/// Returns the number of bytes of the replies that are written where the writer fails after
+/// `writes` writes, and whether the script is done; if it isn't, it met the fault.
 fn written_after(rt: &impl Abort, alloc: Global, writes: usize) -> (usize, bool) {
     let (end, written) = play(rt, alloc, MANY, writes);
     assert!(rt;
@@ -49,11 +49,12 @@ fn a_write_fault_leaves_a_front_of_the_replies(rt: HostRuntime) {
 /// Three lines that make a tenant each.
 const CREATIONS: &[u8] = b"PUT /t/a\nPUT /t/b\nPUT /t/c\n";
 
-/// How many bytes the reply to one of them has.
+/// The bytes of the reply to one of the creations.
 const REPLY: usize = 29;
 
-/// Returns how these lines end with a reader and a writer that fail after so many calls, how many
-/// tenants are then there, and how many bytes were written.
+/// Plays `CREATIONS` with a reader and a writer that fail after `reads` reads and `writes` writes.
+/// Returns how the script ends, the number of tenants that are then there, and that of the bytes
+/// that were written.
 fn create(
     rt: &impl Abort,
     alloc: Global,
@@ -75,7 +76,7 @@ fn create(
 fn no_line_is_served_after_a_read_fault(rt: HostRuntime) {
     let whole = (ScriptEnd::Done, Some(3), 3 * REPLY);
     let nothing = (ScriptEnd::ReadFault, Some(0), 0);
-    // a read gives one byte; the last one says that nothing more comes
+    // a read gives one byte; the last one finds the end
     for reads in 0..CREATIONS.len().saturating_add(2) {
         let found = create(&rt, rt.alloc(), reads, MANY);
         let want = if reads <= CREATIONS.len() {

@@ -1,4 +1,5 @@
-//! A store in which the state of each name is fixed, and which fails for good after so many loads.
+//! A store in which the state of each name is fixed, and which fails for good after a given number
+//! of loads.
 
 ghost use Rattle.std.specs.Prelude.{◌≡◌, false, IfOk};
 ghost use Rattle.tenant_state.specs.State.{fresh, inventory_of};
@@ -26,8 +27,8 @@ fn fresh_tenant(alloc: Global) -> Result<Rc<Inventory>, AllocError>
 }
 
 /// A full store. The data of each name that begins with `d` is damaged, each that begins with `b`
-/// is a tenant that was just made, and the others are absent. It fails for good at its first `load`
-/// after some that it serves.
+/// is a tenant that was just created, and the others are absent. It serves `left` calls of `load`,
+/// and fails for good at the next one.
 #[derive(Drop)]
 pub(crate) struct FixedStore {
     alloc: Global,
@@ -49,7 +50,7 @@ impl TenantStore for FixedStore {
 
     ghost may_leave = { λ store name found. ⊥ };
 
-    // it has no data of its own
+    // the store has no data that changes
     ghost keeps = { λ old new. Unit {0} };
 
     fn is_latched(&self) -> bool {
@@ -104,7 +105,7 @@ impl TenantStore for FixedStore {
     ghost settled = { λ store t found honest works there. absurd there };
 }
 
-/// Returns a service over a store that serves so many loads.
+/// Makes a service over a store that serves `left` loads. `Err(AllocError)`: an allocation failed.
 pub(crate) fn over_fixed(alloc: Global, left: u32) -> Result<Service<FixedStore>, AllocError>
     ensures { IfOk result (λ service. service.has_failed ≡ false) }
 {

@@ -7,7 +7,7 @@ use crush_app::{ScriptEnd, script_run};
 use std::test::Fail;
 
 /// The fourth call that reaches the store is its last one. From then on every call is answered 503,
-/// also one that no tenant is asked for.
+/// also a call of no tenant.
 const ROWS: &[Row] = &[
     (
         "GET",

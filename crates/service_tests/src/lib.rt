@@ -1,6 +1,6 @@
 //! Tests of `tenant_core`, `tenant_service` and `crush_app`: runs and scripts, reads and writes
 //! that fail, a store whose data is damaged in part, one that fails for good, and decisions that no
-//! request shows. They stand apart, so that these crates are proved once.
+//! request shows. They are a crate of their own, so that these crates are proved once.
 #![tactic(auto)]
 
 #[cfg(test)]

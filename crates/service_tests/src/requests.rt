@@ -5,8 +5,8 @@ use std::test::Fail;
 use tenant_core::{Decision, Effect, Routes, StoreFault, decide, read_request, store_fault};
 use tenant_messages::{CallParts, Refusal, Reply};
 
-/// Returns the decision on a request without a body to the path of tenant a, which is absent. It is
-/// a function of its own since what holds both a request and a decision takes long to prove.
+/// Decides on a request without a body to the path of tenant a, which is absent. It is a function
+/// of its own since a function that holds both a request and a decision takes long to prove.
 fn decided(alloc: Global, method: &str) -> Result<Option<Decision>, AllocError> {
     let routes = Routes::build(alloc)?;
     let call = CallParts {
@@ -21,7 +21,7 @@ fn decided(alloc: Global, method: &str) -> Result<Option<Decision>, AllocError> 
     }
 }
 
-/// Returns whether a decision changes what is stored, and its reply.
+/// Splits a decision: returns whether it changes what is stored, and its reply.
 fn taken_apart(decision: Decision) -> (bool, Reply) {
     let Decision { effect, reply } = decision;
     (!matches!(effect, Effect::Keep), reply)

@@ -1,5 +1,5 @@
-//! Assertions that show both values. The text of an `assert_eq!` is proved where it stands; a call
-//! of these functions takes a fraction of that time.
+//! Assertions that show both values. The text of each `assert_eq!` is proved where it is written; a
+//! call of these functions takes a fraction of that time.
 
 use std::fmt::Debug;
 use std::process::Abort;
@@ -9,7 +9,7 @@ pub(crate) fn assert_same<T: PartialEq + Debug>(rt: &impl Abort, value: &T, expe
     assert_eq!(rt; value, expected);
 }
 
-/// The same, of a case that these numbers name.
+/// Asserts the same, of a case that the numbers `case` name.
 pub(crate) fn assert_same_at<T: PartialEq + Debug>(
     rt: &impl Abort,
     case: [u64; 2],

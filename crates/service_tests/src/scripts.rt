@@ -17,8 +17,8 @@ const SCRIPT: &str =
 pub(crate) const REPLIES: &str =
     "201 {\"epoch\":0,\"tenant\":\"a\"}\n200 {\"item\":9}\n400 {\"error\":\"bad_request\"}\n200 {\"devices\":0,\"epoch\":0,\"pools\":0,\"tenant\":\"a\",\"versions\":0}\n409 {\"error\":\"exists\"}\n200 {\"dropped\":\"a\"}\n404 {\"error\":\"no_tenant\"}\n";
 
-/// Returns how the script ends with a reader and a writer that fail after so many calls, and what
-/// was written.
+/// Plays the script with a reader and a writer that fail after `reads` reads and `writes` writes.
+/// Returns how it ends, and the bytes that were written.
 pub(crate) fn play(
     rt: &impl Abort,
     alloc: Global,

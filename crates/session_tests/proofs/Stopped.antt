@@ -1,11 +1,11 @@
--- What a write leaves on a disk that it reached, or didn't.
+-- The states that a write leaves on a disk that it reached, or didn't.
 use Rattle.std.proofs.Common.{◌≡◌, ◌≢◌, ◌⊎◌, inl, inr, ◌↔◌, ◌∙◌, ℕ, List, Bool, true, false, Option, Result, Ok, Err, OnOk, OnErr, bytes_eq, refl, ap, arith, sym}
 use Rattle.std.proofs.lemmas.Slice.Eq.{bytes_eq-Decides}
 use Rattle.tenant_core.specs.States.{Damaged, Found, HasState, LeavesAsItWasOr, Shows}
 use Rattle.store_faults.specs.declared.StoreFault.{StoreFault}
 use Rattle.tenant_state.specs.State.{TenantState}
 
--- the disk holds this of each name
+-- the disk holds the state s of the name t
 abbrev pub Holds : (List ℕ → Option TenantState) → List ℕ → Option TenantState → Type 0
 Holds disk t s = disk t ≡ s
 
@@ -17,7 +17,7 @@ shows_now : (now : List ℕ → Option TenantState) (t : List ℕ) (s : Option T
 shows_now now t s Damaged has bad = absurd (bad s has)
 shows_now now t s (HasState u) has is = ap HasState (sym is ∙ has)
 
--- it now holds what it held, or the name as the write leaves it
+-- the disk now holds what it held, or the name as the write leaves it
 pub left_by : (result : Result Unit StoreFault) (was now : List ℕ → Option TenantState) (name : List ℕ) (s : Option TenantState) → OnOk result (now name ≡ s)
     → ((t : List ℕ) (u : Option TenantState) → t ≢ name → (was t ≡ u ↔ now t ≡ u)) → OnErr result ((t : List ℕ) → now t ≡ was t)
     → LeavesAsItWasOr name s (Holds was) (Shows (Holds now))

@@ -30,7 +30,7 @@ const SUMMARY: Row = (
     "{\"devices\":0,\"epoch\":1,\"pools\":0,\"tenant\":\"a\",\"versions\":1}",
 );
 
-/// Each in the place of the reply to a creation.
+/// The reply to each creation where the tenant is there.
 const EXISTS: Row = ("PUT", "/t/a", "", 409, "{\"error\":\"exists\"}");
 
 const AGAIN: &[Row] = &[CREATION_OF_A, IMPORT_BY_A, SUMMARY];
@@ -39,7 +39,7 @@ const AGAIN_THERE: &[Row] = &[EXISTS, IMPORT_BY_A, SUMMARY];
 
 const FAILED: Row = ("", "", "", 503, "{\"error\":\"store_failed\"}");
 
-/// Returns one session over a disk that fails for good after so many calls: what came of it, and
+/// Serves one session over a disk that fails for good after `left` calls, and returns its end, and
 /// the disk as a stop then leaves it.
 fn one_session(
     alloc: Global,
@@ -63,8 +63,8 @@ fn one_session(
     Ok((end, disk))
 }
 
-/// Returns a first session over a new disk, that is stopped at this call of the store, and one
-/// without a stop over what it left: they are a history.
+/// Serves a first session over a new disk, which is stopped at the call `stop` of the store, and
+/// one without a stop over the disk that it left: they are a history.
 fn two_sessions(
     alloc: Global,
     stop: u32,
@@ -96,7 +96,7 @@ fn assert_silent_from(
     Ok(())
 }
 
-/// Returns the place of the call that is in doubt after a stop at this call of the store.
+/// Returns the place of the call that is in doubt after a stop at the call `stop` of the store.
 fn doubt_at(stop: u32) -> usize {
     if stop < 2 { 0 } else { 1 }
 }
@@ -107,8 +107,8 @@ fn assert_whole(rt: &impl Abort, end: &SessionEnd, rows: &[Row]) -> Result<(), M
     assert_silent_from(rt, end, rows.len(), rows)
 }
 
-/// Asserts what is promised of a stop at this call of the store: the first session ends in a doubt
-/// there; what it acknowledged is kept; and what is sent again acts once.
+/// Asserts what is promised of a stop at the call `stop` of the store: the first session ends in a
+/// doubt there; the calls that it acknowledged are kept; and those that are sent again act once.
 fn assert_kept(rt: &impl Abort, alloc: Global, stop: u32, is_late: bool) -> Result<(), Mismatch> {
     let doubt = doubt_at(stop);
     let is_there = doubt == 1 || stop == 1 && is_late;
@@ -145,7 +145,7 @@ fn a_session_without_a_stop_has_no_doubt(rt: HostRuntime) -> Result<(), Fail> {
 const DROP: Row = ("DELETE", "/t/a", "", 200, "{\"dropped\":\"a\"}");
 
 /// Asserts that after a drop that met a stop, before or after it was made, the requests of the
-/// first session have these replies.
+/// first session have the replies of `rows`.
 fn assert_drop(
     rt: &impl Abort,
     alloc: Global,

@@ -1,4 +1,4 @@
-//! A store whose calls fail for good from one on, and which a later service opens again.
+//! A store whose calls fail for good from one of them on, and which a later service opens again.
 
 ghost use Rattle.std.specs.Prelude.{◌≡◌, Err};
 ghost use Rattle.tenant_core.specs.StoreReply.{is_failed};
@@ -22,7 +22,7 @@ pub(crate) struct Stopping {
 impl Stopping {
     ghost use Rattle.std.specs.Prelude.{◌≡◌, false};
 
-    /// Returns whether this call is the one that stops. The store is then latched.
+    /// Returns whether the call is the one that stops. The store is then latched.
     fn stops(&mut self) -> bool
         requires { self.old.has_failed ≡ false }
         ensures latch { self.new.has_failed ≡ result }
@@ -48,7 +48,7 @@ impl TenantStore for Stopping {
 
     ghost latched = { λ store. store.has_failed };
 
-    // what the disk holds
+    // a crash leaves what the disk holds
     ghost may_leave = { λ store name found. Shows (⟦<MemoryStore as TenantStore>⟧.has_state store.disk) name found };
 
     ghost keeps = { λ old new. ⟦<MemoryStore as TenantStore>⟧.keeps old.disk new.disk };

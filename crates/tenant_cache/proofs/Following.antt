@@ -1,4 +1,4 @@
--- What is kept stays true.
+-- What is kept is true of the states after a call.
 use native.Mathlib.Omega.{arith}
 use Rattle.std.proofs.Common.{◌≡◌, ◌+◌, ◌≢◌, ◌↔◌, ◌∙◌, inl, inr, ℕ, List, Option, Some, option_map, length, ap, subst, sym}
 use Rattle.tenant_state.proofs.Counting.{grown}

@@ -36,7 +36,7 @@ module _ {V : Type 0} where
   stands : (es : List (String Global × V)) (u : List ℕ) (k : String Global) (v : V) → IsDistinct string_eq (keys_of es) → string_bytes k ≡ u → Contains es (k, v) → at es u ≡ Some v
   stands es u k v distinct named here = subst (λ w. at es w ≡ Some v) named (lookup-from_Contains string_eq_equiv k v es distinct here)
 
-  -- entries that are all among others find no more
+  -- entries that are all in another list find no more than it does
   pub among : (old new : List (String Global × V)) → IsDistinct string_eq (keys_of old) → ((e : String Global × V) → Contains new e → Contains old e) → (u : List ℕ) (v : V) → at new u ≡ Some v → at old u ≡ Some v
   among old new distinct within u v found =
       let it = Contains-lookup (λ k. bytes_eq u (string_bytes k)) new v found in
@@ -98,7 +98,7 @@ module _ {V : Type 0} where
             ],
           )
 
-  -- what was put is found, however few of the first entries are left
+  -- the entry that was put is found, even if only some of the first entries remain
   first_at : (c : LruCache (String Global) V) (k : String Global) (v : V) (n : ℕ) → 0 < n → at (take n (put_entries string_eq c k v)) (string_bytes k) ≡ Some v
   first_at c k v zero some = absurd (omega arith)
   first_at c k v (suc n) some = go (lookup_entry (string_eq k) c.entries) refl
@@ -161,13 +161,13 @@ module _ {V H : Type 0} (f : V → H) where
         | inr others ↦ inr (others.0, shows c.entries u it.0 h others.1 it.2)
       ]
 
-  -- what was put is seen, however few of the first entries are left
+  -- contracts see the entry that was put, even if only some of the first entries remain
   pub shown_first : (c new : LruCache (String Global) V) (k : String Global) (v : V) (es : List (String Global × V)) → new ≡ lru_cache (put_entries string_eq c k v) c.cap
       → es ≡ take (length es) new.entries → 0 < length es → lookup (bytes_eq (string_bytes k)) (shown es) ≡ Some (f v)
   shown_first c new k v es now first some =
       shows es (string_bytes k) v (f v) (subst (λ ds. at ds (string_bytes k) ≡ Some v) (sym (first ∙ ap (λ (n : LruCache (String Global) V). take (length es) n.entries) now)) (first_at c k v (length es) some)) refl
 
-  -- an entry that is seen is there
+  -- an entry that contracts see is there
   pub is_there : (es : List (String Global × V)) (u : List ℕ) → IsSome (lookup (bytes_eq u) (shown es)) → IsSome (at es u)
   is_there es u seen = go (at es u) (subst IsSome (at_shown es u) seen)
     where

@@ -27,7 +27,7 @@ use Rattle.tenant_core.specs.declared.queries.Query.TheVariants.{Exceptions, Gro
 use Rattle.tenant_cache.specs.Kept.{Kept, Ready, Updates, kept_at}
 use Rattle.tenant_cache.specs.Ready.{AreKnown, AreNumbersOf, AreTrue, HasNumber, IsWithNumber, Renumbers}
 
--- ---- the pool that is asked for
+-- ---- the pool of a query
 
 found-passes : {A : Type 0} (test : A → Bool) (xs : List A) (x : A) → find test xs ≡ Some x → test x ≡ true
 found-passes test [] x h = cc
@@ -40,7 +40,7 @@ found-passes test (y ∷ ys) x h = at (test y) refl (found-passes test ys x) h
 own : (id : ℕ) (i : Inventory) (p : TenantPool) → pool id i ≡ Some p → pool p.parts.id i ≡ Some p
 own id i p h = subst (λ n. pool n i ≡ Some p) (sym (eqb-true p.parts.id id (found-passes (λ q. q.parts.id == id) i.pools p h))) h
 
--- it is the one with its id
+-- it is the pool with its id
 pub asked_pool : (query : Query) (i : Inventory) (p : TenantPool) (it : Asked) → Asks query i p it → pool p.parts.id i ≡ Some p
 asked_pool (Group id g) i p it asks = own id i p asks.0
 asked_pool (Object id name) i p it asks = own id i p asks.0
@@ -82,14 +82,14 @@ pub is_touched : (query : Query) (i : Inventory) (q : TenantPool) (m : Map) (p :
 is_touched query i q m p number d touched there on id of asks =
     (q, number, asks, refl, ap (impact.on_map number) (ap (if_there i q) there ∙ on) ∙ (ap (impact.on_device p) id ∙ ap (λ o. ok_or o NoRule) (sym of)))
 
--- what was found is what is asked, of an inventory that is the same
+-- what was found is what the query asks, also of an equal inventory
 pub found_for : (result : Option Cached) (i j : Inventory) (p : TenantPool) (a b : Asked) → i ≡ j → a ≡ b → IfSome result (λ r. (query : Query) → Asks query i p a → IsCachedFor query i r)
     → IfSome result (λ r. (query : Query) → Asks query j p b → IsCachedFor query j r)
 found_for result i j p a b same is h =
     subst (λ k. IfSome result (λ r. (query : Query) → Asks query k p b → IsCachedFor query k r)) same
     (subst (λ c. IfSome result (λ r. (query : Query) → Asks query i p c → IsCachedFor query i r)) is h)
 
--- ---- numbers stay known
+-- ---- numbers of the cache
 
 pub keeps_itself : (cache : Numbered) → KeepsNumbers cache cache
 keeps_itself cache n c h = h
@@ -97,7 +97,7 @@ keeps_itself cache n c h = h
 pub known_later : (old new : Numbered) (kept : Kept) → KeepsNumbers old new → AreKnown old kept → AreKnown new kept
 known_later old new kept keeps known name r at id n q here found p is = keeps n (content_of p) (known name r at id n q here found p is)
 
--- what has no number
+-- an entry without numbers
 pub no_numbers : (cache : Numbered) (r : Ready) → r.numbers ≡ [] → AreNumbersOf cache r
 no_numbers cache r none id n q here found = absurd (Contains-nil (id, n) (subst (λ es. Contains es (id, n)) none here))
 
@@ -113,7 +113,7 @@ with_number cache r next p n known there given is id m q here found =
       | inr old ↦ known id m q old was
     ])
 
--- ---- what is kept stays true and known
+-- ---- what is kept after a call
 
 pub known_among : (cache : Numbered) (old new : Kept) → ((u : List ℕ) (r : Ready) → kept_at new u ≡ Some r → kept_at old u ≡ Some r) → AreKnown cache old → AreKnown cache new
 known_among cache old new within known name r at = known name r (within name r at)
@@ -145,7 +145,7 @@ true_without were are old new name true_before updates others u r at = elim (upd
 pub true_same : (were are : States) (kept : Kept) → Same were are → AreTrue were kept → AreTrue are kept
 true_same were are kept same true_before u r at = let was = true_before u r at in (was.0, (same u was.0).0 was.1, was.2)
 
--- after this is kept of a name, with no number
+-- after an entry with no number is kept for a name
 some_is : (r s : Ready) → Some r ≡ Some s → r ≡ s
 some_is r s is = cc
 

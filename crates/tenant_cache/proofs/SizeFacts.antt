@@ -50,7 +50,7 @@ module _ {K V : Type 0} (f : V → ℕ) where
   pub total-cons : (e : K × V) (es : List (K × V)) → total (e ∷ es) ≡ f e.1 + total es
   total-cons e es = sum_by-cons f e.1 (values_of es)
 
-  -- what a removal by key takes from the sum
+  -- the size by which a removal by key lowers the sum
   pub total-removed : (test : K → Bool) (es : List (K × V)) → total (remove_entry test es) + unwrap_or (option_map f (lookup test es)) 0 ≡ total es
   total-removed = sum_by-remove_entry f
 
@@ -61,7 +61,7 @@ module _ {K V : Type 0} (f : V → ℕ) where
       same None = refl
       same (Some e) = refl
 
-  -- an entry that goes to the front keeps the sum
+  -- the sum is the same after an entry goes to the front
   pub total-promoted : (test : K → Bool) (es : List (K × V)) → total (promoted test es) ≡ total es
   total-promoted test es = go (lookup_entry test es) refl
     where
@@ -81,11 +81,11 @@ module _ {K V : Type 0} (f : V → ℕ) where
   total-taken (suc n) [] few = refl
   total-taken (suc n) (e ∷ es) few = omega (arith, total-taken n es (omega arith), total-cons e es, total-cons e (take n es))
 
-  -- what `pop_lru` takes from the sum
+  -- the size by which `pop_lru` lowers the sum
   pub total-popped : (es : List (K × V)) → total (take (length es - 1) es) + size_of (last_entry es) ≡ total es
   total-popped es = total-taken (length es - 1) es (omega arith)
 
-  -- what `push` puts in, and what it takes out
+  -- `push` adds the size of the new entry to the sum, and takes off that of the entry it removes
   pub total-pushed : (eq : K → K → Bool) (c : LruCache K V) (k : K) (v : V) → length c.entries ≤ c.cap → 0 < c.cap
       → total (put_entries eq c k v) + size_of (displaced eq c k v) ≡ total c.entries + f v
   total-pushed eq c k v fits some = go (lookup_entry (eq k) c.entries) refl
@@ -102,7 +102,7 @@ module _ {K V : Type 0} (f : V → ℕ) where
           let read : unwrap_or (option_map f (lookup (eq k) c.entries)) 0 ≡ f e.1 = ap (λ o. unwrap_or (option_map f o) 0) (sym found) in
           omega (arith, total-cons (e.0, v) (remove_entry (eq k) c.entries), total-removed (eq k) c.entries, out, read)
 
-  -- nothing is left where no entry is the last
+  -- the sum is 0 where there is no last entry
   pub total-none : (es : List (K × V)) → last_entry es ≡ None → total es ≡ 0
   total-none [] none = refl
   total-none (e ∷ es) none = absurd (true≢false (ap is_some (sym (slice_get-get_or (e ∷ es) (length (e ∷ es) - 1) e (omega arith)) ∙ none)))

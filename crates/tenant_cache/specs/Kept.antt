@@ -5,12 +5,12 @@ use Rattle.std.specs.Map.{lookup, values_of}
 use Rattle.tenant_state.specs.Size.{size}
 use Rattle.tenant_state.specs.State.{Inventory}
 
--- what a tenant has, and pairs of the id of a pool and a number, that of the pool's content
+-- what a tenant has, and pairs of the id of a pool and the number of the pool's content
 pub record Ready : Type 0 where
   pub inventory : Inventory
   pub numbers : List (ℕ × ℕ)
 
--- what tenants have by name, that of the tenant used last first
+-- what tenants have by name; the tenant used last comes first
 pub record Kept : Type 0 where
   pub entries : List (List ℕ × Ready)
 
@@ -18,11 +18,11 @@ pub record Kept : Type 0 where
 abbrev pub kept_at : Kept → List ℕ → Option Ready
 kept_at kept name = lookup (bytes_eq name) kept.entries
 
--- how many bytes they take
+-- the bytes that the kept entries take
 abbrev pub bytes_kept : Kept → ℕ
 bytes_kept kept = sum_by (λ r. size r.inventory) (values_of kept.entries)
 
--- this is kept of the name or nothing, and of no other name another than before
+-- of the name `now` is kept, or nothing; of each other name the same as before, or nothing
 abbrev pub Updates : List ℕ → Option Ready → Kept → Kept → Type 0
 Updates name now old new =
     (u : List ℕ) (r : Ready) → kept_at new u ≡ Some r

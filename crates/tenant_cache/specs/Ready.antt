@@ -11,7 +11,7 @@ use Rattle.tenant_core.specs.States.{HasInventory, States}
 abbrev pub AreTrue : States → Kept → Type 0
 AreTrue states kept = (name : List ℕ) (r : Ready) → kept_at kept name ≡ Some r → HasInventory states name (Some r.inventory)
 
--- a cache gave this number to the content of this pool on the newest version, if there is one
+-- a cache gave the number n to the content of the pool q on the newest version, if there is one
 abbrev pub HasNumber : Numbered → Inventory → TenantPool → ℕ → Type 0
 HasNumber cache inventory q n = (p : PoolOnMap) → on_newest inventory q ≡ Ok p → WasNumberOf cache n (content_of p)
 
@@ -23,12 +23,12 @@ AreNumbersOf cache r =
 abbrev pub AreKnown : Numbered → Kept → Type 0
 AreKnown cache kept = (name : List ℕ) (r : Ready) → kept_at kept name ≡ Some r → AreNumbersOf cache r
 
--- the same of a tenant, with a number for a pool; numbers of before may be left out
+-- the same inventory, with a number for a pool; earlier numbers may be left out
 pub record IsWithNumber (old : Ready) (id n : ℕ) (new : Ready) : Type 0 where
   pub inventory : new.inventory ≡ old.inventory
   pub numbers : (e : ℕ × ℕ) → Contains new.numbers e → (e ≡ (id, n)) ⊎ Contains old.numbers e
 
--- what is kept is as before, but that the name may have other numbers of this cache
+-- what is kept is unchanged, but the name may have other numbers of this cache
 abbrev pub Renumbers : List ℕ → Ready → Numbered → Kept → Kept → Type 0
 Renumbers name r cache old new =
     (u : List ℕ) (s : Ready) → kept_at new u ≡ Some s

@@ -1,4 +1,4 @@
-//! What the tenants have that were used last, by name, as much as a number of bytes holds.
+//! What the tenants have that were used last, by name, up to a number of bytes.
 
 ghost use Rattle.std.specs.Prelude.{◌≡◌, ◌≤◌, ◌<◌, ◌-◌, ◌^◌, ℕ, length, min, take};
 ghost use Rattle.tenant_cache.specs.Bytes.{bytes_in, bytes_of};
@@ -9,14 +9,14 @@ use std::alloc::{AllocError, Global};
 use std::marker::Model;
 use std::rc::Rc;
 
-/// The greatest size of one entry, and of several together. No memory is larger.
+/// The greatest size in bytes of one entry, and of several together. No memory is larger.
 const GREATEST_SIZE: u64 = u64::MAX / 2;
 
 type ByName = LruCache<String, Rc<Ready>>;
 
-/// What tenants have by name: one entry, or several whose sizes together are at most `BYTES`, as
-/// its type has it. What was used least recently goes first. Contracts say what a name may still
-/// have, and only of a name that is put again that it has it.
+/// What tenants have by name: one entry, or several whose sizes together are at most `BYTES`, a
+/// parameter of the type. The entry that was used least recently is forgotten first. Contracts say
+/// what a name may still have; only of a name that is put again do they say that it has it.
 #[derive(Drop)]
 pub struct Kept<const BYTES: u64> {
     by_name: ByName,
@@ -46,7 +46,7 @@ impl<const BYTES: u64> Kept<BYTES> {
     ghost use Rattle.tenant_cache.specs.declared.kept.TheConstants.{GREATEST_SIZE};
     ghost use Rattle.tenant_state.specs.Size.{size};
 
-    /// Nothing is kept yet. `Err(AllocError)`: an allocation failed; nothing is changed.
+    /// Makes a cache that keeps nothing yet. `Err(AllocError)`: an allocation failed; nothing is changed.
     pub fn new(alloc: Global) -> Result<Self, AllocError>
         ensures { IfOk result (λ kept. kept ≡ record { entries = [] }) }
     {
@@ -56,7 +56,7 @@ impl<const BYTES: u64> Kept<BYTES> {
         })
     }
 
-    /// Returns how many bytes all that is kept takes together.
+    /// Returns the bytes that all kept entries take together.
     pub fn bytes(&self) -> u64
         ensures value { result ≡ bytes_kept self.now }
         ensures within { 1 < length self.now.entries → result ≤ BYTES }
@@ -64,12 +64,13 @@ impl<const BYTES: u64> Kept<BYTES> {
         self.bytes
     }
 
-    /// Returns what is kept of a name, which is then the one used last.
+    /// Returns what is kept of a name, which is then the one used last. `Err(AllocError)`: it
+    /// can't be shared; of each name the same is kept as before, or nothing.
     pub fn get(&mut self, name: &str) -> Result<Option<Rc<Ready>>, AllocError>
         ensures found { IfOk result (λ found. option_map (λ r. r.value) found ≡ kept_at self.old name.now) }
         ensures same { (u : List ℕ) (r : _) → kept_at self.new u ≡ Some r → kept_at self.old u ≡ Some r }
     {
-        // for the prover, which learns from a call what holds of its value
+        // a call gives the prover the invariant of its value
         let _count = self.by_name.len();
         self.by_name.promote(name);
         let Some(ready) = self.by_name.peek(name) else {
@@ -89,14 +90,14 @@ impl<const BYTES: u64> Kept<BYTES> {
     pub fn forget(&mut self, name: &str)
         ensures { Updates name.now None self.old self.new }
     {
-        // for the prover, which learns from a call what holds of its value
+        // a call gives the prover the invariant of its value
         let _count = self.by_name.len();
         self.bytes -= size_of(&self.by_name.pop_entry(name));
     }
 
-    /// Keeps what a name has, in place of what was kept of it, and forgets others where they have
-    /// no room beside it. One for which there is no memory isn't kept, nor is one whose size is
-    /// above 2^63 - 1; a name that is there needs no memory.
+    /// Keeps what a name has, in place of what was kept of it, and forgets other names where they
+    /// have no room beside it. It isn't kept where an allocation fails, or where its size is above
+    /// 2^63 - 1 bytes; for a name that is kept already nothing is allocated.
     pub fn put(&mut self, name: String, ready: Rc<Ready>)
         ensures only { Updates (string_bytes name) (Some ready.value) self.old self.new }
         ensures stays { IsSome (kept_at self.old (string_bytes name)) → size ready.value.inventory ≤ GREATEST_SIZE → kept_at self.new (string_bytes name) ≡ Some ready.value }
@@ -107,7 +108,7 @@ impl<const BYTES: u64> Kept<BYTES> {
             return;
         }
         let bytes = self.bytes + size;
-        // for the prover, which learns from a call what holds of its value
+        // a call gives the prover the invariant of its value
         let _count = self.by_name.len();
         match self.by_name.push(name, ready) {
             Ok(displaced) => {
@@ -122,7 +123,7 @@ impl<const BYTES: u64> Kept<BYTES> {
     }
 }
 
-/// Returns how many bytes is taken by an entry that may be there.
+/// Returns the bytes that an entry takes, or 0 if there is none.
 fn size_of(entry: &Option<(String, Rc<Ready>)>) -> u64
     ensures { result ≡ min (bytes_of entry.now) (2 ^ 64 - 1) }
 {
@@ -132,8 +133,8 @@ fn size_of(entry: &Option<(String, Rc<Ready>)>) -> u64
     }
 }
 
-/// Forgets what was used least recently, and no more than it must, until the rest takes at most
-/// `bound` bytes or is one entry. Returns how many the rest takes.
+/// Forgets the entries that were used least recently, and no more than it must, until the rest
+/// takes at most `bound` bytes or is one entry. Returns the bytes that the rest takes.
 fn evict(by_name: &mut ByName, bytes: u64, bound: u64) -> u64
     requires { bytes ≡ bytes_in by_name.old.entries }
     ensures value { result ≡ bytes_in by_name.new.entries }

@@ -14,13 +14,13 @@ use report_cache::{Touches, UpLists, moves_from};
 use std::alloc::{AllocError, Global};
 use std::marker::Model;
 
-/// What is found of all groups of a pool at once.
+/// What is found of all groups of a pool at once: which devices touch them, or their up lists.
 pub trait OfGroups: Drop {
-    /// It is that of the groups of a pool on a map.
+    /// The value is that of the groups of a pool on a map.
     ghost are_on: { PoolOnMap → Self → Type 0 };
 
-    /// Returns that of the groups of the placer's pool; `None` where it is too much to be kept.
-    /// `Err(AllocError)`: an allocation failed.
+    /// Finds the value for the groups of the placer's pool; returns `None` where it is too large to
+    /// be kept. `Err(AllocError)`: an allocation failed.
     fn build(alloc: Global, placer: &Placer<'_>) -> Result<Option<Self>, AllocError>
         ensures { IfOk result (λ built. IfSome built (are_on placer.now)) };
 }
@@ -45,8 +45,8 @@ impl OfGroups for UpLists {
     }
 }
 
-/// What was found for a content, of which the tenant with a name asked; nothing where it is too
-/// much to be kept. Contracts see content and find.
+/// What was found for a content, with the name of the tenant that asked; nothing where it is too
+/// large to be kept. Contracts see the content and what was found.
 #[derive(Drop)]
 pub struct Last<G: OfGroups> {
     tenant: String,
@@ -69,7 +69,7 @@ impl<G: OfGroups> Last<G> {
     ghost use Rattle.std.specs.Prelude.{◌≡◌, true, IfOk};
     ghost use Rattle.crush_content.specs.Contents.{content_of};
 
-    /// Returns what is found of the groups of a placer's pool, whose content is given.
+    /// Finds the value for the groups of the placer's pool, whose content is `content`.
     /// `Err(AllocError)`: an allocation failed.
     fn build(
         alloc: Global,
@@ -80,7 +80,7 @@ impl<G: OfGroups> Last<G> {
         requires { content ≡ content_of placer.now }
         ensures { IfOk result (λ last. last.content ≡ content) }
     {
-        // what is found on this map is so on each map with its text, since that is this map alone
+        // what is found on this map holds on each map with its text, since that is this map alone
         canonical_texts_are_read();
         let _tunables = placer.map().tunables();
         let tenant = String::from_str(alloc, name)?;
@@ -98,7 +98,7 @@ impl<G: OfGroups> Last<G> {
         self.tenant.as_str()
     }
 
-    /// Returns whether it is of a content.
+    /// Returns whether the value was found for `content`.
     fn is_of(&self, content: &Content) -> bool
         ensures { result ≡ true → self.now.content ≡ content.now }
     {
@@ -113,8 +113,8 @@ impl Last<Touches> {
     ghost use Rattle.crush_pool.specs.Placers.{PoolOnMap};
     ghost use Rattle.crush_report.specs.Reports.{impact};
 
-    /// Returns the groups that a device can touch. `None` where none are kept, or memory is
-    /// wanting.
+    /// Finds the groups that a device can touch. `None` where nothing is kept, or an allocation
+    /// failed.
     pub(crate) fn groups_of(&self, alloc: Global, device: u32) -> Option<Listed<u32>>
         ensures { IfSome result (λ groups. (p : PoolOnMap) → IsMap p.map → self.now.content ≡ content_of p → Some groups ≡ impact p.map p.states p.pool p.pairs device) }
     {
@@ -138,8 +138,8 @@ impl Last<UpLists> {
     ghost use Rattle.crush_report.specs.Moves.{gained_in};
     ghost use Rattle.crush_report.specs.Reports.{moves};
 
-    /// Returns the groups that move from the map of the content to that of a placer, of the same
-    /// pool. `None` where no lists are kept, or memory is wanting.
+    /// Finds the groups that move from the map of the content to that of the placer `to`, of the
+    /// same pool. `None` where no lists are kept, or an allocation failed.
     pub(crate) fn moves_to(&self, alloc: Global, to: &Placer<'_>) -> Option<Listed<MoveRow>>
         ensures rows { IfSome result (λ rows. (p : PoolOnMap) → IsMap p.map → self.now.content ≡ content_of p → p.states ≡ to.now.states → p.pool ≡ to.now.pool → p.pairs ≡ to.now.pairs
             → Some rows ≡ moves p.map to.now.map p.states p.pool p.pairs) }
@@ -155,7 +155,7 @@ impl Last<UpLists> {
     }
 }
 
-/// Returns whether what is kept is of a tenant.
+/// Returns whether the kept value was found for the tenant `name`.
 pub(crate) fn is_of_tenant<G: OfGroups>(last: &Option<Last<G>>, name: &str) -> bool {
     match last {
         Some(last) => last.tenant() == name,
@@ -163,7 +163,7 @@ pub(crate) fn is_of_tenant<G: OfGroups>(last: &Option<Last<G>>, name: &str) -> b
     }
 }
 
-/// Returns whether something is kept for a tenant of which nothing else is.
+/// Returns whether a value is kept that was found for a tenant of which nothing is kept by name.
 pub(crate) fn is_left<G: OfGroups, const BYTES: u64>(
     last: &Option<Last<G>>,
     kept: &Kept<BYTES>,
@@ -174,7 +174,7 @@ pub(crate) fn is_left<G: OfGroups, const BYTES: u64>(
     }
 }
 
-/// Returns whether what is kept is of a content.
+/// Returns whether the kept value was found for `content`.
 fn is_of<G: OfGroups>(last: &Option<Last<G>>, content: &Content) -> bool
     ensures { result ≡ true → IfSome last.now (λ last. last.content ≡ content.now) }
 {
@@ -184,8 +184,8 @@ fn is_of<G: OfGroups>(last: &Option<Last<G>>, content: &Content) -> bool
     }
 }
 
-/// Makes what is kept that of the content of a placer, if it isn't. Nothing is kept where memory is
-/// wanting.
+/// Keeps the value for the content of a placer, which is found anew if another one is kept. Where
+/// an allocation fails nothing is kept.
 pub(crate) fn renew<G: OfGroups>(
     alloc: Global,
     last: &mut Option<Last<G>>,
@@ -199,7 +199,7 @@ pub(crate) fn renew<G: OfGroups>(
     if is_of(last, &content) {
         return;
     }
-    // the memory of what was kept is given back first
+    // the memory of the earlier value is freed first
     *last = None;
     if let Ok(made) = Last::build(alloc, name, content, placer) {
         *last = Some(made);

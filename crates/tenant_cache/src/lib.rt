@@ -1,4 +1,4 @@
-//! A store of tenants' states that keeps ready what tenants have in another store, within a number
+//! A store of tenants' states that keeps ready what tenants have in another store, up to a number
 //! of bytes.
 #![tactic(auto)]
 

@@ -1,4 +1,4 @@
-//! What is kept for queries, for what a tenant has: placements of groups, and what reports keep.
+//! What is kept for queries of a tenant: placements of groups, and the values for reports.
 
 ghost use Rattle.std.specs.Prelude.{◌≡◌, ◌≤◌, ◌<◌, ◌⊎◌, ℕ, List, Contains, Some, IfSome};
 ghost use Rattle.crush_cache.specs.Caches.{KeepsNumbers};
@@ -16,8 +16,8 @@ use std::rc::Rc;
 use tenant_core::{Asked, Cached};
 use tenant_state::{Inventory, TenantPool};
 
-/// Returns the number that is kept beside what a tenant has for the content of a pool, while that
-/// content is still in the cache.
+/// Returns the number that is kept beside what a tenant has for the content of a pool, while the
+/// cache still has that content.
 fn number_beside(cache: &PlacementCache, ready: &Ready, pool: &TenantPool) -> Option<u64>
     ensures number { IfSome result (λ n. Contains ready.now.numbers (pool.now.parts.id, n)) }
     ensures there { IfSome result (λ n. cache.now.first ≤ n) }
@@ -30,7 +30,7 @@ fn number_beside(cache: &PlacementCache, ready: &Ready, pool: &TenantPool) -> Op
     }
 }
 
-/// Returns a number for the content of a pool of what a tenant has, on the newest version.
+/// Gets a number from the cache for the content of a tenant's pool on the newest version.
 fn give_number(cache: &mut PlacementCache, inventory: &Inventory, pool: &TenantPool) -> Option<u64>
     ensures number { IfSome result (λ n. HasNumber cache.new inventory.now pool.now n) }
     ensures there { IfSome result (λ n. cache.new.first ≤ n) }
@@ -43,7 +43,8 @@ fn give_number(cache: &mut PlacementCache, inventory: &Inventory, pool: &TenantP
     cache.number_of(&content)
 }
 
-/// Keeps a number for the content of a pool beside what a tenant has, where there is memory for it.
+/// Keeps a number for the content of a pool beside what the tenant `name` has, unless an allocation
+/// fails.
 fn keep_number<const BYTES: u64>(
     alloc: Global,
     kept: &mut Kept<BYTES>,
@@ -66,8 +67,8 @@ fn keep_number<const BYTES: u64>(
     kept.put(key, next);
 }
 
-/// Returns the number of the content of a pool of what a tenant has, on the newest version: the one
-/// that is kept beside it, or a new one, which is then kept.
+/// Returns the number of the content of a tenant's pool on the newest version: the one that is kept
+/// beside what the tenant has, or a new one, which is then kept.
 fn number_for<const BYTES: u64>(
     alloc: Global,
     cache: &mut PlacementCache,
@@ -91,8 +92,8 @@ fn number_for<const BYTES: u64>(
     Some(number)
 }
 
-/// Returns the placement of a group of a pool of what a tenant has. The number is that of the
-/// content.
+/// Places a group of a tenant's pool, the number of whose content is `number`, or finds its
+/// placement in the cache.
 fn place(
     cache: &mut PlacementCache,
     number: u64,
@@ -114,7 +115,8 @@ fn place(
     Some(Cached::Placed(group, placement))
 }
 
-/// Returns what a query asks of a pool of what a tenant has, from what is kept or made to be kept.
+/// Finds what a query asks of a tenant's pool, from what is kept, or from what is made now and
+/// kept.
 pub(crate) fn find<const BYTES: u64>(
     alloc: Global,
     cache: &mut PlacementCache,

@@ -8,8 +8,8 @@ use std::rc::Rc;
 use tenant_state::limits::RECEIPT_LIMIT;
 use tenant_state::{Change, Inventory};
 
-/// The most numbers that are kept beside what a tenant has. They take 16 bytes each, which the
-/// bytes of an inventory without its parts cover (`INVENTORY_BYTES`).
+/// The most numbers that are kept beside what a tenant has. They take 16 bytes each, which are part
+/// of the bytes of an inventory without its parts (`INVENTORY_BYTES`).
 const NUMBER_LIMIT: usize = 16;
 
 /// What a tenant has, kept ready, with the numbers that a cache of placements gave to the contents
@@ -17,7 +17,7 @@ const NUMBER_LIMIT: usize = 16;
 #[derive(Drop)]
 pub struct Ready {
     inventory: Rc<Inventory>,
-    /// The id of a pool and a number, that given last first.
+    /// The id of a pool and a number; the pair that was given last comes first.
     numbers: Vec<(u32, u64)>,
 }
 
@@ -36,7 +36,7 @@ impl Ready {
     ghost use Rattle.tenant_state.specs.State.{inventory_after, suits};
     ghost use Rattle.tenant_state.specs.declared.limits.TheConstants.{RECEIPT_LIMIT};
 
-    /// Returns what a tenant has, with no number. Allocates nothing.
+    /// Makes the entry of a tenant from what it has, with no number. Allocates nothing.
     pub fn new(alloc: Global, inventory: Rc<Inventory>) -> Self
         ensures { result ≡ record { inventory = inventory.value; numbers = [] } }
     {
@@ -46,14 +46,14 @@ impl Ready {
         }
     }
 
-    /// Returns what the tenant has, shared.
+    /// Returns the shared inventory of the tenant.
     pub fn inventory(&self) -> &Rc<Inventory>
         ensures { result.now.value ≡ self.now.inventory }
     {
         &self.inventory
     }
 
-    /// Returns the number of the content of the pool with an id, if it has one.
+    /// Returns the number of the content of the pool that has the id `pool`, if there is one.
     pub fn number_of(&self, pool: u32) -> Option<u64>
         ensures { IfSome result (λ n. Contains self.now.numbers (pool, n)) }
     {
@@ -65,9 +65,9 @@ impl Ready {
         None
     }
 
-    /// Returns the same, with a number for the content of a pool; the number that was given first
-    /// is forgotten where there are too many. `Err(AllocError)`: an allocation failed; nothing is
-    /// changed.
+    /// Makes the same with one more number, for the content of a pool; the number that was given
+    /// first is left out where there are more than `NUMBER_LIMIT`. `Err(AllocError)`: an allocation
+    /// failed; nothing is changed.
     pub fn with_number(&self, alloc: Global, pool: u32, number: u64) -> Result<Ready, AllocError>
         ensures { IfOk result (λ r. IsWithNumber self.now pool number r) }
     {
@@ -85,7 +85,7 @@ impl Ready {
     }
 
     /// Returns whether what the tenant has can take a change: there is room for one more receipt,
-    /// and what is made suits what is there. Takes time linear in the number of exceptions of the
+    /// and the change suits the inventory. Takes time linear in the number of exceptions of the
     /// change.
     pub fn can_take(&self, change: &Change) -> bool
         ensures { result ≡ (nat_lt self.now.inventory.epoch RECEIPT_LIMIT && suits change.now.made self.now.inventory) }
@@ -93,8 +93,8 @@ impl Ready {
         self.inventory.epoch() < RECEIPT_LIMIT as u64 && self.inventory.suits(&change.made)
     }
 
-    /// Returns what the tenant has after a change that it can take, with no number: its contents
-    /// are others. `Err(AllocError)`: an allocation failed; nothing is changed.
+    /// Makes what the tenant has after a change that it can take, with no number: its contents are
+    /// others. `Err(AllocError)`: an allocation failed; nothing is changed.
     pub fn after(&self, alloc: Global, change: &Change) -> Result<Rc<Ready>, AllocError>
         requires room { self.now.inventory.epoch < RECEIPT_LIMIT }
         requires suits { suits change.now.made self.now.inventory ≡ true }
@@ -104,8 +104,8 @@ impl Ready {
         Ok(Rc::new(alloc, Ready::new(alloc, inventory))?)
     }
 
-    /// Returns how many bytes of memory it takes at most, by an estimate. The numbers add nothing:
-    /// those of an inventory without its parts cover them.
+    /// Returns the bytes of memory that it takes at most, by an estimate. The numbers add nothing:
+    /// they are part of the bytes of an inventory without its parts.
     pub fn size(&self) -> u64
         ensures { result ≡ min (size self.now.inventory) (2 ^ 64 - 1) }
     {

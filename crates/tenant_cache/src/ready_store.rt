@@ -19,11 +19,12 @@ use tenant_core::{Cached, Query, StoreFault, TenantStore};
 use tenant_state::{Change, Inventory, Receipt};
 
 /// A store over another one, which keeps in memory what the tenants that were used last have (at
-/// most `BYTES` bytes of it, or one tenant's, as the type of what is kept has it: `Kept`),
-/// placements of their groups, and what reports keep. The latter is found by the whole content that
-/// it depends on, so that after a change it is of use only where that left the content as it was.
-/// It is given up where its tenant isn't kept any more or a tenant is removed, and touched groups
-/// where the tenant that asked for them changes. Contracts see the store below alone.
+/// most `BYTES` bytes of it, or one tenant's; `BYTES` is a parameter of its type, as of `Kept`),
+/// placements of their groups, and the values for reports. The values are found by the whole
+/// content that they depend on, so that after a change they are of use only where it left the
+/// content unchanged. They are freed where their tenant isn't kept any more or a tenant is removed,
+/// and touched groups where the tenant that asked for them changes. Contracts see the store below
+/// alone.
 #[derive(Drop)]
 pub struct CachedStore<T: TenantStore, const BYTES: u64> {
     alloc: Global,
@@ -31,7 +32,7 @@ pub struct CachedStore<T: TenantStore, const BYTES: u64> {
     kept: Kept<BYTES>,
     cache: PlacementCache,
     reports: Reports,
-    /// Whether the store below has what tenants have in memory, and makes none of it for a load.
+    /// Whether the store below has what tenants have in memory, and shares it at a load.
     shares: bool,
 }
 
@@ -54,7 +55,7 @@ impl<T: TenantStore, const BYTES: u64> Model for CachedStore<T, BYTES> {
 impl<T: TenantStore + Drop, const BYTES: u64> CachedStore<T, BYTES> {
     ghost use Rattle.std.specs.Prelude.{◌≡◌, IfErr, IfOk};
 
-    /// Returns a store over this one, which keeps so many placements beside. Nothing is kept yet.
+    /// Makes a store over `below`, which also keeps `placements` placements. Nothing is kept yet.
     /// `Err((AllocError, below))`: an allocation failed; the store below is given back.
     pub fn over(alloc: Global, below: T, placements: NonZeroUsize) -> Result<Self, (AllocError, T)>
         ensures made { IfOk result (λ store. store ≡ below) }
@@ -76,8 +77,8 @@ impl<T: TenantStore + Drop, const BYTES: u64> CachedStore<T, BYTES> {
         })
     }
 
-    /// Returns a store over one that has what all tenants have in memory, with so many placements
-    /// beside. What it keeps is shared with that store, also after a change. Nothing is kept yet.
+    /// Makes a store over one that has what all tenants have in memory; it also keeps `placements`
+    /// placements. What it keeps is shared with `below`, also after a change. Nothing is kept yet.
     /// `Err(AllocError)`: an allocation failed; the store below is dropped.
     pub fn over_memory(
         alloc: Global,
@@ -109,7 +110,7 @@ impl<T: TenantStore, const BYTES: u64> CachedStore<T, BYTES> {
         below
     }
 
-    /// Keeps what a tenant has, where there is memory for it.
+    /// Keeps what a tenant has, unless an allocation fails.
     fn keep(&mut self, name: &str, inventory: &Rc<Inventory>)
         requires { T.is_honest self.old → T.latched self.old ≡ false → HasInventory (T.has_state self.old) name.now (Some inventory.now.value) }
         ensures { self.new ≡ self.old }
@@ -143,15 +144,16 @@ impl<T: TenantStore, const BYTES: u64> CachedStore<T, BYTES> {
     {
         self.kept.forget(name);
         self.below.commit(name, change)?;
-        // the change stays made where this load fails; for good, that is an error of the call
+        // where this load fails the change is still made; a load that fails for good is an error of
+        // the call
         match self.load(name) {
             Err(StoreFault::Failed) => Err(StoreFault::Failed),
             _ => Ok(()),
         }
     }
 
-    /// Makes a change of a tenant, as `commit`, and keeps what the tenant has then, made before the
-    /// change from what was kept.
+    /// Makes a change of a tenant, as `commit`, and keeps what the tenant then has, which is made
+    /// before the change from what was kept.
     fn commit_kept(&mut self, name: &str, change: &Change) -> Result<(), StoreFault>
         requires open { T.latched self.old ≡ false }
         requires there { T.is_honest self.old → (s : TenantState) × T.has_state self.old name.now (Some s) × CanMake change.now s }
@@ -166,7 +168,7 @@ impl<T: TenantStore, const BYTES: u64> CachedStore<T, BYTES> {
     {
         match self.kept.get(name)? {
             Some(ready) if ready.can_take(change) => {
-                // all that needs memory is made before the change
+                // everything that allocates comes before the change
                 let next = ready.after(self.alloc, change)?;
                 let key = String::from_str(self.alloc, name)?;
                 self.below.commit(name, change)?;
@@ -181,7 +183,7 @@ impl<T: TenantStore, const BYTES: u64> CachedStore<T, BYTES> {
         }
     }
 
-    /// Gives up the touched groups that are kept, if they are of this tenant.
+    /// Frees the touched groups that are kept, if the tenant `name` asked for them.
     fn give_up_touches(&mut self, name: &str)
         ensures { self.new ≡ self.old }
     {
@@ -226,7 +228,7 @@ impl<T: TenantStore, const BYTES: u64> TenantStore for CachedStore<T, BYTES> {
     }
 
     fn cached(&mut self, name: &str, query: &Query) -> Option<(Rc<Inventory>, Cached)> {
-        // other queries look nothing up before they load
+        // other queries have nothing in the cache: they are answered after a load
         if !matches!(
             query,
             Query::Group(_, _) | Query::Object(_, _) | Query::Impact(_, _) | Query::Moves(_, _, _)

@@ -1,4 +1,4 @@
-//! What reports keep of all groups of a pool, and what they find in it.
+//! The values that are kept for reports of all groups of a pool, and what reports find in them.
 
 ghost use Rattle.std.specs.Prelude.{◌≡◌, ◌≤◌, ◌*◌, Some, IfSome};
 ghost use Rattle.crush_content.specs.Contents.{content_of};
@@ -29,7 +29,7 @@ pub struct Reports {
 }
 
 impl Reports {
-    /// Nothing is kept yet. Allocates nothing.
+    /// Makes a cache that keeps nothing yet. Allocates nothing.
     pub fn new() -> Self {
         Reports {
             touches: None,
@@ -37,7 +37,7 @@ impl Reports {
         }
     }
 
-    /// Gives up what is kept for tenants of which nothing else is.
+    /// Frees the values for tenants of which nothing is kept by name.
     pub fn give_up_left<const BYTES: u64>(&mut self, kept: &Kept<BYTES>) {
         if is_left(&self.touches, kept) {
             self.touches = None;
@@ -47,7 +47,7 @@ impl Reports {
         }
     }
 
-    /// Gives up the touched groups that are kept, if they are of this tenant.
+    /// Frees the touched groups that are kept, if the tenant `name` asked for them.
     pub fn give_up_touches(&mut self, name: &str) {
         if is_of_tenant(&self.touches, name) {
             self.touches = None;
@@ -55,8 +55,9 @@ impl Reports {
     }
 }
 
-/// Returns the groups that a device can touch, from what is kept, which is made anew if it is of
-/// another content. The content is that of the placer. `None` where it can't be kept.
+/// Finds the groups that a device can touch, from the value that is kept, which is found anew if it
+/// is for another content. `content` is that of the placer. `None` where the value can't be kept,
+/// or an allocation failed.
 fn find_touched(
     alloc: Global,
     last: &mut Option<Last<Touches>>,
@@ -76,9 +77,9 @@ fn find_touched(
     }
 }
 
-/// Returns the groups that move from one placer to another, of the same pool, from the up lists on
-/// the first, whose content is given: from those that are kept, which are made anew if they are of
-/// another content. `None` where they can't be kept.
+/// Finds the groups that move from one placer to another, of the same pool, from the up lists on
+/// `from`, whose content is `content`: from those that are kept, which are found anew if they are
+/// for another content. `None` where they can't be kept, or an allocation failed.
 fn find_moved(
     alloc: Global,
     last: &mut Option<Last<UpLists>>,
@@ -102,7 +103,7 @@ fn find_moved(
     }
 }
 
-/// Returns the groups of a pool of what a tenant has that the device with a number can touch.
+/// Finds the groups of a tenant's pool that the device with the number `device` can touch.
 pub(crate) fn touched(
     alloc: Global,
     reports: &mut Reports,
@@ -125,8 +126,7 @@ pub(crate) fn touched(
     Some(Cached::Touched(pool.parts().id, groups))
 }
 
-/// Returns the groups of a pool of what a tenant has that move between the versions with two
-/// numbers.
+/// Finds the groups of a tenant's pool that move from the version `from` to the version `to`.
 pub(crate) fn moved(
     alloc: Global,
     reports: &mut Reports,

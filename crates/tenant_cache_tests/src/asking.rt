@@ -1,4 +1,4 @@
-//! Requests, and what asserts of their replies.
+//! Requests, and assertions about their replies.
 
 use std::num::NonZeroUsize;
 use std::process::Abort;
@@ -6,7 +6,7 @@ use tenant_core::TenantStore;
 use tenant_messages::{CallParts, Reply};
 use tenant_service::Service;
 
-/// The body of an import of a map with this device alone.
+/// The body of an import of a map that has only the device `$device`.
 macro_rules! import_of {
     ($device:literal) => {
         concat!(
@@ -31,13 +31,13 @@ pub(crate) const IMPORT_OF_9: &str = import_of!(9);
 pub(crate) const POOL: &str =
     "{\"request\":\"p1\",\"id\":1,\"name\":\"p\",\"kind\":\"replicated\",\"size\":1,\"rule\":0,\"pg_num\":8,\"pgp_num\":8,\"hashpspool\":true}";
 
-/// The body that takes the device down.
+/// The body that takes the device 0 down.
 pub(crate) const DOWN: &str = "{\"request\":\"d1\",\"devices\":[{\"id\":0,\"up\":false}]}";
 
 /// A method, a path and a body.
 pub(crate) type Asked = (&'static str, &'static str, &'static str);
 
-/// Returns a number of placements.
+/// Returns `placements` as a number that isn't 0.
 pub(crate) fn room_for(rt: &impl Abort, placements: usize) -> NonZeroUsize {
     match NonZeroUsize::new(placements) {
         Some(placements) => placements,
@@ -45,7 +45,7 @@ pub(crate) fn room_for(rt: &impl Abort, placements: usize) -> NonZeroUsize {
     }
 }
 
-/// Returns the reply to a request.
+/// Serves a request and returns the reply.
 pub(crate) fn ask<T: TenantStore>(service: &mut Service<T>, asked: &Asked) -> Reply {
     let (method, path, body) = *asked;
     service.request(CallParts {
@@ -55,13 +55,13 @@ pub(crate) fn ask<T: TenantStore>(service: &mut Service<T>, asked: &Asked) -> Re
     })
 }
 
-/// Asserts that a number is the expected one after a request. The text of an `assert_eq!` is proved
-/// where it stands; a call takes a fraction of that time.
+/// Asserts that a number is the expected one after a request. The text of each `assert_eq!` is
+/// proved where it is written; a call takes a fraction of that time.
 pub(crate) fn assert_count(rt: &impl Abort, asked: &Asked, count: u64, expected: u64) {
     assert_eq!(rt; count, expected, "{} {}", asked.0, asked.1);
 }
 
-/// Asserts that something holds of what this text and this number name.
+/// Asserts that something holds of the case that `name` and `number` name.
 pub(crate) fn assert_that(rt: &impl Abort, holds: bool, name: &str, number: u64) {
     assert!(rt; holds, "{name} {number}");
 }

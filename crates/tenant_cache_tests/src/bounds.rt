@@ -1,4 +1,4 @@
-//! What is kept of tenants within a number of bytes.
+//! Tenants that are kept within a number of bytes.
 
 use crate::asking::IMPORT;
 use crate::counted::{Load, Loads, Over, assert_loads};
@@ -7,7 +7,7 @@ use tenant_state::size::INVENTORY_BYTES;
 /// Room for two tenants that were just created.
 const TWO: u64 = 2 * INVENTORY_BYTES;
 
-/// Three tenants by turns, of which two are kept: the tenant used least recently is given up.
+/// Three tenants by turns, of which two are kept: the tenant used least recently is forgotten.
 const OF_THREE: &[Load] = &[
     (("PUT", "/t/a", ""), 201, 1),
     (("PUT", "/t/b", ""), 201, 2),
@@ -25,7 +25,7 @@ const OF_THREE: &[Load] = &[
     (("GET", "/t/b", ""), 200, 10),
 ];
 
-/// With a map tenant a is larger than the bound; it is kept while it is the one used last.
+/// Tenant a with a map is larger than the bound; it is kept while it is the one used last.
 const LARGER: &[Load] = &[
     (("PUT", "/t/a", ""), 201, 1),
     (("PUT", "/t/b", ""), 201, 2),

@@ -1,5 +1,5 @@
-//! Services over a store that keeps ready what tenants have, over one whose loads are counted and
-//! one of whose calls may meet a fault.
+//! Services over a `CachedStore` over a store whose loads are counted, and one of whose calls may
+//! meet a fault.
 
 use crate::asking::{Asked, ask, assert_count, room_for};
 use crate::watched::{Fault, Watched};
@@ -11,16 +11,16 @@ use tenant_cache::CachedStore;
 use tenant_core::TenantStore;
 use tenant_service::{MemoryStore, Service};
 
-/// What a store below keeps, and what the one over it does.
+/// How much a store keeps, and where it gets it from after a change.
 #[derive(Clone, Copy)]
 pub(crate) enum Over {
-    /// At most as many bytes are kept as the type says, and made anew by each change.
+    /// At most as many bytes are kept as the type says, and each change makes the inventory anew.
     Bound,
     /// All is kept, and shared with the store below after each change.
     Memory,
 }
 
-/// Returns a store over this one, with room for so many placements.
+/// Makes a store over `below`, with room for `placements` placements.
 pub(crate) fn cached<T: TenantStore + Drop, const BYTES: u64>(
     rt: &impl Abort,
     alloc: Global,
@@ -36,10 +36,10 @@ pub(crate) fn cached<T: TenantStore + Drop, const BYTES: u64>(
     made.expect(rt, "no memory")
 }
 
-/// Such a service.
+/// A service over a store that keeps ready what tenants have, over a watched one.
 pub(crate) type Counted<const BYTES: u64> = Service<CachedStore<Watched<MemoryStore>, BYTES>>;
 
-/// Returns a store without a tenant, whose call after `left` others meets a fault.
+/// Makes a watched store without a tenant, whose call after `left` others meets a fault.
 fn watched(
     rt: &impl Abort,
     alloc: Global,
@@ -57,7 +57,7 @@ fn watched(
     }
 }
 
-/// Returns a service over a store that keeps tenants ready over such a store.
+/// Makes a service over a store that keeps tenants ready, over a watched store.
 pub(crate) fn watched_service<const BYTES: u64>(
     rt: &impl Abort,
     alloc: Global,
@@ -70,20 +70,20 @@ pub(crate) fn watched_service<const BYTES: u64>(
     Service::over(alloc, cached(rt, alloc, over, below, 16)).expect(rt, "no memory")
 }
 
-/// Returns a number of loads, which begins at 0.
+/// Makes a count of loads, which begins at 0.
 pub(crate) fn no_loads(rt: &impl Abort, alloc: Global) -> Rc<Cell<u64>> {
     Rc::new(alloc, Cell::new(0)).expect(rt, "no memory")
 }
 
-/// A request, the status of its reply, and how many calls of `load` have then reached the store
-/// below.
+/// A request, the status of its reply, and the number of calls of `load` that have then reached the
+/// store below.
 pub(crate) type Load = (Asked, u16, u64);
 
-/// What a store keeps, what is asked of a service over it, and what is asked so many times
-/// afterwards.
+/// A kind of store, requests of a service over it, then further requests, and how many times those
+/// are repeated.
 pub(crate) type Loads = (Over, &'static [Load], &'static [Load], u32);
 
-/// Asserts what these rows say.
+/// Asserts the status and the count of loads that each row says.
 fn assert_rows<const BYTES: u64>(
     rt: &impl Abort,
     service: &mut Counted<BYTES>,
@@ -97,7 +97,7 @@ fn assert_rows<const BYTES: u64>(
     }
 }
 
-/// Asserts what these rows say of a new service.
+/// Asserts what the rows of a case say of a new service.
 pub(crate) fn assert_loads<const BYTES: u64>(rt: &impl Abort, alloc: Global, case: &Loads) {
     let (over, rows, others, times) = *case;
     let loads = no_loads(rt, alloc);

@@ -29,8 +29,8 @@ const ASKED: &[Asked] = &[
     ("GET", "/t/b/maps/1", ""),
 ];
 
-/// Returns whether a service answers a request otherwise than by 503. It then has the reply that a
-/// service gives to such requests alone.
+/// Returns whether a service answers a request by anything but 503. Asserts that it then has the
+/// reply of `alone`, a service that gets only the answered requests.
 fn is_answered<const BYTES: u64>(
     rt: &impl Abort,
     service: &mut Counted<BYTES>,
@@ -57,7 +57,7 @@ fn is_answered<const BYTES: u64>(
     true
 }
 
-/// Returns how many of these requests a service answers 503.
+/// Counts the requests of `ASKED` that a service answers 503.
 fn count_unanswered<const BYTES: u64>(
     rt: &impl Abort,
     service: &mut Counted<BYTES>,
@@ -72,8 +72,9 @@ fn count_unanswered<const BYTES: u64>(
     count
 }
 
-/// Returns how many of these requests are answered 503 where the store's call after `left` others
-/// meets a fault. The others have the replies that a service in memory gives to them alone.
+/// Counts the requests of `ASKED` that are answered 503 where the store's call after `left` others
+/// meets a fault. Asserts that the others have the replies that a service in memory gives to them
+/// alone.
 fn unanswered<const BYTES: u64>(
     rt: &impl Abort,
     alloc: Global,
@@ -87,21 +88,22 @@ fn unanswered<const BYTES: u64>(
     count_unanswered(rt, &mut service, &mut alone)
 }
 
-/// The tenant used last is kept, whatever its size; or others that fit beside it; or all are.
+/// The bounds in bytes: only the tenant used last is kept, whatever its size; or others that fit
+/// beside it; or all tenants are kept.
 const ONE: u64 = 0;
 
 const SOME: u64 = 15_000;
 
 const ALL: u64 = 1_000_000;
 
-/// What a store keeps, how many calls reach the store below where none meets a fault, at the least,
-/// and how many of them may fail with each request answered.
+/// A kind of store, the least number of calls that reach the store below where none meets a fault,
+/// and the number of those calls that may fail with each request answered.
 type Case = (Over, u64, u64);
 
 const BOUND: Case = (Over::Bound, 16, 0);
 
-/// Over a store in memory a change that was made is answered so, though one of the 5 loads that
-/// follow changes fails.
+/// Over a store in memory a change that was made is answered as made, though one of the 5 loads
+/// that follow changes fails.
 const MEMORY: Case = (Over::Memory, 27, 5);
 
 /// Asserts that a call that fails, but not for good, leaves at most one request unanswered.
@@ -122,7 +124,7 @@ fn assert_one_fault<const BYTES: u64>(
     assert_that(rt, answered == expected, "answered", answered);
 }
 
-/// The same of either fault.
+/// Asserts the same of either fault.
 fn assert_one<const BYTES: u64>(rt: &impl Abort, alloc: Global, case: Case) {
     assert_one_fault::<BYTES>(rt, alloc, case, Fault::NoMemory);
     assert_one_fault::<BYTES>(rt, alloc, case, Fault::Full);

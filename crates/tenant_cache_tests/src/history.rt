@@ -1,4 +1,4 @@
-//! Histories of a store, with what it has at hand between its requests.
+//! Histories of a store, with what it has in its cache between its requests.
 
 use crate::asking::{Asked, assert_that};
 use crate::counted::{Over, cached};
@@ -15,7 +15,7 @@ use tenant_service::{MemoryStore, Service};
 
 pub(crate) type Store = CachedStore<MemoryStore, 1_000_000_000>;
 
-/// A store between two requests, which take it into a service and give it back.
+/// A store between two requests, for each of which a service takes it and gives it back.
 pub(crate) type Held = Option<Store>;
 
 /// A part of a history.
@@ -23,31 +23,33 @@ pub(crate) type Held = Option<Store>;
 pub(crate) enum Step {
     /// A request, which is accepted.
     Asks(Asked),
-    /// A group of a tenant's first pool lies on the first device by its rule, and is led to the
-    /// other one, or to none.
+    /// A group of a tenant's first pool lies on the first device by its rule, and is up on the
+    /// second one, or on none.
     Places(&'static str, u64, (i32, Option<i32>)),
     /// The same, asked for three times: the first two requests place the group, and the third finds
-    /// what the second kept.
+    /// the placement that the second kept.
     Keeps(&'static str, u64, (i32, Option<i32>)),
     /// A group of a tenant's first pool has a placement, which is remembered.
     Remembers(&'static str, u64),
     /// A group of a tenant's first pool has the placement that is remembered, and no second one.
     Finds(&'static str, u64),
-    /// No placement is at hand of a group of a tenant's pool, nor for its usage.
+    /// The cache has no placement of a group of a tenant's pool, and nothing for the pool's usage.
     PlacesNone(&'static str, u64, u64),
     /// The groups of the first pool of tenant `a` that a device can touch.
     Touches(u64, &'static [u32]),
-    /// No groups are at hand that a device can touch, of a tenant's pool, nor for its usage.
+    /// The cache has no groups of a tenant's pool that a device can touch, and nothing for the
+    /// pool's usage.
     TouchesNone(&'static str, u64, u64),
-    /// How many groups of that pool move from the version with a number to that with the other.
+    /// The number of groups of that pool that move from the first version to the second.
     Moves(u64, u64, usize),
-    /// All 8 groups of that pool do, each from one up list to another.
+    /// All 8 groups of that pool move, each from the first up list to the second.
     MovesAll(u64, u64, &'static [Slot], &'static [Slot]),
-    /// No moves are at hand of a tenant's pool between two versions, nor for that pool's usage.
+    /// The cache has no moves of a tenant's pool between two versions, and nothing for the pool's
+    /// usage.
     MovesNone(&'static str, u64, u64, u64),
 }
 
-/// Returns a new store with room for so many placements.
+/// Makes a store with room for `placements` placements.
 pub(crate) fn new_store(rt: &impl Abort, alloc: Global, over: Over, placements: usize) -> Held {
     Some(cached(rt, alloc, over, MemoryStore::new(alloc), placements))
 }
@@ -76,13 +78,13 @@ pub(crate) fn accept_parts(
     *held = Some(service.into_store());
 }
 
-/// The same of a request that is written shortly.
+/// Serves the request `asked` in the same way.
 pub(crate) fn accept(rt: &impl Abort, alloc: Global, held: &mut Held, asked: &Asked) {
     let (method, path, body) = *asked;
     accept_parts(rt, alloc, held, method, path, body);
 }
 
-/// Returns the placement that the store has at hand of a group of a tenant's first pool.
+/// Finds the placement that the store has in its cache of a group of a tenant's first pool.
 pub(crate) fn placed(
     rt: &impl Abort,
     store: &mut Store,
@@ -95,7 +97,7 @@ pub(crate) fn placed(
     }
 }
 
-/// Returns whether a placement is on this device by its rule, and led to the other one, or to none.
+/// Returns whether a placement is on `device` by its rule, and up on `lead`, or on no device.
 pub(crate) fn is_on(placement: &Placement, device: i32, lead: Option<i32>) -> bool {
     let own: Slot = Some(ItemId(device));
     let primary: Slot = lead.map(ItemId);
@@ -106,7 +108,7 @@ pub(crate) fn is_on(placement: &Placement, device: i32, lead: Option<i32>) -> bo
     is_led && placement.raw.as_slice() == [own].as_slice() && placement.primary == primary
 }
 
-/// Returns the placement that the store keeps of a group of a tenant's first pool.
+/// Finds a placement three times, and asserts that the store keeps it from the second time on.
 fn kept(rt: &impl Abort, store: &mut Store, tenant: &str, group: u64) -> Rc<Placement> {
     let first = placed(rt, store, tenant, group);
     let second = placed(rt, store, tenant, group);
@@ -148,7 +150,7 @@ fn assert_not_touched(rt: &impl Abort, store: &mut Store, tenant: &str, pool: u6
     assert_that(rt, is_absent, tenant, pool);
 }
 
-/// Asserts how many groups move.
+/// Asserts that `count` groups move.
 fn assert_moved(rt: &impl Abort, store: &mut Store, from: u64, to: u64, count: usize) {
     match store.cached("a", &Query::Moves(1, from, to)) {
         Some((_, Cached::Moved(_, rows))) => {
@@ -158,7 +160,7 @@ fn assert_moved(rt: &impl Abort, store: &mut Store, from: u64, to: u64, count: u
     }
 }
 
-/// Asserts that these are the moves of 8 groups, each from one up list to another.
+/// Asserts that the rows are the moves of 8 groups, each from the up list `old` to `new`.
 fn assert_rows(rt: &impl Abort, moved: &Cached, old: &[Slot], new: &[Slot]) {
     let Cached::Moved(_, rows) = moved else {
         return rt.abort();
@@ -178,24 +180,7 @@ fn assert_rows(rt: &impl Abort, moved: &Cached, old: &[Slot], new: &[Slot]) {
     }
 }
 
-/// Asserts that these are the moves of 8 groups, each from one up list to another.
-fn assert_rows(rt: &impl Abort, moved: &Moved, old: &[Slot], new: &[Slot]) {
-    let rows = moved.rows.as_slice();
-    assert_that(rt, rows.len() == 8, "moves of groups", 8);
-    let mut group: u64 = 0;
-    for row in rows {
-        let is_moved = row.old.as_slice() == old && row.new.as_slice() == new;
-        assert_that(
-            rt,
-            is_moved && u64::from(row.group) == group,
-            "group",
-            group,
-        );
-        group = group.wrapping_add(1);
-    }
-}
-
-/// Asserts that each of 8 groups moves from one up list to another.
+/// Asserts that each of 8 groups moves from the up list `old` to `new`.
 fn assert_all_moved(
     rt: &impl Abort,
     store: &mut Store,
@@ -227,7 +212,7 @@ fn assert_not_moved(
     assert_that(rt, is_absent, tenant, pool);
 }
 
-/// Asserts where the placement of a group lies.
+/// Asserts that the placement of a group is on `device`, and up on `lead`.
 fn assert_placed(
     rt: &impl Abort,
     placement: &Placement,
@@ -254,7 +239,7 @@ fn assert_found(
     assert_that(rt, is_same, tenant, group);
 }
 
-/// Asserts what a step says of what the store has at hand.
+/// Asserts what a step says of the store's cache.
 fn assert_step(
     rt: &impl Abort,
     store: &mut Store,

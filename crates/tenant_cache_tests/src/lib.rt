@@ -1,5 +1,5 @@
 //! Tests of `tenant_cache`, over a store in memory whose loads are counted and one of whose calls
-//! may meet a fault. They stand apart, since they are over `tenant_service` too.
+//! may meet a fault. They are a crate of their own, since they are over `tenant_service` too.
 #![tactic(auto)]
 
 #[cfg(test)]

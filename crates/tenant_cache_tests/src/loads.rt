@@ -1,4 +1,4 @@
-//! How often a store is loaded from while another one over it keeps ready what tenants have.
+//! The number of loads of a store, while another one over it keeps ready what tenants have.
 
 ghost use Rattle.std.specs.Prelude.{◌≡◌, false};
 
@@ -12,17 +12,17 @@ use tenant_core::TenantStore;
 use tenant_service::MemoryStore;
 use tenant_state::Inventory;
 
-/// Room for all that these tests keep.
+/// More bytes than these tests keep.
 const AMPLE: u64 = 1_000_000;
 
 /// A new tenant.
 const CREATED: &[Load] = &[(("PUT", "/t/a", ""), 201, 1)];
 
-/// What is asked of it often, and loads it once.
+/// A request of the tenant that is repeated, and loads it once.
 const AGAIN: &[Load] = &[(("GET", "/t/a", ""), 200, 2)];
 
 /// What a tenant has after a change is kept in place of what it had. A tenant that is dropped is
-/// given up, and one that is absent is never kept.
+/// forgotten, and one that is absent is never kept.
 const CHANGED: &[Load] = &[
     (("PUT", "/t/a", ""), 201, 1),
     (("POST", "/t/a/maps", IMPORT), 201, 2),
@@ -65,7 +65,7 @@ fn a_tenant_is_loaded_once_and_not_again_after_a_change(rt: HostRuntime) {
     }
 }
 
-/// Returns what a store has of tenant a, on its first version.
+/// Loads what a store has of tenant a, on its first version.
 fn loaded<T: TenantStore>(rt: &impl Abort, store: &mut T) -> Rc<Inventory>
     requires { T.latched store.old ≡ false }
 {
@@ -75,9 +75,8 @@ fn loaded<T: TenantStore>(rt: &impl Abort, store: &mut T) -> Rc<Inventory>
     }
 }
 
-/// Returns whether what a store has of a tenant after a change is what the store below has of it,
-/// and no second one. Asserts that the store below, which is given back, has this tenant and no
-/// other.
+/// Returns whether a store, after a change, shares what the store below has of a tenant, and has no
+/// copy. Asserts that the store below, which is given back, has this tenant and no other.
 fn is_shared(rt: &impl Abort, alloc: Global, over: Over) -> bool {
     let mut held: Held = Some(cached(rt, alloc, over, MemoryStore::new(alloc), 1));
     accept(rt, alloc, &mut held, &("PUT", "/t/a", ""));

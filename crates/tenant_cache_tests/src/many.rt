@@ -1,5 +1,5 @@
-//! 300 tenants with maps of their own. The 257th content empties the cache, so that the numbers of
-//! what is kept beside tenants name nothing.
+//! 300 tenants with maps of their own. The 257th content empties the cache, so that the cache no
+//! longer knows the numbers that are kept beside tenants.
 
 use crate::asking::{POOL, assert_that};
 use crate::counted::Over;
@@ -8,19 +8,19 @@ use crate::touched::ALL;
 use std::alloc::Global;
 use std::process::Abort;
 
-/// Returns the name of the tenant with a number.
+/// Returns the name of the tenant of the device `device`.
 fn name_of(rt: &impl Abort, alloc: Global, device: u32) -> String {
     format!(in alloc; "t{device}").expect(rt, "no memory")
 }
 
-/// Returns the body of an import of a map with this device alone.
+/// Makes the body of an import of a map that has only the device `device`.
 fn import_of(rt: &impl Abort, alloc: Global, device: u32) -> String {
     format!(in alloc;
         "{{\"request\":\"m1\",\"text\":\"tunable choose_local_tries 0\\ntunable choose_local_fallback_tries 0\\ntunable choose_total_tries 50\\ntunable chooseleaf_descend_once 1\\ntunable chooseleaf_vary_r 1\\ntunable chooseleaf_stable 1\\ndevice {device} osd.{device}\\ntype 0 osd\\ntype 1 host\\ntype 10 root\\nroot default {{\\n id -1\\n alg uniform\\n hash 0\\n item osd.{device} weight 1.0\\n}}\\nrule all {{\\n id 0\\n type replicated\\n step take default\\n step choose firstn 0 type osd\\n step emit\\n}}\\n\"}}"
     ).expect(rt, "no memory")
 }
 
-/// Makes a tenant that has a pool of 8 groups on a map with this device alone.
+/// Creates a tenant that has a pool of 8 groups on a map with only the device `device`.
 fn make(rt: &impl Abort, alloc: Global, held: &mut Held, device: u32) {
     let tenant = format!(in alloc; "/t/t{device}").expect(rt, "no memory");
     accept_parts(rt, alloc, held, "PUT", tenant.as_str(), "");
@@ -31,7 +31,7 @@ fn make(rt: &impl Abort, alloc: Global, held: &mut Held, device: u32) {
     accept_parts(rt, alloc, held, "POST", pools.as_str(), POOL);
 }
 
-/// Returns a store with 300 such tenants.
+/// Makes a store with 300 tenants like this.
 fn with_tenants(rt: &impl Abort, alloc: Global) -> Held {
     let mut held = new_store(rt, alloc, Over::Bound, 1_024);
     for device in 0..300 {
@@ -40,7 +40,7 @@ fn with_tenants(rt: &impl Abort, alloc: Global) -> Held {
     held
 }
 
-/// Asserts that the first group of a tenant's pool lies on its device.
+/// Asserts that the first group of a tenant's pool lies on the tenant's device.
 fn assert_placed(rt: &impl Abort, alloc: Global, held: &mut Held, device: i32) {
     let Some(store) = held else {
         return rt.abort();
@@ -50,7 +50,7 @@ fn assert_placed(rt: &impl Abort, alloc: Global, held: &mut Held, device: i32) {
     assert_that(rt, is_on(&found, device, Some(device)), tenant.as_str(), 0);
 }
 
-/// Asserts that its device can touch all groups of a tenant's pool.
+/// Asserts that the tenant's device can touch all groups of its pool.
 fn assert_all_touched(rt: &impl Abort, alloc: Global, held: &mut Held, device: u32) {
     let Some(store) = held else {
         return rt.abort();

@@ -1,4 +1,4 @@
-//! Groups that move between versions, as a store has them at hand.
+//! Groups that move between versions, from a store's cache.
 
 use crate::asking::POOL;
 use crate::history::{Step, assert_histories};
@@ -11,16 +11,17 @@ use crush_select::Slot;
 const IMPORT_OF_BOTH: &str =
     "{\"request\":\"m2\",\"text\":\"tunable choose_local_tries 0\\ntunable choose_local_fallback_tries 0\\ntunable choose_total_tries 50\\ntunable chooseleaf_descend_once 1\\ntunable chooseleaf_vary_r 1\\ntunable chooseleaf_stable 1\\ndevice 0 osd.0\\ndevice 1 osd.1\\ntype 0 osd\\ntype 1 host\\ntype 10 root\\nroot default {\\n id -1\\n alg uniform\\n hash 0\\n item osd.0 weight 1.0\\n item osd.1 weight 1.0\\n}\\nrule all {\\n id 0\\n type replicated\\n step take default\\n step choose firstn 0 type osd\\n step emit\\n}\\n\"}";
 
-/// The body that takes device 0 in again.
+/// The body that puts device 0 in again.
 const IN: &str = "{\"request\":\"d3\",\"devices\":[{\"id\":0,\"reweight\":65536}]}";
 
 /// The body that takes device 0 out once more.
 const OUT_AGAIN: &str = "{\"request\":\"d4\",\"devices\":[{\"id\":0,\"reweight\":0}]}";
 
-/// How many of the 8 groups have device 1 on version 2: 0, 2, 6 and 7, as Ceph's osdmaptool says.
+/// The number of the 8 groups that have device 1 on version 2: 0, 2, 6 and 7, as Ceph's osdmaptool
+/// says.
 const SOME: usize = 4;
 
-/// Device 1 alone.
+/// An up list of device 1 alone.
 const ON_1: [Slot; 1] = [Some(ItemId(1))];
 
 /// With device 0 out no group has a device on version 1, and each has device 1 on version 2; with
@@ -47,7 +48,7 @@ const EACH_CHANGE: &[Step] = &[
     Step::MovesAll(1, 2, &[], &ON_1),
 ];
 
-/// Moves of one version, and of what isn't there.
+/// Moves of one version, and of versions, pools and tenants that aren't there.
 const NOT_THERE: &[Step] = &[
     Step::Asks(("PUT", "/t/a", "")),
     Step::Asks(("POST", "/t/a/maps", IMPORT_OF_TWO)),

@@ -1,4 +1,4 @@
-//! Placements that a store has at hand.
+//! Placements from a store's cache.
 
 use crate::asking::{Asked, DOWN, IMPORT, IMPORT_OF_9, POOL, assert_that};
 use crate::counted::Over;
@@ -7,7 +7,7 @@ use std::alloc::Global;
 use std::process::Abort;
 use std::rc::Rc;
 
-/// The body of an import of a map with two devices, of which the first alone is in its bucket.
+/// The body of an import of a map with two devices, of which only the first is in its bucket.
 pub(crate) const IMPORT_OF_TWO: &str =
     "{\"request\":\"m1\",\"text\":\"tunable choose_local_tries 0\\ntunable choose_local_fallback_tries 0\\ntunable choose_total_tries 50\\ntunable chooseleaf_descend_once 1\\ntunable chooseleaf_vary_r 1\\ntunable chooseleaf_stable 1\\ndevice 0 osd.0\\ndevice 1 osd.1\\ntype 0 osd\\ntype 1 host\\ntype 10 root\\nroot default {\\n id -1\\n alg uniform\\n hash 0\\n item osd.0 weight 1.0\\n}\\nrule all {\\n id 0\\n type replicated\\n step take default\\n step choose firstn 0 type osd\\n step emit\\n}\\n\"}";
 
@@ -15,7 +15,7 @@ pub(crate) const IMPORT_OF_TWO: &str =
 pub(crate) const EXCEPTED: &str =
     "{\"request\":\"e1\",\"id\":1,\"exceptions\":[{\"from\":0,\"group\":3,\"to\":1}]}";
 
-/// The body that leaves the pool no exception.
+/// The body after which the pool has no exception.
 pub(crate) const NOT_EXCEPTED: &str = "{\"request\":\"e2\",\"id\":1,\"exceptions\":[]}";
 
 /// A tenant that has a pool of 8 groups on a map with one device.
@@ -25,7 +25,7 @@ const TENANT: [Asked; 3] = [
     ("POST", "/t/a/pools", POOL),
 ];
 
-/// Returns a store with this tenant, and with room for so many placements.
+/// Makes a store with this tenant, and with room for `placements` placements.
 fn with_tenant(rt: &impl Abort, alloc: Global, placements: usize) -> Held {
     let mut held = new_store(rt, alloc, Over::Bound, placements);
     for asked in &TENANT {
@@ -34,8 +34,8 @@ fn with_tenant(rt: &impl Abort, alloc: Global, placements: usize) -> Held {
     held
 }
 
-/// Asserts that a group has one placement, and whether it is kept while another is placed. The
-/// first two requests for a group place it, since the map's text is short.
+/// Asserts that a group has one placement, and whether it is kept while another group is placed.
+/// The first two requests for a group place it, since the map's text is short.
 fn assert_one(rt: &impl Abort, held: &mut Held, is_kept: bool) {
     let Some(store) = held else {
         return rt.abort();
@@ -54,7 +54,7 @@ fn assert_one(rt: &impl Abort, held: &mut Held, is_kept: bool) {
     assert_that(rt, is_on(&again, 0, Some(0)), "again", 0);
 }
 
-/// With room for one placement each of two groups has to be placed again.
+/// With room for one placement each of two groups is placed again by turns.
 #[test]
 fn a_group_has_one_placement_whatever_is_kept(rt: HostRuntime) {
     for (room, is_kept) in &[(1, false), (1_024, true)] {
@@ -74,8 +74,8 @@ const STATES: &[Step] = &[
 ];
 
 /// After a change of exceptions groups are placed anew. Other groups, and the same pool of another
-/// tenant, keep their placements; with no exception left the placement that was kept before is
-/// found again.
+/// tenant, have their placements still; once the pool has no exception again, the placement that
+/// was kept before is found again.
 const EXCEPTIONS: &[Step] = &[
     Step::Asks(("PUT", "/t/a", "")),
     Step::Asks(("POST", "/t/a/maps", IMPORT_OF_TWO)),
@@ -94,7 +94,7 @@ const EXCEPTIONS: &[Step] = &[
     Step::Finds("a", 3),
 ];
 
-/// A tenant that is made again has placements of its own.
+/// A tenant that is created again has placements of its own.
 const MADE_AGAIN: &[Step] = &[
     Step::Asks(("PUT", "/t/a", "")),
     Step::Asks(("POST", "/t/a/maps", IMPORT)),
@@ -108,7 +108,7 @@ const MADE_AGAIN: &[Step] = &[
     Step::Places("a", 3, (9, Some(9))),
 ];
 
-/// Nothing is at hand of what isn't there.
+/// The cache has nothing of groups, pools and tenants that aren't there.
 const NOT_THERE: &[Step] = &[
     Step::Asks(("PUT", "/t/a", "")),
     Step::Asks(("POST", "/t/a/maps", IMPORT)),

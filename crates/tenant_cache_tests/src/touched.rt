@@ -1,4 +1,4 @@
-//! Groups that a device can touch, as a store has them at hand.
+//! Groups that a device can touch, from a store's cache.
 
 use crate::asking::POOL;
 use crate::history::{Step, assert_histories};
@@ -10,7 +10,7 @@ pub(crate) const OUT: &str = "{\"request\":\"d2\",\"devices\":[{\"id\":0,\"rewei
 /// All groups of the pool.
 pub(crate) const ALL: [u32; 8] = [0, 1, 2, 3, 4, 5, 6, 7];
 
-/// What is at hand before and after each change.
+/// The touched groups before and after each change.
 const EACH_CHANGE: &[Step] = &[
     Step::Asks(("PUT", "/t/a", "")),
     Step::Asks(("POST", "/t/a/maps", IMPORT_OF_TWO)),

@@ -1,4 +1,4 @@
-//! A store that counts how often it is loaded from, and answers one call with a fault.
+//! A store that counts its loads, and answers one call with a fault.
 
 ghost use Rattle.std.specs.Prelude.{◌≡◌, ◌≢◌, ◌↔◌, ◌||◌, ℕ, List, Bool, true, false, Option, Some, None, Err, IfOk, OnOk, OnErr, option_map};
 ghost use Rattle.tenant_state.specs.Receipts.{receipt_of};
@@ -35,7 +35,7 @@ impl<T: TenantStore> Watched<T> {
     ghost use Rattle.std.specs.Prelude.{◌≡◌, ◌≢◌, false, Err};
     ghost use Rattle.tenant_core.specs.StoreReply.{is_failed};
 
-    /// Meets the fault, if this is its call.
+    /// Counts a call down, and answers with the fault if it is the call that meets it.
     fn meet(&mut self) -> Result<(), StoreFault>
         requires { self.old.has_failed ≡ false }
         ensures below { self.new.below ≡ self.old.below }

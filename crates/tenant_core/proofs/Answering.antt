@@ -1,4 +1,4 @@
--- What a query asks that a store may have in its cache, and the answer by what it has.
+-- What a query asks that a store may have in its cache, and the answer from that.
 use Rattle.std.proofs.Common.{◌≡◌, ◌∙◌, ◌==◌, ℕ, List, Some, ap, refl, subst, sym}
 use Rattle.std.specs.Prelude.{find}
 use Rattle.std.specs.declared.alloc.Global.{Global}

@@ -66,7 +66,7 @@ some_tenant call r h none = let both : Some r.tenant ≡ None = sym (tenant_of-r
 
 -- ---- a call that is refused by itself
 
--- such a call has one step on every state, which leaves it
+-- a call that is refused by itself has one step on every state, which leaves the state unchanged
 pub step-refused : (call : Call) (p : Problem) (s : Option TenantState) → request_of call ≡ Err p → step call s ≡ record { state = s; reply = reply (refused p) }
 unfolding step
 step-refused call p s h = ap (λ r. step_of (decision_or_refusal r s) s) h

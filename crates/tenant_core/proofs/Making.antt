@@ -33,7 +33,7 @@ use Rattle.tenant_state.specs.State.{CanTake, Inventory, Made, NewExceptions, Ne
 use Rattle.tenant_state.specs.Valid.{IsInventory, IsMade}
 use Rattle.tenant_state.specs.declared.limits.TheConstants.{POOL_LIMIT, VERSION_LIMIT}
 
--- a text is read as a map that is one
+-- a map that is read from a text is a map (`IsMap`)
 abbrev pub ReadsMaps : Type 0
 ReadsMaps = (text : List ℕ) (m : Map) → map_of_text text ≡ Ok m → IsMap m
 
@@ -41,7 +41,7 @@ ReadsMaps = (text : List ℕ) (m : Map) → map_of_text text ≡ Ok m → IsMap 
 pub reads_maps : ((text : List ℕ) (m : Map) → (map_of_text text ≡ Ok m) ↔ (IsShort text × IsTextOf text m)) → ReadsMaps
 reads_maps law text m h = ((law text m).0 h).1.map
 
--- what is made can be taken, and where something is valid it is in its ranges
+-- what is made can be taken, and where `valid` holds it is in its ranges
 record Makes (valid : Type 0) (made : Made) (s : Inventory) : Type 0 where
   pub can : CanTake made s
   pub ranged : valid → IsMade made

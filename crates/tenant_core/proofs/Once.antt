@@ -21,8 +21,7 @@ use Rattle.tenant_core.specs.declared.decision.Effect.TheVariants as effect
 
 -- ---- a changing request that is accepted
 
--- what is known of it: its number had no receipt, and the one that it leaves says the request and
--- the reply
+-- its number had no receipt, and the receipt that it leaves says the request and the reply
 pub record Accepts (k : Command) (s : TenantState) (c : Change) (d : Decided) : Type 0 where
   pub new : receipt_of k.number s.receipts ≡ None
   pub number : c.number ≡ k.number

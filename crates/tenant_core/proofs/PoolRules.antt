@@ -18,7 +18,7 @@ use Rattle.tenant_state.specs.State.{Inventory, TenantPool, TenantState, Change,
 
 -- ---- each change leaves the rules of pools in the newest version
 
--- `with_receipts` keeps what the rules of pools are found in
+-- `with_receipts` doesn't change what the rules of pools are found in
 same_rules : (i : Inventory) (receipts : Receipts) → have_rules (inventory_of (with_receipts i receipts)) ≡ have_rules i
 same_rules i receipts = refl
 

@@ -1,4 +1,4 @@
--- A run goes on.
+-- A run with one more call, and a run after another.
 use Rattle.std.proofs.Common.{◌≡◌, ℕ, zero, suc, ◌&&◌, ◌==◌, inl, inr, List, [], ◌∷◌, ◌++◌, map, filter, zip, length, Bool, true, false, not, cond, Option, refl, ap, sym, ◌∙◌, arith, length-append}
 use Rattle.std.proofs.lemmas.List.{append-nil, map-append}
 use Rattle.std.proofs.lemmas.List.Elements.{filter-append, All-append}
@@ -31,13 +31,13 @@ run_none latched old new same = record {
 abbrev counts : List ℕ → Call → Reply → Bool
 counts t c r = is_of t c && is_answered r
 
--- what one call and its reply come to for a tenant of that state: with a reply that counts, the
--- call's step; else the state is kept
+-- the effect of one call and its reply on a tenant of that state: that of the call's step, if the
+-- reply counts; else the state is unchanged
 record Comes (counted : Bool) (old : Option TenantState) (c : Call) (r : Reply) (Has : Option TenantState → Type 0) : Type 0 where
   pub of_step : counted ≡ true → (r ≡ (step c old).reply) × Has (step c old).state
   pub kept : counted ≡ false → Has old
 
--- so the reply is that to the call alone, and the state is the one it then leaves
+-- so the reply is that to the call alone, and the state is the one that the call leaves
 one-headline : (t : List ℕ) (s : Option TenantState) (c : Call) (r : Reply) (New : Option TenantState → Type 0) (b : Bool) → Comes b s c r New
     → map (λ (p : Call × Reply). p.1) (cond b ((c, r) ∷ []) []) ≡ (alone s (map (λ (p : Call × Reply). p.0) (cond b ((c, r) ∷ []) []))).replies
 one-headline t s c r New true comes = ap (λ r. r ∷ []) (comes.of_step refl).0
@@ -57,7 +57,7 @@ comes-answered s c r New true counted taken other = record {
 }
 comes-answered s c r New false counted taken other = record { of_step = λ h. let both : false ≡ true = h in cc; kept = λ h. other refl }
 
--- a 503 doesn't
+-- a 503 doesn't count
 comes-unavailable : (s : Option TenantState) (c : Call) (r : Reply) (New : Option TenantState → Type 0) (own : Bool) → r.status ≡ 503 → New s → Comes (own && is_answered r) s c r New
 comes-unavailable s c r New true gone kept = record {
   of_step = λ h. let no : is_answered r ≡ false = ap (λ n. not (n == 503)) gone in let both : true ≡ false = sym h ∙ no in cc;
@@ -77,7 +77,7 @@ serves-damaged : (old new : States) (c : Call) (r : Reply) (t : List ℕ) → Se
 serves-damaged old new c r t (inl by) bad = λ own. inl (by.damaged t own bad).0
 serves-damaged old new c r t (inr gone) bad = λ own. inr gone.unavailable
 
--- a damaged tenant stays so, whether the call is its own or not
+-- a damaged tenant stays damaged, whether the call is its own or not
 still-by : (old new : States) (c : Call) (r : Reply) (t : List ℕ) (own : Bool) → is_of t c ≡ own → Follows c old new r
     → ((s : Option TenantState) → old t s → ⊥) → (s : Option TenantState) → new t s → ⊥
 still-by old new c r t true e by bad = (by.damaged t e bad).1
@@ -129,7 +129,7 @@ all_zip-append R [] zs (y ∷ ys) ws h k = absurd h
 all_zip-append R (x ∷ xs) zs [] ws h k = absurd h
 all_zip-append R (x ∷ xs) zs (y ∷ ys) ws h k = (h.0, all_zip-append R xs zs ys ws h.1 k)
 
--- what counts in both is what counts in one, and then in the other
+-- the calls that count in two runs are those of the first and then those of the second
 answered-append : (t : List ℕ) (cs ds : List Call) (rs qs : List Reply) → length rs ≡ length cs → answered t (cs ++ ds) (rs ++ qs) ≡ answered t cs rs ++ answered t ds qs
 answered-append t cs ds rs qs h =
     let test = λ (p : Call × Reply). counts t p.0 p.1 in ap (filter test) (zip-append cs ds rs qs h) ∙ filter-append test (zip cs rs) (zip ds qs)
@@ -178,7 +178,7 @@ not_counted t c r gone = at (is_of t c)
     at true = ap (λ b. cond {A = List (Call × Reply)} b ((c, r) ∷ []) []) no
     at false = refl
 
--- it counts for no tenant
+-- such a call counts for no tenant
 same_answered : (t : List ℕ) (cs : List Call) (rs : List Reply) (c : Call) (r : Reply) → length rs ≡ length cs → IsUnavailable r
     → answered t (cs ++ c ∷ []) (rs ++ r ∷ []) ≡ answered t cs rs
 same_answered t cs rs c r count gone =
@@ -198,7 +198,7 @@ run_latched latched old mid new cs rs c r before gone = record {
   causes = All-append NamesCause rs (r ∷ []) before.causes (all_one NamesCause r (λ _. gone));
 }
 
--- a run, and one call more, whatever the store did; a latched store stays so
+-- a run, and one call more, whatever the store did; a latched store stays latched
 pub run_on : (was is : Bool) (old mid new : States) (cs : List Call) (rs : List Reply) (c : Call) (r : Reply) → MeetsDefinition was old mid cs rs
     → (is ≡ false → Serves c mid new r) → (is ≡ true → IsUnavailable r) → (was ≡ true → is ≡ true) → MeetsDefinition is old new (cs ++ c ∷ []) (rs ++ r ∷ [])
 run_on was true old mid new cs rs c r before serves silent rests = run_latched was old mid new cs rs c r before (silent refl)

@@ -15,7 +15,7 @@ use Rattle.tenant_core.specs.declared.queries.Query.{Query}
 use Rattle.tenant_core.specs.declared.queries.Query.TheVariants as query
 use Rattle.tenant_state.specs.State.{Inventory, TenantPool, pool}
 
--- a query asks this of this pool; most ask nothing that a cache has
+-- a query asks `asked` of the pool; most queries ask nothing that a cache has
 abbrev pub Asks : Query → Inventory → TenantPool → Asked → Type 0
 Asks (query.Group id g) inventory p asked = (pool id inventory ≡ Some p) × (asked ≡ Group g)
 Asks (query.Object id name) inventory p asked = (pool id inventory ≡ Some p) × (asked ≡ Group (group_of p.parts name))
@@ -27,9 +27,9 @@ Asks (query.Usage q) inventory p asked = ⊥
 Asks (query.Pick pick) inventory p asked = ⊥
 Asks (query.Test test) inventory p asked = ⊥
 
--- it is what a query asks for: the placement of its group; the groups that its device can touch,
--- with the id of their pool; or those that move between its versions, which gain no more devices
--- than the groups of a pool have places
+-- the cache has what a query asks for: the placement of its group; the groups that its device can
+-- touch, with the id of their pool; or those that move between its versions, which gain no more
+-- devices than the groups of a pool have places
 abbrev pub IsCachedFor : Query → Inventory → Cached → Type 0
 IsCachedFor asked inventory (Placed group placement) =
     (p : TenantPool) × Asks asked inventory p (Group group) × (groups.placed inventory p group ≡ Ok placement.value)

@@ -31,7 +31,7 @@ pub record Command : Type 0 where
   pub body : List ℕ
   pub order : Order
 
--- what is asked for is in its ranges
+-- the order is in its ranges
 abbrev pub IsOrder : Order → Type 0
 IsOrder (ImportMap text) = Unit {0}
 IsOrder (ChangeDevices changes) = list_all devices.is_in_range changes ≡ true
@@ -47,7 +47,7 @@ pub record IsCommand (command : Command) : Type 0 where
   pub body_text : is_utf8 command.body ≡ true
   pub order : IsOrder command.order
 
--- what an order does, or why nothing: the table of all orders
+-- what an order makes, or why nothing: the table of all orders
 abbrev pub order_on : Order → Inventory → Result Accepted Problem
 order_on (ImportMap text) inventory = maps.imported text inventory
 order_on (ChangeDevices changes) inventory = devices.devices_changed changes inventory
@@ -60,7 +60,8 @@ order_on (RemovePool id) inventory = pools.removed id inventory
 abbrev pub receipt_for : Command → Accepted → Receipt
 receipt_for command a = record { path = command.path; body = command.body; status = a.status; reply = compact_text a.body }
 
--- what is accepted is changed, with a receipt; what is refused changes nothing and leaves none
+-- an order that is accepted makes its change, with a receipt; one that is refused changes nothing
+-- and leaves no receipt
 abbrev pub change_or_refusal : Command → Result Accepted Problem → Decided
 change_or_refusal command (Err problem) = decided Keep (refused problem)
 change_or_refusal command (Ok a) =

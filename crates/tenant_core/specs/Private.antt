@@ -1,3 +1,3 @@
--- What private clauses and proofs alone cite: how the code works. No public clause rests on it.
+-- What only private clauses and proofs cite: how the code works. No public clause depends on it.
 pub mod Inserting
 pub mod Performing

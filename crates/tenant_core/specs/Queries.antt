@@ -1,4 +1,4 @@
--- Queries: what is asked of a tenant's state, which stays as it is.
+-- Queries: questions about a tenant's state, which is unchanged by them.
 use Rattle.tenant_messages.specs.Reply.{Answer}
 use Rattle.tenant_reports.specs.Impact as impact
 use Rattle.tenant_reports.specs.Moves as moves

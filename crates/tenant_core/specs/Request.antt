@@ -38,7 +38,7 @@ tenant_in target = option_and_then if_name (parameter (codes "t") target)
 
 -- ---- all of it: the checks in their order
 
--- the tenant's name, and then what the route asks for
+-- the tenant's name and what the route asks for, read in this order
 abbrev pub in_form : Target → List ℕ → Route → Option Request
 in_form target body route =
     option_and_then (λ tenant. option_map (λ action. record { tenant = tenant; action = action }) (read route target body)) (tenant_in target)

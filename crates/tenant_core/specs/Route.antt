@@ -1,5 +1,5 @@
--- All routes: the paths with their methods, and what each asks for, by the parts of the path and
--- the body.
+-- All routes: the paths with their methods, and what each route asks for, by the parts of the path
+-- and the body.
 use Rattle.std.specs.Prelude.{ℕ, ◌==◌, List, [], ◌∷◌, length, if◌then◌else◌, Option, Some, None, option_map, option_and_then, codes}
 use Rattle.std.specs.Str.{bytes_eq}
 use Rattle.tenant_reports.specs.DeviceCsv as device_csv
@@ -58,9 +58,9 @@ route_of method methods =
     else (if bytes_eq method (codes "POST") then methods.post
     else (if bytes_eq method (codes "PUT") then methods.put else None)))
 
--- ---- what each asks for
+-- ---- what each route asks for
 
--- what follows from the number that a part of the path writes, if it writes one
+-- the action from the number that a part of the path writes, if it writes one
 abbrev pub with_number : List ℕ → Target → (ℕ → Option Action) → Option Action
 with_number key target action_of = option_and_then action_of (path_number key target)
 
@@ -68,11 +68,12 @@ with_number key target action_of = option_and_then action_of (path_number key ta
 abbrev pub if_empty : List ℕ → Action → Option Action
 if_empty body action = if length body == 0 then Some action else None
 
--- a changing request keeps its path and its body, by which a repeat is known
+-- a changing request has its path and its body, by which a repeat is recognized
 abbrev pub command_of : Target → List ℕ → List ℕ → Order → Action
 command_of target body number order = Command (record { number = number; path = target.path; body = body; order = order })
 
--- the parts of the path and the body; which of them is read first makes no difference
+-- the action of a route, from the parts of the path and the body; their order of reading makes no
+-- difference
 abbrev pub read : Route → Target → List ℕ → Option Action
 read route.CreateTenant target body = if_empty body CreateTenant
 read route.ShowTenant target body = if_empty body ShowTenant

@@ -46,12 +46,12 @@ Shows states t (HasState s) = states t s
 abbrev pub LeavesAsItWas : States → Outcomes → Type 0
 LeavesAsItWas old left = (t : List ℕ) (found : Found) → left t found → Shows old t found
 
--- or with this name in this state
+-- or it finds this name in this state
 abbrev pub LeavesAsItWasOr : List ℕ → Option TenantState → States → Outcomes → Type 0
 LeavesAsItWasOr name s old left =
     (t : List ℕ) (found : Found) → left t found → Shows old t found ⊎ ((t ≡ name) × (found ≡ HasState s))
 
--- or with the call's tenant in the state that the call's step leaves
+-- or it finds the call's tenant in the state that the call's step leaves
 abbrev pub LeavesStep : Call → States → Outcomes → Type 0
 LeavesStep call old left =
     (t : List ℕ) (found : Found) → left t found
@@ -60,7 +60,7 @@ LeavesStep call old left =
 -- ---- one reply
 
 -- the reply isn't 503; it is the step's on the state of the call's tenant, which then has the
--- step's state; a damaged tenant stays so; every other tenant keeps its own
+-- step's state; a damaged tenant stays damaged; the state of every other tenant is unchanged
 pub record Follows (call : Call) (old new : States) (reply : Reply) : Type 0 where
   pub answered : is_answered reply ≡ true
   pub own : (t : List ℕ) (s : Option TenantState) → is_of t call ≡ true → old t s → (reply ≡ (step call s).reply) × new t (step call s).state
@@ -68,7 +68,7 @@ pub record Follows (call : Call) (old new : States) (reply : Reply) : Type 0 whe
   pub others : (t : List ℕ) (s : Option TenantState) → is_of t call ≡ false → (old t s ↔ new t s)
   pub nobody : tenant_of call ≡ None → reply ≡ (step call None).reply
 
--- the reply is 503, and every tenant keeps its state
+-- the reply is 503, and the state of every tenant is unchanged
 pub record GivesUp (old new : States) (reply : Reply) : Type 0 where
   pub unavailable : IsUnavailable reply
   pub same : Same old new
@@ -90,27 +90,27 @@ abbrev pub Leaves : States → States → List Call → List Reply → Type 0
 Leaves old new calls replies =
     (t : List ℕ) (s : Option TenantState) → old t s → new t (alone s (calls_answered t calls replies)).state
 
--- a call of no tenant is served: the reply is the step's, which is by the call alone, or 503
+-- a call of no tenant is served: the reply is the step's, which depends on the call alone, or 503
 abbrev pub ServesCallOfNobody : Call → Reply → Type 0
 ServesCallOfNobody call reply = tenant_of call ≡ None → (reply ≡ (step call None).reply) ⊎ IsUnavailable reply
 
--- each of them has a reply of its own
+-- each call of no tenant is served like this
 abbrev pub ServesCallsOfNobody : List Call → List Reply → Type 0
 ServesCallsOfNobody calls replies = AllZip ServesCallOfNobody calls replies
 
--- a call of a damaged tenant is served: the reply is the one for such a tenant, or 503
+-- a call of a damaged tenant is served: the reply is the one for a damaged tenant, or 503
 abbrev pub ServesCallOfDamaged : List ℕ → Call → Reply → Type 0
 ServesCallOfDamaged t call reply = is_of t call ≡ true → (reply ≡ reply_where_damaged call) ⊎ IsUnavailable reply
 
--- the calls of each damaged tenant are served so
+-- the calls of each damaged tenant are served like this
 abbrev pub ServesCallsOfDamaged : States → List Call → List Reply → Type 0
 ServesCallsOfDamaged old calls replies = (t : List ℕ) → IsDamaged old t → AllZip (ServesCallOfDamaged t) calls replies
 
--- each damaged tenant stays so
+-- each damaged tenant stays damaged
 abbrev pub StaysDamaged : States → States → Type 0
 StaysDamaged old new = (t : List ℕ) → IsDamaged old t → IsDamaged new t
 
--- each reply of the status 503 is one of the two
+-- each reply of the status 503 names one of the two causes
 abbrev pub NamesCause : Reply → Type 0
 NamesCause reply = reply.status ≡ 503 → IsUnavailable reply
 

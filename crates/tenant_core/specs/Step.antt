@@ -23,7 +23,7 @@ use Rattle.tenant_state.specs.declared.receipts.Receipt.{Receipt}
 -- ---- one request
 
 -- the decision on an action, from what its tenant has, or from its absence, and from the receipt of
--- its request number, if it has one. A query keeps the state
+-- its request number, if it has one. A query leaves the state unchanged
 abbrev pub decision_from : List ℕ → Action → Option Inventory → Option Receipt → Decided
 decision_from tenant CreateTenant found receipt = tenants.created_on tenant found
 decision_from tenant ShowTenant found receipt = if_present found (λ inventory. decided Keep (success (tenants.summary tenant inventory)))
@@ -39,7 +39,7 @@ receipt_in DropTenant state = None
 receipt_in (Command command) state = option_and_then (λ s. receipt_of command.number s.receipts) state
 receipt_in (Query query) state = None
 
--- from the state of its tenant
+-- the decision on an action, from the state of its tenant
 abbrev pub decision_on : List ℕ → Action → Option TenantState → Decided
 decision_on tenant action state = decision_from tenant action (option_map inventory_of state) (receipt_in action state)
 

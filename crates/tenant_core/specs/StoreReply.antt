@@ -33,12 +33,12 @@ store_fault Full = store_failed
 store_fault Failed = store_failed
 store_fault Damaged = store_damaged
 
--- the replies 503: no memory, or a store that is full or failed; there is no other
+-- the replies 503, of which there are two: an allocation failed, or the store is full or failed
 abbrev pub IsUnavailable : Reply → Type 0
 IsUnavailable replied = (replied ≡ no_memory) ⊎ (replied ≡ store_failed)
 
 -- the reply to a call where the data of its tenant is damaged: a call that fails a check has the
--- same reply as always
+-- same reply as on any other data
 abbrev pub refused_or_damaged : Result Request Problem → Reply
 refused_or_damaged (Ok request) = store_damaged
 refused_or_damaged (Err problem) = reply (refused problem)

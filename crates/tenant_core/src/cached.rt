@@ -1,4 +1,4 @@
-//! What a store may have in its cache for a query, and the reply by it.
+//! What a store may have in its cache for a query, and the reply from that.
 
 ghost use Rattle.std.specs.Prelude.{◌≡◌, IfOk};
 ghost use Rattle.tenant_core.specs.Cached.{IsCachedFor};
@@ -19,9 +19,9 @@ use tenant_state::{Inventory, TenantPool};
 /// What a query asks of a pool.
 #[derive(Clone, Copy, Debug, PartialEq, Eq)]
 pub enum Asked {
-    /// Where a group lies, which the pool has.
+    /// Where the group with this number lies, which the pool has.
     Group(u32),
-    /// Which groups the device with a number can touch.
+    /// Which groups the device with this number can touch.
     Device(u64),
     /// Which groups move from the version with the first number to that with the second.
     Versions(u64, u64),
@@ -42,8 +42,8 @@ impl Query {
     ghost use Rattle.std.specs.Prelude.{IfSome};
     ghost use Rattle.tenant_core.specs.Cached.{Asks};
 
-    /// Returns what it asks, and of which pool; `None` where it asks nothing that a store may have
-    /// in its cache, or where what its tenant has lacks the pool or the group.
+    /// Returns what the query asks, and of which pool; `None` where it asks nothing that a store
+    /// may have in its cache, or where the inventory lacks the pool or the group.
     pub fn asked_in<'a>(&self, inventory: &'a Inventory) -> Option<(&'a TenantPool, Asked)>
         ensures { IfSome result (λ r. Asks self.now inventory.now r.0.now r.1) }
     {
@@ -74,7 +74,7 @@ impl Query {
     }
 }
 
-/// Returns the reply to a query, by what a store had in its cache for it. `Err(AllocError)`: an
+/// Makes the reply to a query from what a store had in its cache for it. `Err(AllocError)`: an
 /// allocation failed; nothing is changed.
 pub fn answer_cached(
     alloc: Global,

@@ -38,11 +38,11 @@ pub enum Order {
     RemovePool(u32),
 }
 
-/// A changing request, as it is read (`IsCommand`). Its path and body are those of its call, which
-/// lends them; a repeat is known by them.
+/// A changing request, as it is read (`IsCommand`). Its path and body are borrowed from its call; a
+/// repeat is recognized by them.
 #[derive(Drop)]
 pub struct Command<'a> {
-    /// The request number, of 1 byte to `REQUEST_NUMBER_LIMIT`.
+    /// The request number, of 1 to `REQUEST_NUMBER_LIMIT` bytes.
     pub number: Text,
     pub path: &'a str,
     pub body: &'a str,
@@ -59,7 +59,7 @@ impl<'a> Model for Command<'a> {
     ghost invariant = { λ a. IsCommand (record { number = a.number; path = a.path.now; body = a.body.now; order = a.order }) };
 }
 
-/// Returns what an order makes, with the reply, or why nothing: the table of all orders.
+/// Accepts an order, with the reply, or says why not: the table of all orders.
 fn accept(alloc: Global, order: &Order, inventory: &Inventory) -> Result<Accepted, Refusal>
     requires epoch { inventory.now.epoch < 2 ^ 32 }
     requires order { spec.IsOrder order.now }
@@ -84,8 +84,8 @@ fn accept(alloc: Global, order: &Order, inventory: &Inventory) -> Result<Accepte
     }
 }
 
-/// Returns the change that an accepted order makes, with its receipt, and the reply.
-/// `Err(AllocError)`: an allocation failed; what was accepted is dropped.
+/// Makes the change of an accepted order, with its receipt, and the reply. `Err(AllocError)`: an
+/// allocation failed; `accepted` is dropped.
 fn with_receipt(
     alloc: Global,
     command: &Command<'_>,
@@ -111,7 +111,7 @@ fn with_receipt(
     Ok((Some(change), reply))
 }
 
-/// Returns what a command with a new request number does: its change, if it is accepted, and the
+/// Decides what a command with a new request number does: its change, if it is accepted, and the
 /// reply.
 fn apply_new(
     alloc: Global,
@@ -130,7 +130,7 @@ fn apply_new(
     }
 }
 
-/// Returns the reply to a command whose request number has a receipt: that of the receipt again, or
+/// Makes the reply to a command whose request number has a receipt: that of the receipt again, or
 /// the one that names `RequestReused` where another request left it.
 fn reply_again(alloc: Global, command: &Command<'_>, receipt: &Receipt) -> Result<Reply, AllocError>
     ensures { IfOk result (λ r. r ≡ reply (spec.again command.now receipt.now)) }
@@ -142,9 +142,9 @@ fn reply_again(alloc: Global, command: &Command<'_>, receipt: &Receipt) -> Resul
     }
 }
 
-/// Returns what a changing request does to a tenant that has this, from the receipt of the request
-/// number, if there is one: its change, if it is accepted, and its reply, which is that of the
-/// receipt where the request is a repeat. `Err(AllocError)`: an allocation failed; nothing is
+/// Decides what a changing request does to a tenant with this inventory, from the receipt of the
+/// request number, if there is one: its change, if it is accepted, and its reply, which is that of
+/// the receipt where the request is a repeat. `Err(AllocError)`: an allocation failed; nothing is
 /// changed.
 ///
 /// The change isn't made yet (`TenantState::change`, `TenantState::after`).
@@ -163,7 +163,7 @@ pub fn apply_to(
     }
 }
 
-/// Returns the same from the whole state of the tenant.
+/// Decides the same from the whole state of the tenant.
 pub fn apply(
     alloc: Global,
     state: &TenantState,

@@ -17,7 +17,7 @@ use tenant_state::{Change, Inventory, Receipt};
 /// What a request does to its tenant.
 #[derive(Drop)]
 pub enum Effect {
-    /// The tenant keeps its state, or stays absent.
+    /// The tenant's state is unchanged, or the tenant stays absent.
     Keep,
     /// The tenant, which is absent, is created.
     Create,
@@ -34,7 +34,7 @@ pub struct Decision {
     pub reply: Reply,
 }
 
-/// Returns the decision that leaves the tenant as it is, with this reply.
+/// Makes the decision that leaves the tenant unchanged, with the reply `written`.
 fn kept(written: Reply) -> Decision
     ensures effect { result.effect ≡ Effect.Keep }
     ensures reply { result.reply ≡ written }
@@ -45,7 +45,7 @@ fn kept(written: Reply) -> Decision
     }
 }
 
-/// Returns the decision on a changing request, by its change, if it is accepted.
+/// Makes the decision on a changing request, by its change, if it is accepted.
 fn changed(change: Option<Change>, written: Reply) -> Decision
     ensures effect { result.effect ≡ effect_of change }
     ensures reply { result.reply ≡ written }
@@ -60,9 +60,10 @@ fn changed(change: Option<Change>, written: Reply) -> Decision
     }
 }
 
-/// Returns what an action does to a tenant, and the reply, from what the tenant has, or from its
-/// absence (`None`), and from the receipt of the action's request number, if it has one: so from
-/// each state that has these. `Err(AllocError)`: an allocation failed; nothing is changed.
+/// Decides what an action does to a tenant, and the reply, from what the tenant has, or from its
+/// absence (`None`), and from the receipt of the action's request number, if it has one. The
+/// decision is the same for each state that has these. `Err(AllocError)`: an allocation failed;
+/// nothing is changed.
 pub fn decide(
     alloc: Global,
     tenant: &str,
@@ -78,7 +79,7 @@ pub fn decide(
     decide_from(alloc, tenant, inventory, receipt, action)
 }
 
-/// Returns the same, by the definition over what the tenant has and the receipt.
+/// Decides the same, by the definition that takes what the tenant has and the receipt.
 fn decide_from(
     alloc: Global,
     tenant: &str,

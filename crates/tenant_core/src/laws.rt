@@ -1,4 +1,4 @@
-//! Laws of the definitions: each contract holds of the definitions alone.
+//! Laws of the definitions: each contract is about the definitions alone.
 
 ghost use Rattle.std.specs.Prelude.{◌≡◌, ◌≢◌, ◌<◌, ℕ, suc, true, is_ok, List, Option, Some, None};
 ghost use Rattle.std.specs.Str.{is_utf8};
@@ -18,13 +18,13 @@ ghost use Rattle.tenant_state.specs.Valid.{IsState};
 
 use crush_text::texts_are_read_as_they_say;
 
-/// No step has the status 500 or 503: these are for a store that fails, and for no memory.
+/// No step has the status 500 or 503: these are for a store or an allocation that fails.
 pub fn no_step_answers_500_or_503()
     ensures no_500 { (call : Call) (s : Option TenantState) → (step call s).reply.status ≢ 500 }
     ensures no_503 { (call : Call) (s : Option TenantState) → (step call s).reply.status ≢ 503 }
 {}
 
-/// A call of no tenant has one reply on every state, and leaves the state as it is.
+/// A call of no tenant has one reply on every state, and leaves the state unchanged.
 pub fn a_call_of_no_tenant_stands_alone()
     ensures reply { (call : Call) (s : Option TenantState) → tenant_of call ≡ None → (step call s).reply ≡ (step call None).reply }
     ensures state { (call : Call) (s : Option TenantState) → tenant_of call ≡ None → (step call s).state ≡ s }
@@ -65,8 +65,8 @@ pub fn each_change_leaves_a_state()
     texts_are_read_as_they_say();
 }
 
-/// The newest version has the rule of each pool: so it is of a new tenant, and so it stays,
-/// whatever changes. Hence each group of a pool is placed.
+/// The newest version has the rule of each pool: this holds for a new tenant, and each change
+/// leaves it so. Hence each group of a pool is placed.
 pub fn pools_have_their_rules()
     ensures fresh { have_rules (inventory_of fresh) ≡ true }
     ensures stays { (tenant : List ℕ) (action : Action) (s : TenantState) (c : Change) → (decision_on tenant action (Some s)).effect ≡ Effect.Change c

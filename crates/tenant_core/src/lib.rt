@@ -1,4 +1,4 @@
-//! One tenant: requests, replies, its state, and the contract of the store that keeps states.
+//! One tenant: requests, replies, its state, and the contract of the store that holds states.
 #![tactic(auto)]
 
 mod cached;

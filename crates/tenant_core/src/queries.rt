@@ -1,4 +1,4 @@
-//! Queries: what is asked of a tenant's state, which stays as it is.
+//! Queries: questions about a tenant's state, which is unchanged by them.
 
 ghost use Rattle.std.specs.Prelude.{◌≡◌, IfOk};
 ghost use Rattle.tenant_core.specs.Queries as spec;
@@ -36,7 +36,7 @@ pub enum Query {
     Test(RuleTest),
 }
 
-/// Returns the reply to a query, from what its tenant has, or the problem: the table of all
+/// Makes the reply to a query, from what its tenant has, or returns the problem: the table of all
 /// queries.
 fn reply_or_refusal(alloc: Global, inventory: &Inventory, query: &Query) -> Result<Reply, Refusal>
     ensures { Answers result (spec.answer query.now inventory.now) }
@@ -54,7 +54,7 @@ fn reply_or_refusal(alloc: Global, inventory: &Inventory, query: &Query) -> Resu
     }
 }
 
-/// Returns the reply to a query, from what its tenant has, or the reply that names the problem.
+/// Makes the reply to a query, from what its tenant has, or the reply that names the problem.
 /// `Err(AllocError)`: an allocation failed; nothing is changed.
 pub fn answer(alloc: Global, inventory: &Inventory, query: &Query) -> Result<Reply, AllocError>
     ensures { IfOk result (λ r. r ≡ reply (spec.answer query.now inventory.now)) }

@@ -31,8 +31,8 @@ pub enum Action<'a> {
     Query(Query),
 }
 
-/// What is asked of a tenant. Its call lends the tenant's name, and the path and the body of a
-/// command.
+/// What is asked of a tenant. The tenant's name, and the path and the body of a command, are
+/// borrowed from the call.
 #[derive(Drop)]
 pub struct Request<'a> {
     /// The tenant's name: 1 to 64 bytes of `A-Z a-z 0-9 . _ -`.
@@ -50,7 +50,7 @@ impl<'a> Model for Request<'a> {
 
 // ---- the tenant
 
-/// Returns the name of the tenant, from the path's parameter `t`; `None` where it isn't a name.
+/// Reads the name of the tenant, the path's parameter `t`; returns `None` where it isn't a name.
 fn tenant_in<'p>(target: &Target<'_, 'p>) -> Option<&'p str>
     ensures { option_map (λ name. name.now) result ≡ spec.tenant_in target.now }
 {
@@ -60,8 +60,8 @@ fn tenant_in<'p>(target: &Target<'_, 'p>) -> Option<&'p str>
 
 // ---- all of it
 
-/// Returns the tenant's name, and what the route asks for. The problem is `BadRequest`, exactly
-/// where one of them isn't of its form.
+/// Reads the tenant's name, and what the route asks for. The problem is `BadRequest`, exactly where
+/// one of them doesn't have its form.
 fn in_form<'p>(
     alloc: Global,
     target: &Target<'_, 'p>,
@@ -75,7 +75,7 @@ fn in_form<'p>(
     Ok(Request { tenant, action })
 }
 
-/// Returns the request of a call. The problem is that of the first check that fails, in this order:
+/// Reads the request of a call. The problem is that of the first check that fails, in this order:
 /// the length of the body (`TooLarge`), the path (`NoPath`), the method (`Method`), and the
 /// tenant's name, the numbers in the path and the form of the body (`BadRequest`).
 #[tactic(auto, unfolding(crate::specs::Request::request_of))]

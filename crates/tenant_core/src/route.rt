@@ -1,4 +1,4 @@
-//! All routes: the paths with their methods, and what each asks for.
+//! All routes: the paths with their methods, and what each route asks for.
 
 ghost use Rattle.std.specs.Prelude.{◌≡◌, true};
 ghost use Rattle.tenant_messages.specs.Reading.{Reads};
@@ -108,8 +108,8 @@ pub(crate) fn route_of(method: &[u8], methods: Methods) -> Option<Route>
 
 // ---- the parts of the path, and the body
 
-/// Returns the number that a part of the path writes, in 1 to 10 digits. The problem is
-/// `BadRequest`, exactly where it writes none.
+/// Reads the number that a part of the path writes, in 1 to 10 digits. The problem is `BadRequest`,
+/// exactly where the part isn't one.
 fn number(target: &Target<'_, '_>, key: &str) -> Result<u64, Refusal>
     ensures { Reads (λ n. n) result (path_number key.now target.now) }
 {
@@ -117,7 +117,7 @@ fn number(target: &Target<'_, '_>, key: &str) -> Result<u64, Refusal>
     Ok(number_from_text(part.as_bytes()).ok_or(Problem::BadRequest)?)
 }
 
-/// Returns an action whose body is empty. The problem is `BadRequest`, exactly where it isn't.
+/// Returns `action` if `body` is empty. The problem is `BadRequest`, exactly where it isn't.
 fn if_empty<'p>(body: &[u8], action: Action<'p>) -> Result<Action<'p>, Refusal>
     ensures { Reads (λ a. a) result (spec.if_empty body.now action.entry) }
 {
@@ -128,13 +128,13 @@ fn if_empty<'p>(body: &[u8], action: Action<'p>) -> Result<Action<'p>, Refusal>
     }
 }
 
-/// Returns a changing request, with its path and its body, by which a repeat is known.
+/// Makes a changing request, with its path and its body, by which a repeat is recognized.
 fn command<'p>(target: &Target<'_, 'p>, body: &'p str, number: Text, order: Order) -> Action<'p>
     requires number { has_length number ≡ true }
     requires order { IsOrder order }
     ensures { result ≡ spec.command_of target.now body.now number order }
 {
-    // of a string slice the prover knows that it is UTF-8, and of a `Text` it doesn't
+    // the prover knows that a string slice is UTF-8, but not that a `Text` is
     let _number = number.as_str();
     Action::Command(Command {
         number,
@@ -144,8 +144,8 @@ fn command<'p>(target: &Target<'_, 'p>, body: &'p str, number: Text, order: Orde
     })
 }
 
-/// Returns what a route asks for, by the parts of the path and the body. The problem is
-/// `BadRequest`, exactly where one of them isn't of its form.
+/// Reads what a route asks for, from the parts of the path and the body. The problem is
+/// `BadRequest`, exactly where one of them doesn't have its form.
 pub(crate) fn read<'p>(
     alloc: Global,
     route: Route,

@@ -23,7 +23,7 @@ impl Routes {
     ghost use Rattle.std.specs.Prelude.{◌≡◌};
     ghost use Rattle.tenant_core.specs.Router.{target_of};
 
-    /// Returns the router of all routes. `Err(AllocError)`: an allocation failed; nothing is
+    /// Builds the router of all routes. `Err(AllocError)`: an allocation failed; nothing is
     /// changed.
     pub fn build(alloc: Global) -> Result<Self, AllocError> {
         let mut router = Router::new(alloc);
@@ -31,7 +31,7 @@ impl Routes {
         Ok(Routes { router })
     }
 
-    /// Returns what a path names, or `None` where it has no route. Allocates nothing.
+    /// Finds what a path names, or returns `None` where it has no route. Allocates nothing.
     pub fn find<'p>(&self, path: &'p str) -> Option<Target<'_, 'p>>
         ensures { result ≡ target_of path.now }
     {
@@ -80,7 +80,7 @@ impl<'r, 'p> Target<'r, 'p> {
     ghost use Rattle.tenant_core.specs.Route.{route_of};
     ghost use Rattle.tenant_core.specs.Target.{methods_in, parameter};
 
-    /// Returns the route of a method, if the path has the method.
+    /// Returns the route of `method`, if the path has this method.
     pub fn route(&self, method: &[u8]) -> Option<Route>
         ensures { result ≡ route_of method.now (methods_in self.now) }
     {
@@ -94,8 +94,8 @@ impl<'r, 'p> Target<'r, 'p> {
         self.path
     }
 
-    /// Returns the part of the path that a parameter took. A path with a byte that isn't ASCII has
-    /// no parameters.
+    /// Returns the part of the path that the parameter `key` took. A path with a byte that isn't
+    /// ASCII has no parameters.
     pub fn parameter(&self, key: &str) -> Option<&'p str>
         ensures { option_map (λ text. text.now) result ≡ parameter key.now self.now }
     {
@@ -115,7 +115,7 @@ fn is_ascii_text(text: &str) -> bool
 }
 
 /// Adds a path, which is well formed and conflicts with none in the router. `Err(AllocError)`: an
-/// allocation failed; the router must not be used any more.
+/// allocation failed; the router must no longer be used.
 fn insert(router: &mut Router<Methods>, path: &str, methods: Methods) -> Result<(), AllocError>
     requires read { is_ok (parse_route path.now) ≡ true }
     requires new { is_new (parse_route path.now) router.old ≡ true }
@@ -128,8 +128,7 @@ fn insert(router: &mut Router<Methods>, path: &str, methods: Methods) -> Result<
     }
 }
 
-/// Adds paths in order. `Err(AllocError)`: an allocation failed; the router must not be used any
-/// more.
+/// Adds paths in order. `Err(AllocError)`: an allocation failed; the router must no longer be used.
 fn insert_all(router: &mut Router<Methods>, rows: &[(&str, Methods)]) -> Result<(), AllocError>
     requires { are_new (map (λ row. (row.0.now, row.1)) rows.now) router.old ≡ true }
     ensures { OnOk result (router.new ≡ fold with_path router.old (map (λ row. (row.0.now, row.1)) rows.now)) }

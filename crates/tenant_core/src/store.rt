@@ -1,4 +1,4 @@
-//! The store of tenants' states: what one has to do, and the replies where it fails.
+//! The store of tenants' states: its contract, and the replies where it fails.
 
 ghost use Rattle.std.specs.Prelude.{◌≡◌, ◌≢◌, ◌⊎◌, ◌↔◌, ℕ, List, Bool, true, false, Option, Some, None, Err, IfOk, IfSome, OnOk, OnErr, option_map};
 ghost use Rattle.tenant_core.specs.Cached.{IsCachedFor};
@@ -17,12 +17,12 @@ use store_faults::StoreFault;
 use tenant_messages::{Reply, error, no_memory, written};
 use tenant_state::{Change, Inventory, Receipt};
 
-/// A store of tenants' states by name. It keeps the allocator that its constructor was given.
+/// A store of tenants' states by name. It holds the allocator that its constructor was given.
 ///
 /// Five ghosts give a store its meaning. `is_honest`: what it reads is what it wrote. `has_state`:
 /// the state of a name. `latched`: a call failed for good; the states then say nothing any more,
 /// and no call but `is_latched` may follow. `may_leave`: what an opening may find of a name after a
-/// crash now. `keeps`: a call changed nothing, not even data that is no state.
+/// crash now. `keeps`: a call changed nothing, not even data that isn't a state.
 ///
 /// In an honest store that isn't latched each name has one state (`IsState`), is absent, or has
 /// damaged data. Clauses on states have the premise that the store is honest after the call; it
@@ -49,7 +49,7 @@ pub trait TenantStore {
     fn is_latched(&self) -> bool
         ensures { result ≡ latched self.now };
 
-    /// Returns what a tenant has, shared and not copied, or `None` where it is absent.
+    /// Loads what a tenant has, shared and not copied, or returns `None` where it is absent.
     fn load(&mut self, name: &str) -> Result<Option<Rc<Inventory>>, StoreFault>
         requires open { latched self.old ≡ false }
         ensures found { is_honest self.new → IfOk result (λ found. HasInventory (has_state self.old) name.now (option_map (λ r. r.value) found)) }
@@ -59,7 +59,8 @@ pub trait TenantStore {
         ensures crash { is_honest self.new → latched self.new ≡ true → LeavesAsItWas (has_state self.old) (may_leave self.new) }
         ensures honest { is_honest self.new → is_honest self.old };
 
-    /// Returns the receipt of a request number of a tenant, which exists, shared, or `None`.
+    /// Finds the receipt of a request number of a tenant, which exists, and shares it, or returns
+    /// `None`.
     fn find_receipt(&mut self, name: &str, number: &str) -> Result<Option<Rc<Receipt>>, StoreFault>
         requires open { latched self.old ≡ false }
         requires there { is_honest self.old → (s : TenantState) × has_state self.old name.now (Some s) }
@@ -71,7 +72,7 @@ pub trait TenantStore {
         ensures honest { is_honest self.new → is_honest self.old };
 
     /// Returns what a tenant has, with what a query asks for, where the store has both in its
-    /// cache; `None` says nothing. Nothing is changed that contracts see.
+    /// cache; `None` says nothing. It changes nothing that contracts see.
     fn cached(&mut self, name: &str, query: &Query) -> Option<(Rc<Inventory>, Cached)>
         ensures fits { IfSome result (λ r. IsCachedFor query.now r.0.value r.1) }
         ensures found { is_honest self.new → latched self.new ≡ false → IfSome result (λ r. HasInventory (has_state self.new) name.now (Some r.0.value)) }
@@ -123,7 +124,7 @@ pub trait TenantStore {
     /// A law: each state of a name is within the limits of a state, with its orders and ranges.
     ghost are_states: { (store : Self) (t : List ℕ) (s : TenantState) → is_honest store → latched store ≡ false → has_state store t (Some s) → IsState s };
 
-    /// Laws: each store keeps its own data, and what keeps the data of one that keeps it keeps it.
+    /// Laws: `keeps` is reflexive and transitive.
     ghost keeps_itself: { (store : Self) → keeps store store };
 
     ghost keeps_both: { (old mid new : Self) → keeps old mid → keeps mid new → keeps old new };
@@ -135,7 +136,7 @@ pub trait TenantStore {
     ghost settled: { (store : Self) (t : List ℕ) (found : Found) → is_honest store → latched store ≡ false → may_leave store t found → Shows (has_state store) t found };
 }
 
-/// Returns the reply where a call of the store failed. `Err(AllocError)`: an allocation failed;
+/// Makes the reply where a call of the store failed. `Err(AllocError)`: an allocation failed;
 /// nothing is changed.
 fn reply_to(alloc: Global, fault: StoreFault) -> Result<Reply, AllocError>
     ensures { IfOk result (λ r. r ≡ spec.store_fault fault) }
@@ -161,7 +162,7 @@ fn store_failed(alloc: Global) -> Result<Reply, AllocError>
     written(alloc, 503, &error(alloc, "store_failed")?)
 }
 
-/// Returns the reply where a call of the store failed: 500 `store_damaged`, 503 `store_failed`, or
+/// Makes the reply where a call of the store failed: 500 `store_damaged`, 503 `store_failed`, or
 /// the 503 where an allocation failed, which may also come in place of the others. Never fails.
 pub fn store_fault(alloc: Global, fault: StoreFault) -> Reply
     ensures { (result ≡ spec.store_fault fault) ⊎ (result ≡ spec.no_memory) }

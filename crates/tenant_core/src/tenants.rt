@@ -13,15 +13,15 @@ use tenant_state::Inventory;
 
 // ---- bodies of replies
 
-/// Returns the body of the reply to a creation: the epoch 0 and the tenant's name.
+/// Makes the body of the reply to a creation: the epoch 0 and the tenant's name.
 fn creation(alloc: Global, tenant: &str) -> Result<Value, AllocError>
     ensures { IfOk result (λ v. view v ≡ spec.creation tenant.now) }
 {
     json!(in alloc; {"epoch": 0u64, "tenant": tenant})
 }
 
-/// Returns the body with what a tenant has: how many states of devices, pools and versions, and its
-/// epoch.
+/// Makes the body that says what a tenant has: the numbers of states of devices, of pools and of
+/// versions, and its epoch.
 fn summary(alloc: Global, tenant: &str, inventory: &Inventory) -> Result<Value, AllocError>
     ensures { IfOk result (λ v. view v ≡ spec.summary tenant.now inventory.now) }
 {
@@ -34,7 +34,7 @@ fn summary(alloc: Global, tenant: &str, inventory: &Inventory) -> Result<Value, 
     })
 }
 
-/// Returns the body of the reply to a removal: the tenant's name.
+/// Makes the body of the reply to a removal: the tenant's name.
 fn removal(alloc: Global, tenant: &str) -> Result<Value, AllocError>
     ensures { IfOk result (λ v. view v ≡ spec.removal tenant.now) }
 {
@@ -43,8 +43,8 @@ fn removal(alloc: Global, tenant: &str) -> Result<Value, AllocError>
 
 // ---- decisions and replies
 
-/// Returns the decision that creates the tenant, if it is absent (`None`); if it is there, the
-/// reply names `Exists`.
+/// Makes the decision that creates the tenant, if it is absent (`None`); if it is there, the reply
+/// names `Exists`.
 pub(crate) fn create(
     alloc: Global,
     tenant: &str,
@@ -65,14 +65,14 @@ pub(crate) fn create(
     })
 }
 
-/// Returns the reply with what a tenant has.
+/// Makes the reply that says what a tenant has.
 pub(crate) fn show(alloc: Global, tenant: &str, inventory: &Inventory) -> Result<Reply, AllocError>
     ensures { IfOk result (λ r. r ≡ reply (success (spec.summary tenant.now inventory.now))) }
 {
     success(alloc, &summary(alloc, tenant, inventory)?)
 }
 
-/// Returns the decision that drops a tenant, which is there.
+/// Makes the decision that drops a tenant, which is there.
 pub(crate) fn drop_tenant(alloc: Global, tenant: &str) -> Result<Decision, AllocError>
     ensures effect { IfOk result (λ d. d.effect ≡ Effect.Remove) }
     ensures reply { IfOk result (λ d. d.reply ≡ reply (success (spec.removal tenant.now))) }

@@ -1,4 +1,4 @@
--- What is kept of a session is in the order of its calls.
+-- The kept calls of a session are in the order of its calls.
 use Rattle.std.proofs.Common.{◌≡◌, ◌⊎◌, inl, inr, ◌<◌, ◌&&◌, ℕ, zero, suc, List, [], ◌∷◌, ◌++◌, map, filter, take, drop, Bool, true, false, cond, Option, Some, None, refl, sym, ap, subst, ◌∙◌, arith}
 use Rattle.std.proofs.lemmas.List.{append-nil, map-append}
 use Rattle.std.specs.List.{All}
@@ -8,7 +8,7 @@ use Rattle.tenant_history.specs.History.{AreInOrder, IsKeptOf, IsSilentFrom, IsS
 use Rattle.tenant_messages.specs.declared.call.Call.{Call}
 use Rattle.tenant_messages.specs.declared.reply.Reply.{Reply}
 
--- ---- the calls of what is kept
+-- ---- the calls of a list of kept calls
 
 pub calls_of-append : (xs ys : List Kept) → calls_of (xs ++ ys) ≡ calls_of xs ++ calls_of ys
 calls_of-append xs ys = map-append (λ (k : Kept). k.call) xs ys
@@ -29,7 +29,7 @@ calls_of_both t session =
 
 -- ---- in order
 
--- one call more in front of the others
+-- one more call in front of the others
 in_front : (cs calls : List Call) (c : Call) → AreInOrder cs calls → AreInOrder cs (c ∷ calls)
 in_front [] calls c h = tt
 in_front (d ∷ cs) calls c h = inr h
@@ -57,7 +57,7 @@ first_own : (t : List ℕ) (calls : List Call) → AreInOrder (filter (is_of t) 
 first_own t [] = tt
 first_own t (c ∷ calls) = own_call (is_of t c) c calls
 
--- one call more, acknowledged or not
+-- one more call, acknowledged or not
 counted_in_order : (b : Bool) (c : Call) (r : Reply) (ps : List (Call × Reply)) (more calls : List Call) → AreInOrder (map (λ (p : Call × Reply). p.0) ps ++ more) calls
     → AreInOrder (map (λ (p : Call × Reply). p.0) (cond b ((c, r) ∷ ps) ps) ++ more) (c ∷ calls)
 counted_in_order true c r ps more calls h = inl (refl, h)

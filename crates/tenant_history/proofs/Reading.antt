@@ -41,14 +41,14 @@ made t body number order a k is h =
     let same : ◌≡◌ {A = Command} (record { number = number; path = t.path; body = body; order = order }) k = cc in
     (sym (ap (λ (x : Command). x.path) same), sym (ap (λ (x : Command). x.body) same))
 
--- a command that is made of what a body asks for
+-- a command that is made from what a body asks for
 mapped : {X : Type 0} (t : Target) (body : List ℕ) (number : X → List ℕ) (order : X → Order) (o : Option X) (a : Action) (k : Command)
     → option_map (λ x. action.Command (record { number = number x; path = t.path; body = body; order = order x })) o ≡ Some a → command_in a ≡ Some k → IsFrom t.path body k
 mapped t body number order None a k h is = cc
 mapped t body number order (Some x) a k h is =
     let same : action.Command (record { number = number x; path = t.path; body = body; order = order x }) ≡ a = cc in made t body (number x) (order x) a k same is
 
--- what is read is no command
+-- what is read isn't a command
 IsNone : Option Action → Type 0
 IsNone o = (a : Action) (k : Command) → o ≡ Some a → command_in a ≡ Some k → ⊥
 

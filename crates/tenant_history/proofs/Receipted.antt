@@ -23,7 +23,7 @@ use Rattle.tenant_state.specs.State.{Change, TenantState, after, epoch, inventor
 use Rattle.tenant_state.specs.declared.limits.TheConstants.{RECEIPT_LIMIT}
 use Rattle.tenant_state.specs.declared.receipts.Receipt.{Receipt}
 
--- ---- a command keeps the state, or changes it
+-- ---- a command leaves the state unchanged, or changes it
 
 Acts : Decided → Type 0
 Acts d = (d.effect ≡ effect.Keep) ⊎ ((c : Change) × (d.effect ≡ effect.Change c))
@@ -48,7 +48,7 @@ acts k s = acts_on k s (receipt_of k.number s.receipts)
 
 -- ---- the command of a call
 
--- a call that asks for this command of some tenant
+-- a call that asks some tenant for the command k
 record Asks (request : Result Request Problem) (k : Command) : Type 0 where
   pub tenant : List ℕ
   pub is : request ≡ Ok (record { tenant = tenant; action = action.Command k })
@@ -71,7 +71,7 @@ numbered None n h = cc
 
 -- ---- the receipt of a call
 
--- the state has under this number the receipt of this call, which says this reply
+-- under `number` the state has the receipt of the call c, which says the reply r
 pub record HasReceipt (s : TenantState) (number : List ℕ) (c : Call) (r : Reply) : Type 0 where
   pub receipt : Receipt
   pub found : receipt_of number s.receipts ≡ Some receipt
@@ -157,7 +157,7 @@ stays c d n s u r has h = record {
   reply = has.reply;
 }
 
--- a tenant is gone after a drop alone
+-- a tenant is gone after a drop only
 gone_action : (tenant : List ℕ) (a : Action) (s : TenantState) → after_effect (decision_on tenant a (Some s)).effect (Some s) ≡ None → a ≡ action.DropTenant
 unfolding Acts
 gone_action tenant action.CreateTenant s h = cc

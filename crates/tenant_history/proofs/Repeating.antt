@@ -40,7 +40,7 @@ some_of (Some s) h = (s, refl)
 -- ---- the receipt
 
 module _ (start : Option TenantState) (kept : List Kept) where
-  -- the state at a place has the receipt of this call
+  -- the state at a place has the receipt of the call
   Has : List ℕ → Call → Reply → ℕ → Type 0
   Has n c r k = (s : TenantState) × (state_before start kept k ≡ Some s) × HasReceipt s n c r
 

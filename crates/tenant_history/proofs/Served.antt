@@ -1,4 +1,4 @@
--- A session goes on by one call, and what it then leaves.
+-- A session that goes on by one call, and the states that it then leaves.
 use Rattle.std.proofs.Common.{◌≡◌, ◌⊎◌, inl, inr, ◌==◌, ◌&&◌, ◌+◌, ◌<◌, ◌≤◌, ℕ, zero, suc, List, [], ◌∷◌, ◌++◌, map, filter, zip, length, take, drop, Bool, true, false, not, cond, Option, Some, None, is_some, option_map, refl, sym, ap, subst, ◌∙◌, arith, append_assoc, length-append}
 use Rattle.std.proofs.lemmas.List.{append-nil, map-append}
 use Rattle.std.proofs.lemmas.List.Elements.{filter-append, All-append}
@@ -78,7 +78,7 @@ same_answered : (t : List ℕ) (cs : List Call) (rs : List Reply) (c : Call) (r 
 same_answered t cs rs c r count gone =
     answered-append t cs (c ∷ []) rs (r ∷ []) count ∙ ap (λ ps. answered t cs rs ++ ps) (not_counted (is_of t c) c r gone) ∙ append-nil (answered t cs rs)
 
--- it adds no acknowledged call
+-- a call that is answered 503 adds no acknowledged call
 same_calls : (t : List ℕ) (cs : List Call) (rs : List Reply) (c : Call) (r : Reply) → length rs ≡ length cs → IsUnavailable r
     → calls_answered t (cs ++ c ∷ []) (rs ++ r ∷ []) ≡ calls_answered t cs rs
 same_calls t cs rs c r count gone = ap (map (λ (p : Call × Reply). p.0)) (same_answered t cs rs c r count gone)
@@ -233,7 +233,7 @@ session_both old mid left cs rs ds qs first second = record {
 
 -- ---- a session goes on
 
--- in a store that is latched
+-- a session goes on in a store that is latched
 silent_again : (rs : List Reply) (r : Reply) (doubt : Option ℕ) → IsSilentFrom doubt rs → IsUnavailable r → IsSilentFrom doubt (rs ++ r ∷ [])
 silent_again rs r None silent gone = tt
 silent_again rs r (Some place) silent gone = silent_more rs r place silent gone
@@ -264,7 +264,7 @@ session_shut old left after cs rs c r count gone rests before = record {
   crash = leaves_again old left after cs rs c r before.doubt count gone rests before.sound before.crash;
 }
 
--- whatever the store did
+-- a session goes on, whatever the store did
 pub session_more : (old mid : States) (left right : Outcomes) (was : Bool) (cs : List Call) (rs : List Reply) (c : Call) (r : Reply) → MeetsDefinition was old mid cs rs → IsSession old left cs rs
     → (was ≡ false → IsSession mid right (c ∷ []) (r ∷ [])) → (was ≡ true → IsUnavailable r) → (was ≡ true → (t : List ℕ) (found : Found) → right t found → left t found)
     → IsSession old right (cs ++ c ∷ []) (rs ++ r ∷ [])
@@ -273,7 +273,7 @@ session_more old mid left right true cs rs c r meets before one gone rests = ses
 
 -- ---- one call more
 
--- what one more call is, by whether the store was latched before it, and is after it
+-- one more call, by whether the store was latched before it, and is after it
 pub record OneMore (before after : Bool) (mid : States) (left right : Outcomes) (c : Call) (r : Reply) : Type 0 where
   pub crash : before ≡ false → after ≡ true → LeavesStep c mid right
   pub rests : before ≡ true → (t : List ℕ) (found : Found) → right t found → left t found

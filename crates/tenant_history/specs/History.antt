@@ -1,5 +1,5 @@
 -- Sessions, and histories of them: what a service does between one opening of its store and the
--- next, and what is kept of it.
+-- next, and which of its calls are kept.
 use Rattle.std.specs.Prelude.{ℕ, ◌≡◌, ◌⊎◌, ◌<◌, List, [], ◌∷◌, ◌++◌, length, map, filter, take, drop, slice_get, flat_map, false, Option, Some, None}
 use Rattle.std.specs.List.{All, AllZip}
 use Rattle.tenant_core.specs.Alone.{alone, is_answered, answered, calls_answered, replies_answered}
@@ -22,7 +22,7 @@ pub record Session : Type 0 where
 abbrev pub acknowledged : List ℕ → Session → List Call
 acknowledged t session = calls_answered t session.calls session.replies
 
--- the replies to them
+-- the replies to the acknowledged calls
 abbrev pub acknowledgements : List ℕ → Session → List Reply
 acknowledgements t session = replies_answered t session.calls session.replies
 
@@ -48,8 +48,8 @@ pub record IsSoundFor (t : List ℕ) (session : Session) : Type 0 where
   pub replies : acknowledgements t session ≡ (alone (session.found t) (acknowledged t session)).replies
   pub silent : IsSilentFrom session.doubt session.replies
 
--- what it may leave of a tenant: the state after its acknowledged calls, or after those and then
--- its call in doubt
+-- the state that the session may leave of a tenant: that after its acknowledged calls, or after
+-- those and then its call in doubt
 abbrev pub MayLeave : List ℕ → Session → Option TenantState → Type 0
 MayLeave t session state =
     (state ≡ (alone (session.found t) (acknowledged t session)).state) ⊎ (state ≡ (alone (session.found t) (acknowledged t session ++ in_doubt t session)).state)
@@ -81,12 +81,12 @@ calls_of kept = map (λ k. k.call) kept
 abbrev pub kept_acknowledged : List ℕ → Session → List Kept
 kept_acknowledged t session = map (λ p. record { call = p.0; reply = Some p.1 }) (answered t session.calls session.replies)
 
--- its call in doubt, without one
+-- the call in doubt of a tenant, if there is one, without a reply
 abbrev pub kept_in_doubt : List ℕ → Session → List Kept
 kept_in_doubt t session = map (λ call. record { call = call; reply = None }) (in_doubt t session)
 
--- what is kept of a session: every acknowledged call of the tenant, its call in doubt or not, and
--- no other call
+-- the list is kept of a session: every acknowledged call of the tenant, its call in doubt or not,
+-- and no other call
 abbrev pub IsKeptOf : List ℕ → Session → List Kept → Type 0
 IsKeptOf t session part = (part ≡ kept_acknowledged t session) ⊎ (part ≡ kept_acknowledged t session ++ kept_in_doubt t session)
 
@@ -96,7 +96,7 @@ AreInOrder [] calls = Unit {0}
 AreInOrder (c ∷ cs) [] = ⊥
 AreInOrder (c ∷ cs) (call ∷ calls) = ((c ≡ call) × AreInOrder cs calls) ⊎ AreInOrder (c ∷ cs) calls
 
--- what is kept of a session is in the order of its calls
+-- the calls that are kept of a session are in the order of its calls
 abbrev pub KeepsOrder : Session → List Kept → Type 0
 KeepsOrder session part = AreInOrder (calls_of part) session.calls
 
@@ -104,7 +104,7 @@ KeepsOrder session part = AreInOrder (calls_of part) session.calls
 abbrev pub joined : List (List Kept) → List Kept
 joined parts = flat_map (λ part. part) parts
 
--- the reply to a kept call, where it was acknowledged, is this one
+-- the reply to a kept call, where it was acknowledged, is r
 abbrev pub IsReplyTo : Kept → Reply → Type 0
 IsReplyTo kept reply = (r : Reply) → kept.reply ≡ Some r → r ≡ reply
 

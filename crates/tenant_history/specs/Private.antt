@@ -1,4 +1,4 @@
--- What private clauses and proofs alone cite: how a session is served. No public clause rests on
+-- What only private clauses and proofs cite: how a session is served. No public clause depends on
 -- it.
 use Rattle.std.specs.Prelude.{ℕ, ◌≡◌, List, Bool, true, false, Option, Some, None}
 use Rattle.tenant_core.specs.States.{States, Outcomes}
@@ -6,7 +6,7 @@ use Rattle.tenant_history.specs.Served.{LeavesSession}
 use Rattle.tenant_messages.specs.declared.call.Call.{Call}
 use Rattle.tenant_messages.specs.declared.reply.Reply.{Reply}
 
--- the doubt after one more call, at this place, which did or didn't latch the store
+-- the doubt after the call at `place`, which did or didn't latch the store
 abbrev pub doubt_after : Option ℕ → Bool → ℕ → Option ℕ
 doubt_after (Some earlier) latched place = Some earlier
 doubt_after None true place = Some place

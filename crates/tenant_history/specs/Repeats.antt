@@ -1,4 +1,4 @@
--- Calls that carry a request number, and what comes of them where they are repeated.
+-- Calls that have a request number, and what their repeats do.
 use Rattle.std.specs.Prelude.{ℕ, ◌≡◌, ◌≢◌, ◌<◌, ◌≤◌, suc, List, take, slice_get, Option, Some, None, option_map, IsSome, Result, Ok, Err}
 use Rattle.tenant_core.specs.Alone.{alone}
 use Rattle.tenant_core.specs.Commands.{Command}
@@ -43,7 +43,7 @@ state_before start kept k = (alone start (calls_of (take k kept))).state
 abbrev pub IsAccepted : Option TenantState → List Kept → ℕ → Type 0
 IsAccepted start kept k = state_before start kept (suc k) ≢ state_before start kept k
 
--- from behind the call at i up to that at j the tenant exists
+-- after the call at i and up to the call at j the tenant exists
 abbrev pub Exists : Option TenantState → List Kept → ℕ → ℕ → Type 0
 Exists start kept i j = (k : ℕ) → i < k → k ≤ j → IsSome (state_before start kept k)
 

@@ -9,7 +9,7 @@ use Rattle.tenant_state.specs.State.{TenantState}
 abbrev pub session : (List ℕ → Option TenantState) → List Call → List Reply → Option ℕ → Session
 session found calls replies doubt = record { found = found; calls = calls; replies = replies; doubt = doubt }
 
--- whatever states were found, the session is sound for each tenant whose state that is
+-- whatever states were found, the session is sound for each tenant with such a state
 abbrev pub IsSound : States → List Call → List Reply → Option ℕ → Type 0
 IsSound old calls replies doubt = (found : List ℕ → Option TenantState) (t : List ℕ) → old t (found t) → IsSoundFor t (session found calls replies doubt)
 

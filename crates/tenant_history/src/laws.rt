@@ -1,4 +1,4 @@
-//! Laws of the definitions: each contract holds of the definitions alone.
+//! Laws of the definitions: each contract is about the definitions alone.
 
 ghost use Rattle.std.specs.Prelude.{◌≡◌, ℕ, List, Ok, Some, None};
 ghost use Rattle.tenant_core.specs.Commands.{Command};
@@ -25,8 +25,8 @@ pub fn a_number_with_a_receipt_changes_nothing()
         → (step call (Some s)).state ≡ Some s }
 {}
 
-/// Nothing but a drop of its tenant takes a receipt away: as long as the tenant exists, it has the
-/// receipt, and the only call after which the tenant doesn't exist is one that drops it.
+/// Only a drop of its tenant removes a receipt: as long as the tenant exists, it has the receipt,
+/// and the only call after which the tenant doesn't exist is one that drops it.
 pub fn only_a_drop_takes_a_receipt_away()
     ensures stays { (call : Call) (number : List ℕ) (s u : TenantState) (r : Receipt) → receipt_of number s.receipts ≡ Some r → (step call (Some s)).state ≡ Some u
         → receipt_of number u.receipts ≡ Some r }
@@ -34,7 +34,8 @@ pub fn only_a_drop_takes_a_receipt_away()
         → (tenant : List ℕ) × (request_of call ≡ Ok (record { tenant = tenant; action = Action.DropTenant })) }
 {}
 
-/// The path and the body of a changing request, by which a repeat is known, are those of its call.
+/// The path and the body of a changing request, by which a repeat is recognized, are those of its
+/// call.
 pub fn a_changing_request_has_the_path_and_the_body_of_its_call()
     ensures path { (call : Call) (command : Command) → command_of call ≡ Some command → command.path ≡ call.path }
     ensures body { (call : Call) (command : Command) → command_of call ≡ Some command → command.body ≡ call.body }

@@ -1,5 +1,4 @@
-//! Sessions of a service, from one opening of its store to the next, and what their histories come
-//! to.
+//! Sessions of a service, from one opening of its store to the next, and their histories.
 #![tactic(auto)]
 
 pub mod laws;

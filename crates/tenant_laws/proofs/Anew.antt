@@ -1,4 +1,4 @@
--- What comes of a tenant that is absent.
+-- A step of an absent tenant.
 use Rattle.std.proofs.Common.{◌≡◌, ◌∙◌, ℕ, List, Option, Some, None, Result, Ok, Err, refl, ap, sym}
 use Rattle.tenant_core.specs.Effects.{after_effect}
 use Rattle.tenant_core.specs.Request.{Request, request_of}
@@ -9,7 +9,7 @@ use Rattle.tenant_messages.specs.declared.call.Call.{Call}
 use Rattle.tenant_messages.specs.declared.reply.Problem.{Problem}
 use Rattle.tenant_state.specs.State.{TenantState, fresh}
 
--- a request made it, and it is fresh
+-- a request made the tenant, and its state is `fresh`
 abbrev IsMadeBy : Action → TenantState → Type 0
 IsMadeBy a u = (a ≡ action.CreateTenant) × (u ≡ fresh)
 

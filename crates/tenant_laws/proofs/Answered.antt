@@ -36,7 +36,7 @@ second_true false b e = cc
 no_503_is : (r : Reply) → is_answered r ≡ true → r.status ≢ 503
 no_503_is r e same = let f : is_answered r ≡ false = ap not ((Decides-eqb r.status 503).1 same) in let g : true ≡ false = sym e ∙ f in cc
 
--- ---- each is among them, and no other
+-- ---- each answered call is among them, and no other
 
 pub among_answered : (t : List ℕ) (calls : List Call) (replies : List Reply) (place : ℕ) (c : Call) (r : Reply) → slice_get calls place ≡ Some c → slice_get replies place ≡ Some r
     → is_of t c ≡ true → is_answered r ≡ true → Contains (answered t calls replies) (c, r)
@@ -70,7 +70,7 @@ stands t (call ∷ calls) (reply ∷ replies) p there = elim (front_or_past (is_
   | inr later ↦ (let deep = stands t calls replies p later in record { place = suc deep.place; called = deep.called; replied = deep.replied; own = deep.own; answered = deep.answered })
 ]
 
--- of a tenant that isn't called nothing is answered
+-- no call of a tenant that isn't called is answered
 pub none_answered : (t : List ℕ) (calls : List Call) (replies : List Reply) → All (λ c. is_of t c ≡ false) calls → answered t calls replies ≡ []
 none_answered t [] replies none = refl
 none_answered t (call ∷ calls) [] none = refl
@@ -81,7 +81,7 @@ none_answered t (call ∷ calls) (reply ∷ replies) none =
 
 -- ---- their replies are those of steps
 
--- of the replies of some calls that follow one after the other, the one to the call at a place
+-- the replies to the answered calls of a tenant are those of the calls alone
 abbrev Follow : List ℕ → Option TenantState → List Call → List Reply → Type 0
 Follow t s calls replies = replies_answered t calls replies ≡ (alone s (calls_answered t calls replies)).replies
 
@@ -94,7 +94,7 @@ at_first : (b : Bool) (s : Option TenantState) (c : Call) (r : Reply) (ps : List
 at_first true s c r ps e follow = cc
 at_first false s c r ps e follow = cc
 
--- the state after a call that counts or doesn't
+-- the state after a call that counts, or doesn't
 abbrev after_one : Bool → Call → Option TenantState → Option TenantState
 after_one b c s = cond b (step c s).state s
 

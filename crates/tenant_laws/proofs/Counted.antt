@@ -1,4 +1,4 @@
--- What a tenant has takes at least what is counted of it.
+-- An inventory takes at least the bytes of its counted parts.
 use Rattle.std.proofs.Common.{◌≡◌, ◌≤◌, ◌+◌, ◌*◌, ◌++◌, ℕ, List, [], ◌∷◌, length, Bool, true, false, Option, Some, refl, sym, ap, subst, arith, bytes_eq}
 use Rattle.std.specs.List.{sum_by}
 use Rattle.std.specs.Map.{lookup, values_of}

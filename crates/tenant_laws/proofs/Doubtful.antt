@@ -1,4 +1,4 @@
--- The call in doubt, and what it may leave.
+-- The call in doubt, and the states that it may leave.
 use Rattle.std.proofs.Common.{◌≡◌, ◌⊎◌, inl, inr, ◌<◌, ◌++◌, ℕ, zero, suc, List, [], ◌∷◌, map, filter, take, drop, slice_get, Bool, true, false, cond, Option, Some, None, Contains, refl, sym, ap, subst, ◌∙◌, arith}
 use Rattle.std.proofs.lemmas.List.{append-nil}
 use Rattle.std.proofs.lemmas.Option.{slice_get_within}
@@ -78,7 +78,7 @@ pub may_leave_one_more : (t : List ℕ) (session : Session) (place : ℕ) (c : C
 may_leave_one_more t session place c state is own (inl e) = inl e
 may_leave_one_more t session place c state is own (inr e) = inr (e ∙ sym (same_after (session.found t) (acknowledged t session) (in_doubt t session) (c ∷ []) (own_doubt t session place c is own)))
 
--- a tenant that isn't called keeps its state
+-- the state of a tenant that isn't called is unchanged
 pub leaves_uncalled : (t : List ℕ) (session : Session) (state : Option TenantState) → All (λ c. is_of t c ≡ false) session.calls → MayLeave t session state → state ≡ session.found t
 leaves_uncalled t session state none leaves =
     leaves_acknowledged t session state (λ place c is. all_at (λ (d : Call). is_of t d ≡ false) session.calls place c none is.called) leaves

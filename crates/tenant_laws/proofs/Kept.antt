@@ -1,4 +1,4 @@
--- What is kept of a session, and of a history.
+-- The kept calls of a session, and of a history.
 use Rattle.std.proofs.Common.{◌≡◌, ◌⊎◌, inl, inr, ◌<◌, ◌++◌, ℕ, zero, suc, List, [], ◌∷◌, map, slice_get, true, Option, Some, None, Contains, refl, sym, ap, subst, ◌∙◌, arith}
 use Rattle.std.proofs.lemmas.List.{append-nil}
 use Rattle.std.proofs.lemmas.List.Elements.{Contains-append_left, Contains-append_cases}
@@ -80,9 +80,9 @@ pub may_keep_own : (t : List ℕ) (session : Session) (part : List Kept) (place 
 may_keep_own t session part place c is own (inl e) = inl e
 may_keep_own t session part place c is own (inr e) = inr (e ∙ sym (own_kept t session place c is own))
 
--- ---- none twice
+-- ---- no call twice
 
--- a call of some that stand in order among others stands there
+-- each call of the list `cs`, which is in the order of `calls`, is in `calls`
 place_of : (cs calls : List Call) → AreInOrder cs calls → (j : ℕ) (c : Call) → slice_get cs j ≡ Some c → (q : ℕ) × (slice_get calls q ≡ Some c)
 place_of [] calls are j c at = cc
 place_of (d ∷ cs) [] are j c at = absurd are
@@ -90,7 +90,7 @@ place_of (d ∷ cs) (call ∷ calls) (inl are) zero c at = let e : d ≡ c = cc 
 place_of (d ∷ cs) (call ∷ calls) (inl are) (suc j) c at = let (q, is) = place_of cs calls are.1 j c at in (suc q, is)
 place_of (d ∷ cs) (call ∷ calls) (inr are) j c at = let (q, is) = place_of (d ∷ cs) calls are j c at in (suc q, is)
 
--- and of two of them the later one stands later
+-- of two such calls the later one comes later there too
 places_of : (cs calls : List Call) → AreInOrder cs calls → (i j : ℕ) (b c : Call) → i < j → slice_get cs i ≡ Some b → slice_get cs j ≡ Some c
     → (p : ℕ) × (q : ℕ) × (p < q) × (slice_get calls p ≡ Some b) × (slice_get calls q ≡ Some c)
 places_of [] calls are i j b c lt at then = cc

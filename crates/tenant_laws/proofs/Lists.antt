@@ -47,7 +47,7 @@ in_joined (p ∷ parts) (suc k) part x at there = Contains-append_right p (flat_
 pub all_at : {X : Type 0} (P : X → Type 0) (xs : List X) (k : ℕ) (x : X) → All P xs → slice_get xs k ≡ Some x → P x
 all_at P xs k x all at = subst P (get_or_from_slice_get xs k x x at) (all k x (slice_get_within xs k x at))
 
--- of the elements from a place on
+-- what holds of all elements from a place on holds of each of them
 pub all_from : {X : Type 0} (P : X → Type 0) (from : ℕ) (xs : List X) (k : ℕ) (x : X) → All P (drop from xs) → from ≤ k → slice_get xs k ≡ Some x → P x
 all_from P zero xs k x all le at = all_at P xs k x all at
 all_from P (suc from) [] k x all le at = cc

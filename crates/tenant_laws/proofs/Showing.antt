@@ -1,4 +1,4 @@
--- What is written in part, and bodies as they are shown.
+-- Bytes that are written in part, and bodies as they are shown.
 use Rattle.std.proofs.Common.{◌≡◌, ◌≢◌, ◌<◌, ◌++◌, ◌+◌, ℕ, List, [], ◌∷◌, length, Some, refl, sym, ap, ◌∙◌, arith}
 use Rattle.std.proofs.lemmas.List.{length-append}
 use Rattle.tenant_service.specs.Writing.{AppendsPart, shown_body}

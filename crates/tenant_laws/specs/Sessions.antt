@@ -7,19 +7,19 @@ use Rattle.tenant_messages.specs.declared.call.Call.{Call}
 use Rattle.tenant_messages.specs.declared.reply.Reply.{Reply}
 use Rattle.tenant_state.specs.State.{TenantState}
 
--- at this place stands a call of the tenant, which was acknowledged with this reply
+-- the call at `place` is the tenant's, and was acknowledged with `reply`
 pub record IsAcknowledged (t : List ℕ) (session : Session) (place : ℕ) (call : Call) (reply : Reply) : Type 0 where
   pub called : slice_get session.calls place ≡ Some call
   pub replied : slice_get session.replies place ≡ Some reply
   pub own : is_of t call ≡ true
   pub answered : reply.status ≢ 503
 
--- the doubt is this place, at which this call stands
+-- the doubt is `place`, and `call` is the call there
 pub record IsInDoubt (session : Session) (place : ℕ) (call : Call) : Type 0 where
   pub doubt : session.doubt ≡ Some place
   pub called : slice_get session.calls place ≡ Some call
 
--- no call of the tenant is in doubt: no call at all, or one of another tenant
+-- no call of the tenant is in doubt: no call at all is, or one of another tenant
 abbrev pub HasNoDoubtOf : List ℕ → Session → Type 0
 HasNoDoubtOf t session = (place : ℕ) (call : Call) → IsInDoubt session place call → is_of t call ≡ false
 
@@ -27,11 +27,11 @@ HasNoDoubtOf t session = (place : ℕ) (call : Call) → IsInDoubt session place
 abbrev pub after_acknowledged : List ℕ → Session → Option TenantState
 after_acknowledged t session = (alone (session.found t) (acknowledged t session)).state
 
--- the state that those of its acknowledged calls leave which stand before a place
+-- the state that the tenant's acknowledged calls before a place leave
 abbrev pub before_place : List ℕ → Session → ℕ → Option TenantState
 before_place t session place = (alone (session.found t) (calls_answered t (take place session.calls) (take place session.replies))).state
 
--- a kept call is the tenant's, and stands in the session: acknowledged with the kept reply, or in
+-- a kept call is the tenant's, and a call of the session: acknowledged with the kept reply, or in
 -- doubt and kept without one
 abbrev pub IsOfSession : List ℕ → Session → Kept → Type 0
 IsOfSession t session kept =

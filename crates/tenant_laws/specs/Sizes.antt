@@ -1,4 +1,4 @@
--- What a tenant has, counted: the bytes of its texts, and the elements of its lists.
+-- The parts of an inventory, counted: the bytes of its texts, and the elements of its lists.
 use Rattle.std.specs.Prelude.{ℕ, length}
 use Rattle.std.specs.List.{sum_by}
 use Rattle.crush_writing.specs.Canonical.{canonical}
@@ -12,7 +12,7 @@ text_bytes inventory = sum_by (λ m. length (canonical m)) inventory.versions
 abbrev pub item_count : Inventory → ℕ
 item_count inventory = sum_by (λ m. sum_by (λ b. length b.items) m.buckets) inventory.versions
 
--- the steps of their rules
+-- the steps of the rules of all its versions
 abbrev pub step_count : Inventory → ℕ
 step_count inventory = sum_by (λ m. sum_by (λ r. length r.steps) m.rules) inventory.versions
 

@@ -1,4 +1,4 @@
-//! Laws of sessions and histories: each contract holds of the definitions alone.
+//! Laws of sessions and histories: each contract is about the definitions alone.
 
 ghost use Rattle.std.specs.Prelude.{◌≡◌, ◌↔◌, ◌⊎◌, ◌≤◌, ◌<◌, ◌++◌, ℕ, List, [], ◌∷◌, length, slice_get, suc, true, false, Ok, Option, Some, None, Contains};
 ghost use Rattle.std.specs.List.{All};
@@ -13,8 +13,8 @@ ghost use Rattle.tenant_state.specs.Receipts.{receipt_of};
 ghost use Rattle.tenant_state.specs.State.{TenantState, fresh};
 ghost use Rattle.tenant_laws.specs.Sessions.{HasNoDoubtOf, IsAcknowledged, IsInDoubt, IsOfSession, after_acknowledged, before_place};
 
-/// An absent tenant is made by its creation alone, and then has nothing: no receipt of one of the
-/// same name that was dropped, so each request number is new.
+/// Only its creation makes an absent tenant, which then has nothing: no receipt of a dropped tenant
+/// of the same name, so each request number is new.
 pub fn a_tenant_made_again_begins_anew()
     ensures made { (call : Call) (state : TenantState) → (step call None).state ≡ Some state → state ≡ fresh }
     ensures by { (call : Call) (state : TenantState) → (step call None).state ≡ Some state → (tenant : List ℕ) × (request_of call ≡ Ok (record { tenant = tenant; action = Action.CreateTenant })) }
@@ -35,9 +35,9 @@ pub fn from_its_doubt_on_a_session_is_silent()
         → doubt ≤ place → slice_get session.replies place ≡ Some reply → reply.status ≡ 503 }
 {}
 
-/// Of a tenant a session may leave what its acknowledged calls leave, and what one more step leaves
-/// where its own call is in doubt. A call in doubt of another tenant changes nothing of this one,
-/// and neither does a session that has no call of it.
+/// Of a tenant a session may leave the state after its acknowledged calls, or, where a call of the
+/// tenant is in doubt, the state after one more step. A call in doubt of another tenant changes
+/// nothing of the tenant, and neither does a session that has no call of it.
 pub fn a_session_leaves_what_was_acknowledged()
     ensures none { (t : List ℕ) (session : Session) (state : Option TenantState) → HasNoDoubtOf t session → MayLeave t session state ↔ (state ≡ after_acknowledged t session) }
     ensures own { (t : List ℕ) (session : Session) (place : ℕ) (call : Call) (state : Option TenantState) → IsInDoubt session place call → is_of t call ≡ true
@@ -45,8 +45,8 @@ pub fn a_session_leaves_what_was_acknowledged()
     ensures uncalled { (t : List ℕ) (session : Session) (state : Option TenantState) → All (λ call. is_of t call ≡ false) session.calls → MayLeave t session state → state ≡ session.found t }
 {}
 
-/// What is kept of a session has each acknowledged call of the tenant, with its reply, and no other
-/// call, but that its call in doubt may be kept behind them or not.
+/// The list that is kept of a session has each acknowledged call of the tenant, with its reply, and
+/// no other call, but that its call in doubt may be kept behind them or not.
 pub fn each_acknowledged_call_is_kept()
     ensures acknowledged { (t : List ℕ) (session : Session) (part : List Kept) (place : ℕ) (call : Call) (reply : Reply) → IsKeptOf t session part → IsAcknowledged t session place call reply
         → Contains part (record { call = call; reply = Some reply }) }
@@ -61,9 +61,9 @@ pub fn no_call_is_kept_twice()
     ensures { (t : List ℕ) (session : Session) (part : List Kept) → IsSoundFor t session → IsKeptOf t session part → IsEachOnce session.calls → IsEachOnce (calls_of part) }
 {}
 
-/// An acknowledged call that isn't kept, or that a later opening doesn't find, is no history: each
-/// list that explains a history has each acknowledged call, and each opening finds what the session
-/// before it leaves.
+/// An acknowledged call that isn't kept, or that a later opening doesn't find, is in no history:
+/// each list that explains a history has each acknowledged call, and each opening finds the state
+/// that the session before it leaves.
 pub fn a_history_keeps_each_acknowledged_call()
     ensures kept { (t : List ℕ) (first : Session) (later : List Session) (parts : List (List Kept)) (k : ℕ) (session : Session) (place : ℕ) (call : Call) (reply : Reply) → Explains t first later parts
         → slice_get (first ∷ later) k ≡ Some session → IsAcknowledged t session place call reply → Contains (joined parts) (record { call = call; reply = Some reply }) }

@@ -1,4 +1,4 @@
-//! Laws of sizes: each contract holds of the definitions alone.
+//! Laws of sizes: each contract is about the definitions alone.
 
 ghost use Rattle.std.specs.Prelude.{◌≡◌, ◌≤◌, ◌+◌, ◌*◌, ◌++◌, ℕ, List, [], ◌∷◌, length, Some};
 ghost use Rattle.std.specs.List.{sum_by};
@@ -9,9 +9,9 @@ ghost use Rattle.tenant_state.specs.Size.{pool_size, size, version_size};
 ghost use Rattle.tenant_state.specs.State.{Inventory, TenantPool};
 ghost use Rattle.tenant_laws.specs.Sizes.{item_count, pair_count, step_count, text_bytes};
 
-/// What a tenant has takes at least the bytes of its texts, and beside them 8 for each item of a
-/// bucket, 16 for each step of a rule, and 12 for each state of a device and each pair. A further
-/// version or pool counts in full.
+/// An inventory takes at least the bytes of its texts, and beside them 8 for each item of a bucket,
+/// 16 for each step of a rule, and 12 for each state of a device and each pair. One more version or
+/// pool adds its whole size.
 pub fn what_a_tenant_has_takes_the_bytes_of_its_texts()
     ensures texts { (inventory : Inventory) → text_bytes inventory ≤ size inventory }
     ensures lists { (inventory : Inventory) → text_bytes inventory + 8 * item_count inventory + 16 * step_count inventory + 12 * length inventory.devices + 12 * pair_count inventory ≤ size inventory }
@@ -19,8 +19,8 @@ pub fn what_a_tenant_has_takes_the_bytes_of_its_texts()
     ensures pool { (inventory : Inventory) (pool : TenantPool) → size (record inventory { pools = inventory.pools ++ pool ∷ [] }) ≡ size inventory + pool_size pool }
 {}
 
-/// What is kept of tenants takes the size of what is kept of each one, and of all together at least
-/// the bytes of their texts.
+/// All kept inventories together take at least the size of each one, and at least the bytes of
+/// their texts.
 pub fn what_is_kept_takes_the_bytes_of_its_texts()
     ensures each { (kept : Kept) (name : List ℕ) (ready : Ready) → kept_at kept name ≡ Some ready → size ready.inventory ≤ bytes_kept kept }
     ensures texts { (kept : Kept) → sum_by (λ ready. text_bytes ready.inventory) (values_of kept.entries) ≤ bytes_kept kept }

@@ -1,4 +1,4 @@
-//! Laws of what a store may leave after a crash: each contract holds of every store.
+//! Laws of what a store may leave after a crash: each contract is about every store.
 
 ghost use Rattle.std.specs.Prelude.{◌≡◌, ℕ, List, [], ◌∷◌, Option};
 ghost use Rattle.tenant_core.specs.States.{Found, Damaged, HasState};
@@ -11,8 +11,8 @@ ghost use Rattle.tenant_laws.specs.Sessions.{HasNoDoubtOf, after_acknowledged};
 
 use tenant_core::TenantStore;
 
-/// After a crash an opening finds of a tenant no damaged data, and where no call of it is in doubt,
-/// it finds what its acknowledged calls leave.
+/// After a crash an opening finds no damaged data of a tenant, and where no call of the tenant is
+/// in doubt, it finds the state after the acknowledged calls.
 pub fn a_crash_leaves_what_was_acknowledged<T: TenantStore>()
     ensures sound { (old left : T) (calls : List Call) (replies : List Reply) (doubt : Option ℕ) (found : List ℕ → Option TenantState) (t : List ℕ)
         → LeavesSession (T.has_state old) (T.may_leave left) calls replies doubt → T.has_state old t (found t) → ¬ (T.may_leave left t Damaged) }

@@ -1,9 +1,9 @@
-//! Laws of what is kept in memory by name: each contract holds of the definitions alone.
+//! Laws of what is kept in memory by name: each contract is about the definitions alone.
 
 ghost use Rattle.std.specs.Prelude.{◌≡◌, ◌≢◌, ℕ, List, Option, Some, None};
 ghost use Rattle.tenant_cache.specs.Kept.{Kept, Ready, Updates, kept_at};
 
-/// After an update of a name nothing but the new is kept of it, and nothing new of another name.
+/// After an update of a name only the new entry is kept of it, and nothing new of another name.
 pub fn an_update_is_of_its_name_alone()
     ensures own { (name : List ℕ) (now : Option Ready) (old new : Kept) (ready : Ready) → Updates name now old new → kept_at new name ≡ Some ready → now ≡ Some ready }
     ensures none { (name : List ℕ) (old new : Kept) → Updates name None old new → kept_at new name ≡ None }

@@ -72,7 +72,7 @@ all_among_others key (other ∷ keys) front back once h =
     let apart = either_false (bytes_eq key other) (list_any (bytes_eq key) keys) once in
     (among_others key other front back apart.0 h.0, all_among_others key keys front back apart.1 h.1)
 
--- names that are as many as the keys, which differ, and among which each key is, are the keys
+-- names that differ, number as many as the keys, and include each key, are the keys
 same_names : (keys names : List (List ℕ)) → are_different keys ≡ true → AllAmong keys names → length names ≡ length keys → IsPermutation keys names
 same_names [] [] differ h many = IsPermutation-refl []
 same_names [] (name ∷ names) differ h many = absurd (omega arith)

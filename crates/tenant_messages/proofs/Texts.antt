@@ -11,7 +11,7 @@ pub item_digits : (z : ℤ) → signed_decimal z ≡ number_text (of_integer z)
 item_digits (pos n) = refl
 item_digits (negsuc n) = refl
 
--- an item at the end of a text, and what is left of the list
+-- an item added to the end of a text, and the rest of the list
 pub item_more : (old : List ℕ) (later : Bool) (d : Data) (ds : Items) → (old ++ (comma_if later ++ compact_text d)) ++ items_text true ds ≡ old ++ items_text later (item d ds)
 item_more old later d ds =
     append_assoc old (comma_if later ++ compact_text d) (items_text true ds)

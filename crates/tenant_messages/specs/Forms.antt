@@ -13,7 +13,7 @@ abbrev pub IsNatural : ℕ → Data → ℕ → Type 0
 IsNatural greatest d n = (d ≡ number (unsigned n)) × (n ≤ greatest)
 
 -- the whole number z, from a least to a greatest, by a numeral with neither point nor exponent;
--- `-0` is no such number
+-- `-0` isn't one
 pub record IsInteger (least greatest : ℤ) (d : Data) (z : ℤ) : Type 0 where
   pub numeral : Num
   pub is_number : d ≡ number numeral

@@ -11,7 +11,7 @@ use Rattle.serde_json.specs.Events.{members_len}
 abbrev pub text_of : List ℕ → Option (List ℕ)
 text_of bytes = if is_utf8 bytes then Some bytes else None
 
--- the JSON value of some bytes (RFC 8259), as `serde_json` reads it: of a key that comes twice the
+-- the JSON value of some bytes (RFC 8259), as `serde_json` reads it: of a key that comes twice, the
 -- last value counts
 abbrev pub value_of : List ℕ → Option Data
 value_of bytes = option_and_then read (text_of bytes)
@@ -51,7 +51,7 @@ list_of f d = option_and_then (each_of f) (as_array d)
 
 -- ---- objects
 
--- whether a value is an object of so many keys
+-- whether a value is an object of `count` different keys
 abbrev pub has_keys : ℕ → Data → Bool
 has_keys count d = option_map_or (λ members. members_len members == count) (as_object d) false
 

@@ -1,4 +1,4 @@
--- What came of a check or of an order: a value, a problem, or no memory.
+-- The outcome of a check or of an order: a value, a problem, or a failed allocation.
 use Rattle.std.specs.Prelude.{◌≡◌, Result, Ok, Err, ⊤}
 use Rattle.serde_json.specs.Data.{Data}
 use Rattle.tenant_messages.specs.Reply.{Answer, refused, success, reply}
@@ -7,13 +7,13 @@ use Rattle.tenant_messages.specs.declared.reply.Refusal.{Refusal}
 use Rattle.tenant_messages.specs.declared.reply.Refusal.TheVariants as refusal
 use Rattle.tenant_messages.specs.declared.reply.Reply.{Reply}
 
--- a value or a problem is the one that the definition gives; no memory may come in its place
+-- a value or a problem is the one that the definition gives; instead, an allocation may fail
 abbrev pub Gives : {A B : Type 0} → (A → B) → Result A Refusal → Result B Problem → Type 0
 Gives view (Ok a) given = given ≡ Ok (view a)
 Gives view (Err (refusal.Problem problem)) given = given ≡ Err problem
 Gives view (Err refusal.NoMemory) given = ⊤
 
--- what came of a check that gave a value or a problem
+-- the outcome of a check that gave a value or a problem
 abbrev pub came_of : {A : Type 0} → Result A Problem → Result A Refusal
 came_of (Ok a) = Ok a
 came_of (Err problem) = Err (refusal.Problem problem)
@@ -25,8 +25,8 @@ abbrev pub answer_with : {A : Type 0} → (A → Data) → Result A Problem → 
 answer_with body (Err problem) = refused problem
 answer_with body (Ok found) = success (body found)
 
--- a reply is the one that says the answer; a problem is why the answer refuses; no memory may come
--- in the place of either
+-- a reply is the one that says the answer; a problem is why the answer refuses; instead of either,
+-- an allocation may fail
 abbrev pub Answers : Result Reply Refusal → Answer → Type 0
 Answers (Ok r) answer = r ≡ reply answer
 Answers (Err (refusal.Problem problem)) answer = answer ≡ refused problem

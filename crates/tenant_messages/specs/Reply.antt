@@ -99,6 +99,6 @@ reply (repeated status body) = record { status = success_status status; body = b
 
 -- ---- where there is no answer
 
--- the reply where there is no memory: its text is added where it is written out
+-- the reply where an allocation failed: its text is added where it is written out
 abbrev pub no_memory : Reply
 no_memory = record { status = 503; body = [] }

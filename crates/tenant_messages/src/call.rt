@@ -18,7 +18,7 @@ pub struct Call {
 }
 
 impl Call {
-    /// Returns the call, borrowed.
+    /// Borrows the parts of the call.
     pub fn parts(&self) -> CallParts<'_>
         ensures { call_of result ≡ self.now }
     {

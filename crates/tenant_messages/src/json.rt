@@ -12,7 +12,7 @@ use crate::reply::{Problem, Refusal};
 use serde_json::Value;
 use std::alloc::Global;
 
-/// Returns a body as text. The problem is `BadRequest`, exactly where the body isn't UTF-8.
+/// Reads `body` as UTF-8. `Err`: the problem `BadRequest`, exactly where it isn't UTF-8.
 pub fn text_of(body: &[u8]) -> Result<&str, Refusal>
     ensures { Reads (λ t. t.now) result (spec.text_of body.now) }
 {
@@ -22,8 +22,8 @@ pub fn text_of(body: &[u8]) -> Result<&str, Refusal>
     }
 }
 
-/// Returns the JSON value of a body. The problem is `BadRequest`, exactly where the body isn't
-/// JSON.
+/// Reads `body` as a JSON value. `Err`: the problem `BadRequest`, exactly where it isn't JSON, or
+/// `NoMemory`, where an allocation failed.
 pub fn read_value(alloc: Global, body: &str) -> Result<Value, Refusal>
     ensures { Reads view result (spec.value_of body.now) }
 {
@@ -34,7 +34,7 @@ pub fn read_value(alloc: Global, body: &str) -> Result<Value, Refusal>
     }
 }
 
-/// Returns whether the value is an object with `count` different keys.
+/// Returns whether `value` is an object with `count` different keys.
 pub fn has_keys(value: &Value, count: usize) -> bool
     ensures { result ≡ spec.has_keys count (view value.now) }
 {
@@ -44,8 +44,8 @@ pub fn has_keys(value: &Value, count: usize) -> bool
     members.len() == count
 }
 
-/// Returns the whole number under a key, if it is from 0 to `greatest`; else `None`. It is written
-/// without sign, point and exponent.
+/// Returns the whole number under `key`, written without sign, point and exponent, if it is from 0
+/// to `greatest`; else `None`.
 pub fn natural(value: &Value, key: &str, greatest: u32) -> Option<u32>
     ensures { result ≡ spec.under key.now (spec.natural_of greatest) (view value.now) }
 {
@@ -57,8 +57,8 @@ pub fn natural(value: &Value, key: &str, greatest: u32) -> Option<u32>
     }
 }
 
-/// Returns the whole number under a key, if it is from `least` to `greatest`; else `None`. It is
-/// written without point and exponent.
+/// Returns the whole number under `key`, written without point and exponent, if it is from `least`
+/// to `greatest`; else `None`.
 pub fn integer(value: &Value, key: &str, least: i32, greatest: i32) -> Option<i32>
     ensures { result ≡ spec.under key.now (spec.integer_of least greatest) (view value.now) }
 {
@@ -70,21 +70,21 @@ pub fn integer(value: &Value, key: &str, least: i32, greatest: i32) -> Option<i3
     }
 }
 
-/// Returns the truth value under a key, or `None` where there is none.
+/// Returns the truth value under `key`, or `None` where there is none.
 pub fn boolean(value: &Value, key: &str) -> Option<bool>
     ensures { result ≡ spec.under key.now as_bool (view value.now) }
 {
     value.get(key)?.as_bool()
 }
 
-/// Returns the text under a key, or `None` where there is none.
+/// Returns the text under `key`, or `None` where there is none.
 pub fn text<'a>(value: &'a Value, key: &str) -> Option<&'a str>
     ensures { option_map (λ t. t.now) result ≡ spec.under key.now as_str (view value.now) }
 {
     value.get(key)?.as_str()
 }
 
-/// Returns the whole number under a key, from 0 to `greatest`: `Some(None)` where the object has no
+/// Returns the whole number under `key`, from 0 to `greatest`: `Some(None)` where the object has no
 /// such key, and `None` where the value under the key is another.
 pub fn optional_natural(value: &Value, key: &str, greatest: u32) -> Option<Option<u32>>
     ensures { result ≡ spec.optional key.now (spec.natural_of greatest) (view value.now) }
@@ -95,7 +95,7 @@ pub fn optional_natural(value: &Value, key: &str, greatest: u32) -> Option<Optio
     }
 }
 
-/// Returns the truth value under a key: `Some(None)` where the object has no such key, and `None`
+/// Returns the truth value under `key`: `Some(None)` where the object has no such key, and `None`
 /// where the value under the key is another.
 pub fn optional_boolean(value: &Value, key: &str) -> Option<Option<bool>>
     ensures { result ≡ spec.optional key.now as_bool (view value.now) }
@@ -106,8 +106,8 @@ pub fn optional_boolean(value: &Value, key: &str) -> Option<Option<bool>>
     }
 }
 
-/// Returns the request number of a changing request, under the key `request`: a text of at least
-/// one byte and at most `REQUEST_NUMBER_LIMIT`. Else `None`.
+/// Returns the request number of a changing request, the text under the key `request`, if it has
+/// from 1 to `REQUEST_NUMBER_LIMIT` bytes; else `None`.
 pub fn request_number(value: &Value) -> Option<&str>
     ensures { option_map (λ t. t.now) result ≡ spec.under (codes "request") numbers.request_number_of (view value.now) }
 {

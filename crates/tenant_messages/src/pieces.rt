@@ -1,5 +1,5 @@
-//! JSON of replies, put at the end of a text piece by piece: numbers, items and lists of items. To
-//! make a value first, and write it then, takes several times as long.
+//! JSON of replies, added to the end of a text piece by piece: numbers, items and lists of items.
+//! To make a value first and write it afterwards takes several times as long.
 
 ghost use Rattle.std.specs.Prelude.{◌≡◌, ◌++◌, OnOk, map, string_bytes};
 ghost use Rattle.std.specs.Fmt.{decimal};
@@ -13,8 +13,8 @@ use crush_map::{ItemId, Text};
 use itoa::Buffer;
 use std::alloc::AllocError;
 
-/// Puts a text and a number at the end of a text. `Err(AllocError)`: an allocation failed, and of
-/// what was to be put a part may stand there.
+/// Adds `before` and then the decimal digits of `number` to the end of `text`. `Err(AllocError)`:
+/// an allocation failed; a part may have been added.
 pub fn push_number(text: &mut String, before: &str, number: u64) -> Result<(), AllocError>
     ensures { OnOk result (string_bytes text.new ≡ string_bytes text.old ++ (before.now ++ decimal number)) }
 {
@@ -23,8 +23,8 @@ pub fn push_number(text: &mut String, before: &str, number: u64) -> Result<(), A
     text.push_str(digits.format(number))
 }
 
-/// Puts a text and an item, or none, at the end of a text. `Err(AllocError)`: an allocation failed,
-/// and of what was to be put a part may stand there.
+/// Adds `before` and then the JSON of an item, or `null`, to the end of `text`. `Err(AllocError)`:
+/// an allocation failed; a part may have been added.
 #[tactic(auto, using(crate::proofs::Texts::item_digits))]
 pub fn push_slot(text: &mut String, before: &str, slot: &Option<ItemId>) -> Result<(), AllocError>
     ensures { OnOk result (string_bytes text.new ≡ string_bytes text.old ++ (before.now ++ compact_text (slot_json slot.now))) }
@@ -37,15 +37,15 @@ pub fn push_slot(text: &mut String, before: &str, slot: &Option<ItemId>) -> Resu
     }
 }
 
-/// Returns a comma, where something stands before.
+/// Returns a comma if `later`, where an element comes before, else an empty text.
 fn comma(later: bool) -> &'static str
     ensures { result.now ≡ comma_if later }
 {
     if later { "," } else { "" }
 }
 
-/// Puts a text and a list of items and nones at the end of a text. `Err(AllocError)`: an allocation
-/// failed, and of what was to be put a part may stand there.
+/// Adds `before` and then the JSON list of `slots` to the end of `text`. `Err(AllocError)`: an
+/// allocation failed; a part may have been added.
 #[tactic(auto, using(crate::proofs::Texts::item_more))]
 pub fn push_slots(
     text: &mut String,
@@ -66,7 +66,7 @@ pub fn push_slots(
     text.push_str("]")
 }
 
-/// Returns the reply 200 with a body that is the text of a value. Allocates nothing.
+/// Makes the reply 200 with a body that is the text of a value. Allocates nothing.
 #[tactic(auto, unfolding(crate::specs::Reply::reply))]
 pub fn done(body: String) -> Reply
     ensures { (d : Data) → string_bytes body ≡ compact_text d → result ≡ reply (success d) }

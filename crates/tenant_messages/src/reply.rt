@@ -11,8 +11,8 @@ use crush_map::Text;
 use serde_json::{Value, json};
 use std::alloc::{AllocError, Global};
 
-/// The reply to a call: an HTTP status, and a body of compact JSON.
-/// The body of a 503 where an allocation failed is empty: whoever writes it out knows its text.
+/// The reply to a call: an HTTP status, and a body of compact JSON. The body of a 503 where an
+/// allocation failed is empty: the writer of the reply adds its text.
 #[derive(Drop)]
 pub struct Reply {
     pub status: u16,
@@ -78,7 +78,7 @@ pub enum Problem {
     TenantLimit,
 }
 
-/// Why a request isn't carried out: a problem, which its reply names, or no memory.
+/// Why a request isn't carried out: a problem, which its reply names, or a failed allocation.
 #[derive(Clone, Copy, Debug, PartialEq, Eq)]
 pub enum Refusal {
     Problem(Problem),
@@ -133,7 +133,7 @@ impl Problem {
         }
     }
 
-    /// Returns the code in the body.
+    /// Returns the code that the body names.
     pub fn code(self) -> &'static str
         ensures { result.now ≡ problem_code self }
     {
@@ -157,7 +157,7 @@ impl Problem {
     }
 }
 
-/// Returns the reply with a status and a value as compact JSON. `Err(AllocError)`: an allocation
+/// Makes the reply with `status` and `value` as compact JSON. `Err(AllocError)`: an allocation
 /// failed; nothing is changed.
 pub fn written(alloc: Global, status: u16, value: &Value) -> Result<Reply, AllocError>
     requires { has_float (view value.now) ≡ false }
@@ -167,14 +167,14 @@ pub fn written(alloc: Global, status: u16, value: &Value) -> Result<Reply, Alloc
     Ok(Reply { status, body })
 }
 
-/// Returns the body that names an error: `{"error": CODE}`.
+/// Makes the body that names an error: `{"error": CODE}`.
 pub fn error(alloc: Global, code: &str) -> Result<Value, AllocError>
     ensures { IfOk result (λ v. view v ≡ spec.error code.now) }
 {
     json!(in alloc; {"error": code})
 }
 
-/// Returns the body that names the first fault of a map text: its code, and its line from 1 on.
+/// Makes the body that names the first fault of a map text: its code, and its line, from 1 on.
 fn map_error(alloc: Global, fault: TextFault) -> Result<Value, AllocError>
     ensures { IfOk result (λ v. view v ≡ spec.map_error fault) }
 {
@@ -185,7 +185,7 @@ fn map_error(alloc: Global, fault: TextFault) -> Result<Value, AllocError>
     })
 }
 
-/// Returns the body of a refusal.
+/// Makes the body of the reply that names `problem`.
 fn problem_json(alloc: Global, problem: Problem) -> Result<Value, AllocError>
     ensures { IfOk result (λ v. view v ≡ spec.problem_json problem) }
 {
@@ -195,7 +195,7 @@ fn problem_json(alloc: Global, problem: Problem) -> Result<Value, AllocError>
     }
 }
 
-/// Returns the reply to a call that is refused: the problem's status and `{"error": CODE}`.
+/// Makes the reply to a call that is refused: the problem's status, and the body that names it.
 #[tactic(auto, unfolding(crate::specs::Reply::reply))]
 pub fn refused(alloc: Global, problem: Problem) -> Result<Reply, AllocError>
     ensures { IfOk result (λ r. r ≡ spec.reply (spec.refused problem)) }
@@ -203,8 +203,8 @@ pub fn refused(alloc: Global, problem: Problem) -> Result<Reply, AllocError>
     written(alloc, problem.status(), &problem_json(alloc, problem)?)
 }
 
-/// Returns the value or the problem that came of a check. `Err(AllocError)`: exactly where there
-/// was no memory. Allocates nothing.
+/// Splits the outcome of a check: a value or a problem is returned. `Err(AllocError)`: exactly
+/// where the outcome is `NoMemory`. Allocates nothing.
 pub fn or_problem<T>(outcome: Result<T, Refusal>) -> Result<Result<T, Problem>, AllocError>
     ensures found { IfOk result (λ found. outcome ≡ came_of found) }
     ensures no_memory { OnErr result (outcome ≡ Err Refusal.NoMemory) }
@@ -216,8 +216,8 @@ pub fn or_problem<T>(outcome: Result<T, Refusal>) -> Result<Result<T, Problem>, 
     }
 }
 
-/// Returns the reply where there is one, or the reply that names the problem. `Err(AllocError)`: an
-/// allocation failed, here or before; nothing is changed.
+/// Returns the reply, or makes the one that names the problem. `Err(AllocError)`: an allocation
+/// failed, here or before; nothing is changed.
 pub fn or_refused(alloc: Global, reply: Result<Reply, Refusal>) -> Result<Reply, AllocError>
     ensures { (answer : spec.Answer) → Answers reply answer → IfOk result (λ r. r ≡ spec.reply answer) }
 {
@@ -229,7 +229,7 @@ pub fn or_refused(alloc: Global, reply: Result<Reply, Refusal>) -> Result<Reply,
 
 // ---- answers
 
-/// Returns the reply to a request that is done, with this body.
+/// Makes the reply to a request that is done, with `value` as its body.
 #[tactic(auto, unfolding(crate::specs::Reply::reply))]
 pub fn answered(alloc: Global, status: SuccessStatus, value: &Value) -> Result<Reply, AllocError>
     requires { has_float (view value.now) ≡ false }
@@ -238,7 +238,7 @@ pub fn answered(alloc: Global, status: SuccessStatus, value: &Value) -> Result<R
     written(alloc, status.status(), value)
 }
 
-/// Returns the reply 200 with this body.
+/// Makes the reply 200 with `value` as its body.
 pub fn success(alloc: Global, value: &Value) -> Result<Reply, AllocError>
     requires { has_float (view value.now) ≡ false }
     ensures { IfOk result (λ r. r ≡ spec.reply (spec.success (view value.now))) }
@@ -246,7 +246,7 @@ pub fn success(alloc: Global, value: &Value) -> Result<Reply, AllocError>
     answered(alloc, SuccessStatus::Done, value)
 }
 
-/// Returns the reply 201 with this body: something was created.
+/// Makes the reply 201, which says that something was created, with `value` as its body.
 pub fn created(alloc: Global, value: &Value) -> Result<Reply, AllocError>
     requires { has_float (view value.now) ≡ false }
     ensures { IfOk result (λ r. r ≡ spec.reply (spec.created (view value.now))) }
@@ -254,7 +254,7 @@ pub fn created(alloc: Global, value: &Value) -> Result<Reply, AllocError>
     answered(alloc, SuccessStatus::Created, value)
 }
 
-/// Returns the reply of an earlier request once more: its status and its body.
+/// Makes the reply of an earlier request once more, from its status and its body.
 #[tactic(auto, unfolding(crate::specs::Reply::reply))]
 pub fn repeated(alloc: Global, status: SuccessStatus, body: &str) -> Result<Reply, AllocError>
     ensures { IfOk result (λ r. r ≡ spec.reply (spec.repeated status body.now)) }
@@ -265,7 +265,7 @@ pub fn repeated(alloc: Global, status: SuccessStatus, body: &str) -> Result<Repl
     })
 }
 
-/// Returns the reply where an allocation failed: 503, with an empty body. Allocates nothing.
+/// Makes the reply where an allocation failed: 503 with an empty body. Allocates nothing.
 pub fn no_memory(alloc: Global) -> Reply
     ensures { result ≡ spec.no_memory }
 {

@@ -9,7 +9,7 @@ use crush_map::ItemId;
 use serde_json::Value;
 use std::alloc::{AllocError, Global};
 
-/// Returns an item, or none.
+/// Returns an item as a JSON number, or `null` for none.
 pub fn slot_json(slot: &Option<ItemId>) -> Value
     ensures { view result ≡ spec.slot_json slot.now }
 {
@@ -19,7 +19,7 @@ pub fn slot_json(slot: &Option<ItemId>) -> Value
     }
 }
 
-/// Returns a list of items and nones.
+/// Makes a JSON list of items and `null`.
 pub fn slots_json(alloc: Global, slots: &[Option<ItemId>]) -> Result<Value, AllocError>
     ensures { IfOk result (λ v. view v ≡ spec.list_json (map spec.slot_json slots.now)) }
 {
@@ -30,7 +30,7 @@ pub fn slots_json(alloc: Global, slots: &[Option<ItemId>]) -> Result<Value, Allo
     Ok(Value::Array(values))
 }
 
-/// Returns a list of numbers.
+/// Makes a JSON list of numbers.
 pub fn ids_json(alloc: Global, ids: &[u32]) -> Result<Value, AllocError>
     ensures { IfOk result (λ v. view v ≡ spec.list_json (map natural ids.now)) }
 {

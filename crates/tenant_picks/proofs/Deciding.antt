@@ -1,4 +1,4 @@
--- What tests of lists tell.
+-- What follows from tests of lists.
 use Rattle.std.proofs.Common.{◌≡◌, ◌≢◌, suc, ◌&&◌, ◌||◌, List, [], ◌∷◌, Bool, true, false, not, refl, sym, subst, arith}
 use Rattle.std.specs.Bool.{Decides}
 use Rattle.std.specs.List.{All, AllPairs, list_any}
@@ -23,7 +23,7 @@ pairs-head key x xs h k d below same = h 0 (suc k) d (omega arith) (omega arith)
 pairs-tail : {A K : Type 0} (key : A → K) (x : A) (xs : List A) → AllPairs (Differ key) (x ∷ xs) → AllPairs (Differ key) xs
 pairs-tail key x xs h i j d before below = h (suc i) (suc j) d (omega arith) (omega arith)
 
--- a test of a list that looks, for each element, at those behind it
+-- a test of a list that compares each element with those behind it
 pub Decides-distinct : {A K : Type 0} (key : A → K) (same : A → A → Bool) (distinct : List A → Bool) → ((x y : A) → Decides (not (same x y)) (key y ≢ key x))
     → distinct [] ≡ true → ((x : A) (xs : List A) → distinct (x ∷ xs) ≡ (not (list_any (same x) xs) && distinct xs)) → (xs : List A) → Decides (distinct xs) (AllPairs (Differ key) xs)
 Decides-distinct key same distinct each empty behind [] = (λ h i j d before below. absurd (omega arith), λ h. empty)

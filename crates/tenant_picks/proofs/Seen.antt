@@ -12,13 +12,13 @@ and_no : (b : Bool) → (b && false) ≡ false
 and_no true = refl
 and_no false = refl
 
--- an item that stands again further on
+-- an item that comes again further on
 pub stands_again : (es : List WeightedItem) (place : ℕ) (d : WeightedItem) → place < length es → list_any (is_of_item (slice_index_or es place d).0.0) (drop (suc place) es) ≡ true → are_distinct es ≡ false
 stands_again [] place d low again = absurd (omega arith)
 stands_again (e ∷ es) zero d low again = rw again refl
 stands_again (e ∷ es) (suc place) d low again = rw (stands_again es place d (omega arith) again) (and_no (not (list_any (is_of_item e.0.0) es)))
 
--- a new table has none
+-- a new table has no item
 pub none_seen : (n : ℕ) (es : List WeightedItem) → HasItems (replicate n false) (drop (length es) es)
 none_seen n es z place low there = rw (drop-length es) (get_or-replicate n place false false (rw (length-replicate n false) at low))
 

@@ -1,4 +1,4 @@
-//! The law of the form of a pick's body: its contract holds of the definitions alone.
+//! The law of the form of a pick's body: its contract is about the definitions alone.
 
 ghost use Rattle.tenant_messages.specs.Forms.{FindsExactly, ReadsExactly, RefusesOthers};
 ghost use Rattle.tenant_picks.specs.Picks.{IsPickBody, pick_of, pick_request_of};

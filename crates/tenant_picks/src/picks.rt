@@ -24,8 +24,8 @@ use tenant_messages::{
     Problem, Refusal, Reply, has_keys, integer, natural, read_value, success, text,
 };
 
-/// The most entries of which each is compared with each other: of more a table of flags takes less
-/// time.
+/// The most entries of which each is compared with each other: for more of them a table of flags
+/// takes less time.
 const FEW_ENTRIES: usize = 256;
 
 // ---- a bucket in a request
@@ -54,7 +54,7 @@ impl Model for AskedBucket {
 }
 
 impl AskedBucket {
-    /// Returns the bucket of these items. Allocates nothing.
+    /// Makes the bucket of these items. Allocates nothing.
     pub fn new(id: ItemId, kind: Kind, items: Vec<(ItemId, Weight)>) -> Self
         requires some { 0 < length items.items }
         requires few { length items.items < 2 ^ 16 }
@@ -65,8 +65,8 @@ impl AskedBucket {
         AskedBucket { id, kind, items }
     }
 
-    /// Returns the item that the bucket picks for the input `x` at the attempt `r`.
-    /// `Err(AllocError)`: an allocation failed; nothing is changed.
+    /// Picks the item that the bucket has for the input `x` at the attempt `r`. `Err(AllocError)`:
+    /// an allocation failed; nothing is changed.
     pub fn pick(&self, alloc: Global, x: u32, r: u32) -> Result<ItemId, AllocError>
         ensures { IfOk result (λ item. item ≡ pick self.now x r) }
     {
@@ -87,8 +87,8 @@ pub struct PickRequest {
 
 // ---- the items of a bucket
 
-/// Returns the item and the weight (16.16 fixed point) that a value of the list says, or `None`
-/// where it isn't of the form of one.
+/// Reads the item and the weight (16.16 fixed point) that a value of the list says, or returns
+/// `None` where the value doesn't have the form of an item.
 fn entry(value: &Value) -> Option<(ItemId, Weight)>
     ensures { result ≡ spec.entry_of (view value.now) }
 {
@@ -100,8 +100,8 @@ fn entry(value: &Value) -> Option<(ItemId, Weight)>
     Some((ItemId(item), Weight(weight)))
 }
 
-/// Returns the items and weights that the values say, in their order. The problem is `BadRequest`,
-/// exactly where a value isn't of the form of an item.
+/// Reads the items and weights that `values` say, in their order. The problem is `BadRequest`,
+/// exactly where a value doesn't have the form of an item.
 fn entries(alloc: Global, values: &[Value]) -> Result<Vec<(ItemId, Weight)>, Refusal>
     ensures { Reads (λ v. v.items) result (json.each_of spec.entry_of (items_view values.now)) }
 {
@@ -115,7 +115,7 @@ fn entries(alloc: Global, values: &[Value]) -> Result<Vec<(ItemId, Weight)>, Ref
     Ok(found)
 }
 
-/// Returns whether one of the entries has this item.
+/// Returns whether an entry has the item `item`.
 fn contains(item: i32, entries: &[(ItemId, Weight)]) -> bool
     ensures { result ≡ list_any (spec.is_of_item item) entries.now }
 {
@@ -123,7 +123,7 @@ fn contains(item: i32, entries: &[(ItemId, Weight)]) -> bool
 }
 
 /// Returns the place of an item in a table of flags for all ids that an item can have, from the
-/// least one on. `None` where the item is less than each.
+/// least one on. `None` where the item is less than all of them.
 fn place_of(item: i32) -> Option<usize>
     ensures below { result ≡ None → int_lt (pos ID_COUNT +ℤ item) (pos 0) ≡ true }
     ensures there { (place : ℕ) → result ≡ Some place → pos place ≡ pos ID_COUNT +ℤ item }
@@ -131,8 +131,8 @@ fn place_of(item: i32) -> Option<usize>
     usize::try_from(ID_COUNT as i64 + i64::from(item)).ok()
 }
 
-/// Returns whether one of the entries has this item. A table of flags says which of the items that
-/// it reaches one has; for other items the entries are looked through.
+/// Returns whether an entry has the item `item`. A table of flags says it for the items that it
+/// reaches; for other items the entries are searched.
 fn is_again(seen: &[bool], item: i32, entries: &[(ItemId, Weight)]) -> bool
     requires { HasItems seen.now entries.now }
     ensures { result ≡ list_any (spec.is_of_item item) entries.now }
@@ -155,7 +155,7 @@ fn mark(seen: &mut [bool], item: i32)
     }
 }
 
-/// Returns whether no item comes twice, by looking through the entries behind each.
+/// Returns whether no item comes twice: searches the entries behind each entry.
 fn are_few_distinct(entries: &[(ItemId, Weight)]) -> bool
     ensures { result ≡ spec.are_distinct entries.now }
 {
@@ -169,8 +169,8 @@ fn are_few_distinct(entries: &[(ItemId, Weight)]) -> bool
     true
 }
 
-/// Returns whether no item comes twice, by a table of flags for all ids that an item can have: in
-/// linear time where all ids are such. Allocates nothing.
+/// Returns whether no item comes twice, by a table of flags for all ids that an item can have.
+/// Takes linear time where the table reaches all items. Allocates nothing.
 fn are_many_distinct(entries: &[(ItemId, Weight)]) -> bool
     ensures { result ≡ spec.are_distinct entries.now }
 {
@@ -198,7 +198,7 @@ fn are_distinct(entries: &[(ItemId, Weight)]) -> bool
 
 // ---- a bucket
 
-/// Returns whether the entries can be those of a bucket of this id and kind.
+/// Returns whether `entries` can be those of a bucket with the id `id` and the kind `kind`.
 fn is_valid(id: ItemId, kind: Kind, entries: &[(ItemId, Weight)]) -> bool
     ensures { result ≡ spec.is_valid (record { id = id; kind = kind; items = entries.now }) }
 {
@@ -210,15 +210,15 @@ fn is_valid(id: ItemId, kind: Kind, entries: &[(ItemId, Weight)]) -> bool
         && (kind != Kind::Uniform || has_equal_weights(entries))
 }
 
-/// Returns the kind under the key `kind`, or `None` where it is none.
+/// Reads the kind under the key `kind`, or returns `None` where the value isn't one.
 fn kind_in(value: &Value) -> Option<Kind>
     ensures { result ≡ json.under (codes "kind") spec.kind_of (view value.now) }
 {
     Kind::named(text(value, "kind")?.as_bytes())
 }
 
-/// Returns the bucket that a value says. The problem is `BadRequest`, exactly where the value isn't
-/// of the form of a bucket.
+/// Reads the bucket that a value says. The problem is `BadRequest`, exactly where the value doesn't
+/// have the form of a bucket.
 fn bucket(alloc: Global, value: &Value) -> Result<AskedBucket, Refusal>
     ensures { Reads (λ b. b) result (spec.bucket_of (view value.now)) }
 {
@@ -241,8 +241,8 @@ fn bucket(alloc: Global, value: &Value) -> Result<AskedBucket, Refusal>
 
 // ---- the body
 
-/// Returns the pick that a body's value says. The problem is `BadRequest`, exactly where the value
-/// isn't of the form of such a body.
+/// Reads the pick that a body's value says. The problem is `BadRequest`, exactly where the value
+/// doesn't have the form of a pick.
 fn pick(alloc: Global, value: &Value) -> Result<PickRequest, Refusal>
     ensures { Reads (λ p. p) result (spec.pick_of (view value.now)) }
 {
@@ -255,8 +255,8 @@ fn pick(alloc: Global, value: &Value) -> Result<PickRequest, Refusal>
     Ok(PickRequest { bucket, x, r })
 }
 
-/// Returns the pick that a body asks for. The problem is `BadRequest`, exactly where the body isn't
-/// of the form (`IsPickBody`).
+/// Reads the pick that a body asks for. The problem is `BadRequest`, exactly where the body doesn't
+/// have the form (`IsPickBody`).
 pub fn read_pick(alloc: Global, body: &str) -> Result<PickRequest, Refusal>
     ensures { Reads (λ p. p) result (spec.pick_request_of body.now) }
 {
@@ -265,15 +265,15 @@ pub fn read_pick(alloc: Global, body: &str) -> Result<PickRequest, Refusal>
 
 // ---- the answer
 
-/// Returns the body of the reply: the item.
+/// Makes the body of the reply, which has the picked item.
 fn picked(alloc: Global, item: ItemId) -> Result<Value, AllocError>
     ensures { IfOk result (λ v. view v ≡ spec.picked item) }
 {
     json!(in alloc; {"item": i64::from(item.0)})
 }
 
-/// Returns the reply with the item that is picked. `Err(AllocError)`: an allocation failed; nothing
-/// is changed.
+/// Picks the item and makes the reply with it. `Err(AllocError)`: an allocation failed; nothing is
+/// changed.
 pub fn answer(alloc: Global, pick: &PickRequest) -> Result<Reply, AllocError>
     ensures { IfOk result (λ r. r ≡ reply (spec.answer pick.now)) }
 {

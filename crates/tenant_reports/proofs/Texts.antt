@@ -18,11 +18,11 @@ row_more old later d ds =
     append_assoc old (comma_if later ++ compact_text d) (items_text true ds)
     ∙ ap (λ (rest : List ℕ). old ++ rest) (append_assoc (comma_if later) (compact_text d) (items_text true ds))
 
--- what is put at the end, piece by piece, is the rest
+-- the pieces that are added to the end, one by one, are the rest
 behind : (old a b c d : List ℕ) → old ++ a ++ b ++ c ++ d ≡ old ++ (a ++ (b ++ (c ++ d)))
 behind old a b c d = append_assoc (old ++ a ++ b) c d ∙ append_assoc (old ++ a) b (c ++ d) ∙ append_assoc old a (b ++ (c ++ d))
 
--- what is put at the end of a text, piece by piece, is a row
+-- the pieces that are added to the end of a text are a row
 pub row_by_pieces : (old : List ℕ) (row : MoveRow)
     → old ++ (codes "{\"gained\":" ++ decimal row.gained) ++ (codes ",\"group\":" ++ decimal row.group) ++ (codes ",\"new\":" ++ compact_text (list_json (map slot_json row.new)))
     ++ (codes ",\"old\":" ++ compact_text (list_json (map slot_json row.old))) ++ codes "}"

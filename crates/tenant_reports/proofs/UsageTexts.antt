@@ -10,7 +10,7 @@ use Rattle.tenant_messages.specs.Slots.{list_json}
 use Rattle.tenant_reports.specs.Usage.{usage_reply, row_json}
 use Rattle.tenant_state.specs.State.{Inventory, newest}
 
--- what is put at the end, piece by piece, is the rest
+-- the pieces that are added to the end, one by one, are the rest
 behind : (old a b c d e f : List ℕ) → old ++ a ++ b ++ c ++ d ++ e ++ f ≡ old ++ (a ++ (b ++ (c ++ (d ++ (e ++ f)))))
 behind old a b c d e f =
     append_assoc (old ++ a ++ b ++ c ++ d) e f
@@ -19,7 +19,7 @@ behind old a b c d e f =
     ∙ append_assoc (old ++ a) b (c ++ (d ++ (e ++ f)))
     ∙ append_assoc old a (b ++ (c ++ (d ++ (e ++ f))))
 
--- what is put at the end of a text, piece by piece, is a row
+-- the pieces that are added to the end of a text are a row
 pub row_by_pieces : (old : List ℕ) (row : UsageRow)
     → old ++ (codes "{\"device\":" ++ decimal row.device) ++ (codes ",\"entries\":" ++ decimal row.entries) ++ (codes ",\"groups\":" ++ decimal row.groups)
     ++ (codes ",\"permille\":" ++ decimal row.permille) ++ (codes ",\"primaries\":" ++ decimal row.primaries) ++ codes "}"

@@ -31,7 +31,7 @@ abbrev pub on_device : PoolOnMap → Option ℕ → Result (List ℕ) Problem
 on_device p None = Err NoDevice
 on_device p (Some device) = ok_or (impact p.map p.states p.pool p.pairs device) NoRule
 
--- the same on a map with the pool's rule, by the number of the device
+-- the same on a map with the pool's rule, by the device's number
 abbrev pub on_map : ℕ → Result PoolOnMap Problem → Result (List ℕ) Problem
 on_map number (Err problem) = Err problem
 on_map number (Ok p) = on_device p (id_of p.map.devices number)

@@ -23,7 +23,7 @@ row_json row =
     object (members_of ((codes "gained", natural row.gained) ∷ (codes "group", natural row.group) ∷ (codes "new", list_json (map slot_json row.new))
     ∷ (codes "old", list_json (map slot_json row.old)) ∷ []))
 
--- {"epoch": E, "from": v, "gained": the sum of the rows', "moved": how many rows, "pool": p,
+-- {"epoch": E, "from": v, "gained": the sum of the rows', "moved": the number of rows, "pool": p,
 -- "rows": [ROW, ..], "to": w}
 abbrev pub moves_reply : Inventory → ℕ → ℕ → ℕ → List MoveRow → Data
 moves_reply inventory id from to rows =

@@ -14,8 +14,8 @@ use serde_json::Value;
 use std::alloc::Global;
 use tenant_messages::{Problem, Refusal, has_keys, read_value, request_number, text};
 
-/// Returns the changes that a CSV says, in the order of its lines. The problem is `BadRequest`,
-/// exactly where the text isn't of the form of such a CSV.
+/// Reads the changes that a CSV says, in the order of its lines. The problem is `BadRequest`,
+/// exactly where the text doesn't have the form of a CSV of changes.
 fn changes(alloc: Global, csv: &str) -> Result<Listed<DeviceChange>, Refusal>
     ensures { Reads (λ changes. changes) result (device_changes_of csv.now) }
 {
@@ -25,8 +25,8 @@ fn changes(alloc: Global, csv: &str) -> Result<Listed<DeviceChange>, Refusal>
     }
 }
 
-/// Returns the request number and the changes that a body's value says. The problem is
-/// `BadRequest`, exactly where the value isn't of the form of such a body.
+/// Reads the request number and the changes that a body's value says. The problem is `BadRequest`,
+/// exactly where the value doesn't have the form of the body.
 fn changes_in(alloc: Global, value: &Value) -> Result<(Text, Listed<DeviceChange>), Refusal>
     ensures { Reads (λ asked. asked) result (spec.changes_of (view value.now)) }
 {
@@ -39,8 +39,8 @@ fn changes_in(alloc: Global, value: &Value) -> Result<(Text, Listed<DeviceChange
     Ok((Text::copy(alloc, number)?, changes))
 }
 
-/// Returns the request number and the changes that a body asks for. The problem is `BadRequest`,
-/// exactly where the body isn't of the form (`IsDeviceCsvBody`).
+/// Reads the request number and the changes that a body asks for. The problem is `BadRequest`,
+/// exactly where the body doesn't have the form (`IsDeviceCsvBody`).
 pub fn read_changes(alloc: Global, body: &str) -> Result<(Text, Listed<DeviceChange>), Refusal>
     ensures { Reads (λ asked. asked) result (spec.device_csv_request_of body.now) }
 {

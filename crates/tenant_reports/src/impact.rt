@@ -18,7 +18,7 @@ use tenant_state::{Inventory, TenantPool};
 
 // ---- the groups
 
-/// Returns the id of the device with a number, if there is one.
+/// Returns the id of the device with the number `number`, if there is one.
 pub fn id_of(devices: &[Device], number: u64) -> Option<u32>
     ensures { result ≡ spec.id_of devices.now number }
 {
@@ -30,8 +30,8 @@ pub fn id_of(devices: &[Device], number: u64) -> Option<u32>
     None
 }
 
-/// Returns the groups on the newest version that a device can touch, ascending. The problem is
-/// `NoVersion`, `NoRule`, or `NoDevice`.
+/// Finds the groups on the newest version that the device with the number `number` can touch,
+/// ascending. The problem is `NoVersion`, `NoRule`, or `NoDevice`.
 fn groups_of(
     alloc: Global,
     inventory: &Inventory,
@@ -48,7 +48,7 @@ fn groups_of(
 
 // ---- the answer
 
-/// Returns the body of the reply with these groups.
+/// Makes the body of the reply with the numbers of the groups.
 fn impact_reply(
     alloc: Global,
     inventory: &Inventory,
@@ -68,7 +68,7 @@ fn impact_reply(
     })
 }
 
-/// Returns the reply with these groups, of the pool with an id, as those that a device can touch.
+/// Makes the reply with the groups of the pool `id` that the device `device` can touch.
 /// `Err(AllocError)`: an allocation failed; nothing is changed.
 pub fn touched_reply(
     alloc: Global,
@@ -83,9 +83,9 @@ pub fn touched_reply(
     success(alloc, &body)
 }
 
-/// Returns the reply with the groups, of the pool with an id, that a device can touch. The problem
-/// is, in this order, `NoPool`, `NoVersion`, `NoRule`, or `NoDevice` where the newest version lacks
-/// the device.
+/// Finds the groups of the pool `id` that the device `device` can touch, and makes the reply. The
+/// problem is, in this order, `NoPool`, `NoVersion`, `NoRule`, or `NoDevice` where the newest
+/// version lacks the device.
 pub fn answer(alloc: Global, id: u64, device: u64, inventory: &Inventory) -> Result<Reply, Refusal>
     ensures { Answers result (spec.impact_answer id device inventory.now) }
 {

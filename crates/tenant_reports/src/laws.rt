@@ -1,10 +1,10 @@
-//! Laws of the forms of bodies: each contract holds of the definitions alone.
+//! Laws of the forms of bodies: each contract is about the definitions alone.
 
 ghost use Rattle.tenant_messages.specs.Forms.{FindsExactly, ReadsExactly, RefusesOthers};
 ghost use Rattle.tenant_reports.specs.DeviceCsv.{IsDeviceCsvBody, changes_of, device_csv_request_of};
 
 /// Changes of devices are read from a body with a CSV exactly where body and CSV have their forms
-/// and say them; any other body is refused.
+/// and say those changes; any other body is refused.
 pub fn device_csv_requests_are_of_the_form()
     ensures value { FindsExactly changes_of IsDeviceCsvBody }
     ensures body { ReadsExactly device_csv_request_of IsDeviceCsvBody }

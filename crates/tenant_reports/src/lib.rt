@@ -1,6 +1,6 @@
 //! Requests for reports on a pool, and changes of states of devices as CSV: a file for each.
 //!
-//! Its tests are in the crate `service_tests`.
+//! The tests are in the crate `service_tests`.
 #![tactic(auto)]
 
 pub mod device_csv;

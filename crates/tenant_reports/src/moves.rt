@@ -20,7 +20,7 @@ use tenant_state::{Inventory, TenantPool};
 
 // ---- the groups that move
 
-/// Returns a row for each group whose up list differs between the versions with two numbers. The
+/// Makes a row for each group whose up list differs between the versions `from` and `to`. The
 /// problem is `NoVersion` where one of them is absent, and else `NoRule` where one lacks the pool's
 /// rule.
 fn rows_of(
@@ -58,7 +58,7 @@ impl Row for MoveRow {
     }
 }
 
-/// Returns the body of the reply, up to the list of rows.
+/// Writes the body of the reply, up to the list of rows.
 fn head_text(
     alloc: Global,
     epoch: u64,
@@ -78,7 +78,7 @@ fn head_text(
     Ok(text)
 }
 
-/// Returns the body of the reply.
+/// Writes the body of the reply.
 #[tactic(auto, using(crate::proofs::Texts::body_by_pieces))]
 fn moves_text(
     alloc: Global,
@@ -100,8 +100,8 @@ fn moves_text(
     Ok(text)
 }
 
-/// Returns the reply with these rows, of the pool with an id, as those of the groups that move from
-/// a version to another. `Err(AllocError)`: an allocation failed; nothing is changed.
+/// Makes the reply with `rows`, those of the groups of the pool `id` that move from the version
+/// `from` to the version `to`. `Err(AllocError)`: an allocation failed; nothing is changed.
 pub fn moved_reply(
     alloc: Global,
     inventory: &Inventory,
@@ -117,8 +117,8 @@ pub fn moved_reply(
     Ok(done(text))
 }
 
-/// Returns the reply with the groups, of the pool with an id, that move between the versions with
-/// two numbers. The problem is, in this order, `NoPool`, `NoVersion` where one of the two is
+/// Finds the groups of the pool `id` that move from the version `from` to the version `to`, and
+/// makes the reply. The problem is, in this order, `NoPool`, `NoVersion` where one of the two is
 /// absent, or `NoRule` where one lacks the pool's rule.
 pub fn answer(
     alloc: Global,

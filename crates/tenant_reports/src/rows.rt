@@ -1,4 +1,4 @@
-//! Rows of a report, put at the end of a text as a JSON list.
+//! Rows of a report, added to the end of a text as a JSON list.
 
 ghost use Rattle.std.specs.Prelude.{◌≡◌, ◌++◌, OnOk, map, string_bytes};
 ghost use Rattle.serde_json.specs.Data.{Data};
@@ -12,12 +12,12 @@ pub trait Row {
     /// The row as JSON.
     ghost json: { Self → Data };
 
-    /// Puts the row at the end of a text. `Err(AllocError)`: an allocation failed.
+    /// Adds the row to the end of a text. `Err(AllocError)`: an allocation failed.
     fn push(&self, text: &mut String) -> Result<(), AllocError>
         ensures { OnOk result (string_bytes text.new ≡ string_bytes text.old ++ compact_text (json self.now)) };
 }
 
-/// Puts a row at the end of a text, behind a comma if another is before it.
+/// Adds a row to the end of a text, after a comma if `later`, where another row comes before.
 fn push_next<R: Row>(text: &mut String, later: bool, row: &R) -> Result<(), AllocError>
     ensures { OnOk result (string_bytes text.new ≡ string_bytes text.old ++ (comma_if later ++ compact_text (R.json row.now))) }
 {
@@ -27,7 +27,7 @@ fn push_next<R: Row>(text: &mut String, later: bool, row: &R) -> Result<(), Allo
     row.push(text)
 }
 
-/// Puts the rows at the end of a text, as a JSON list. `Err(AllocError)`: an allocation failed.
+/// Adds the rows to the end of a text, as a JSON list. `Err(AllocError)`: an allocation failed.
 #[tactic(auto, using(crate::proofs::Texts::row_more))]
 pub(crate) fn push_rows<R: Row>(text: &mut String, rows: &[R]) -> Result<(), AllocError>
     ensures { OnOk result (string_bytes text.new ≡ string_bytes text.old ++ compact_text (list_json (map R.json rows.now))) }

@@ -16,7 +16,7 @@ use tenant_state::{Inventory, TenantPool};
 
 // ---- the counts
 
-/// Returns a row for each device, on the newest version. The problem is `NoVersion` where there is
+/// Counts a row for each device, on the newest version. The problem is `NoVersion` where there is
 /// no version, and `NoRule` where the newest lacks the pool's rule.
 fn rows_of(
     alloc: Global,
@@ -53,7 +53,7 @@ impl Row for UsageRow {
     }
 }
 
-/// Returns the body of the reply with these rows, in memory that is asked for at once.
+/// Writes the body of the reply with `rows`, in memory that is allocated at once.
 #[tactic(auto, using(crate::proofs::UsageTexts::body_by_pieces))]
 fn usage_text(
     alloc: Global,
@@ -74,7 +74,7 @@ fn usage_text(
     Ok(text)
 }
 
-/// Returns the reply with rows.
+/// Makes the reply with `rows`.
 fn usage_reply(
     alloc: Global,
     inventory: &Inventory,
@@ -87,8 +87,8 @@ fn usage_reply(
     Ok(done(text))
 }
 
-/// Returns the reply with the counts of the pool with an id. The problem is, in this order,
-/// `NoPool`, `NoVersion`, or `NoRule`.
+/// Counts the rows of the pool `id`, and makes the reply. The problem is, in this order, `NoPool`,
+/// `NoVersion`, or `NoRule`.
 pub fn answer(alloc: Global, id: u64, inventory: &Inventory) -> Result<Reply, Refusal>
     ensures { Answers result (spec.usage_answer id inventory.now) }
 {

@@ -25,8 +25,8 @@ use Rattle.tenant_state.specs.State.{Inventory, NewStates, newest, version}
 
 -- ---- the form of a body, and the changes that it says
 
--- {"id": 0..NUMBER_LIMIT}, with "reweight": 0..FULL, or "up": true or false, or both; what is
--- missing stays
+-- {"id": 0..NUMBER_LIMIT}, with "reweight": 0..FULL, or "up": true or false, or both; a part whose
+-- key is missing is unchanged
 pub record IsChange (d : Data) (c : DeviceChange) : Type 0 where
   pub keys : HasExactly (if_any (codes "reweight") c.reweight ++ if_any (codes "up") c.up ++ codes "id" ∷ []) d
   pub device : IsUnder (codes "id") (IsNatural NUMBER_LIMIT) d c.device
@@ -78,7 +78,7 @@ devices_request_of body = option_and_then changes_of (value_of body)
 abbrev pub is_in_range : DeviceChange → Bool
 is_in_range c = nat_le c.device NUMBER_LIMIT && option_map_or (λ w. nat_le w FULL) c.reweight true
 
--- the state of a device after a change: what the change doesn't say is as it was
+-- the state of a device after a change: a part that the change doesn't say is unchanged
 abbrev pub changed : List DeviceState → DeviceChange → DeviceState
 changed states c =
     record { device = c.device; reweight = unwrap_or c.reweight (reweight_of (reweights states) c.device); up = unwrap_or c.up (is_up states c.device) }
@@ -87,7 +87,7 @@ changed states c =
 abbrev pub has_device : Map → ℕ → Bool
 has_device m id = list_any (λ d. d.id == id) m.devices
 
--- {"devices": how many changes, "epoch": E}
+-- {"devices": the number of changes, "epoch": E}
 abbrev pub devices_reply : ℕ → Inventory → Data
 devices_reply count inventory = object (members_of ((codes "devices", natural count) ∷ (codes "epoch", natural (suc inventory.epoch)) ∷ []))
 

@@ -73,7 +73,7 @@ exceptions_request_of body = option_and_then exceptions_of (value_of body)
 abbrev pub has_devices : Map → List Pair → Bool
 has_devices m pairs = list_all (λ q. has_device m q.from && has_device m q.to) pairs
 
--- {"epoch": E, "exceptions": how many pairs, "pool": id}
+-- {"epoch": E, "exceptions": the number of pairs, "pool": id}
 abbrev pub setting : ℕ → List Pair → Inventory → Data
 setting id pairs inventory =
     object (members_of ((codes "epoch", natural (suc inventory.epoch)) ∷ (codes "exceptions", natural (length pairs)) ∷ (codes "pool", natural id) ∷ []))

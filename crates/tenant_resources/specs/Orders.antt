@@ -12,6 +12,6 @@ pub record Accepted : Type 0 where
   pub status : SuccessStatus
   pub body : Data
 
--- what the code keeps of one says
+-- the order that the code's type says
 abbrev pub accepted_of : accepted.Accepted → Accepted
 accepted_of a = record { made = made_of a.made; status = a.status; body = view a.body }

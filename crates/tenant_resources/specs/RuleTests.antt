@@ -20,8 +20,8 @@ use Rattle.tenant_messages.specs.Slots.{slot_json, list_json}
 use Rattle.tenant_state.specs.State.{Inventory, newest, version}
 use Rattle.tenant_messages.specs.declared.reply.Problem.TheVariants.{NoVersion, NoRule}
 
--- a test: the rule with this id gives at most so many items for an input, on a version, or else on
--- the newest
+-- a test: the rule with the id `rule` gives at most `size` items for the input `x`, on the version
+-- `version`, or else on the newest
 pub record RuleTest : Type 0 where
   pub rule : ℕ
   pub size : ℕ

@@ -27,7 +27,7 @@ use tenant_state::{Devices, Inventory, Made, Version};
 
 // ---- the body
 
-/// 1 if the object has this key, else 0.
+/// Counts the key `key` of the object: 1 if it is there, else 0.
 fn present(value: &Value, key: &str) -> usize
     ensures count { result ≡ json.present key.now (view value.now) }
     ensures few { result ≤ 1 }
@@ -35,7 +35,8 @@ fn present(value: &Value, key: &str) -> usize
     if value.get(key).is_some() { 1 } else { 0 }
 }
 
-/// Returns the change that a value of the list says, or `None` where it isn't of the form of one.
+/// Reads the change that a value of the list says, or returns `None` where the value doesn't have
+/// the form of a change.
 fn change(value: &Value) -> Option<DeviceChange>
     ensures { result ≡ spec.change_of (view value.now) }
 {
@@ -56,8 +57,8 @@ fn change(value: &Value) -> Option<DeviceChange>
     })
 }
 
-/// Returns the changes that the values say, in their order. The problem is `BadRequest`, exactly
-/// where a value isn't of the form of a change.
+/// Reads the changes that `values` say, in their order. The problem is `BadRequest`, exactly where
+/// a value doesn't have the form of a change.
 fn changes(alloc: Global, values: &[Value]) -> Result<Vec<DeviceChange>, Refusal>
     ensures { Reads (λ v. v.items) result (json.each_of spec.change_of (items_view values.now)) }
 {
@@ -71,8 +72,8 @@ fn changes(alloc: Global, values: &[Value]) -> Result<Vec<DeviceChange>, Refusal
     Ok(found)
 }
 
-/// Returns the request number and the changes that a body's value says. The problem is
-/// `BadRequest`, exactly where the value isn't of the form of such a body.
+/// Reads the request number and the changes that a body's value says. The problem is `BadRequest`,
+/// exactly where the value doesn't have the form of the body.
 fn changes_in(alloc: Global, value: &Value) -> Result<(Text, Listed<DeviceChange>), Refusal>
     ensures { Reads (λ asked. asked) result (spec.changes_of (view value.now)) }
 {
@@ -92,8 +93,8 @@ fn changes_in(alloc: Global, value: &Value) -> Result<(Text, Listed<DeviceChange
     }
 }
 
-/// Returns the request number and the changes that a body asks for. The problem is `BadRequest`,
-/// exactly where the body isn't of the form (`IsDevicesBody`).
+/// Reads the request number and the changes that a body asks for. The problem is `BadRequest`,
+/// exactly where the body doesn't have the form (`IsDevicesBody`).
 pub fn read_changes(alloc: Global, body: &str) -> Result<(Text, Listed<DeviceChange>), Refusal>
     ensures { Reads (λ asked. asked) result (spec.devices_request_of body.now) }
 {
@@ -135,7 +136,7 @@ fn changed(states: &Devices, change: &DeviceChange) -> DeviceState
     }
 }
 
-/// Returns the state of each changed device after its change. `Err(AllocError)`: an allocation
+/// Makes the state of each changed device after its change. `Err(AllocError)`: an allocation
 /// failed; nothing is changed.
 fn all_changed(
     alloc: Global,
@@ -151,14 +152,14 @@ fn all_changed(
     Ok(all)
 }
 
-/// Returns whether a version has a device.
+/// Returns whether the map of `version` has the device `device`.
 pub(crate) fn has_device(version: &Version, device: u32) -> bool
     ensures { result ≡ spec.has_device version.now device }
 {
     version.tables().has_device(device)
 }
 
-/// Returns whether a version has each device.
+/// Returns whether the map of `version` has each device of `changes`.
 fn has_devices(version: &Version, changes: &[DeviceChange]) -> bool
     ensures { result ≡ list_all (λ c. spec.has_device version.now c.device) changes.now }
 {
@@ -167,7 +168,7 @@ fn has_devices(version: &Version, changes: &[DeviceChange]) -> bool
         .all(|change| has_device(version, change.device))
 }
 
-/// Returns the body of the reply: how many devices were changed, and the epoch after the change.
+/// Makes the body of the reply: the number of changes, and the epoch after them.
 fn devices_reply(alloc: Global, count: usize, inventory: &Inventory) -> Result<Value, AllocError>
     requires receipts { inventory.now.epoch < 2 ^ 32 }
     ensures { IfOk result (λ v. view v ≡ spec.devices_reply count inventory.now) }
@@ -175,8 +176,8 @@ fn devices_reply(alloc: Global, count: usize, inventory: &Inventory) -> Result<V
     json!(in alloc; {"devices": count as u64, "epoch": inventory.epoch() + 1})
 }
 
-/// Returns the new states of devices, with the reply. The problem is `NoVersion` where there is no
-/// version, and else `NoDevice` where the newest lacks one of the devices.
+/// Accepts changes of devices: makes the new states, with the reply. The problem is `NoVersion`
+/// where there is no version, and else `NoDevice` where the newest lacks one of the devices.
 pub fn change_devices(
     alloc: Global,
     changes: &[DeviceChange],

@@ -27,8 +27,8 @@ use tenant_state::{Inventory, Made, TenantPool, Version};
 
 // ---- the body
 
-/// Returns the pair that a value of the list says, not yet tested for its ranges; `None` where it
-/// isn't of the form of one.
+/// Reads the pair that a value of the list says, without a test of its ranges; returns `None` where
+/// the value doesn't have the form of a pair.
 fn pair(value: &Value) -> Option<Pair>
     ensures { result ≡ spec.pair_of (view value.now) }
 {
@@ -41,8 +41,8 @@ fn pair(value: &Value) -> Option<Pair>
     Some(Pair { group, from, to })
 }
 
-/// Returns the pairs that the values say, in their order. The problem is `BadRequest`, exactly
-/// where a value isn't of the form of a pair.
+/// Reads the pairs that `values` say, in their order. The problem is `BadRequest`, exactly where a
+/// value doesn't have the form of a pair.
 fn pairs(alloc: Global, values: &[Value]) -> Result<Vec<Pair>, Refusal>
     ensures { Reads (λ v. v.items) result (json.each_of spec.pair_of (items_view values.now)) }
 {
@@ -56,8 +56,8 @@ fn pairs(alloc: Global, values: &[Value]) -> Result<Vec<Pair>, Refusal>
     Ok(found)
 }
 
-/// Returns the request number, the id of the pool and the pairs that a body's value says. The
-/// problem is `BadRequest`, exactly where the value isn't of the form of such a body.
+/// Reads the request number, the id of the pool and the pairs that a body's value says. The problem
+/// is `BadRequest`, exactly where the value doesn't have the form of the body.
 fn exceptions_in(alloc: Global, value: &Value) -> Result<(Text, (u32, Listed<Pair>)), Refusal>
     ensures { Reads (λ asked. asked) result (spec.exceptions_of (view value.now)) }
 {
@@ -78,8 +78,8 @@ fn exceptions_in(alloc: Global, value: &Value) -> Result<(Text, (u32, Listed<Pai
     }
 }
 
-/// Returns the request number, the id of the pool and the pairs that a body asks for. The problem
-/// is `BadRequest`, exactly where the body isn't of the form (`IsExceptionsBody`).
+/// Reads the request number, the id of the pool and the pairs that a body asks for. The problem is
+/// `BadRequest`, exactly where the body doesn't have the form (`IsExceptionsBody`).
 pub fn read_exceptions(alloc: Global, body: &str) -> Result<(Text, (u32, Listed<Pair>)), Refusal>
     ensures { Reads (λ asked. asked) result (spec.exceptions_request_of body.now) }
 {
@@ -88,16 +88,15 @@ pub fn read_exceptions(alloc: Global, body: &str) -> Result<(Text, (u32, Listed<
 
 // ---- setting the pairs of a pool
 
-/// Returns whether a version has both devices of each pair.
+/// Returns whether the map of `version` has both devices of each pair.
 fn has_devices(version: &Version, pairs: &[Pair]) -> bool
     ensures { result ≡ spec.has_devices version.now pairs.now }
 {
     pairs.iter().all(|pair| has_device(version, pair.from) && has_device(version, pair.to))
 }
 
-/// Returns a copy of pairs as the exceptions of a pool, to be shared. The problem is `NoGroup`,
-/// exactly where the pool can't have them: of pairs that some pool can have it lacks the group of
-/// one.
+/// Copies pairs to shared exceptions of a pool. The problem is `NoGroup`, exactly where the pool
+/// can't have them: of pairs that some pool can have, it lacks the group of one.
 fn shared(alloc: Global, pool: &TenantPool, pairs: &[Pair]) -> Result<SharedExceptions, Refusal>
     ensures { Gives (λ e. e) result (if are_pairs pool.now.parts.pg_num pairs.now then Ok pairs.now else Err Problem.NoGroup) }
 {
@@ -109,8 +108,7 @@ fn shared(alloc: Global, pool: &TenantPool, pairs: &[Pair]) -> Result<SharedExce
     }
 }
 
-/// Returns the body of the reply: the epoch after the change, how many pairs there are, and the
-/// pool's id.
+/// Makes the body of the reply: the epoch after the change, the number of pairs, and the pool's id.
 fn setting(
     alloc: Global,
     id: u32,
@@ -127,8 +125,8 @@ fn setting(
     })
 }
 
-/// Returns these pairs as all the exceptions of the pool with an id, with the reply. The problem
-/// is, in this order, `NoPool`, `NoGroup` where the pool lacks the group of one of the pairs
+/// Accepts `pairs` as all the exceptions of the pool that has `id`, with the reply. The problem is,
+/// in this order, `NoPool`, `NoGroup` where the pool lacks the group of one of the pairs
 /// (`shared`), `NoVersion`, or `NoDevice` where the newest version lacks a device of one of them.
 pub fn set(
     alloc: Global,
@@ -157,7 +155,7 @@ pub fn set(
 
 // ---- the answer
 
-/// Returns a pair as JSON.
+/// Makes the JSON of a pair.
 fn pair_json(alloc: Global, pair: &Pair) -> Result<Value, AllocError>
     ensures { IfOk result (λ v. view v ≡ spec.pair_json pair.now) }
 {
@@ -174,7 +172,7 @@ fn pairs_json(alloc: Global, pairs: &[Pair]) -> Result<Value, AllocError>
     Ok(Value::Array(values))
 }
 
-/// Returns the body of the reply with the pairs of a pool.
+/// Makes the body of the reply with the pairs of a pool.
 fn exceptions_reply(
     alloc: Global,
     inventory: &Inventory,
@@ -190,8 +188,8 @@ fn exceptions_reply(
     })
 }
 
-/// Returns the reply with the pairs of the pool with an id, in their order. The problem is
-/// `NoPool`.
+/// Makes the reply with the pairs of the pool that has `id`, in their order. The problem is
+/// `NoPool`, where there is no such pool.
 pub fn answer(alloc: Global, id: u64, inventory: &Inventory) -> Result<Reply, Refusal>
     ensures { Answers result (spec.exceptions_answer id inventory.now) }
 {

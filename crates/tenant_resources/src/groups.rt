@@ -56,8 +56,8 @@ impl ObjectName {
 
 // ---- the body that asks for an object
 
-/// Returns the name that a body's value says. The problem is `BadRequest`, exactly where the value
-/// isn't of the form of such a body.
+/// Reads the name that a body's value says. The problem is `BadRequest`, exactly where the value
+/// doesn't have the form of the body.
 fn name_in(alloc: Global, value: &Value) -> Result<ObjectName, Refusal>
     ensures { Reads (λ name. name) result (spec.name_of (view value.now)) }
 {
@@ -72,8 +72,8 @@ fn name_in(alloc: Global, value: &Value) -> Result<ObjectName, Refusal>
     Ok(ObjectName { name })
 }
 
-/// Returns the name of the object that a body asks for. The problem is `BadRequest`, exactly where
-/// the body isn't of the form (`IsLocateBody`).
+/// Reads the name of the object that a body asks for. The problem is `BadRequest`, exactly where
+/// the body doesn't have the form (`IsLocateBody`).
 pub fn read_name(alloc: Global, body: &str) -> Result<ObjectName, Refusal>
     ensures { Reads (λ name. name) result (spec.locate_request_of body.now) }
 {
@@ -82,8 +82,8 @@ pub fn read_name(alloc: Global, body: &str) -> Result<ObjectName, Refusal>
 
 // ---- placing a group
 
-/// Returns the placement of a group of a pool on the newest version. The problem is `NoVersion`
-/// where there is no version, and `NoRule` where the newest lacks the pool's rule.
+/// Places a group of a pool on the newest version. The problem is `NoVersion` where there is no
+/// version, and `NoRule` where the newest lacks the pool's rule.
 fn placed(
     alloc: Global,
     inventory: &Inventory,
@@ -105,8 +105,9 @@ fn placed(
 /// The room for a reply's text: at most 913 bytes, since a list has at most `SIZE_LIMIT` items.
 const REPLY_ROOM: usize = 1_024;
 
-/// Puts the rest of a reply at the end of its text: the primary, what the rule answered (`raw`),
-/// the seed, what of it is up, and the version. `Err(AllocError)`: an allocation failed.
+/// Adds the rest of a reply to the end of its text: the primary, the items that the rule gave
+/// (`raw`), the seed, those of the items that are up, and the version. `Err(AllocError)`: an
+/// allocation failed.
 fn push_placement(text: &mut String, placement: &Placement, version: u64) -> Result<(), AllocError>
     ensures { OnOk result (string_bytes text.new ≡ string_bytes text.old ++ members_text true (placement_members placement.now version)) }
 {
@@ -119,7 +120,7 @@ fn push_placement(text: &mut String, placement: &Placement, version: u64) -> Res
     Ok(())
 }
 
-/// Returns the text of the reply for a group.
+/// Writes the text of the reply for a group.
 #[tactic(auto, using(crate::proofs::GroupTexts::group_by_pieces))]
 fn group_text(
     alloc: Global,
@@ -136,7 +137,7 @@ fn group_text(
     Ok(text)
 }
 
-/// Returns the text of the reply for an object: that of its group, with the hash of the object's
+/// Writes the text of the reply for an object: that of its group, with the hash of the object's
 /// name.
 #[tactic(auto, using(crate::proofs::GroupTexts::object_by_pieces))]
 fn object_text(
@@ -158,8 +159,8 @@ fn object_text(
     Ok(text)
 }
 
-/// Returns the reply for a group that was placed. `Err(AllocError)`: an allocation failed; nothing
-/// is changed.
+/// Makes the reply for a group that was placed. `Err(AllocError)`: an allocation failed; nothing is
+/// changed.
 pub fn placed_group(
     alloc: Global,
     inventory: &Inventory,
@@ -172,7 +173,7 @@ pub fn placed_group(
     Ok(done(text))
 }
 
-/// Returns the reply for an object whose group was placed. `Err(AllocError)`: an allocation failed;
+/// Makes the reply for an object whose group was placed. `Err(AllocError)`: an allocation failed;
 /// nothing is changed.
 pub fn placed_object(
     alloc: Global,
@@ -187,7 +188,7 @@ pub fn placed_object(
     Ok(done(text))
 }
 
-/// Returns the reply with the placement of a group of the pool with an id. The problem is, in this
+/// Places the group `group` of the pool that has `id`, and makes the reply. The problem is, in this
 /// order, `NoPool`, `NoGroup` where the pool has no such group, `NoVersion`, or `NoRule`.
 pub fn group_answer(
     alloc: Global,
@@ -206,7 +207,7 @@ pub fn group_answer(
     Ok(placed_group(alloc, inventory, group, &placement)?)
 }
 
-/// Returns the reply with the placement of the object with a name, in the pool with an id. The
+/// Places the object with the name `name` in the pool that has `id`, and makes the reply. The
 /// problem is, in this order, `NoPool`, `NoVersion`, or `NoRule`.
 pub fn object_answer(
     alloc: Global,

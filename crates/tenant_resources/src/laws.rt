@@ -1,4 +1,4 @@
-//! Laws of the forms of bodies: each contract holds of the definitions alone.
+//! Laws of the forms of bodies: each contract is about the definitions alone.
 
 ghost use Rattle.std.specs.Prelude.{◌≡◌, List, nat_lt, true, ℕ};
 ghost use Rattle.std.specs.List.{list_all};
@@ -69,8 +69,8 @@ pub fn exceptions_are_of_the_form()
     ensures refused { RefusesOthers exceptions_request_of IsExceptionsBody }
 {}
 
-/// Pairs that some pool can have, as those of a body are, are ones that a pool with so many groups
-/// can have exactly where it has the group of each.
+/// A pool with `groups` groups can have pairs that some pool can have, as those of a body are,
+/// exactly where it has the group of each pair.
 pub fn pools_may_lack_groups()
     ensures { (groups : ℕ) (pairs : List Pair) → are_pairs GROUP_LIMIT pairs ≡ true → are_pairs groups pairs ≡ list_all (λ p. nat_lt p.group groups) pairs }
 {}

@@ -1,5 +1,5 @@
-//! What a tenant's requests name: a file for each, with the form of its bodies, its own checks, and
-//! its answer.
+//! The parts of a tenant that requests name: a file for each, with the form of its bodies, its own
+//! checks, and its answer.
 #![tactic(auto)]
 
 mod accepted;

@@ -26,8 +26,8 @@ use tenant_state::{Inventory, Made, Pools, TenantPool, Version};
 
 // ---- the body of an import
 
-/// Returns the request number and the text that a body's value says. The problem is `BadRequest`,
-/// exactly where the value isn't of the form of such a body.
+/// Reads the request number and the text that a body's value says. The problem is `BadRequest`,
+/// exactly where the value doesn't have the form of the body.
 fn import_in(alloc: Global, value: &Value) -> Result<(Text, Text), Refusal>
     ensures { Reads (λ asked. asked) result (spec.import_of (view value.now)) }
 {
@@ -39,8 +39,8 @@ fn import_in(alloc: Global, value: &Value) -> Result<(Text, Text), Refusal>
     Ok((Text::copy(alloc, number)?, Text::copy(alloc, written)?))
 }
 
-/// Returns the request number and the text of the import that a body asks for. The problem is
-/// `BadRequest`, exactly where the body isn't of the form (`IsImportBody`).
+/// Reads the request number and the text of the import that a body asks for. The problem is
+/// `BadRequest`, exactly where the body doesn't have the form (`IsImportBody`).
 pub fn read_import(alloc: Global, body: &str) -> Result<(Text, Text), Refusal>
     ensures { Reads (λ asked. asked) result (spec.import_request_of body.now) }
 {
@@ -49,7 +49,7 @@ pub fn read_import(alloc: Global, body: &str) -> Result<(Text, Text), Refusal>
 
 // ---- importing a text
 
-/// Returns the body of the reply: the epoch after the import, and the number of the new version.
+/// Makes the body of the reply: the epoch after the import, and the number of the new version.
 fn import_reply(alloc: Global, inventory: &Inventory) -> Result<Value, AllocError>
     requires receipts { inventory.now.epoch < 2 ^ 32 }
     requires versions { length inventory.now.versions < 2 ^ 32 }
@@ -58,8 +58,8 @@ fn import_reply(alloc: Global, inventory: &Inventory) -> Result<Value, AllocErro
     json!(in alloc; {"epoch": inventory.epoch() + 1, "version": inventory.newest() + 1})
 }
 
-/// Returns the version with this map, to be shared. `Err(AllocError)`: an allocation failed; the
-/// map is dropped.
+/// Makes the shared version with this map. `Err(AllocError)`: an allocation failed; the map is
+/// dropped.
 fn shared_version(alloc: Global, map: CrushMap) -> Result<Rc<Version>, AllocError>
     ensures { IfOk result (λ version. version.value ≡ map) }
 {
@@ -67,7 +67,7 @@ fn shared_version(alloc: Global, map: CrushMap) -> Result<Rc<Version>, AllocErro
     Ok(Rc::new(alloc, version)?)
 }
 
-/// Returns whether a map has the rule of each of some pools.
+/// Returns whether a map has the rule of each pool of `pools`.
 fn has_each_rule(map: &CrushMap, pools: &[Rc<TenantPool>]) -> bool
     ensures { result ≡ list_all (λ p. is_some (rule_numbered map.now p.value.parts.rule)) pools.now }
 {
@@ -83,7 +83,7 @@ fn has_rules_of(map: &CrushMap, pools: &Pools) -> bool
     has_each_rule(map, pools.as_slice())
 }
 
-/// Returns the version of a map's text, with the reply. The problem is, in this order,
+/// Accepts a map's text as a new version, with the reply. The problem is, in this order,
 /// `TenantLimit` where there are `VERSION_LIMIT` versions already, `MapRefused` with the text's
 /// first fault, or `RuleInUse` where the new map lacks the rule of a pool.
 pub fn import(alloc: Global, text: &str, inventory: &Inventory) -> Result<Accepted, Refusal>
@@ -113,15 +113,15 @@ pub fn import(alloc: Global, text: &str, inventory: &Inventory) -> Result<Accept
 
 // ---- reading a version
 
-/// Returns the body of the reply: the canonical text of a version, and its number.
+/// Makes the body of the reply: the canonical text of a version, and its number.
 fn version_reply(alloc: Global, number: u64, version: &Version) -> Result<Value, AllocError>
     ensures { IfOk result (λ v. view v ≡ spec.version_reply number version.now) }
 {
     json!(in alloc; {"text": version.text(), "version": number})
 }
 
-/// Returns the reply with the canonical text of the version with a number. The problem is
-/// `NoVersion`.
+/// Makes the reply with the canonical text of the version `number`. The problem is `NoVersion`,
+/// where there is no such version.
 pub fn answer(alloc: Global, number: u64, inventory: &Inventory) -> Result<Reply, Refusal>
     ensures { Answers result (spec.answer number inventory.now) }
 {

@@ -27,8 +27,8 @@ use tenant_state::{Inventory, Made, Pools, TenantPool};
 
 // ---- the body of a creation
 
-/// Returns whether the kind under the key `kind` is `erasure` (`true`) or `replicated` (`false`);
-/// `None` where it is neither.
+/// Reads whether the kind under the key `kind` is `erasure` (`true`) or `replicated` (`false`);
+/// returns `None` where it is neither.
 fn is_erasure(value: &Value) -> Option<bool>
     ensures { result ≡ json.under (codes "kind") spec.kind_of (view value.now) }
 {
@@ -42,15 +42,15 @@ fn is_erasure(value: &Value) -> Option<bool>
     }
 }
 
-/// Returns the whole number under a key, if it is below 2^32.
+/// Reads the whole number under a key, if it is below 2^32.
 fn number_under(value: &Value, key: &str) -> Option<u32>
     ensures { result ≡ spec.number_under key.now (view value.now) }
 {
     natural(value, key, 4_294_967_295)
 }
 
-/// Returns the size, the rule, the numbers of groups (`pg_num`) and of their places (`pgp_num`),
-/// and whether seeds are hashed; `None` where one of them isn't of its form.
+/// Reads the size, the rule, the numbers of groups (`pg_num`) and of their places (`pgp_num`), and
+/// whether seeds are hashed; returns `None` where a value doesn't have its form.
 fn sizes(value: &Value) -> Option<(((u32, u32), (u32, u32)), bool)>
     ensures { result ≡ spec.sized_of (view value.now) }
 {
@@ -62,8 +62,8 @@ fn sizes(value: &Value) -> Option<(((u32, u32), (u32, u32)), bool)>
     Some((((size, rule), (pg_num, pgp_num)), hashpspool))
 }
 
-/// Returns the request number and the parts of a pool that a body's value says, not yet tested for
-/// the ranges of a pool. The problem is `BadRequest`, exactly where one of them isn't of its form.
+/// Reads the request number and the parts of a pool that a body's value says, without a test of the
+/// ranges of a pool. The problem is `BadRequest`, exactly where a value doesn't have its form.
 fn parts(alloc: Global, value: &Value) -> Result<(Text, PoolParts), Refusal>
     ensures { Reads (λ asked. asked) result (spec.parts_of (view value.now)) }
 {
@@ -86,8 +86,8 @@ fn parts(alloc: Global, value: &Value) -> Result<(Text, PoolParts), Refusal>
     Ok((Text::copy(alloc, number)?, parts))
 }
 
-/// Returns the request number and the pool that a body's value says. The problem is `BadRequest`,
-/// exactly where the value isn't of the form of such a body.
+/// Reads the request number and the pool that a body's value says. The problem is `BadRequest`,
+/// exactly where the value doesn't have the form of the body.
 fn pool_in(alloc: Global, value: &Value) -> Result<(Text, Pool), Refusal>
     ensures { Reads (λ asked. asked) result (spec.pool_of (view value.now)) }
 {
@@ -101,8 +101,8 @@ fn pool_in(alloc: Global, value: &Value) -> Result<(Text, Pool), Refusal>
     }
 }
 
-/// Returns the request number and the pool that a body asks for. The problem is `BadRequest`,
-/// exactly where the body isn't of the form (`IsPoolBody`).
+/// Reads the request number and the pool that a body asks for. The problem is `BadRequest`, exactly
+/// where the body doesn't have the form (`IsPoolBody`).
 pub fn read_pool(alloc: Global, body: &str) -> Result<(Text, Pool), Refusal>
     ensures { Reads (λ asked. asked) result (spec.pool_request_of body.now) }
 {
@@ -111,8 +111,8 @@ pub fn read_pool(alloc: Global, body: &str) -> Result<(Text, Pool), Refusal>
 
 // ---- the body of a removal
 
-/// Returns the request number and the id that a body's value says. The problem is `BadRequest`,
-/// exactly where the value isn't of the form of such a body.
+/// Reads the request number and the id that a body's value says. The problem is `BadRequest`,
+/// exactly where the value doesn't have the form of the body.
 fn removal_in(alloc: Global, value: &Value) -> Result<(Text, u32), Refusal>
     ensures { Reads (λ asked. asked) result (spec.removal_of (view value.now)) }
 {
@@ -127,8 +127,8 @@ fn removal_in(alloc: Global, value: &Value) -> Result<(Text, u32), Refusal>
     Ok((Text::copy(alloc, number)?, id))
 }
 
-/// Returns the request number and the id of the pool that a body asks to remove. The problem is
-/// `BadRequest`, exactly where the body isn't of the form (`IsRemovalBody`).
+/// Reads the request number and the id of the pool that a body asks to remove. The problem is
+/// `BadRequest`, exactly where the body doesn't have the form (`IsRemovalBody`).
 pub fn read_removal(alloc: Global, body: &str) -> Result<(Text, u32), Refusal>
     ensures { Reads (λ asked. asked) result (spec.removal_request_of body.now) }
 {
@@ -137,7 +137,7 @@ pub fn read_removal(alloc: Global, body: &str) -> Result<(Text, u32), Refusal>
 
 // ---- creating a pool
 
-/// Returns whether a pool has the id or the name of another.
+/// Returns whether the pool `other` has the id or the name of the pool `parts`.
 fn is_like(parts: &PoolParts, other: &TenantPool) -> bool
     ensures { result ≡ state.is_like parts.now other.now }
 {
@@ -145,21 +145,21 @@ fn is_like(parts: &PoolParts, other: &TenantPool) -> bool
     other.id == parts.id || other.name.as_str() == parts.name.as_str()
 }
 
-/// Returns whether one of some pools has the id or the name of another.
+/// Returns whether one of the pools `pools` has the id or the name of the pool `parts`.
 fn is_any_like(parts: &PoolParts, pools: &[Rc<TenantPool>]) -> bool
     ensures { result ≡ list_any (λ p. state.is_like parts.now p.value) pools.now }
 {
     pools.iter().any(|pool| is_like(parts, pool))
 }
 
-/// Returns whether one of the pools of a tenant has the id or the name of another.
+/// Returns whether one of a tenant's pools has the id or the name of the pool `parts`.
 fn is_taken(parts: &PoolParts, pools: &Pools) -> bool
     ensures { result ≡ list_any (state.is_like parts.now) pools.now }
 {
     is_any_like(parts, pools.as_slice())
 }
 
-/// Returns the body of the reply: the epoch after the creation, and the pool's id.
+/// Makes the body of the reply: the epoch after the creation, and the pool's id.
 fn creation(alloc: Global, id: u32, inventory: &Inventory) -> Result<Value, AllocError>
     requires receipts { inventory.now.epoch < 2 ^ 32 }
     ensures { IfOk result (λ v. view v ≡ spec.creation id inventory.now) }
@@ -167,8 +167,7 @@ fn creation(alloc: Global, id: u32, inventory: &Inventory) -> Result<Value, Allo
     json!(in alloc; {"epoch": inventory.epoch() + 1, "pool": id})
 }
 
-/// Returns a copy of a pool, to be shared. `Err(AllocError)`: an allocation failed; nothing is
-/// changed.
+/// Copies a pool and shares the copy. `Err(AllocError)`: an allocation failed; nothing is changed.
 fn shared(alloc: Global, pool: &Pool) -> Result<Rc<Pool>, AllocError>
     ensures { IfOk result (λ again. again.value ≡ pool.now) }
 {
@@ -183,7 +182,7 @@ fn shared(alloc: Global, pool: &Pool) -> Result<Rc<Pool>, AllocError>
     }
 }
 
-/// Returns one more pool, with the reply. The problem is, in this order, `NoVersion`, `NoRule`
+/// Accepts one more pool, with the reply. The problem is, in this order, `NoVersion`, `NoRule`
 /// where the newest version lacks the pool's rule, `Exists` where a pool has the id or the name, or
 /// `TenantLimit` where there are `POOL_LIMIT` pools already.
 pub fn create(alloc: Global, pool: &Pool, inventory: &Inventory) -> Result<Accepted, Refusal>
@@ -213,7 +212,7 @@ pub fn create(alloc: Global, pool: &Pool, inventory: &Inventory) -> Result<Accep
 
 // ---- removing a pool
 
-/// Returns the body of the reply: the epoch after the removal, and the pool's id.
+/// Makes the body of the reply: the epoch after the removal, and the pool's id.
 fn removal(alloc: Global, id: u32, inventory: &Inventory) -> Result<Value, AllocError>
     requires receipts { inventory.now.epoch < 2 ^ 32 }
     ensures { IfOk result (λ v. view v ≡ spec.removal id inventory.now) }
@@ -221,7 +220,8 @@ fn removal(alloc: Global, id: u32, inventory: &Inventory) -> Result<Value, Alloc
     json!(in alloc; {"epoch": inventory.epoch() + 1, "removed": id})
 }
 
-/// Returns the removal of the pool with an id, with the reply. The problem is `NoPool`.
+/// Accepts the removal of the pool that has `id`, with the reply. The problem is `NoPool`, where
+/// there is no such pool.
 pub fn remove(alloc: Global, id: u32, inventory: &Inventory) -> Result<Accepted, Refusal>
     requires { inventory.now.epoch < 2 ^ 32 }
     ensures given { Gives accepted_of result (spec.removed id inventory.now) }

@@ -53,8 +53,8 @@ impl Model for RuleTest {
 
 // ---- the body
 
-/// Returns the test that a body's value says, or `None` where the value isn't of the form of such a
-/// body.
+/// Reads the test that a body's value says, or returns `None` where the value doesn't have the form
+/// of the body.
 fn test(value: &Value) -> Option<RuleTest>
     ensures { result ≡ spec.test_of (view value.now) }
 {
@@ -77,8 +77,8 @@ fn test(value: &Value) -> Option<RuleTest>
     })
 }
 
-/// Returns the test that a body asks for. The problem is `BadRequest`, exactly where the body isn't
-/// of the form (`IsTestBody`).
+/// Reads the test that a body asks for. The problem is `BadRequest`, exactly where the body doesn't
+/// have the form (`IsTestBody`).
 pub fn read_test(alloc: Global, body: &str) -> Result<RuleTest, Refusal>
     ensures { Reads (λ t. t) result (spec.test_request_of body.now) }
 {
@@ -88,8 +88,8 @@ pub fn read_test(alloc: Global, body: &str) -> Result<RuleTest, Refusal>
 
 // ---- the answer
 
-/// Returns the body of the reply: the epoch, the items and nones that the rule gives, the devices
-/// in the outputs of its choose steps (`trace`, ascending), and the number of the version.
+/// Makes the body of the reply: the epoch, the items (`null` for none) that the rule gives, the
+/// devices in the outputs of its choose steps (`trace`, ascending), and the number of the version.
 fn outcome(
     alloc: Global,
     epoch: u64,
@@ -104,8 +104,8 @@ fn outcome(
     json!(in alloc; {"epoch": epoch, "items": items, "trace": trace, "version": number})
 }
 
-/// Returns the body of the reply for a rule of a version, run on these reweights (16.16 fixed
-/// point). `Err(AllocError)`: an allocation failed; nothing is changed.
+/// Runs a rule of a version on the reweights `weights` (16.16 fixed point), and makes the body of
+/// the reply. `Err(AllocError)`: an allocation failed; nothing is changed.
 fn tested(
     alloc: Global,
     epoch: u64,
@@ -134,7 +134,8 @@ fn tested(
     outcome(alloc, epoch, number, out.items(), out.trace())
 }
 
-/// Returns the reply to a rule test on a version, which has a number. The problem is `NoRule`.
+/// Makes the reply to a rule test on `version`, which has the number `number`. The problem is
+/// `NoRule`, where the version lacks the rule.
 fn answer_on(
     alloc: Global,
     test: &RuleTest,
@@ -158,9 +159,9 @@ fn answer_on(
     Ok(success(alloc, &body)?)
 }
 
-/// Returns the reply to a rule test: what the rule gives on the version that is named, or else on
-/// the newest, with the states of devices as they are now. The problem is `NoVersion` where there
-/// is no such version, and `NoRule` where it lacks the rule.
+/// Makes the reply to a rule test: the items that the rule gives on the version that is named, or
+/// else on the newest, with the states of devices as they are now. The problem is `NoVersion` where
+/// there is no such version, and `NoRule` where it lacks the rule.
 pub fn answer(alloc: Global, test: &RuleTest, inventory: &Inventory) -> Result<Reply, Refusal>
     ensures { Answers result (spec.answer test.now inventory.now) }
 {

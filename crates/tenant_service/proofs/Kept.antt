@@ -8,7 +8,7 @@ use Rattle.tenant_messages.specs.declared.reply.Problem.{Problem}
 use Rattle.tenant_messages.specs.declared.reply.Refusal.{Refusal}
 use Rattle.tenant_messages.specs.declared.reply.Refusal.TheVariants as refusal
 
--- a value at a key exchanged for another
+-- the value at a key is exchanged for another
 pub changed_at : {A : Type 0} (h : A → A) (b : Bool) (x y : A) (old : Option A) → (b ≡ true → old ≡ Some x) → y ≡ h x
     → (if b then Some y else old) ≡ (if b then option_map h old else old)
 changed_at h true x y old at e = rw (at refl) (ap (λ z. Some z) e)

@@ -1,4 +1,4 @@
--- Each value that a store in memory keeps is a state, also after a value is put, or taken out.
+-- Each value in a store in memory is a state, also after a value is put, or taken out.
 use Rattle.std.proofs.Common.{◌≡◌, ◌∙◌, ℕ, List, Bool, true, false, if◌then◌else◌, Option, Some, None, Result, Ok, Err, OnOk, OnErr, sym, subst}
 use Rattle.std.specs.Str.{bytes_eq}
 use Rattle.tenant_state.specs.State.{TenantState}

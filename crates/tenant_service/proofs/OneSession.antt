@@ -9,8 +9,8 @@ use Rattle.tenant_messages.specs.declared.call.Call.{Call}
 use Rattle.tenant_messages.specs.declared.reply.Reply.{Reply}
 use Rattle.tenant_state.specs.State.{TenantState}
 
--- what is known of a store that serves a call: that it gives each name one state at most, and that
--- a crash leaves what it shows, while it isn't latched
+-- a store that serves a call: it gives each name one state at most, and a crash leaves what it
+-- shows, while it isn't latched
 pub record Rests (latched : Bool) (states : States) (left : Outcomes) : Type 0 where
   pub one : latched ≡ false → (t : List ℕ) (s u : Option TenantState) → states t s → states t u → s ≡ u
   pub settled : latched ≡ false → (t : List ℕ) (found : Found) → left t found → Shows states t found

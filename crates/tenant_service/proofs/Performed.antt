@@ -11,12 +11,12 @@ use Rattle.tenant_messages.specs.Reply.{reply}
 use Rattle.tenant_messages.specs.declared.reply.Reply.{Reply}
 use Rattle.tenant_state.specs.State.{TenantState}
 
--- what holds anyway holds of an error
+-- a fact that holds without a premise holds of an error
 pub of_any : {A E : Type 0} (result : Result A E) (P : Type 0) → P → OnErr result P
 of_any (Ok a) P h = tt
 of_any (Err e) P h = h
 
--- what a store found is there where the state is
+-- a store found a tenant exactly where there is a state
 pub is_there : {A B C : Type 0} (f : A → C) (h : B → C) (found : Option B) (o : Option A) → option_map h found ≡ option_map f o → is_some found ≡ is_some o
 is_there f h (Some b) (Some a) same = refl
 is_there f h (Some b) None same = cc

@@ -14,8 +14,8 @@ pub record AppendsPart (old new : Option (List ℕ)) (bytes : List ℕ) : Type 0
   pub some : 0 < length rest
   pub front : AppendsUpTo rest old new bytes
 
--- the body as it is written. A reply for a failed allocation has an empty body, and its text stands
--- here
+-- the body as it is written. A reply for a failed allocation has an empty body, for which its text
+-- is written
 abbrev pub shown_body : List ℕ → List ℕ
 shown_body [] = codes "{\"error\":\"no_memory\"}"
 shown_body (b ∷ body) = b ∷ body

@@ -1,4 +1,4 @@
-//! Laws of the store in memory: each contract holds of every such store.
+//! Laws of the store in memory: each contract is about every such store.
 
 ghost use Rattle.std.specs.Prelude.{◌≡◌, ℕ, List, false, Option};
 ghost use Rattle.tenant_state.specs.State.{TenantState};
@@ -7,8 +7,8 @@ ghost use Rattle.tenant_service.specs.declared.memory_store.MemoryStore.{MemoryS
 use crate::memory_store::MemoryStore;
 use tenant_core::TenantStore;
 
-/// Every store in memory is honest and is never latched, and in each a name has exactly one state,
-/// or is absent.
+/// Every store in memory is honest and never latched, and in each of them a name has exactly one
+/// state, or is absent.
 pub fn memory_stores_are_honest()
     ensures honest { (store : MemoryStore) → ⟦<MemoryStore as TenantStore>⟧.is_honest store }
     ensures works { (store : MemoryStore) → ⟦<MemoryStore as TenantStore>⟧.latched store ≡ false }

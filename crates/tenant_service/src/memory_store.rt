@@ -36,7 +36,7 @@ fn change_named(
     }
 }
 
-/// Sets the state of a name. `Err(AllocError)`: an allocation failed; nothing is changed.
+/// Stores the state of a name. `Err(AllocError)`: an allocation failed; nothing is changed.
 fn put(alloc: Global, states: &mut States, name: &str, state: TenantState) -> Result<(), AllocError>
     ensures ok { OnOk result ((u : List ℕ) → get_by_text states.new u
         ≡ (if bytes_eq name.now u then Some state else get_by_text states.old u)) }
@@ -55,7 +55,7 @@ fn take_out(states: &mut States, name: &str)
     let _state = states.remove(name);
 }
 
-/// A store that keeps the states of all tenants in memory: they are gone when it is dropped.
+/// A store that holds the states of all tenants in memory: they are gone when it is dropped.
 #[derive(Drop)]
 pub struct MemoryStore {
     alloc: Global,
@@ -66,7 +66,7 @@ pub struct MemoryStore {
 impl MemoryStore {
     ghost use Rattle.std.specs.Prelude.{ℕ, List, None};
 
-    /// Returns a store with no tenant. Allocates nothing.
+    /// Makes a store without tenants. Allocates nothing.
     pub fn new(alloc: Global) -> Self
         ensures { (name : List ℕ) → ⟦<MemoryStore as TenantStore>⟧.has_state result name None }
     {
@@ -88,7 +88,7 @@ impl TenantStore for MemoryStore {
 
     ghost latched = { λ store. false };
 
-    // nothing is left of memory
+    // a crash leaves nothing of memory
     ghost may_leave = { λ store name found. ⊥ };
 
     ghost keeps = { λ old new. (u : List ℕ) → get_by_text new.states u ≡ get_by_text old.states u };
@@ -151,7 +151,7 @@ impl TenantStore for MemoryStore {
 impl Service<MemoryStore> {
     ghost use Rattle.std.specs.Prelude.{ℕ, List, None, IfOk};
 
-    /// Returns a service over a new store in memory, which has no tenant. By
+    /// Makes a service over a new store in memory, which has no tenant. By
     /// `memory_stores_are_honest` the headline holds of this service without a premise.
     /// `Err(AllocError)`: an allocation failed; nothing is changed.
     pub fn in_memory(alloc: Global) -> Result<Self, AllocError>

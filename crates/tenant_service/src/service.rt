@@ -46,8 +46,7 @@ fn carry_out_effect<T: TenantStore>(
     }
 }
 
-/// Returns the receipt of an action's request number, if the action has one and the tenant is
-/// there.
+/// Finds the receipt of an action's request number, if the action has one and the tenant is there.
 fn receipt_of<T: TenantStore>(
     store: &mut T,
     tenant: &str,
@@ -71,9 +70,9 @@ fn receipt_of<T: TenantStore>(
     }
 }
 
-/// Decides what a query does, which is nothing, by what the store has in its cache for it. `None`:
-/// the store hasn't this, or the request is no query. `Err(AllocError)`: an allocation failed.
-/// Nothing is changed.
+/// Decides what a query does, which is nothing, from what the store has in its cache for it.
+/// `None`: the cache lacks it, or the request isn't a query. `Err(AllocError)`: an allocation
+/// failed. Nothing is changed.
 fn decide_cached<T: TenantStore>(
     alloc: Global,
     store: &mut T,
@@ -123,8 +122,8 @@ fn decide_loaded<T: TenantStore>(
     )?)
 }
 
-/// Decides what a request does, by what the store has in its cache, or by what it loads.
-/// `Err`: the store's fault; a failed allocation is one. Nothing is changed.
+/// Decides what a request does, from what the store has in its cache, or from what it loads. `Err`:
+/// the store's fault; a failed allocation is one. Nothing is changed.
 fn decide_request<T: TenantStore>(
     alloc: Global,
     store: &mut T,
@@ -144,7 +143,7 @@ fn decide_request<T: TenantStore>(
     decide_loaded(alloc, store, request)
 }
 
-/// Decides what a request does, carries that out, and returns the reply. `Err`: the store's fault,
+/// Decides what a request does, carries it out, and returns the reply. `Err`: the store's fault,
 /// with nothing changed, unless it latched the store; a failed allocation is one.
 fn perform<T: TenantStore>(
     alloc: Global,
@@ -208,8 +207,7 @@ impl<T: TenantStore> Model for Service<T> {
 impl<T: TenantStore + Drop> Service<T> {
     ghost use Rattle.std.specs.Prelude.{◌≡◌, IfOk};
 
-    /// Returns a service over this store. `Err(AllocError)`: an allocation failed; the store is
-    /// dropped.
+    /// Makes a service over `store`. `Err(AllocError)`: an allocation failed; the store is dropped.
     pub fn over(alloc: Global, store: T) -> Result<Self, AllocError>
         ensures { IfOk result (λ service. service ≡ store) }
     {
@@ -226,7 +224,7 @@ impl<T: TenantStore> Service<T> {
     ghost use Rattle.tenant_core.specs.Step.{is_of};
     ghost use Rattle.tenant_core.specs.StoreReply.{IsUnavailable};
 
-    /// Returns a service over this store, by the routes that were made before. Allocates nothing.
+    /// Makes a service over `store`, with routes that were built before. Allocates nothing.
     pub fn with_routes(alloc: Global, routes: Routes, store: T) -> Self
         ensures { result ≡ store }
     {
@@ -254,10 +252,10 @@ impl<T: TenantStore> Service<T> {
     }
 
     /// Serves a call and returns its reply. The reply is the definition's for the state of the
-    /// call's tenant, which then has the definition's new state, and every other tenant keeps its
-    /// own; or the reply is 503, and every tenant keeps its state. A call that latches the store is
-    /// answered 503; after a crash an opening may then find it done or not. A latched store isn't
-    /// asked.
+    /// call's tenant, which then has the definition's new state, and the state of every other
+    /// tenant is unchanged; or the reply is 503, and the state of every tenant is unchanged. A call
+    /// that latches the store is answered 503; after a crash an opening may then find it done or
+    /// not. A latched store is only asked whether it is latched.
     pub fn request(&mut self, call: CallParts<'_>) -> Reply
         ensures serves { T.is_honest self.new → T.latched self.new ≡ false → Serves (call_of call.entry) (T.has_state self.old) (T.has_state self.new) result }
         ensures rows { T.is_honest self.new → T.latched self.new ≡ false → (t : List ℕ) → is_of t (call_of call.entry) ≡ true → IsDamaged (T.has_state self.old) t → T.keeps self.old self.new }

@@ -8,7 +8,7 @@ use std::alloc::AllocError;
 use tenant_core::TenantStore;
 use tenant_messages::{Call, Reply};
 
-/// What came of a session: a reply to each call, in order, and the doubt, the place of the call at
+/// The end of a session: a reply to each call, in order, and the doubt, the place of the call at
 /// which the store failed for good, if it did. After a crash that call may be found done or not.
 #[derive(Drop)]
 pub struct SessionEnd {
@@ -16,7 +16,7 @@ pub struct SessionEnd {
     pub doubt: Option<usize>,
 }
 
-/// Returns the doubt after one more call, at this place, which did or didn't latch the store.
+/// Returns the doubt after the call at `place`, which did or didn't latch the store.
 fn doubt_after(doubt: Option<usize>, is_latched: bool, place: usize) -> Option<usize>
     ensures { result ≡ spec.doubt_after doubt is_latched place }
 {

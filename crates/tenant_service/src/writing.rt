@@ -25,7 +25,7 @@ pub fn write_whole<W: Write>(writer: &mut W, bytes: &[u8]) -> bool
 }
 
 /// Returns the body of a reply as it is written. A reply for a failed allocation has an empty body,
-/// and its text stands here. Allocates nothing.
+/// for which its text is written. Allocates nothing.
 pub fn shown_body(body: &str) -> &[u8]
     ensures { result.now ≡ spec.shown_body body.now }
 {

@@ -71,7 +71,7 @@ at_less Less first same later h = refl
 at_less Equal first same later h = cc
 at_less Greater first same later h = cc
 
--- one whose number comes before all others is put in front of them
+-- a receipt whose number comes before all others is put in front of them
 pub placed_first : (k : String Global) (rc : Kept) (es : List Entry) → is_before_first is_before (pair_of (k, rc)) (pairs_of es) ≡ true
     → pairs_of (insert_entry in_order es k rc) ≡ pair_of (k, rc) ∷ pairs_of es
 placed_first k rc [] h = refl
@@ -81,7 +81,7 @@ map-append : (xs ys : List Entry) → pairs_of (xs ++ ys) ≡ pairs_of xs ++ pai
 map-append [] ys = refl
 map-append (x ∷ xs) ys = ap (λ l. pair_of x ∷ l) (map-append xs ys)
 
--- the last of the receipts that are left is put in front of those in the map
+-- the last of the remaining receipts is put in front of those in the map
 pub moved_last : (old new : List Entry) (k : String Global) (rc : Kept) (es after all : List Entry) → old ≡ new ++ (k, rc) ∷ []
     → after ≡ insert_entry in_order es k rc → pairs_of old ++ pairs_of es ≡ pairs_of all → is_ascending is_before (pairs_of all) ≡ true
     → pairs_of new ++ pairs_of after ≡ pairs_of all

@@ -92,7 +92,7 @@ replaced {A} {B} v number new d i xs is within same =
     (λ k lower. fails_before_first p xs k d (omega (arith, lower, is)))
     (rw is (passes_at_first p xs d (omega (arith, within, is)))) (equals (number (v (slice_index_or xs i d))) (number (v new)) same)
 
--- the same of a list as it is
+-- the same where the elements of a list are the values themselves
 pub inserted_here : {A : Type 0} (number : A → ℕ) (new d : A) (i : ℕ) (xs : List A) → i ≡ position_or_len (λ x. nat_le (number new) (number x)) xs
     → (i < length xs → number (slice_index_or xs i d) ≡ number new → ⊥) → insert xs i new ≡ with_element number new xs
 inserted_here number new d i xs is other =
@@ -188,7 +188,7 @@ second-of : (a b : Bool) → (a && b) ≡ true → b ≡ true
 second-of true b h = h
 second-of false b h = cc
 
--- each element stands before what follows it
+-- each element comes before what follows it
 pub before_rest : {A : Type 0} (before : A → A → Bool) (xs : List A) (x : A) (ys : List A) → is_ascending before (xs ++ x ∷ ys) ≡ true → is_before_first before x ys ≡ true
 before_rest before [] x ys h = first-of (is_before_first before x ys) (is_ascending before ys) h
 before_rest before (w ∷ xs) x ys h =

@@ -73,7 +73,7 @@ below-other a b h g = grind (arith, nat_tests, h, g)
 above : (a b : ℕ) → nat_le a b ≡ false → nat_lt b a ≡ true
 above a b h = grind (arith, nat_tests, h)
 
--- before the first of a list, also after a change of the list
+-- an element that comes before the first of a list still does after a change of the list
 first_same : {A : Type 0} (number : A → ℕ) (x new : A) (xs : List A) → (number x == number new) ≡ true → is_before_first (lower number) x xs ≡ true → is_before_first (lower number) new xs ≡ true
 first_same number x new [] same h = refl
 first_same number x new (y ∷ ys) same h = below-same (number new) (number x) (number y) same h

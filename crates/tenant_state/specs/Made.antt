@@ -1,4 +1,4 @@
--- What a change makes, as the code keeps it.
+-- What a change makes, from the code's type.
 use Rattle.tenant_state.specs.State as state
 use Rattle.tenant_state.specs.declared.state.Made.{Made}
 use Rattle.tenant_state.specs.declared.state.Made.TheVariants.{Version, States, Pool, Exceptions, NoPool}

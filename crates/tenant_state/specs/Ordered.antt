@@ -15,16 +15,16 @@ without number n (x ∷ xs) = if number x == n then xs else x ∷ without number
 
 -- ---- lists that are in order already
 
--- whether an element stands before the first of a list, if the list has one
+-- whether an element comes before the first of a list, if the list has one
 abbrev pub is_before_first : {A : Type 0} → (A → A → Bool) → A → List A → Bool
 is_before_first before x [] = true
 is_before_first before x (y ∷ ys) = before x y
 
--- whether each element of a list stands before the next one
+-- whether each element of a list comes before the next one
 abbrev pub is_ascending : {A : Type 0} → (A → A → Bool) → List A → Bool
 is_ascending before [] = true
 is_ascending before (x ∷ xs) = is_before_first before x xs && is_ascending before xs
 
--- a list that is in order: none where a key stands twice or out of order
+-- a list that is in order: none where an element comes twice or out of order
 abbrev pub if_ascending : {A : Type 0} → (A → A → Bool) → List A → Option (List A)
 if_ascending before xs = if is_ascending before xs then Some xs else None

@@ -1,4 +1,4 @@
--- How much memory what a tenant has takes, in bytes. It is an estimate from above: the numbers are
+-- The bytes of memory that an inventory takes. They are an estimate from above: the numbers are
 -- those of `size`, which says where each comes from.
 use Rattle.std.specs.Prelude.{ℕ, ◌+◌, ◌*◌, List, fold, length, max, unsigned_abs}
 use Rattle.std.specs.List.{sum_by}

@@ -38,7 +38,7 @@ fresh = record { versions = []; devices = []; pools = []; receipts = [] }
 abbrev pub epoch : TenantState → ℕ
 epoch state = length state.receipts
 
--- what a tenant has: its state but for the receipts, of which their number, the epoch, is left
+-- what a tenant has: its state without the receipts, of which only their number remains, the epoch
 pub record Inventory : Type 0 where
   pub versions : List Map
   pub devices : List DeviceState
@@ -64,11 +64,11 @@ version number inventory = if number == 0 then None else slice_get inventory.ver
 abbrev pub with_state : List DeviceState → DeviceState → List DeviceState
 with_state states new = with_element (λ s. s.device) new states
 
--- the states of devices with these, one after the other
+-- the states of devices with these stored, one after the other
 abbrev pub with_states : List DeviceState → List DeviceState → List DeviceState
 with_states changed states = fold with_state states changed
 
--- the orders in which they are kept: by the ids of the devices, and of the pools
+-- the orders in which states and pools are stored: by the ids of the devices, and of the pools
 abbrev pub is_lower_device : DeviceState → DeviceState → Bool
 is_lower_device s t = nat_lt s.device t.device
 
@@ -138,7 +138,7 @@ with_made (NewPool p) inventory = record inventory { pools = with_element (λ p.
 with_made (NewExceptions id pairs) inventory = record inventory { pools = with_pairs id pairs inventory.pools }
 with_made (RemovedPool id) inventory = record inventory { pools = without (λ p. p.parts.id) id inventory.pools }
 
--- the state with these receipts of a tenant that has this
+-- the state of a tenant with this inventory and these receipts
 abbrev pub with_receipts : Inventory → Receipts → TenantState
 with_receipts inventory receipts =
     record { versions = inventory.versions; devices = inventory.devices; pools = inventory.pools; receipts = receipts }

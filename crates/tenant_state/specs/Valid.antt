@@ -18,7 +18,7 @@ use Rattle.tenant_state.specs.declared.receipts.Receipt.{Receipt}
 
 -- ---- parts
 
--- a state is of an id that a device can have, with a reweight of at most 1.0
+-- the id of a state is one that a device can have, and its reweight is at most 1.0
 abbrev pub is_device_state : DeviceState → Bool
 is_device_state s = nat_le s.device NUMBER_LIMIT && nat_le s.reweight FULL
 
@@ -31,14 +31,14 @@ abbrev pub are_named_once : List TenantPool → Bool
 are_named_once [] = true
 are_named_once (p ∷ ps) = not (list_any (λ q. bytes_eq q.parts.name p.parts.name) ps) && are_named_once ps
 
--- a request number has its length, and it and what is kept under it are UTF-8
+-- a request number has its length, and it and what is stored under it are UTF-8
 abbrev pub is_receipt : List ℕ × Receipt → Bool
 is_receipt r = has_length r.0 && is_utf8 r.0 && is_utf8 r.1.path && is_utf8 r.1.body && is_utf8 r.1.reply
 
 -- ---- what a tenant has
 
--- its maps are maps; the states of devices and the pools are in their ranges, and each in strictly
--- rising order of ids
+-- its maps are maps; the states of devices and the pools are in their ranges, and each list of them
+-- is in strictly rising order of ids
 pub record IsInventory (i : Inventory) : Type 0 where
   pub maps : All IsMap i.versions
   pub devices : list_all is_device_state i.devices ≡ true

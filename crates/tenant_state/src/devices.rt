@@ -12,8 +12,8 @@ use crush_select::Weights;
 use std::alloc::{AllocError, Global};
 use std::marker::Model;
 
-/// States of devices, kept ready for rules and placements. Contracts see them in the order in which
-/// they are kept, that of the devices' ids.
+/// States of devices, ready for rules and placements. Contracts see them in the order in which they
+/// are stored, that of the devices' ids.
 #[derive(Drop)]
 pub struct Devices {
     states: SharedStates,
@@ -44,16 +44,16 @@ impl Devices {
     ghost use Rattle.tenant_state.specs.Ordered.{if_ascending};
     ghost use Rattle.tenant_state.specs.State.{is_lower_device, with_states};
 
-    /// No state of a device: each has the reweight 1.0 (65536 in 16.16 fixed point) and is up.
-    /// `Err(AllocError)`: an allocation failed; nothing is changed.
+    /// Makes a list without states: each device has the reweight 1.0 (65536 in 16.16 fixed point)
+    /// and is up. `Err(AllocError)`: an allocation failed; nothing is changed.
     pub fn new(alloc: Global) -> Result<Self, AllocError>
         ensures { IfOk result (λ devices. devices ≡ []) }
     {
         Devices::of(alloc, Vec::new(alloc))
     }
 
-    /// Returns these states, which are in the order of the devices' ids. `None`, exactly where a
-    /// device stands twice or out of order. Takes time linear in the number of states and the
+    /// Makes the states of a list that is in the order of the devices' ids. `None`, exactly where a
+    /// device comes twice or out of order. Takes time linear in the number of states and the
     /// greatest id. `Err(AllocError)`: an allocation failed; the list is dropped.
     pub fn from_list(alloc: Global, states: Vec<DeviceState>) -> Result<Option<Self>, AllocError>
         ensures { IfOk result (λ found. found ≡ if_ascending is_lower_device states.items) }
@@ -65,7 +65,8 @@ impl Devices {
         }
     }
 
-    /// Returns these states, made ready.
+    /// Makes the tables of reweights and of flags for `states`, and shares the list.
+    /// `Err(AllocError)`: an allocation failed; the list is dropped.
     fn of(alloc: Global, states: Vec<DeviceState>) -> Result<Self, AllocError>
         ensures { IfOk result (λ devices. devices ≡ states.items) }
     {
@@ -86,7 +87,7 @@ impl Devices {
         self.states.as_slice()
     }
 
-    /// Returns the same, to be shared.
+    /// Returns the shared list of the states.
     pub fn shared_states(&self) -> &SharedStates
         ensures { result.now ≡ self.now }
     {
@@ -100,15 +101,15 @@ impl Devices {
         &self.weights
     }
 
-    /// Returns which devices are up.
+    /// Returns the flags that say which devices are up.
     pub fn flags(&self) -> &DeviceStates
         ensures { result.now ≡ flags_of self.now }
     {
         &self.flags
     }
 
-    /// Returns a copy with some states changed, one after the other. `Err(AllocError)`: an
-    /// allocation failed; nothing is changed.
+    /// Makes a copy in which the states `changed` are stored, one after the other.
+    /// `Err(AllocError)`: an allocation failed; nothing is changed.
     pub fn with(&self, alloc: Global, changed: &[DeviceState]) -> Result<Self, AllocError>
         ensures { IfOk result (λ devices. devices ≡ with_states changed.now self.now) }
     {
@@ -120,15 +121,15 @@ impl Devices {
     }
 }
 
-/// Returns the place of the first device whose id isn't below another.
+/// Returns the place of the first state whose device's id is at least `device`.
 fn not_below(states: &[DeviceState], device: u32) -> Option<usize>
     ensures { result ≡ position (λ s. nat_le device s.device) states.now }
 {
     states.iter().position(|state| state.device >= device)
 }
 
-/// Returns the place of the first device whose id isn't below another; where there is none, how
-/// many devices there are.
+/// Returns the place of the first state whose device's id is at least `device`; where there is
+/// none, the number of states.
 fn place_of(states: &[DeviceState], device: u32) -> usize
     ensures { result ≡ position_or_len (λ s. nat_le device s.device) states.now }
 {
@@ -138,7 +139,7 @@ fn place_of(states: &[DeviceState], device: u32) -> usize
     }
 }
 
-/// Returns whether the ids ascend, so that no device stands twice.
+/// Returns whether the ids ascend, so that no device comes twice.
 fn are_ascending(states: &[DeviceState]) -> bool
     ensures { result ≡ is_ascending is_lower_device states.now }
 {
@@ -152,7 +153,7 @@ fn are_ascending(states: &[DeviceState]) -> bool
     true
 }
 
-/// Returns whether a device's id is below that of the first of others, if there is one.
+/// Returns whether the device's id is below that of the first of `others`, if there is one.
 fn is_below_first(state: &DeviceState, others: &[DeviceState]) -> bool
     ensures { result ≡ is_before_first is_lower_device state.now others.now }
 {
@@ -162,7 +163,7 @@ fn is_below_first(state: &DeviceState, others: &[DeviceState]) -> bool
     }
 }
 
-/// Puts a state at its place in the order of ids, in place of that of the same device.
+/// Stores a state at its place in the order of ids, in place of that of the same device.
 /// `Err(AllocError)`: an allocation failed; nothing is changed.
 fn insert(states: &mut Vec<DeviceState>, new: DeviceState) -> Result<(), AllocError>
     ensures { OnOk result (states.new.items ≡ with_state states.old.items new) }

@@ -1,4 +1,4 @@
-//! The limits of a tenant's state. Each is itself allowed.
+//! The limits of a tenant's state. A number equal to its limit is allowed.
 
 /// The most versions of a tenant's map.
 pub const VERSION_LIMIT: usize = 256;

@@ -40,8 +40,8 @@ impl TenantPool {
     ghost use Rattle.crush_pool.specs.Exceptions.{are_pairs};
     ghost use Rattle.tenant_state.specs.Size.{pool_size};
 
-    /// Returns a pool with no exceptions. `Err(AllocError)`: an allocation failed; the pool is
-    /// given up.
+    /// Makes a pool with no exceptions. `Err(AllocError)`: an allocation failed; the pool is
+    /// dropped.
     pub fn new(alloc: Global, pool: Rc<Pool>) -> Result<Self, AllocError>
         ensures { IfOk result (λ p. p ≡ record { parts = pool.value; pairs = [] }) }
     {
@@ -49,8 +49,8 @@ impl TenantPool {
         Ok(TenantPool::of(pool, exceptions))
     }
 
-    /// Returns a pool with these exceptions, each of which is of a group of the pool. Takes time
-    /// linear in their number. Allocates nothing.
+    /// Makes a pool with `exceptions`, each of which is of a group of the pool. Takes time linear
+    /// in their number. Allocates nothing.
     pub fn of(pool: Rc<Pool>, exceptions: SharedExceptions) -> Self
         requires { are_pairs pool.value.pg_num exceptions ≡ true }
         ensures { result ≡ record { parts = pool.value; pairs = exceptions } }
@@ -63,7 +63,7 @@ impl TenantPool {
         }
     }
 
-    /// Returns whether it can have these exceptions: each is of a group of the pool.
+    /// Returns whether the pool can have `exceptions`: each is of a group of the pool.
     pub fn can_have(&self, exceptions: &SharedExceptions) -> bool
         ensures { result ≡ are_pairs self.now.parts.pg_num exceptions.now }
     {
@@ -71,9 +71,8 @@ impl TenantPool {
         are_below(exceptions.exceptions().pairs(), groups)
     }
 
-    /// Returns the same pool with these exceptions in place of its own. Takes time linear in their
-    /// number, and no memory, but can be refused where the number of those who share a part is
-    /// full.
+    /// Makes the same pool with `exceptions` in place of its own. Takes time linear in their
+    /// number. It allocates nothing, but gives `Err(AllocError)` where a count of owners is full.
     pub fn with_exceptions(&self, exceptions: &SharedExceptions) -> Result<Self, AllocError>
         requires { are_pairs self.now.parts.pg_num exceptions.now ≡ true }
         ensures { IfOk result (λ p. p ≡ record { parts = self.now.parts; pairs = exceptions.now }) }
@@ -88,7 +87,7 @@ impl TenantPool {
         self.pool.as_ref()
     }
 
-    /// Returns the same, to be shared.
+    /// Returns the shared pool.
     pub fn shared_pool(&self) -> &Rc<Pool>
         ensures { result.now.value ≡ self.now.parts }
     {
@@ -110,14 +109,14 @@ impl TenantPool {
         self.exceptions.exceptions()
     }
 
-    /// Returns the same, to be shared.
+    /// Returns the shared exceptions of the pool.
     pub fn shared_exceptions(&self) -> &SharedExceptions
         ensures { result.now ≡ self.now.pairs }
     {
         &self.exceptions
     }
 
-    /// Returns how many bytes of memory it takes at most, by an estimate.
+    /// Returns the bytes of memory that the pool takes at most, by an estimate.
     pub fn size(&self) -> u64
         ensures { result ≡ min (pool_size self.now) (2 ^ 64 - 1) }
     {
@@ -125,7 +124,7 @@ impl TenantPool {
     }
 }
 
-/// Returns whether the groups of all pairs are below a number.
+/// Returns whether the group of each pair is below `groups`.
 fn are_below(pairs: &[Pair], groups: u32) -> bool
     ensures { result ≡ list_all (λ p. nat_lt p.group groups) pairs.now }
 {

@@ -13,7 +13,7 @@ use std::marker::Model;
 use std::rc::Rc;
 
 /// Pools, which are shared. Contracts see their settings and pairs in the order in which they are
-/// kept, that of their ids.
+/// stored, that of their ids.
 #[derive(Drop)]
 pub struct Pools {
     pools: Vec<Rc<TenantPool>>,
@@ -33,7 +33,7 @@ impl Pools {
     ghost use Rattle.tenant_state.specs.Ordered.{if_ascending, with_element, without};
     ghost use Rattle.tenant_state.specs.State.{can_have, is_lower_pool, with_pairs};
 
-    /// No pool. Allocates nothing.
+    /// Makes a list without pools. Allocates nothing.
     pub fn new(alloc: Global) -> Self
         ensures { result ≡ [] }
     {
@@ -42,8 +42,8 @@ impl Pools {
         }
     }
 
-    /// Returns these pools, which are in the order of their ids. `None`, exactly where an id stands
-    /// twice or out of order. Takes time linear in the list. Allocates nothing.
+    /// Makes the pools of a list that is in the order of their ids. `None`, exactly where an id
+    /// comes twice or out of order. Takes time linear in the length of the list. Allocates nothing.
     pub fn from_list(pools: Vec<Rc<TenantPool>>) -> Option<Self>
         ensures { result ≡ if_ascending is_lower_pool (map (λ p. p.value) pools.items) }
     {
@@ -54,7 +54,7 @@ impl Pools {
         }
     }
 
-    /// Returns how many pools there are.
+    /// Returns the number of pools.
     pub fn len(&self) -> usize
         ensures { result ≡ length self.now }
     {
@@ -68,7 +68,7 @@ impl Pools {
         self.pools.as_slice()
     }
 
-    /// Returns the pool with an id, to be shared, or `None`.
+    /// Returns the shared pool that has `id`, or `None`.
     pub fn get_shared(&self, id: u64) -> Option<&Rc<TenantPool>>
         ensures { option_map (λ p. p.now.value) result ≡ find (λ p. p.parts.id == id) self.now }
     {
@@ -78,7 +78,7 @@ impl Pools {
         }
     }
 
-    /// Returns the pool with an id, or `None`.
+    /// Returns the pool that has `id`, or `None`.
     pub fn get(&self, id: u64) -> Option<&TenantPool>
         ensures { option_map (λ p. p.now) result ≡ find (λ p. p.parts.id == id) self.now }
     {
@@ -88,7 +88,7 @@ impl Pools {
         }
     }
 
-    /// Returns a copy that shares the pools. `Err(AllocError)`: an allocation failed; nothing is
+    /// Makes a copy that shares the pools. `Err(AllocError)`: an allocation failed; nothing is
     /// changed.
     pub fn copy(&self) -> Result<Self, AllocError>
         ensures { IfOk result (λ again. again ≡ self.now) }
@@ -98,8 +98,8 @@ impl Pools {
         })
     }
 
-    /// Returns a copy with one more pool, which has no exceptions, in place of one with the same
-    /// id. `Err(AllocError)`: an allocation failed; nothing is changed.
+    /// Makes a copy with one more pool, which has no exceptions, in place of one with the same id.
+    /// `Err(AllocError)`: an allocation failed; nothing is changed.
     pub fn with(&self, alloc: Global, pool: &Rc<Pool>) -> Result<Self, AllocError>
         ensures { IfOk result (λ pools. pools ≡ with_element (λ p. p.parts.id) (record { parts = pool.now.value; pairs = [] }) self.now) }
     {
@@ -109,8 +109,8 @@ impl Pools {
         Ok(Pools { pools })
     }
 
-    /// Returns a copy in which the pool with an id has these exceptions, each of which is of a
-    /// group of that pool. `Err(AllocError)`: an allocation failed; nothing is changed.
+    /// Makes a copy in which the pool that has `id` has `exceptions`, each of which is of a group
+    /// of that pool. `Err(AllocError)`: an allocation failed; nothing is changed.
     pub fn with_exceptions(
         &self,
         alloc: Global,
@@ -128,7 +128,7 @@ impl Pools {
         Ok(Pools { pools })
     }
 
-    /// Returns a copy without the pool that has an id. `Err(AllocError)`: an allocation failed;
+    /// Makes a copy without the pool that has `id`. `Err(AllocError)`: an allocation failed;
     /// nothing is changed.
     pub fn without(&self, id: u32) -> Result<Self, AllocError>
         ensures { IfOk result (λ pools. pools ≡ without (λ p. p.parts.id) id self.now) }
@@ -141,7 +141,7 @@ impl Pools {
     }
 }
 
-/// Returns the place of the first pool with an id.
+/// Returns the place of the first pool that has `id`.
 fn place_with(pools: &[Rc<TenantPool>], id: u64) -> Option<usize>
     ensures { result ≡ position (λ p. p.value.parts.id == id) pools.now }
 {
@@ -150,15 +150,15 @@ fn place_with(pools: &[Rc<TenantPool>], id: u64) -> Option<usize>
         .position(|pool| u64::from(pool.parts().id) == id)
 }
 
-/// Returns the place of the first pool whose id isn't below another.
+/// Returns the place of the first pool whose id is at least `id`.
 fn not_below(pools: &[Rc<TenantPool>], id: u32) -> Option<usize>
     ensures { result ≡ position (λ p. nat_le id p.value.parts.id) pools.now }
 {
     pools.iter().position(|pool| pool.parts().id >= id)
 }
 
-/// Returns the place of the first pool whose id isn't below another; where there is none, how many
-/// pools there are.
+/// Returns the place of the first pool whose id is at least `id`; where there is none, the number
+/// of pools.
 fn place_of(pools: &[Rc<TenantPool>], id: u32) -> usize
     ensures { result ≡ position_or_len (λ p. nat_le id p.value.parts.id) pools.now }
 {
@@ -168,7 +168,7 @@ fn place_of(pools: &[Rc<TenantPool>], id: u32) -> usize
     }
 }
 
-/// Returns whether the ids ascend, so that none stands twice.
+/// Returns whether the ids ascend, so that none comes twice.
 fn are_ascending(pools: &[Rc<TenantPool>]) -> bool
     ensures { result ≡ is_ascending is_lower_pool (map (λ p. p.value) pools.now) }
 {
@@ -182,7 +182,7 @@ fn are_ascending(pools: &[Rc<TenantPool>]) -> bool
     true
 }
 
-/// Returns whether a pool's id is below that of the first of others, if there is one.
+/// Returns whether the pool's id is below that of the first of `others`, if there is one.
 fn is_below_first(pool: &TenantPool, others: &[Rc<TenantPool>]) -> bool
     ensures { result ≡ is_before_first is_lower_pool pool.now (map (λ p. p.value) others.now) }
 {
@@ -192,7 +192,7 @@ fn is_below_first(pool: &TenantPool, others: &[Rc<TenantPool>]) -> bool
     }
 }
 
-/// Puts a pool at its place in the order of ids, in place of one with the same id.
+/// Stores a pool at its place in the order of ids, in place of one with the same id.
 /// `Err(AllocError)`: an allocation failed; nothing is changed.
 fn insert(pools: &mut Vec<Rc<TenantPool>>, new: Rc<TenantPool>) -> Result<(), AllocError>
     ensures { OnOk result (map (λ p. p.value) pools.new.items ≡ with_element (λ p. p.parts.id) new.value (map (λ p. p.value) pools.old.items)) }

@@ -11,7 +11,7 @@ use std::marker::Model;
 use std::rc::Rc;
 use tenant_messages::SuccessStatus;
 
-/// What is kept of an accepted changing request: its path and body, and its reply.
+/// What is stored of an accepted changing request: its path and body, and its reply.
 #[derive(Drop)]
 pub struct Receipt {
     pub path: Text,
@@ -49,7 +49,7 @@ impl Receipts {
     ghost use Rattle.tenant_state.specs.Ordered.{if_ascending};
     ghost use Rattle.tenant_state.specs.Receipts.{is_before, receipt_of, with_receipt};
 
-    /// No receipt. Allocates nothing.
+    /// Makes a list without receipts. Allocates nothing.
     pub fn new(alloc: Global) -> Self
         ensures { result ≡ [] }
     {
@@ -58,8 +58,8 @@ impl Receipts {
         }
     }
 
-    /// Returns these receipts, which are in the order of their numbers' bytes. `None`, exactly
-    /// where a number stands twice or out of order. Takes time n log n in the length n of the list.
+    /// Makes the receipts of a list that is in the order of their numbers' bytes. `None`, exactly
+    /// where a number comes twice or out of order. Takes time n log n in the length n of the list.
     /// `Err(AllocError)`: an allocation failed; the list is dropped.
     pub fn from_list(
         alloc: Global,
@@ -78,7 +78,7 @@ impl Receipts {
         Ok(Some(Receipts { by_number }))
     }
 
-    /// Returns how many receipts there are.
+    /// Returns the number of receipts.
     pub fn len(&self) -> usize
         ensures { result ≡ length self.now }
     {
@@ -95,8 +95,8 @@ impl Receipts {
         }
     }
 
-    /// Returns the receipt of a request number, shared, or `None`. `Err(AllocError)`: an allocation
-    /// failed; nothing is changed.
+    /// Finds the receipt of a request number and shares it, or returns `None`. `Err(AllocError)`:
+    /// an allocation failed; nothing is changed.
     pub fn find(&self, number: &str) -> Result<Option<Rc<Receipt>>, AllocError>
         ensures { IfOk result (λ found. option_map (λ r. r.value) found ≡ receipt_of number.now self.now) }
     {
@@ -116,7 +116,7 @@ impl Receipts {
         Ok(())
     }
 
-    /// Returns a copy that shares the receipts. `Err(AllocError)`: an allocation failed; nothing is
+    /// Makes a copy that shares the receipts. `Err(AllocError)`: an allocation failed; nothing is
     /// changed.
     pub fn copy(&self) -> Result<Self, AllocError>
         ensures { IfOk result (λ again. again ≡ self.now) }
@@ -127,7 +127,7 @@ impl Receipts {
     }
 }
 
-/// Returns whether the numbers ascend, so that none stands twice.
+/// Returns whether the numbers ascend, so that none comes twice.
 fn are_ascending(receipts: &[(String, Rc<Receipt>)]) -> bool
     ensures { result ≡ is_ascending spec.is_before (map (λ e. (string_bytes e.0, e.1.value)) receipts.now) }
 {
@@ -141,7 +141,8 @@ fn are_ascending(receipts: &[(String, Rc<Receipt>)]) -> bool
     true
 }
 
-/// Returns whether a receipt's number comes before that of the first of others, if there is one.
+/// Returns whether the number of `first` comes before that of the first of `others`, if there is
+/// one.
 fn is_before_first(first: &(String, Rc<Receipt>), others: &[(String, Rc<Receipt>)]) -> bool
     ensures { result ≡ is_before_first spec.is_before (string_bytes first.now.0, first.now.1.value) (map (λ e. (string_bytes e.0, e.1.value)) others.now) }
 {

@@ -1,9 +1,9 @@
-//! How much memory what a tenant has takes, in bytes.
+//! The bytes of memory that an inventory takes.
 //!
-//! It is an estimate from above, which is not measured: each number below is at least what the
-//! types keep for one such part on a machine of 64 bits, where a list that grew may have room for
-//! twice its elements, and each allocation takes up to 32 bytes more than it gives. A number that
-//! has no room in 64 bits is given as the greatest one that has.
+//! They are an estimate from above, which is not measured: each number below is at least what the
+//! types take for one such part on a machine of 64 bits, where a list that grew may have room for
+//! twice its elements, and each allocation takes up to 32 bytes more than it gives. A sum or
+//! product that has no room in 64 bits is given as the greatest number that has.
 
 ghost use Rattle.std.specs.Prelude.{◌≡◌, ◌+◌, ◌-◌, ◌*◌, ◌^◌, length, map, min};
 ghost use Rattle.std.specs.List.{sum_by};
@@ -19,68 +19,70 @@ use crush_map::{Bucket, CrushMap, Rule};
 use crush_pool::{DeviceState, Pair};
 use std::rc::Rc;
 
-/// What an inventory takes without its parts: itself, and its entry in a table by name, with the
-/// name.
+/// The bytes that an inventory takes without its parts: itself, and its entry in a table by name,
+/// with the name.
 pub const INVENTORY_BYTES: u64 = 1_024;
 
-/// What a version takes beside what follows: the lists of its map and its tables, while they are
-/// empty, and its place among the versions.
+/// The bytes that a version takes beside what follows: the lists of its map and its tables, while
+/// they are empty, and its place among the versions.
 pub const VERSION_BYTES: u64 = 1_024;
 
-/// What a version takes for each byte of its text: the text itself may take 2, and a name of a part
-/// 1 more.
+/// The bytes that a version takes for each byte of its text: the text itself may take 2, and a name
+/// of a part 1 more.
 pub const TEXT_BYTES: u64 = 3;
 
-/// What a type, a device or a rule takes: up to 40 in its list, twice for room, 32 for its name's
-/// allocation or that of its steps, and 8 in the tables.
+/// The bytes that a type, a device or a rule takes: up to 40 in its list, twice for room, 32 for
+/// its name's allocation or that of its steps, and 8 in the tables.
 pub const PART_BYTES: u64 = 160;
 
-/// What a bucket takes, with its row in the tables, and the allocations of both.
+/// The bytes that a bucket takes, with its row in the tables, and the allocations of both.
 pub const BUCKET_BYTES: u64 = 512;
 
-/// What an item of a bucket takes: 8 in its list, and up to 20 in the tables, twice for room.
+/// The bytes that an item of a bucket takes: 8 in its list, and up to 20 in the tables, twice for
+/// room.
 pub const ITEM_BYTES: u64 = 64;
 
-/// What a step of a rule takes: 16, twice for room.
+/// The bytes that a step of a rule takes: 16, twice for room.
 pub const STEP_BYTES: u64 = 64;
 
-/// What the index of a map's buckets takes for each place.
+/// The bytes that the index of a map's buckets takes for each place.
 pub const BUCKET_ID_BYTES: u64 = 16;
 
-/// What a state of a device takes: 12, and as much again for room.
+/// The bytes that a state of a device takes: 12, and as much again for room.
 pub const STATE_BYTES: u64 = 32;
 
-/// What the tables of reweights and of the devices that are up take for each place: 4 and 1, and as
-/// much again for room.
+/// The bytes that the tables of reweights and of the devices that are up take for each place: 4 and
+/// 1, and as much again for room.
 pub const DEVICE_ID_BYTES: u64 = 16;
 
-/// What a pool takes, with a name of at most 64 bytes, its exceptions while there are none, the
-/// allocations of both, and its place among the pools.
+/// The bytes that a pool takes, with a name of at most 64 bytes, its exceptions while there are
+/// none, the allocations of both, and its place among the pools.
 pub const POOL_BYTES: u64 = 512;
 
-/// What a pair of a pool's exceptions takes: 12, and 2 for the place of the next one of its group,
-/// in lists that have no further room. The rest, and what is left of a pool's, is for their
-/// allocations.
+/// The bytes that a pair of a pool's exceptions takes: 12, and 2 for the place of the next one of
+/// its group, in lists that have no further room. The rest, with the rest of a pool's bytes, is for
+/// their allocations.
 pub const PAIR_BYTES: u64 = 32;
 
-/// What the table of the first pair of each group takes for each place: 2. It has no further room.
+/// The bytes that the table of the first pair of each group takes for each place: 2. It has no
+/// further room.
 pub const GROUP_BYTES: u64 = 2;
 
-/// Returns a sum.
+/// Adds two numbers, up to 2^64 - 1.
 fn plus(a: u64, b: u64) -> u64
     ensures { result ≡ min (a + b) (2 ^ 64 - 1) }
 {
     a.saturating_add(b)
 }
 
-/// Returns a product.
+/// Multiplies two numbers, up to 2^64 - 1.
 fn times(a: u64, b: u64) -> u64
     ensures { result ≡ min (a * b) (2 ^ 64 - 1) }
 {
     a.saturating_mul(b)
 }
 
-/// Returns how many places a list by bucket has.
+/// Returns the number of places of a list by bucket, up to that of the lowest id.
 fn bucket_reach(buckets: &[Bucket]) -> u32
     ensures { result ≡ bucket_reach buckets.now }
 {
@@ -91,7 +93,7 @@ fn bucket_reach(buckets: &[Bucket]) -> u32
     reach
 }
 
-/// Returns how many items buckets have together.
+/// Counts the items of all `buckets`.
 fn items_in(buckets: &[Bucket]) -> u64
     ensures { result ≡ min (items_in buckets.now) (2 ^ 64 - 1) }
 {
@@ -102,7 +104,7 @@ fn items_in(buckets: &[Bucket]) -> u64
     items
 }
 
-/// Returns how many steps rules have together.
+/// Counts the steps of all `rules`.
 fn steps_in(rules: &[Rule]) -> u64
     ensures { result ≡ min (steps_in rules.now) (2 ^ 64 - 1) }
 {
@@ -113,7 +115,7 @@ fn steps_in(rules: &[Rule]) -> u64
     steps
 }
 
-/// Returns how many bytes the parts of a map take, with its tables.
+/// Returns the bytes that the parts of a map take, with its tables.
 fn size_of_map(map: &CrushMap) -> u64
     ensures { result ≡ min (map_size map.now) (2 ^ 64 - 1) }
 {
@@ -128,7 +130,7 @@ fn size_of_map(map: &CrushMap) -> u64
     plus(plus(parts, plus(buckets, items)), index)
 }
 
-/// Returns how many bytes a version takes that has this map, whose text has so many bytes.
+/// Returns the bytes that a version with the map `map` takes, whose text has `text` bytes.
 pub(crate) fn size_of_version(map: &CrushMap, text: u64) -> u64
     requires { text ≡ length (canonical map.now) }
     ensures { result ≡ min (version_size map.now) (2 ^ 64 - 1) }
@@ -139,7 +141,7 @@ pub(crate) fn size_of_version(map: &CrushMap, text: u64) -> u64
     )
 }
 
-/// Returns how many bytes versions take.
+/// Adds up the bytes that `versions` take.
 pub(crate) fn size_of_versions(versions: &[Rc<Version>]) -> u64
     ensures { result ≡ min (sum_by version_size (map (λ v. v.value) versions.now)) (2 ^ 64 - 1) }
 {
@@ -150,7 +152,7 @@ pub(crate) fn size_of_versions(versions: &[Rc<Version>]) -> u64
     total
 }
 
-/// Returns how many places a list by device has.
+/// Returns the number of places of a list by device, up to that of the greatest id.
 fn device_reach(states: &[DeviceState]) -> u64
     ensures { result ≡ device_reach states.now }
 {
@@ -161,7 +163,7 @@ fn device_reach(states: &[DeviceState]) -> u64
     reach
 }
 
-/// Returns how many bytes states of devices take, with their tables.
+/// Returns the bytes that states of devices take, with their tables.
 fn size_of_states(states: &[DeviceState]) -> u64
     ensures { result ≡ min (states_size states.now) (2 ^ 64 - 1) }
 {
@@ -170,7 +172,7 @@ fn size_of_states(states: &[DeviceState]) -> u64
     plus(each, tables)
 }
 
-/// Returns how many places a list by group has.
+/// Returns the number of places of a list by group, up to that of the greatest group with a pair.
 fn group_reach(pairs: &[Pair]) -> u64
     ensures { result ≡ group_reach pairs.now }
 {
@@ -181,7 +183,7 @@ fn group_reach(pairs: &[Pair]) -> u64
     reach
 }
 
-/// Returns how many bytes a pool takes that has these pairs.
+/// Returns the bytes that a pool with the exceptions `pairs` takes.
 pub(crate) fn size_of_pool(pairs: &[Pair]) -> u64
     ensures { (parts : PoolParts) → result ≡ min (pool_size (record { parts = parts; pairs = pairs.now })) (2 ^ 64 - 1) }
 {
@@ -190,7 +192,7 @@ pub(crate) fn size_of_pool(pairs: &[Pair]) -> u64
     plus(plus(POOL_BYTES, each), table)
 }
 
-/// Returns how many bytes pools take.
+/// Adds up the bytes that `pools` take.
 fn size_of_pools(pools: &[Rc<TenantPool>]) -> u64
     ensures { result ≡ min (sum_by pool_size (map (λ p. p.value) pools.now)) (2 ^ 64 - 1) }
 {
@@ -205,7 +207,7 @@ impl Inventory {
     ghost use Rattle.std.specs.Prelude.{◌≡◌, ◌-◌, ◌^◌, min};
     ghost use Rattle.tenant_state.specs.Size as spec;
 
-    /// Returns how many bytes of memory it takes at most, by an estimate.
+    /// Returns the bytes of memory that the inventory takes at most, by an estimate.
     pub fn size(&self) -> u64
         ensures { result ≡ min (spec.size self.now) (2 ^ 64 - 1) }
     {

@@ -21,7 +21,7 @@ use tenant_messages::Problem;
 pub enum Made {
     /// One more version.
     Version(Rc<Version>),
-    /// These states of devices, whatever was stored of the same devices.
+    /// These states of devices, each in place of the one that was stored of the same device.
     States(Listed<DeviceState>),
     /// One more pool, with no exceptions.
     Pool(Rc<Pool>),
@@ -31,8 +31,8 @@ pub enum Made {
     NoPool(u32),
 }
 
-/// An accepted change, whose parts are in their ranges (`IsChange`). Its receipt goes under the
-/// request number.
+/// An accepted change, whose parts are in their ranges (`IsChange`). Its receipt is stored under
+/// the request number.
 #[derive(Drop)]
 pub struct Change {
     pub number: Text,
@@ -55,9 +55,8 @@ impl Model for Change {
 // ---- what a tenant has
 
 /// What a tenant has: the versions of its map, the states of devices, the pools with their
-/// exceptions, and its epoch. It is all that its queries are answered from; of the receipts it has
-/// the number alone, the epoch.
-/// Its parts are in their ranges and orders (`IsInventory`).
+/// exceptions, and its epoch. All queries of the tenant are answered from it; of the receipts it
+/// has only their number, the epoch. Its parts are in their ranges and orders (`IsInventory`).
 #[derive(Drop)]
 pub struct Inventory {
     versions: Versions,
@@ -87,8 +86,8 @@ impl Inventory {
     ghost use Rattle.tenant_state.specs.Valid.{IsInventory};
     ghost use Rattle.tenant_state.specs.declared.limits.TheConstants.{RECEIPT_LIMIT};
 
-    /// Returns the inventory with these parts: the versions 1, 2, .., the states of devices, the
-    /// pools and the epoch. Allocates nothing.
+    /// Makes the inventory of its parts: the versions 1, 2, .., the states of devices, the pools
+    /// and the epoch. Allocates nothing.
     pub fn of(versions: Versions, devices: Rc<Devices>, pools: Pools, epoch: u64) -> Inventory
         requires { IsInventory (record { versions = versions; devices = devices.value; pools = pools; epoch = epoch }) }
         ensures { result ≡ record { versions = versions; devices = devices.value; pools = pools; epoch = epoch } }
@@ -101,8 +100,8 @@ impl Inventory {
         }
     }
 
-    /// Returns that of a tenant that was just created. `Err(AllocError)`: an allocation failed;
-    /// nothing is changed.
+    /// Makes the inventory of a tenant that was just created. `Err(AllocError)`: an allocation
+    /// failed; nothing is changed.
     pub fn fresh(alloc: Global) -> Result<Inventory, AllocError>
         ensures { IfOk result (λ i. i ≡ spec.inventory_of spec.fresh) }
     {
@@ -136,7 +135,7 @@ impl Inventory {
         self.versions.as_slice()
     }
 
-    /// Returns the version with a number, from 1 on, or `None`.
+    /// Returns the version with the number `number`, from 1 on, or `None`.
     pub fn version(&self, number: u64) -> Option<&Version>
         ensures { option_map (λ v. v.now) result ≡ spec.version number self.now }
     {
@@ -149,7 +148,7 @@ impl Inventory {
         }
     }
 
-    /// Returns how many bytes of memory the versions take at most, by an estimate.
+    /// Returns the bytes of memory that the versions take at most, by an estimate.
     pub(crate) fn size_of_versions(&self) -> u64
         ensures { result ≡ min (sum_by version_size self.now.versions) (2 ^ 64 - 1) }
     {
@@ -170,8 +169,9 @@ impl Inventory {
         &self.pools
     }
 
-    /// Returns a pool on a version, with its exceptions and the states of devices as they are now.
-    /// The problem is `NoRule`, exactly where the version lacks the pool's rule.
+    /// Makes the placer of `pool` on `version`, with the pool's exceptions and the states of
+    /// devices as they are now. The problem is `NoRule`, exactly where the version lacks the
+    /// pool's rule.
     pub fn on_version<'a>(
         &'a self,
         version: &'a Version,
@@ -192,8 +192,8 @@ impl Inventory {
         .ok_or(Problem::NoRule)
     }
 
-    /// Returns a pool on the newest version. The problem is `NoVersion` where there is no version,
-    /// and `NoRule` where the newest lacks the pool's rule.
+    /// Makes the placer of `pool` on the newest version. The problem is `NoVersion` where there is
+    /// no version, and `NoRule` where the newest lacks the pool's rule.
     pub fn on_newest<'a>(&'a self, pool: &'a TenantPool) -> Result<Placer<'a>, Problem>
         ensures { result ≡ spec.on_newest self.now pool.now }
     {
@@ -203,9 +203,9 @@ impl Inventory {
         }
     }
 
-    /// Returns what the placements of a pool on a version depend on, with its exceptions and the
-    /// states of devices as they are now. It is shared, and not copied. `Err(AllocError)`: nothing
-    /// is changed.
+    /// Makes the content that the placements of `pool` on `version` depend on, with the pool's
+    /// exceptions and the states of devices as they are now. It is shared, and not copied.
+    /// `Err(AllocError)`: nothing is changed.
     pub fn content(&self, version: &Version, pool: &TenantPool) -> Result<Content, AllocError>
         ensures { IfOk result (λ c. c ≡ content_of (record { map = version.now; states = self.now.devices; pool = pool.now.parts; pairs = pool.now.pairs })) }
     {
@@ -216,8 +216,8 @@ impl Inventory {
         Ok(Content::new(text, states, pool, exceptions))
     }
 
-    /// Returns whether what is made suits this: exceptions suit the pool that they are for, which
-    /// is there, and all else does. Takes time linear in the number of exceptions.
+    /// Returns whether `made` suits the inventory: exceptions suit the pool that they are for,
+    /// which is there, and everything else suits. Takes time linear in the number of exceptions.
     pub fn suits(&self, made: &Made) -> bool
         ensures { result ≡ spec.suits (made_of made.now) self.now }
     {
@@ -230,7 +230,7 @@ impl Inventory {
         }
     }
 
-    /// Returns a copy that shares what it has. `Err(AllocError)`: an allocation failed; nothing is
+    /// Makes a copy that shares the parts. `Err(AllocError)`: an allocation failed; nothing is
     /// changed.
     fn copy(&self) -> Result<Inventory, AllocError>
         ensures { IfOk result (λ again. again ≡ self.now) }
@@ -243,7 +243,7 @@ impl Inventory {
         })
     }
 
-    /// Returns what the tenant has after a change. What stays is shared, and not copied.
+    /// Makes what the tenant has after a change. What is unchanged is shared, and not copied.
     /// `Err(AllocError)`: an allocation failed; nothing is changed.
     pub fn after(&self, alloc: Global, change: &Change) -> Result<Inventory, AllocError>
         requires room { self.now.epoch < RECEIPT_LIMIT }
@@ -309,7 +309,7 @@ impl TenantState {
     ghost use Rattle.tenant_state.specs.State as spec;
     ghost use Rattle.tenant_state.specs.Valid.{IsState};
 
-    /// Returns the state of a tenant that has this, with these receipts. Allocates nothing.
+    /// Makes the state of a tenant with this inventory and these receipts. Allocates nothing.
     pub fn of(inventory: Rc<Inventory>, receipts: Receipts) -> TenantState
         requires epoch { inventory.value.epoch ≡ length receipts }
         requires state { IsState (spec.with_receipts inventory.value receipts) }
@@ -321,8 +321,8 @@ impl TenantState {
         }
     }
 
-    /// Returns the state of a tenant that was just created. `Err(AllocError)`: an allocation
-    /// failed; nothing is changed.
+    /// Makes the state of a tenant that was just created. `Err(AllocError)`: an allocation failed;
+    /// nothing is changed.
     pub fn fresh(alloc: Global) -> Result<TenantState, AllocError>
         ensures { IfOk result (λ s. s ≡ spec.fresh) }
     {
@@ -330,7 +330,7 @@ impl TenantState {
         Ok(TenantState::of(inventory, Receipts::new(alloc)))
     }
 
-    /// Returns what the tenant has, shared.
+    /// Returns the shared inventory of the tenant.
     pub fn inventory(&self) -> &Rc<Inventory>
         ensures same { result.now.value ≡ spec.inventory_of self.now }
         ensures valid { IsState self.now }
@@ -360,8 +360,8 @@ impl TenantState {
         Ok(())
     }
 
-    /// Returns the state after a change. What stays is shared, and not copied. `Err(AllocError)`:
-    /// an allocation failed; nothing is changed.
+    /// Makes the state after a change. What is unchanged is shared, and not copied.
+    /// `Err(AllocError)`: an allocation failed; nothing is changed.
     pub fn after(&self, alloc: Global, change: &Change) -> Result<TenantState, AllocError>
         requires { spec.CanMake change.now self.now }
         ensures { IfOk result (λ s. s ≡ spec.after change.now self.now) }

@@ -1,4 +1,4 @@
-//! Versions of a tenant's map, each kept ready for use.
+//! Versions of a tenant's map, each ready for use.
 
 ghost use Rattle.std.specs.Prelude.{◌≡◌, IfOk};
 ghost use Rattle.crush_writing.specs.Canonical.{canonical};
@@ -46,7 +46,7 @@ impl Version {
     ghost use Rattle.crush_writing.specs.Canonical.{canonical};
     ghost use Rattle.tenant_state.specs.Size.{version_size};
 
-    /// Returns the version with this map. `Err(AllocError)`: an allocation failed; the map is
+    /// Makes the version with this map. `Err(AllocError)`: an allocation failed; the map is
     /// dropped.
     pub fn build(alloc: Global, map: CrushMap) -> Result<Self, AllocError>
         ensures { IfOk result (λ version. version ≡ map) }
@@ -62,7 +62,7 @@ impl Version {
         })
     }
 
-    /// Returns the version of a canonical text, as `text` gives it. `None`, exactly where the text
+    /// Makes the version of a canonical text, as `text` gives it. `None`, exactly where the text
     /// isn't the canonical text of a map. `Err(AllocError)`: an allocation failed; nothing is
     /// changed.
     pub fn from_text(alloc: Global, text: &str) -> Result<Option<Self>, AllocError>
@@ -91,28 +91,28 @@ impl Version {
         &self.map
     }
 
-    /// Returns its canonical text.
+    /// Returns the map's canonical text.
     pub fn text(&self) -> &str
         ensures { result.now ≡ canonical self.now }
     {
         self.text.as_str()
     }
 
-    /// Returns the same, to be shared.
+    /// Returns the shared canonical text.
     pub fn shared_text(&self) -> &SharedText
         ensures { result.now ≡ canonical self.now }
     {
         &self.text
     }
 
-    /// Returns how many bytes of memory it takes at most, by an estimate.
+    /// Returns the bytes of memory that the version takes at most, by an estimate.
     pub fn size(&self) -> u64
         ensures { result ≡ min (version_size self.now) (2 ^ 64 - 1) }
     {
         self.size
     }
 
-    /// Returns its tables.
+    /// Returns the map's tables.
     pub fn tables(&self) -> &Tables
         ensures { result.now ≡ tables_of self.now }
     {
@@ -120,7 +120,7 @@ impl Version {
     }
 }
 
-/// Returns the canonical text of a map, which is ASCII. `Err(AllocError)`: an allocation failed;
+/// Writes the canonical text of a map, which is ASCII. `Err(AllocError)`: an allocation failed;
 /// nothing is changed.
 fn canonical_text(alloc: Global, map: &CrushMap) -> Result<SharedText, AllocError>
     ensures { IfOk result (λ text. text ≡ canonical map.now) }

@@ -6,12 +6,12 @@ use std::alloc::{AllocError, Global};
 use std::marker::Model;
 use std::rc::Rc;
 
-/// The versions 1, 2, .., which are shared as one: what adds no version takes no time for each.
-/// Contracts see their maps.
+/// The versions 1, 2, .., which are shared as one list: a change that adds no version takes no time
+/// for each of them. Contracts see their maps.
 #[derive(Drop)]
 pub struct Versions {
     list: Rc<Vec<Rc<Version>>>,
-    /// How many bytes they take.
+    /// How many bytes the versions take.
     size: u64,
 }
 
@@ -33,7 +33,8 @@ impl Versions {
     ghost use Rattle.std.specs.List.{sum_by};
     ghost use Rattle.tenant_state.specs.Size.{version_size};
 
-    /// Returns these versions. `Err(AllocError)`: an allocation failed; they are dropped.
+    /// Makes the list of versions 1, 2, .. `Err(AllocError)`: an allocation failed; the list is
+    /// dropped.
     pub fn of(alloc: Global, list: Vec<Rc<Version>>) -> Result<Self, AllocError>
         ensures { IfOk result (λ versions. versions ≡ map (λ v. v.value) list.items) }
     {
@@ -49,14 +50,14 @@ impl Versions {
         self.list.as_ref().as_slice()
     }
 
-    /// Returns how many bytes of memory they take at most, by an estimate.
+    /// Returns the bytes of memory that the versions take at most, by an estimate.
     pub fn size(&self) -> u64
         ensures { result ≡ min (sum_by version_size self.now) (2 ^ 64 - 1) }
     {
         self.size
     }
 
-    /// Returns the same, shared. `Err(AllocError)`: an allocation failed; nothing is changed.
+    /// Shares the versions. `Err(AllocError)`: an allocation failed; nothing is changed.
     pub fn copy(&self) -> Result<Self, AllocError>
         ensures { IfOk result (λ again. again ≡ self.now) }
     {
@@ -66,7 +67,8 @@ impl Versions {
         })
     }
 
-    /// Returns these and one more. `Err(AllocError)`: an allocation failed; nothing is changed.
+    /// Makes a list with one more version. `Err(AllocError)`: an allocation failed; nothing is
+    /// changed.
     pub fn with(&self, alloc: Global, version: &Rc<Version>) -> Result<Self, AllocError>
         ensures { IfOk result (λ versions. versions ≡ self.now ++ version.now.value ∷ []) }
     {

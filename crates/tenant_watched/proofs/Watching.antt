@@ -6,7 +6,7 @@ use Rattle.tenant_core.specs.States.{Damaged, Found, HasState, LeavesAsItWas, Le
 use Rattle.tenant_core.specs.StoreReply.{is_failed}
 use Rattle.store_faults.specs.declared.StoreFault.{StoreFault}
 
--- an opening finds the change, and else each name as it was
+-- an opening finds the change, or each name as it was
 left_after : (old new : States) (left : Outcomes) (name : List ℕ) (made : Option TenantState) → new name made → ((x y : Option TenantState) → new name x → new name y → x ≡ y)
     → ((t : List ℕ) (x : Option TenantState) → t ≢ name → (old t x ↔ new t x)) → LeavesAsItWas new left → LeavesAsItWasOr name made old left
 left_after old new left name made has one others leaves t found there = at (bytes_eq t name) refl found (leaves t found there)

@@ -1,12 +1,12 @@
--- What looks at the files of a store find.
+-- What the looks at the files of a store find.
 use Rattle.std.specs.Prelude.{◌≡◌, List, [], ◌∷◌, Bool, true, false, drop, Option, Some, IfSome}
 
--- what the next look finds. Where none is left, the files aren't there
+-- what the next look finds. Where the list has no look, the files aren't there
 abbrev pub next_look : List Bool → Bool
 next_look [] = false
 next_look (look ∷ later) = look
 
--- a look found this, and the later ones are still to come
+-- a look found `is_there`, and the later looks follow
 abbrev pub Looks : Bool → Option (List Bool) → Option (List Bool) → Type 0
 Looks is_there old new = IfSome old (λ looks. (is_there ≡ next_look looks) × (new ≡ Some (drop 1 looks)))
 

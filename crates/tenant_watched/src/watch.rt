@@ -1,4 +1,4 @@
-//! What looks at the files of a store.
+//! The watch on the files of a store.
 
 ghost use Rattle.std.specs.Prelude.{List, Bool, Option, None};
 ghost use Rattle.tenant_watched.specs.Looks.{Looks};
@@ -6,18 +6,18 @@ ghost use Rattle.tenant_watched.specs.Looks.{Looks};
 /// Looks whether the files of a store are where they were when it was opened, so that the next
 /// opening finds what is written to them.
 ///
-/// The ghost `looks`: what each look from here on finds, where contracts know it. Nothing is known
-/// of real files.
+/// The ghost `looks`: what each look from here on finds, where contracts know it. Of real files
+/// contracts know nothing.
 pub trait Watch {
     ghost looks: { Self → Option (List Bool) } = { λ _. None };
 
-    /// Returns whether the files are there, and no shorter than they were after the last change. To
-    /// be asked before each change.
+    /// Returns whether the files are there, and no shorter than they were after the last change.
+    /// The store calls it before each change.
     fn is_whole(&mut self) -> bool
         ensures { Looks result (looks self.old) (looks self.new) };
 
-    /// Returns whether the files are there. To be asked after each change; it takes note of their
-    /// lengths.
+    /// Returns whether the files are there, and stores their lengths. The store calls it after each
+    /// change.
     fn is_there(&mut self) -> bool
         ensures { Looks result (looks self.old) (looks self.new) };
 }

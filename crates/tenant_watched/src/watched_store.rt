@@ -12,10 +12,11 @@ use std::rc::Rc;
 use tenant_core::{Cached, Query, StoreFault, TenantStore};
 use tenant_state::{Change, Inventory, Receipt};
 
-/// A store over another one. A change is made only where the files of that one are where they were,
-/// and answered as made only where they still are: else the store fails for good. So no change is
-/// acknowledged that the next opening doesn't find because the files were removed, moved or cut
-/// before. Contracts see the store below, what looks at its files, and whether those were missed.
+/// A store over another one. A change is made only where the files of the store below are where
+/// they were, and answered as made only where they still are: else the store fails for good. So no
+/// change is acknowledged that the next opening doesn't find because the files were removed, moved
+/// or cut before. Contracts see the store below, the watch on its files, and whether those were
+/// missed.
 #[derive(Drop)]
 pub struct WatchedStore<T: TenantStore, W: Watch> {
     below: T,
@@ -38,7 +39,7 @@ impl<T: TenantStore, W: Watch> WatchedStore<T, W> {
     ghost use Rattle.std.specs.Prelude.{◌≡◌, ◌||◌, not, true, false};
     ghost use Rattle.tenant_watched.specs.Looks.{Looks};
 
-    /// Returns a store over this one, whose files this looks at. Allocates nothing.
+    /// Makes a store over `below`, whose files `watch` looks at. Allocates nothing.
     pub fn over(below: T, watch: W) -> Self
         ensures { result ≡ ((below, watch), false) }
     {
@@ -49,7 +50,8 @@ impl<T: TenantStore, W: Watch> WatchedStore<T, W> {
         }
     }
 
-    /// Returns whether the files are missed before a change; the store then fails for good.
+    /// Looks at the files before a change, and returns whether they are missed; the store then
+    /// fails for good.
     fn misses_before(&mut self) -> bool
         ensures below { self.new.0.0 ≡ self.old.0.0 }
         ensures missed { self.new.1 ≡ (self.old.1 || result) }
@@ -60,8 +62,8 @@ impl<T: TenantStore, W: Watch> WatchedStore<T, W> {
         !is_whole
     }
 
-    /// Returns whether the files are missed after a change that was made, or wasn't; where it was,
-    /// the store then fails for good.
+    /// Looks at the files after a change, and returns whether the change was made (`is_made`) and
+    /// they are missed; the store then fails for good.
     fn misses_after(&mut self, is_made: bool) -> bool
         ensures below { self.new.0.0 ≡ self.old.0.0 }
         ensures missed { self.new.1 ≡ (self.old.1 || result) }

@@ -9,8 +9,8 @@ use Rattle.tenant_core.specs.Request.{Request}
 use Rattle.tenant_core.specs.declared.decision.Decision.{Decision}
 use Rattle.tenant_state.specs.State.{TenantState}
 
--- the state that was found decided the reply, and the state that the tenant has since; every other
--- tenant keeps its own
+-- the state that was found decided the reply, and the state that the tenant has since; the state of
+-- every other tenant is unchanged
 pub record Performs (r : Request) (old new : States) (replied : Reply) : Type 0 where
   pub state : Option TenantState
   pub found : old r.tenant state
@@ -25,8 +25,8 @@ pub record Decides (r : Request) (old : States) (d : Decision) : Type 0 where
   pub effect : d.effect ≡ (decision r state).effect
   pub reply : d.reply ≡ reply (decision r state).answer
 
--- a crash while a request is carried out leaves each name as it was, or the tenant as the decision
--- on its state has it
+-- a crash while a request is carried out leaves each name as it was, or the tenant with the state
+-- that the decision gives
 abbrev pub LeavesRequest : Request → States → Outcomes → Type 0
 LeavesRequest r old left =
     (t : List ℕ) (found : Found) → left t found

@@ -5,7 +5,7 @@ use Rattle.tenant_history.proofs.Served.{history_of_two}
 use Rattle.session_tests.proofs.Stopped.{Holds}
 use Rattle.session_tests.proofs.sessions.two_sessions.Goals as goal
 
--- the second session found what the disk held then
+-- the second session found what the disk then held
 pub returns : goal.returns
 returns c =
     let held = λ (t : List ℕ). get_by_text c.new.result.states t in

@@ -2,7 +2,7 @@ use Rattle.std.proofs.Common.{◌≡◌, ◌≤◌, ◌<◌, ℕ, length, take}
 use Rattle.tenant_cache.specs.Bytes.{bytes_in}
 use Rattle.tenant_cache.proofs.kept.evict.Given as goal
 
--- what is left are the first entries, one at least, and one more has no room
+-- the rest are the first entries, at least one, and one more would be over the bound
 abbrev pub invariant-loop-rest : goal.invariant-loop-rest
 invariant-loop-rest l = record {
   rest : l.rest ≡ bytes_in l.by_name.entries;

@@ -7,7 +7,7 @@ use Rattle.tenant_cache.proofs.placing.keep_number.Goals as goal
 some_is : (r s : Ready) → Some r ≡ Some s → r ≡ s
 some_is r s is = cc
 
--- what was put is the same with the number
+-- the entry that was put is the same, with the number
 pub returns : goal.returns
 returns g c u r at = elim (c.put.ensures.only u r at) [
   | inl mine ↦

@@ -9,7 +9,7 @@ returns-in-Some-clause-number g c = c.requires.known c.args.pool.now.parts.id c.
 pub returns-clause-number : goal.returns-clause-number
 returns-clause-number g c = subst (λ i. HasNumber c.give_number.new.cache i c.args.pool.now c.in_ok-number.number) (c.deref.ensures ∙ c.inventory.ensures) c.in_ok-number.ensures.number
 
--- what was put beside the name has the numbers of before, and the new one
+-- the entry that was put beside the name has the numbers of before, and the new one
 pub returns-clause-beside : goal.returns-clause-beside
 returns-clause-beside g c =
     let given = subst (λ i. HasNumber c.give_number.new.cache i c.args.pool.now c.in_ok-number.number) (c.deref.ensures ∙ c.inventory.ensures) c.in_ok-number.ensures.number in

@@ -17,7 +17,7 @@ returns-clause-effect c =
     ∙ same_receipt _ _ _ _ _ _ _ c.in_ok-copy.ensures c.in_ok-copy-2.ensures
     (c.in_ok-copy-3.ensures ∙ (c.as_str.ensures ∙ ap (λ (r : Reply). r.body) c.in_ok-reply.ensures))))
 
--- the number is one of a request, and the texts are UTF-8
+-- the number has its length, and the texts are UTF-8
 pub invariant_of-change : goal.invariant_of-change
 invariant_of-change c =
     let number : c.in_ok-copy-4.field-0 ≡ c.command.inside.number = c.in_ok-copy-4.ensures ∙ c.as_str-2.ensures in

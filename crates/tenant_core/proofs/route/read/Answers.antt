@@ -7,7 +7,7 @@ returns-in_ok-number-in-CreatePool c =
     rw c.in-CreatePool.is (pool_read c.args.target.now c.args.body.now c.in_ok-body-in-CreatePool.body.now c.in_ok-number-in-CreatePool.number c.in_ok-number-in-CreatePool.pool
     c.command-in-CreatePool.result c.in_ok-body-in-CreatePool.ensures c.in_ok-number-in-CreatePool.ensures c.command-in-CreatePool.ensures)
 
--- what is read is in its form
+-- an order that is read is in its ranges
 pub command-requires-in-ChangeDevices-clause-order :
     goal.command-requires-in-ChangeDevices-clause-order
 command-requires-in-ChangeDevices-clause-order c = changes_order c.in_ok-body-in-ChangeDevices.body.now _ c.in_ok-number-in-ChangeDevices.ensures

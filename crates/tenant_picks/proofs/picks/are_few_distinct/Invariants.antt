@@ -2,7 +2,7 @@ use Rattle.std.proofs.Common.{◌≡◌, length}
 use Rattle.tenant_picks.specs.Picks.{are_distinct}
 use Rattle.tenant_picks.proofs.picks.are_few_distinct.Given as goal
 
--- what is left decides
+-- the items of the rest differ exactly where those of the whole list do
 abbrev pub invariant-loop-rest : goal.invariant-loop-rest
 invariant-loop-rest l = are_distinct l.rest ≡ are_distinct l.entries
 

@@ -4,7 +4,7 @@ use Rattle.tenant_messages.specs.Json.{each_of}
 use Rattle.tenant_resources.specs.Exceptions.{pair_of}
 use Rattle.tenant_resources.proofs.exceptions.pairs.Given as goal
 
--- the pairs so far, and then those of the values that are left, are all
+-- the pairs so far, and then those of the remaining values, are all
 abbrev pub invariant-loop-value : goal.invariant-loop-value
 invariant-loop-value l =
     each_of pair_of (items_view l.values) ≡ option_map (λ others. l.found.items ++ others) (each_of pair_of (items_view (drop l.value-index l.values)))

@@ -16,7 +16,7 @@ updated c u =
     btree_map_updates_text {Y = Global} c.args.name.now c.args.states.now (c.get_mut.follows.lender c.change.new.self) (Some c.change.new.self)
     ((c.get_mut.follows.holds c.change.new.self).3 (search rules)) u
 
--- and before
+-- the value under the name, of the states before
 there : (c : goal.After-states-in-Some-1) (u : List ℕ) → bytes_eq c.args.name.now u ≡ true → get_by_text c.args.states.now u ≡ Some c.in-Some.state.now
 there c u same =
     let one : c.args.name.now ≡ u = grind (arith, bytes_eq-Decides c.args.name.now u, same) in

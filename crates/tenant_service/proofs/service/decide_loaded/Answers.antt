@@ -4,7 +4,7 @@ use Rattle.tenant_service.proofs.Kept.{deref_of}
 use Rattle.tenant_service.proofs.Performed.{is_there, leaves_before}
 use Rattle.tenant_service.proofs.service.decide_loaded.Goals as goal
 
--- the load left the states
+-- the load left the states unchanged
 pub returns-in_err-receipt-clause-crash : goal.returns-in_err-receipt-clause-crash
 returns-in_err-receipt-clause-crash g c = λ honest latched.
     let store = g.met.T.TenantStore in

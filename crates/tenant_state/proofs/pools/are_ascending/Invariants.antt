@@ -3,7 +3,7 @@ use Rattle.tenant_state.specs.Ordered.{is_ascending}
 use Rattle.tenant_state.specs.State.{is_lower_pool}
 use Rattle.tenant_state.proofs.pools.are_ascending.Given as goal
 
--- what is left decides
+-- the rest of the list ascends exactly where the whole list does
 abbrev pub invariant-loop-rest : goal.invariant-loop-rest
 invariant-loop-rest l = is_ascending is_lower_pool (map (λ p. p.value) l.rest) ≡ is_ascending is_lower_pool (map (λ p. p.value) l.pools)
 

@@ -12,7 +12,7 @@ within a e xs one there = elim (Contains-cons a [] e one) [
   | inr none ↦ absurd (Contains-nil e none)
 ]
 
--- src/ready.rt:70:9
+-- each number is the new one, or was there, also after one is copied
 pub loop-id-preserved : goal.loop-id-preserved
 loop-id-preserved c e here = elim c.if-len-lt-NUMBER_LIMIT.branch [
   | then-len-lt-NUMBER_LIMIT+then-id-pool+in_ok-push-2 w ↦ elim (Contains-append_cases c.loop-id.numbers.items _ e (subst (λ es. Contains es e) (ap (λ v. v.items) w.numbers-is ∙ w.in_ok-push-2.ensures.items) here)) [

@@ -6,7 +6,7 @@ use Rattle.tenant_cache.proofs.NumberFacts.{known_among, known_put, known_withou
 use Rattle.tenant_cache.proofs.ready_store.CachedStore.commit_kept.Goals as goal
 use Rattle.tenant_cache.proofs.ready_store.CachedStore.commit_kept.Goals.{in-Some-1, in-None-1}
 
--- a look-up keeps no more than was kept
+-- after a look-up no more is kept than before
 pub invariant_of-self : goal.invariant_of-self
 invariant_of-self g c =
     record {
@@ -28,7 +28,7 @@ invariant_of-self-in_err-key-in-Some g c =
       numbers = known_among c.self.inside.cache c.self.inside.kept c.get.new.self c.get.ensures.same c.self.invariant.numbers;
     }
 
--- a call that failed left the states
+-- a call that failed left the states unchanged
 pub invariant_of-self-in_err-commit-in-Some : goal.invariant_of-self-in_err-commit-in-Some
 invariant_of-self-in_err-commit-in-Some g c =
     let open' = rw (← c.self.view_is) at c.requires.open in
@@ -74,7 +74,7 @@ invariant_of-self-in_default g c =
           (known_among c.self.inside.cache c.self.inside.kept c.get.new.self c.get.ensures.same c.self.invariant.numbers) c.forget.ensures;
     }
 
--- nothing is kept of the name, and other names have what they had
+-- nothing is kept of the name, and of other names the same as before
 pub invariant_of-self-in_default-2 : goal.invariant_of-self-in_default-2
 invariant_of-self-in_default-2 g c =
     let open' = rw (← c.self.view_is) at c.requires.open in

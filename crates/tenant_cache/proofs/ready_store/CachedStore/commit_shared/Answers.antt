@@ -4,7 +4,7 @@ use Rattle.tenant_cache.proofs.Loading.{left_or_made}
 use Rattle.tenant_cache.proofs.NumberFacts.{known_without, true_without}
 use Rattle.tenant_cache.proofs.ready_store.CachedStore.commit_shared.Goals as goal
 
--- nothing is kept of the name, and other names have what they had: where the change failed, and
+-- nothing is kept of the name, and of other names the same as before: where the change failed, and
 -- before the load
 pub invariant_of-self : goal.invariant_of-self
 invariant_of-self g c =

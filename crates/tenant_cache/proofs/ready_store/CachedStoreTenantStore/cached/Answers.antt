@@ -7,7 +7,7 @@ use Rattle.tenant_state.specs.State.{pool}
 use Rattle.tenant_cache.proofs.NumberFacts.{asked_pool, known_among, known_renumbered, true_among, true_renumbered}
 use Rattle.tenant_cache.proofs.ready_store.CachedStoreTenantStore.cached.Goals as goal
 
--- a look-up keeps no more than was kept
+-- after a look-up no more is kept than before
 pub invariant_of-self : goal.invariant_of-self
 invariant_of-self g c =
     record {
@@ -22,7 +22,7 @@ invariant_of-self-in_err-pool g c =
       numbers = known_among c.self.inside.cache c.self.inside.kept c.get.new.self c.get.ensures.same c.self.invariant.numbers;
     }
 
--- what was found is kept, with numbers that are known
+-- what was found is kept, with numbers that are those of the cache
 pub find-requires-clause-known : goal.find-requires-clause-known
 find-requires-clause-known g c =
     let at : kept_at c.self.inside.kept c.args.name.now ≡ Some c.in-Ok-Some.ready.value = search rules in
@@ -34,7 +34,7 @@ find-requires-clause-there g c =
     subst (λ i. pool c.in_ok-pool.pool.now.parts.id i ≡ Some c.in_ok-pool.pool.now) inventory
     (asked_pool c.args.query.now c.deref-2.result.now c.in_ok-pool.pool.now c.in_ok-pool.asked c.in_ok-pool.ensures)
 
--- beside the name there may be other numbers, which are known too
+-- beside the name there may be other numbers, which are those of the cache too
 pub invariant_of-self-in_err-cached : goal.invariant_of-self-in_err-cached
 invariant_of-self-in_err-cached g c =
     let at : kept_at c.self.inside.kept c.args.name.now ≡ Some c.in-Ok-Some.ready.value = search rules in

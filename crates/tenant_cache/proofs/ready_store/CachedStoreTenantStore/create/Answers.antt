@@ -1,7 +1,7 @@
 use Rattle.tenant_cache.proofs.NumberFacts.{known_without, true_without}
 use Rattle.tenant_cache.proofs.ready_store.CachedStoreTenantStore.create.Goals as goal
 
--- nothing is kept of the name, and other names have what they had
+-- nothing is kept of the name, and of other names the same as before
 pub invariant_of-self : goal.invariant_of-self
 invariant_of-self g c =
     let open' = rw (← c.self.view_is) at c.requires.open in

@@ -4,7 +4,7 @@ use Rattle.tenant_cache.specs.Kept.{Ready, kept_at}
 use Rattle.tenant_cache.proofs.NumberFacts.{known_among, true_among, true_same}
 use Rattle.tenant_cache.proofs.ready_store.CachedStoreTenantStore.load.Goals as goal
 
--- a look-up keeps no more than was kept
+-- after a look-up no more is kept than before
 pub invariant_of-self : goal.invariant_of-self
 invariant_of-self g c =
     record {

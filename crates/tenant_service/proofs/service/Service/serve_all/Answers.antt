@@ -4,7 +4,7 @@ use Rattle.tenant_messages.specs.declared.call.Call.{Call}
 use Rattle.tenant_core.proofs.Running.{run_on}
 use Rattle.tenant_service.proofs.service.Service.serve_all.Goals as goal
 
--- one call more was served, and its reply added to the others
+-- one more call was served, and its reply added to the others
 pub loop-call-preserved : goal.loop-call-preserved
 loop-call-preserved g c =
     let so_far = c.loop-call.invariant in

@@ -7,7 +7,7 @@ use Rattle.tenant_history.specs.Private.{LeavesSoFar, doubt_after}
 use Rattle.tenant_messages.specs.declared.call.Call.{Call}
 use Rattle.tenant_service.proofs.service.Service.serve_session.Goals as goal
 
--- one call more was served, its reply added to the others, and the doubt set if it latched the
+-- one more call was served, its reply added to the others, and the doubt set if it latched the
 -- store
 pub loop-call-preserved : goal.loop-call-preserved
 loop-call-preserved g c =

@@ -23,7 +23,7 @@ is_state c =
     subst IsState (sym (left c))
     (state_stays c.args.change.now c.args.self.now (subst IsChange c.change.view_is c.change.invariant) c.requires (subst IsState c.self.view_is c.self.invariant.state))
 
--- the receipt of a number that is new is one more
+-- a receipt under a new number adds one to the number of receipts
 pub invariant_of-self-2 : goal.invariant_of-self-2
 invariant_of-self-2 c =
     let next : c.in_ok-inventory.inventory.value.epoch ≡ c.deref.result.now.epoch + 1 =
