@@ -1,4 +1,4 @@
--- What private clauses alone cite: how the code goes about it. No public clause rests on it.
+-- What private clauses alone cite: how the code works. No public clause depends on it.
 pub mod Ahead
 pub mod Laid
 pub mod TableRows

@@ -1,2 +1,2 @@
--- What private clauses alone cite: how the code goes about it. No public clause rests on it.
+-- What private clauses alone cite: how the code works. No public clause depends on it.
 pub mod Entries

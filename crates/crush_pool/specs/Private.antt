@@ -1,3 +1,3 @@
--- What private clauses alone cite: how the code goes about it. No public clause rests on it.
+-- What private clauses alone cite: how the code works. No public clause depends on it.
 pub mod Pairs
 pub mod Seen
