@@ -46,7 +46,8 @@ impl<const BYTES: u64> Kept<BYTES> {
     ghost use Rattle.tenant_cache.specs.declared.kept.TheConstants.{GREATEST_SIZE};
     ghost use Rattle.tenant_state.specs.Size.{size};
 
-    /// Makes a cache that keeps nothing yet. `Err(AllocError)`: an allocation failed; nothing is changed.
+    /// Makes a cache that keeps nothing yet. `Err(AllocError)`: an allocation failed; nothing is
+    /// changed.
     pub fn new(alloc: Global) -> Result<Self, AllocError>
         ensures { IfOk result (λ kept. kept ≡ record { entries = [] }) }
     {
