@@ -23,7 +23,7 @@ rule that is wrong, perhaps further down, or the line of the last word where onl
   X3   a class in a take step
   X4   choose_args
   X5   a pos that isn't below the number of items, or that an earlier item has
-  X6   no weight where one is wanted
+  X6   no weight where one is expected
   X7   more than 4,194,304 bytes
   M1   more devices, types, buckets, items, rules or steps than the limit; a rule whose steps are all dropped
   M2   an id or number that an earlier element has
@@ -52,7 +52,7 @@ fn cache_option<'a>(alloc: Global) -> Arg<'a>
         .action(ArgAction::Set)
         .value_parser(value_parser!(u32).range(1..=65_536))
         .default_value("1024")
-        .help("Keeps the placements of at most so many groups")
+        .help("Keeps the placements of at most N groups: by a map text below 65,536 bytes from a group's second request on, or not at all where N is above 8,192")
 }
 
 /// Makes the option that names the database file, with `help`. `required` says whether it has to be
@@ -94,7 +94,7 @@ fn connections_option<'a>(alloc: Global) -> Arg<'a>
         .action(ArgAction::Set)
         .value_parser(value_parser!(u32).range(1..=1_000_000))
         .default_value("1000000")
-        .help("Ends after so many connections")
+        .help("Ends after N connections")
 }
 
 /// Makes the command `script`. `Err(AllocError)`: an allocation failed.
