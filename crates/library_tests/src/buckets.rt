@@ -27,7 +27,8 @@ const ONE_ITEM: Short<'static> = Short {
 };
 
 /// A list picks its second item where `hash4(0, 1, 0, -1)` is below its share, a tree its one item
-/// that has a weight, and a uniform bucket at the place `hash3(0, -1, 0) mod 3`.
+/// that has a weight, and a uniform bucket at the place `hash3(0, -1, 0) mod 3`. A permutation of
+/// which nothing was asked is the identity.
 #[test]
 fn buckets_have_their_calls(rt: HostRuntime) -> Result<(), Fail> {
     let alloc = rt.alloc();
@@ -35,6 +36,7 @@ fn buckets_have_their_calls(rt: HostRuntime) -> Result<(), Fail> {
     let two = entries(alloc, &[(0, ONE), (1, 23 * ONE)])?;
     assert!(rt; can_be_asked(&two));
     let mut perm = Perm::build(alloc, id, two.len())?;
+    assert_eq!(rt; perm.kept(), 0);
     let item = ListBucket::build(alloc, id, &two)?.pick(&mut perm, 0, 0);
     assert_eq!(rt; item, ItemId(1));
     let light = entries(alloc, &[(10, 0), (11, ONE), (12, 0)])?;

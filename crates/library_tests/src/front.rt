@@ -3,12 +3,13 @@
 use common_tests::rows::{CREATION_OF_A, IMPORT_BY_A, Row, calls_of, check_reply};
 use common_tests::streams::{Cuts, MANY, Reader, Writer};
 use crush_app::{CheckEnd, ScriptEnd, check_run, script_run};
-use crush_http::{Call, CallParts, Ended, Reply, Service, SessionEnd, laws, serve};
+use crush_http::{
+    Bytes, Call, CallParts, Ended, MemoryStore, Reply, Service, SessionEnd, laws, serve,
+};
 use sqlite::Connection;
 use std::num::NonZeroUsize;
 use std::test::Fail;
 use table_service::{close_service, open_service};
-use tenant_service::MemoryStore;
 use text_tests::texts::DEVICE_0;
 
 /// The row that shows the tenant after the import.
@@ -22,6 +23,12 @@ const SUMMARY: Row = (
 
 /// The requests to a new service.
 const ROWS: [Row; 3] = [CREATION_OF_A, IMPORT_BY_A, SUMMARY];
+
+/// Returns whether the method of a call is `PUT`.
+fn is_put(call: &Call) -> bool {
+    let method: &Bytes = &call.method;
+    method.as_slice() == b"PUT".as_slice()
+}
 
 /// Returns whether `replies` are those of the rows.
 fn are_of_rows(replies: &[Reply]) -> bool {
@@ -37,6 +44,7 @@ fn services_have_their_calls(rt: HostRuntime) -> Result<(), Fail> {
     let alloc = rt.alloc();
     laws::history();
     let calls: Vec<Call> = calls_of(alloc, &ROWS)?;
+    assert!(rt; matches!(calls.as_slice().first(), Some(call) if is_put(call)));
     let mut service: Service<MemoryStore> = Service::in_memory(alloc)?;
     let replies = service.run(&calls)?;
     assert!(rt; are_of_rows(&replies));

@@ -8,8 +8,8 @@ use crush_cache::{Content, PlacementCache, SharedExceptions, SharedStates, Share
 use crush_choose::{Slot, Weights};
 use crush_map::{CrushMap, ItemId, Text};
 use crush_pool::{
-    DeviceState, DeviceStates, Exceptions, Placement, Placer, Pool, PoolFault, PoolParts, mask_of,
-    place, reweights_of, rule_with_id, stable_mod,
+    DeviceState, DeviceStates, Exceptions, Pair, Placement, Placer, Pool, PoolFault, PoolParts,
+    mask_of, place, reweights_of, rule_with_id, stable_mod,
 };
 use crush_report::{
     CsvFault, DeviceChange, impact, moves, moves_csv, read_device_csv, usage, usage_csv,
@@ -77,6 +77,36 @@ fn pools_have_their_calls(rt: HostRuntime) -> Result<(), Fail> {
     };
     let flags = DeviceStates::build(alloc, &[down])?;
     assert!(rt; !flags.is_up(4) && flags.is_up(5));
+    Ok(())
+}
+
+/// Makes a list of one pair, of this group.
+fn pairs_of(alloc: Global, group: u32) -> Result<Vec<Pair>, AllocError> {
+    let mut pairs = Vec::new(alloc);
+    pairs.push(Pair {
+        group,
+        from: 0,
+        to: 3,
+    })?;
+    Ok(pairs)
+}
+
+/// A pool of 8 groups has exceptions of these groups alone.
+#[test]
+fn exceptions_have_their_calls(rt: HostRuntime) -> Result<(), Fail> {
+    let alloc = rt.alloc();
+    let pool = pool(alloc, 8, true)?;
+    let Ok(exceptions) = Exceptions::new(alloc, &pool, pairs_of(alloc, 7)?)? else {
+        return Err(Fail::new("a pair of the last group is refused"));
+    };
+    let pair = Pair {
+        group: 7,
+        from: 0,
+        to: 3,
+    };
+    assert!(rt; exceptions.pairs() == [pair].as_slice());
+    let after = Exceptions::new(alloc, &pool, pairs_of(alloc, 8)?)?;
+    assert!(rt; matches!(after, Err(PoolFault::P3)));
     Ok(())
 }
 

@@ -7,7 +7,9 @@ use crate::tenants::first_change;
 use sqlite::Connection;
 use std::test::Fail;
 use tenant_core::Change;
-use tenant_store::{Store, StoreFault, TenantStore, from_rows};
+use tenant_store::{
+    Exception, PoolRow, ReceiptRow, State, Store, StoreFault, TenantStore, VersionRow, from_rows,
+};
 
 /// Creates the tenant `name`, which is absent, makes its first change, and removes it where
 /// `removes` says so.
@@ -51,20 +53,34 @@ fn tenant_store_has_its_calls(rt: HostRuntime) -> Result<(), Fail> {
     Ok(())
 }
 
-/// No rows are those of a tenant that was just created, which has the epoch 0.
+/// No rows are those of a tenant that was just created, which has the epoch 0. An exception has its
+/// pool.
 #[test]
 fn states_come_from_rows(rt: HostRuntime) -> Result<(), Fail> {
     let alloc = rt.alloc();
-    let made = from_rows(
+    let versions: Vec<VersionRow> = Vec::new(alloc);
+    let states: Vec<State> = Vec::new(alloc);
+    let pools: Vec<PoolRow> = Vec::new(alloc);
+    let receipts: Vec<ReceiptRow> = Vec::new(alloc);
+    let made = from_rows(alloc, 0, versions, states, pools, &[], receipts)?;
+    assert!(rt; matches!(made, Some(state) if state.inventory().epoch() == 0));
+    let alone = Exception {
+        pool: 1,
+        place: 0,
+        group: 0,
+        from: 0,
+        to: 1,
+    };
+    let none = from_rows(
         alloc,
         0,
         Vec::new(alloc),
         Vec::new(alloc),
         Vec::new(alloc),
-        &[],
+        &[alone],
         Vec::new(alloc),
     )?;
-    assert!(rt; matches!(made, Some(state) if state.inventory().epoch() == 0));
+    assert!(rt; none.is_none());
     let none = from_rows(
         alloc,
         1,

@@ -7,8 +7,8 @@ use common_tests::imports::FIRST;
 use std::alloc::Global;
 use std::test::Fail;
 use tenant_core::{
-    Action, CallParts, Change, Reply, Routes, TenantState, answer, apply, create, laws,
-    read_request,
+    Action, CallParts, Change, Made, Problem, Refusal, Reply, Routes, TenantState, answer, apply,
+    create, laws, read_request, refused,
 };
 
 /// Returns the import of a map by a tenant.
@@ -49,6 +49,7 @@ pub(crate) fn first_change(alloc: Global) -> Result<Change, Fail>
 fn tenant_core_has_its_calls(rt: HostRuntime) -> Result<(), Fail> {
     let alloc = rt.alloc();
     let change = first_change(alloc)?;
+    assert!(rt; matches!(&change.made, Made::Version(_)));
     let state = create(alloc)?.after(alloc, &change)?;
     assert_eq!(rt; state.inventory().newest(), 1);
     let routes = Routes::build(alloc)?;
@@ -66,5 +67,25 @@ fn tenant_core_has_its_calls(rt: HostRuntime) -> Result<(), Fail> {
     let reply = answer(alloc, state.inventory(), query)?;
     assert_eq!(rt; reply.status, 200);
     assert_eq!(rt; reply.body.as_str(), "{\"item\":9}");
+    Ok(())
+}
+
+/// A path that no route has is refused, and the reply says so.
+#[test]
+fn refusals_have_their_replies(rt: HostRuntime) -> Result<(), Fail> {
+    let alloc = rt.alloc();
+    let routes = Routes::build(alloc)?;
+    let nowhere = CallParts {
+        method: b"GET",
+        path: "/x",
+        body: b"",
+    };
+    let Err(Refusal::Problem(problem)) = read_request(alloc, &routes, nowhere) else {
+        return Err(Fail::new("a path without a route is read"));
+    };
+    assert!(rt; matches!(problem, Problem::NoPath));
+    let reply = refused(alloc, problem)?;
+    assert_eq!(rt; reply.status, 404);
+    assert_eq!(rt; reply.body.as_str(), "{\"error\":\"no_path\"}");
     Ok(())
 }
