@@ -23,16 +23,22 @@ impl Cuts {
     }
 }
 
-/// Gives at most the bytes of `cuts` a read, and fails after `reads` reads.
+/// Gives at most the bytes of `cuts` a read, and fails after `reads` reads. Before these, signals
+/// interrupt `interrupts` reads.
 #[derive(Drop)]
 pub struct Reader<'a> {
     pub rest: &'a [u8],
     pub cuts: Cuts,
     pub reads: usize,
+    pub interrupts: usize,
 }
 
 impl Read for Reader<'_> {
     fn read(&mut self, buf: &mut [u8]) -> io::Result<usize> {
+        if self.interrupts > 0 {
+            self.interrupts -= 1;
+            return Err(ErrorKind::Interrupted.into());
+        }
         if self.reads == 0 {
             return Err(ErrorKind::Other.into());
         }

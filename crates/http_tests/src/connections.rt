@@ -22,6 +22,7 @@ pub(crate) fn connect_to(
         rest: input,
         cuts,
         reads,
+        interrupts: 0,
     };
     let mut writer = Writer::new(alloc, writes);
     let ended = serve_with(buffers, service, &mut reader, &mut writer);
@@ -43,6 +44,7 @@ pub(crate) fn connect(
         rest: input,
         cuts,
         reads,
+        interrupts: 0,
     };
     let mut writer = Writer::new(alloc, writes);
     let ended = serve(alloc, &mut service, &mut reader, &mut writer).expect(rt, "no memory");

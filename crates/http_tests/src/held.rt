@@ -87,6 +87,7 @@ fn connect(
             rest: input,
             cuts,
             reads: MANY,
+            interrupts: 0,
         },
         written: &written,
         seen: Vec::new(alloc),

@@ -84,6 +84,7 @@ fn reader_of(rest: &[u8]) -> Reader<'_> {
         rest,
         cuts: Cuts::each(7),
         reads: MANY,
+        interrupts: 0,
     }
 }
 

@@ -66,6 +66,7 @@ fn create(
         rest: CREATIONS,
         cuts: Cuts::each(1),
         reads,
+        interrupts: 0,
     };
     let mut writer = Writer::new(alloc, writes);
     let end = script_run(alloc, &mut service, &mut reader, &mut writer).expect(rt, "no memory");

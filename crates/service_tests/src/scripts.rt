@@ -30,6 +30,7 @@ pub(crate) fn play(
         rest: SCRIPT.as_bytes(),
         cuts: Cuts::each(1),
         reads,
+        interrupts: 0,
     };
     let mut writer = Writer::new(alloc, writes);
     let end = script_run(alloc, &mut service, &mut reader, &mut writer).expect(rt, "no memory");
@@ -50,6 +51,7 @@ fn a_script_is_played_in_memory_from_nothing(rt: HostRuntime) {
         rest: SCRIPT.as_bytes(),
         cuts: Cuts::each(1),
         reads: MANY,
+        interrupts: 0,
     };
     let mut writer = Writer::new(rt.alloc(), MANY);
     let end = script_in_memory(rt.alloc(), NonZeroUsize::MIN, &mut reader, &mut writer).expect(
@@ -58,6 +60,23 @@ fn a_script_is_played_in_memory_from_nothing(rt: HostRuntime) {
     );
     assert_same(&rt, &end, &ScriptEnd::Done);
     assert_same(&rt, &writer.taken.as_slice(), &REPLIES.as_bytes());
+}
+
+/// Each read that a signal interrupts is made again, so that the script is played whole.
+#[test]
+fn an_interrupted_read_is_made_again(rt: HostRuntime) -> Result<(), Fail> {
+    let mut service = Service::in_memory(rt.alloc())?;
+    let mut reader = Reader {
+        rest: SCRIPT.as_bytes(),
+        cuts: Cuts::each(1),
+        reads: MANY,
+        interrupts: 20,
+    };
+    let mut writer = Writer::new(rt.alloc(), MANY);
+    let end = script_run(rt.alloc(), &mut service, &mut reader, &mut writer)?;
+    assert_same(&rt, &end, &ScriptEnd::Done);
+    assert_same(&rt, &writer.taken.as_slice(), &REPLIES.as_bytes());
+    Ok(())
 }
 
 const CREATION_OF_B: Row = ("PUT", "/t/b", "", 201, "{\"epoch\":0,\"tenant\":\"b\"}");
