@@ -221,7 +221,8 @@ fn write_exceptions<S: Alter>(
     let Some(row) = row_with(rows, pool) else {
         return Err(StoreFault::Damaged);
     };
-    let values = all_pair_values(alloc, pool, exceptions.pairs())?;
+    let pairs = exceptions.pairs();
+    let values = all_pair_values(alloc, pool, pairs)?;
     let pool = values_with(&row, values.len() as i64);
     tables.commit_exceptions(id, epoch, &pool, &values, &receipt)
 }
