@@ -210,7 +210,7 @@ CEPH = $(shell sh bench/libceph)=librados2 crushtool=ceph-base osdmaptool=ceph-b
 NEEDS_ceph = $(CEPH)
 NEEDS_cluster = ceph-mon ceph-mgr ceph-osd ceph=ceph-common crushtool=ceph-base python:rados=python3-rados
 NEEDS_http = curl nginx openssl systemd-analyze=systemd ab=apache2-utils mkfs.btrfs=btrfs-progs nft=nftables python:jsonschema=python3-jsonschema python:yaml=python3-yaml /usr/share/openapi-specification=openapi-specification
-NEEDS_page = nginx openssl jq $(D3)=libjs-d3 chromium chromedriver=chromium-driver python:selenium=python3-selenium
+NEEDS_page = nginx openssl $(D3)=libjs-d3 chromium chromedriver=chromium-driver python:selenium=python3-selenium
 NEEDS_package = debootstrap unshare=util-linux
 NEEDS_sqlite = sqlite3
 
