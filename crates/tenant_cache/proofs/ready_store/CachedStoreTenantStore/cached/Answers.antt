@@ -22,17 +22,15 @@ invariant_of-self-in_err-pool g c =
       numbers = known_among c.self.inside.cache c.self.inside.kept c.get.new.self c.get.ensures.same c.self.invariant.numbers;
     }
 
--- what was found is kept, with numbers that are those of the cache
-pub find-requires-clause-known : goal.find-requires-clause-known
-find-requires-clause-known g c =
+-- what was found is kept, with numbers that are known
+pub find-requires : goal.find-requires
+find-requires g c =
     let at : kept_at c.self.inside.kept c.args.name.now ≡ Some c.in-Ok-Some.ready.value = search rules in
-    subst (AreNumbersOf c.self.inside.cache) (sym c.deref-3.ensures) (c.self.invariant.numbers c.args.name.now c.in-Ok-Some.ready.value at)
-
-pub find-requires-clause-there : goal.find-requires-clause-there
-find-requires-clause-there g c =
     let inventory = c.deref-2.ensures ∙ c.inventory.ensures ∙ ap (λ (r : Ready). r.inventory) (c.deref.ensures ∙ sym c.deref-3.ensures) in
-    subst (λ i. pool c.in_ok-pool.pool.now.parts.id i ≡ Some c.in_ok-pool.pool.now) inventory
-    (asked_pool c.args.query.now c.deref-2.result.now c.in_ok-pool.pool.now c.in_ok-pool.asked c.in_ok-pool.ensures)
+    let known = subst (AreNumbersOf c.self.inside.cache) (sym c.deref-3.ensures) (c.self.invariant.numbers c.args.name.now c.in-Ok-Some.ready.value at) in
+    let there = subst (λ i. pool c.in_ok-pool.pool.now.parts.id i ≡ Some c.in_ok-pool.pool.now) inventory
+    (asked_pool c.args.query.now c.deref-2.result.now c.in_ok-pool.pool.now c.in_ok-pool.asked c.in_ok-pool.ensures) in
+    ?
 
 -- beside the name there may be other numbers, which are those of the cache too
 pub invariant_of-self-in_err-cached : goal.invariant_of-self-in_err-cached
@@ -50,6 +48,19 @@ invariant_of-self-in_err-cached g c =
 
 pub invariant_of-self-2 : goal.invariant_of-self-2
 invariant_of-self-2 g c =
+    let at : kept_at c.self.inside.kept c.args.name.now ≡ Some c.in-Ok-Some.ready.value = search rules in
+    let states = g.T.TenantStore.has_state c.self.inside.below in
+    record {
+      states = λ honest live. true_renumbered states c.find.new.cache c.get.new.self c.find.new.kept c.args.name.now c.deref-3.result.now
+          (true_among states c.self.inside.kept c.get.new.self c.get.ensures.same (c.self.invariant.states honest live))
+          (subst (λ (r : Ready). HasInventory states c.args.name.now (Some r.inventory)) (sym c.deref-3.ensures) (c.self.invariant.states honest live c.args.name.now c.in-Ok-Some.ready.value at))
+          c.find.ensures.beside;
+      numbers = known_renumbered c.self.inside.cache c.find.new.cache c.get.new.self c.find.new.kept c.args.name.now c.deref-3.result.now c.find.ensures.keeps
+          (known_among c.self.inside.cache c.self.inside.kept c.get.new.self c.get.ensures.same c.self.invariant.numbers) c.find.ensures.beside;
+    }
+
+pub invariant_of-self-in_default-clone : goal.invariant_of-self-in_default-clone
+invariant_of-self-in_default-clone g c =
     let at : kept_at c.self.inside.kept c.args.name.now ≡ Some c.in-Ok-Some.ready.value = search rules in
     let states = g.T.TenantStore.has_state c.self.inside.below in
     record {
