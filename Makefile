@@ -31,6 +31,9 @@ endif
 ifneq ($(and $(CPU),$(filter test test-all release,$(MAKECMDGOALS))),)
   $(error make $(filter test test-all release,$(MAKECMDGOALS)) tries the program as rt builds it with no CPU: tests/README.md says how to try another)
 endif
+ifneq ($(and $(filter x86-64,$(CPU)),$(filter package package-check,$(MAKECMDGOALS))),)
+  $(error There is a package for x86-64-v2 and one for x86-64-v3, and none for CPU=x86-64)
+endif
 SOURCES = $(shell find crates -name out -prune -o \( -name '*.rt' -o -name '*.antt' \) -print)
 
 build: crushcalc
@@ -69,7 +72,7 @@ help:
 ##
 ## make package   builds, and makes a Debian package and a tarball of the program, the page, the
 ##                pages and the unit: build/package
-## make release   make test with a program that names its commit, and then make dist
+## make release   make test-all with a program that names its commit, and then make dist
 ## make dist      a release of what the last gate proved and built, or a word why there is none:
 ##                dist/crushcalc-VERSION
 ##
@@ -185,14 +188,14 @@ install: build
 package: build
 	@sh tools/need dpkg-deb=dpkg lintian
 	@rm -rf build/package
-	@python3 package/build ./crushcalc build/package
+	@python3 package/build ./crushcalc build/package $(if $(filter x86-64-v3,$(CPU)),--v3)
 	@lintian --allow-root --fail-on error,warning build/package/*.deb
 
 rebuild-check: tools
 	@RT='$(RT)' python3 tools/rebuild $(if $(STAMP),--stamp)
 
 release: tools
-	@RT='$(RT)' python3 tests/all --stamp
+	@RT='$(RT)' python3 tests/all --all --stamp
 	@RT='$(RT)' python3 tools/dist
 
 dist: tools
@@ -206,8 +209,8 @@ serve: build
 CEPH = $(shell sh bench/libceph)=librados2 crushtool=ceph-base osdmaptool=ceph-base gcc /usr/include/stdio.h=libc6-dev
 NEEDS_ceph = $(CEPH)
 NEEDS_cluster = ceph-mon ceph-mgr ceph-osd ceph=ceph-common crushtool=ceph-base python:rados=python3-rados
-NEEDS_http = curl nginx openssl ab=apache2-utils mkfs.btrfs=btrfs-progs nft=nftables python:jsonschema=python3-jsonschema python:yaml=python3-yaml /usr/share/openapi-specification=openapi-specification
-NEEDS_page = nginx openssl jq $(D3)=libjs-d3 chromium chromedriver=chromium-driver python:selenium=python3-selenium
+NEEDS_http = curl nginx openssl systemd-analyze=systemd ab=apache2-utils mkfs.btrfs=btrfs-progs nft=nftables python:jsonschema=python3-jsonschema python:yaml=python3-yaml /usr/share/openapi-specification=openapi-specification
+NEEDS_page = nginx openssl $(D3)=libjs-d3 chromium chromedriver=chromium-driver python:selenium=python3-selenium
 NEEDS_package = debootstrap unshare=util-linux
 NEEDS_sqlite = sqlite3
 

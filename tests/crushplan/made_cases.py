@@ -282,6 +282,7 @@ def room(runner, folder):
     """Bytes of pools and devices: what is written, how full a device is, and the ratios."""
     write(folder, crush_dump(), osd_dump(), df_json={"stats": {}, "pools": [{"name": "photos", "id": 1, "stats": {"stored": 64_000, "objects": 10, "bytes_used": 192_000}}]})
     said = runner.said("drain", folder, "host0", status=0)
+    wants(not_looked_at(said), said["warnings"])
     equals("each copy has 1,000 bytes", said["bytes"], said["copies"] * 1000)
     equals("bytes of a device", [it["bytes_after"] for it in said["usage"]], [it["copies_after"] * 1000 for it in said["usage"]])
     for size, status, past in ((1_000_000, 0, False), (28_000, 0, True), (25_000, 1, True)):
@@ -292,10 +293,32 @@ def room(runner, folder):
         equals(f"{size}: fullest", answer["fullest"]["used_after"], most)
         equals(f"{size}: past near-full", bool(answer["past_nearfull"]), most > 0.85)
         equals(f"{size}: status", answer["status"], int(most > 0.9))
+        equals(f"{size}: warnings", answer["warnings"], [])
     wants("past the backfill-full ratio" in runner.run("drain", folder, "host0")[1], "the sentence doesn't say it")
+    for words in (("fail", folder, "host0"), ("fail", folder, "--each", "host"), ("usage", folder)):
+        equals(f"{words}: warnings", runner.said(*words)["warnings"], [])
     write(folder, osd={**osd_dump(), "nearfull_ratio": 0.8500000238418579})  # as a cluster writes it
     wants("near-full is 85.0%" in runner.run("drain", folder, "host0")[1], "the ratio isn't said")
+    write(folder, osd={name: value for name, value in osd_dump().items() if name != "backfillfull_ratio"})
+    wants(not_looked_at(runner.said("drain", folder, "host0", status=0)), "a cluster without the ratio")
+    write(folder, osd=osd_dump())
     wants("B" in runner.run("usage", folder)[1] and "used %" in runner.run("usage", folder)[1], "usage shows no bytes")
+
+
+def not_looked_at(said):
+    """Whether an answer warns, once, that it looked at no room."""
+    return [it.startswith("how full devices get isn't looked at") for it in said["warnings"]] == [True]
+
+
+def without_room(runner, folder):
+    """Without df.json or osd-df.json no device counts as full, and drain and fail say so; usage,
+    which asks for no room, doesn't."""
+    nodes = [{"id": it, "name": f"osd.{it}", "kb": 1, "kb_used": 1} for it in range(12)]
+    write(folder, crush_dump(), osd_dump(), osd__df_json={"nodes": nodes})
+    for words in (("drain", folder, "host0"), ("fail", folder, "host0"), ("fail", folder, "--each", "host")):
+        wants(not_looked_at(runner.said(*words, status=0)), words)
+        wants("note: how full devices get isn't looked at" in runner.run(*words)[1], f"{words} says nothing of it")
+    equals("usage", runner.said("usage", folder, status=0)["warnings"], [])
 
 
 def taken_by_name(runner, folder):
@@ -431,7 +454,7 @@ def dumps_in_turn(runner, folder):
 
 def cases():
     found = (
-        straw2, classes, odd_pools, refused_maps, oddities, whole_lists, many_states, many_pairs, holes, no_room, already_short, room, taken_by_name, described,
-        shares, least, upmaps, located, deep, untouched, dumps_in_turn,
+        straw2, classes, odd_pools, refused_maps, oddities, whole_lists, many_states, many_pairs, holes, no_room, already_short, room, without_room, taken_by_name,
+        described, shares, least, upmaps, located, deep, untouched, dumps_in_turn,
     )  # fmt: skip
     return [(it.__name__, it) for it in found]

@@ -1,5 +1,5 @@
-"""The man pages and the completions of package/ beside the programs' help: each command and each
-option of the one stands in the other."""
+"""The man pages and the completions of package/ beside the programs' help: each command, and each
+option of a command, of the one stands in the other."""
 import pathlib
 import re
 import subprocess
@@ -8,6 +8,9 @@ TOP = pathlib.Path(__file__).resolve().parent.parent.parent
 MANUALS = TOP / "package" / "man"
 COMPLETIONS = {"crushcalc": TOP / "package/completions/crushcalc", "crushplan": TOP / "tools/crushplan.bash"}
 OPTION = re.compile(r"(?<![\w-])--[a-z][a-z-]*")
+# the line of a man page that names the commands which have an option
+COMMANDS = re.compile(r'^\.RB "?\(([^)]*)\)$')
+HELP = "--help"
 SECONDS = 60
 
 
@@ -34,12 +37,43 @@ def helped(program):
     return {name: options_of(program, name) if name != "help" else set() for name in {"", *commands}}
 
 
+def section(text, name):
+    return text.partition(f"\n.SH {name}\n")[2].partition("\n.SH ")[0]
+
+
+def synopsis(name, text):
+    """Of each command of a man page, and of '', the program itself: the options in its lines of the
+    synopsis."""
+    found = {}
+    for line in section(text, "SYNOPSIS").split("\n.br\n"):
+        command = re.match(rf"\.B {name}(?: (\w+))?$", line, re.MULTILINE)[1] or ""
+        found.setdefault(command, set()).update(OPTION.findall(line))
+    return found
+
+
 def manual(name):
-    """The commands and the options that a man page names, and its sections."""
+    """Of each command that a man page names, and of '', the program itself: its options. Those of
+    an entry of OPTIONS belong to the commands that its second line names, as '(usage, drain)' or
+    '(all but fetch)', or to those in whose synopsis they are; --help to each command too."""
     text = (MANUALS / f"{name}.1").read_text().replace("\\-", "-")
-    commands = set(re.findall(rf"^\.B {name} (\w+)$", text.partition(".SH DESCRIPTION")[0], re.MULTILINE))
-    # examples name options of other programs too
-    return commands, set(OPTION.findall(text.partition(".SH EXIT STATUS")[0])), re.findall(r"^\.SH (.*)$", text, re.MULTILINE)
+    found = synopsis(name, text)
+    commands, options = set(found) - {""}, {it: {HELP} - ({HELP} if it == "help" else set()) for it in found}
+    for entry in section(text, "OPTIONS").split(".TP\n")[1:]:
+        tag, second, *_ = entry.split("\n")
+        named = COMMANDS.match(second)
+        words = set(re.findall(r"\w+", named[1])) if named else set()
+        for option in OPTION.findall(tag):
+            of = commands - words if "but" in words else words or {it for it in found if option in found[it]}
+            for command in of:
+                options.setdefault(command, set()).add(option)
+    return options
+
+
+def unnamed(name):
+    """Options in the synopsis of a command which its entries of OPTIONS don't have."""
+    text = (MANUALS / f"{name}.1").read_text().replace("\\-", "-")
+    options = manual(name)
+    return [f"{command} {it}" for command, some in synopsis(name, text).items() for it in sorted(some - options[command])]
 
 
 def completed(name, *words):
@@ -55,14 +89,15 @@ def unlike(one, other, what):
 
 
 def of_program(program, name):
-    found = helped(program)
-    commands, options, sections = manual(name)
-    yield "the page's commands", unlike(commands, set(found) - {""}, "commands")
-    yield "the page's options", unlike(options, set().union(*found.values()), "options")
-    wanted = {"NAME", "SYNOPSIS", "DESCRIPTION", "OPTIONS", "EXIT STATUS", "FILES", "EXAMPLES"}
-    yield "the page's sections", f"it lacks {wanted - set(sections)}" if wanted - set(sections) else None
-    text = (MANUALS / f"{name}.1").read_text().partition(".SH EXAMPLES")[2].replace("\\-", "-")
-    missing = [it for it in found if it and not re.search(rf"{name} {it}\b", text)]
+    found, options = helped(program), manual(name)
+    text = (MANUALS / f"{name}.1").read_text().replace("\\-", "-")
+    yield "the page's commands", unlike(set(options), set(found), "commands")
+    for command in sorted(set(found) & set(options)):
+        yield f"the page's options of {command or 'the program'}", unlike(options[command], found[command], "options")
+    yield "the page's synopsis", f"its entries of OPTIONS lack {unnamed(name)}" if unnamed(name) else None
+    missing = {"NAME", "SYNOPSIS", "DESCRIPTION", "OPTIONS", "EXIT STATUS", "FILES", "EXAMPLES"} - set(re.findall(r"^\.SH (.*)$", text, re.MULTILINE))
+    yield "the page's sections", f"it lacks {missing}" if missing else None
+    missing = [it for it in found if it and not re.search(rf"{name} {it}\b", section(text, "EXAMPLES"))]
     yield "the page's examples", f"none of {missing}" if missing else None
     yield "the completion's commands", unlike(completed(name, ""), (set(found) - {""}) | found[""], "commands")
     for command in sorted(set(found) - {"", "help"}):

@@ -4,7 +4,6 @@ program as crushcalc, the examples and the tools."""
 import os
 import pathlib
 import re
-import shutil
 import subprocess
 import tempfile
 
@@ -42,12 +41,6 @@ def commands_in(text):
     return [(command, "".join(output)) for command, output in found]
 
 
-def without_jq(command):
-    """The command with rows written as CSV by plan.py where jq does it, so that the tests need no
-    jq."""
-    return re.sub(r"\bjq -r '[^']*'", "python3 examples/plan.py csv", command)
-
-
 def fault(folder, command, wanted, seconds):
     """Why a command doesn't print what is shown, or None."""
     environment = {**os.environ, "CRUSHCALC": f"{folder}/crushcalc"}
@@ -70,5 +63,4 @@ def outcomes(program, words, seconds):
             for place, (command, wanted) in enumerate(commands_in((TOP / document).read_text()), 1):
                 if SERVED.search(command):
                     continue
-                asked = command if shutil.which("jq") else without_jq(command)
-                yield f"{name}, command {place}", fault(folder, asked, wanted, seconds)
+                yield f"{name}, command {place}", fault(folder, command, wanted, seconds)

@@ -13,6 +13,7 @@ TOKEN = re.compile(r'b?r#*".*?"#*|b?"(?:\\.|[^"\\])*"|\w+|[^\w\s]', re.S)
 RAW = re.compile(r'b?r(#*)"')
 CHARACTER = re.compile(r"b?'(\\.[^']*|[^'\\])'")
 BRACE = re.compile(r"[{}]")
+TEST = re.compile(r"#\s*\[\s*test\s*\]")
 CLAUSE = re.compile(r"\b(requires|ensures|ghost)\b[^{}]*$")
 TEST_MODULE = re.compile(r"#\s*\[\s*cfg\s*\(\s*test\s*\)\s*\]\s*(?:pub\s*(?:\([^)]*\)\s*)?)?mod\s+(\w+)\s*;")
 
@@ -146,6 +147,12 @@ def functions(code, bare):
             at = closing(bare, body)
             found.append(Function(word[1], start, body, at))
     return found
+
+
+def functions_in(folder):
+    """How many functions the sources of a crate have, and how many of them are tests."""
+    sources = [source_of(it.read_text(encoding="utf-8")) for it in sorted((folder / "src").rglob("*.rt"))]
+    return sum(len(it.functions) for it in sources), sum(len(TEST.findall(it.code)) for it in sources)
 
 
 def tokens(code):

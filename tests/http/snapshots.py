@@ -5,6 +5,7 @@ import pathlib
 import subprocess
 import threading
 
+from gate.counted import Untried
 from model import maps, messages
 from proxy import run
 from server.served import Server, message, read_reply, run_to_end
@@ -50,7 +51,7 @@ def snapshots(program, at):
 def checks(program, folder):
     at, image = pathlib.Path(folder, "mounted"), pathlib.Path(folder, "image")
     if os.geteuid() != 0:
-        return
+        raise Untried("a file system is mounted by root alone")
     at.mkdir()
     with open(image, "wb") as file:
         file.truncate(SIZE)
@@ -58,8 +59,7 @@ def checks(program, folder):
         run("mkfs.btrfs", "-q", str(image))
         run("mount", "-o", "loop", str(image), str(at))
     except (OSError, subprocess.SubprocessError) as error:
-        print(f"no snapshots are made: {error}")
-        return
+        raise Untried(f"no btrfs can be mounted: {error}") from error
     try:
         yield "snapshots of a file system", snapshots(program, at)
     finally:

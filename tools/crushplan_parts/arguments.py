@@ -10,7 +10,8 @@ DIR is a folder with files that the cluster writes:
   map.txt       crushtool -d                    the map, with weights rounded to three decimals
   osd.json      ceph osd dump -f json           pools, reweights, up and down, upmap items, full ratios;
                                                 without it each rule is a pool (--size, --pg-num)
-  df.json, osd-df.json                          ceph df detail -f json, ceph osd df -f json: bytes; optional
+  df.json, osd-df.json                          ceph df detail -f json, ceph osd df -f json: bytes; if one is
+                                                missing, no device counts as full
 
 'crushplan fetch DIR' writes them where 'ceph' is there. Nothing here changes a cluster.
 Pools over list, tree and uniform buckets are computed, by the program crushcalc; pools over straw
@@ -21,7 +22,8 @@ END = """examples:
   crushplan drain july host3                  may host3 be drained? The summary, then usage before and after
   crushplan fail july --each rack             each rack in turn, the worst first
 
-Exit status of drain and fail: 0 yes, every copy has room; 1 no; 2 it couldn't be computed.
+Exit status of drain and fail: 0 yes, every copy has room (and of fail no I/O stops); 1 no;
+2 what isn't computed may concern the devices.
 'crushplan COMMAND --help' has an example of each command. docs/CRUSHPLAN.md has the fields of --json."""
 COMMANDS = {
     "fetch": ("writes the files of a cluster into DIR, by commands that only read it", "crushplan fetch july --ceph 'ceph --cluster backup'"),
@@ -38,8 +40,8 @@ STATUSES = {
     "check": "0 where every pool can be computed, 1 where some can, 2 where none can.",
     "usage": "0; 2 where it couldn't be computed.",
     "compare": "0; 1 where copies have no room afterwards; 2 where not all could be computed.",
-    "drain": "0 yes, every copy has room; 1 no; 2 where not all could be computed.",
-    "fail": "0 yes, no I/O stops and every copy has room; 1 no; 2 where not all could be computed.",
+    "drain": "0 yes, every copy has room; 1 no; 2 where what isn't computed may concern the devices.",
+    "fail": "0 yes, no I/O stops and every copy has room; 1 no; 2 where what isn't computed may concern the devices.",
     "upmap": "0; 1 where Ceph would remove some of the items again; 2 where not all could be computed.",
     "locate": "0; 2 where it couldn't be computed.",
 }
@@ -47,7 +49,7 @@ MORE = {
     "check": "A removed device leaves a hole in a tree bucket. crushcalc refuses such a map (code M6), and crushplan fills each hole by a device of weight 0, with which every group lies as in Ceph.",
     "usage": "The share is what weights and reweights give an item of the copies that there are; 'bytes' are its part of the pools' bytes.",
     "compare": "NEW is a text as 'crushtool -d' writes it, or a dump. The least is what the change of weights asks for, however a map places.",
-    "drain": "The reweights of the devices become 0, as by 'ceph osd out'. The groups that can move are the impact lists of crushcalc: no other group moves, which is proved. A copy has no room where no device is found for it, or where that device would be past the backfill-full ratio.",
+    "drain": "The reweights of the devices become 0, as by 'ceph osd out'. The groups that can move are the impact lists of crushcalc: no other group moves, which is proved. A copy has no room where it has no device that is up, or where its device gets more and is then past the backfill-full ratio.",
     "fail": "First what holds while the devices are down: groups with fewer copies than the pool's min_size, whose I/O stops. Then what their going out moves.",
     "upmap": "FILE has lines 'ceph osd pg-upmap-items GROUP FROM TO ..' or 'ceph osd rm-pg-upmap-items GROUP', as 'osdmaptool --upmap FILE' writes them; '-' is standard input.",
 }
@@ -64,7 +66,7 @@ def common(words):
     form = words.add_mutually_exclusive_group()
     form.add_argument("--json", dest="form", action="store_const", const="json", default="text", help="writes one object of JSON, with all of it")
     form.add_argument("--csv", dest="form", action="store_const", const="csv", help="writes the main table as CSV")
-    words.add_argument("--service", metavar="URL", help="asks a server instead of the program: a tenant of its own, which is dropped at the end")
+    words.add_argument("--service", metavar="URL", help="asks a server, at its own port, instead of the program: a tenant of its own, of which nginx's example has no users, and which is dropped at the end")
     words.add_argument("--program", metavar="FILE", help="the program crushcalc (otherwise the one beside crushplan, or on PATH)")
     described = words.add_argument_group("where there is no osd.json")
     described.add_argument("--size", type=positive, metavar="N", help="the size of each rule's pool (3)")

@@ -3,7 +3,7 @@ from .after_drain import AfterDrain
 from .changing import Start, pool_changes
 from .faults import counted
 from .output import Answer, sized
-from .reports import Stay, groups_rows, groups_table, pools_table, status_of, summary_table, usage_rows, usage_table, verdict
+from .reports import Stay, groups_rows, groups_table, pools_table, status_of, summary_table, usage_rows, usage_table, verdict, warn_of_room
 from .stages import Stages, states_after
 from .summary import Summary
 
@@ -24,6 +24,7 @@ def drain(plan, asked):
     changes = pool_changes(plan, start, devices, before, after)
     later.take(changes, purge, first, second)
     summary, stay = Summary(plan, changes, states), Stay(plan, start, devices, changes)
+    warn_of_room(plan, summary)
     if later.note():
         plan.notes.append(later.note())
     status = status_of(plan, summary, stay)

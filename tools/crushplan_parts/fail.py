@@ -2,7 +2,7 @@
 from .changing import Start, pool_changes, short_now
 from .faults import Fault, counted
 from .output import Answer, Progress, Table, devices_text, shown, sized
-from .reports import COPY, Stay, groups_rows, groups_table, listed, pools_table, status_of, summary_table, usage_rows, usage_table, verdict
+from .reports import COPY, Stay, groups_rows, groups_table, listed, pools_table, status_of, summary_table, usage_rows, usage_table, verdict, warn_of_room
 from .shares import hundredths
 from .stages import Stages, states_after
 from .summary import Summary
@@ -77,6 +77,7 @@ def fail(plan, asked):
     start = Start(plan, devices)
     it = Failure(plan, start, devices)
     stay = Stay(plan, start, devices, it.summary.changes)
+    warn_of_room(plan, it.summary)
     status = status_of(plan, it.summary, stay, it.down.stopped)
     fields = {"devices": devices, "down": it.down.said(asked.groups), "out": it.summary.said(asked.groups), "stay": stay.said()}
     blocks = [it.down.table(it.summary.groups), it.down.pools_table(), summary_table(plan, it.summary, stay, "Once they are out:"), pools_table(it.summary), usage_table(plan, it.summary, asked.by)]
@@ -114,6 +115,7 @@ def fail_each(plan, asked):
             found.append((item, failure, Stay(plan, start, devices, failure.summary.changes)))
     finally:
         progress.end()
+    warn_of_room(plan, found[0][1].summary)
     found.sort(key=lambda it: (-it[1].down.stopped, -it[1].summary.missing, -it[1].summary.copies, plan.map.name_of(it[0])))
     statuses = [status_of(plan, it.summary, stay, it.down.stopped) for _, it, stay in found]
     status = 1 if 1 in statuses else 2 if 2 in statuses else 0

@@ -9,6 +9,7 @@ from .summary import whole
 
 MOST_ROWS = 40  # devices in a table of usage; where there are more, hosts are shown
 COPY = ("copy", "copies")
+NO_ROOM = "how full devices get isn't looked at (that takes df.json, osd-df.json and the ratios of osd.json): a copy has room where it has a device"
 
 
 class Stay:
@@ -48,6 +49,12 @@ def status_of(plan, summary, stay, stopped=0):
     if summary.changes and (not summary.has_room() or stay.keeping or stopped):
         return 1
     return 2 if stay.is_unknown() or not plan.pools else 0
+
+
+def warn_of_room(plan, summary):
+    """Warns where no device counts as full, since the files don't say how full they are."""
+    if summary.changes and not summary.knows_room():
+        plan.cluster.warnings.append(NO_ROOM)
 
 
 def verdict(summary, stay, status, stopped=0):

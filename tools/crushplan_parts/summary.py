@@ -124,6 +124,11 @@ class Summary:
             return []
         return [it for it in self.devices if it.used_after is not None and it.used_after > fractions.Fraction(ratio) and it.used_after > it.used_before]
 
+    def knows_room(self):
+        """Returns whether the files say how full devices are, and from which ratio on Ceph writes
+        no more copies to one. Otherwise no device counts as full."""
+        return "backfillfull_ratio" in self.plan.cluster.ratios and any(it.used_after is not None for it in self.devices)
+
     def has_room(self):
         """Returns whether every copy has room: a device, which isn't past the ratio from which on
         Ceph writes no more copies to it."""

@@ -16,7 +16,7 @@ pub record ServesScript (Says : List (Option Call) → Type 0) (reads left : Opt
   pub said : OfScript reads (λ input. Says (messages input))
   pub rest : DropsFirst (SCRIPT_LIMIT + 1) reads left
 
--- No line was served, so that the store is as before, and nothing was written.
+-- What is said where no line was served: the store is as before, and nothing was written.
 pub record ServesNothing (AsBefore : Type 0) (from to : Option (List ℕ)) : Type 0 where
   pub as_before : AsBefore
   pub unwritten : Keeps from to

@@ -52,7 +52,9 @@ fn cache_option<'a>(alloc: Global) -> Arg<'a>
         .action(ArgAction::Set)
         .value_parser(value_parser!(u32).range(1..=65_536))
         .default_value("1024")
-        .help("Keeps the placements of at most N groups: by a map text below 65,536 bytes from a group's second request on, or not at all where N is above 8,192")
+        .help(
+            "Keeps the placements of at most N groups: by a map text below 65,536 bytes from a group's second request on, or not at all where N is above 8,192",
+        )
 }
 
 /// Makes the option that names the database file, with `help`. `required` says whether it has to be

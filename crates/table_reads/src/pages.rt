@@ -42,7 +42,11 @@ fn first_rows<S: Alter>(conn: &mut Connection<S>, id: i64) -> Result<Vec<Row>, S
 
 /// Reads the first 17 receipts of the tenant whose requests are above `after`, or all of those
 /// where there are fewer, by their requests.
-fn next_rows<S: Alter>(conn: &mut Connection<S>, id: i64, after: &str) -> Result<Vec<Row>, StoreFault>
+fn next_rows<S: Alter>(
+    conn: &mut Connection<S>,
+    id: i64,
+    after: &str,
+) -> Result<Vec<Row>, StoreFault>
     requires autocommit { conn.old.in_transaction ≡ false }
     requires ready { HasCleanDisk (state S.Store conn.old) → IsReady (state S.Store conn.old) }
     ensures found { HasCleanDisk (state S.Store conn.new) → IfOk result (λ rows. AreFirst 17 (rows_above after.now (of_tenant receipts_table id (state S.Store conn.old).now.trees)) rows.items) }

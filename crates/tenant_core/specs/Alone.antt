@@ -23,7 +23,7 @@ alone state (call ∷ calls) = let first = step call state in replied_first firs
 
 -- ---- a tenant's calls in a run, and the replies to them
 
--- 503 says that nothing was done
+-- the reply is any but 503
 abbrev pub is_answered : Reply → Bool
 is_answered reply = not (reply.status == 503)
 

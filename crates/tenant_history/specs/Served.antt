@@ -13,8 +13,8 @@ session found calls replies doubt = record { found = found; calls = calls; repli
 abbrev pub IsSound : States → List Call → List Reply → Option ℕ → Type 0
 IsSound old calls replies doubt = (found : List ℕ → Option TenantState) (t : List ℕ) → old t (found t) → IsSoundFor t (session found calls replies doubt)
 
--- after a crash an opening finds of each such tenant a state, and no damaged data: one that this
--- session may leave
+-- all that an opening may find of each such tenant after a crash is a state, and no damaged data:
+-- one that this session may leave
 abbrev pub LeavesSession : States → Outcomes → List Call → List Reply → Option ℕ → Type 0
 LeavesSession old left calls replies doubt =
     (found : List ℕ → Option TenantState) (t : List ℕ) (next : Found) → old t (found t) → left t next

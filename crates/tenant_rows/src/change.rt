@@ -22,9 +22,9 @@ use crush_map::Text;
 use crush_pool::{DeviceState, Exceptions, Pair, Pool};
 use sqlite::Alter;
 use std::alloc::{AllocError, Global};
+use store_faults::StoreFault;
 use table_reads::find::Tenant;
 use table_reads::rows::PoolRow;
-use store_faults::StoreFault;
 use table_schema::values::{Exception, Pool as PoolValues, Receipt as ReceiptValues, State};
 use tenant_messages::SuccessStatus;
 use tenant_state::{Change, Made, Receipt};
@@ -221,7 +221,8 @@ fn write_exceptions<S: Alter>(
     let Some(row) = row_with(rows, pool) else {
         return Err(StoreFault::Damaged);
     };
-    let values = all_pair_values(alloc, pool, exceptions.pairs())?;
+    let pairs = exceptions.pairs();
+    let values = all_pair_values(alloc, pool, pairs)?;
     let pool = values_with(&row, values.len() as i64);
     tables.commit_exceptions(id, epoch, &pool, &values, &receipt)
 }

@@ -12,9 +12,9 @@ ghost use Rattle.tenant_rows.specs.Pages.{AreReceipts, IsOfReceipt, IsTail, Leav
 
 use crate::parts::is_receipt_row;
 use sqlite::Alter;
+use store_faults::StoreFault;
 use table_reads::pages::PAGE;
 use table_reads::rows::ReceiptRow;
-use store_faults::StoreFault;
 use tenant_tables::tables::Tables;
 
 /// The receipts that are still to be judged: those whose request numbers are above `after`, of
@@ -71,7 +71,11 @@ fn rest_behind(page: Vec<ReceiptRow>, left: u64) -> Result<Option<Rest>, StoreFa
 /// `Err(StoreFault::Damaged)`: exactly where they are the receipts of no state.
 /// `Err(StoreFault::NoMemory)`: an allocation failed. `Err(StoreFault::Failed)`: the tables are
 /// latched.
-pub fn judge_receipts<S: Alter>(tables: &mut Tables<S>, id: i64, epoch: i64) -> Result<(), StoreFault>
+pub fn judge_receipts<S: Alter>(
+    tables: &mut Tables<S>,
+    id: i64,
+    epoch: i64,
+) -> Result<(), StoreFault>
     requires live { tables.old.1 ≡ false }
     ensures found { HasCleanDisk (state S.Store tables.new.0) → OnOk result ((receipts : Receipts) × HasReceipts (state S.Store tables.old.0).now.trees id epoch receipts) }
     ensures damaged { HasCleanDisk (state S.Store tables.new.0) → result ≡ Err StoreFault.Damaged → (receipts : Receipts) → ¬ HasReceipts (state S.Store tables.old.0).now.trees id epoch receipts }

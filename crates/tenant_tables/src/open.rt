@@ -15,9 +15,9 @@ ghost use Rattle.tenant_tables.specs.Opened.{HasVersion, SaysVersion, IsKnown, I
 use crate::write::{Write, run_all};
 use sqlite::{Alter, Connection, Error, Row};
 use std::alloc::AllocError;
+use store_faults::StoreFault;
 use table_reads::rows::int_at;
 use table_schema::first::is_first;
-use store_faults::StoreFault;
 use table_schema::refuse::{fault_of, refusal};
 use table_schema::schema::layout_of;
 

@@ -20,12 +20,12 @@ use crate::write::{Write, write_all};
 use sqlite::{Alter, Connection};
 use std::alloc::Global;
 use std::marker::Model;
+use store_faults::StoreFault;
 use table_reads::exceptions::exceptions_of;
 use table_reads::find::{Tenant, find};
 use table_reads::lists::{devices_of, pools_of, receipt_of, versions_of};
 use table_reads::pages::{first_receipts, receipts_after};
 use table_reads::rows::{PoolRow, ReceiptRow, VersionRow};
-use store_faults::StoreFault;
 use table_schema::values::{Exception, State};
 
 /// The tables of a connection. Contracts see the connection, and whether a failure has latched the

@@ -47,14 +47,14 @@ commit_exceptions-requires-clause-there g c clean =
     moved IsNumber (state g.S.Store c.args.tables.now.0).now (state g.S.Store c.pools_of.new.self.0).now c.args.id (word c.args.id) (sym kept) (sym (word_is c.args.id c.ranges.id)) (c.requires.there first)
 
 -- how many there are
-count_is : (g : given.Over) (c : goal.After-drop-row g) → pool_row c.values_with-pool.result ≡ take 8 (pool_values c.in-Some.row) ++ Int (pos (length c.args.exceptions.now)) ∷ []
+count_is : (g : given.Over) (c : goal.After-drop-row-2 g) → pool_row c.values_with-pool.result ≡ take 8 (pool_values c.in-Some.row) ++ Int (pos (length c.args.exceptions.now)) ∷ []
 count_is g c =
     let few = few_pairs c.args.exceptions.now c.pairs-pairs.result.now c.pairs-pairs.ensures.same c.pairs-pairs.ensures.valid in
-    let count = count_word c.len.result c.args.pool c.in-Ok.values.items c.args.exceptions.now c.pairs-pairs.result.now (omega (arith, c.len.ensures)) c.in-Ok.ensures c.pairs-pairs.ensures.same few in
+    let count = count_word c.len.result c.args.pool c.in_ok-values.values.items c.args.exceptions.now c.pairs-pairs.result.now (omega (arith, c.len.ensures)) c.in_ok-values.ensures c.pairs-pairs.ensures.same few in
     c.values_with-pool.ensures ∙ ap (λ n. take 8 (pool_values c.in-Some.row) ++ Int n ∷ []) count
 
 -- what is written is what is made
-turn : (g : given.Over) (c : goal.After-drop-row g) (db : Trees) → HasCleanDisk (state g.S.Store c.pools_of.new.self.0)
+turn : (g : given.Over) (c : goal.After-drop-row-2 g) (db : Trees) → HasCleanDisk (state g.S.Store c.pools_of.new.self.0)
     → Accepts (word c.args.id) (word c.args.epoch) c.args.receipt (with_exceptions c.values_with-pool.result c.deref.result.now) (state g.S.Store c.pools_of.new.self.0).now.trees db
     → Accepts c.args.id c.args.epoch c.args.receipt (with_new_pairs c.args.pool c.args.exceptions.now) (state g.S.Store c.args.tables.now.0).now.trees db
 turn g c db clean written =
@@ -65,21 +65,21 @@ turn g c db clean written =
     let values = c.values_with-pool.result in
     let it = c.in-Some.ensures.some in
     let are : map exception_row c.deref.result.now ≡ rows_of_pairs c.args.pool 0 c.args.exceptions.now =
-    ap (map exception_row) c.deref.ensures.value ∙ (c.in-Ok.ensures ∙ ap (rows_of_pairs c.args.pool 0) c.pairs-pairs.ensures.same) in
+    ap (map exception_row) c.deref.ensures.value ∙ (c.in_ok-values.ensures ∙ ap (rows_of_pairs c.args.pool 0) c.pairs-pairs.ensures.same) in
     let still = subst (λ (d : Database). Accepts (word c.args.id) (word c.args.epoch) c.args.receipt (with_exceptions values c.deref.result.now) d.trees db) kept written in
     paired old.trees c.args.id c.args.pool c.args.exceptions.now (c.requires.suits first) (map pool_values c.in_ok-rows.rows.items) listed c.args.epoch c.args.receipt db (pool_values c.in-Some.row) values c.deref.result.now
     it.0 (ap Int it.1) (number_is c.in-Some.row values (pos (length c.args.exceptions.now)) (count_is g c) ∙ it.1) (count_is g c) are
     (accepted (λ (A : Trees → Type 0). A db) c.args.id c.args.epoch c.args.receipt old.trees (with_exceptions values c.deref.result.now) (with_exceptions values c.deref.result.now) c.ranges.id c.ranges.epoch refl still)
 
-pub returns-in-Ok-clause-done : goal.returns-in-Ok-clause-done
-returns-in-Ok-clause-done g c clean =
+pub returns-clause-done : goal.returns-clause-done
+returns-clause-done g c clean =
     let mid : HasCleanDisk (state g.S.Store c.pools_of.new.self.0) = omega (arith, clean, c.commit_exceptions.ensures.crash.clean) in
     on_ok_weaker c.commit_exceptions.result (turn g c (state g.S.Store c.commit_exceptions.new.self.0).now.trees mid) (c.commit_exceptions.ensures.done clean)
 
-pub returns-in-Ok-clause-crash : goal.returns-in-Ok-clause-crash
-returns-in-Ok-clause-crash g c =
+pub returns-clause-crash : goal.returns-clause-crash
+returns-clause-crash g c =
     survives_then (state g.S.Store c.args.tables.now.0) (state g.S.Store c.pools_of.new.self.0) (state g.S.Store c.commit_exceptions.new.self.0) (λ _. ⊥) _ _ (λ clean db none. absurd none)
     (λ clean db written. turn g c db (omega (arith, clean, c.commit_exceptions.ensures.crash.clean)) written) c.in_ok-rows.ensures.crash c.commit_exceptions.ensures.crash
 
-pub returns-clause-crash : goal.returns-clause-crash
-returns-clause-crash g c = survives_weaker _ _ (λ _. ⊥) _ (λ clean db none. absurd none) c.in_ok-rows.ensures.crash
+pub returns-in_err-values-clause-crash : goal.returns-in_err-values-clause-crash
+returns-in_err-values-clause-crash g c = survives_weaker _ _ (λ _. ⊥) _ (λ clean db none. absurd none) c.in_ok-rows.ensures.crash

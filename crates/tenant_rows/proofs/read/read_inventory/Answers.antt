@@ -54,8 +54,8 @@ returns-in_err-exceptions-clause-damaged g c = λ clean damaged i is has.
     let its = moved (λ db n. HasRows db n c.args.epoch i) _ _ c.args.id _ (sym (yet ∙ (still ∙ kept))) (sym (to_z-of_z w64 c.args.id fits)) has in
     not_exceptions _ _ c.args.epoch i is its (c.in_err-exceptions.ensures.damaged clean (same_fault c.from_residual-in_err-exceptions.result _ _ _ p.1 p.2 damaged))
 
-pub returns-in-Ok-None-clause-damaged : goal.returns-in-Ok-None-clause-damaged
-returns-in-Ok-None-clause-damaged g c = λ clean damaged i is has.
+pub returns-clause-damaged : goal.returns-clause-damaged
+returns-clause-damaged g c = λ clean damaged i is has.
     let versions = c.in_ok-versions.versions.items in
     let devices = c.in_ok-devices.devices.items in
     let pools = c.in_ok-pools.pools.items in
@@ -75,10 +75,10 @@ returns-in-Ok-None-clause-damaged g c = λ clean damaged i is has.
     let e = moved (λ db n. ListsBy Precedes (of_tenant exceptions_table n db) (map exception_row exceptions)) _ _ _ _ (yet ∙ (still ∙ kept)) number
     (subst (λ l. ListsBy Precedes (of_tenant exceptions_table (to_z w64 (of_z w64 c.args.id)) (state g.S.Store c.pools_of.new.self.0).now.trees) (map exception_row l)) (sym c.deref.ensures.value) (c.in_ok-exceptions.ensures.found clean)) in
     let rows = are_its_rows _ c.args.id c.args.epoch i is has versions devices pools exceptions v d p e in
-    c.in-Ok-None.ensures.none c.in-Ok-None.field-0-is i is (subst (λ e. AreRowsOf i e versions devices pools exceptions) (sym (to_z-of_z w64 c.args.epoch fits-epoch)) rows)
+    c.in_ok-inventory.ensures.none c.in-None.is i is (subst (λ e. AreRowsOf i e versions devices pools exceptions) (sym (to_z-of_z w64 c.args.epoch fits-epoch)) rows)
 
-pub returns-in-Ok-Some-clause-found : goal.returns-in-Ok-Some-clause-found
-returns-in-Ok-Some-clause-found g c = λ clean.
+pub returns-in-Some-clause-found : goal.returns-in-Some-clause-found
+returns-in-Some-clause-found g c = λ clean.
     let versions = c.in_ok-versions.versions.items in
     let devices = c.in_ok-devices.devices.items in
     let pools = c.in_ok-pools.pools.items in
@@ -97,7 +97,7 @@ returns-in-Ok-Some-clause-found g c = λ clean.
     let p = moved (λ db n. Lists (of_tenant pools_table n db) (map pool_values pools)) _ _ _ _ (still ∙ kept) number (c.in_ok-pools.ensures.found last) in
     let e = moved (λ db n. ListsBy Precedes (of_tenant exceptions_table n db) (map exception_row exceptions)) _ _ _ _ (yet ∙ (still ∙ kept)) number
     (subst (λ l. ListsBy Precedes (of_tenant exceptions_table (to_z w64 (of_z w64 c.args.id)) (state g.S.Store c.pools_of.new.self.0).now.trees) (map exception_row l)) (sym c.deref.ensures.value) (c.in_ok-exceptions.ensures.found clean)) in
-    let i = c.in-Ok-Some.inventory.value in
-    let it = rw c.in-Ok-Some.field-0-is at c.in-Ok-Some.ensures.some in
+    let i = c.in-Some.inventory.value in
+    let it = rw c.in-Some.is at c.in_ok-inventory.ensures.some in
     let are = subst (λ n. AreRowsOf i n versions devices pools exceptions) (to_z-of_z w64 c.args.epoch fits-epoch) it.1 in
     (it.0, has_rows_listed (state g.S.Store c.args.tables.now.0).now.trees c.args.id c.args.epoch i versions devices pools exceptions v d p e are)
