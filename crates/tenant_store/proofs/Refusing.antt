@@ -1,5 +1,5 @@
 -- A fault that a store answers is that of its tables; and numbers in machine words.
-use Rattle.std.proofs.Common.{◌≡◌, ◌↔◌, ℤ, Bool, true, false, Result, Ok, Err, refl, ap, subst, to_z, of_z}
+use Rattle.std.proofs.Common.{◌≡◌, ◌↔◌, ℤ, Bool, true, false, Result, Ok, Err, OnOk, OnErr, refl, ap, subst, to_z, of_z}
 use Rattle.std.proofs.lemmas.Int.{to_z-of_z}
 use mir.Syntax.{w64}
 use mir.Val.{SFits}
@@ -10,6 +10,11 @@ use Rattle.store_faults.specs.declared.StoreFault.TheVariants.{Damaged, Failed}
 pub same_fault : {A B : Type 0} (r : Result A StoreFault) (x f g : StoreFault) → r ≡ Err x → x ≡ f → r ≡ Err g → ◌≡◌ {A = Result B StoreFault} (Err f) (Err g)
 same_fault r x f g is same answer =
     let both : f ≡ g = cc in ap Err both
+
+-- what follows from either end of a call
+pub either_end : {A P Q X : Type 0} (r : Result A StoreFault) → OnOk r P → OnErr r Q → (P → X) → (Q → X) → X
+either_end (Ok v) p q made kept = made p
+either_end (Err e) p q made kept = kept q
 
 -- tables that answered have not failed for good
 pub live_at_ok : {A : Type 0} (b : Bool) (x : A) → (b ≡ true ↔ ◌≡◌ {A = Result A StoreFault} (Ok x) (Err Failed)) → b ≡ false

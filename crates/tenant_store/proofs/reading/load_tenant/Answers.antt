@@ -13,8 +13,8 @@ use Rattle.tenant_store.proofs.Refusing.{at_words, same_fault, live_at_ok}
 use Rattle.tenant_store.proofs.Judging.{is_whole, no_rows}
 use Rattle.tenant_store.proofs.reading.load_tenant.Goals as goal
 
-pub returns-in_ok-judge-clause-found : goal.returns-in_ok-judge-clause-found
-returns-in_ok-judge-clause-found g c clean =
+pub returns-clause-found : goal.returns-clause-found
+returns-clause-found g c clean =
     let db = (state g.S.Store c.args.tables.now.0).now.trees in
     let mid : HasCleanDisk (state g.S.Store c.read_inventory.new.tables.0) = omega (arith, clean, c.judge.ensures.crash.clean) in
     let early : HasCleanDisk (state g.S.Store c.args.tables.now.0) = omega (arith, mid, c.read_inventory.ensures.crash.clean) in

@@ -34,8 +34,8 @@ returns-in_err-versions-clause-crash g c =
     let new = state g.S.Store c.count_versions.new.tables.0 in
     survives_weaker old new (λ _. ⊥) _ (λ clean db none. absurd none) (nothing_left old (state g.S.Store c.tenant_of.new.tables.0) new c.tenant_of.ensures.crash c.count_versions.ensures.crash)
 
-pub returns-in-Ok-clause-made : goal.returns-in-Ok-clause-made
-returns-in-Ok-clause-made g c clean s has can =
+pub returns-clause-made : goal.returns-clause-made
+returns-clause-made g c clean s has can =
     let name = c.args.name.now in
     let old = (state g.S.Store c.args.tables.now.0).now in
     let new = (state g.S.Store c.write_change.new.tables.0).now in
@@ -45,10 +45,10 @@ returns-in-Ok-clause-made g c clean s has can =
     let same = c.in_ok-versions.ensures.kept late c.in_ok-versions.ensures.latches ∙ found in
     let count = c.in_ok-versions.ensures.found late s (subst (λ (d : Database). StandsFor d.trees name (Some s)) (sym found) has) in
     let it = is_changeable old (state g.S.Store c.count_versions.new.tables.0).now name s c.in_ok-tenant.tenant c.in_ok-versions.versions c.args.change.now same (c.in_ok-tenant.ensures.names mid) has count can in
-    subst (λ (d : Database). Turns name (Some (after c.args.change.now s)) d.trees new.trees) same (c.in-Ok.ensures.done clean name s it)
+    subst (λ (d : Database). Turns name (Some (after c.args.change.now s)) d.trees new.trees) same (c.in_ok-write_change.ensures.done clean name s it)
 
-pub returns-in-Ok-clause-judged : goal.returns-in-Ok-clause-judged
-returns-in-Ok-clause-judged g c clean live =
+pub returns-clause-judged : goal.returns-clause-judged
+returns-clause-judged g c clean live =
     let name = c.args.name.now in
     let old = (state g.S.Store c.args.tables.now.0).now in
     let new = (state g.S.Store c.write_change.new.tables.0).now in
@@ -61,19 +61,19 @@ returns-in-Ok-clause-judged g c clean live =
     let count = c.in_ok-versions.ensures.found late there.0 (subst (λ (d : Database). StandsFor d.trees name (Some there.0)) (sym found) there.1) in
     let it = is_changeable old (state g.S.Store c.count_versions.new.tables.0).now name there.0 c.in_ok-tenant.tenant c.in_ok-versions.versions c.args.change.now same (c.in_ok-tenant.ensures.names mid) there.1 count there.2 in
     still_judged name (after c.args.change.now there.0) c.versions_after.result old.trees new.trees (get_by_text c.args.judged.now) (get_by_text c.update.new.judged) (c.requires.judged early)
-    (subst (λ (d : Database). Turns name (Some (after c.args.change.now there.0)) d.trees new.trees) same (c.in-Ok.ensures.done clean name there.0 it))
+    (subst (λ (d : Database). Turns name (Some (after c.args.change.now there.0)) d.trees new.trees) same (c.in_ok-write_change.ensures.done clean name there.0 it))
     (c.versions_after.ensures there.0 there.2 count) c.update.ensures
 
-pub returns-in-Err-clause-judged : goal.returns-in-Err-clause-judged
-returns-in-Err-clause-judged g c clean live =
+pub returns-in_err-write_change-clause-judged : goal.returns-in_err-write_change-clause-judged
+returns-in_err-write_change-clause-judged g c clean live =
     let late : HasCleanDisk (state g.S.Store c.count_versions.new.tables.0) = omega (arith, clean, c.write_change.ensures.crash.clean) in
     let mid : HasCleanDisk (state g.S.Store c.tenant_of.new.tables.0) = omega (arith, late, c.count_versions.ensures.crash.clean) in
     let early : HasCleanDisk (state g.S.Store c.args.tables.now.0) = omega (arith, mid, c.tenant_of.ensures.crash.clean) in
     let same = c.in_ok-versions.ensures.kept late c.in_ok-versions.ensures.latches ∙ c.in_ok-tenant.ensures.kept mid c.in_ok-tenant.ensures.latches in
-    subst (λ (d : Database). AreJudged d.trees (get_by_text c.args.judged.now)) (sym (c.in-Err.ensures.kept clean live ∙ same)) (c.requires.judged early)
+    subst (λ (d : Database). AreJudged d.trees (get_by_text c.args.judged.now)) (sym (c.in_err-write_change.ensures.kept clean live ∙ same)) (c.requires.judged early)
 
-pub returns-in-Ok-clause-crash : goal.returns-in-Ok-clause-crash
-returns-in-Ok-clause-crash g c =
+pub returns-clause-crash : goal.returns-clause-crash
+returns-clause-crash g c =
     let name = c.args.name.now in
     let old = state g.S.Store c.args.tables.now.0 in
     let first = state g.S.Store c.tenant_of.new.tables.0 in
@@ -91,8 +91,8 @@ returns-in-Ok-clause-crash g c =
     let found = c.in_ok-tenant.ensures.kept mid c.in_ok-tenant.ensures.latches in
     c.in_ok-versions.ensures.found late s (subst (λ (d : Database). StandsFor d.trees name (Some s)) (sym found) has))
 
-pub returns-in-Err-clause-crash : goal.returns-in-Err-clause-crash
-returns-in-Err-clause-crash g c =
+pub returns-in_err-write_change-clause-crash : goal.returns-in_err-write_change-clause-crash
+returns-in_err-write_change-clause-crash g c =
     let name = c.args.name.now in
     let old = state g.S.Store c.args.tables.now.0 in
     let first = state g.S.Store c.tenant_of.new.tables.0 in

@@ -2,6 +2,7 @@ use Rattle.std.proofs.Common.{Some, arith, rules, sym, subst}
 use mir.Syntax.{w64}
 use mir.Val.{SFits}
 use Rattle.std.proofs.lemmas.Int.{to_z-of_z}
+use Rattle.std.proofs.lemmas.Result.{on_ok_weaker}
 use Rattle.sqlite.specs.Effect.{Database}
 use Rattle.sqlite.specs.Held.{state}
 use Rattle.sqlite.specs.State.{HasCleanDisk, Survives}
@@ -21,8 +22,8 @@ remove-requires-clause-there g c mid =
     let same = c.in_ok-tenant.ensures.kept mid c.in_ok-tenant.ensures.latches in
     subst (IsNumber (state g.S.Store c.tenant_of.new.tables.0).now.trees) (sym (to_z-of_z w64 tenant.id fits)) (subst (λ (d : Database). IsNumber d.trees tenant.id) (sym same) number)
 
-pub returns-in-Ok-clause-made : goal.returns-in-Ok-clause-made
-returns-in-Ok-clause-made g c clean =
+pub returns-clause-made : goal.returns-clause-made
+returns-clause-made g c clean =
     let tenant = c.in_ok-tenant.tenant in
     let old = (state g.S.Store c.args.tables.now.0).now in
     let found = (state g.S.Store c.tenant_of.new.tables.0).now in
@@ -32,21 +33,11 @@ returns-in-Ok-clause-made g c clean =
     let it = c.requires.there early in
     let fits : SFits w64 c.in_ok-tenant.tenant.id = search rules in
     let same = c.in_ok-tenant.ensures.kept mid c.in_ok-tenant.ensures.latches in
-    let drops = at_word (λ n. Drops n found.trees new) tenant.id fits (c.in-Ok.ensures.done clean) in
-    is_dropped old.trees new c.args.name.now it.0 tenant (c.in_ok-tenant.ensures.names mid) it.1 (subst (λ (d : Database). Drops tenant.id d.trees new) same drops)
+    on_ok_weaker c.remove.result (λ done. is_dropped old.trees new c.args.name.now it.0 tenant (c.in_ok-tenant.ensures.names mid) it.1
+    (subst (λ (d : Database). Drops tenant.id d.trees new) same (at_word (λ n. Drops n found.trees new) tenant.id fits done))) (c.remove.ensures.done clean)
 
-pub returns-in-Ok-clause-crash : goal.returns-in-Ok-clause-crash
-returns-in-Ok-clause-crash g c =
-    let tenant = c.in_ok-tenant.tenant in
-    let first = state g.S.Store c.tenant_of.new.tables.0 in
-    let new = state g.S.Store c.remove.new.self.0 in
-    let fits : SFits w64 c.in_ok-tenant.tenant.id = search rules in
-    remove_survives (state g.S.Store c.args.tables.now.0) first new c.args.name.now tenant c.tenant_of.ensures.crash
-    (at_word (λ n. Survives first new (Drops n first.now.trees)) tenant.id fits c.remove.ensures.crash)
-    (λ mid. c.in_ok-tenant.ensures.kept mid c.in_ok-tenant.ensures.latches) c.in_ok-tenant.ensures.names c.requires.there
-
-pub returns-in-Err-clause-crash : goal.returns-in-Err-clause-crash
-returns-in-Err-clause-crash g c =
+pub returns-clause-crash : goal.returns-clause-crash
+returns-clause-crash g c =
     let tenant = c.in_ok-tenant.tenant in
     let first = state g.S.Store c.tenant_of.new.tables.0 in
     let new = state g.S.Store c.remove.new.self.0 in

@@ -8,9 +8,9 @@ use Rattle.tenant_state.specs.State.{fresh}
 use Rattle.tenant_tables.specs.Change.{Creates}
 use Rattle.tenant_store.specs.Laws.{keeps_states}
 use Rattle.tenant_store.proofs.Changing.{forgotten_judged}
+use Rattle.tenant_store.proofs.Refusing.{either_end}
 use Rattle.tenant_store.proofs.Stopping.{as_it_was_or}
 use Rattle.tenant_store.proofs.store.StoreTenantStore.create.Goals as goal
-use Rattle.tenant_store.proofs.store.StoreTenantStore.create.Goals.{in-Ok, in-Err}
 
 -- what is remembered stays true
 pub invariant_of-self : goal.invariant_of-self
@@ -26,19 +26,14 @@ pub returns-clause-made : goal.returns-clause-made
 returns-clause-made g c honest =
     let old = (state g.S.Store c.self.inside.tables.0).now.trees in
     let new = (state g.S.Store c.create.new.self.0).now.trees in
-    elim c.match-create.branch [
-      | in-Ok w ↦ rw w.result-is ((created c.args.name.now old new (w.in-Ok.ensures.done honest.clean)).own)
-      | in-Err w ↦ rw w.result-is tt
-    ]
+    on_ok_weaker c.create.result (λ done. (created c.args.name.now old new done).own) (c.create.ensures.done honest.clean)
 
 pub returns-clause-others : goal.returns-clause-others
 returns-clause-others g c = rw (← c.self.view_is) (λ honest live t s apart.
     let old = (state g.S.Store c.self.inside.tables.0).now in
     let new = (state g.S.Store c.create.new.self.0).now in
-    elim c.match-create.branch [
-      | in-Ok w ↦ (created c.args.name.now old.trees new.trees (w.in-Ok.ensures.done honest.clean)).others t s apart
-      | in-Err w ↦ keeps_states old new (w.in-Err.ensures.kept honest.clean live) t s
-    ])
+    either_end c.create.result (c.create.ensures.done honest.clean) (c.create.ensures.kept honest.clean live)
+    (λ done. (created c.args.name.now old.trees new.trees done).others t s apart) (λ kept. keeps_states old new kept t s))
 
 pub returns-clause-crash : goal.returns-clause-crash
 returns-clause-crash g c = rw (← c.self.view_is) (λ honest latched.
