@@ -39,6 +39,12 @@ def log_of(db):
     return db.with_name(f"{db.name}-wal")
 
 
+def sleeps(pid):
+    """Whether a process sleeps, as one does that waits for its standard input. Until its file is
+    open it doesn't, however slow the machine is."""
+    return "\nState:\tS" in pathlib.Path("/proc", str(pid), "status").read_text()
+
+
 def harmed_while_served(program, db, harm, path):
     """What was there before is still read; the next change is answered 503, and the server ends."""
     with Server(program, db) as server:
@@ -54,7 +60,7 @@ def harmed_before_a_script(program, db, harm, path):
     store fault."""
     with subprocess.Popen([program, "script", "--db", str(db)], stdin=subprocess.PIPE, stdout=subprocess.PIPE, stderr=subprocess.PIPE) as run:
         until = time.monotonic() + SECONDS
-        while not (path.is_file() and path.stat().st_size > 0 and log_of(db).is_file()) and time.monotonic() < until:
+        while not (path.is_file() and path.stat().st_size > 0 and log_of(db).is_file() and sleeps(run.pid)) and time.monotonic() < until:
             time.sleep(0.01)
         time.sleep(0.5)
         harm(path)
