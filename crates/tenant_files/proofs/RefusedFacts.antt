@@ -1,5 +1,5 @@
 -- What an opening that was refused left of the two files.
-use Rattle.std.proofs.Common.{◌≡◌, ◌⊎◌, ◌∙◌, ℕ, List, [], ◌∷◌, Bool, true, false, cond, inl, inr, sym, subst}
+use Rattle.std.proofs.Common.{◌≡◌, ◌⊎◌, ◌∙◌, ℕ, List, [], ◌∷◌, Bool, true, false, Option, Some, None, IfSome, cond, inl, inr, sym, subst}
 use Rattle.sqlite_disk.specs.Events.{Event, replay, settled}
 use Rattle.sqlite_disk.specs.History.{MayLeave}
 use Rattle.sqlite_disk.specs.declared.Disk as disk
@@ -31,7 +31,7 @@ use Rattle.tenant_files.proofs.ClosedFacts.{clean_store}
 use Rattle.tenant_files.proofs.StoredFacts.{turned}
 use Rattle.tenant_files.specs.Closed.{IsLeft}
 use Rattle.tenant_files.specs.Opened.{IsFound}
-use Rattle.tenant_files.specs.Refused.{IsUnread, IsUnused}
+use Rattle.tenant_files.specs.Refused.{IsRefused, IsUnread, IsUnused}
 
 -- ---- a file that was just opened
 
@@ -71,6 +71,12 @@ module _ {D : Type 0} {g : disk.Ghosts D} where
       → ((now : Image) → outcomes g first.log first.db now → (now.log ≡ image.log) × (now.db ≡ image.db)) → (IsCleanLeft rest → LeavesFiles first rest) → IsUnread g image files
   unread image files rest first is held whole leaves =
       record { first = first; held = held; whole = whole; rest = rest; is = is; leaves = λ clean. leaves (clean_left rest files is clean) }
+
+  -- whether the files are given back or not
+  pub all_unread : (image : Image) (rest : Option (Leftover D g)) (given : Option (Files D)) → IfSome given (λ files. (it : Leftover D g) × (rest ≡ Some it) × (files_left it ≡ (files.log, files.db)))
+      → ((it : Leftover D g) (files : Files D) → rest ≡ Some it → files_left it ≡ (files.log, files.db) → IsUnread g image files) → IfSome given (IsRefused g image)
+  all_unread image rest None is follows = tt
+  all_unread image rest (Some files) is follows = inl (follows is.0 files is.1 is.2)
 
   -- ---- the database was opened, and isn't used
 

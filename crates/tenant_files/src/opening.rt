@@ -1,8 +1,10 @@
 //! Opening a database file for the tenants in its tables.
 
-ghost use Rattle.std.specs.Prelude.{◌≡◌, false, IfOk, IfErr, IfSome};
+ghost use Rattle.std.specs.Prelude.{◌≡◌, false, Some, IfOk, IfErr, IfSome};
+ghost use Rattle.sqlite.specs.Closing.{files_left};
 ghost use Rattle.sqlite.specs.Files.{file_state};
 ghost use Rattle.sqlite.specs.State.{HasCleanDisk};
+ghost use Rattle.sqlite.specs.declared.file.Leftover.{Leftover as Left};
 ghost use Rattle.sqlite_wal.specs.Files.{image_at};
 ghost use Rattle.tenant_rows.specs.Rows.{StandsFor};
 ghost use Rattle.tenant_files.specs.Opened.{IsFound};
@@ -11,7 +13,7 @@ ghost use Rattle.tenant_files.specs.Refused.{IsRefused};
 use crate::fault::{FileFault, fault_of};
 use crate::log::{LogBefore, log_before};
 use crate::refused::Refused;
-use sqlite::{Connection, Error, ErrorCode, FileStore};
+use sqlite::{Connection, Error, ErrorCode, FileStore, Leftover};
 use sqlite_disk::{Disk, Start};
 use sqlite_std_file::FileFrom;
 use std::rt::HostRuntime;
@@ -43,6 +45,26 @@ fn restore_log(rt: &HostRuntime, before: &Option<LogBefore>, is_refused: bool) {
     }
 }
 
+/// Gives back what an opening that the database refused left of the files.
+fn unread<D: Disk + Drop>(
+    rt: &HostRuntime,
+    before: &Option<LogBefore>,
+    error: Error,
+    left: Option<Leftover<D>>,
+) -> Refused<D>
+    ensures { IfSome result.files (λ files. (it : Left D D.Disk) × (left ≡ Some it) × (files_left it ≡ (files.log, files.db))) }
+{
+    let fault = fault_of(error);
+    let Some(left) = left else {
+        return Refused { fault, files: None };
+    };
+    restore_log(rt, before, is_refusal(error));
+    Refused {
+        fault,
+        files: Some(left.into_files()),
+    }
+}
+
 /// Opens the tables in the file at `path`. A file that is missing or empty becomes a new database,
 /// and tables of schema 1 are replaced by those of schema 2, for the same states. `S` stands for
 /// what the file and its log hold; no clause ties them to the path.
@@ -67,19 +89,7 @@ pub fn open_store<S: Start>(
     let before = log_before(rt, path);
     let conn = match Connection::open_from(rt, path, false, start) {
         Ok(conn) => conn,
-        Err((error, Some(left))) => {
-            restore_log(rt, &before, is_refusal(error));
-            return Err(Refused {
-                fault: fault_of(error),
-                files: Some(left.into_files()),
-            });
-        }
-        Err((error, None)) => {
-            return Err(Refused {
-                fault: fault_of(error),
-                files: None,
-            });
-        }
+        Err((error, left)) => return Err(unread(rt, &before, error, left)),
     };
     match Store::open(rt.alloc(), conn) {
         Ok(store) => Ok(store),

@@ -6,7 +6,7 @@ use Rattle.sqlite.specs.Effect.{Database}
 use Rattle.sqlite.specs.Files.{file_state}
 use Rattle.tenant_core.specs.States.{Same}
 use Rattle.tenant_rows.specs.Rows.{StandsFor, StatesIn}
-use Rattle.tenant_files.proofs.RefusedFacts.{of_db, of_log, unread, unused}
+use Rattle.tenant_files.proofs.RefusedFacts.{all_unread, of_db, of_log, unread, unused}
 use Rattle.tenant_files.proofs.StoredFacts.{turned}
 use Rattle.tenant_files.proofs.opening.open_store.Goals as goal
 
@@ -39,14 +39,15 @@ seen log db is_log history = (replay (cond is_log log db) history).seen
 -- the database refused the files
 pub returns-in-Err-clause-refused : goal.returns-in-Err-clause-refused
 returns-in-Err-clause-refused g c =
-    let (first, log, db, follows) = c.in-Err.ensures.cause in
     let start = g.S.Start in
-    inl (unread (image start.log start.db) c.into_files.result c.in-Err.left first (sym c.into_files.ensures)
-    (ap₂ image (ap₂ (seen start.log start.db) log.0 log.1) (ap₂ (seen start.log start.db) db.0 db.1))
+    all_unread (image start.log start.db) c.in-Err.left c.unread.result.files c.unread.ensures
+    (λ it files same has.
+    let (first, log, db, leaves) = rw same at c.in-Err.ensures.cause in
+    unread (image start.log start.db) files it first has (ap₂ image (ap₂ (seen start.log start.db) log.0 log.1) (ap₂ (seen start.log start.db) db.0 db.1))
     (λ now there.
     (of_log start.is_mixing start.log start.db first.log.is_log first.log.key first.log.calls.log.events now.log log.0 log.1 there.0,
     of_db start.is_mixing start.log start.db first.db.is_log first.db.key first.db.calls.log.events now.db db.0 db.1 there.1))
-    (λ clean. (follows clean).1))
+    (λ clean. (leaves clean).1))
 
 -- the tables were refused
 pub returns-in-Err-open-clause-refused : goal.returns-in-Err-open-clause-refused
