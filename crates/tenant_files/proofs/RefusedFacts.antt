@@ -81,10 +81,10 @@ module _ {D : Type 0} {g : disk.Ghosts D} where
   -- ---- the database was opened, and isn't used
 
   -- the tables were refused
-  pub unused : SeenMayStay g → (image : Image) (conn : Held (FileStore D g)) (last : FileStore D g) (files : Files D) → store.files last ≡ (files.log, files.db)
+  pub unused : (image : Image) (conn : Held (FileStore D g)) (last : FileStore D g) (files : Files D) → store.files last ≡ (files.log, files.db)
       → (HasCleanDisk (file_state conn) → IsOpened conn) → (HasCleanDisk (file_state conn) → FindsIn image (file_state conn)) → (IsClean (store.view last) → HasCleanDisk (file_state conn))
-      → (IsClean (store.view last) → (rows : Trees) → store.recovers last rows → (file_state conn).may_leave rows ⊎ Replaces (file_state conn).now rows) → IsUnused g image files
-  unused stays image conn last files is opened found was_clean crash =
+      → (IsClean (store.view last) → (rows : Trees) → store.recovers last rows → (file_state conn).may_leave rows ⊎ Replaces (file_state conn).now rows) → SeenMayStay g → IsUnused g image files
+  unused image conn last files is opened found was_clean crash stays =
       let before : AreClean g files.log files.db → HasCleanDisk (file_state conn) = λ clean. was_clean (clean_store last files is clean) in
       record {
         was = conn;

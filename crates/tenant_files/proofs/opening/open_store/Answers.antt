@@ -53,5 +53,5 @@ returns-in-Err-clause-refused g c =
 pub returns-in-Err-open-clause-refused : goal.returns-in-Err-open-clause-refused
 returns-in-Err-open-clause-refused g c =
     let refused = c.in-Err-open in
-    inr (unused (λ file. inl refl) (image g.S.Start.log g.S.Start.db) c.in-Ok.conn refused.store c.close.result (sym c.close.ensures) c.in-Ok.ensures.opened c.in-Ok.ensures.found refused.ensures.was_clean
-    refused.ensures.crash)
+    inr (unused (image g.S.Start.log g.S.Start.db) c.in-Ok.conn refused.store c.close.result (sym c.close.ensures) c.in-Ok.ensures.opened c.in-Ok.ensures.found refused.ensures.was_clean
+    refused.ensures.crash (λ file. inl refl))
