@@ -84,6 +84,15 @@ pub(crate) fn accept(rt: &impl Abort, alloc: Global, held: &mut Held, asked: &As
     accept_parts(rt, alloc, held, method, path, body);
 }
 
+/// Finds what the store has in its cache for a query.
+fn found(rt: &impl Abort, store: &mut Store, tenant: &str, query: &Query) -> Cached {
+    let Some(both) = store.cached(tenant, query) else {
+        return rt.abort();
+    };
+    let (_inventory, cached) = both;
+    cached
+}
+
 /// Finds the placement that the store has in its cache of a group of a tenant's first pool.
 pub(crate) fn placed(
     rt: &impl Abort,
@@ -91,8 +100,8 @@ pub(crate) fn placed(
     tenant: &str,
     group: u64,
 ) -> Rc<Placement> {
-    match store.cached(tenant, &Query::Group(1, group)) {
-        Some((_, Cached::Placed(_, placement))) => placement,
+    match found(rt, store, tenant, &Query::Group(1, group)) {
+        Cached::Placed(_, placement) => placement,
         _ => rt.abort(),
     }
 }
@@ -134,8 +143,8 @@ pub(crate) fn assert_touched(
     device: u64,
     groups: &[u32],
 ) {
-    match store.cached(tenant, &Query::Impact(1, device)) {
-        Some((_, Cached::Touched(_, touched))) => {
+    match found(rt, store, tenant, &Query::Impact(1, device)) {
+        Cached::Touched(_, touched) => {
             assert_that(rt, touched.as_slice() == groups, tenant, device)
         }
         _ => rt.abort(),
@@ -152,10 +161,8 @@ fn assert_not_touched(rt: &impl Abort, store: &mut Store, tenant: &str, pool: u6
 
 /// Asserts that `count` groups move.
 fn assert_moved(rt: &impl Abort, store: &mut Store, from: u64, to: u64, count: usize) {
-    match store.cached("a", &Query::Moves(1, from, to)) {
-        Some((_, Cached::Moved(_, rows))) => {
-            assert_that(rt, rows.as_slice().len() == count, "to", to)
-        }
+    match found(rt, store, "a", &Query::Moves(1, from, to)) {
+        Cached::Moved(_, rows) => assert_that(rt, rows.as_slice().len() == count, "to", to),
         _ => rt.abort(),
     }
 }
