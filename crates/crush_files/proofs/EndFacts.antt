@@ -1,5 +1,6 @@
 -- How a script over a file ends, from how it ends over the store below.
-use Rattle.std.proofs.Common.{◌≡◌, ◌∙◌, ◌||◌, ℕ, List, Bool, true, false, Option, Result, Ok, ap, subst, sym}
+use Rattle.std.proofs.lemmas.Bool.{false≢true}
+use Rattle.std.proofs.Common.{◌≡◌, ◌⊎◌, ◌∙◌, ◌||◌, ℕ, List, Bool, true, false, Option, Result, Ok, Err, IsOk, ap, inl, inr, refl, subst, sym}
 use Rattle.std.specs.declared.alloc.AllocError.{AllocError}
 use Rattle.sqlite_disk.specs.declared.Disk as disk
 use Rattle.sqlite_disk.specs.declared.Files.{Files}
@@ -23,6 +24,7 @@ use Rattle.tenant_files.specs.Opened.{IsFound}
 use Rattle.tenant_files.specs.Stored.{MayStandFor}
 use Rattle.tenant_files.specs.Used.{AreAsBefore}
 use Rattle.tenant_files.specs.declared.fault.FileFault.{FileFault}
+use Rattle.tenant_files.specs.declared.fault.FileFault.TheVariants.{Store}
 use Rattle.tenant_rows.specs.Rows.{StandsFor, StatesIn}
 use Rattle.tenant_store.specs.Shown.{HasState, IsHonest, MayLeave}
 use Rattle.tenant_watched.specs.Laws.{works_below}
@@ -36,17 +38,19 @@ use Rattle.crush_files.specs.Ended.{EndsOnFile, EndsOnFiles}
 
 -- ---- over tables
 
-module _ {S F : Type 0} (g : Ghosts S) (first last : ((Held S × Bool) × F) × Bool) (start : Held S × Bool) (conn : Held S) (end : Result ScriptEnd AllocError) (reads left from to : Option (List ℕ)) where
+module _ {S F : Type 0} (g : Ghosts S) (first last : ((Held S × Bool) × F) × Bool) (start : Held S × Bool) (watch : F) (conn : Held S) (has_failed : Bool) (end : Result ScriptEnd AllocError) (reads left from to : Option (List ℕ)) where
   abbrev OnStore : ScriptEnd → List (Option Call) → Type 0
   OnStore how ms = IsHonest g last.0.0 → PlaysScript how (last.0.0.1 || last.1) (HasState g first.0.0) (HasState g last.0.0) (MayLeave g last.0.0) ms from to
 
   abbrev OnRows : ScriptEnd → List (Option Call) → Type 0
   OnRows how ms = HasCleanDisk (state g conn) → PlaysScript how true (StandsFor (state g start.0).now.trees) (StandsFor (state g conn).now.trees) (MayStandFor g conn) ms from to
 
-  pub ends_on_tables : first.0.0 ≡ start → last.0.0.0 ≡ conn → (HasCleanDisk (state g conn) → IsHonest g last.0.0) → EndsScript (last ≡ first) OnStore end reads left from to
-      → EndsScript (conn ≡ start.0) OnRows end reads left from to
-  ends_on_tables begun ended honest said =
-      ends_map (last ≡ first) (conn ≡ start.0) OnStore OnRows end reads left from to (λ same. sym ended ∙ ap (λ x. x.0.0.0) same ∙ ap (λ x. x.0) begun)
+  pub ends_on_tables : first ≡ ((start, watch), false) → start.1 ≡ false → last.0.0.0 ≡ conn → has_failed ≡ (last.0.0.1 || last.1) → (HasCleanDisk (state g conn) → IsHonest g last.0.0)
+      → EndsScript (last ≡ first) OnStore end reads left from to → EndsScript ((conn ≡ start.0) × (has_failed ≡ false)) OnRows end reads left from to
+  ends_on_tables made works ended latch honest said =
+      let begun : first.0.0 ≡ start = ap (λ x. x.0.0) made in
+      ends_map (last ≡ first) ((conn ≡ start.0) × (has_failed ≡ false)) OnStore OnRows end reads left from to
+      (λ same. (sym ended ∙ ap (λ x. x.0.0.0) (same ∙ made), latch ∙ ap (λ x. x.0.0.1 || x.1) (same ∙ made) ∙ ap (λ (b : Bool). b || false) works))
       (λ how ms is plays clean.
       let old = StandsFor (state g start.0).now.trees in
       let new = StandsFor (state g conn).now.trees in
@@ -54,13 +58,16 @@ module _ {S F : Type 0} (g : Ghosts S) (first last : ((Held S × Bool) × F) × 
       (of_store g (λ a b l. PlaysScript how (last.0.0.1 || last.1) a b l ms from to) first.0.0 start last.0.0 conn begun ended (plays (honest clean))))
       said
 
--- after a whole script the tables are ready
-pub ready_then : {S F : Type 0} (g : Ghosts S) (last : ((Held S × Bool) × F) × Bool) (conn : Held S) (end : Result ScriptEnd AllocError) → last.0.0.0 ≡ conn
-    → (HasCleanDisk (state g conn) → IsHonest g last.0.0) → LatchesAs end (last.0.0.1 || last.1) → HasCleanDisk (state g conn) → end ≡ Ok Done → IsReady (state g conn)
-ready_then {S = S} g last conn end ended honest latch clean is =
-    let latched : Bool = last.0.0.1 || last.1 in
-    let works : latched ≡ false = subst (λ (e : Result ScriptEnd AllocError). LatchesAs e latched) is latch in
-    subst (λ (x : Held S). IsReady (state g x)) ended ((honest clean).ready (works_below last.0.0.1 last.1 works))
+-- where the store didn't fail for good the tables are ready
+pub ready_then : {S F : Type 0} (g : Ghosts S) (last : ((Held S × Bool) × F) × Bool) (conn : Held S) (has_failed : Bool) → last.0.0.0 ≡ conn
+    → (HasCleanDisk (state g conn) → IsHonest g last.0.0) → has_failed ≡ (last.0.0.1 || last.1) → HasCleanDisk (state g conn) → has_failed ≡ false → IsReady (state g conn)
+ready_then {S = S} g last conn has_failed ended honest latch clean works =
+    subst (λ (x : Held S). IsReady (state g x)) ended ((honest clean).ready (works_below last.0.0.1 last.1 (sym latch ∙ works)))
+
+-- where no line was served the tables are ready as at first
+pub ready_still : {S : Type 0} (g : Ghosts S) (store : Held S × Bool) (conn : Held S) → conn ≡ store.0 → (HasCleanDisk (state g conn) → IsHonest g store) → store.1 ≡ false
+    → HasCleanDisk (state g conn) → IsReady (state g conn)
+ready_still {S = S} g store conn same honest works clean = subst (λ (x : Held S). IsReady (state g x)) (sym same) ((honest clean).ready works)
 
 -- ---- over files
 
@@ -77,10 +84,10 @@ module _ {D : Type 0} (g : disk.Ghosts D) (first : Held (FileStore D g)) (end : 
   Said last = EndsScript (last ≡ first) (OnFiles last) end reads left from to
 
   -- at the closing the rows are what the file holds
-  on_files : (last : Held (FileStore D g)) (copied : Result (Unit {0}) FileFault) → GivesBack last copied files → (HasCleanDisk (file_state last) → end ≡ Ok Done → IsReady (file_state last))
-      → EndsScript (last ≡ first) (OnTables last) end reads left from to → Said last
-  on_files last copied given ready said =
-      ends_map (last ≡ first) (last ≡ first) (OnTables last) (OnFiles last) end reads left from to (λ same. same)
+  on_files : (last : Held (FileStore D g)) (has_failed : Bool) (copied : Result (Unit {0}) FileFault) → GivesBack last copied files → (HasCleanDisk (file_state last) → end ≡ Ok Done → IsReady (file_state last))
+      → EndsScript ((last ≡ first) × (has_failed ≡ false)) (OnTables last) end reads left from to → Said last
+  on_files last has_failed copied given ready said =
+      ends_map ((last ≡ first) × (has_failed ≡ false)) (last ≡ first) (OnTables last) (OnFiles last) end reads left from to (λ u. u.0)
       (λ how ms is plays clean.
       let now = given_clean last copied files given clean in
       let old = StandsFor (file_state first).now.trees in
@@ -88,14 +95,27 @@ module _ {D : Type 0} (g : disk.Ghosts D) (first : Held (FileStore D g)) (end : 
       (λ done. held last (ready now (is ∙ ap Ok done))) (plays now))
       said
 
+-- a file that failed for good isn't copied
+works_copied : (has_failed : Bool) (copied : Result (Unit {0}) FileFault) → (has_failed ≡ true → copied ≡ Err Store) → IsOk copied → has_failed ≡ false
+works_copied false copied given_up ok = refl
+works_copied true copied given_up ok = absurd (false≢true (subst (λ (r : Result (Unit {0}) FileFault). IsOk r) (given_up refl) ok))
+
+-- the file didn't fail for good where the script is done or the log was copied
+works_then : (end : Result ScriptEnd AllocError) (has_failed : Bool) (copied : Result (Unit {0}) FileFault) → LatchesAs end has_failed → (has_failed ≡ true → copied ≡ Err Store)
+    → (end ≡ Ok Done) ⊎ IsOk copied → has_failed ≡ false
+works_then end has_failed copied latch given_up (inl done) = subst (λ (e : Result ScriptEnd AllocError). LatchesAs e has_failed) done latch
+works_then end has_failed copied latch given_up (inr ok) = works_copied has_failed copied given_up ok
+
 -- by a store that worked at first
-pub ends_on_files : {D : Type 0} (g : disk.Ghosts D) (store : Held (FileStore D g) × Bool) (last : Held (FileStore D g)) (end : Result ScriptEnd AllocError) (copied : Result (Unit {0}) FileFault)
-    (files : Files D) (reads left from to : Option (List ℕ)) → SeenMayStay g → store.1 ≡ false → GivesBack last copied files → (HasCleanDisk (file_state last) → IsHonest over_files store)
-    → (HasCleanDisk (file_state last) → end ≡ Ok Done → IsReady (file_state last))
-    → EndsScript (last ≡ store.0) (OnTables g store.0 end files reads left from to last) end reads left from to → EndsOnFiles g store.0 end copied files reads left from to
-ends_on_files g store last end copied files reads left from to stays works given honest ready said =
-    uses_files stays store last copied files (end ≡ Ok Done) (Said g store.0 end files reads left from to) works given honest ready
-    (on_files g store.0 end files reads left from to last copied given ready said)
+pub ends_on_files : {D : Type 0} (g : disk.Ghosts D) (store : Held (FileStore D g) × Bool) (last : Held (FileStore D g)) (end : Result ScriptEnd AllocError) (has_failed : Bool)
+    (copied : Result (Unit {0}) FileFault) (files : Files D) (reads left from to : Option (List ℕ)) → SeenMayStay g → store.1 ≡ false → GivesBack last copied files
+    → (HasCleanDisk (file_state last) → IsHonest over_files store) → LatchesAs end has_failed → (has_failed ≡ true → copied ≡ Err Store)
+    → (HasCleanDisk (file_state last) → has_failed ≡ false → IsReady (file_state last))
+    → EndsScript ((last ≡ store.0) × (has_failed ≡ false)) (OnTables g store.0 end files reads left from to last) end reads left from to → EndsOnFiles g store.0 end copied files reads left from to
+ends_on_files g store last end has_failed copied files reads left from to stays works given honest latch given_up ready said =
+    let works_if : (end ≡ Ok Done) ⊎ IsOk copied → has_failed ≡ false = works_then end has_failed copied latch given_up in
+    uses_files stays store last copied files ((end ≡ Ok Done) ⊎ IsOk copied) (Said g store.0 end files reads left from to) works given honest (λ clean done. ready clean (works_if done))
+    (on_files g store.0 end files reads left from to last has_failed copied given (λ clean done. ready clean (works_if (inl done))) said)
 
 -- with the opening
 module _ {D : Type 0} (g : disk.Ghosts D) (image : Image) (first : Held (FileStore D g)) (end : Result ScriptEnd AllocError) (copied : Result (Unit {0}) FileFault) (files : Files D)
@@ -106,7 +126,7 @@ module _ {D : Type 0} (g : disk.Ghosts D) (image : Image) (first : Held (FileSto
   pub ends_on_file : IsFound g (HasCleanDisk (file_state first)) image (StandsFor (file_state first).now.trees) → EndsOnFiles g first end copied files reads left from to
       → EndsOnFile g image end copied files reads left from to
   ends_on_file opening uses =
-      uses_file image first copied files (end ≡ Ok Done) (Said g first end files reads left from to) Says opening uses
+      uses_file image first copied files ((end ≡ Ok Done) ⊎ IsOk copied) (Said g first end files reads left from to) Says opening uses
       (λ last old same as_before said.
       let rows = StandsFor (file_state first).now.trees in
       let new = StatesIn (file_state last).committed in

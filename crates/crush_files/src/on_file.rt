@@ -1,7 +1,8 @@
 //! Scripts that are played over a database file.
 
-ghost use Rattle.std.specs.Prelude.{◌≡◌, IfOk, OnErr};
+ghost use Rattle.std.specs.Prelude.{◌≡◌, IfOk, IfErr, IfSome, OnErr};
 ghost use Rattle.sqlite_wal.specs.Files.{image_at};
+ghost use Rattle.tenant_files.specs.Refused.{IsRefused};
 ghost use Rattle.crush_files.specs.Ended.{EndsOnFile};
 
 use crate::on_files::script_on_files;
@@ -12,7 +13,7 @@ use std::alloc::AllocError;
 use std::io::{Read, Write};
 use std::num::NonZeroUsize;
 use std::rt::HostRuntime;
-use tenant_files::{Closed, FileFault, FileWatch, open_store};
+use tenant_files::{Closed, FileWatch, Refused, give_back, open_store};
 
 /// Plays a script on the tenants in the database file at `path`, keeps the placements of
 /// `placements` groups, and returns how that ended, with the files that were given back. A file
@@ -21,9 +22,9 @@ use tenant_files::{Closed, FileFault, FileWatch, open_store};
 /// The clauses speak of what the file and its log held (`S`), which no clause ties to the path, and
 /// have the premise that the disk returned what was written (`AreClean`).
 ///
-/// `Err(FileFault::Store)`: the file can't be opened or written, or it isn't a database with the
-/// tables of this service and is unchanged, or it was moved or removed meanwhile.
-/// `Err(FileFault::NoMemory)`: an allocation of the opening failed.
+/// `Err`, with `FileFault::Store`: the file can't be opened or written, or it isn't a database with
+/// the tables of this service and is unchanged, or it was moved or removed meanwhile. With
+/// `FileFault::NoMemory`: an allocation of the opening failed.
 pub fn script_on_file<S: Start, R: Read, W: Write>(
     rt: &HostRuntime,
     path: &str,
@@ -31,16 +32,25 @@ pub fn script_on_file<S: Start, R: Read, W: Write>(
     placements: NonZeroUsize,
     reader: &mut R,
     writer: &mut W,
-) -> Result<(Result<ScriptEnd, AllocError>, Closed<FileFrom<S>>), FileFault>
+) -> Result<(Result<ScriptEnd, AllocError>, Closed<FileFrom<S>>), Refused<FileFrom<S>>>
     // Lines were served from the states that the file held to those that it holds now, also after
     // a crash, and what was written has the headline. Or nothing was served and written, and the
     // file holds the same states, also after a crash.
     ensures ends { IfOk result (λ r. EndsOnFile ⟦<FileFrom<S> as Disk>⟧ (image_at S.Start) r.0 r.1.copied r.1.files (R.remaining reader.old) (R.remaining reader.new) (W.contents writer.old) (W.contents writer.new)) }
 
-    // The file wasn't opened: nothing was read, and nothing was written.
+    // The file isn't used: nothing was read, and nothing was written.
     ensures unopened { OnErr result ((reader.new ≡ reader.old) × (writer.new ≡ writer.old)) }
+
+    // Where the files are given back, what they held is there, also after a crash.
+    ensures refused { IfErr result (λ e. IfSome e.files (IsRefused ⟦<FileFrom<S> as Disk>⟧ (image_at S.Start))) }
 {
-    let store = open_store(rt, path, start)?;
-    let watch = FileWatch::new(rt, path)?;
+    let store = match open_store(rt, path, start) {
+        Ok(store) => store,
+        Err(refused) => return Err(refused),
+    };
+    let watch = match FileWatch::new(rt, path) {
+        Ok(watch) => watch,
+        Err(fault) => return Err(give_back(store, fault)),
+    };
     Ok(script_on_files(rt.alloc(), store, watch, placements, reader, writer))
 }

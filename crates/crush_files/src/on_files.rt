@@ -1,7 +1,7 @@
 //! Scripts that are played over an opened database file, which is then closed.
 
-ghost use Rattle.std.specs.Prelude.{◌≡◌, false, true, Err, Ok};
-ghost use Rattle.crush_app.specs.End.{EndsScript};
+ghost use Rattle.std.specs.Prelude.{◌≡◌, false, Err, Ok, IfOk, IfErr};
+ghost use Rattle.crush_app.specs.End.{EndsScript, LatchesAs};
 ghost use Rattle.crush_app.specs.Play.{PlaysScript};
 ghost use Rattle.sqlite.specs.Held.{state};
 ghost use Rattle.sqlite.specs.State.{HasCleanDisk};
@@ -18,13 +18,35 @@ use std::alloc::{AllocError, Global};
 use std::io::{Read, Write};
 use std::num::NonZeroUsize;
 use tenant_cache::CachedStore;
+use tenant_core::TenantStore;
 use tenant_files::{Closed, FileFault, READY_BYTES, close_unless_failed};
 use tenant_store::Store;
 use tenant_watched::{Watch, WatchedStore};
 
-/// Plays a script on the tenants of a store over tables, and gives the connection back. What
-/// tenants have is kept, within `READY_BYTES`, and so are the placements of `placements` groups. No
-/// change is acknowledged once `watch` misses the files.
+/// A store over tables that keeps in memory what tenants have, within `READY_BYTES`. No change is
+/// acknowledged once the watch misses the files.
+type ReadyStore<S, F> = CachedStore<WatchedStore<Store<S>, F>, READY_BYTES>;
+
+/// Makes the ready store over a store over tables. It keeps the placements of `placements` groups
+/// too. `Err(store)`: an allocation failed; the store is given back.
+fn ready_over<S: Alter + Drop, F: Watch + Drop>(
+    alloc: Global,
+    store: Store<S>,
+    watch: F,
+    placements: NonZeroUsize,
+) -> Result<ReadyStore<S, F>, Store<S>>
+    ensures made { IfOk result (λ ready. ready ≡ ((store, watch), false)) }
+    ensures refused { IfErr result (λ below. below ≡ store) }
+{
+    let watched = WatchedStore::over(store, watch);
+    match CachedStore::over(alloc, watched, placements) {
+        Ok(ready) => Ok(ready),
+        Err((_error, watched)) => Err(watched.into_below()),
+    }
+}
+
+/// Plays a script on the tenants of a store over tables. Returns how that ended, whether the store
+/// failed for good, and the connection.
 fn script_on_tables<S: Alter + Drop, F: Watch + Drop, R: Read, W: Write>(
     alloc: Global,
     store: Store<S>,
@@ -32,31 +54,26 @@ fn script_on_tables<S: Alter + Drop, F: Watch + Drop, R: Read, W: Write>(
     placements: NonZeroUsize,
     reader: &mut R,
     writer: &mut W,
-) -> (Result<ScriptEnd, AllocError>, Connection<S>)
+) -> (Result<ScriptEnd, AllocError>, bool, Connection<S>)
     requires works { store.1 ≡ false }
-    ensures ends { EndsScript (result.1 ≡ store.0)
-        (λ end ms. HasCleanDisk (state S.Store result.1) → PlaysScript end true (StandsFor (state S.Store store.0).now.trees) (StandsFor (state S.Store result.1).now.trees) (MayStandFor S.Store result.1) ms (W.contents writer.old) (W.contents writer.new))
+    ensures ends { EndsScript ((result.2 ≡ store.0) × (result.1 ≡ false))
+        (λ end ms. HasCleanDisk (state S.Store result.2) → PlaysScript end true (StandsFor (state S.Store store.0).now.trees) (StandsFor (state S.Store result.2).now.trees) (MayStandFor S.Store result.2) ms (W.contents writer.old) (W.contents writer.new))
         result.0 (R.remaining reader.old) (R.remaining reader.new) (W.contents writer.old) (W.contents writer.new) }
-    ensures ready { HasCleanDisk (state S.Store result.1) → result.0 ≡ Ok ScriptEnd.Done → IsReady (state S.Store result.1) }
-    ensures honest { HasCleanDisk (state S.Store result.1) → IsHonest S.Store store }
+    ensures latch { LatchesAs result.0 result.1 }
+    ensures ready { HasCleanDisk (state S.Store result.2) → result.1 ≡ false → IsReady (state S.Store result.2) }
+    ensures honest { HasCleanDisk (state S.Store result.2) → IsHonest S.Store store }
 {
-    let watched = WatchedStore::over(store, watch);
-    let ready = match CachedStore::<_, READY_BYTES>::over(alloc, watched, placements) {
+    let ready = match ready_over(alloc, store, watch, placements) {
         Ok(ready) => ready,
-        Err((error, watched)) => return (Err(error), watched.into_below().close()),
+        Err(store) => return (Err(AllocError), false, store.close()),
     };
     let (end, ready) = script_on_store(alloc, ready, reader, writer);
+    // also where the reply of the call that met the failure couldn't be written
+    let has_failed = ready.is_latched();
     let watched = ready.into_below();
     let store = watched.into_below();
     let conn = store.close();
-    (end, conn)
-}
-
-/// Returns whether the file failed for good while lines were served.
-fn failed_for_good(end: &Result<ScriptEnd, AllocError>) -> bool
-    ensures { end.now ≡ Ok ScriptEnd.Latched → result ≡ true }
-{
-    matches!(end, Ok(ScriptEnd::Latched))
+    (end, has_failed, conn)
 }
 
 /// Plays a script on the tenants of a store over a database file, keeps the placements of
@@ -82,7 +99,7 @@ pub fn script_on_files<D: Disk + Drop, F: Watch + Drop, R: Read, W: Write>(
     // Where the file failed for good, it isn't closed.
     ensures failed { result.0 ≡ Ok ScriptEnd.Latched → result.1.copied ≡ Err FileFault.Store }
 {
-    let (end, conn) = script_on_tables(alloc, store, watch, placements, reader, writer);
-    let closed = close_unless_failed(conn, failed_for_good(&end));
+    let (end, has_failed, conn) = script_on_tables(alloc, store, watch, placements, reader, writer);
+    let closed = close_unless_failed(conn, has_failed);
     (end, closed)
 }

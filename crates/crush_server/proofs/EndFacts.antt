@@ -1,4 +1,5 @@
 -- How serving clients over a file ends, from how it ends over the store below.
+use Rattle.std.proofs.lemmas.Bool.{false≢true}
 use Rattle.std.proofs.Common.{◌≡◌, ◌≢◌, ◌∙◌, ◌||◌, ℕ, ◌<◌, ◌≤◌, List, Bool, true, false, Option, Result, Ok, Err, ap, refl, subst, sym}
 use Rattle.std.specs.Prelude.{⊤}
 use Rattle.sqlite_disk.specs.declared.Disk as disk
@@ -51,9 +52,9 @@ latched_is (Err NoMemory) latched is latch = absurd is
 latched_is (Err CannotListen) latched is latch = absurd is
 latched_is (Err WriteFault) latched is latch = absurd is
 
-latched_false : (r : Result (Unit {0}) ServerFault) (latched : Bool) → LatchesAs r latched → has_failed r ≡ false → latched ≡ false
-latched_false (Ok done) latched latch works = latch
-latched_false (Err fault) latched latch works = cc
+-- where nothing failed, the store didn't fail for good
+not_store : (r : Result (Unit {0}) ServerFault) → has_failed r ≡ false → r ≢ Err Store
+not_store r works is = false≢true (sym works ∙ ap has_failed is)
 
 serving_map : (A B : Type 0) (P Q : List Call → List Reply → Type 0) (r : Result (Unit {0}) ServerFault) (most : ℕ) (old new : Option Clients) → (A → B)
     → (IsServing r → (cs : List Call) (rs : List Reply) → P cs rs → Q cs rs) → EndsServing A P r most old new → EndsServing B Q r most old new
@@ -104,11 +105,26 @@ module _ {S F : Type 0} (g : Ghosts S) (first last : ((Held S × Bool) × F) × 
       (subst (λ (b : Bool). ServesSession false b (HasState g first.0.0) (HasState g last.0.0) (MayLeave g last.0.0) cs rs) (latched_is end (last.0.0.1 || last.1) is latch) (serves (honest clean))))
       said)
 
--- once all clients were served the tables are ready
-pub ready_then : {S F : Type 0} (g : Ghosts S) (last : ((Held S × Bool) × F) × Bool) (conn : Held S) (end : Result (Unit {0}) ServerFault) → last.0.0.0 ≡ conn → (HasCleanDisk (state g conn) → IsHonest g last.0.0) → LatchesAs end (last.0.0.1 || last.1)
-    → HasCleanDisk (state g conn) → has_failed end ≡ false → IsReady (state g conn)
-ready_then {S = S} g last conn end ended honest latch clean works =
-    subst (λ (x : Held S). IsReady (state g x)) ended ((honest clean).ready (works_below last.0.0.1 last.1 (latched_false end (last.0.0.1 || last.1) latch works)))
+-- the store below a watched one didn't fail for good, or no client was accepted
+still_works : {H F : Type 0} (first last : ((H × Bool) × F) × Bool) (end : Result (Unit {0}) ServerFault) (AsBefore : Type 0) (P : List Call → List Reply → Type 0) (most : ℕ) (from to : Option Clients)
+    → first.0.0.1 ≡ false → LatchesAs end (last.0.0.1 || last.1) → EndsServing ((last ≡ first) × AsBefore) P end most from to → end ≢ Err Store → last.0.0.1 ≡ false
+still_works first last (Ok done) AsBefore P most from to worked latch said works = works_below last.0.0.1 last.1 latch
+still_works first last (Err Store) AsBefore P most from to worked latch said works = absurd (works refl)
+still_works first last (Err NoMemory) AsBefore P most from to worked latch said works = ap (λ x. x.0.0.1) said.0 ∙ worked
+still_works first last (Err CannotListen) AsBefore P most from to worked latch said works = ap (λ x. x.0.0.1) said.0 ∙ worked
+still_works first last (Err WriteFault) AsBefore P most from to worked latch said works = ap (λ x. x.0.0.1) said.0 ∙ worked
+
+-- where the store didn't fail for good the tables are ready
+pub ready_then : {S F : Type 0} (g : Ghosts S) (first last : ((Held S × Bool) × F) × Bool) (conn : Held S) (end : Result (Unit {0}) ServerFault) (AsBefore : Type 0) (P : List Call → List Reply → Type 0) (most : ℕ) (from to : Option Clients)
+    → first.0.0.1 ≡ false → last.0.0.0 ≡ conn → (HasCleanDisk (state g conn) → IsHonest g last.0.0) → LatchesAs end (last.0.0.1 || last.1) → EndsServing ((last ≡ first) × AsBefore) P end most from to
+    → HasCleanDisk (state g conn) → end ≢ Err Store → IsReady (state g conn)
+ready_then {S = S} g first last conn end AsBefore P most from to worked ended honest latch said clean works =
+    subst (λ (x : Held S). IsReady (state g x)) ended ((honest clean).ready (still_works first last end AsBefore P most from to worked latch said works))
+
+-- where no client was accepted the tables are ready as at first
+pub ready_still : {S : Type 0} (g : Ghosts S) (store : Held S × Bool) (conn : Held S) → conn ≡ store.0 → (HasCleanDisk (state g conn) → IsHonest g store) → store.1 ≡ false
+    → HasCleanDisk (state g conn) → IsReady (state g conn)
+ready_still {S = S} g store conn same honest works clean = subst (λ (x : Held S). IsReady (state g x)) (sym same) ((honest clean).ready works)
 
 -- ---- over files
 
@@ -127,7 +143,7 @@ module _ {D : Type 0} (g : disk.Ghosts D) (first : Held (FileStore D g)) (end : 
   Said last = EndsServing ((last ≡ first) × (to ≡ from)) (OnFiles last) end most from to
 
   -- at the closing the rows are what the file holds
-  on_files : (last : Held (FileStore D g)) (copied : Result (Unit {0}) FileFault) → GivesBack last copied files → (HasCleanDisk (file_state last) → has_failed end ≡ false → IsReady (file_state last))
+  on_files : (last : Held (FileStore D g)) (copied : Result (Unit {0}) FileFault) → GivesBack last copied files → (HasCleanDisk (file_state last) → end ≢ Err Store → IsReady (file_state last))
       → EndsServing ((last ≡ first) × (to ≡ from)) (OnTables last) end most from to → Said last
   on_files last copied given ready said =
       serving_map ((last ≡ first) × (to ≡ from)) ((last ≡ first) × (to ≡ from)) (OnTables last) (OnFiles last) end most from to (λ u. u)
@@ -135,16 +151,16 @@ module _ {D : Type 0} (g : disk.Ghosts D) (first : Held (FileStore D g)) (end : 
       let now = given_clean last copied files given clean in
       let old = StandsFor (file_state first).now.trees in
       serves_same (has_failed end) old old (StandsFor (file_state last).now.trees) (StatesIn (file_state last).committed) (MayStandFor over_files last) cs rs (same_states old)
-      (λ works. held last (ready now works)) (serves now))
+      (λ works. held last (ready now (not_store end works))) (serves now))
       said
 
 -- by a store that worked at first
 pub ends_on_files : {D : Type 0} (g : disk.Ghosts D) (store : Held (FileStore D g) × Bool) (last : Held (FileStore D g)) (end : Result (Unit {0}) ServerFault) (copied : Result (Unit {0}) FileFault)
     (files : Files D) (most : ℕ) (from to : Option Clients) → SeenMayStay g → store.1 ≡ false → GivesBack last copied files → (HasCleanDisk (file_state last) → IsHonest over_files store)
-    → (HasCleanDisk (file_state last) → has_failed end ≡ false → IsReady (file_state last))
+    → (HasCleanDisk (file_state last) → end ≢ Err Store → IsReady (file_state last))
     → EndsServing ((last ≡ store.0) × (to ≡ from)) (OnTables g store.0 end files most from to last) end most from to → ServesOnFiles g store.0 end copied files most from to
 ends_on_files g store last end copied files most from to stays works given honest ready said =
-    uses_files stays store last copied files (has_failed end ≡ false) (Said g store.0 end files most from to) works given honest ready
+    uses_files stays store last copied files (end ≢ Err Store) (Said g store.0 end files most from to) works given honest ready
     (on_files g store.0 end files most from to last copied given ready said)
 
 -- with the opening
@@ -157,7 +173,7 @@ module _ {D : Type 0} (g : disk.Ghosts D) (image : Image) (first : Held (FileSto
   pub ends_on_file : IsFound g (HasCleanDisk (file_state first)) image (StandsFor (file_state first).now.trees) → ServesOnFiles g first end copied files most from to
       → ServesOnFile g image end copied files most from to
   ends_on_file opening uses =
-      uses_file image first copied files (has_failed end ≡ false) (Said g first end files most from to) Says opening uses
+      uses_file image first copied files (end ≢ Err Store) (Said g first end files most from to) Says opening uses
       (λ last old same as_before said.
       let rows = StandsFor (file_state first).now.trees in
       let new = StatesIn (file_state last).committed in

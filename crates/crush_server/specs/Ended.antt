@@ -1,5 +1,5 @@
 -- How serving ends.
-use Rattle.std.specs.Prelude.{ℕ, ◌≡◌, ◌<◌, ◌≤◌, List, Bool, true, false, Option, Result, Ok, Err, ⊤}
+use Rattle.std.specs.Prelude.{ℕ, ◌≡◌, ◌≢◌, ◌<◌, ◌≤◌, List, Bool, true, false, Option, Result, Ok, Err, ⊤}
 use Rattle.sqlite_disk.specs.declared.Disk as disk
 use Rattle.sqlite_disk.specs.declared.Files.{Files}
 use Rattle.sqlite_wal.specs.Reads.{AreClean}
@@ -49,10 +49,11 @@ has_failed (Err fault) = true
 -- ---- the file
 
 -- Clients were served from the states that the rows stood for to those that the file holds; or no
--- client was accepted, and the connection is unchanged.
+-- client was accepted, and the connection is unchanged. Where it didn't fail for good, the file has
+-- this service's tables.
 abbrev pub ServesOnFiles : {D : Type 0} (g : disk.Ghosts D) → Held (FileStore D g) → Result (Unit {0}) ServerFault → Result (Unit {0}) FileFault → Files D → ℕ → (old new : Option Clients) → Type 0
 ServesOnFiles g first end copied files most old new =
-    UsesFiles g first copied files (has_failed end ≡ false)
+    UsesFiles g first copied files (end ≢ Err Store)
     (λ last. EndsServing ((last ≡ first) × (new ≡ old))
     (λ calls replies. AreClean g files.log files.db → ServesSession false (has_failed end) (StandsFor (file_state first).now.trees) (StatesIn (file_state last).committed) (MayStandFor over_files last) calls replies)
     end most old new)
@@ -61,7 +62,7 @@ ServesOnFiles g first end copied files most old new =
 -- tenants, also after a crash.
 abbrev pub ServesOnFile : {D : Type 0} → disk.Ghosts D → Image → Result (Unit {0}) ServerFault → Result (Unit {0}) FileFault → Files D → ℕ → (old new : Option Clients) → Type 0
 ServesOnFile g image end copied files most old new =
-    UsesFile g image copied files (has_failed end ≡ false)
+    UsesFile g image copied files (end ≢ Err Store)
     (λ Clean before after may_leave. EndsServing ((Clean → AreAsBefore before after may_leave) × (new ≡ old))
     (λ calls replies. Clean → ServesSession false (has_failed end) before after may_leave calls replies)
     end most old new)

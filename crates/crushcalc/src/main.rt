@@ -8,14 +8,14 @@ use crush_arguments::{Invocation, read_arguments};
 use crush_files::script_on_file;
 use crush_memory::script_in_memory;
 use crush_server::{ServerFault, TcpClients, Waiting, serve_on_file};
-use sqlite_disk::Unknown;
+use sqlite_disk::{Disk, Unknown};
 use std::alloc::AllocError;
 use std::fs::File;
 use std::num::NonZeroUsize;
 use std::process::ExitCode;
 use std::rt::{Files, HostRuntime};
 use std::{env, io};
-use tenant_files::FileFault;
+use tenant_files::{FileFault, Refused};
 
 /// Why the program stops before its command is done, or has none.
 enum Stop {
@@ -58,6 +58,12 @@ impl From<FileFault> for Stop {
             FileFault::NoMemory => Stop::NoMemory,
             FileFault::Store => Stop::StoreFault,
         }
+    }
+}
+
+impl<D: Disk + Drop> From<Refused<D>> for Stop {
+    fn from(refused: Refused<D>) -> Stop {
+        Stop::from(refused.fault)
     }
 }
 

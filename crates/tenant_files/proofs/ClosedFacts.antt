@@ -14,12 +14,17 @@ use Rattle.sqlite.specs.State.{HasCleanDisk}
 use Rattle.tenant_files.specs.Closed.{GivesBack, IsLeft}
 use Rattle.tenant_files.specs.declared.fault.FileFault.{FileFault}
 
+-- where files return what was written, the store that has them did
+pub clean_store : {D : Type 0} {g : disk.Ghosts D} (last : FileStore D g) (files : Files D) → store.files last ≡ (files.log, files.db) → AreClean g files.log files.db → IsClean (store.view last)
+clean_store {D = D} {g = g} last files is clean =
+    let sure : AreClean g (store.files last).0 (store.files last).1 = subst (λ (p : D × D). AreClean g p.0 p.1) (sym is) clean in
+    no_doubt _ (clean_is last.pool ∙ sure)
+
 -- where the files given back return what was written, the connection's did
 pub clean_before : {D : Type 0} {g : disk.Ghosts D} (c : Held (FileStore D g)) (last : FileStore D g) (files : Files D) → store.files last ≡ (files.log, files.db) → IsClosed c last
     → AreClean g files.log files.db → HasCleanDisk (file_state c)
-clean_before {D = D} {g = g} c last files is closed clean =
-    let sure : AreClean g (store.files last).0 (store.files last).1 = subst (λ (p : D × D). AreClean g p.0 p.1) (sym is) clean in
-    let none : IsClean (store.view last) = no_doubt _ (clean_is last.pool ∙ sure) in
+clean_before c last files is closed clean =
+    let none : IsClean (store.view last) = clean_store last files is clean in
     omega (arith, closed.quiet.clean, none)
 
 pub is_left : {D : Type 0} {g : disk.Ghosts D} (c : Held (FileStore D g)) (last : FileStore D g) (files : Files D) → store.files last ≡ (files.log, files.db) → IsClosed c last → IsLeft c files

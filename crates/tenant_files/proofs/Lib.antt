@@ -1,4 +1,5 @@
 pub mod ClosedFacts
+pub mod RefusedFacts
 pub mod StoredFacts
 pub mod TableFacts
 pub mod UsedFacts

@@ -1,11 +1,19 @@
 //! Closing a database file.
 
-ghost use Rattle.std.specs.Prelude.{◌≡◌, Err, true};
+ghost use Rattle.std.specs.Prelude.{◌≡◌, Err, false, true, IfSome};
+ghost use Rattle.sqlite.specs.Files.{file_state};
+ghost use Rattle.sqlite.specs.State.{HasCleanDisk};
+ghost use Rattle.sqlite_wal.specs.Recovery.{Image};
+ghost use Rattle.tenant_rows.specs.Rows.{StandsFor};
 ghost use Rattle.tenant_files.specs.Closed.{GivesBack};
+ghost use Rattle.tenant_files.specs.Opened.{IsFound};
+ghost use Rattle.tenant_files.specs.Refused.{IsRefused};
 
 use crate::fault::{FileFault, fault_of};
+use crate::refused::Refused;
 use sqlite::{Connection, FileStore};
 use sqlite_disk::{Disk, Files};
+use tenant_store::Store;
 
 /// What a connection gave back: the two files, and whether the log was copied into the database
 /// file.
@@ -60,5 +68,18 @@ pub fn close_unless_failed<D: Disk + Drop>(
         give_up(conn)
     } else {
         close_files(conn)
+    }
+}
+
+/// Gives back the files of a store that was opened and isn't used, because of `fault`. Nothing is
+/// copied. What an opening found in the files (`image`) is there, also after a crash.
+pub fn give_back<D: Disk + Drop>(store: Store<FileStore<D>>, fault: FileFault) -> Refused<D>
+    requires works { store.1 ≡ false }
+    ensures { (image : Image) → IsFound D.Disk (HasCleanDisk (file_state store.0)) image (StandsFor (file_state store.0).now.trees) → IfSome result.files (IsRefused D.Disk image) }
+{
+    let closed = give_up(store.close());
+    Refused {
+        fault,
+        files: Some(closed.files),
     }
 }

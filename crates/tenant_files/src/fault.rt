@@ -1,5 +1,7 @@
 //! Why a database file can't be used.
 
+ghost use Rattle.std.specs.Prelude.{◌≡◌, ◌↔◌};
+
 use sqlite::{Error, ErrorCode};
 use tenant_core::StoreFault;
 
@@ -13,7 +15,9 @@ pub enum FileFault {
 }
 
 /// Returns the fault of a file that is reported for `error`, an error of the database.
-pub fn fault_of(error: Error) -> FileFault {
+pub fn fault_of(error: Error) -> FileFault
+    ensures { result ≡ FileFault.NoMemory ↔ error ≡ Error.SqliteFailure ErrorCode.OutOfMemory }
+{
     match error {
         Error::SqliteFailure(ErrorCode::OutOfMemory) => FileFault::NoMemory,
         _ => FileFault::Store,
@@ -21,6 +25,12 @@ pub fn fault_of(error: Error) -> FileFault {
 }
 
 impl From<StoreFault> for FileFault {
+    ghost use Rattle.std.specs.Prelude.{◌≡◌, ◌↔◌};
+    ghost use Rattle.store_faults.specs.declared.StoreFault.TheVariants as below;
+    ghost use Rattle.tenant_files.specs.declared.fault.FileFault.TheVariants.{NoMemory};
+
+    ghost from_gives = { λ fault given. given ≡ NoMemory ↔ fault ≡ below.NoMemory };
+
     fn from(fault: StoreFault) -> FileFault {
         match fault {
             StoreFault::NoMemory => FileFault::NoMemory,

@@ -5,9 +5,11 @@ mod closing;
 mod fault;
 mod log;
 mod opening;
+mod refused;
 mod watch;
 
-pub use closing::{Closed, close_unless_failed};
+pub use closing::{Closed, close_unless_failed, give_back};
 pub use fault::FileFault;
 pub use opening::{READY_BYTES, open_store};
+pub use refused::Refused;
 pub use watch::FileWatch;

@@ -78,6 +78,7 @@ impl<S: Alter + Drop> Store<S> {
             → ((state S.Store store.0).now.trees ≡ (state S.Store conn).now.trees) × HasVersion 2 (state S.Store conn).now.trees) }
         ensures migrated { IfOk result (λ store. HasCleanDisk (state S.Store store.0) → (state S.Store conn).now.schema ≡ first_schema
             → HasVersion 1 (state S.Store conn).now.trees × HasVersion 2 (state S.Store store.0).now.trees) }
+        ensures was_clean { IfErr result (λ e. IsClean (S.Store.view e.1) → HasCleanDisk (state S.Store conn)) }
         ensures damaged { IfErr result (λ e. IsClean (S.Store.view e.1) → e.0 ≡ StoreFault.Damaged → IsStrange (state S.Store conn).now) }
         ensures crash { IfErr result (λ e. IsClean (S.Store.view e.1) → (trees : Trees) → S.Store.recovers e.1 trees
             → (state S.Store conn).may_leave trees ⊎ Replaces (state S.Store conn).now trees) }

@@ -86,6 +86,7 @@ impl<S: Alter + Drop> Tables<S> {
         ensures migrated { IfOk result (λ tables. HasCleanDisk (state S.Store tables.0) → (state S.Store conn).now.schema ≡ first_schema → IsMigrated (state S.Store conn).now (state S.Store tables.0).now) }
         ensures alone { IfOk result (λ tables. HasCleanDisk (state S.Store tables.0) → (db : _) → (state S.Store tables.0).may_leave db → db ≡ (state S.Store tables.0).now.trees) }
         ensures damaged { IfErr result (λ e. IsClean (S.Store.view e.1) → e.0 ≡ StoreFault.Damaged → IsStrange (state S.Store conn).now) }
+        ensures was_clean { IfErr result (λ e. IsClean (S.Store.view e.1) → HasCleanDisk (state S.Store conn)) }
         ensures crash { IfErr result (λ e. IsClean (S.Store.view e.1) → (trees : _) → S.Store.recovers e.1 trees → (state S.Store conn).may_leave trees ⊎ SetsUp (state S.Store conn).now trees) }
     {
         let mut conn = conn;

@@ -43,6 +43,16 @@ returns-in-Err-get_ready-clause-crash g c clean trees left =
       | inr none ↦ absurd none
     ]
 
+pub returns-in-Err-get_ready-clause-was_clean : goal.returns-in-Err-get_ready-clause-was_clean
+returns-in-Err-get_ready-clause-was_clean g c clean =
+    let last = state g.S.Store c.get_ready.new.conn in
+    let late : HasCleanDisk last = omega (arith, clean, c.into_store-in-Err-get_ready.ensures.quiet.clean) in
+    let early : HasCleanDisk (state g.S.Store c.in-Ok.conn) = omega (arith, late, c.get_ready.ensures.survives.clean) in
+    omega (arith, c.in-Ok.ensures.clean early, c.set_up.ensures.crash.clean)
+
+pub returns-in-Err-reopen-clause-was_clean : goal.returns-in-Err-reopen-clause-was_clean
+returns-in-Err-reopen-clause-was_clean g c clean = omega (arith, c.in-Err-reopen.ensures.was_clean clean, c.set_up.ensures.crash.clean)
+
 pub returns-in-Err-reopen-clause-crash : goal.returns-in-Err-reopen-clause-crash
 returns-in-Err-reopen-clause-crash g c clean trees left = c.set_up.ensures.crash.crash (c.in-Err-reopen.ensures.was_clean clean) trees (c.in-Err-reopen.ensures.crash clean trees left)
 
