@@ -44,9 +44,10 @@ returns-in-Err-clause-refused g c =
     (λ it files same has.
     let (first, log, db, leaves) = rw same at c.in-Err.ensures.cause in
     unread (image start.log start.db) files it first has (ap₂ image (ap₂ (seen start.log start.db) log.0 log.1) (ap₂ (seen start.log start.db) db.0 db.1))
-    (λ now there.
-    (of_log start.is_mixing start.log start.db first.log.is_log first.log.key first.log.calls.log.events now.log log.0 log.1 there.0,
-    of_db start.is_mixing start.log start.db first.db.is_log first.db.key first.db.calls.log.events now.db db.0 db.1 there.1))
+    (λ now there. (
+      of_log start.is_mixing start.log start.db first.log.is_log first.log.key first.log.calls.log.events now.log log.0 log.1 there.0,
+      of_db start.is_mixing start.log start.db first.db.is_log first.db.key first.db.calls.log.events now.db db.0 db.1 there.1,
+    ))
     (λ clean. (leaves clean).1))
 
 -- the tables were refused
