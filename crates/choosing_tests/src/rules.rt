@@ -26,7 +26,7 @@ pub(crate) const LEGACY: Tunables = Tunables {
 pub(crate) const TAKE: Step = Step::Take(ItemId(-1));
 
 /// The expected answer and trace of each input, where they are the same.
-pub(crate) type Wanted<'a> = Option<(&'a [Slot], &'a [u32])>;
+pub(crate) type Expected<'a> = Option<(&'a [Slot], &'a [u32])>;
 
 /// Runs a rule for inputs from 0 on, and folds all answers.
 fn ask_all(
@@ -38,7 +38,7 @@ fn ask_all(
     weights: &Weights,
     out: &mut Out,
     inputs: u32,
-    want: Wanted<'_>,
+    expected: Expected<'_>,
 ) -> u64
     requires rule { CanRun tables.now rule.now }
     requires fits { scratch.old ≡ scratch_of tables.now }
@@ -49,7 +49,7 @@ fn ask_all(
     'inputs: for x in 0..inputs {
         run_rule(tables, scratch, rule, x, size, weights, out);
         sum = folded(sum, out.items());
-        if let Some((items, trace)) = want {
+        if let Some((items, trace)) = expected {
             assert_same_at(rt, [u64::from(x), 0], &out.items(), &items);
             assert_same_at(rt, [u64::from(x), 1], &out.trace(), &trace);
         }
@@ -75,7 +75,7 @@ pub(crate) fn ask(
     given: &[(u32, u32)],
     size: u32,
     inputs: u32,
-    want: Wanted<'_>,
+    expected: Expected<'_>,
 ) -> Result<u64, Fail> {
     assert!(rt; 1 <= size && size <= SIZE_LIMIT as u32);
     let map = map_of(alloc, draft)?;
@@ -92,7 +92,7 @@ pub(crate) fn ask(
         &weights,
         &mut out,
         inputs,
-        want,
+        expected,
     ))
 }
 
@@ -116,14 +116,19 @@ fn weights(alloc: Global, given: &[(u32, u32)]) -> Result<Weights, Fail> {
 
 #[test]
 fn a_device_is_in_from_above_its_draw(rt: HostRuntime) -> Result<(), Fail> {
-    for (reweight, want) in &[(0, false), (55_335, false), (55_336, true), (ONE, true)] {
+    for (reweight, expected) in &[(0, false), (55_335, false), (55_336, true), (ONE, true)] {
         let weights = weights(rt.alloc(), &[(1, *reweight), (1, ONE)])?;
         assert_same(
             &rt,
             &(weights.get(0), weights.get(1), weights.get(2)),
             &(ONE, *reweight, ONE),
         );
-        assert_same_at(&rt, [u64::from(*reweight), 0], &is_in(&weights, 0, 1), want);
+        assert_same_at(
+            &rt,
+            [u64::from(*reweight), 0],
+            &is_in(&weights, 0, 1),
+            expected,
+        );
     }
     Ok(())
 }
@@ -132,7 +137,7 @@ fn a_device_is_in_from_above_its_draw(rt: HostRuntime) -> Result<(), Fail> {
 fn a_reweight_counts_for_an_id_that_is_no_device_of_the_map(rt: HostRuntime) -> Result<(), Fail> {
     let given = [(7, 1_000), (65_535, 5), (65_536, 9), (7, 3)];
     let weights = weights(rt.alloc(), &given)?;
-    for (id, want) in &[
+    for (id, expected) in &[
         (0, ONE),
         (7, 1_000),
         (8, ONE),
@@ -140,7 +145,7 @@ fn a_reweight_counts_for_an_id_that_is_no_device_of_the_map(rt: HostRuntime) -> 
         (65_536, ONE),
         (u32::MAX, ONE),
     ] {
-        assert_same_at(&rt, [u64::from(*id), 0], &weights.get(*id), want);
+        assert_same_at(&rt, [u64::from(*id), 0], &weights.get(*id), expected);
     }
     Ok(())
 }

@@ -16,8 +16,9 @@ const VERSION: &str = "0.1.0\nRattle logic dac8208d650f15bf";
 /// more of each).
 const CODES: &str =
     "It prints 'ok devices D buckets B rules R', or 'refused line L code C' with the first fault.
-With a code X, L is the line of the wrong word. With a code M it is the first line of the tunable, device, type, bucket or
-rule that is wrong, perhaps further down, or the line of the last word where only the end shows the fault. The codes:
+With a code X, L is the line of the wrong word. With a code M it is the first line of the tunable,
+device, type, bucket or rule that is wrong, perhaps further down, or the line of the last word where
+only the end shows the fault. The codes:
   X1   a word that can't stand there, or a text that ends too early
   X2   alg straw or straw2: such buckets aren't computed
   X3   a class in a take step
@@ -25,7 +26,8 @@ rule that is wrong, perhaps further down, or the line of the last word where onl
   X5   a pos that isn't below the number of items, or that an earlier item has
   X6   no weight where one is expected
   X7   more than 4,194,304 bytes
-  M1   more devices, types, buckets, items, rules or steps than the limit; a rule whose steps are all dropped
+  M1   more devices, types, buckets, items, rules or steps than the limit; a rule whose steps are
+       all dropped
   M2   an id or number that an earlier element has
   M3   a name that an earlier element has, or a tunable that was named before
   M4   the type of a bucket isn't declared; at the end: there is no type 0

@@ -158,10 +158,10 @@ fn buckets_answer_the_worked_rows(rt: HostRuntime) -> Result<(), AllocError> {
     ];
     let many = many.as_slice();
     for (rows, questions) in [(FIRST, &first[..]), (ALWAYS, many), (&light[..], many)] {
-        for (case, (kind, items, want)) in rows.iter().enumerate() {
+        for (case, (kind, items, expected)) in rows.iter().enumerate() {
             let entries = entries(alloc, items)?;
             for pick in picked(&rt, alloc, *kind, ItemId(-1), &entries, questions)? {
-                assert_same_at(&rt, [case as u32, 0, 0], &pick, &ItemId(*want));
+                assert_same_at(&rt, [case as u32, 0, 0], &pick, &ItemId(*expected));
             }
         }
     }
@@ -238,8 +238,8 @@ fn buckets_pick_as_their_plain_forms(rt: HostRuntime) -> Result<(), AllocError> 
             }
             let picks = picked(&rt, alloc, kind, id, &entries, &questions)?;
             for ((x, r), pick) in questions.iter().zip(picks) {
-                let want = plain::pick(alloc, kind, id, &entries, *x, *r)?;
-                assert_same_at(&rt, [round, 0, 0], &pick, &want);
+                let expected = plain::pick(alloc, kind, id, &entries, *x, *r)?;
+                assert_same_at(&rt, [round, 0, 0], &pick, &expected);
             }
         }
     }

@@ -47,12 +47,12 @@ const READ: &[(&[u8], Option<u32>)] = &[
 
 #[test]
 fn weights_are_read_rounded_down(rt: HostRuntime) {
-    for (case, (text, want)) in READ.iter().enumerate() {
+    for (case, (text, expected)) in READ.iter().enumerate() {
         assert_same_at(
             &rt,
             [case as u64, 0],
             &weight_from_text(text),
-            &want.map(Weight),
+            &expected.map(Weight),
         );
     }
 }
@@ -72,9 +72,9 @@ const WRITTEN: &[(u32, &str)] = &[
 
 #[test]
 fn weights_are_written_rounded_up_and_come_back(rt: HostRuntime) -> Result<(), Fail> {
-    for (weight, want) in WRITTEN {
+    for (weight, expected) in WRITTEN {
         let written = weight_text(rt.alloc(), Weight(*weight))?;
-        assert_same(&rt, &written.as_str(), want);
+        assert_same(&rt, &written.as_str(), expected);
         let again = weight_from_text(written.as_bytes());
         assert_same(&rt, &again, &Some(Weight(*weight)));
     }

@@ -264,7 +264,7 @@ const CASES: &[Case] = &[
         ..ALL_UP
     },
     Case {
-        what: "a pool that wants one device of three",
+        what: "a pool of one copy over three devices",
         pool: TWELVE,
         raw: &[ZERO],
         up: &[ZERO],

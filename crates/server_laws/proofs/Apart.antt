@@ -89,9 +89,9 @@ as_many Meets inputs outputs they =
     sym (ap (λ (l : List (List ℕ)). length l) they.got) ∙ (length-map they.clients (λ (c : Client). c.output)
     ∙ (sym (length-map they.clients (λ (c : Client). c.input)) ∙ ap (λ (l : List (List ℕ)). length l) they.sent))
 
-pub told_more : (Meets : Says) (count : ℕ) (old new : Clients) → ServesClients Meets count (Some old) (Some new)
+pub known_of_more : (Meets : Says) (count : ℕ) (old new : Clients) → ServesClients Meets count (Some old) (Some new)
     → (new.coming ≡ drop count old.coming) × (length new.answered ≡ length old.answered + length (all_sent (take count old.coming)))
-told_more Meets count old new serves =
+known_of_more Meets count old new serves =
     let (sent, becomes) = serves.known in
     let is : new ≡ record { coming = drop count old.coming; answered = old.answered ++ serves.outputs } = cc in
     let many : length serves.outputs ≡ length serves.inputs = as_many Meets serves.inputs serves.outputs (apart serves.inputs serves.outputs Meets serves.each) in (

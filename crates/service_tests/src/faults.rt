@@ -80,12 +80,12 @@ fn no_line_is_served_after_a_read_fault(rt: HostRuntime) {
     // a read gives one byte; the last one finds the end
     for reads in 0..CREATIONS.len().saturating_add(2) {
         let found = create(&rt, rt.alloc(), reads, MANY);
-        let want = if reads <= CREATIONS.len() {
+        let expected = if reads <= CREATIONS.len() {
             nothing
         } else {
             whole
         };
-        assert_same_at(&rt, [reads as u64, 0], &found, &want);
+        assert_same_at(&rt, [reads as u64, 0], &found, &expected);
     }
 }
 
@@ -94,8 +94,8 @@ fn a_line_whose_reply_is_cut_is_done_and_no_later_one(rt: HostRuntime) {
     let mut all = 0;
     for writes in 0..2 * REPLY {
         let (_, done, bytes) = create(&rt, rt.alloc(), MANY, writes);
-        let want = (bytes / REPLY).saturating_add(1).min(3);
-        assert_same_at(&rt, [writes as u64, bytes as u64], &done, &Some(want));
+        let expected = (bytes / REPLY).saturating_add(1).min(3);
+        assert_same_at(&rt, [writes as u64, bytes as u64], &done, &Some(expected));
         all = bytes;
     }
     assert_same(&rt, &all, &(3 * REPLY));

@@ -39,7 +39,7 @@ fn texts_of_the_form_have_no_fault(rt: HostRuntime) -> Result<(), Fail> {
 #[test]
 fn one_wrong_line_is_named(rt: HostRuntime) -> Result<(), Fail> {
     let alloc = rt.alloc();
-    for (number, line, want) in [
+    for (number, line, expected) in [
         (13, " alg straw2", (13, TextCode::X2)),
         (13, " alg straw", (13, TextCode::X2)),
         (13, " alg straw3", (13, TextCode::X1)),
@@ -60,7 +60,7 @@ fn one_wrong_line_is_named(rt: HostRuntime) -> Result<(), Fail> {
         (8, "type 0 osd class", (8, TextCode::X1)),
     ] {
         let text = with_line(alloc, number, line)?;
-        assert_same_in(&rt, line, &fault(alloc, text.as_str())?, &Some(want));
+        assert_same_in(&rt, line, &fault(alloc, text.as_str())?, &Some(expected));
     }
     Ok(())
 }

@@ -24,8 +24,8 @@ type Row = (&'static str, usize, TextCode);
 
 fn assert_faults(rt: &impl Abort, alloc: Global, rows: &[Row]) -> Result<(), Fail> {
     for (text, line, code) in rows {
-        let want = Some((*line, *code));
-        assert_same_in(rt, text, &fault(alloc, text.as_bytes())?, &want);
+        let expected = Some((*line, *code));
+        assert_same_in(rt, text, &fault(alloc, text.as_bytes())?, &expected);
     }
     Ok(())
 }
@@ -226,14 +226,14 @@ fn the_first_of_two_faults_is_named(rt: HostRuntime) -> Result<(), Fail> {
 #[test]
 fn a_wrong_line_of_a_map_is_named(rt: HostRuntime) -> Result<(), Fail> {
     let alloc = rt.alloc();
-    for (number, line, want) in [
+    for (number, line, expected) in [
         (15, " item osd.0 weight 1.0 pos 1", (15, X5)),
         (11, "rack default {", (11, Map(M4))),
         (21, " step choose firstn 65 type osd", (17, Map(M12))),
         (21, " step chooseleaf indep 0 type osd", (17, Map(M14))),
     ] {
         let text = with_line(alloc, number, line)?;
-        assert_same_in(&rt, line, &fault(alloc, text.as_bytes())?, &Some(want));
+        assert_same_in(&rt, line, &fault(alloc, text.as_bytes())?, &Some(expected));
     }
     let unnamed = lines_within(alloc, 3, 23)?;
     assert_same(

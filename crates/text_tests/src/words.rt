@@ -7,7 +7,7 @@ use std::test::Fail;
 #[test]
 fn words_stand_on_their_lines(rt: HostRuntime) -> Result<(), Fail> {
     let text = b"# begin { }\r\n\titem osd.0\tweight 1.000}# x\n\r\r{a@b-c_\n# the end";
-    let want: [(usize, &[u8]); 9] = [
+    let expected: [(usize, &[u8]); 9] = [
         (2, b"item"),
         (2, b"osd.0"),
         (2, b"weight"),
@@ -19,7 +19,7 @@ fn words_stand_on_their_lines(rt: HostRuntime) -> Result<(), Fail> {
         (3, b"b-c_"),
     ];
     let mut cursor = Cursor::new(text);
-    for (line, word) in want {
+    for (line, word) in expected {
         let Some((found, rest)) = cursor.next() else {
             return Err(Fail::new("no more words"));
         };
@@ -34,7 +34,7 @@ fn words_stand_on_their_lines(rt: HostRuntime) -> Result<(), Fail> {
 
 #[test]
 fn numbers_have_at_most_the_limit_of_digits(rt: HostRuntime) {
-    for (text, want) in [
+    for (text, expected) in [
         ("0", Some(0)),
         ("007", Some(7)),
         ("9999999999", Some(9_999_999_999)),
@@ -43,9 +43,9 @@ fn numbers_have_at_most_the_limit_of_digits(rt: HostRuntime) {
         ("1.0", None),
         ("00000000001", None),
     ] {
-        assert_same_in(&rt, text, &number_from_text(text.as_bytes()), &want);
+        assert_same_in(&rt, text, &number_from_text(text.as_bytes()), &expected);
     }
-    for (text, want) in [
+    for (text, expected) in [
         ("-0", Some(0)),
         ("-7", Some(-7)),
         ("12", Some(12)),
@@ -55,6 +55,6 @@ fn numbers_have_at_most_the_limit_of_digits(rt: HostRuntime) {
         ("", None),
         ("+1", None),
     ] {
-        assert_same_in(&rt, text, &integer_from_text(text.as_bytes()), &want);
+        assert_same_in(&rt, text, &integer_from_text(text.as_bytes()), &expected);
     }
 }

@@ -1,5 +1,5 @@
 use Rattle.std.proofs.Common.{refl}
-use Rattle.server_laws.proofs.Apart.{apart, calls_in, replies_in, together, told_more}
+use Rattle.server_laws.proofs.Apart.{apart, calls_in, replies_in, together, known_of_more}
 use Rattle.server_laws.proofs.clients.clients_are_served_one_after_the_other.Goals as goal
 use Rattle.server_laws.specs.Served.{AreJust}
 
@@ -12,4 +12,4 @@ pub returns-clause-together : goal.returns-clause-together
 returns-clause-together c = λ clients all. together clients (AreJust (calls_in clients) (replies_in clients)) all (refl, refl)
 
 pub returns-clause-known : goal.returns-clause-known
-returns-clause-known c = λ calls replies count old new serves. told_more (AreJust calls replies) count old new serves
+returns-clause-known c = λ calls replies count old new serves. known_of_more (AreJust calls replies) count old new serves
