@@ -3,7 +3,6 @@ request takes, holes, bytes and ratios, devices that a rule takes by name."""
 import copy
 import json
 import random
-import re
 import subprocess
 
 from made import ONE, STEPS, bucket, crush_dump, osd_dump, pool, rule, text_of, write
@@ -49,6 +48,9 @@ def straw2(runner, folder):
     write(folder, crush)
     equals("a whole cluster of straw2", runner.said("check", folder, status=2)["answer"], "no: 0 of 2 pools can be computed.")
     equals("and a drain of it", runner.said("drain", folder, "host0")["status"], 2)
+    for words in (("drain", "host0"), ("fail", "host0"), ("fail", "--each", "host")):
+        text = runner.run(words[0], folder, *words[1:])[1]
+        wants(text.startswith("unknown: no pool can be computed.\n\nnot computed: ") and "move" not in text, text)
     equals("and its usage", runner.said("usage", folder, status=2)["answer"], "unknown: no pool can be computed.")
 
 
@@ -334,7 +336,8 @@ def taken_by_name(runner, folder):
     equals("while it is down", said["down"]["short"], 64)
     wants(all(0 not in it["up"] for it in said["down"]["groups"]), "osd.0 is up")
     text = runner.run("fail", folder, "osd.0")[1]
-    equals("groups that are in no impact list", said["out"]["moved"] - said["out"]["can_move"], int(re.search(r"impact lists, and (\d+) whose rule takes a device by name", text)[1]))
+    wants("0 of 64 groups can't move: those in no impact list, and whose rule takes none of the devices by name" in text, text)
+    wants(said["out"]["moved"] > said["out"]["can_move"], "each group that moves is in an impact list")
 
 
 def described(runner, folder):

@@ -17,7 +17,7 @@ def check(plan, asked):
     filled."""
     map_ = plan.map
     holes = [(bucket, place) for bucket, place in map_.holes() if not bucket.shadow]
-    pools = [{"pool": it.id, "name": it.name, "computed": it.id in plan.pools, "why": plan.left_out.get(it.id, (None, None))[1]} for it in plan.cluster.pools.values()]
+    pools = [{"pool": it.id, "name": it.name, "size": it.size, "min_size": it.min_size, "computed": it.id in plan.pools, "why": plan.left_out.get(it.id, (None, None))[1]} for it in plan.cluster.pools.values()]
     count = sum(it["computed"] for it in pools)
     status = 0 if count == len(pools) and pools else 1 if count else 2
     sentence = f"{'yes' if status == 0 else 'in part' if status == 1 else 'no'}: {count:,} of {counted(len(pools), 'pool')} can be computed."
@@ -33,7 +33,7 @@ def check(plan, asked):
         ("upmap items", f"of {counted(sum(map(len, plan.cluster.pairs.values())), 'group')}" if plan.cluster.pairs else "none"),
     ]
     files = [(name, "read" if is_read(plan, name) else "not read: crush.json is" if (plan.cluster.folder / name).exists() else "not there", what) for name, what in FILES]
-    blocks = [Table(("file", "", ""), files), Table(("", ""), lines), Table(("pool", "id", "computed", "why not"), [(it["name"], it["pool"], it["computed"], it["why"] or "") for it in pools])]
+    blocks = [Table(("file", "", ""), files), Table(("", ""), lines), Table(("pool", "id", "size", "min_size", "computed", "why not"), [(it["name"], it["pool"], it["size"], it["min_size"], it["computed"], it["why"] or "") for it in pools])]
     if asked.mend:
         blocks.append(mend(plan, asked.mend))
     fields = {

@@ -32,7 +32,7 @@ def drain(plan, asked):
         "devices": devices, **summary.said(asked.groups), "stay": stay.said(),
         "purge": later.purge.said(asked.groups), "weight_first": {**later.weight_first.said(asked.groups), "then_purge": later.then_purge.said(asked.groups)},
     }  # fmt: skip
-    blocks = [summary_table(plan, summary, stay), pools_table(summary), usage_table(plan, summary, asked.by), purge_text(later, devices)]
+    blocks = [summary_table(plan, summary, stay), pools_table(summary), usage_table(plan, summary, asked.by), purge_text(later, devices) if plan.pools else None]
     if asked.groups:
         blocks.append(groups_table(summary.moves))
     return Answer(status, verdict(summary, stay, status), fields, blocks, groups_rows(plan, summary.moves) if asked.groups else usage_rows(summary))

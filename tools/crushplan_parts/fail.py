@@ -80,7 +80,7 @@ def fail(plan, asked):
     warn_of_room(plan, it.summary)
     status = status_of(plan, it.summary, stay, it.down.stopped)
     fields = {"devices": devices, "down": it.down.said(asked.groups), "out": it.summary.said(asked.groups), "stay": stay.said()}
-    blocks = [it.down.table(it.summary.groups), it.down.pools_table(), summary_table(plan, it.summary, stay, "Once they are out:"), pools_table(it.summary), usage_table(plan, it.summary, asked.by)]
+    blocks = [it.down.table(it.summary.groups) if plan.pools else None, it.down.pools_table(), summary_table(plan, it.summary, stay, "Once they are out:", devices), pools_table(it.summary), usage_table(plan, it.summary, asked.by)]
     if asked.groups:
         blocks += [it.down.groups_table(), groups_table(it.summary.moves)]
     return Answer(status, verdict(it.summary, stay, status, it.down.stopped), fields, blocks, rows_of(plan, it) if asked.groups else usage_rows(it.summary))
@@ -129,7 +129,7 @@ def fail_each(plan, asked):
     own = [list(rows[0])[:-1] + ["fullest", "fullest_percent"]] + [[*list(it.values())[:-1], it["fullest"] and it["fullest"]["name"], it["fullest"] and it["fullest"]["percent_after"]] for it in rows]
     of = "its percent of its share" if all(it["fullest"] is None or it["fullest"]["used_after"] is None for it in rows) else "how much of its room is used"
     text = f"stops: groups below min_size while it is down, whose I/O stops; short: groups below size then; no room:\ncopies that have no device once it is out; move, copies: groups that then move, and copies written anew;\nfullest: the fullest device then, and {of}."
-    return Answer(status, each_sentence(plan, name, statuses), {"type": name, "each": rows}, [Table(heads, table), text], own)
+    return Answer(status, each_sentence(plan, name, statuses), {"type": name, "each": rows}, [Table(heads, table), text] if plan.pools else [], own)
 
 
 def each_sentence(plan, name, statuses):

@@ -83,8 +83,11 @@ def shown_used(it):
     return f"osd.{it.id} would be {rounded(it.used_after.numerator * 100, it.used_after.denominator, 1)}% full"
 
 
-def summary_table(plan, summary, stay, title=None):
-    """Returns the lines of a summary, in the order in which they matter."""
+def summary_table(plan, summary, stay, title=None, down=()):
+    """Returns the lines of a summary, in the order in which they matter, or None where no pool is
+    computed. `down` are the devices that are down by then."""
+    if not summary.changes:
+        return None
     before = f" (before: {summary.short_before:,}, by {summary.missing_before:,})" if summary.short_before else ""
     short = (f"{summary.short:,} of {summary.groups:,}, by {counted(summary.missing, *COPY)}" if summary.short else "none") + before
     rows = [
@@ -92,7 +95,7 @@ def summary_table(plan, summary, stay, title=None):
         ("groups that move", f"{len(summary.moves):,} of {summary.groups:,}"),
         ("copies that are written anew", f"{summary.copies:,}" + (f", {sized(summary.bytes)}" if summary.bytes is not None else "")),
         ("fullest device afterwards", fullest_text(plan, summary)),
-        ("proved", proved_text(summary)),
+        ("proved", proved_text(summary, down)),
     ]
     if summary.fullest and summary.fullest.used_after is not None:
         rows.insert(4, ("its room", room_text(plan, summary.fullest)))
@@ -103,14 +106,16 @@ def summary_table(plan, summary, stay, title=None):
     return Table(("", ""), rows, title)
 
 
-def proved_text(summary):
-    """Says which groups alone can move: those of the impact lists, and beside them, where devices
-    are down, groups whose rule takes one by name."""
-    listed = {(it.pool.id, group) for it in summary.changes for group in it.can_move}
-    others = sum((it.pool.id, it.group) not in listed for it in summary.moves)
-    if not listed and not others:
-        return "no group moves: no impact list has one"
-    return f"no group moves but the {len(listed):,} of the impact lists" + (f", and {others:,} whose rule takes a device by name" if others else "")
+def proved_text(summary, down):
+    """Says how many groups can't move: those that are computed, that no impact list has, and whose
+    rule takes no device by name that is down."""
+    plan, by_name, rest = summary.plan, False, 0
+    for it in summary.changes:
+        takes = bool(plan.taken(it.pool) & set(down))
+        by_name = by_name or takes
+        rest += 0 if takes else it.pool.pg_num - len(set(it.can_move) | set(plan.whole_lists.get(it.pool.id, ())))
+    also = ", and whose rule takes none of the devices by name" if by_name else ""
+    return f"{rest:,} of {counted(summary.groups, 'group')} can't move: those in no impact list{also}"
 
 
 def fullest_text(plan, summary):
@@ -142,7 +147,10 @@ def pools_table(summary):
 
 
 def usage_table(plan, summary, by):
-    """Returns usage before and after, by device, or by the buckets of a type."""
+    """Returns usage before and after, by device, or by the buckets of a type, or None where no pool
+    is computed."""
+    if not summary.changes:
+        return None
     devices = [it for it in summary.devices if it.before or it.after or it.expected_before[0]]
     type_ = plan.tree.type_number(by) if by else 0 if len(devices) <= MOST_ROWS else plan.tree.host_type()
     known = any(it.bytes_after is not None for it in devices)
