@@ -51,8 +51,8 @@ returns-in-Err-clause-refused g c =
     (λ clean. (leaves clean).1))
 
 -- the tables were refused
-pub returns-in-Err-open-clause-refused : goal.returns-in-Err-open-clause-refused
-returns-in-Err-open-clause-refused g c =
+pub returns-clause-refused : goal.returns-clause-refused
+returns-clause-refused g c =
     let refused = c.in-Err-open in
     inr (unused (image g.S.Start.log g.S.Start.db) c.in-Ok.conn refused.store c.close.result (sym c.close.ensures) c.in-Ok.ensures.opened c.in-Ok.ensures.found refused.ensures.was_clean
     refused.ensures.crash (λ file. inl refl))
