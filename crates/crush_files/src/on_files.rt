@@ -1,6 +1,6 @@
 //! Scripts that are played over an opened database file, which is then closed.
 
-ghost use Rattle.std.specs.Prelude.{◌≡◌, false, true, Err, Ok, IfOk, IfErr};
+ghost use Rattle.std.specs.Prelude.{◌≡◌, false, Err, Ok, IfOk, IfErr};
 ghost use Rattle.crush_app.specs.End.{EndsScript, LatchesAs};
 ghost use Rattle.crush_app.specs.Play.{PlaysScript};
 ghost use Rattle.sqlite.specs.Held.{state};
@@ -17,7 +17,7 @@ use sqlite_disk::Disk;
 use std::alloc::{AllocError, Global};
 use std::io::{Read, Write};
 use std::num::NonZeroUsize;
-use tenant_cache::CachedStore;
+use tenant_cache::{Bytes, CachedStore};
 use tenant_core::TenantStore;
 use tenant_files::{Closed, FileFault, READY_BYTES, close_unless_failed};
 use tenant_store::Store;
@@ -25,7 +25,7 @@ use tenant_watched::{Watch, WatchedStore};
 
 /// A store over tables that keeps in memory what tenants have, within `READY_BYTES`. No change is
 /// acknowledged once the watch misses the files.
-type ReadyStore<S, F> = CachedStore<WatchedStore<Store<S>, F>, READY_BYTES>;
+type ReadyStore<S, F> = CachedStore<WatchedStore<Store<S>, F>, Bytes<READY_BYTES>>;
 
 /// Makes the ready store over a store over tables. It keeps the placements of `placements` groups
 /// too. `Err(store)`: an allocation failed; the store is given back.

@@ -7,7 +7,7 @@ use sqlite_disk::{Disk, Files};
 use std::alloc::Global;
 use std::num::NonZeroUsize;
 use std::process::Abort;
-use tenant_cache::CachedStore;
+use tenant_cache::{Bytes, CachedStore};
 use tenant_core::TenantStore;
 use tenant_messages::Call;
 use tenant_service::{Service, SessionEnd};
@@ -81,7 +81,7 @@ fn served<D: Disk + Drop>(
 ) -> (SessionEnd, Files<D>)
     requires live { store.1 ≡ false }
 {
-    let ready = match CachedStore::<_, READY>::over(alloc, store, NonZeroUsize::MIN) {
+    let ready = match CachedStore::<_, Bytes<READY>>::over(alloc, store, NonZeroUsize::MIN) {
         Ok(ready) => ready,
         Err(_) => rt.abort(),
     };

@@ -13,23 +13,23 @@ ghost use Rattle.tenant_tables.specs.Opened.{IsStrange};
 use sqlite::{Alter, Connection};
 use std::alloc::Global;
 use std::num::NonZeroUsize;
-use tenant_cache::CachedStore;
+use tenant_cache::{Bound, CachedStore};
 use tenant_core::{Routes, StoreFault};
 use tenant_service::Service;
 use tenant_store::Store;
 
-/// A service over the tables of a connection. In memory it keeps what tenants have, at most `BYTES`
-/// bytes in all, or what one tenant has.
-pub type TableService<S, const BYTES: u64> = Service<CachedStore<Store<S>, BYTES>>;
+/// A service over the tables of a connection. In memory it keeps what tenants have, at most the
+/// bound `B` in all, or what one tenant has.
+pub type TableService<S, B> = Service<CachedStore<Store<S>, B>>;
 
 /// Makes the service over `store`, which keeps at most `placements` placements.
 ///
 /// `Err(below)`: an allocation failed, and `below` is the store below the connection.
-fn service_over<S: Alter + Drop, const BYTES: u64>(
+fn service_over<S: Alter + Drop, B: Bound>(
     alloc: Global,
     store: Store<S>,
     placements: NonZeroUsize,
-) -> Result<TableService<S, BYTES>, S>
+) -> Result<TableService<S, B>, S>
     ensures made { IfOk result (λ service. service ≡ store) }
     ensures honest { IfErr result (λ e. IsClean (S.Store.view e) → IsHonest S.Store store) }
     ensures left { IfErr result (λ e. (trees : Trees) → S.Store.recovers e trees → (state S.Store store.0).may_leave trees) }
@@ -52,11 +52,11 @@ fn service_over<S: Alter + Drop, const BYTES: u64>(
 /// `Err((StoreFault::Failed, store))`: the tables may have been made, or those of schema 1
 /// replaced, whole, for the same states. `store` is the one below the connection, since a
 /// connection over it takes memory.
-pub fn open_service<S: Alter + Drop, const BYTES: u64>(
+pub fn open_service<S: Alter + Drop, B: Bound>(
     alloc: Global,
     conn: Connection<S>,
     placements: NonZeroUsize,
-) -> Result<TableService<S, BYTES>, (StoreFault, S)>
+) -> Result<TableService<S, B>, (StoreFault, S)>
     requires autocommit { conn.in_transaction ≡ false }
     requires open { HasCleanDisk (state S.Store conn) → IsTrue (state S.Store conn).is_open }
     requires settled { HasCleanDisk (state S.Store conn) → (state S.Store conn).now ≡ (state S.Store conn).committed }
@@ -84,9 +84,7 @@ pub fn open_service<S: Alter + Drop, const BYTES: u64>(
 }
 
 /// Closes the service, and gives its connection back unchanged. Allocates nothing.
-pub fn close_service<S: Alter + Drop, const BYTES: u64>(
-    service: TableService<S, BYTES>,
-) -> Connection<S>
+pub fn close_service<S: Alter + Drop, B: Bound>(service: TableService<S, B>) -> Connection<S>
     ensures same { result ≡ service.0 }
     ensures honest { HasCleanDisk (state S.Store result) → IsHonest S.Store service }
 {

@@ -3,10 +3,11 @@
 ghost use Rattle.std.specs.Prelude.{◌≡◌, ◌≤◌, ◌<◌, ◌-◌, ◌^◌, ℕ, length, min, take};
 ghost use Rattle.tenant_cache.specs.Bytes.{bytes_in, bytes_of};
 
+use crate::bound::Bound;
 use crate::ready::Ready;
 use lru::LruCache;
 use std::alloc::{AllocError, Global};
-use std::marker::Model;
+use std::marker::{Model, PhantomData};
 use std::rc::Rc;
 
 /// The greatest size in bytes of one entry, and of several together. No memory is larger.
@@ -14,16 +15,17 @@ const GREATEST_SIZE: u64 = u64::MAX / 2;
 
 type ByName = LruCache<String, Rc<Ready>>;
 
-/// What tenants have by name: one entry, or several whose sizes together are at most `BYTES`, a
-/// parameter of the type. The entry that was used least recently is forgotten first. Contracts say
-/// what a name may still have; only of a name that is put again do they say that it has it.
+/// What tenants have by name: one entry, or several whose sizes together are at most the bound `B`.
+/// The entry that was used least recently is forgotten first. Contracts say what a name may still
+/// have; only of a name that is put again do they say that it has it.
 #[derive(Drop)]
-pub struct Kept<const BYTES: u64> {
+pub struct Kept<B: Bound> {
     by_name: ByName,
     bytes: u64,
+    bound: PhantomData<B>,
 }
 
-impl<const BYTES: u64> Model for Kept<BYTES> {
+impl<B: Bound> Model for Kept<B> {
     ghost use Rattle.std.specs.Prelude.{◌≡◌, ◌≤◌, ◌<◌, ◌^◌, length, map, string_bytes};
     ghost use Rattle.tenant_cache.specs.Bytes.{bytes_in};
     ghost use Rattle.tenant_cache.specs.Kept.{Kept};
@@ -34,12 +36,12 @@ impl<const BYTES: u64> Model for Kept<BYTES> {
 
     ghost invariant = { λ a. record {
       bytes : a.bytes ≡ bytes_in a.by_name.entries;
-      is_bounded : 1 < length a.by_name.entries → a.bytes ≤ BYTES;
+      is_bounded : 1 < length a.by_name.entries → a.bytes ≤ B.bytes;
       small : a.bytes < 2 ^ 63;
     } };
 }
 
-impl<const BYTES: u64> Kept<BYTES> {
+impl<B: Bound> Kept<B> {
     ghost use Rattle.std.specs.Prelude.{◌≡◌, ◌≤◌, ◌<◌, ◌≢◌, ℕ, [], List, Option, Some, None, IfOk, IsSome, is_some, length, option_map, string_bytes};
     ghost use Rattle.tenant_cache.specs.Kept as spec;
     ghost use Rattle.tenant_cache.specs.Kept.{kept_at, bytes_kept, Updates};
@@ -54,13 +56,14 @@ impl<const BYTES: u64> Kept<BYTES> {
         Ok(Kept {
             by_name: LruCache::unbounded(alloc)?,
             bytes: 0,
+            bound: PhantomData,
         })
     }
 
     /// Returns the bytes that all kept entries take together.
     pub fn bytes(&self) -> u64
         ensures value { result ≡ bytes_kept self.now }
-        ensures within { 1 < length self.now.entries → result ≤ BYTES }
+        ensures within { 1 < length self.now.entries → result ≤ B.bytes }
     {
         self.bytes
     }
@@ -114,7 +117,7 @@ impl<const BYTES: u64> Kept<BYTES> {
         match self.by_name.push(name, ready) {
             Ok(displaced) => {
                 let bytes = bytes - size_of(&displaced);
-                self.bytes = evict(&mut self.by_name, bytes, BYTES.min(GREATEST_SIZE));
+                self.bytes = evict(&mut self.by_name, bytes, B::bytes().min(GREATEST_SIZE));
             }
             Err(refused) => {
                 let (name, _ready) = refused.value;

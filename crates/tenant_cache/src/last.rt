@@ -4,6 +4,7 @@ ghost use Rattle.std.specs.Prelude.{◌≡◌, true, IfOk, IfSome};
 ghost use Rattle.crush_content.specs.Contents.{content_of};
 ghost use Rattle.crush_pool.specs.Placers.{PoolOnMap};
 
+use crate::bound::Bound;
 use crate::kept::Kept;
 use crush_content::Content;
 use crush_map::Listed;
@@ -164,10 +165,7 @@ pub(crate) fn is_of_tenant<G: OfGroups>(last: &Option<Last<G>>, name: &str) -> b
 }
 
 /// Returns whether a value is kept that was found for a tenant of which nothing is kept by name.
-pub(crate) fn is_left<G: OfGroups, const BYTES: u64>(
-    last: &Option<Last<G>>,
-    kept: &Kept<BYTES>,
-) -> bool {
+pub(crate) fn is_left<G: OfGroups, B: Bound>(last: &Option<Last<G>>, kept: &Kept<B>) -> bool {
     match last {
         Some(last) => !kept.has(last.tenant()),
         None => false,

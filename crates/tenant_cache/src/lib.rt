@@ -2,6 +2,7 @@
 //! of bytes.
 #![tactic(auto)]
 
+mod bound;
 mod kept;
 mod last;
 mod placing;
@@ -9,6 +10,7 @@ mod ready;
 mod ready_store;
 mod reports;
 
+pub use bound::{Bound, Bytes};
 pub use kept::Kept;
 pub use ready::Ready;
 pub use ready_store::CachedStore;

@@ -7,6 +7,7 @@ ghost use Rattle.tenant_cache.specs.Kept.{kept_at};
 ghost use Rattle.tenant_cache.specs.Ready.{AreNumbersOf, HasNumber, IsWithNumber, Renumbers};
 ghost use Rattle.tenant_state.specs.State.{pool as pool_at};
 
+use crate::bound::Bound;
 use crate::kept::Kept;
 use crate::ready::Ready;
 use crate::reports::{Reports, moved, touched};
@@ -45,9 +46,9 @@ fn give_number(cache: &mut PlacementCache, inventory: &Inventory, pool: &TenantP
 
 /// Keeps a number for the content of a pool beside what the tenant `name` has, unless an allocation
 /// fails.
-fn keep_number<const BYTES: u64>(
+fn keep_number<B: Bound>(
     alloc: Global,
-    kept: &mut Kept<BYTES>,
+    kept: &mut Kept<B>,
     name: &str,
     ready: &Ready,
     pool: &TenantPool,
@@ -69,10 +70,10 @@ fn keep_number<const BYTES: u64>(
 
 /// Returns the number of the content of a tenant's pool on the newest version: the one that is kept
 /// beside what the tenant has, or a new one, which is then kept.
-fn number_for<const BYTES: u64>(
+fn number_for<B: Bound>(
     alloc: Global,
     cache: &mut PlacementCache,
-    kept: &mut Kept<BYTES>,
+    kept: &mut Kept<B>,
     name: &str,
     ready: &Ready,
     pool: &TenantPool,
@@ -117,10 +118,10 @@ fn place(
 
 /// Finds what a query asks of a tenant's pool, from what is kept, or from what is made now and
 /// kept.
-pub(crate) fn find<const BYTES: u64>(
+pub(crate) fn find<B: Bound>(
     alloc: Global,
     cache: &mut PlacementCache,
-    kept: &mut Kept<BYTES>,
+    kept: &mut Kept<B>,
     reports: &mut Reports,
     name: &str,
     ready: &Ready,

@@ -6,6 +6,7 @@ ghost use Rattle.tenant_state.specs.Receipts.{receipt_of};
 ghost use Rattle.tenant_core.specs.States.{Found, HasInventory, IsDamaged, LeavesAsItWas, LeavesAsItWasOr, Same, Shows};
 ghost use Rattle.tenant_core.specs.StoreReply.{is_failed};
 
+use crate::bound::Bound;
 use crate::kept::Kept;
 use crate::placing::find;
 use crate::ready::Ready;
@@ -19,24 +20,24 @@ use tenant_core::{Cached, Query, StoreFault, TenantStore};
 use tenant_state::{Change, Inventory, Receipt};
 
 /// A store over another one, which keeps in memory what the tenants that were used last have (at
-/// most `BYTES` bytes of it, or one tenant's; `BYTES` is a parameter of its type, as of `Kept`),
+/// most the bound `B` of it, or one tenant's),
 /// placements of their groups, and the values for reports. The values are found by the whole
 /// content that they depend on, so that after a change they are of use only where it left the
 /// content unchanged. They are freed where their tenant isn't kept any more or a tenant is removed,
 /// and touched groups where the tenant that asked for them changes. Contracts see the store below
 /// alone.
 #[derive(Drop)]
-pub struct CachedStore<T: TenantStore, const BYTES: u64> {
+pub struct CachedStore<T: TenantStore, B: Bound> {
     alloc: Global,
     below: T,
-    kept: Kept<BYTES>,
+    kept: Kept<B>,
     cache: PlacementCache,
     reports: Reports,
     /// Whether the store below has what tenants have in memory, and shares it at a load.
     shares: bool,
 }
 
-impl<T: TenantStore, const BYTES: u64> Model for CachedStore<T, BYTES> {
+impl<T: TenantStore, B: Bound> Model for CachedStore<T, B> {
     ghost use Rattle.std.specs.Prelude.{◌≡◌, false};
     ghost use Rattle.tenant_cache.specs.Ready.{AreKnown, AreTrue};
 
@@ -52,7 +53,7 @@ impl<T: TenantStore, const BYTES: u64> Model for CachedStore<T, BYTES> {
     } };
 }
 
-impl<T: TenantStore + Drop, const BYTES: u64> CachedStore<T, BYTES> {
+impl<T: TenantStore + Drop, B: Bound> CachedStore<T, B> {
     ghost use Rattle.std.specs.Prelude.{◌≡◌, IfErr, IfOk};
 
     /// Makes a store over `below`, which also keeps `placements` placements. Nothing is kept yet.
@@ -98,7 +99,7 @@ impl<T: TenantStore + Drop, const BYTES: u64> CachedStore<T, BYTES> {
     }
 }
 
-impl<T: TenantStore, const BYTES: u64> CachedStore<T, BYTES> {
+impl<T: TenantStore, B: Bound> CachedStore<T, B> {
     ghost use Rattle.std.specs.Prelude.{◌≡◌, false, Some};
     ghost use Rattle.tenant_core.specs.States.{HasInventory};
 
@@ -191,7 +192,7 @@ impl<T: TenantStore, const BYTES: u64> CachedStore<T, BYTES> {
     }
 }
 
-impl<T: TenantStore, const BYTES: u64> TenantStore for CachedStore<T, BYTES> {
+impl<T: TenantStore, B: Bound> TenantStore for CachedStore<T, B> {
     ghost use Rattle.std.specs.Prelude.{◌≡◌, ℕ, List, false};
 
     ghost is_honest = { λ store. T.is_honest store };

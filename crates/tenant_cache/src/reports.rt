@@ -8,6 +8,7 @@ ghost use Rattle.crush_report.specs.Moves.{gained_in};
 ghost use Rattle.crush_report.specs.Reports.{impact, moves};
 ghost use Rattle.tenant_core.specs.Cached.{Asks, IsCachedFor};
 
+use crate::bound::Bound;
 use crate::kept::Kept;
 use crate::last::{Last, is_left, is_of_tenant, renew};
 use crush_content::Content;
@@ -38,7 +39,7 @@ impl Reports {
     }
 
     /// Frees the values for tenants of which nothing is kept by name.
-    pub fn give_up_left<const BYTES: u64>(&mut self, kept: &Kept<BYTES>) {
+    pub fn give_up_left<B: Bound>(&mut self, kept: &Kept<B>) {
         if is_left(&self.touches, kept) {
             self.touches = None;
         }

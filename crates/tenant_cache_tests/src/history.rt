@@ -8,12 +8,12 @@ use crush_select::Slot;
 use std::alloc::Global;
 use std::process::Abort;
 use std::rc::Rc;
-use tenant_cache::CachedStore;
+use tenant_cache::{Bytes, CachedStore};
 use tenant_core::{Cached, Query, TenantStore};
 use tenant_messages::CallParts;
 use tenant_service::{MemoryStore, Service};
 
-pub(crate) type Store = CachedStore<MemoryStore, 1_000_000_000>;
+pub(crate) type Store = CachedStore<MemoryStore, Bytes<1_000_000_000>>;
 
 /// A store between two requests, for each of which a service takes it and gives it back.
 pub(crate) type Held = Option<Store>;

@@ -1,5 +1,5 @@
 -- What is said of the ready store over a store that is watched is said of the rows.
-use Rattle.std.proofs.Common.{◌∙◌, ap, arith, subst, sym}
+use Rattle.std.proofs.Common.{◌∙◌, ap, subst, sym}
 use Rattle.tenant_store.specs.Shown.{IsHonest}
 use Rattle.crush_app.specs.End.{LatchesAs}
 use Rattle.crush_files.proofs.EndFacts.{ends_on_tables, ready_still, ready_then}
@@ -27,13 +27,3 @@ returns-clause-ready g c =
 pub returns-in-Err-clause-ready : goal.returns-in-Err-clause-ready
 returns-in-Err-clause-ready g c = λ clean _.
     ready_still g.S.Store c.in-Err.store c.close.result c.close.ensures.same c.close.ensures.honest (ap (λ s. s.1) c.in-Err.ensures.refused ∙ c.requires.works) clean
-
--- the ready store has a size
-pub script_on_store-end-requires-room-T-TenantStore : goal.script_on_store-end-requires-room-T-TenantStore
-script_on_store-end-requires-room-T-TenantStore g c κs within = omega arith
-
-pub is_latched-has_failed-requires : goal.is_latched-has_failed-requires
-is_latched-has_failed-requires g c = omega arith
-
-pub into_below-watched-requires : goal.into_below-watched-requires
-into_below-watched-requires g c = omega arith
