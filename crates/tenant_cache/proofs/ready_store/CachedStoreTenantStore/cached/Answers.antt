@@ -30,7 +30,7 @@ find-requires g c =
     let known = subst (AreNumbersOf c.self.inside.cache) (sym c.deref-3.ensures) (c.self.invariant.numbers c.args.name.now c.in-Ok-Some.ready.value at) in
     let there = subst (λ i. pool c.in_ok-pool.pool.now.parts.id i ≡ Some c.in_ok-pool.pool.now) inventory
     (asked_pool c.args.query.now c.deref-2.result.now c.in_ok-pool.pool.now c.in_ok-pool.asked c.in_ok-pool.ensures) in
-    (known, there)
+    record { known = known; there = there }
 
 -- beside the name there may be other numbers, which are those of the cache too
 pub invariant_of-self-in_err-cached : goal.invariant_of-self-in_err-cached
