@@ -1,6 +1,6 @@
 //! Scripts that are played over an opened database file, which is then closed.
 
-ghost use Rattle.std.specs.Prelude.{◌≡◌, false, Err, Ok, IfOk, IfErr};
+ghost use Rattle.std.specs.Prelude.{◌≡◌, false, true, Err, Ok, IfOk, IfErr};
 ghost use Rattle.crush_app.specs.End.{EndsScript, LatchesAs};
 ghost use Rattle.crush_app.specs.Play.{PlaysScript};
 ghost use Rattle.sqlite.specs.Held.{state};
