@@ -85,7 +85,7 @@ def compare(plan, asked):
     least = sum((it.least for it in changes), fractions.Fraction(0))
     unknown = bool(new.left_out or plan.left_out)
     status = 1 if missing else 2 if unknown or not pools else 0
-    sentence = f"{counted(moved, 'group')} {'moves' if moved == 1 else 'move'}, and {counted(copies, *COPY)} {'is' if copies == 1 else 'are'} written anew" + (f"; {counted(missing, *COPY)} {'has' if missing == 1 else 'have'} no room" if missing else "") + ("; not all can be computed" if unknown else "") + "."
+    sentence = f"{counted(moved, 'group')} {'moves' if moved == 1 else 'move'}, and {counted(copies, *COPY)} {'is' if copies == 1 else 'are'} written anew" + (f"; {counted(missing, *COPY)} {'has' if missing == 1 else 'have'} no device" if missing else "") + ("; not all can be computed" if unknown else "") + "."
     rows = [
         ("groups that move", f"{moved:,} of {sum(it.pg_num for it in pools):,}"), ("copies that are written anew", f"{copies:,}" + (f", {sized(bytes_)}" if bytes_ is not None else "")),
         ("the least that the change of weights asks for", f"{rounded(least.numerator, least.denominator, 1):,} copies"), ("copies without a device afterwards", f"{missing:,}" if missing else "none"),
