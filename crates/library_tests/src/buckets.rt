@@ -1,5 +1,9 @@
 //! Calls of `crush_bucket` and `crush_choose`.
 
+ghost use Rattle.crush_bucket.specs.Tables.{tables_of};
+ghost use Rattle.crush_choose.specs.Rules.{CanRun};
+
+use crate::same::assert_same;
 use crush_bucket::{
     ListBucket, Perm, Picker, Scratch, Tables, TreeBucket, UniformBucket, can_be_asked,
 };
@@ -7,8 +11,10 @@ use crush_choose::{
     FirstnCall, IndepCall, Out, Row, Slot, Weights, choose_firstn, choose_indep, is_in, laws,
     run_rule,
 };
-use crush_map::{ItemId, Kind, Step, has_equal_weights};
+use crush_map::{CrushMap, ItemId, Kind, Rule, Step, Weight, has_equal_weights};
 use map_tests::drafts::{ONE, SOUND, Short, choose, draft, entries, map_of};
+use std::alloc::{AllocError, Global};
+use std::process::Abort;
 use std::test::Fail;
 
 /// A map whose root has one device, 3, and whose rule asks for two devices in their places.
@@ -26,6 +32,19 @@ const ONE_ITEM: Short<'static> = Short {
     ..SOUND
 };
 
+/// Picks from the uniform bucket of these items, for the input 0 at the attempt 0.
+fn uniform_pick(
+    rt: &impl Abort,
+    alloc: Global,
+    id: ItemId,
+    items: &[(ItemId, Weight)],
+) -> Result<ItemId, AllocError> {
+    assert!(rt; can_be_asked(items));
+    assert!(rt; has_equal_weights(items));
+    let mut perm = Perm::build(alloc, id, items.len())?;
+    Ok(UniformBucket::build(alloc, id, items)?.pick(&mut perm, 0, 0))
+}
+
 /// A list picks its second item where `hash4(0, 1, 0, -1)` is below its share, a tree its one item
 /// that has a weight, and a uniform bucket at the place `hash3(0, -1, 0) mod 3`. A permutation of
 /// which nothing was asked is the identity.
@@ -36,19 +55,17 @@ fn buckets_have_their_calls(rt: HostRuntime) -> Result<(), Fail> {
     let two = entries(alloc, &[(0, ONE), (1, 23 * ONE)])?;
     assert!(rt; can_be_asked(&two));
     let mut perm = Perm::build(alloc, id, two.len())?;
-    assert_eq!(rt; perm.kept(), 0);
+    assert_same(&rt, &perm.kept(), &0);
     let item = ListBucket::build(alloc, id, &two)?.pick(&mut perm, 0, 0);
-    assert_eq!(rt; item, ItemId(1));
+    assert_same(&rt, &item, &ItemId(1));
     let light = entries(alloc, &[(10, 0), (11, ONE), (12, 0)])?;
     assert!(rt; can_be_asked(&light));
     let mut perm = Perm::build(alloc, id, light.len())?;
     let item = TreeBucket::build(alloc, id, &light)?.pick(&mut perm, 7, 3);
-    assert_eq!(rt; item, ItemId(11));
+    assert_same(&rt, &item, &ItemId(11));
     let equal = entries(alloc, &[(5, ONE), (6, ONE), (7, ONE)])?;
-    assert!(rt; can_be_asked(&equal) && has_equal_weights(&equal));
-    let mut perm = Perm::build(alloc, id, equal.len())?;
-    let item = UniformBucket::build(alloc, id, &equal)?.pick(&mut perm, 0, 0);
-    assert_eq!(rt; item, ItemId(7));
+    let item = uniform_pick(&rt, alloc, id, &equal)?;
+    assert_same(&rt, &item, &ItemId(7));
     Ok(())
 }
 
@@ -63,12 +80,12 @@ fn tables_have_their_calls(rt: HostRuntime) -> Result<(), Fail> {
     };
     assert!(rt; tables.bucket_of(ItemId(-2)).is_none());
     assert!(rt; !tables.is_empty(root));
-    assert_eq!(rt; tables.type_of(root), 10);
-    assert_eq!(rt; tables.kind(root), Kind::Uniform);
-    assert_eq!(rt; tables.size(root), 1);
-    assert_eq!(rt; tables.tunables(), map.tunables());
+    assert_same(&rt, &tables.type_of(root), &10);
+    assert_same(&rt, &tables.kind(root), &Kind::Uniform);
+    assert_same(&rt, &tables.size(root), &1);
+    assert_same(&rt, &tables.tunables(), &map.tunables());
     assert!(rt; tables.has_device(3) && !tables.has_device(4));
-    assert_eq!(rt; tables.pick(root, &mut scratch, 5, 2), ItemId(3));
+    assert_same(&rt, &tables.pick(root, &mut scratch, 5, 2), &ItemId(3));
     Ok(())
 }
 
@@ -139,6 +156,16 @@ fn choosing_has_its_calls(rt: HostRuntime) -> Result<(), Fail> {
     Ok(())
 }
 
+/// Returns the one rule of a map.
+fn rule_of<'a>(rt: &impl Abort, map: &'a CrushMap) -> &'a Rule
+    ensures { CanRun (tables_of map.now) result.now }
+{
+    let rules = map.rules();
+    assert!(rt; rules.len() == 1);
+    laws::rules_of_a_map_can_run();
+    &rules[0]
+}
+
 #[test]
 fn rules_have_their_calls(rt: HostRuntime) -> Result<(), Fail> {
     let alloc = rt.alloc();
@@ -147,10 +174,15 @@ fn rules_have_their_calls(rt: HostRuntime) -> Result<(), Fail> {
     let mut scratch = Scratch::build(alloc, &tables)?;
     let weights = Weights::build(alloc, &map, &[])?;
     let mut out = Out::build(alloc)?;
-    let rules = map.rules();
-    assert_eq!(rt; rules.len(), 1);
-    laws::rules_of_a_map_can_run();
-    run_rule(&tables, &mut scratch, &rules[0], 9, 2, &weights, &mut out);
+    run_rule(
+        &tables,
+        &mut scratch,
+        rule_of(&rt, &map),
+        9,
+        2,
+        &weights,
+        &mut out,
+    );
     assert!(rt; out.items() == [Some(ItemId(3)), None].as_slice());
     assert!(rt; out.trace() == [3u32].as_slice());
     Ok(())

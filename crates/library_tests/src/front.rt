@@ -1,5 +1,6 @@
 //! Calls of `crush_http` and `crush_app`.
 
+use crate::same::assert_same;
 use common_tests::rows::{CREATION_OF_A, IMPORT_BY_A, Row, calls_of, check_reply};
 use common_tests::streams::{Cuts, MANY, Reader, Writer};
 use crush_app::{CheckEnd, ScriptEnd, check_run, script_run};
@@ -10,6 +11,7 @@ use sqlite::Connection;
 use std::num::NonZeroUsize;
 use std::test::Fail;
 use table_service::{close_service, open_service};
+use tenant_core::TenantStore;
 use text_tests::texts::DEVICE_0;
 
 /// The row that shows the tenant after the import.
@@ -56,25 +58,38 @@ fn services_have_their_calls(rt: HostRuntime) -> Result<(), Fail> {
     Ok(())
 }
 
+/// Serves the requests, and returns whether the replies are those of the rows.
+fn are_served<T: TenantStore>(service: &mut Service<T>) -> bool {
+    for row in &ROWS {
+        let (method, path, body, _, _) = *row;
+        let reply = service.request(CallParts {
+            method: method.as_bytes(),
+            path,
+            body: body.as_bytes(),
+        });
+        if check_reply(&reply, row).is_err() {
+            return false;
+        }
+    }
+    true
+}
+
 /// What a service over tables did is in the tables after it is closed.
 #[test]
 fn services_are_opened_and_closed(rt: HostRuntime) -> Result<(), Fail> {
     let alloc = rt.alloc();
     let conn = Connection::open_in_memory(alloc)?;
-    let Ok(mut service) = open_service::<_, 1_000_000>(alloc, conn, NonZeroUsize::MIN) else {
+    let Ok(mut service) = open_service::<_, tenant_cache::Bytes<1_000_000>>(
+        alloc,
+        conn,
+        NonZeroUsize::MIN,
+    ) else {
         return Err(Fail::new("the service isn't opened"));
     };
-    for row in &ROWS {
-        let reply = service.request(CallParts {
-            method: row.0.as_bytes(),
-            path: row.1,
-            body: row.2.as_bytes(),
-        });
-        assert!(rt; check_reply(&reply, row).is_ok());
-    }
+    assert!(rt; are_served(&mut service));
     let mut conn = close_service(service);
     let found = conn.query_all("SELECT version FROM maps", &[]);
-    assert!(rt; matches!(found, Ok(rows) if rows.len() == 1));
+    assert!(rt; matches!(&found, Ok(rows) if rows.len() == 1));
     Ok(())
 }
 
@@ -101,7 +116,7 @@ fn connections_have_their_call(rt: HostRuntime) -> Result<(), Fail> {
     let mut service = Service::in_memory(alloc)?;
     let mut writer = Writer::new(alloc, MANY);
     let ended = serve(alloc, &mut service, &mut reader_of(STREAM), &mut writer)?;
-    assert_eq!(rt; ended, Ended::Closed);
+    assert_same(&rt, &ended, &Ended::Closed);
     assert!(rt; writer.taken.as_slice() == REPLIES);
     Ok(())
 }
@@ -114,14 +129,14 @@ fn crush_app_has_its_calls(rt: HostRuntime) -> Result<(), Fail> {
     let mut writer = Writer::new(alloc, MANY);
     let script = b"PUT /t/a\nGET /t/a\n";
     let end = script_run(alloc, &mut service, &mut reader_of(script), &mut writer)?;
-    assert_eq!(rt; end, ScriptEnd::Done);
+    assert_same(&rt, &end, &ScriptEnd::Done);
     assert!(rt;
         writer.taken.as_slice()
             == b"201 {\"epoch\":0,\"tenant\":\"a\"}\n200 {\"devices\":0,\"epoch\":0,\"pools\":0,\"tenant\":\"a\",\"versions\":0}\n".as_slice()
     );
     let mut writer = Writer::new(alloc, MANY);
     let end = check_run(alloc, &mut reader_of(DEVICE_0.as_bytes()), &mut writer)?;
-    assert_eq!(rt; end, CheckEnd::Accepted);
+    assert_same(&rt, &end, &CheckEnd::Accepted);
     assert!(rt; writer.taken.as_slice() == b"ok devices 1 buckets 1 rules 1\n".as_slice());
     Ok(())
 }

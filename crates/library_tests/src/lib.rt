@@ -11,6 +11,8 @@ mod maps;
 #[cfg(test)]
 mod pools;
 #[cfg(test)]
+mod same;
+#[cfg(test)]
 mod stores;
 #[cfg(test)]
 mod tenants;

@@ -1,5 +1,6 @@
 //! Calls of `crush_hash`, `crush_map` and `crush_text`.
 
+use crate::same::assert_same;
 use crush_hash::{hash1, hash2, hash3, hash4, hash4_lanes, hash5, name_hash};
 use crush_map::{
     Bucket, CrushMap, Device, Element, FaultCode, ItemId, Kind, MapFault, Rule, Step, TypeName,
@@ -15,14 +16,14 @@ use text_tests::texts::{DEVICE_0, map_text};
 #[test]
 fn crush_hash_has_its_calls(rt: HostRuntime) {
     let most = u32::MAX;
-    assert_eq!(rt; hash1(1), 3_574_081_617);
-    assert_eq!(rt; hash2(0, 1), 91_478_055);
-    assert_eq!(rt; hash3(0, most, 0), 573_963_155);
-    assert_eq!(rt; hash4(0, 1, 0, most), 2_425_877_818);
-    assert_eq!(rt; hash5(1, 2, 3, 4, 5), 1_262_657_953);
-    assert_eq!(rt; hash4_lanes(0, &[1; 8], 0, most), [2_425_877_818; 8]);
-    assert_eq!(rt; name_hash(b""), 3_175_731_469);
-    assert_eq!(rt; name_hash(b"a"), 703_514_648);
+    assert_same(&rt, &hash1(1), &3_574_081_617);
+    assert_same(&rt, &hash2(0, 1), &91_478_055);
+    assert_same(&rt, &hash3(0, most, 0), &573_963_155);
+    assert_same(&rt, &hash4(0, 1, 0, most), &2_425_877_818);
+    assert_same(&rt, &hash5(1, 2, 3, 4, 5), &1_262_657_953);
+    assert_same(&rt, &hash4_lanes(0, &[1; 8], 0, most), &[2_425_877_818; 8]);
+    assert_same(&rt, &name_hash(b""), &3_175_731_469);
+    assert_same(&rt, &name_hash(b"a"), &703_514_648);
 }
 
 /// A map of the devices 0 and 3, the second of which is the item of the root.
@@ -49,7 +50,7 @@ fn crush_map_has_its_calls(rt: HostRuntime) -> Result<(), Fail> {
     let buckets: &[Bucket] = map.buckets();
     let rules: &[Rule] = map.rules();
     assert!(rt; devices.len() == 2 && types.len() == 4 && buckets.len() == 1 && rules.len() == 1);
-    assert_eq!(rt; map.tunables(), JEWEL);
+    assert_same(&rt, &map.tunables(), &JEWEL);
     let Err((draft, fault)) = CrushMap::check(alloc, draft(alloc, UNDECLARED)?)? else {
         return Err(Fail::new("an item that isn't declared is taken"));
     };
@@ -58,10 +59,14 @@ fn crush_map_has_its_calls(rt: HostRuntime) -> Result<(), Fail> {
         element: Element::Buckets,
         index: 0,
     };
-    assert_eq!(rt; fault, unknown);
-    assert_eq!(rt; draft.buckets.as_slice().len(), 1);
-    assert_eq!(rt; weight_from_text(b"0.1"), Some(Weight(6_553)));
-    assert_eq!(rt; weight_text(alloc, Weight(6_553))?.as_str(), "0.10000");
+    assert_same(&rt, &fault, &unknown);
+    assert_same(&rt, &draft.buckets.as_slice().len(), &1);
+    assert_same(&rt, &weight_from_text(b"0.1"), &Some(Weight(6_553)));
+    assert_same(
+        &rt,
+        &weight_text(alloc, Weight(6_553))?.as_str(),
+        &"0.10000",
+    );
     Ok(())
 }
 
@@ -134,6 +139,6 @@ fn crush_text_has_its_calls(rt: HostRuntime) -> Result<(), Fail> {
         line: 13,
         code: TextCode::X2,
     };
-    assert_eq!(rt; fault, straw);
+    assert_same(&rt, &fault, &straw);
     Ok(())
 }

@@ -1,12 +1,17 @@
 //! Calls of `crush_pool`, `crush_report` and `crush_cache`.
 
-ghost use Rattle.std.specs.Prelude.{◌≡◌, IfOk};
+ghost use Rattle.std.specs.Prelude.{◌≡◌, IfOk, is_some, true};
+ghost use Rattle.crush_bucket.specs.Tables.{tables_of};
+ghost use Rattle.crush_content.specs.Contents.{content_of};
+ghost use Rattle.crush_pool.specs.Exceptions.{are_pairs};
+ghost use Rattle.crush_pool.specs.Placements.{rule_numbered};
 ghost use Rattle.crush_writing.specs.Canonical.{canonical};
 
+use crate::same::assert_same;
 use crush_bucket::{Scratch, Tables};
 use crush_cache::{Content, PlacementCache, SharedExceptions, SharedStates, SharedText};
 use crush_choose::{Slot, Weights};
-use crush_map::{CrushMap, ItemId, Text};
+use crush_map::{CrushMap, ItemId, Listed, Text};
 use crush_pool::{
     DeviceState, DeviceStates, Exceptions, Pair, Placement, Placer, Pool, PoolFault, PoolParts,
     mask_of, place, reweights_of, rule_with_id, stable_mod,
@@ -64,10 +69,10 @@ fn is_on_0(placement: &Placement, seed: u32) -> bool {
 fn pools_have_their_calls(rt: HostRuntime) -> Result<(), Fail> {
     let alloc = rt.alloc();
     let twelve = pool(alloc, 12, false)?;
-    assert_eq!(rt; twelve.group_of(b""), 5);
-    assert_eq!(rt; stable_mod(3_175_731_469, 12, mask_of(12)), 5);
-    assert_eq!(rt; twelve.seed_of(5), 6);
-    assert_eq!(rt; pool(alloc, 8, true)?.seed_of(0), 91_478_055);
+    assert_same(&rt, &twelve.group_of(b""), &5);
+    assert_same(&rt, &stable_mod(3_175_731_469, 12, mask_of(12)), &5);
+    assert_same(&rt, &twelve.seed_of(5), &6);
+    assert_same(&rt, &pool(alloc, 8, true)?.seed_of(0), &91_478_055);
     let unnamed = Pool::new(parts(alloc, "", 12, false)?);
     assert!(rt; matches!(unnamed, Err(PoolFault::P1)));
     let down = DeviceState {
@@ -110,47 +115,114 @@ fn exceptions_have_their_calls(rt: HostRuntime) -> Result<(), Fail> {
     Ok(())
 }
 
+/// Places a group of a pool on a map, by the rule 0, with tables of the map. `Err`: an allocation
+/// failed, or the map lacks the rule.
+fn place_on(
+    alloc: Global,
+    map: &CrushMap,
+    tables: &Tables,
+    pool: &Pool,
+    exceptions: &Exceptions,
+    weights: &Weights,
+    flags: &DeviceStates,
+    group: u32,
+) -> Result<Result<Placement, PoolFault>, Fail>
+    requires tables { tables.now ≡ tables_of map.now }
+    requires pairs { are_pairs pool.now.pg_num exceptions.now ≡ true }
+{
+    let Some(rule) = rule_with_id(map, 0) else {
+        return Err(Fail::new("the map has no rule 0"));
+    };
+    let mut scratch = Scratch::build(alloc, tables)?;
+    let answer = place(
+        alloc,
+        tables,
+        &mut scratch,
+        pool,
+        exceptions,
+        rule,
+        weights,
+        flags,
+        group,
+    )?;
+    Ok(answer)
+}
+
+/// Places a group of a pool without exceptions on a map, by the rule 0. `Err`: an allocation
+/// failed, or the map lacks the rule.
+fn placed(
+    alloc: Global,
+    map: &CrushMap,
+    pool: &Pool,
+    group: u32,
+) -> Result<Result<Placement, PoolFault>, Fail> {
+    let tables = Tables::build(alloc, map)?;
+    let none = Exceptions::none(alloc)?;
+    let weights = Weights::build(alloc, map, &[])?;
+    let flags = DeviceStates::build(alloc, &[])?;
+    place_on(alloc, map, &tables, pool, &none, &weights, &flags, group)
+}
+
 #[test]
 fn placing_has_its_call(rt: HostRuntime) -> Result<(), Fail> {
     let alloc = rt.alloc();
     let map = map_of(alloc, DEVICE_0)?;
-    let tables = Tables::build(alloc, &map)?;
-    let mut scratch = Scratch::build(alloc, &tables)?;
     let pool = pool(alloc, 12, false)?;
-    let none = Exceptions::none(alloc)?;
-    let weights = Weights::build(alloc, &map, &[])?;
-    let flags = DeviceStates::build(alloc, &[])?;
-    let Some(rule) = rule_with_id(&map, 0) else {
-        return Err(Fail::new("the map has no rule 0"));
-    };
-    let Ok(placement) = place(
-        alloc,
-        &tables,
-        &mut scratch,
-        &pool,
-        &none,
-        rule,
-        &weights,
-        &flags,
-        5,
-    )?
-    else {
-        return Err(Fail::new("group 5 isn't placed"));
-    };
-    assert!(rt; is_on_0(&placement, 6));
-    let after = place(
-        alloc,
-        &tables,
-        &mut scratch,
-        &pool,
-        &none,
-        rule,
-        &weights,
-        &flags,
-        12,
-    )?;
-    assert!(rt; matches!(after, Err(PoolFault::P2)));
+    let answer = placed(alloc, &map, &pool, 5)?;
+    assert!(rt; matches!(&answer, Ok(placement) if is_on_0(placement, 6)));
+    let after = placed(alloc, &map, &pool, 12)?;
+    assert!(rt; matches!(&after, Err(PoolFault::P2)));
     Ok(())
+}
+
+/// Asserts that a map has the rule of a pool.
+fn assert_rule(rt: &impl Abort, map: &CrushMap, pool: &Pool)
+    ensures { is_some (rule_numbered map.now pool.now.rule) ≡ true }
+{
+    if rule_with_id(map, pool.parts().rule).is_none() {
+        rt.abort()
+    }
+}
+
+/// Writes the usage of a pool without exceptions on a map.
+fn used(
+    rt: &impl Abort,
+    alloc: Global,
+    map: &CrushMap,
+    pool: &Pool,
+) -> Result<Vec<u8>, AllocError> {
+    assert_rule(rt, map, pool);
+    let none = Exceptions::none(alloc)?;
+    let rows = usage(alloc, map, pool, &none, &[])?;
+    usage_csv(alloc, rows.as_slice())
+}
+
+/// Writes what moves of a pool without exceptions from one map to another.
+fn moved(
+    rt: &impl Abort,
+    alloc: Global,
+    from: &CrushMap,
+    to: &CrushMap,
+    pool: &Pool,
+) -> Result<Vec<u8>, AllocError> {
+    assert_rule(rt, from, pool);
+    assert_rule(rt, to, pool);
+    let none = Exceptions::none(alloc)?;
+    let rows = moves(alloc, from, to, pool, &none, &[])?;
+    moves_csv(alloc, rows.as_slice())
+}
+
+/// Finds the groups of a pool without exceptions that a device can touch.
+fn touched(
+    rt: &impl Abort,
+    alloc: Global,
+    map: &CrushMap,
+    pool: &Pool,
+    device: u32,
+) -> Result<Listed<u32>, AllocError> {
+    assert_rule(rt, map, pool);
+    let none = Exceptions::none(alloc)?;
+    impact(alloc, map, pool, &none, &[], device)
 }
 
 /// All groups of a pool are on the one device of the map. On the map of another device each group
@@ -160,23 +232,16 @@ fn reports_have_their_calls(rt: HostRuntime) -> Result<(), Fail> {
     let alloc = rt.alloc();
     let (map, other) = (map_of(alloc, DEVICE_0)?, map_of(alloc, DEVICE_7)?);
     let pool = pool(alloc, 2, true)?;
-    let none = Exceptions::none(alloc)?;
-    assert!(rt; rule_with_id(&map, 0).is_some() && rule_with_id(&other, 0).is_some());
-    let used = usage(alloc, &map, &pool, &none, &[])?;
-    let text = usage_csv(alloc, used.as_slice())?;
+    let text = used(&rt, alloc, &map, &pool)?;
     assert!(rt;
         text.as_slice() == b"device,groups,entries,primaries,permille\n0,2,2,2,1000\n".as_slice()
     );
-    let moved = moves(alloc, &map, &other, &pool, &none, &[])?;
-    let text = moves_csv(alloc, moved.as_slice())?;
+    let text = moved(&rt, alloc, &map, &other, &pool)?;
     assert!(rt; text.as_slice() == b"group,gained,old,new\n0,1,0,7\n1,1,0,7\n".as_slice());
-    let touched = impact(alloc, &map, &pool, &none, &[], 0)?;
-    assert!(rt; touched.as_slice() == [0u32, 1].as_slice());
-    assert!(rt;
-        impact(alloc, &map, &pool, &none, &[], 7)?
-            .as_slice()
-            .is_empty()
-    );
+    let groups = touched(&rt, alloc, &map, &pool, 0)?;
+    assert!(rt; groups.as_slice() == [0u32, 1].as_slice());
+    let groups = touched(&rt, alloc, &map, &pool, 7)?;
+    assert!(rt; groups.as_slice().is_empty());
     Ok(())
 }
 
@@ -207,34 +272,74 @@ fn text_of(rt: &impl Abort, alloc: Global, map: &CrushMap) -> Result<SharedText,
     }
 }
 
+/// Makes the content that the placements of a pool depend on.
+fn content_with(
+    rt: &impl Abort,
+    alloc: Global,
+    map: &CrushMap,
+    states: &SharedStates,
+    pool: &Rc<Pool>,
+    exceptions: &SharedExceptions,
+) -> Result<Content, AllocError>
+    ensures { IfOk result (λ content. content ≡ record { text = canonical map.now; states = states.now; pool = pool.now.value; pairs = exceptions.now }) }
+{
+    let text = text_of(rt, alloc, map)?;
+    Ok(Content::new(text, states.share()?, pool.clone()?, exceptions.share()?))
+}
+
+/// Asks a new cache twice for the group 0 of a placer, which has the content `content`, and returns
+/// whether both answers are that of the device 0 alone.
+fn is_twice_on_0(alloc: Global, placer: &Placer<'_>, content: &Content) -> Result<bool, AllocError>
+    requires { content.now ≡ content_of placer.now }
+{
+    let mut cache = PlacementCache::new(alloc, NonZeroUsize::MIN)?;
+    let first = cache.place(placer, content, 0)?;
+    let again = cache.place(placer, content, 0)?;
+    match (&first, &again) {
+        (Ok(first), Ok(again)) => Ok(is_on_0(first, 91_478_055) && is_on_0(again, 91_478_055)),
+        _ => Ok(false),
+    }
+}
+
+/// Asks a new cache twice for the group 0 of a pool.
+fn ask_twice(
+    rt: &impl Abort,
+    alloc: Global,
+    map: &CrushMap,
+    states: &SharedStates,
+    pool: &Rc<Pool>,
+    exceptions: &SharedExceptions,
+) -> Result<bool, AllocError>
+    requires { are_pairs pool.now.value.pg_num exceptions.now ≡ true }
+{
+    let content = content_with(rt, alloc, map, states, pool, exceptions)?;
+    let tables = Tables::build(alloc, map)?;
+    let list = states.as_slice();
+    let reweights = reweights_of(alloc, list)?;
+    let weights = Weights::build(alloc, map, &reweights)?;
+    let flags = DeviceStates::build(alloc, list)?;
+    match Placer::new(
+        map,
+        &tables,
+        list,
+        &weights,
+        &flags,
+        pool,
+        exceptions.exceptions(),
+    ) {
+        Some(placer) => is_twice_on_0(alloc, &placer, &content),
+        None => rt.abort(),
+    }
+}
+
 /// A cache answers what the pool's map does, twice.
 #[test]
 fn crush_cache_has_its_calls(rt: HostRuntime) -> Result<(), Fail> {
     let alloc = rt.alloc();
     let map = map_of(alloc, DEVICE_0)?;
-    let tables = Tables::build(alloc, &map)?;
     let states = SharedStates::new(Vec::new(alloc))?;
-    let weights = Weights::build(alloc, &map, &reweights_of(alloc, states.as_slice())?)?;
-    let flags = DeviceStates::build(alloc, states.as_slice())?;
     let pool = Rc::new(alloc, pool(alloc, 8, true)?)?;
     let exceptions = SharedExceptions::new(alloc, Exceptions::none(alloc)?)?;
-    let text = text_of(&rt, alloc, &map)?;
-    let content = Content::new(text, states.share()?, pool.clone()?, exceptions.share()?);
-    let Some(placer) = Placer::new(
-        &map,
-        &tables,
-        states.as_slice(),
-        &weights,
-        &flags,
-        &pool,
-        exceptions.exceptions(),
-    ) else {
-        return Err(Fail::new("the map has no rule 0"));
-    };
-    let mut cache = PlacementCache::new(alloc, NonZeroUsize::MIN)?;
-    let first = cache.place(&placer, &content, 0)?;
-    let again = cache.place(&placer, &content, 0)?;
-    assert!(rt; matches!(first, Ok(placement) if is_on_0(&placement, 91_478_055)));
-    assert!(rt; matches!(again, Ok(placement) if is_on_0(&placement, 91_478_055)));
+    assert!(rt; ask_twice(&rt, alloc, &map, &states, &pool, &exceptions)?);
     Ok(())
 }

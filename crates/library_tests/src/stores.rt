@@ -5,8 +5,9 @@ ghost use Rattle.tenant_state.specs.State.{CanMake, fresh};
 
 use crate::tenants::first_change;
 use sqlite::Connection;
+use std::alloc::{AllocError, Global};
 use std::test::Fail;
-use tenant_core::Change;
+use tenant_core::{Change, TenantState};
 use tenant_store::{
     Exception, PoolRow, ReceiptRow, State, Store, StoreFault, TenantStore, VersionRow, from_rows,
 };
@@ -22,9 +23,9 @@ fn write<T: TenantStore>(
     requires open { T.latched store.old ≡ false }
     requires makes { CanMake change.now fresh }
 {
-    if store.load(name)?.is_some() {
+    let None = store.load(name)? else {
         return Err(StoreFault::Damaged);
-    }
+    };
     store.create(name)?;
     store.commit(name, change)?;
     if removes {
@@ -53,17 +54,27 @@ fn tenant_store_has_its_calls(rt: HostRuntime) -> Result<(), Fail> {
     Ok(())
 }
 
+/// Makes the state of a tenant of this epoch that has no rows but these exceptions. `None`: they
+/// are the rows of no state.
+fn state_of(
+    alloc: Global,
+    epoch: i64,
+    exceptions: &[Exception],
+) -> Result<Option<TenantState>, AllocError> {
+    let versions: Vec<VersionRow> = Vec::new(alloc);
+    let states: Vec<State> = Vec::new(alloc);
+    let pools: Vec<PoolRow> = Vec::new(alloc);
+    let receipts: Vec<ReceiptRow> = Vec::new(alloc);
+    from_rows(alloc, epoch, versions, states, pools, exceptions, receipts)
+}
+
 /// No rows are those of a tenant that was just created, which has the epoch 0. An exception has its
 /// pool.
 #[test]
 fn states_come_from_rows(rt: HostRuntime) -> Result<(), Fail> {
     let alloc = rt.alloc();
-    let versions: Vec<VersionRow> = Vec::new(alloc);
-    let states: Vec<State> = Vec::new(alloc);
-    let pools: Vec<PoolRow> = Vec::new(alloc);
-    let receipts: Vec<ReceiptRow> = Vec::new(alloc);
-    let made = from_rows(alloc, 0, versions, states, pools, &[], receipts)?;
-    assert!(rt; matches!(made, Some(state) if state.inventory().epoch() == 0));
+    let made = state_of(alloc, 0, &[])?;
+    assert!(rt; matches!(&made, Some(state) if state.inventory().epoch() == 0));
     let alone = Exception {
         pool: 1,
         place: 0,
@@ -71,25 +82,7 @@ fn states_come_from_rows(rt: HostRuntime) -> Result<(), Fail> {
         from: 0,
         to: 1,
     };
-    let none = from_rows(
-        alloc,
-        0,
-        Vec::new(alloc),
-        Vec::new(alloc),
-        Vec::new(alloc),
-        &[alone],
-        Vec::new(alloc),
-    )?;
-    assert!(rt; none.is_none());
-    let none = from_rows(
-        alloc,
-        1,
-        Vec::new(alloc),
-        Vec::new(alloc),
-        Vec::new(alloc),
-        &[],
-        Vec::new(alloc),
-    )?;
-    assert!(rt; none.is_none());
+    assert!(rt; state_of(alloc, 0, &[alone])?.is_none());
+    assert!(rt; state_of(alloc, 1, &[])?.is_none());
     Ok(())
 }

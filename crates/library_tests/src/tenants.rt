@@ -3,12 +3,13 @@
 ghost use Rattle.std.specs.Prelude.{IfOk};
 ghost use Rattle.tenant_state.specs.State.{CanMake, fresh};
 
+use crate::same::assert_same;
 use common_tests::imports::FIRST;
 use std::alloc::Global;
 use std::test::Fail;
 use tenant_core::{
-    Action, CallParts, Change, Made, Problem, Refusal, Reply, Routes, TenantState, answer, apply,
-    create, laws, read_request, refused,
+    Action, CallParts, Change, Command, Inventory, Made, Problem, Refusal, Reply, Routes,
+    TenantState, answer, apply, create, laws, read_request, refused,
 };
 
 /// Returns the import of a map by a tenant.
@@ -17,6 +18,22 @@ fn import_call<'a>() -> CallParts<'a> {
         method: b"POST",
         path: "/t/a/maps",
         body: FIRST.as_bytes(),
+    }
+}
+
+/// Makes the change that a first import makes of a state. `Err`: an allocation failed, or the reply
+/// isn't that to a first import.
+fn change_of(alloc: Global, state: &TenantState, command: &Command<'_>) -> Result<Change, Fail>
+    ensures { IfOk result (λ change. CanMake change state.now) }
+{
+    laws::each_decision_fits_its_state();
+    let (change, reply): (Option<Change>, Reply) = apply(alloc, state, command)?;
+    if reply.status != 201 || reply.body.as_str() != "{\"epoch\":1,\"version\":1}" {
+        return Err(Fail::new("the import has another reply"));
+    }
+    match change {
+        Some(change) => Ok(change),
+        None => Err(Fail::new("the import makes no change")),
     }
 }
 
@@ -32,26 +49,12 @@ pub(crate) fn first_change(alloc: Global) -> Result<Change, Fail>
     let Action::Command(command) = &request.action else {
         return Err(Fail::new("the import is no command"));
     };
-    laws::each_decision_fits_its_state();
     let state: TenantState = create(alloc)?;
-    let (change, reply): (Option<Change>, Reply) = apply(alloc, &state, command)?;
-    if reply.status != 201 || reply.body.as_str() != "{\"epoch\":1,\"version\":1}" {
-        return Err(Fail::new("the import has another reply"));
-    }
-    match change {
-        Some(change) => Ok(change),
-        None => Err(Fail::new("the import makes no change")),
-    }
+    change_of(alloc, &state, command)
 }
 
-/// The list's second item is picked, which alone has a weight.
-#[test]
-fn tenant_core_has_its_calls(rt: HostRuntime) -> Result<(), Fail> {
-    let alloc = rt.alloc();
-    let change = first_change(alloc)?;
-    assert!(rt; matches!(&change.made, Made::Version(_)));
-    let state = create(alloc)?.after(alloc, &change)?;
-    assert_eq!(rt; state.inventory().newest(), 1);
+/// Answers a pick by a tenant. `Err`: an allocation failed, or the call isn't read as a query.
+fn picked(alloc: Global, inventory: &Inventory) -> Result<Reply, Fail> {
     let routes = Routes::build(alloc)?;
     let pick = CallParts {
         method: b"POST",
@@ -64,9 +67,20 @@ fn tenant_core_has_its_calls(rt: HostRuntime) -> Result<(), Fail> {
     let Action::Query(query) = &request.action else {
         return Err(Fail::new("the pick is no query"));
     };
-    let reply = answer(alloc, state.inventory(), query)?;
-    assert_eq!(rt; reply.status, 200);
-    assert_eq!(rt; reply.body.as_str(), "{\"item\":9}");
+    Ok(answer(alloc, inventory, query)?)
+}
+
+/// The list's second item is picked, which alone has a weight.
+#[test]
+fn tenant_core_has_its_calls(rt: HostRuntime) -> Result<(), Fail> {
+    let alloc = rt.alloc();
+    let change = first_change(alloc)?;
+    assert!(rt; matches!(&change.made, Made::Version(_)));
+    let state = create(alloc)?.after(alloc, &change)?;
+    assert_same(&rt, &state.inventory().newest(), &1);
+    let reply = picked(alloc, state.inventory())?;
+    assert_same(&rt, &reply.status, &200);
+    assert_same(&rt, &reply.body.as_str(), &"{\"item\":9}");
     Ok(())
 }
 
@@ -85,7 +99,7 @@ fn refusals_have_their_replies(rt: HostRuntime) -> Result<(), Fail> {
     };
     assert!(rt; matches!(problem, Problem::NoPath));
     let reply = refused(alloc, problem)?;
-    assert_eq!(rt; reply.status, 404);
-    assert_eq!(rt; reply.body.as_str(), "{\"error\":\"no_path\"}");
+    assert_same(&rt, &reply.status, &404);
+    assert_same(&rt, &reply.body.as_str(), &"{\"error\":\"no_path\"}");
     Ok(())
 }
