@@ -87,8 +87,8 @@ help:
 ## make page-check      tries the page in chromium; pictures of it are in build/page-check
 ## make package-check   as root: installs the package in a Debian with nothing else, made by
 ##                debootstrap, uses it, upgrades it from BEFORE=FILE and removes it
-## make rebuild-check   builds the commit twice, in folders of different names, and compares programs
-##                and packages to the byte
+## make rebuild-check   builds the commit twice, in folders of different names (the gate's build is
+##                one of them), and compares programs and packages to the byte
 ## make sqlite-check    compares database files with those of the tool sqlite3, both ways
 ## make refused-check   refuses each allocation in turn, in memory, over a file and in a server:
 ##                some 110,000 runs
@@ -195,6 +195,7 @@ rebuild-check: tools
 	@RT='$(RT)' python3 tools/rebuild $(if $(STAMP),--stamp)
 
 release: tools
+	@python3 tools/dist --ready
 	@RT='$(RT)' python3 tests/all --all --stamp
 	@RT='$(RT)' python3 tools/dist
 

@@ -11,7 +11,8 @@ _crushplan() {
         compare) options="$common --groups" ;;
         drain) options="$common --by --groups" ;;
         fail) options="$common --each --by --groups" ;;
-        upmap | locate) options=$common ;;
+        upmap) options=$common ;;
+        locate) options="$common --group" ;;
         *) options="fetch check usage compare drain fail upmap locate --help --version" ;;
     esac
     case $word in

@@ -29,19 +29,19 @@ def clone(folder, commit, is_stamped):
         stamped.stamp(folder, commit)
 
 
-def build(folder, cpu=None):
+def build(folder):
     """Proves and builds the program in a clone, and returns its path."""
     crate = folder / "crates" / "crushcalc"
-    print(f"Proving and building in {folder}: minutes, where this machine has proved these sources before.", flush=True)
+    print(f"Proving and building in {folder}, from nothing: half an hour on four cores.", flush=True)
     ran([RT, "all", "check", "--jobs", str(os.cpu_count())], crate)
-    ran([RT, "run", *(["--cpu", cpu] if cpu else []), "--", "--help"], crate)
+    ran([RT, "run", "--", "--help"], crate)
     return crate / "out" / "crushcalc"
 
 
-def packaged(folder, program):
-    """The packages that a clone makes of its program."""
-    made = ran([sys.executable, "package/build", str(program), "build/package"], folder).split()
-    return [folder / it for it in made]
+def packaged(folder, program, to):
+    """The packages of this program that package/build makes in a checkout."""
+    made = ran([sys.executable, "package/build", str(program), str(to)], folder).split()
+    return [to / pathlib.Path(it).name for it in made]
 
 
 def sum_of(path):

@@ -73,6 +73,8 @@ def names(runner, folder):
         (("locate", folder, "photo", "a"), "no pool 'photo'; the nearest is photos"), (("drain", folder, "-1"), ""), (("fail", folder), "wants the names"), (("fail", folder, "host1", "--each", "host"), "either names or --each"),
         (("drain", f"{folder}x", "host1"), "there is no such folder"), (("drain", folder / "osd.json", "host1"), "it isn't a folder"), (("compare", folder, folder / "new.txt"), "No such file"), (("compare", folder, folder), "Is a directory"),
         (("upmap", folder, folder / "list"), "No such file"), (("fail", folder, "--each", "rack"), "no rack has devices"), (("locate", folder, "photos", "x" * 1025), "longer than 1024 bytes"),
+        (("locate", folder), "either a POOL"), (("locate", folder, "photos"), "either a POOL"), (("locate", folder, "photos", "a", "--group", "1.1"), "either a POOL"), (("locate", folder, "photos", "--group", "1.1"), "either a POOL"),
+        (("locate", folder, "--group", "photos.1"), "isn't the name of a group"), (("locate", folder, "--group", "1.0x1"), "isn't the name of a group"), (("locate", folder, "--group", "7.1"), "no pool '7'"), (("locate", folder, "--group", "1.40"), "the groups 1.0 to 1.3f, and no 1.40"),
     ):  # fmt: skip
         runner.refused(*words, has=wanted)
 

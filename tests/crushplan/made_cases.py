@@ -413,6 +413,26 @@ def located(runner, folder):
         equals(it["name"], (it["raw"], it["up"], it["primary"]), (placed.raw[it["group"]], placed.up[it["group"]], placed.primary(it["group"])))
         equals("places", [(of["device"], of["above"]["host"], of["above"]["root"]) for of in it["places"]], [(of, f"host{of // 3}", "default") for of in dict.fromkeys(placed.up[it["group"]] + placed.raw[it["group"]])])
     equals("the pool by its id", runner.said("locate", folder, "1", "cat.jpg", "ä")["objects"], said)
+    groups = runner.said("locate", folder, "--group", "1.0", "--group", "1.3f", status=0)["groups"]
+    equals("groups", [(it["id"], it["raw"], it["up"], it["primary"]) for it in groups], [(f"1.{it:x}", placed.raw[it], placed.up[it], placed.primary(it)) for it in (0, 63)])
+    of = said[0]
+    equals("the group of an object", runner.said("locate", folder, "--group", of["id"])["groups"], [{"pool": 1, **{key: of[key] for key in of if key != "name"}}])
+
+
+def as_full(runner, folder):
+    """Devices of one weight that have equally many copies, the most, are as full."""
+    write(folder, crush_dump(), osd_dump(pools=[pool(1, "photos", pg_num=4)]))
+    ties = 0
+    for host in range(4):
+        said = runner.said("drain", folder, f"host{host}", status=0)
+        most = max(it["copies_after"] for it in said["usage"])
+        found = [it["device"] for it in said["usage"] if it["copies_after"] == most]
+        equals(f"host{host}", [said["fullest"]["device"], *said["as_full"]], found)
+        line = f"  as full {', '.join(f'osd.{it}' for it in found[1:4])}" + (f" and {len(found) - 4} more" if len(found) > 4 else "")
+        text = [" ".join(it.split()) for it in runner.run("drain", folder, f"host{host}")[1].splitlines()]
+        equals(f"host{host}: its line", line.strip() in text, len(found) > 1)
+        ties += len(found) > 1
+    wants(ties, "no drain has devices that are as full")
 
 
 def deep(runner, folder):
@@ -458,6 +478,6 @@ def dumps_in_turn(runner, folder):
 def cases():
     found = (
         straw2, classes, odd_pools, refused_maps, oddities, whole_lists, many_states, many_pairs, holes, no_room, already_short, room, without_room, taken_by_name,
-        described, shares, least, upmaps, located, deep, untouched, dumps_in_turn,
+        described, shares, least, upmaps, located, as_full, deep, untouched, dumps_in_turn,
     )  # fmt: skip
     return [(it.__name__, it) for it in found]

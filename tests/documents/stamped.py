@@ -18,6 +18,11 @@ def head():
     return ran.stdout.decode().strip()
 
 
+def version():
+    """The version in the sources."""
+    return re.search(r'const VERSION: &str = "(\d+\.\d+\.\d+)\\n', (TOP / SOURCE).read_text())[1]
+
+
 def stamp(copy, commit):
     """Puts the commit into the version of the sources in the folder `copy`."""
     path = copy / SOURCE

@@ -8,7 +8,7 @@ import shutil
 from model import maps, messages
 from expected import expected, unlike
 from program.hostile_cases import BODY_LIMIT
-from proxy import TENANTS, Client, nginx, processes, run
+from proxy import TENANTS, TOP, Client, nginx, processes, run
 from model.messages import BAD, NO_TENANT, made
 from server.served import Server, asked
 
@@ -127,6 +127,22 @@ def twice_as_many(program, folder):
         return None if found == [messages.summary(1, 1, tenant="t%d" % it) for it in range(TENANTS)] else f"the replies are {found[:4]} .."
 
 
+def importers(program, folder):
+    """With the example's lines for importers: who isn't one reaches the tenant, and imports no
+    map."""
+    block = re.search(r"^    #location .*?^    #}\n", (TOP / "examples" / "nginx.conf").read_text(), re.M | re.S)[0]
+    used = re.sub(r"^    #", "    ", block, flags=re.M).replace("/etc/nginx/crushcalc", str(folder))
+    with processes(program, folder, 1) as servers, nginx(folder, [it.port for it in servers], (block, used)) as port:
+        for user, tenant in (("ben", "shop"), ("anna", "depot")):
+            (folder / f"{tenant}.importers").write_bytes(b"%s:%s" % (user.encode(), run("openssl", "passwd", "-apr1", user)))
+        client = Client(port, folder, "anna")
+        found = [client.ask(it.replace(b"/t/a", b"/t/" + tenant)) for tenant in (b"shop", b"depot") for it in (b"PUT /t/a", messages.import_of(maps.tiny(0)), b"GET /t/a")]
+    for place, status in enumerate((201, 401, 200, 201, 201, 200)):
+        if not found[place].startswith(b"%d " % status):
+            return f"request {place + 1}: {found[place][:100]!r}, not {status}"
+    return None if found[4] == messages.imported(1, 1) else f"the import says {found[4]!r}"
+
+
 def checks(program, top):
     folder = pathlib.Path(top, "nginx")
     folder.mkdir(mode=0o755)
@@ -142,3 +158,6 @@ def checks(program, top):
         for it in servers[1:]:
             it.stop()
     yield "two processes become four", twice_as_many(program, folder)
+    folder = pathlib.Path(top, "importers")
+    folder.mkdir(mode=0o755)
+    yield "importers", importers(program, folder)

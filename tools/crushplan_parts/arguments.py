@@ -33,7 +33,7 @@ COMMANDS = {
     "drain": ("says whether hosts, racks or devices can be drained, and what that moves", "crushplan drain july host3 osd.17"),
     "fail": ("says what happens while hosts, racks or devices are down, and once they are out", "crushplan fail july --each host"),
     "upmap": ("shows what a list of upmap commands does, before it is sent", "crushplan upmap july commands.sh"),
-    "locate": ("shows where objects of a pool lie", "crushplan locate july photos cat.jpg dog.jpg"),
+    "locate": ("shows where objects of a pool lie, or groups", "crushplan locate july photos cat.jpg dog.jpg"),
 }
 STATUSES = {
     "fetch": "0 where the map and the pools were written, 2 where they weren't.",
@@ -50,7 +50,7 @@ MORE = {
     "usage": "The share is what weights and reweights give an item of the copies that there are; 'bytes' are its part of the pools' bytes.",
     "compare": "NEW is a text as 'crushtool -d' writes it, or a dump. The least is what the change of weights asks for, however a map places.",
     "drain": "The reweights of the devices become 0, as by 'ceph osd out'. Only groups of the impact lists of crushcalc can move: that no other group does is proved, while no reweight is raised, and map and upmap items stay. A copy has no room where it has no device that is up, or where its device gets more and is then past the backfill-full ratio.",
-    "locate": "An OBJECT is a name, and never a group: 'crushplan usage DIR --groups' lists groups.",
+    "locate": "An OBJECT is a name, and never a group, which --group names: 'crushplan locate july --group 5.1f', as 'ceph pg map 5.1f'. 'crushplan usage DIR --groups' lists all groups.",
     "fail": "First what holds while the devices are down: groups with fewer copies than the pool's min_size, whose I/O stops. Then what their going out moves.",
     "upmap": "FILE has lines 'ceph osd pg-upmap-items GROUP FROM TO ..' or 'ceph osd rm-pg-upmap-items GROUP', as 'osdmaptool --upmap FILE' writes them; '-' is standard input.",
 }
@@ -138,8 +138,9 @@ def add_upmap(words):
 
 
 def add_locate(words):
-    words.add_argument("pool_name", metavar="POOL", help="the pool, by its name or id")
-    words.add_argument("objects", nargs="+", metavar="OBJECT", help="the name of an object")
+    words.add_argument("pool_name", nargs="?", metavar="POOL", help="the pool, by its name or id")
+    words.add_argument("objects", nargs="*", metavar="OBJECT", help="the name of an object")
+    words.add_argument("--group", action="append", default=[], metavar="GROUP", help="a group, as 5.1f, in place of a pool and objects; may stand several times")
 
 
 ADD = {"fetch": add_fetch, "check": add_check, "usage": add_usage, "compare": add_compare, "drain": add_drain, "fail": add_fail, "upmap": add_upmap, "locate": add_locate}

@@ -1,4 +1,6 @@
-"""`crushplan locate`: where objects lie."""
+"""`crushplan locate`: where objects lie, or groups."""
+import re
+
 from .faults import Fault, nearest
 from .output import Answer, Table, devices_text
 from .reports import listed
@@ -6,9 +8,47 @@ from .service import Request
 from .usage import pools_named
 
 MOST_NAME = 1024  # bytes of an object's name
+HEADS = ("group", "raw", "up", "device", "state", "in")
 
 
 def locate(plan, asked):
+    """Answers where objects of a pool lie, or groups."""
+    if bool(asked.objects) == bool(asked.group) or asked.group and asked.pool_name:
+        raise Fault("locate wants either a POOL and the names of objects, or --group")
+    return locate_groups(plan, asked.group) if asked.group else locate_objects(plan, asked)
+
+
+def locate_groups(plan, names):
+    """Answers where groups lie, which are named as Ceph does."""
+    groups = [group_named(plan, it) for it in names]
+    run = plan.run(list({pool.id: pool for pool, _ in groups}))
+    lists = {pool.id: run.lists(pool.id, sorted({it for other, it in groups if other is pool})) for pool, _ in groups}
+    plan.answer(run)
+    placements = {id_: run.placements(it) for id_, it in lists.items()}
+    found = []
+    for pool, group in groups:
+        it = placements[pool.id][group]
+        found.append({"pool": pool.id, "group": group, "id": pool.group_name(group), "raw": it.raw, "up": it.up, "primary": it.primary, "places": places_of(plan, it.raw, it.up)})
+    rows = [row for it in found for row in rows_of(it, [])]
+    heads = ["pool", "group", "id", "raw", "up", "primary"]
+    own = [heads] + [[it["pool"], it["group"], it["id"], listed(it["raw"]), listed(it["up"]), it["primary"]] for it in found]
+    whole = unknown(plan, found)
+    return Answer(2 if whole else 0, whole, {"groups": found}, [Table(HEADS, rows)], own)
+
+
+def group_named(plan, name):
+    """Returns the pool and the number of a group's name: the pool's id, a point, and the number in
+    hexadecimal digits."""
+    parts = re.fullmatch(r"(\d+)\.([0-9a-f]+)", name)
+    if not parts:
+        raise Fault(f"{name!r} isn't the name of a group, as 5.1f is: the pool's id, a point and hexadecimal digits")
+    pool = pools_named(plan, [parts[1]])[0]
+    if int(parts[2], 16) >= pool.pg_num:
+        raise Fault(f"pool {pool.name} has the groups {pool.group_name(0)} to {pool.group_name(pool.pg_num - 1)}, and no {name}")
+    return pool, int(parts[2], 16)
+
+
+def locate_objects(plan, asked):
     """Answers where objects of a pool lie."""
     pool = pools_named(plan, [asked.pool_name])[0]
     if pool.object_hash != 2:
@@ -20,22 +60,34 @@ def locate(plan, asked):
     places = [run.add(Request("POST", f"/pools/{pool.id}/locate", {"name": it})) for it in asked.objects]
     plan.answer(run)
     found = [row_of(plan, pool, name, run.replies[place]) for name, place in zip(asked.objects, places)]
-    rows = []
-    for it in found:
-        first = [it["name"], it["id"], devices_text(it["raw"]), devices_text(it["up"])]
-        for device in it["places"]:
-            rows.append([*first, device["name"] + (" (primary)" if device["device"] == it["primary"] else ""), device["state"], ", ".join(f"{name}" for type_, name in device["above"].items())])
-            first = [""] * len(first)
-        if not it["places"]:
-            rows.append([*first, "no device", "", ""])
-    whole = [it["id"] for it in found if it["group"] in plan.whole_lists.get(pool.id, ())]
-    sentence = f"unknown: {', '.join(whole)} has a whole upmap list, which isn't computed." if whole else ""
+    rows = [row for it in found for row in rows_of(it, [it["name"]])]
+    whole = unknown(plan, [{"pool": pool.id, **it} for it in found])
     heads = ["object", "pool", "group", "id", "raw", "up", "primary"]
     own = [heads] + [[it["name"], pool.id, it["group"], it["id"], listed(it["raw"]), listed(it["up"]), it["primary"]] for it in found]
-    return Answer(2 if whole else 0, sentence, {"pool": pool.id, "objects": found}, [Table(("object", "group", "raw", "up", "device", "state", "in"), rows)], own)
+    return Answer(2 if whole else 0, whole, {"pool": pool.id, "objects": found}, [Table(("object", *HEADS), rows)], own)
+
+
+def unknown(plan, found):
+    """Returns the sentence of the groups that aren't computed, or nothing."""
+    whole = [it["id"] for it in found if it["group"] in plan.whole_lists.get(it["pool"], ())]
+    return f"unknown: {', '.join(whole)} has a whole upmap list, which isn't computed." if whole else ""
+
+
+def rows_of(it, first):
+    """Returns the lines of a group or an object: one for each of its devices."""
+    first = [*first, it["id"], devices_text(it["raw"]), devices_text(it["up"])]
+    rows = []
+    for device in it["places"]:
+        rows.append([*first, device["name"] + (" (primary)" if device["device"] == it["primary"] else ""), device["state"], ", ".join(device["above"].values())])
+        first = [""] * len(first)
+    return rows or [[*first, "no device", "", ""]]
 
 
 def row_of(plan, pool, name, said):
-    devices = list(dict.fromkeys(it for it in [*said["up"], *said["raw"]] if it is not None))
-    places = [{"device": it, "name": plan.map.name_of(it), "state": "up" if it in said["up"] else "down" if not plan.state(it).up else "not in up", "above": plan.tree.path(it)} for it in devices]
-    return {"name": name, "group": said["group"], "id": pool.group_name(said["group"]), "raw": said["raw"], "up": said["up"], "primary": said["primary"], "places": places}
+    return {"name": name, "group": said["group"], "id": pool.group_name(said["group"]), "raw": said["raw"], "up": said["up"], "primary": said["primary"], "places": places_of(plan, said["raw"], said["up"])}
+
+
+def places_of(plan, raw, up):
+    """Returns where the devices of two lists stand, each once."""
+    devices = list(dict.fromkeys(it for it in [*up, *raw] if it is not None))
+    return [{"device": it, "name": plan.map.name_of(it), "state": "up" if it in up else "down" if not plan.state(it).up else "not in up", "above": plan.tree.path(it)} for it in devices]

@@ -97,10 +97,12 @@ def summary_table(plan, summary, stay, title=None, down=()):
         ("fullest device afterwards", fullest_text(plan, summary)),
         ("proved", proved_text(summary, down)),
     ]
+    if summary.past["nearfull_ratio"]:
+        rows.insert(4, ("past the near-full ratio", some([shown_used(it) for it in summary.past["nearfull_ratio"]])))
+    if summary.as_full:
+        rows.insert(4, ("as full", some([plan.map.name_of(it.id) for it in summary.as_full], 3)))
     if summary.fullest and summary.fullest.used_after is not None:
         rows.insert(4, ("its room", room_text(plan, summary.fullest)))
-    if summary.past["nearfull_ratio"]:
-        rows.insert(5, ("past the near-full ratio", some([shown_used(it) for it in summary.past["nearfull_ratio"]])))
     if stay.keeping:
         rows.insert(1, ("copies that stay, by a rule that takes the device", some([f"osd.{device}: {copies:,}" for device, copies in sorted(stay.keeping.items())])))
     return Table(("", ""), rows, title)

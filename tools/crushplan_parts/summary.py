@@ -105,17 +105,19 @@ class Summary:
         self.groups = sum(it.pool.pg_num for it in changes)
         self.bytes = total(it.bytes_of(it.copies) for it in changes)
         self.devices = devices_of(plan, changes, states, quick)
-        self.fullest = self.find_fullest()
+        self.fullest, self.as_full = self.find_fullest()
         self.past = {name: self.devices_past(name) for name in ("nearfull_ratio", "backfillfull_ratio", "full_ratio")}
 
     def find_fullest(self):
-        """Returns the device that is fullest afterwards: by bytes where these are known, else by
-        its copies against its share."""
+        """Returns the device that is fullest afterwards, or None, and those that are as full: by
+        bytes where these are known, else by its copies against its share."""
         devices = [it for it in self.devices if it.after]
-        if any(it.used_after is not None for it in devices):
-            return max((it for it in devices if it.used_after is not None), key=lambda it: it.used_after)
-        known = [it for it in devices if it.expected_after[0]]
-        return max(known or devices, key=lambda it: fractions.Fraction(it.after * it.expected_after[1], it.expected_after[0]) if it.expected_after[0] else it.after, default=None)
+        known = [it for it in devices if it.used_after is not None] or [it for it in devices if it.expected_after[0]] or devices
+        if not known:
+            return None, []
+        most = max(map(fullness, known))
+        first, *others = [it for it in known if fullness(it) == most]
+        return first, others
 
     def devices_past(self, name):
         """Returns the devices that are past a ratio of the cluster afterwards."""
@@ -138,7 +140,7 @@ class Summary:
         found = {
             "short": {"groups": self.short, "copies": self.missing, "groups_before": self.short_before, "copies_before": self.missing_before},
             "moved": len(self.moves), "can_move": self.can_move, "copies": self.copies, "bytes": whole(self.bytes),
-            "fullest": self.fullest and self.device_said(self.fullest),
+            "fullest": self.fullest and self.device_said(self.fullest), "as_full": [it.id for it in self.as_full],
             "past_nearfull": [it.id for it in self.past["nearfull_ratio"]], "past_backfillfull": [it.id for it in self.past["backfillfull_ratio"]],
             "pools": [it.said() for it in self.changes], "usage": [self.device_said(it) for it in self.devices],
         }  # fmt: skip
@@ -153,6 +155,14 @@ class Summary:
             "primaries_before": it.primaries_before, "primaries_after": it.primaries_after, "bytes_before": whole(it.bytes_before), "bytes_after": whole(it.bytes_after),
             "used_before": ratio_said(it.used_before), "used_after": ratio_said(it.used_after),
         }  # fmt: skip
+
+
+def fullness(it):
+    """Returns the part of a device's room that is used afterwards, or else of its share, or else
+    its copies."""
+    if it.used_after is not None:
+        return it.used_after
+    return fractions.Fraction(it.after * it.expected_after[1], it.expected_after[0]) if it.expected_after[0] else it.after
 
 
 def ratio_said(value):
