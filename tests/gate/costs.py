@@ -69,9 +69,10 @@ class Watch(threading.Thread):
 
     def visit(self, number, below):
         for it in below[number]:
-            if it.number not in self.known:
-                self.known[it.number] = crate_of(it.number)
-            if self.known[it.number]:
+            # a process may be seen before it becomes the prover
+            crate = self.known.get(it.number) or crate_of(it.number)
+            if crate:
+                self.known[it.number] = crate
                 self.note(it, below)
             else:
                 self.visit(it.number, below)
