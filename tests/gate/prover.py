@@ -1,5 +1,5 @@
 """Checks of a crate with some of its texts changed, by the toolchain's command rattle, over what an
-earlier check of it kept.
+earlier check of it kept; and builds of a program for another processor.
 
 The words are those with which rt checks a crate. Libraries of the repository are taken as they were
 built: crates/NAME/out/rlib/NAME.rlib below a folder.
@@ -81,6 +81,21 @@ class Prover:
             running.returncode = os.waitstatus_to_exitcode(status)
             said.seek(0)
             return running.returncode, said.read().decode(errors="replace"), used.ru_utime + used.ru_stime
+
+
+    def program(self, crate, cpu, to):
+        """Proves the crate of a program for this processor, over the libraries that are built, and
+        builds it, as rt does. Gives the status and what was said."""
+        toolchain = ["--toolchain", f"{self.kit}/toolchain"]
+        steps = (
+            [f"{self.kit}/bin/rattle", "build", *self.words(crate), "--cpu", cpu, *toolchain, "--backend", "llvm", "-o", f"{to}.o"],
+            [f"{self.kit}/bin/rattle-link", "--target", "x86_64-unknown-linux-gnu", *toolchain, "-o", str(to), f"{to}.o", f"{self.kit}/c/libos_c.a", f"{self.kit}/c/liblibc_c.a"],
+        )
+        for words in steps:
+            done = subprocess.run(words, cwd=self.top / "crates" / crate, stdin=subprocess.DEVNULL, stdout=subprocess.PIPE, stderr=subprocess.STDOUT, text=True, errors="replace")
+            if done.returncode:
+                break
+        return done.returncode, done.stdout
 
 
 def linked(seed, to):
