@@ -3,8 +3,7 @@
 use crush_server::{Client, Waiting};
 use std::cell::Cell;
 use std::io::{self, ErrorKind, Read, Write};
-use std::rt::HostRuntime;
-use std::test::Fail;
+use std::process::Abort;
 use std::time::{Clock, Duration};
 
 /// A clock that a stream moves on. It can be read `left` times more, and then fails.
@@ -91,85 +90,95 @@ impl Write for Slow<'_> {
 /// A number of readings of the clock that is enough for each test.
 const MANY: u32 = 1_000;
 
-#[test]
-fn a_message_may_take_thirty_seconds(rt: HostRuntime) -> Result<(), Fail> {
-    let clock = Hand::new(MANY);
-    let interrupts = Cell::new(0);
-    let waiting = Waiting::new(&clock);
+/// A client over such a stream.
+type SlowClient<'a> = Client<'a, Slow<'a>, Hand>;
+
+/// Makes a client whose stream takes `seconds` seconds for a byte.
+fn client<'a>(
+    clock: &'a Hand,
+    seconds: u64,
+    interrupts: &'a Cell<u32>,
+    waiting: &'a Waiting<'a, Hand>,
+) -> SlowClient<'a> {
     let stream = Slow {
-        clock: &clock,
-        seconds: 29,
-        interrupts: &interrupts,
+        clock,
+        seconds,
+        interrupts,
     };
-    let mut client = Client::new(stream, &waiting);
+    Client::new(stream, waiting)
+}
+
+/// Asserts that a read gives the byte that the stream has.
+fn assert_read(rt: &impl Abort, client: &mut SlowClient<'_>) {
     let mut byte = [0];
-    assert_eq!(&rt; client.read(&mut byte)?, 1);
-    // the client has taken 29 seconds, and takes 58 with this read
-    assert_eq!(&rt; client.read(&mut byte)?, 1);
-    let late = client.read(&mut byte).map_err(|error| error.kind());
-    assert_eq!(&rt; late, Err(ErrorKind::TimedOut));
-    Ok(())
+    let count = client.read(&mut byte).expect(rt, "not read");
+    assert!(rt; count == 1 && byte[0] == b'x', "{count} bytes: {}", byte[0]);
+}
+
+/// Asserts that a write takes a byte.
+fn assert_written(rt: &impl Abort, client: &mut SlowClient<'_>) {
+    let count = client.write(b"y").expect(rt, "not written");
+    assert!(rt; count == 1, "{count} bytes");
+}
+
+/// Asserts that a read fails by `kind`.
+fn assert_not_read(rt: &impl Abort, client: &mut SlowClient<'_>, kind: ErrorKind) {
+    let error = client.read(&mut [0]).expect_err(rt, "read");
+    assert!(rt; error.kind() == kind, "{error:?}");
+}
+
+/// Asserts that a write fails by `kind`.
+fn assert_not_written(rt: &impl Abort, client: &mut SlowClient<'_>, kind: ErrorKind) {
+    let error = client.write(b"y").expect_err(rt, "written");
+    assert!(rt; error.kind() == kind, "{error:?}");
 }
 
 #[test]
-fn a_read_after_a_reply_begins_a_message(rt: HostRuntime) -> Result<(), Fail> {
+fn a_message_may_take_thirty_seconds(rt: HostRuntime) {
     let clock = Hand::new(MANY);
     let interrupts = Cell::new(0);
     let waiting = Waiting::new(&clock);
-    let stream = Slow {
-        clock: &clock,
-        seconds: 15,
-        interrupts: &interrupts,
-    };
-    let mut client = Client::new(stream, &waiting);
-    let mut byte = [0];
+    let mut client = client(&clock, 29, &interrupts, &waiting);
+    assert_read(&rt, &mut client);
+    // the client has taken 29 seconds, and takes 58 with this read
+    assert_read(&rt, &mut client);
+    assert_not_read(&rt, &mut client, ErrorKind::TimedOut);
+}
+
+#[test]
+fn a_read_after_a_reply_begins_a_message(rt: HostRuntime) {
+    let clock = Hand::new(MANY);
+    let interrupts = Cell::new(0);
+    let waiting = Waiting::new(&clock);
+    let mut client = client(&clock, 15, &interrupts, &waiting);
     for _message in 0..3 {
-        assert_eq!(&rt; client.read(&mut byte)?, 1);
-        assert_eq!(&rt; client.write(b"y")?, 1);
+        assert_read(&rt, &mut client);
+        assert_written(&rt, &mut client);
     }
     // the reply is part of the message's time
-    let late = client.write(b"y").map_err(|error| error.kind());
-    assert_eq!(&rt; late, Err(ErrorKind::TimedOut));
-    Ok(())
+    assert_not_written(&rt, &mut client, ErrorKind::TimedOut);
 }
 
 #[test]
-fn an_interrupted_call_is_made_again(rt: HostRuntime) -> Result<(), Fail> {
+fn an_interrupted_call_is_made_again(rt: HostRuntime) {
     let clock = Hand::new(MANY);
     let interrupts = Cell::new(15);
     let waiting = Waiting::new(&clock);
-    let stream = Slow {
-        clock: &clock,
-        seconds: 0,
-        interrupts: &interrupts,
-    };
-    let mut client = Client::new(stream, &waiting);
-    let mut byte = [0];
-    assert_eq!(&rt; client.read(&mut byte)?, 1);
-    assert_eq!(&rt; byte[0], b'x');
+    let mut client = client(&clock, 0, &interrupts, &waiting);
+    assert_read(&rt, &mut client);
     interrupts.set(15);
-    assert_eq!(&rt; client.write(b"y")?, 1);
+    assert_written(&rt, &mut client);
     interrupts.set(16);
-    let given_up = client.read(&mut byte).map_err(|error| error.kind());
-    assert_eq!(&rt; given_up, Err(ErrorKind::Interrupted));
-    Ok(())
+    assert_not_read(&rt, &mut client, ErrorKind::Interrupted);
 }
 
 #[test]
-fn bytes_that_were_moved_are_told_where_the_clock_fails(rt: HostRuntime) -> Result<(), Fail> {
+fn bytes_that_were_moved_are_told_where_the_clock_fails(rt: HostRuntime) {
     // the clock is read before the stream, and fails after it
     let clock = Hand::new(1);
     let interrupts = Cell::new(0);
     let waiting = Waiting::new(&clock);
-    let stream = Slow {
-        clock: &clock,
-        seconds: 0,
-        interrupts: &interrupts,
-    };
-    let mut client = Client::new(stream, &waiting);
-    let mut byte = [0];
-    assert_eq!(&rt; client.read(&mut byte)?, 1);
-    let late = client.read(&mut byte).map_err(|error| error.kind());
-    assert_eq!(&rt; late, Err(ErrorKind::TimedOut));
-    Ok(())
+    let mut client = client(&clock, 0, &interrupts, &waiting);
+    assert_read(&rt, &mut client);
+    assert_not_read(&rt, &mut client, ErrorKind::TimedOut);
 }
