@@ -1,14 +1,13 @@
 //! Connections whose reader or writer fails: each read and each write of the worked stream in turn.
 
-use crate::connections::connect_to;
-use crate::same::{assert_same, assert_same_at};
+use crate::connections::{connect_to, new_service};
+use crate::same::{assert_at, assert_same, assert_same_at};
 use crate::streams::{REPLIES, STREAM};
 use common_tests::rows::created;
 use common_tests::streams::{Cuts, MANY};
 use crush_http::{Buffers, Ended};
 use std::alloc::Global;
 use std::process::Abort;
-use tenant_service::Service;
 
 /// The length of the first message of the stream, in bytes.
 const ONE: usize = 30;
@@ -41,7 +40,7 @@ fn connect(
     reads: usize,
     writes: usize,
 ) -> (Ended, Vec<u8>) {
-    let mut service = Service::in_memory(alloc).expect(rt, "no memory");
+    let mut service = new_service(rt, alloc);
     let cuts = Cuts::each(size);
     connect_to(alloc, buffers, &mut service, STREAM, cuts, reads, writes)
 }
@@ -64,10 +63,8 @@ fn is_closed_after(
         &replies,
     );
     let is_closed = ended == Ended::Closed;
-    assert!(rt;
-        is_closed || ended == Ended::ReadFault,
-        "{reads} reads of {size}"
-    );
+    let is_fault = ended == Ended::ReadFault;
+    assert_at(rt, [reads as u64, size as u64], is_closed || is_fault);
     is_closed
 }
 
@@ -102,15 +99,11 @@ fn written_after(
     writes: usize,
 ) -> (usize, bool) {
     let (ended, written) = connect(rt, alloc, buffers, size, MANY, writes);
-    assert!(rt;
-        REPLIES.starts_with(written.as_slice()),
-        "after {writes} writes"
-    );
+    let is_front = REPLIES.starts_with(written.as_slice());
+    assert_at(rt, [writes as u64, 0], is_front);
     let is_closed = ended == Ended::Closed;
-    assert!(rt;
-        is_closed || ended == Ended::WriteFault,
-        "after {writes} writes"
-    );
+    let is_fault = ended == Ended::WriteFault;
+    assert_at(rt, [writes as u64, 1], is_closed || is_fault);
     (written.len(), is_closed)
 }
 
@@ -122,10 +115,10 @@ fn a_write_fault_leaves_a_front_of_the_replies(rt: HostRuntime) {
         // a write takes three bytes at most, and one at least
         for writes in 0..MANY {
             let (length, is_closed) = written_after(&rt, rt.alloc(), &mut buffers, size, writes);
-            assert!(rt; writes == 0 || front < length, "after {writes} writes");
+            assert_at(&rt, [writes as u64, 2], writes == 0 || front < length);
             assert_same_at(
                 &rt,
-                [writes as u64, 0],
+                [writes as u64, 3],
                 &is_closed,
                 &(length == REPLIES.len()),
             );
@@ -151,7 +144,7 @@ fn create(
     buffers: &mut Buffers,
     writes: usize,
 ) -> (Option<usize>, usize) {
-    let mut service = Service::in_memory(alloc).expect(rt, "no memory");
+    let mut service = new_service(rt, alloc);
     let cuts = Cuts::each(1);
     let (_, written) = connect_to(alloc, buffers, &mut service, CREATIONS, cuts, MANY, writes);
     (created(&mut service), written.len())

@@ -1,6 +1,7 @@
 //! Heads that are refused.
 
 use crate::connections::{assert_replies, connect};
+use crate::same::assert_same_at;
 use crate::streams::{NO_PATH, Stream};
 use common_tests::streams::{Cuts, MANY};
 use crush_http::{Buffers, Ended};
@@ -101,12 +102,17 @@ fn long_head(rt: &impl Abort, alloc: Global, long: &Long) -> Vec<u8> {
     head
 }
 
+/// Asserts that the head `long` gets its reply and that its connection ends as it says.
+fn assert_long(rt: &impl Abort, alloc: Global, place: usize, long: &Long) {
+    let head = long_head(rt, alloc, long);
+    let (ended, written) = connect(rt, alloc, &head, Cuts::each(20_000), MANY, MANY);
+    assert_same_at(rt, [place as u64, 0], &ended, &long.4);
+    assert_same_at(rt, [place as u64, 1], &written.as_slice(), &long.5);
+}
+
 #[test]
 fn a_head_has_32_headers_and_8192_bytes_at_most(rt: HostRuntime) {
     for (place, long) in AT_LIMITS.iter().enumerate() {
-        let head = long_head(&rt, rt.alloc(), long);
-        let (ended, written) = connect(&rt, rt.alloc(), &head, Cuts::each(20_000), MANY, MANY);
-        assert!(rt; ended == long.4, "the head {place}");
-        assert!(rt; written.as_slice() == long.5, "the head {place}");
+        assert_long(&rt, rt.alloc(), place, long);
     }
 }

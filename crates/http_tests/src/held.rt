@@ -1,15 +1,15 @@
 //! When replies are written: together, before a read, at the end, and a long body at once.
 
+use crate::connections::{end_of, new_service};
 use crate::same::{assert_same, assert_same_at};
 use crate::streams::{NO_PATH, REPLIES, STREAM};
 use common_tests::streams::{Cuts, MANY, Reader};
 use crush_http::limits::HELD_LIMIT;
-use crush_http::{Buffers, Ended, serve_with};
+use crush_http::{Buffers, Ended};
 use std::alloc::Global;
 use std::cell::Cell;
 use std::io::{self, ErrorKind, Read, Write};
 use std::process::Abort;
-use tenant_service::Service;
 
 /// A message for a path that there isn't.
 const ASKS: &[u8] = b"GET /x HTTP/1.1\r\n\r\n";
@@ -80,7 +80,7 @@ fn connect(
     cuts: Cuts,
     room: usize,
 ) -> Record {
-    let mut service = Service::in_memory(alloc).expect(rt, "no memory");
+    let mut service = new_service(rt, alloc);
     let written = Cell::new(0);
     let mut reader = Watcher {
         reader: Reader {
@@ -98,7 +98,7 @@ fn connect(
         taken: Vec::new(alloc),
         lengths: Vec::new(alloc),
     };
-    let ended = serve_with(buffers, &mut service, &mut reader, &mut writer);
+    let ended = end_of(buffers, &mut service, &mut reader, &mut writer);
     let Watcher { seen, .. } = reader;
     let Recorder { taken, lengths, .. } = writer;
     Record {

@@ -1,10 +1,11 @@
 //! Streams of messages and their replies.
 
-use crate::connections::{assert_replies, connect_to};
+use crate::connections::{assert_replies, connect_to, new_service};
 use crate::same::assert_same_at;
 use common_tests::streams::{Cuts, MANY};
 use crush_http::{Buffers, Ended};
-use tenant_service::Service;
+use std::alloc::Global;
+use std::process::Abort;
 
 /// Two messages, and a third that ends in its body.
 pub(crate) const STREAM: &[u8] =
@@ -57,26 +58,22 @@ fn streams_have_the_replies_to_their_whole_messages(rt: HostRuntime) {
     }
 }
 
+/// Asserts that the worked stream gets its replies where the first read gives `first` bytes.
+fn assert_cut_at(rt: &impl Abort, alloc: Global, buffers: &mut Buffers, first: usize) {
+    let mut service = new_service(rt, alloc);
+    let cuts = Cuts {
+        first,
+        later: 20_000,
+    };
+    let (ended, written) = connect_to(alloc, buffers, &mut service, STREAM, cuts, MANY, MANY);
+    assert_same_at(rt, [first as u64, 0], &ended, &Ended::Closed);
+    assert_same_at(rt, [first as u64, 1], &written.as_slice(), &REPLIES);
+}
+
 #[test]
 fn a_stream_is_answered_alike_wherever_it_is_cut(rt: HostRuntime) {
-    let alloc = rt.alloc();
-    let mut buffers = Buffers::new(alloc).expect(&rt, "no memory");
+    let mut buffers = Buffers::new(rt.alloc()).expect(&rt, "no memory");
     for first in 1..STREAM.len() {
-        let mut service = Service::in_memory(alloc).expect(&rt, "no memory");
-        let cuts = Cuts {
-            first,
-            later: 20_000,
-        };
-        let (ended, written) = connect_to(
-            alloc,
-            &mut buffers,
-            &mut service,
-            STREAM,
-            cuts,
-            MANY,
-            MANY,
-        );
-        assert_same_at(&rt, [first as u64, 0], &ended, &Ended::Closed);
-        assert_same_at(&rt, [first as u64, 1], &written.as_slice(), &REPLIES);
+        assert_cut_at(&rt, rt.alloc(), &mut buffers, first);
     }
 }
