@@ -1,27 +1,22 @@
 //! Scripts whose reader or writer fails: each read and each write in turn.
 
-use crate::same::{assert_same, assert_same_at};
-use crate::scripts::{REPLIES, play};
+use crate::same::{assert_at, assert_same, assert_same_at};
+use crate::scripts::{REPLIES, end_of, new_service, play};
 use common_tests::rows::created;
 use common_tests::streams::{Cuts, MANY, Reader, Writer};
-use crush_app::{ScriptEnd, script_run};
+use crush_app::ScriptEnd;
 use std::alloc::Global;
 use std::process::Abort;
-use tenant_service::Service;
 
 /// Returns the number of bytes of the replies that are written where the writer fails after
 /// `writes` writes, and whether the script is done; if it isn't, it met the fault.
 fn written_after(rt: &impl Abort, alloc: Global, writes: usize) -> (usize, bool) {
     let (end, written) = play(rt, alloc, MANY, writes);
-    assert!(rt;
-        REPLIES.as_bytes().starts_with(written.as_slice()),
-        "after {writes} writes"
-    );
+    let is_front = REPLIES.as_bytes().starts_with(written.as_slice());
+    assert_at(rt, [writes as u64, 0], is_front);
     let is_done = end == ScriptEnd::Done;
-    assert!(rt;
-        is_done || end == ScriptEnd::WriteFault,
-        "after {writes} writes"
-    );
+    let is_fault = end == ScriptEnd::WriteFault;
+    assert_at(rt, [writes as u64, 1], is_done || is_fault);
     (written.len(), is_done)
 }
 
@@ -31,10 +26,10 @@ fn a_write_fault_leaves_a_front_of_the_replies(rt: HostRuntime) {
     // a write takes three bytes at most, and one at least
     for writes in 0..MANY {
         let (length, is_done) = written_after(&rt, rt.alloc(), writes);
-        assert!(rt; writes == 0 || front < length, "after {writes} writes");
+        assert_at(&rt, [writes as u64, 2], writes == 0 || front < length);
         assert_same_at(
             &rt,
-            [writes as u64, 0],
+            [writes as u64, 3],
             &is_done,
             &(length == REPLIES.len()),
         );
@@ -61,7 +56,7 @@ fn create(
     reads: usize,
     writes: usize,
 ) -> (ScriptEnd, Option<usize>, usize) {
-    let mut service = Service::in_memory(alloc).expect(rt, "no memory");
+    let mut service = new_service(rt, alloc);
     let mut reader = Reader {
         rest: CREATIONS,
         cuts: Cuts::each(1),
@@ -69,7 +64,7 @@ fn create(
         interrupts: 0,
     };
     let mut writer = Writer::new(alloc, writes);
-    let end = script_run(alloc, &mut service, &mut reader, &mut writer).expect(rt, "no memory");
+    let end = end_of(rt, alloc, &mut service, &mut reader, &mut writer);
     (end, created(&mut service), writer.taken.len())
 }
 

@@ -2,8 +2,9 @@
 
 use crate::fixed::over_fixed;
 use crate::same::assert_same;
+use crate::scripts::end_of;
 use common_tests::rows::{Row, check_requests};
-use crush_app::{ScriptEnd, script_run};
+use crush_app::ScriptEnd;
 use std::test::Fail;
 
 /// The fourth call that reaches the store is its last one. From then on every call is answered 503,
@@ -42,7 +43,7 @@ fn a_script_ends_at_the_reply_that_latched(rt: HostRuntime) -> Result<(), Fail> 
     let mut service = over_fixed(alloc, 1)?;
     let mut input = b"GET /t/a\n\nGET /t/a\nGET /t/a\n".as_slice();
     let mut written = Vec::new(alloc);
-    let end = script_run(alloc, &mut service, &mut input, &mut written)?;
+    let end = end_of(&rt, alloc, &mut service, &mut input, &mut written);
     assert!(rt; end == ScriptEnd::Latched);
     assert_same(
         &rt,

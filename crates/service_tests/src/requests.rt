@@ -1,7 +1,8 @@
 //! Decisions of `tenant_core` that no request shows.
 
+use crate::same::assert_same;
 use std::alloc::{AllocError, Global};
-use std::test::Fail;
+use std::process::Abort;
 use tenant_core::{Decision, Effect, Routes, StoreFault, decide, read_request, store_fault};
 use tenant_messages::{CallParts, Refusal, Reply};
 
@@ -27,33 +28,48 @@ fn taken_apart(decision: Decision) -> (bool, Reply) {
     (!matches!(effect, Effect::Keep), reply)
 }
 
-#[test]
-fn an_absent_tenant_is_made_and_nothing_else_is_done_to_it(rt: HostRuntime) -> Result<(), Fail> {
-    for (method, changes, status, body) in [
-        ("PUT", true, 201, "{\"epoch\":0,\"tenant\":\"a\"}"),
-        ("GET", false, 404, "{\"error\":\"no_tenant\"}"),
-        ("DELETE", false, 404, "{\"error\":\"no_tenant\"}"),
-    ] {
-        let Some(decision) = decided(rt.alloc(), method)? else {
-            return Err(Fail::new("the call isn't a request"));
-        };
-        let (is_changed, reply) = taken_apart(decision);
-        assert!(rt; is_changed == changes && reply.status == status, "{method}");
-        assert!(rt; reply.body.as_str() == body, "{method}");
-    }
-    Ok(())
+/// A method, whether its decision changes what is stored, and the status and the body of its reply.
+type Decided = (&'static str, bool, u16, &'static str);
+
+const DECIDED: &[Decided] = &[
+    ("PUT", true, 201, "{\"epoch\":0,\"tenant\":\"a\"}"),
+    ("GET", false, 404, "{\"error\":\"no_tenant\"}"),
+    ("DELETE", false, 404, "{\"error\":\"no_tenant\"}"),
+];
+
+/// Asserts that the decision is that of the row.
+fn assert_decided(rt: &impl Abort, decision: Decision, row: &Decided) {
+    let (method, changes, status, body) = *row;
+    let (is_changed, reply) = taken_apart(decision);
+    assert!(rt; is_changed == changes && reply.status == status, "{method}");
+    assert!(rt; reply.body.as_str() == body, "{method}");
 }
 
 #[test]
+fn an_absent_tenant_is_made_and_nothing_else_is_done_to_it(rt: HostRuntime) {
+    for row in DECIDED {
+        match decided(rt.alloc(), row.0).expect(&rt, "no memory") {
+            Some(decision) => assert_decided(&rt, decision, row),
+            None => rt.panic("the call isn't a request"),
+        }
+    }
+}
+
+/// A fault of a store, and the status and the body of its reply.
+type Faulted = (StoreFault, u16, &'static str);
+
+const FAULTED: &[Faulted] = &[
+    (StoreFault::NoMemory, 503, ""),
+    (StoreFault::Full, 503, "{\"error\":\"store_failed\"}"),
+    (StoreFault::Failed, 503, "{\"error\":\"store_failed\"}"),
+    (StoreFault::Damaged, 500, "{\"error\":\"store_damaged\"}"),
+];
+
+#[test]
 fn a_fault_of_the_store_has_its_reply(rt: HostRuntime) {
-    for (fault, status, body) in [
-        (StoreFault::NoMemory, 503, ""),
-        (StoreFault::Full, 503, "{\"error\":\"store_failed\"}"),
-        (StoreFault::Failed, 503, "{\"error\":\"store_failed\"}"),
-        (StoreFault::Damaged, 500, "{\"error\":\"store_damaged\"}"),
-    ] {
-        let reply = store_fault(rt.alloc(), fault);
-        assert!(rt; reply.status == status, "{}", reply.status);
-        assert!(rt; reply.body.as_str() == body, "{}", reply.body.as_str());
+    for (fault, status, body) in FAULTED {
+        let reply = store_fault(rt.alloc(), *fault);
+        assert_same(&rt, &reply.status, status);
+        assert_same(&rt, &reply.body.as_str(), body);
     }
 }

@@ -18,3 +18,8 @@ pub(crate) fn assert_same_at<T: PartialEq + Debug>(
 ) {
     assert_eq!(rt; value, expected, "case {case:?}");
 }
+
+/// Asserts that something holds in the case that the numbers name.
+pub(crate) fn assert_at(rt: &impl Abort, case: [u64; 2], holds: bool) {
+    assert!(rt; holds, "case {case:?}");
+}
