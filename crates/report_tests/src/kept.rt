@@ -32,13 +32,14 @@ fn assert_moved(
     lists: &UpLists,
     (from, to): (&Placer, &Placer),
     case: &PoolCase,
-) -> Result<(), Fail> {
+) {
     let (pool, exceptions) = (to.pool(), to.exceptions());
     assert_rule(rt, from.map(), pool);
-    let rows = moves(alloc, from.map(), to.map(), pool, exceptions, case.states())?;
-    let found = moves_from(alloc, lists, to)?;
+    let rows = moves(alloc, from.map(), to.map(), pool, exceptions, case.states()).expect(
+        rt, "error",
+    );
+    let found = moves_from(alloc, lists, to).expect(rt, "error");
     assert_all_same(rt, found.as_slice(), rows.as_slice());
-    Ok(())
 }
 
 /// Asserts that what moves between two maps is what moves from the lists that are kept of the
@@ -48,11 +49,11 @@ fn assert_kept_lists(
     alloc: Global,
     (from, to): (&Placer, &Placer),
     case: &PoolCase,
-) -> Result<(), Fail> {
-    let Some(lists) = UpLists::build(alloc, from)? else {
-        return rt.abort();
-    };
-    assert_moved(rt, alloc, &lists, (from, to), case)
+) {
+    match UpLists::build(alloc, from).expect(rt, "error") {
+        Some(lists) => assert_moved(rt, alloc, &lists, (from, to), case),
+        None => rt.abort(),
+    }
 }
 
 /// Asserts that the groups that are kept of a device are those of its impact list.
@@ -63,28 +64,21 @@ fn assert_groups(
     device: u32,
     placer: &Placer,
     case: &PoolCase,
-) -> Result<(), Fail> {
+) {
     let (map, pool, exceptions) = (placer.map(), placer.pool(), placer.exceptions());
-    let groups = impact(alloc, map, pool, exceptions, case.states(), device)?;
-    let found = touches.groups_of(alloc, device)?;
+    let groups = impact(alloc, map, pool, exceptions, case.states(), device).expect(rt, "error");
+    let found = touches.groups_of(alloc, device).expect(rt, "error");
     assert_same(rt, &found.as_slice(), &groups.as_slice());
-    Ok(())
 }
 
 /// Asserts that the groups that are kept of each device are those of its impact list.
-fn assert_touches(
-    rt: &impl Abort,
-    alloc: Global,
-    placer: &Placer,
-    case: &PoolCase,
-) -> Result<(), Fail> {
-    let Some(touches) = Touches::build(alloc, placer)? else {
+fn assert_touches(rt: &impl Abort, alloc: Global, placer: &Placer, case: &PoolCase) {
+    let Some(touches) = Touches::build(alloc, placer).expect(rt, "error") else {
         return rt.abort();
     };
     for device in 0..DEVICES {
-        assert_groups(rt, alloc, &touches, device, placer, case)?;
+        assert_groups(rt, alloc, &touches, device, placer, case);
     }
-    Ok(())
 }
 
 /// Asserts that what is kept of a pool answers as the reports do.
@@ -99,8 +93,9 @@ fn assert_kept(
     let (Some(from), Some(to)) = (case.placer(from), case.placer(to)) else {
         return rt.abort();
     };
-    assert_kept_lists(rt, alloc, (&from, &to), &case)?;
-    assert_touches(rt, alloc, &to, &case)
+    assert_kept_lists(rt, alloc, (&from, &to), &case);
+    assert_touches(rt, alloc, &to, &case);
+    Ok(())
 }
 
 #[test]
@@ -125,10 +120,9 @@ const GREAT: Short = Short {
 };
 
 /// Asserts that no lists are kept of a placer's pool.
-fn assert_none_kept(rt: &impl Abort, alloc: Global, placer: &Placer) -> Result<(), Fail> {
-    let found = UpLists::build(alloc, placer)?;
+fn assert_none_kept(rt: &impl Abort, alloc: Global, placer: &Placer) {
+    let found = UpLists::build(alloc, placer).expect(rt, "error");
     assert!(rt; found.is_none());
-    Ok(())
 }
 
 /// Asserts that no lists are kept of a pool on a map.
@@ -142,7 +136,8 @@ fn assert_none_kept_of(
     let Some(placer) = case.placer(map) else {
         return rt.abort();
     };
-    assert_none_kept(rt, alloc, &placer)
+    assert_none_kept(rt, alloc, &placer);
+    Ok(())
 }
 
 #[test]

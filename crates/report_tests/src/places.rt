@@ -31,9 +31,9 @@ fn assert_usage(
     placer: &Placer,
     case: &PoolCase,
 ) -> Result<(), Fail> {
-    let (map, pool, exceptions) = (placer.map(), placer.pool(), placer.exceptions());
-    let rows = usage(alloc, map, pool, exceptions, case.states())?;
     let groups = all_placed(alloc, placer, case.weights())?;
+    let (map, pool, exceptions) = (placer.map(), placer.pool(), placer.exceptions());
+    let rows = usage(alloc, map, pool, exceptions, case.states()).expect(rt, "error");
     assert_counted(rt, rows.as_slice(), groups.as_slice());
     Ok(())
 }
@@ -117,7 +117,9 @@ fn assert_moves(
 ) -> Result<(), Fail> {
     let (pool, exceptions) = (to.pool(), to.exceptions());
     assert_rule(rt, from.map(), pool);
-    let rows = moves(alloc, from.map(), to.map(), pool, exceptions, case.states())?;
+    let rows = moves(alloc, from.map(), to.map(), pool, exceptions, case.states()).expect(
+        rt, "error",
+    );
     assert_moved(rt, alloc, rows.as_slice(), (from, to), case)
 }
 
@@ -171,13 +173,12 @@ fn assert_impact(
     placer: &Placer,
     case: &PoolCase,
     groups: &[Placed],
-) -> Result<(), Fail> {
+) {
     let (map, pool, exceptions) = (placer.map(), placer.pool(), placer.exceptions());
     for device in 0..DEVICES {
-        let found = impact(alloc, map, pool, exceptions, case.states(), device)?;
+        let found = impact(alloc, map, pool, exceptions, case.states(), device).expect(rt, "error");
         assert_touched(rt, found.as_slice(), groups, exceptions.pairs(), device);
     }
-    Ok(())
 }
 
 fn assert_impact_of(
@@ -192,7 +193,8 @@ fn assert_impact_of(
         return rt.abort();
     };
     let groups = all_placed(alloc, &placer, case.weights())?;
-    assert_impact(rt, alloc, &placer, &case, groups.as_slice())
+    assert_impact(rt, alloc, &placer, &case, groups.as_slice());
+    Ok(())
 }
 
 #[test]

@@ -3,11 +3,10 @@
 ghost use Rattle.std.specs.Prelude.{◌≡◌, is_some, true};
 ghost use Rattle.crush_pool.specs.Placements.{rule_numbered};
 
-use crate::cases::Case;
 use crate::same::assert_same;
 use crush_map::CrushMap;
 use crush_pool::{DeviceState, Pair, Placer, Pool, rule_with_id};
-use crush_report::{MoveRow, impact, moves, moves_csv, usage, usage_csv};
+use crush_report::{impact, moves, moves_csv, usage, usage_csv};
 use pool_tests::maps::{MapTables, TWO};
 use pool_tests::placing::PoolCase;
 use pool_tests::pools::{OF_TWO, Short};
@@ -40,43 +39,50 @@ fn assert_used(
     placer: &Placer,
     states: &[DeviceState],
     csv: &[u8],
-) -> Result<(), Fail> {
+) {
     let (map, pool, exceptions) = (placer.map(), placer.pool(), placer.exceptions());
-    let rows = usage(alloc, map, pool, exceptions, states)?;
-    let text = usage_csv(alloc, rows.as_slice())?;
+    let rows = usage(alloc, map, pool, exceptions, states).expect(rt, "error");
+    let text = usage_csv(alloc, rows.as_slice()).expect(rt, "error");
     assert!(rt; text.as_slice() == csv);
-    Ok(())
 }
 
-/// Asserts that, with exceptions and states, the usage of a pool of eight groups on a map is `csv`.
+/// Pairs, states of devices, and the CSV of the usage.
+type Used = (&'static [Pair], &'static [DeviceState], &'static [u8]);
+
+/// Asserts that the usage of a pool of eight groups on a map is what the row says.
 fn assert_usage(
     rt: &impl Abort,
     alloc: Global,
     map: &MapTables,
-    (pairs, states): Case,
-    csv: &[u8],
+    (pairs, states, csv): Used,
 ) -> Result<(), Fail> {
     let case = PoolCase::build(alloc, OF_EIGHT, pairs, states)?;
     let Some(placer) = case.placer(map) else {
         return rt.abort();
     };
-    assert_used(rt, alloc, &placer, states, csv)
+    assert_used(rt, alloc, &placer, states, csv);
+    Ok(())
 }
+
+/// On the map of the device 0.
+const BY_ONE: &[Used] = &[
+    (
+        &[],
+        &[],
+        b"device,groups,entries,primaries,permille\n0,8,8,8,1000\n",
+    ),
+    (
+        &[],
+        &[DOWN_0],
+        b"device,groups,entries,primaries,permille\n0,0,0,0,0\n",
+    ),
+];
 
 #[test]
 fn a_pool_of_one_device_is_used_by_it_alone(rt: HostRuntime) -> Result<(), Fail> {
     let map = MapTables::of_text(rt.alloc(), DEVICE_0)?;
-    for (states, csv) in [
-        (
-            &[][..],
-            b"device,groups,entries,primaries,permille\n0,8,8,8,1000\n".as_slice(),
-        ),
-        (
-            &[DOWN_0][..],
-            b"device,groups,entries,primaries,permille\n0,0,0,0,0\n".as_slice(),
-        ),
-    ] {
-        assert_usage(&rt, rt.alloc(), &map, (&[], states), csv)?;
+    for row in BY_ONE {
+        assert_usage(&rt, rt.alloc(), &map, *row)?;
     }
     Ok(())
 }
@@ -88,44 +94,40 @@ const TO_1: Pair = Pair {
     to: 1,
 };
 
+/// On the map of two devices.
+const BY_TWO: &[Used] = &[
+    (
+        &[],
+        &[],
+        b"device,groups,entries,primaries,permille\n0,8,8,8,1000\n1,0,0,0,0\n",
+    ),
+    (
+        &[TO_1, Pair { group: 7, ..TO_1 }],
+        &[],
+        b"device,groups,entries,primaries,permille\n0,6,6,6,750\n1,2,2,2,250\n",
+    ),
+];
+
 #[test]
 fn a_device_that_a_pair_leads_to_is_used(rt: HostRuntime) -> Result<(), Fail> {
     let map = MapTables::of_text(rt.alloc(), TWO)?;
-    for (pairs, csv) in [
-        (
-            &[][..],
-            b"device,groups,entries,primaries,permille\n0,8,8,8,1000\n1,0,0,0,0\n".as_slice(),
-        ),
-        (
-            &[TO_1, Pair { group: 7, ..TO_1 }][..],
-            b"device,groups,entries,primaries,permille\n0,6,6,6,750\n1,2,2,2,250\n".as_slice(),
-        ),
-    ] {
-        assert_usage(&rt, rt.alloc(), &map, (pairs, &[]), csv)?;
+    for row in BY_TWO {
+        assert_usage(&rt, rt.alloc(), &map, *row)?;
     }
     Ok(())
 }
 
-/// Asserts that the CSV of `rows` is `csv`.
-fn assert_csv(rt: &impl Abort, alloc: Global, rows: &[MoveRow], csv: &[u8]) -> Result<(), Fail> {
-    let text = moves_csv(alloc, rows)?;
-    assert!(rt; text.as_slice() == csv);
-    Ok(())
-}
-
 /// Asserts that what moves of a pool from one map to another is `csv`.
-fn assert_moved(
-    rt: &impl Abort,
-    alloc: Global,
-    from: &CrushMap,
-    to: &Placer,
-    csv: &[u8],
-) -> Result<(), Fail> {
+fn assert_moved(rt: &impl Abort, alloc: Global, from: &CrushMap, to: &Placer, csv: &[u8]) {
     let (pool, exceptions) = (to.pool(), to.exceptions());
     assert_rule(rt, from, pool);
-    let rows = moves(alloc, from, to.map(), pool, exceptions, &[])?;
-    assert_csv(rt, alloc, rows.as_slice(), csv)
+    let rows = moves(alloc, from, to.map(), pool, exceptions, &[]).expect(rt, "error");
+    let text = moves_csv(alloc, rows.as_slice()).expect(rt, "error");
+    assert!(rt; text.as_slice() == csv);
 }
+
+/// The texts of two maps, pairs, and the CSV of what moves from the first map to the second.
+type Moved = (&'static str, &'static str, &'static [Pair], &'static [u8]);
 
 /// Asserts that, with exceptions, what moves of a pool of two groups between two maps is `csv`.
 fn assert_moves(
@@ -139,46 +141,46 @@ fn assert_moves(
     let Some(to) = case.placer(to) else {
         return rt.abort();
     };
-    assert_moved(rt, alloc, from, &to, csv)
+    assert_moved(rt, alloc, from, &to, csv);
+    Ok(())
 }
 
-/// Asserts that, with exceptions, what moves from the map of a text to that of another is `csv`.
-fn assert_moves_of(
-    rt: &impl Abort,
-    alloc: Global,
-    (from, to): (&str, &str),
-    pairs: &[Pair],
-    csv: &[u8],
-) -> Result<(), Fail> {
+/// Asserts that what moves of a pool of two groups between the maps of a row is what it says.
+fn assert_moves_of(rt: &impl Abort, alloc: Global, row: &Moved) -> Result<(), Fail> {
+    let (from, to, pairs, csv) = *row;
     let (from, to) = (map_of(alloc, from)?, MapTables::of_text(alloc, to)?);
     assert_moves(rt, alloc, (&from, &to), pairs, csv)
 }
 
+/// Two maps of one device each.
+const TO_ANOTHER: &[Moved] = &[
+    (
+        DEVICE_0,
+        DEVICE_7,
+        &[],
+        b"group,gained,old,new\n0,1,0,7\n1,1,0,7\n",
+    ),
+    (DEVICE_7, DEVICE_7, &[], b"group,gained,old,new\n"),
+];
+
 #[test]
 fn groups_move_to_the_device_of_another_map(rt: HostRuntime) -> Result<(), Fail> {
-    for (maps, csv) in [
-        (
-            (DEVICE_0, DEVICE_7),
-            b"group,gained,old,new\n0,1,0,7\n1,1,0,7\n".as_slice(),
-        ),
-        ((DEVICE_7, DEVICE_7), b"group,gained,old,new\n".as_slice()),
-    ] {
-        assert_moves_of(&rt, rt.alloc(), maps, &[], csv)?;
+    for row in TO_ANOTHER {
+        assert_moves_of(&rt, rt.alloc(), row)?;
     }
     Ok(())
 }
 
-/// A group moves where the pair has no effect on the first map, which has no device 1.
+/// The pair has no effect on the map of the device 0, which has no device 1.
+const BY_A_PAIR: &[Moved] = &[
+    (DEVICE_0, TWO, &[TO_1], b"group,gained,old,new\n0,1,0,1\n"),
+    (TWO, TWO, &[TO_1], b"group,gained,old,new\n"),
+];
+
 #[test]
 fn a_group_moves_where_its_pair_takes_effect_on_one_map(rt: HostRuntime) -> Result<(), Fail> {
-    for (maps, csv) in [
-        (
-            (DEVICE_0, TWO),
-            b"group,gained,old,new\n0,1,0,1\n".as_slice(),
-        ),
-        ((TWO, TWO), b"group,gained,old,new\n".as_slice()),
-    ] {
-        assert_moves_of(&rt, rt.alloc(), maps, &[TO_1], csv)?;
+    for row in BY_A_PAIR {
+        assert_moves_of(&rt, rt.alloc(), row)?;
     }
     Ok(())
 }
@@ -200,11 +202,10 @@ fn assert_touched(
     states: &[DeviceState],
     device: u32,
     wanted: &[u32],
-) -> Result<(), Fail> {
+) {
     let (map, pool, exceptions) = (placer.map(), placer.pool(), placer.exceptions());
-    let groups = impact(alloc, map, pool, exceptions, states, device)?;
+    let groups = impact(alloc, map, pool, exceptions, states, device).expect(rt, "error");
     assert_same(rt, &groups.as_slice(), &wanted);
-    Ok(())
 }
 
 /// Asserts that, on the map of a text, with the pairs and the states, the groups of a pool of two
@@ -219,7 +220,8 @@ fn assert_impact(
     let Some(placer) = case.placer(map) else {
         return rt.abort();
     };
-    assert_touched(rt, alloc, &placer, states, device, wanted)
+    assert_touched(rt, alloc, &placer, states, device, wanted);
+    Ok(())
 }
 
 /// On the map of the device 0.
