@@ -109,17 +109,12 @@ const MAP: Short<'static> = Short {
 };
 
 /// Picks from a bucket of the map by the plain form.
-fn plain_pick(
-    rt: &impl Abort,
-    alloc: Global,
-    n: u32,
-    x: u32,
-    r: u32,
-) -> Result<ItemId, AllocError> {
+fn plain_pick(rt: &impl Abort, alloc: Global, n: u32, x: u32, r: u32) -> ItemId {
     let Some((id, _, _, kind, items)) = BUCKETS.get(n as usize) else {
         return rt.abort();
     };
-    plain::pick(alloc, *kind, ItemId(*id), &entries(alloc, items)?, x, r)
+    let entries = entries(alloc, items).expect(rt, "error");
+    plain::pick(alloc, *kind, ItemId(*id), &entries, x, r).expect(rt, "error")
 }
 
 /// Asserts that the tables pick what the plain form picks, with a scratch in which picks may have
@@ -132,7 +127,7 @@ fn assert_pick(
     n: u32,
     x: u32,
     r: u32,
-) -> Result<(), AllocError>
+)
     requires { scratch.old ≡ scratch_of tables.now }
     ensures { scratch.new ≡ scratch_of tables.now }
 {
@@ -141,13 +136,31 @@ fn assert_pick(
     };
     assert!(rt; !tables.is_empty(bucket));
     let item = tables.pick(bucket, scratch, x, r);
-    assert_same_at(
-        rt,
-        [n as u32, x, r],
-        &item,
-        &plain_pick(rt, alloc, n % COUNT, x, r)?,
-    );
-    Ok(())
+    let expected = plain_pick(rt, alloc, n % COUNT, x, r);
+    assert_same_at(rt, [n as u32, x, r], &item, &expected);
+}
+
+/// Asserts that the items are those that the plain form picks from the buckets for the inputs.
+fn assert_items(
+    rt: &impl Abort,
+    alloc: Global,
+    items: &[ItemId; LANES],
+    numbers: &[u32; LANES],
+    xs: &[u32; LANES],
+    r: u32,
+) {
+    for lane in 0..LANES {
+        let expected = plain_pick(rt, alloc, numbers[lane], xs[lane], r);
+        assert_same(rt, &items[lane], &expected);
+    }
+}
+
+fn buckets_of(numbers: &[u32; LANES]) -> [BucketNo; LANES] {
+    let mut buckets = [BucketNo::new(0); LANES];
+    for lane in 0..LANES {
+        buckets[lane] = BucketNo::new(numbers[lane] as usize);
+    }
+    buckets
 }
 
 /// Picks ahead from eight buckets, and asks for what was picked, then for the same with an input,
@@ -160,34 +173,23 @@ fn assert_ahead(
     numbers: [u32; LANES],
     xs: [u32; LANES],
     r: u32,
-) -> Result<(), AllocError>
+)
     requires { scratch.old ≡ scratch_of tables.now }
     ensures { scratch.new ≡ scratch_of tables.now }
 {
-    let mut buckets = [BucketNo::new(0); LANES];
-    for lane in 0..LANES {
-        buckets[lane] = BucketNo::new(numbers[lane] as usize);
-    }
     // picks from the given buckets can be made ahead: only a lack of memory prevents them
-    let Some(items) = scratch.pick_ahead(buckets, &xs, r) else {
-        return Err(AllocError);
-    };
-    for lane in 0..LANES {
-        assert_same(
-            rt,
-            &items[lane],
-            &plain_pick(rt, alloc, numbers[lane], xs[lane], r)?,
-        );
-    }
+    let items = scratch
+        .pick_ahead(buckets_of(&numbers), &xs, r)
+        .expect(rt, "error: AllocError");
+    assert_items(rt, alloc, &items, &numbers, &xs, r);
     'lanes: for lane in 0..LANES {
         let (n, x) = (numbers[lane], xs[lane]);
-        assert_pick(rt, alloc, tables, scratch, n, x, r)?;
-        assert_pick(rt, alloc, tables, scratch, n, xs[LANES - 1 - lane], r)?;
-        assert_pick(rt, alloc, tables, scratch, n, x, r.wrapping_add(1))?;
-        assert_pick(rt, alloc, tables, scratch, numbers[0], x, r)?;
-        assert_pick(rt, alloc, tables, scratch, n, x.wrapping_add(1), r)?;
+        assert_pick(rt, alloc, tables, scratch, n, x, r);
+        assert_pick(rt, alloc, tables, scratch, n, xs[LANES - 1 - lane], r);
+        assert_pick(rt, alloc, tables, scratch, n, x, r.wrapping_add(1));
+        assert_pick(rt, alloc, tables, scratch, numbers[0], x, r);
+        assert_pick(rt, alloc, tables, scratch, n, x.wrapping_add(1), r);
     }
-    Ok(())
 }
 
 fn numbers(seed: &mut u64, below: u32) -> [u32; LANES] {
@@ -208,10 +210,19 @@ fn assert_rounds(rt: &impl Abort, alloc: Global, tables: &Tables) -> Result<(), 
         'steps: for _ in 0..5 {
             let buckets = numbers(&mut seed, TREES);
             let r = next(&mut seed) % 4;
-            assert_ahead(rt, alloc, tables, &mut scratch, buckets, xs, r)?;
+            assert_ahead(rt, alloc, tables, &mut scratch, buckets, xs, r);
         }
     }
     Ok(())
+}
+
+/// Draws the numbers of eight uniform buckets.
+fn uniform_numbers(seed: &mut u64) -> [u32; LANES] {
+    let mut buckets = numbers(seed, 3);
+    for lane in 0..LANES {
+        buckets[lane] = UNIFORMS[(buckets[lane] % 3) as usize];
+    }
+    buckets
 }
 
 /// Asserts the same of uniform buckets, for the first four places of each.
@@ -222,78 +233,96 @@ fn assert_uniform(rt: &impl Abort, alloc: Global, tables: &Tables) -> Result<(),
         let xs = numbers(&mut seed, 5);
         scratch.turn_to(xs);
         'steps: for r in 0..4 {
-            let mut buckets = numbers(&mut seed, 3);
-            for lane in 0..LANES {
-                buckets[lane] = UNIFORMS[(buckets[lane] % 3) as usize];
-            }
-            assert_ahead(rt, alloc, tables, &mut scratch, buckets, xs, r)?;
+            let buckets = uniform_numbers(&mut seed);
+            assert_ahead(rt, alloc, tables, &mut scratch, buckets, xs, r);
         }
         // all ask for place 1 again, by an attempt beyond their size
-        assert_ahead(rt, alloc, tables, &mut scratch, [9; LANES], xs, 8)?;
+        assert_ahead(rt, alloc, tables, &mut scratch, [9; LANES], xs, 8);
     }
     Ok(())
+}
+
+/// Makes the tables of the map.
+fn map_tables(rt: &impl Abort, alloc: Global) -> Tables {
+    let draft = draft(alloc, MAP).expect(rt, "error");
+    match CrushMap::check(alloc, draft).expect(rt, "error") {
+        Ok(map) => Tables::build(alloc, &map).expect(rt, "error"),
+        Err(_) => rt.abort(),
+    }
+}
+
+/// The inputs that the scratch is turned to.
+const INPUTS: [u32; LANES] = [1, 2, 3, 4, 5, 6, 7, 8];
+
+/// Inputs that it isn't turned to.
+const OTHERS: [u32; LANES] = [1, 2, 3, 4, 5, 6, 7, 9];
+
+/// Asserts that nothing is picked ahead.
+fn assert_none(
+    rt: &impl Abort,
+    scratch: &mut Scratch,
+    buckets: [BucketNo; LANES],
+    xs: &[u32; LANES],
+    r: u32,
+) {
+    assert!(rt; scratch.pick_ahead(buckets, xs, r).is_none());
+}
+
+/// Asserts that nothing is picked ahead where one of eight buckets, each in turn, is `other`, and
+/// the rest are `all`.
+fn assert_none_with(
+    rt: &impl Abort,
+    scratch: &mut Scratch,
+    all: BucketNo,
+    other: BucketNo,
+    r: u32,
+) {
+    for lane in 0..LANES {
+        let mut buckets = [all; LANES];
+        buckets[lane] = other;
+        assert_none(rt, scratch, buckets, &INPUTS, r);
+    }
 }
 
 /// Uniform buckets are not picked from ahead for a later place, nor where they are asked for
 /// different places.
 #[test]
-fn later_and_different_places_are_not_picked_ahead(rt: HostRuntime) -> Result<(), AllocError> {
-    let alloc = rt.alloc();
-    let Ok(map) = CrushMap::check(alloc, draft(alloc, MAP)?)? else {
-        return rt.abort();
-    };
-    let tables = Tables::build(alloc, &map)?;
-    assert_uniform(&rt, alloc, &tables)?;
-    let mut scratch = Scratch::build(alloc, &tables)?;
-    let xs = [1, 2, 3, 4, 5, 6, 7, 8];
-    scratch.turn_to(xs);
+fn later_and_different_places_are_not_picked_ahead(rt: HostRuntime) {
+    let tables = map_tables(&rt, rt.alloc());
+    assert_uniform(&rt, rt.alloc(), &tables).expect(&rt, "error");
+    let mut scratch = Scratch::build(rt.alloc(), &tables).expect(&rt, "error");
+    scratch.turn_to(INPUTS);
     let longest = BucketNo::new(10);
     for r in 4..9 {
-        assert!(rt; scratch.pick_ahead([longest; LANES], &xs, r).is_none());
+        assert_none(&rt, &mut scratch, [longest; LANES], &INPUTS, r);
     }
     // attempt 2 asks a bucket of two items for place 0
-    for lane in 0..LANES {
-        let mut buckets = [longest; LANES];
-        buckets[lane] = BucketNo::new(SHORT);
-        assert!(rt; scratch.pick_ahead(buckets, &xs, 2).is_none());
+    assert_none_with(&rt, &mut scratch, longest, BucketNo::new(SHORT), 2);
+}
+
+/// Asserts that 64 steps are stored, and no more, and that for other inputs than those that were
+/// turned to nothing is picked ahead.
+fn assert_room(rt: &impl Abort, scratch: &mut Scratch, tree: BucketNo) {
+    for r in 0..64 {
+        assert_none(rt, scratch, [tree; LANES], &OTHERS, r);
+        scratch
+            .pick_ahead([tree; LANES], &INPUTS, r)
+            .expect(rt, "error: AllocError");
     }
-    Ok(())
+    assert_none(rt, scratch, [tree; LANES], &INPUTS, 64);
 }
 
 /// Five steps at a time are stored for eight inputs, and then those of eight others.
 #[test]
-fn what_is_picked_ahead_is_what_is_picked(rt: HostRuntime) -> Result<(), AllocError> {
-    let alloc = rt.alloc();
-    let Ok(map) = CrushMap::check(alloc, draft(alloc, MAP)?)? else {
-        return rt.abort();
-    };
-    let tables = Tables::build(alloc, &map)?;
-    assert_rounds(&rt, alloc, &tables)?;
-    let mut scratch = Scratch::build(alloc, &tables)?;
-    let xs = [1, 2, 3, 4, 5, 6, 7, 8];
-    scratch.turn_to(xs);
+fn what_is_picked_ahead_is_what_is_picked(rt: HostRuntime) {
+    let tables = map_tables(&rt, rt.alloc());
+    assert_rounds(&rt, rt.alloc(), &tables).expect(&rt, "error");
+    let mut scratch = Scratch::build(rt.alloc(), &tables).expect(&rt, "error");
+    scratch.turn_to(INPUTS);
     let tree = BucketNo::new(0);
     // a list, a uniform bucket, one without items, and none
     for place in [5, 6, 7, 8] {
-        let other = BucketNo::new(place);
-        for lane in 0..LANES {
-            let mut buckets = [tree; LANES];
-            buckets[lane] = other;
-            assert!(rt; scratch.pick_ahead(buckets, &xs, 0).is_none());
-        }
+        assert_none_with(&rt, &mut scratch, tree, BucketNo::new(place), 0);
     }
-    // 64 steps are stored, and no more
-    for r in 0..64 {
-        // for other inputs than those that were turned to nothing is picked ahead
-        assert!(rt;
-            scratch
-                .pick_ahead([tree; LANES], &[1, 2, 3, 4, 5, 6, 7, 9], r)
-                .is_none()
-        );
-        if scratch.pick_ahead([tree; LANES], &xs, r).is_none() {
-            return Err(AllocError);
-        }
-    }
-    assert!(rt; scratch.pick_ahead([tree; LANES], &xs, 64).is_none());
-    Ok(())
+    assert_room(&rt, &mut scratch, tree);
 }

@@ -97,18 +97,19 @@ fn picked(
     Ok(picks)
 }
 
-/// The kind and the items of a bucket -1, and the item that it picks for the input 0 at the attempt
-/// 0.
-const FIRST: &[(Kind, &[(i32, u32)], i32)] = &[
+/// The kind and the items of a bucket -1, and the item that it picks.
+type Row<'a> = (Kind, &'a [(i32, u32)], i32);
+
+/// What is picked for the input 0 at the attempt 0.
+const FIRST: &[Row<'static>] = &[
     (Uniform, &[(5, ONE), (6, ONE), (7, ONE)], 7),
     (List, &[(0, ONE), (1, ONE)], 0),
     (List, &[(0, ONE), (1, 22 * ONE)], 0),
     (List, &[(0, ONE), (1, 23 * ONE)], 1),
 ];
 
-/// The kind and the items of a bucket -1, and the item that it picks for every input at every
-/// attempt.
-const ALWAYS: &[(Kind, &[(i32, u32)], i32)] = &[
+/// What is picked for every input at every attempt.
+const ALWAYS: &[Row<'static>] = &[
     (List, &[(4, ONE), (9, 0)], 4),
     (List, &[(4, 0), (9, ONE)], 9),
     (List, &[(4, 0), (9, 0)], 4),
@@ -137,17 +138,40 @@ const LIGHT: [(i32, u32); 17] = [
     (19, 0),
 ];
 
+/// Asserts that the bucket of a row picks the row's item for each question.
+fn assert_row(rt: &impl Abort, alloc: Global, case: u32, row: &Row<'_>, questions: &[(u32, u32)]) {
+    let (kind, items, expected) = *row;
+    let entries = entries(alloc, items).expect(rt, "error");
+    let picks = picked(rt, alloc, kind, ItemId(-1), &entries, questions).expect(rt, "error");
+    for pick in &picks {
+        assert_same_at(rt, [case, 0, 0], pick, &ItemId(expected));
+    }
+}
+
+/// Asserts the same of each of the rows.
+fn assert_rows(rt: &impl Abort, alloc: Global, rows: &[Row<'_>], questions: &[(u32, u32)]) {
+    let mut case: u32 = 0;
+    for row in rows {
+        assert_row(rt, alloc, case, row, questions);
+        case = case.wrapping_add(1);
+    }
+}
+
+/// Makes two questions for each of 50 inputs.
+fn many_questions(rt: &impl Abort, alloc: Global) -> Vec<(u32, u32)> {
+    let mut many = Vec::new(alloc);
+    for x in 0..50 {
+        many.push((x, x / 3)).expect(rt, "error");
+        many.push((x, x % 7)).expect(rt, "error");
+    }
+    many
+}
+
 /// The worked rows are met. The list without weight has 1, 7, 8, 9, 16 and 17 items, below, at and
 /// above full eights.
 #[test]
-fn buckets_answer_the_worked_rows(rt: HostRuntime) -> Result<(), AllocError> {
-    let alloc = rt.alloc();
-    let mut many = Vec::new(alloc);
-    for x in 0..50 {
-        many.push((x, x / 3))?;
-        many.push((x, x % 7))?;
-    }
-    let first = [(0, 0)];
+fn buckets_answer_the_worked_rows(rt: HostRuntime) {
+    let many = many_questions(&rt, rt.alloc());
     let light = [
         (List, &LIGHT[..1], 3),
         (List, &LIGHT[..7], 3),
@@ -156,16 +180,9 @@ fn buckets_answer_the_worked_rows(rt: HostRuntime) -> Result<(), AllocError> {
         (List, &LIGHT[..16], 3),
         (List, &LIGHT[..], 3),
     ];
-    let many = many.as_slice();
-    for (rows, questions) in [(FIRST, &first[..]), (ALWAYS, many), (&light[..], many)] {
-        for (case, (kind, items, expected)) in rows.iter().enumerate() {
-            let entries = entries(alloc, items)?;
-            for pick in picked(&rt, alloc, *kind, ItemId(-1), &entries, questions)? {
-                assert_same_at(&rt, [case as u32, 0, 0], &pick, &ItemId(*expected));
-            }
-        }
-    }
-    Ok(())
+    assert_rows(&rt, rt.alloc(), FIRST, &[(0, 0)]);
+    assert_rows(&rt, rt.alloc(), ALWAYS, &many);
+    assert_rows(&rt, rt.alloc(), &light, &many);
 }
 
 /// A scratch answers as a new one where the short cut is taken or left, and x changes and comes
@@ -222,98 +239,162 @@ pub(crate) fn random_id(seed: &mut u64) -> ItemId {
     ItemId(-1 - (next(seed) % 1_000) as i32)
 }
 
+/// Makes the id and the items of a bucket of a kind for a round.
+fn random_bucket(
+    rt: &impl Abort,
+    alloc: Global,
+    seed: &mut u64,
+    round: u32,
+    kind: Kind,
+) -> (ItemId, Vec<(ItemId, Weight)>) {
+    let id = random_id(seed);
+    let size = random_size(seed, round);
+    let entries = random_entries(alloc, seed, size, kind == Uniform).expect(rt, "error");
+    (id, entries)
+}
+
+/// Makes ten questions for few inputs.
+fn few_questions(rt: &impl Abort, alloc: Global, seed: &mut u64) -> Vec<(u32, u32)> {
+    let mut questions = Vec::new(alloc);
+    for _ in 0..10 {
+        questions
+            .push((next(seed) % 3, next(seed)))
+            .expect(rt, "error");
+    }
+    questions
+}
+
+/// Asserts that the bucket of a kind picks for each question what its plain form picks.
+fn assert_plain(
+    rt: &impl Abort,
+    alloc: Global,
+    case: u32,
+    kind: Kind,
+    id: ItemId,
+    entries: &[(ItemId, Weight)],
+    questions: &[(u32, u32)],
+) {
+    let picks = picked(rt, alloc, kind, id, entries, questions).expect(rt, "error");
+    for ((x, r), pick) in questions.iter().zip(picks.iter()) {
+        let expected = plain::pick(alloc, kind, id, entries, *x, *r).expect(rt, "error");
+        assert_same_at(rt, [case, *x, *r], pick, &expected);
+    }
+}
+
+/// Asserts the same of the bucket for a round, for ten questions.
+fn assert_random(rt: &impl Abort, alloc: Global, seed: &mut u64, round: u32, kind: Kind) {
+    let (id, entries) = random_bucket(rt, alloc, seed, round, kind);
+    let questions = few_questions(rt, alloc, seed);
+    assert_plain(rt, alloc, round, kind, id, &entries, &questions);
+}
+
 /// 200 buckets of each kind, of up to 200 items, each asked ten times for few inputs.
 #[test]
-fn buckets_pick_as_their_plain_forms(rt: HostRuntime) -> Result<(), AllocError> {
-    let alloc = rt.alloc();
+fn buckets_pick_as_their_plain_forms(rt: HostRuntime) {
     let mut seed = 2_026;
     for round in 0..200 {
         for kind in [Uniform, List, Tree] {
-            let id = random_id(&mut seed);
-            let size = random_size(&mut seed, round);
-            let entries = random_entries(alloc, &mut seed, size, kind == Uniform)?;
-            let mut questions = Vec::new(alloc);
-            for _ in 0..10 {
-                questions.push((next(&mut seed) % 3, next(&mut seed)))?;
-            }
-            let picks = picked(&rt, alloc, kind, id, &entries, &questions)?;
-            for ((x, r), pick) in questions.iter().zip(picks) {
-                let expected = plain::pick(alloc, kind, id, &entries, *x, *r)?;
-                assert_same_at(&rt, [round, 0, 0], &pick, &expected);
-            }
+            assert_random(&rt, rt.alloc(), &mut seed, round, kind);
         }
     }
-    Ok(())
+}
+
+/// Makes eight inputs, some of which may be the same.
+fn eight_inputs(seed: &mut u64) -> [u32; 8] {
+    let mut xs = [0; 8];
+    for lane in 0..8 {
+        xs[lane] = next(seed) % 50;
+    }
+    xs
+}
+
+/// Asserts that the bucket for a round picks for eight inputs at once what it picks for each.
+fn assert_random_eight(rt: &impl Abort, alloc: Global, seed: &mut u64, round: u32, kind: Kind) {
+    let (id, entries) = random_bucket(rt, alloc, seed, round, kind);
+    let xs = eight_inputs(seed);
+    assert_kind(rt, alloc, kind, id, &entries, &xs).expect(rt, "error");
 }
 
 /// 40 buckets of each kind, of up to 200 items, each asked for eight inputs, some of them twice.
 #[test]
-fn buckets_pick_for_eight_inputs_as_for_each(rt: HostRuntime) -> Result<(), AllocError> {
-    let alloc = rt.alloc();
+fn buckets_pick_for_eight_inputs_as_for_each(rt: HostRuntime) {
     let mut seed = 2_029;
     for round in 0..40 {
         for kind in [Uniform, List, Tree] {
-            let id = random_id(&mut seed);
-            let size = random_size(&mut seed, round);
-            let entries = random_entries(alloc, &mut seed, size, kind == Uniform)?;
-            let mut xs = [0; 8];
-            for lane in 0..8 {
-                xs[lane] = next(&mut seed) % 50;
-            }
-            assert_kind(&rt, alloc, kind, id, &entries, &xs)?;
+            assert_random_eight(&rt, rt.alloc(), &mut seed, round, kind);
         }
     }
-    Ok(())
 }
 
 /// The most items of a bucket.
 const MOST: u16 = 4_096;
 
+/// Adds ten questions for the input `x`, and what the plain form of a uniform bucket picks for
+/// each: at places all over the bucket for the input 0, and at its front for others.
+fn add_questions(
+    rt: &impl Abort,
+    seed: &mut u64,
+    x: u32,
+    entries: &[(ItemId, Weight)],
+    places: &[usize],
+    questions: &mut Vec<(u32, u32)>,
+    wanted: &mut Vec<ItemId>,
+) {
+    let reach = if x == 0 { u32::from(MOST) } else { 200 };
+    for _ in 0..10 {
+        let rounds = (next(seed) / 8_192).wrapping_mul(u32::from(MOST));
+        let r = rounds.wrapping_add(next(seed) % reach);
+        questions.push((x, r)).expect(rt, "error");
+        wanted
+            .push(plain::placed(entries, places, r))
+            .expect(rt, "error");
+    }
+}
+
 /// 20 inputs, each asked ten times: the first at places all over the bucket, and the others at its
 /// front, since an exchange takes the longer the more were made before.
 #[test]
-fn a_uniform_bucket_of_the_most_items_picks_as_its_plain_form(
-    rt: HostRuntime,
-) -> Result<(), AllocError> {
+fn a_uniform_bucket_of_the_most_items_picks_as_its_plain_form(rt: HostRuntime) {
     let alloc = rt.alloc();
     let mut seed = 2_028;
     let id = random_id(&mut seed);
-    let entries = random_entries(alloc, &mut seed, MOST, true)?;
+    let entries = random_entries(alloc, &mut seed, MOST, true).expect(&rt, "error");
     let mut questions = Vec::new(alloc);
     let mut wanted = Vec::new(alloc);
     for x in 0..20 {
         let size = entries.len();
-        let places = plain::exchanged(alloc, id, size, x, size)?;
-        let reach = if x == 0 { u32::from(MOST) } else { 200 };
-        for _ in 0..10 {
-            let rounds = (next(&mut seed) / 8_192).wrapping_mul(u32::from(MOST));
-            let r = rounds.wrapping_add(next(&mut seed) % reach);
-            questions.push((x, r))?;
-            wanted.push(plain::placed(&entries, &places, r))?;
-        }
+        let places = plain::exchanged(alloc, id, size, x, size).expect(&rt, "error");
+        add_questions(
+            &rt,
+            &mut seed,
+            x,
+            &entries,
+            &places,
+            &mut questions,
+            &mut wanted,
+        );
     }
-    let picks = picked(&rt, alloc, Uniform, id, &entries, &questions)?;
+    let picks = picked(&rt, alloc, Uniform, id, &entries, &questions).expect(&rt, "error");
     assert_same(&rt, &picks.as_slice(), &wanted.as_slice());
-    Ok(())
+}
+
+/// Makes 200 questions of any inputs.
+fn any_questions(rt: &impl Abort, alloc: Global, seed: &mut u64) -> Vec<(u32, u32)> {
+    let mut questions = Vec::new(alloc);
+    for _ in 0..200 {
+        questions.push((next(seed), next(seed))).expect(rt, "error");
+    }
+    questions
 }
 
 /// 200 questions of any inputs.
 #[test]
-fn a_tree_of_the_most_items_picks_as_its_plain_form(rt: HostRuntime) -> Result<(), AllocError> {
-    let alloc = rt.alloc();
+fn a_tree_of_the_most_items_picks_as_its_plain_form(rt: HostRuntime) {
     let mut seed = 2_029;
     let id = random_id(&mut seed);
-    let entries = random_entries(alloc, &mut seed, MOST, false)?;
-    let mut questions = Vec::new(alloc);
-    let mut wanted = Vec::new(alloc);
-    for _ in 0..200 {
-        let (x, r) = (next(&mut seed), next(&mut seed));
-        questions.push((x, r))?;
-        wanted.push(plain::pick(alloc, Tree, id, &entries, x, r)?)?;
-    }
-    let picks = picked(&rt, alloc, Tree, id, &entries, &questions)?;
-    assert_same(&rt, &picks.as_slice(), &wanted.as_slice());
-    Ok(())
+    let entries = random_entries(rt.alloc(), &mut seed, MOST, false).expect(&rt, "error");
+    let questions = any_questions(&rt, rt.alloc(), &mut seed);
+    assert_plain(&rt, rt.alloc(), 0, Tree, id, &entries, &questions);
 }
 
 /// Devices 0 to 2 in buckets -2 and -3, which are in -1; -4 is empty.

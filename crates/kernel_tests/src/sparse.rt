@@ -87,7 +87,8 @@ fn a_perm_keeps_what_its_plain_form_moves(rt: HostRuntime) -> Result<(), AllocEr
             }
             exchanges = exchanges.max((place + 1).min(size - 1));
             last = x;
-            assert_eq!(rt; perm.kept(), plain_kept(alloc, id, size, x, exchanges)?);
+            let kept = plain_kept(alloc, id, size, x, exchanges)?;
+            assert_same(&rt, &perm.kept(), &kept);
         }
     }
     Ok(())
