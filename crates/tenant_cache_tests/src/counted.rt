@@ -86,9 +86,9 @@ pub(crate) type Load = (Asked, u16, u64);
 pub(crate) type Loads = (Over, &'static [Load], &'static [Load], u32);
 
 /// Asserts the status and the count of loads that each row says.
-fn assert_rows<const BYTES: u64>(
+fn assert_rows<T: TenantStore>(
     rt: &impl Abort,
-    service: &mut Counted<BYTES>,
+    service: &mut Service<T>,
     loads: &Rc<Cell<u64>>,
     rows: &[Load],
 ) {

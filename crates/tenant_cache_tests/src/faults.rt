@@ -2,11 +2,12 @@
 //! with nothing kept.
 
 use crate::asking::{Asked, DOWN, IMPORT, POOL, ask, assert_count, assert_that};
-use crate::counted::{Counted, Over, no_loads, watched_service};
+use crate::counted::{Over, no_loads, watched_service};
 use crate::watched::Fault;
 use std::alloc::Global;
 use std::process::Abort;
-use tenant_service::{MemoryStore, Service};
+use tenant_core::TenantStore;
+use tenant_service::Service;
 
 /// Requests of two tenants, one of which is dropped and created again.
 const ASKED: &[Asked] = &[
@@ -31,10 +32,10 @@ const ASKED: &[Asked] = &[
 
 /// Returns whether a service answers a request by anything but 503. Asserts that it then has the
 /// reply of `alone`, a service that gets only the answered requests.
-fn is_answered<const BYTES: u64>(
+fn is_answered<T: TenantStore, U: TenantStore>(
     rt: &impl Abort,
-    service: &mut Counted<BYTES>,
-    alone: &mut Service<MemoryStore>,
+    service: &mut Service<T>,
+    alone: &mut Service<U>,
     asked: &Asked,
 ) -> bool {
     let reply = ask(service, asked);
@@ -58,10 +59,10 @@ fn is_answered<const BYTES: u64>(
 }
 
 /// Counts the requests of `ASKED` that a service answers 503.
-fn count_unanswered<const BYTES: u64>(
+fn count_unanswered<T: TenantStore, U: TenantStore>(
     rt: &impl Abort,
-    service: &mut Counted<BYTES>,
-    alone: &mut Service<MemoryStore>,
+    service: &mut Service<T>,
+    alone: &mut Service<U>,
 ) -> usize {
     let mut count: usize = 0;
     for asked in ASKED {

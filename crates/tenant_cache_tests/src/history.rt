@@ -13,10 +13,8 @@ use tenant_core::{Cached, Query, TenantStore};
 use tenant_messages::CallParts;
 use tenant_service::{MemoryStore, Service};
 
-pub(crate) type Store = CachedStore<MemoryStore, Bytes<1_000_000_000>>;
-
 /// A store between two requests, for each of which a service takes it and gives it back.
-pub(crate) type Held = Option<Store>;
+pub(crate) type Held = Option<CachedStore<MemoryStore, Bytes<1_000_000_000>>>;
 
 /// A part of a history.
 #[derive(Clone, Copy)]
@@ -55,15 +53,15 @@ pub(crate) fn new_store(rt: &impl Abort, alloc: Global, over: Over, placements: 
 }
 
 /// Takes the store.
-pub(crate) fn taken(rt: &impl Abort, held: &mut Held) -> Store {
+pub(crate) fn taken<T>(rt: &impl Abort, held: &mut Option<T>) -> T {
     held.take().expect(rt, "no store")
 }
 
 /// Serves a request with these parts on the store, and asserts that it is accepted.
-pub(crate) fn accept_parts(
+pub(crate) fn accept_parts<T: TenantStore + Drop>(
     rt: &impl Abort,
     alloc: Global,
-    held: &mut Held,
+    held: &mut Option<T>,
     method: &str,
     path: &str,
     body: &str,
@@ -79,29 +77,35 @@ pub(crate) fn accept_parts(
 }
 
 /// Serves the request `asked` in the same way.
-pub(crate) fn accept(rt: &impl Abort, alloc: Global, held: &mut Held, asked: &Asked) {
+pub(crate) fn accept<T: TenantStore + Drop>(
+    rt: &impl Abort,
+    alloc: Global,
+    held: &mut Option<T>,
+    asked: &Asked,
+) {
     let (method, path, body) = *asked;
     accept_parts(rt, alloc, held, method, path, body);
 }
 
-/// Finds what the store has in its cache for a query.
-fn found(rt: &impl Abort, store: &mut Store, tenant: &str, query: &Query) -> Cached {
-    let Some(both) = store.cached(tenant, query) else {
-        return rt.abort();
+/// Finds what the store has in its cache for a query. It is the one place that asks the cache: what
+/// the contract of `cached` says is long, and each caller's proof has it.
+fn found<T: TenantStore>(store: &mut T, tenant: &str, query: Query) -> Option<Cached> {
+    let Some(both) = store.cached(tenant, &query) else {
+        return None;
     };
     let (_inventory, cached) = both;
-    cached
+    Some(cached)
 }
 
 /// Finds the placement that the store has in its cache of a group of a tenant's first pool.
-pub(crate) fn placed(
+pub(crate) fn placed<T: TenantStore>(
     rt: &impl Abort,
-    store: &mut Store,
+    store: &mut T,
     tenant: &str,
     group: u64,
 ) -> Rc<Placement> {
-    match found(rt, store, tenant, &Query::Group(1, group)) {
-        Cached::Placed(_, placement) => placement,
+    match found(store, tenant, Query::Group(1, group)) {
+        Some(Cached::Placed(_, placement)) => placement,
         _ => rt.abort(),
     }
 }
@@ -118,7 +122,7 @@ pub(crate) fn is_on(placement: &Placement, device: i32, lead: Option<i32>) -> bo
 }
 
 /// Finds a placement three times, and asserts that the store keeps it from the second time on.
-fn kept(rt: &impl Abort, store: &mut Store, tenant: &str, group: u64) -> Rc<Placement> {
+fn kept<T: TenantStore>(rt: &impl Abort, store: &mut T, tenant: &str, group: u64) -> Rc<Placement> {
     let first = placed(rt, store, tenant, group);
     let second = placed(rt, store, tenant, group);
     let third = placed(rt, store, tenant, group);
@@ -127,49 +131,48 @@ fn kept(rt: &impl Abort, store: &mut Store, tenant: &str, group: u64) -> Rc<Plac
     third
 }
 
-/// Asserts that the store has no placement of a group.
-fn assert_not_placed(rt: &impl Abort, store: &mut Store, tenant: &str, pool: u64, group: u64) {
-    let is_absent = store.cached(tenant, &Query::Group(pool, group)).is_none();
-    assert_that(rt, is_absent, tenant, group);
-    let is_absent = store.cached(tenant, &Query::Usage(pool)).is_none();
-    assert_that(rt, is_absent, tenant, pool);
+/// Asserts that the store has nothing in its cache for a query of a pool, nor for the pool's usage.
+/// `number` is that of the query that a failure shows.
+fn assert_nothing<T: TenantStore>(
+    rt: &impl Abort,
+    store: &mut T,
+    tenant: &str,
+    pool: u64,
+    query: Query,
+    number: u64,
+) {
+    assert_that(rt, found(store, tenant, query).is_none(), tenant, number);
+    let usage = found(store, tenant, Query::Usage(pool));
+    assert_that(rt, usage.is_none(), tenant, pool);
 }
 
 /// Asserts which groups of a tenant's first pool a device can touch.
-pub(crate) fn assert_touched(
+pub(crate) fn assert_touched<T: TenantStore>(
     rt: &impl Abort,
-    store: &mut Store,
+    store: &mut T,
     tenant: &str,
     device: u64,
     groups: &[u32],
 ) {
-    match found(rt, store, tenant, &Query::Impact(1, device)) {
-        Cached::Touched(_, touched) => {
+    match found(store, tenant, Query::Impact(1, device)) {
+        Some(Cached::Touched(_, touched)) => {
             assert_that(rt, touched.as_slice() == groups, tenant, device)
         }
         _ => rt.abort(),
     }
 }
 
-/// Asserts that the store has no groups that a device can touch.
-fn assert_not_touched(rt: &impl Abort, store: &mut Store, tenant: &str, pool: u64, device: u64) {
-    let is_absent = store.cached(tenant, &Query::Impact(pool, device)).is_none();
-    assert_that(rt, is_absent, tenant, device);
-    let is_absent = store.cached(tenant, &Query::Usage(pool)).is_none();
-    assert_that(rt, is_absent, tenant, pool);
-}
-
-/// Asserts that `count` groups move.
-fn assert_moved(rt: &impl Abort, store: &mut Store, from: u64, to: u64, count: usize) {
-    match found(rt, store, "a", &Query::Moves(1, from, to)) {
-        Cached::Moved(_, rows) => assert_that(rt, rows.as_slice().len() == count, "to", to),
+/// Asserts that what was found are the moves of `count` groups.
+fn assert_moved(rt: &impl Abort, found: &Option<Cached>, count: usize, to: u64) {
+    match found {
+        Some(Cached::Moved(_, rows)) => assert_that(rt, rows.as_slice().len() == count, "to", to),
         _ => rt.abort(),
     }
 }
 
-/// Asserts that the rows are the moves of 8 groups, each from the up list `old` to `new`.
-fn assert_rows(rt: &impl Abort, moved: &Cached, old: &[Slot], new: &[Slot]) {
-    let Cached::Moved(_, rows) = moved else {
+/// Asserts that what was found are the moves of 8 groups, each from the up list `old` to `new`.
+fn assert_rows(rt: &impl Abort, found: &Option<Cached>, old: &[Slot], new: &[Slot]) {
+    let Some(Cached::Moved(_, rows)) = found else {
         return rt.abort();
     };
     let rows = rows.as_slice();
@@ -187,38 +190,6 @@ fn assert_rows(rt: &impl Abort, moved: &Cached, old: &[Slot], new: &[Slot]) {
     }
 }
 
-/// Asserts that each of 8 groups moves from the up list `old` to `new`.
-fn assert_all_moved(
-    rt: &impl Abort,
-    store: &mut Store,
-    from: u64,
-    to: u64,
-    old: &[Slot],
-    new: &[Slot],
-) {
-    match store.cached("a", &Query::Moves(1, from, to)) {
-        Some((_, moved)) => assert_rows(rt, &moved, old, new),
-        None => rt.abort(),
-    }
-}
-
-/// Asserts that the store has no moves.
-fn assert_not_moved(
-    rt: &impl Abort,
-    store: &mut Store,
-    tenant: &str,
-    pool: u64,
-    from: u64,
-    to: u64,
-) {
-    let is_absent = store
-        .cached(tenant, &Query::Moves(pool, from, to))
-        .is_none();
-    assert_that(rt, is_absent, tenant, to);
-    let is_absent = store.cached(tenant, &Query::Usage(pool)).is_none();
-    assert_that(rt, is_absent, tenant, pool);
-}
-
 /// Asserts that the placement of a group is on `device`, and up on `lead`.
 fn assert_placed(
     rt: &impl Abort,
@@ -231,9 +202,9 @@ fn assert_placed(
 }
 
 /// Asserts that the store has the placement that is remembered.
-fn assert_found(
+fn assert_found<T: TenantStore>(
     rt: &impl Abort,
-    store: &mut Store,
+    store: &mut T,
     before: &Option<Rc<Placement>>,
     tenant: &str,
     group: u64,
@@ -246,15 +217,38 @@ fn assert_found(
     assert_that(rt, is_same, tenant, group);
 }
 
+/// Asserts what a step says of the groups that devices can touch, or of those that move.
+fn assert_report<T: TenantStore>(rt: &impl Abort, store: &mut T, step: &Step) {
+    match step {
+        Step::Touches(device, groups) => assert_touched(rt, store, "a", *device, groups),
+        Step::Moves(from, to, count) => {
+            let moved = found(store, "a", Query::Moves(1, *from, *to));
+            assert_moved(rt, &moved, *count, *to)
+        }
+        Step::MovesAll(from, to, old, new) => {
+            let moved = found(store, "a", Query::Moves(1, *from, *to));
+            assert_rows(rt, &moved, old, new)
+        }
+        Step::TouchesNone(tenant, pool, device) => {
+            let query = Query::Impact(*pool, *device);
+            assert_nothing(rt, store, tenant, *pool, query, *device)
+        }
+        Step::MovesNone(tenant, pool, from, to) => {
+            let query = Query::Moves(*pool, *from, *to);
+            assert_nothing(rt, store, tenant, *pool, query, *to)
+        }
+        _ => rt.abort(),
+    }
+}
+
 /// Asserts what a step says of the store's cache.
-fn assert_step(
+fn assert_step<T: TenantStore>(
     rt: &impl Abort,
-    store: &mut Store,
+    store: &mut T,
     before: &mut Option<Rc<Placement>>,
     step: &Step,
 ) {
     match step {
-        Step::Asks(_) => rt.abort(),
         Step::Places(tenant, group, place) => {
             assert_placed(
                 rt,
@@ -270,25 +264,18 @@ fn assert_step(
         Step::Remembers(tenant, group) => *before = Some(placed(rt, store, tenant, *group)),
         Step::Finds(tenant, group) => assert_found(rt, store, before, tenant, *group),
         Step::PlacesNone(tenant, pool, group) => {
-            assert_not_placed(rt, store, tenant, *pool, *group)
+            let query = Query::Group(*pool, *group);
+            assert_nothing(rt, store, tenant, *pool, query, *group)
         }
-        Step::Touches(device, groups) => assert_touched(rt, store, "a", *device, groups),
-        Step::TouchesNone(tenant, pool, device) => {
-            assert_not_touched(rt, store, tenant, *pool, *device)
-        }
-        Step::Moves(from, to, count) => assert_moved(rt, store, *from, *to, *count),
-        Step::MovesAll(from, to, old, new) => assert_all_moved(rt, store, *from, *to, old, new),
-        Step::MovesNone(tenant, pool, from, to) => {
-            assert_not_moved(rt, store, tenant, *pool, *from, *to)
-        }
+        _ => assert_report(rt, store, step),
     }
 }
 
 /// Does what a step says, or asserts it.
-fn follow(
+fn follow<T: TenantStore + Drop>(
     rt: &impl Abort,
     alloc: Global,
-    held: &mut Held,
+    held: &mut Option<T>,
     before: &mut Option<Rc<Placement>>,
     step: &Step,
 ) {

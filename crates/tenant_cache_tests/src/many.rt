@@ -7,6 +7,7 @@ use crate::history::{Held, accept_parts, assert_touched, is_on, new_store, place
 use crate::touched::ALL;
 use std::alloc::Global;
 use std::process::Abort;
+use tenant_core::TenantStore;
 
 /// Returns the name of the tenant of the device `device`.
 fn name_of(rt: &impl Abort, alloc: Global, device: u32) -> String {
@@ -21,7 +22,7 @@ fn import_of(rt: &impl Abort, alloc: Global, device: u32) -> String {
 }
 
 /// Creates a tenant that has a pool of 8 groups on a map with only the device `device`.
-fn make(rt: &impl Abort, alloc: Global, held: &mut Held, device: u32) {
+fn make<T: TenantStore + Drop>(rt: &impl Abort, alloc: Global, held: &mut Option<T>, device: u32) {
     let tenant = format!(in alloc; "/t/t{device}").expect(rt, "no memory");
     accept_parts(rt, alloc, held, "PUT", tenant.as_str(), "");
     let maps = format!(in alloc; "/t/t{device}/maps").expect(rt, "no memory");
@@ -41,7 +42,12 @@ fn with_tenants(rt: &impl Abort, alloc: Global) -> Held {
 }
 
 /// Asserts that the first group of a tenant's pool lies on the tenant's device.
-fn assert_placed(rt: &impl Abort, alloc: Global, held: &mut Held, device: i32) {
+fn assert_placed<T: TenantStore>(
+    rt: &impl Abort,
+    alloc: Global,
+    held: &mut Option<T>,
+    device: i32,
+) {
     let Some(store) = held else {
         return rt.abort();
     };
@@ -51,7 +57,12 @@ fn assert_placed(rt: &impl Abort, alloc: Global, held: &mut Held, device: i32) {
 }
 
 /// Asserts that the tenant's device can touch all groups of its pool.
-fn assert_all_touched(rt: &impl Abort, alloc: Global, held: &mut Held, device: u32) {
+fn assert_all_touched<T: TenantStore>(
+    rt: &impl Abort,
+    alloc: Global,
+    held: &mut Option<T>,
+    device: u32,
+) {
     let Some(store) = held else {
         return rt.abort();
     };

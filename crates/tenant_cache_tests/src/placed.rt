@@ -6,6 +6,7 @@ use crate::history::{Held, Step, accept, assert_histories, is_on, new_store, pla
 use std::alloc::Global;
 use std::process::Abort;
 use std::rc::Rc;
+use tenant_core::TenantStore;
 
 /// The body of an import of a map with two devices, of which only the first is in its bucket.
 pub(crate) const IMPORT_OF_TWO: &str =
@@ -36,7 +37,7 @@ fn with_tenant(rt: &impl Abort, alloc: Global, placements: usize) -> Held {
 
 /// Asserts that a group has one placement, and whether it is kept while another group is placed.
 /// The first two requests for a group place it, since the map's text is short.
-fn assert_one(rt: &impl Abort, held: &mut Held, is_kept: bool) {
+fn assert_one<T: TenantStore>(rt: &impl Abort, held: &mut Option<T>, is_kept: bool) {
     let Some(store) = held else {
         return rt.abort();
     };
