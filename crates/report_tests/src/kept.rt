@@ -2,7 +2,7 @@
 
 use crate::cases::{CASES, Case, DEVICES, POOLS, of_seven, of_six};
 use crate::places::assert_lists;
-use crate::reports::assert_rule;
+use crate::rules::assert_rule;
 use crate::same::assert_same;
 use crush_pool::Placer;
 use crush_report::{MoveRow, impact, moves};
@@ -98,15 +98,25 @@ fn assert_kept(
     Ok(())
 }
 
-#[test]
-fn what_is_kept_answers_as_reports_do(rt: HostRuntime) -> Result<(), Fail> {
-    let (from, to) = (of_six(rt.alloc())?, of_seven(rt.alloc())?);
+/// Asserts the same of each pool in each case.
+fn assert_all_kept(
+    rt: &impl Abort,
+    alloc: Global,
+    maps: (&MapTables, &MapTables),
+) -> Result<(), Fail> {
     for short in POOLS {
         for case in CASES {
-            assert_kept(&rt, rt.alloc(), (&from, &to), *short, *case)?;
+            assert_kept(rt, alloc, maps, *short, *case)?;
         }
     }
     Ok(())
+}
+
+#[test]
+fn what_is_kept_answers_as_reports_do(rt: HostRuntime) -> Result<(), Fail> {
+    let from = of_six(rt.alloc())?;
+    let to = of_seven(rt.alloc())?;
+    assert_all_kept(&rt, rt.alloc(), (&from, &to))
 }
 
 /// A pool whose groups have more slots than are kept.

@@ -13,4 +13,6 @@ mod plain;
 #[cfg(test)]
 mod reports;
 #[cfg(test)]
+mod rules;
+#[cfg(test)]
 mod same;

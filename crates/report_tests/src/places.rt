@@ -2,7 +2,7 @@
 
 use crate::cases::{CASES, Case, DEVICES, ELEVEN, PAIRS, POOLS, of_seven, of_six};
 use crate::plain::{all_placed, counted, gained, touches};
-use crate::reports::assert_rule;
+use crate::rules::assert_rule;
 use crate::same::{assert_same, assert_same_at};
 use crush_pool::{Pair, Placer};
 use crush_report::{MoveRow, UsageRow, impact, moves, usage};
@@ -137,15 +137,25 @@ fn assert_moves_of(
     assert_moves(rt, alloc, (&from, &to), &case)
 }
 
-#[test]
-fn each_group_that_shares_a_place_moves_by_itself(rt: HostRuntime) -> Result<(), Fail> {
-    let (from, to) = (of_six(rt.alloc())?, of_seven(rt.alloc())?);
+/// Asserts the same of each pool in each case.
+fn assert_all_moves(
+    rt: &impl Abort,
+    alloc: Global,
+    maps: (&MapTables, &MapTables),
+) -> Result<(), Fail> {
     for short in POOLS {
         for case in CASES {
-            assert_moves_of(&rt, rt.alloc(), (&from, &to), *short, *case)?;
+            assert_moves_of(rt, alloc, maps, *short, *case)?;
         }
     }
     Ok(())
+}
+
+#[test]
+fn each_group_that_shares_a_place_moves_by_itself(rt: HostRuntime) -> Result<(), Fail> {
+    let from = of_six(rt.alloc())?;
+    let to = of_seven(rt.alloc())?;
+    assert_all_moves(&rt, rt.alloc(), (&from, &to))
 }
 
 // ---- impact

@@ -1,11 +1,9 @@
 //! Reports on a pool, by maps, exceptions and states of devices.
 
-ghost use Rattle.std.specs.Prelude.{◌≡◌, is_some, true};
-ghost use Rattle.crush_pool.specs.Placements.{rule_numbered};
-
+use crate::rules::assert_rule;
 use crate::same::assert_same;
 use crush_map::CrushMap;
-use crush_pool::{DeviceState, Pair, Placer, Pool, rule_with_id};
+use crush_pool::{DeviceState, Pair, Placer};
 use crush_report::{impact, moves, moves_csv, usage, usage_csv};
 use pool_tests::maps::{MapTables, TWO};
 use pool_tests::placing::PoolCase;
@@ -15,15 +13,6 @@ use std::alloc::Global;
 use std::process::Abort;
 use std::test::Fail;
 use text_tests::texts::{DEVICE_0, DEVICE_7, map_of};
-
-/// Asserts that a map has the rule of a pool.
-pub(crate) fn assert_rule(rt: &impl Abort, map: &CrushMap, pool: &Pool)
-    ensures { is_some (rule_numbered map.now pool.now.rule) ≡ true }
-{
-    if rule_with_id(map, pool.parts().rule).is_none() {
-        rt.abort()
-    }
-}
 
 /// A pool of eight groups.
 const OF_EIGHT: Short = Short {
