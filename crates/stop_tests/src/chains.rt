@@ -2,7 +2,7 @@
 //! acknowledge is compared with a service in memory that serves the same calls alone.
 
 use crate::disks::{Disks, Stop, crashed_with, new_files};
-use crate::session::session;
+use crate::session::{acknowledged, session};
 use common_tests::imports::{FIRST, OTHER, SECOND};
 use crush_map::Text;
 use std::alloc::Global;
@@ -19,7 +19,7 @@ const TRIES: u64 = 500;
 const CALLS: u64 = 200;
 
 /// The paths of the tenants.
-const TENANTS: [&str; 5] = ["/t/a", "/t/b", "/t/c", "/t/d", "/t/e"];
+const TENANTS: &[&str; 5] = &["/t/a", "/t/b", "/t/c", "/t/d", "/t/e"];
 
 /// A method, a path that follows the tenant's, and a body.
 type Asked = (&'static str, &'static str, &'static str);
@@ -29,7 +29,7 @@ const POOL: &str =
     "{\"request\":\"p1\",\"id\":1,\"name\":\"p\",\"kind\":\"replicated\",\"size\":1,\"rule\":0,\"pg_num\":8,\"pgp_num\":8,\"hashpspool\":true}";
 
 /// The calls that are drawn, beside changes of devices with a number of their own.
-const ASKED: [Asked; 12] = [
+const ASKED: &[Asked; 12] = &[
     ("PUT", "", ""),
     ("PUT", "", ""),
     ("DELETE", "", ""),
@@ -92,12 +92,22 @@ fn drawn_change(rt: &impl Abort, alloc: Global, tenant: &str, seed: &mut u64) ->
     call(rt, alloc, b"POST", path.as_str(), body.as_bytes())
 }
 
+/// Draws the path of a tenant.
+fn drawn_tenant(seed: &mut u64) -> &'static str {
+    TENANTS[(next(seed) % 5) as usize]
+}
+
+/// Draws one of the calls of `ASKED`.
+fn drawn_asked(seed: &mut u64) -> Asked {
+    ASKED[(next(seed) % 12) as usize]
+}
+
 fn drawn_call(rt: &impl Abort, alloc: Global, seed: &mut u64) -> Call {
-    let tenant = TENANTS[(next(seed) % 5) as usize];
+    let tenant = drawn_tenant(seed);
     if next(seed) % 3 == 0 {
         return drawn_change(rt, alloc, tenant, seed);
     }
-    let (method, path, body) = ASKED[(next(seed) % 12) as usize];
+    let (method, path, body) = drawn_asked(seed);
     let path = path_of(rt, alloc, tenant, path);
     call(rt, alloc, method.as_bytes(), path.as_str(), body.as_bytes())
 }
@@ -137,8 +147,21 @@ fn has_reply(alone: &mut Service<MemoryStore>, call: &Call, reply: &Reply) -> bo
     own.status == reply.status && own.body.as_str() == reply.body.as_str()
 }
 
+/// Returns whether `alone` gives the call the reply that it has, if that acknowledges it. A call
+/// that was in doubt may be asked twice: it was done before, or is done now.
+fn is_explained(
+    alone: &mut Service<MemoryStore>,
+    call: &Call,
+    reply: &Reply,
+    was_in_doubt: bool,
+) -> bool {
+    reply.status == 503
+        || has_reply(alone, call, reply)
+        || (was_in_doubt && has_reply(alone, call, reply))
+}
+
 /// Returns whether `alone` gives each acknowledged call the reply that it has in `replies`. The
-/// first call may be one that was in doubt: it was done before, or is done now.
+/// first call may be one that was in doubt.
 fn are_explained(
     alone: &mut Service<MemoryStore>,
     calls: &[Call],
@@ -146,16 +169,12 @@ fn are_explained(
     has_doubt: bool,
 ) -> bool {
     let mut is_first = has_doubt;
+    let mut all = true;
     for (call, reply) in calls.iter().zip(replies) {
-        if reply.status != 503 {
-            let is_same = has_reply(alone, call, reply);
-            if !is_same && !(is_first && has_reply(alone, call, reply)) {
-                return false;
-            }
-        }
+        all = all && is_explained(alone, call, reply, is_first);
         is_first = false;
     }
-    true
+    all
 }
 
 /// Returns the call at which the session stopped, which is in doubt, or `None`.
@@ -190,12 +209,12 @@ fn count(
 ) {
     assert!(rt; are_explained(alone, calls, &end.replies, course.doubt.is_some()));
     course.doubt = in_doubt(rt, alloc, calls, end);
-    let count = end.replies.iter().filter(|it| it.status != 503).count();
+    let count = acknowledged(&end.replies) as u64;
     course.opened = course.opened.saturating_add(1);
     course.stopped = course
         .stopped
         .saturating_add(u64::from(course.doubt.is_some()));
-    course.acknowledged = course.acknowledged.saturating_add(count as u64);
+    course.acknowledged = course.acknowledged.saturating_add(count);
 }
 
 /// Runs one more session over the files as a crash leaves them, and gives the files back.
@@ -228,6 +247,17 @@ fn follow(rt: &impl Abort, alloc: Global, alone: &mut Service<MemoryStore>, cour
     }
 }
 
+/// Asserts that all sessions were opened, and that enough of them stopped, weren't opened, and
+/// acknowledged calls.
+fn assert_enough(rt: &impl Abort, course: &Course) {
+    let (opened, stopped) = (course.opened, course.stopped);
+    let (unopened, acknowledged) = (course.unopened, course.acknowledged);
+    assert!(rt;
+        opened == SESSIONS && stopped >= 5 && unopened >= 5 && acknowledged > 1_000,
+        "{opened} opened, {stopped} stopped, {unopened} not opened, {acknowledged} acknowledged"
+    );
+}
+
 #[test]
 fn what_each_session_acknowledges_is_found_by_the_later_ones(rt: HostRuntime) {
     let mut alone = Service::in_memory(rt.alloc()).expect(&rt, "no memory");
@@ -240,15 +270,5 @@ fn what_each_session_acknowledges_is_found_by_the_later_ones(rt: HostRuntime) {
         acknowledged: 0,
     };
     follow(&rt, rt.alloc(), &mut alone, &mut course);
-    let Course {
-        opened,
-        stopped,
-        unopened,
-        acknowledged,
-        ..
-    } = course;
-    assert!(rt;
-        opened == SESSIONS && stopped >= 5 && unopened >= 5 && acknowledged > 1_000,
-        "{opened} opened, {stopped} stopped, {unopened} not opened, {acknowledged} acknowledged"
-    );
+    assert_enough(&rt, &course);
 }

@@ -1,15 +1,18 @@
 //! One session over the files of a database.
 
-ghost use Rattle.std.specs.Prelude.{◌≡◌, false, IfOk};
+ghost use Rattle.std.specs.Prelude.{◌≡◌, false, IsTrue};
+ghost use Rattle.sqlite.specs.Held.{state};
+ghost use Rattle.sqlite.specs.State.{HasCleanDisk};
 
-use sqlite::{Connection, FileStore, Options};
+use sqlite::{Alter, Connection, Options};
 use sqlite_disk::{Disk, Files};
 use std::alloc::Global;
 use std::num::NonZeroUsize;
 use std::process::Abort;
 use tenant_cache::{Bytes, CachedStore};
-use tenant_core::TenantStore;
-use tenant_messages::Call;
+use tenant_core::{Routes, TenantStore};
+use tenant_files::close_unless_failed;
+use tenant_messages::{Call, Reply};
 use tenant_service::{Service, SessionEnd};
 use tenant_store::Store;
 
@@ -20,7 +23,7 @@ const SALT: u64 = 7;
 const READY: u64 = 1_000_000;
 
 /// Serves the calls as one session over the store, and gives the store back as it then is.
-fn serve<T: TenantStore + Drop>(
+fn serve<T: TenantStore>(
     rt: &impl Abort,
     alloc: Global,
     store: T,
@@ -28,69 +31,70 @@ fn serve<T: TenantStore + Drop>(
 ) -> (SessionEnd, T)
     requires works { T.latched store ≡ false }
 {
-    let mut service = match Service::over(alloc, store) {
-        Ok(service) => service,
-        Err(_) => rt.abort(),
-    };
+    let routes = Routes::build(alloc).expect(rt, "no memory");
+    let mut service = Service::with_routes(alloc, routes, store);
     let end = service.run_session(calls).expect(rt, "no memory");
     (end, service.into_store())
 }
 
-/// Lets go of the store, and gives its files back. Nothing is copied from the log.
-fn left<D: Disk>(store: FileStore<D>) -> Files<D> {
-    store.close()
+/// Returns the number of replies that are acknowledgements.
+pub(crate) fn acknowledged(replies: &[Reply]) -> usize {
+    replies.iter().filter(|reply| reply.status != 503).count()
 }
 
-/// Closes the connection, and gives its files back. The log is copied into the database file if
-/// `closes` says so and that succeeds.
-fn closed<D: Disk + Drop>(conn: Connection<FileStore<D>>, closes: bool) -> Files<D> {
-    if !closes {
-        return left(conn.into_store());
-    }
-    match conn.close_files() {
-        Ok(files) => files,
-        Err((_, store)) => left(store),
-    }
-}
-
-/// Opens the store in the files. `Err`: the opening is refused, and the files are given back.
-fn opened<D: Disk + Drop>(alloc: Global, files: Files<D>) -> Result<Store<FileStore<D>>, Files<D>>
-    ensures live { IfOk result (λ store. store.1 ≡ false) }
-{
-    if !files.may_be_used() {
-        return Err(files);
-    }
-    let conn = match Connection::open_files(alloc, files, Options::new(SALT)) {
-        Ok(conn) => conn,
-        Err((_, rest)) => return Err(rest.into_files()),
-    };
-    match Store::open(alloc, conn) {
-        Ok(store) => Ok(store),
-        Err((_, store)) => Err(left(store)),
-    }
-}
-
-/// Serves the calls as one session over a store that keeps what tenants have, over `store`, and
-/// gives the files back, closed or as they then are.
-fn served<D: Disk + Drop>(
+/// Serves the calls as one session over a store that keeps what tenants have, over `below`, and
+/// gives `below` back as it then is.
+fn serve_ready<T: TenantStore + Drop>(
     rt: &impl Abort,
     alloc: Global,
-    store: Store<FileStore<D>>,
+    below: T,
     calls: &[Call],
-    closes: bool,
-) -> (SessionEnd, Files<D>)
-    requires live { store.1 ≡ false }
+) -> (SessionEnd, T)
+    requires works { T.latched below ≡ false }
 {
-    let ready = match CachedStore::<_, Bytes<READY>>::over(alloc, store, NonZeroUsize::MIN) {
+    let ready = match CachedStore::<_, Bytes<READY>>::over(alloc, below, NonZeroUsize::MIN) {
         Ok(ready) => ready,
         Err(_) => rt.abort(),
     };
     let (end, ready) = serve(rt, alloc, ready, calls);
-    (end, closed(ready.into_below().close(), closes))
+    (end, ready.into_below())
+}
+
+/// Serves the calls as one session over the store, and gives its connection back.
+fn serve_tables<S: Alter + Drop>(
+    rt: &impl Abort,
+    alloc: Global,
+    store: Store<S>,
+    calls: &[Call],
+) -> (SessionEnd, Connection<S>)
+    requires live { store.1 ≡ false }
+{
+    let (end, store) = serve_ready(rt, alloc, store, calls);
+    (end, store.close())
+}
+
+/// Opens the store in the tables of a connection, serves the calls as one session over it, and gives
+/// the end of the session and the connection back. `Err`: the opening is refused, and what is below
+/// the connection is given back.
+fn served_in<S: Alter + Drop>(
+    rt: &impl Abort,
+    alloc: Global,
+    conn: Connection<S>,
+    calls: &[Call],
+) -> Result<(SessionEnd, Connection<S>), S>
+    requires autocommit { conn.in_transaction ≡ false }
+    requires open { HasCleanDisk (state S.Store conn) → IsTrue (state S.Store conn).is_open }
+    requires settled { HasCleanDisk (state S.Store conn) → (state S.Store conn).now ≡ (state S.Store conn).committed }
+{
+    match Store::open(alloc, conn) {
+        Ok(store) => Ok(serve_tables(rt, alloc, store, calls)),
+        Err((_, below)) => Err(below),
+    }
 }
 
 /// Opens the files, serves the calls as one session, and gives the end of the session and the files
-/// back. There is no session (`None`) where the opening is refused.
+/// back. The log is copied into the database file if `closes` says so and that succeeds. There is no
+/// session (`None`) where the opening is refused.
 pub(crate) fn session<D: Disk + Drop>(
     rt: &impl Abort,
     alloc: Global,
@@ -98,11 +102,15 @@ pub(crate) fn session<D: Disk + Drop>(
     calls: &[Call],
     closes: bool,
 ) -> (Option<SessionEnd>, Files<D>) {
-    match opened(alloc, files) {
-        Ok(store) => {
-            let (end, files) = served(rt, alloc, store, calls, closes);
-            (Some(end), files)
-        }
-        Err(files) => (None, files),
+    if !files.may_be_used() {
+        return (None, files);
+    }
+    let conn = match Connection::open_files(alloc, files, Options::new(SALT)) {
+        Ok(conn) => conn,
+        Err((_, rest)) => return (None, rest.into_files()),
+    };
+    match served_in(rt, alloc, conn, calls) {
+        Ok((end, conn)) => (Some(end), close_unless_failed(conn, !closes).files),
+        Err(below) => (None, below.close()),
     }
 }

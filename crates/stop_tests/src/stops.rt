@@ -2,7 +2,7 @@
 //! database file.
 
 use crate::disks::{Disks, Stop, crashed, crashed_with, new_files};
-use crate::session::session;
+use crate::session::{acknowledged, session};
 use common_tests::rows::{CREATION_OF_A, IMPORT_BY_A, Row, calls_of, check_reply};
 use std::alloc::Global;
 use std::process::Abort;
@@ -43,11 +43,6 @@ fn are_of_rows(replies: &[Reply], rows: &[Row]) -> bool {
 /// Makes the calls of `rows`.
 fn calls(rt: &impl Abort, alloc: Global, rows: &[Row]) -> Vec<Call> {
     calls_of(alloc, rows).expect(rt, "no memory")
-}
-
-/// Returns the number of replies that are acknowledgements.
-fn acknowledged(replies: &[Reply]) -> usize {
-    replies.iter().filter(|reply| reply.status != 503).count()
 }
 
 /// Returns whether the tenant was there, by the replies to the first requests, which were sent
