@@ -11,7 +11,7 @@ use crush_choose::{
     FirstnCall, IndepCall, Out, Row, Slot, Weights, choose_firstn, choose_indep, is_in, laws,
     run_rule,
 };
-use crush_map::{CrushMap, ItemId, Kind, Rule, Step, Weight, has_equal_weights};
+use crush_map::{CrushMap, ItemId, Kind, Rule, Step, has_equal_weights};
 use map_tests::drafts::{ONE, SOUND, Short, choose, draft, entries, map_of};
 use std::alloc::{AllocError, Global};
 use std::process::Abort;
@@ -32,39 +32,55 @@ const ONE_ITEM: Short<'static> = Short {
     ..SOUND
 };
 
+/// Makes the map of `ONE_ITEM`.
+fn one_item(alloc: Global) -> Result<CrushMap, Fail> {
+    map_of(alloc, draft(alloc, ONE_ITEM)?)
+}
+
+/// The id of each bucket.
+const ID: ItemId = ItemId(-1);
+
+/// Picks from the list of these items, for the input 0 at the attempt 0. Asserts that a permutation
+/// of which nothing was asked is the identity.
+fn list_pick(rt: &impl Abort, alloc: Global, items: &[(i32, u32)]) -> Result<ItemId, AllocError> {
+    let items = entries(alloc, items)?;
+    assert!(rt; can_be_asked(&items));
+    let mut perm = Perm::build(alloc, ID, items.len())?;
+    assert_same(rt, &perm.kept(), &0);
+    Ok(ListBucket::build(alloc, ID, &items)?.pick(&mut perm, 0, 0))
+}
+
+/// Picks from the tree of these items, for the input 7 at the attempt 3.
+fn tree_pick(rt: &impl Abort, alloc: Global, items: &[(i32, u32)]) -> Result<ItemId, AllocError> {
+    let items = entries(alloc, items)?;
+    assert!(rt; can_be_asked(&items));
+    let mut perm = Perm::build(alloc, ID, items.len())?;
+    Ok(TreeBucket::build(alloc, ID, &items)?.pick(&mut perm, 7, 3))
+}
+
 /// Picks from the uniform bucket of these items, for the input 0 at the attempt 0.
 fn uniform_pick(
     rt: &impl Abort,
     alloc: Global,
-    id: ItemId,
-    items: &[(ItemId, Weight)],
+    items: &[(i32, u32)],
 ) -> Result<ItemId, AllocError> {
-    assert!(rt; can_be_asked(items));
-    assert!(rt; has_equal_weights(items));
-    let mut perm = Perm::build(alloc, id, items.len())?;
-    Ok(UniformBucket::build(alloc, id, items)?.pick(&mut perm, 0, 0))
+    let items = entries(alloc, items)?;
+    assert!(rt; can_be_asked(&items));
+    assert!(rt; has_equal_weights(&items));
+    let mut perm = Perm::build(alloc, ID, items.len())?;
+    Ok(UniformBucket::build(alloc, ID, &items)?.pick(&mut perm, 0, 0))
 }
 
 /// A list picks its second item where `hash4(0, 1, 0, -1)` is below its share, a tree its one item
-/// that has a weight, and a uniform bucket at the place `hash3(0, -1, 0) mod 3`. A permutation of
-/// which nothing was asked is the identity.
+/// that has a weight, and a uniform bucket at the place `hash3(0, -1, 0) mod 3`.
 #[test]
 fn buckets_have_their_calls(rt: HostRuntime) -> Result<(), Fail> {
     let alloc = rt.alloc();
-    let id = ItemId(-1);
-    let two = entries(alloc, &[(0, ONE), (1, 23 * ONE)])?;
-    assert!(rt; can_be_asked(&two));
-    let mut perm = Perm::build(alloc, id, two.len())?;
-    assert_same(&rt, &perm.kept(), &0);
-    let item = ListBucket::build(alloc, id, &two)?.pick(&mut perm, 0, 0);
+    let item = list_pick(&rt, alloc, &[(0, ONE), (1, 23 * ONE)])?;
     assert_same(&rt, &item, &ItemId(1));
-    let light = entries(alloc, &[(10, 0), (11, ONE), (12, 0)])?;
-    assert!(rt; can_be_asked(&light));
-    let mut perm = Perm::build(alloc, id, light.len())?;
-    let item = TreeBucket::build(alloc, id, &light)?.pick(&mut perm, 7, 3);
+    let item = tree_pick(&rt, alloc, &[(10, 0), (11, ONE), (12, 0)])?;
     assert_same(&rt, &item, &ItemId(11));
-    let equal = entries(alloc, &[(5, ONE), (6, ONE), (7, ONE)])?;
-    let item = uniform_pick(&rt, alloc, id, &equal)?;
+    let item = uniform_pick(&rt, alloc, &[(5, ONE), (6, ONE), (7, ONE)])?;
     assert_same(&rt, &item, &ItemId(7));
     Ok(())
 }
@@ -72,7 +88,7 @@ fn buckets_have_their_calls(rt: HostRuntime) -> Result<(), Fail> {
 #[test]
 fn tables_have_their_calls(rt: HostRuntime) -> Result<(), Fail> {
     let alloc = rt.alloc();
-    let map = map_of(alloc, draft(alloc, ONE_ITEM)?)?;
+    let map = one_item(alloc)?;
     let tables = Tables::build(alloc, &map)?;
     let mut scratch = Scratch::build(alloc, &tables)?;
     let Some(root) = tables.bucket_of(ItemId(-1)) else {
@@ -93,7 +109,7 @@ fn tables_have_their_calls(rt: HostRuntime) -> Result<(), Fail> {
 #[test]
 fn weights_have_their_calls(rt: HostRuntime) -> Result<(), Fail> {
     let alloc = rt.alloc();
-    let map = map_of(alloc, draft(alloc, ONE_ITEM)?)?;
+    let map = one_item(alloc)?;
     let below = Weights::build(alloc, &map, &[(1, 55_335)])?;
     let above = Weights::build(alloc, &map, &[(1, 55_336)])?;
     assert!(rt; !is_in(&below, 0, 1) && is_in(&above, 0, 1));
@@ -106,7 +122,7 @@ fn weights_have_their_calls(rt: HostRuntime) -> Result<(), Fail> {
 #[test]
 fn choosing_has_its_calls(rt: HostRuntime) -> Result<(), Fail> {
     let alloc = rt.alloc();
-    let map = map_of(alloc, draft(alloc, ONE_ITEM)?)?;
+    let map = one_item(alloc)?;
     let tables = Tables::build(alloc, &map)?;
     let mut scratch = Scratch::build(alloc, &tables)?;
     let weights = Weights::build(alloc, &map, &[])?;
@@ -169,7 +185,7 @@ fn rule_of<'a>(rt: &impl Abort, map: &'a CrushMap) -> &'a Rule
 #[test]
 fn rules_have_their_calls(rt: HostRuntime) -> Result<(), Fail> {
     let alloc = rt.alloc();
-    let map = map_of(alloc, draft(alloc, ONE_ITEM)?)?;
+    let map = one_item(alloc)?;
     let tables = Tables::build(alloc, &map)?;
     let mut scratch = Scratch::build(alloc, &tables)?;
     let weights = Weights::build(alloc, &map, &[])?;

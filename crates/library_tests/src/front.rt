@@ -1,5 +1,9 @@
 //! Calls of `crush_http` and `crush_app`.
 
+ghost use Rattle.std.specs.Prelude.{◌≡◌, false, IsTrue};
+ghost use Rattle.sqlite.specs.Held.{state};
+ghost use Rattle.sqlite.specs.State.{HasCleanDisk};
+
 use crate::same::assert_same;
 use common_tests::rows::{CREATION_OF_A, IMPORT_BY_A, Row, calls_of, check_reply};
 use common_tests::streams::{Cuts, MANY, Reader, Writer};
@@ -7,7 +11,8 @@ use crush_app::{CheckEnd, ScriptEnd, check_run, script_run};
 use crush_http::{
     Bytes, Call, CallParts, Ended, MemoryStore, Reply, Service, SessionEnd, laws, serve,
 };
-use sqlite::Connection;
+use sqlite::{Alter, Connection};
+use std::alloc::Global;
 use std::num::NonZeroUsize;
 use std::test::Fail;
 use table_service::{close_service, open_service};
@@ -24,7 +29,7 @@ const SUMMARY: Row = (
 );
 
 /// The requests to a new service.
-const ROWS: [Row; 3] = [CREATION_OF_A, IMPORT_BY_A, SUMMARY];
+const ROWS: &[Row] = &[CREATION_OF_A, IMPORT_BY_A, SUMMARY];
 
 /// Returns whether the method of a call is `PUT`.
 fn is_put(call: &Call) -> bool {
@@ -37,7 +42,7 @@ fn are_of_rows(replies: &[Reply]) -> bool {
     replies.len() == ROWS.len()
         && replies
             .iter()
-            .zip(&ROWS)
+            .zip(ROWS)
             .all(|(reply, row)| check_reply(reply, row).is_ok())
 }
 
@@ -45,12 +50,19 @@ fn are_of_rows(replies: &[Reply]) -> bool {
 fn services_have_their_calls(rt: HostRuntime) -> Result<(), Fail> {
     let alloc = rt.alloc();
     laws::history();
-    let calls: Vec<Call> = calls_of(alloc, &ROWS)?;
+    let calls: Vec<Call> = calls_of(alloc, ROWS)?;
     assert!(rt; matches!(calls.as_slice().first(), Some(call) if is_put(call)));
     let mut service: Service<MemoryStore> = Service::in_memory(alloc)?;
     let replies = service.run(&calls)?;
     assert!(rt; are_of_rows(&replies));
     assert!(rt; !service.is_latched());
+    Ok(())
+}
+
+#[test]
+fn sessions_have_their_call(rt: HostRuntime) -> Result<(), Fail> {
+    let alloc = rt.alloc();
+    let calls: Vec<Call> = calls_of(alloc, ROWS)?;
     let mut service: Service<MemoryStore> = Service::in_memory(alloc)?;
     assert!(rt; !service.is_latched());
     let end: SessionEnd = service.run_session(&calls)?;
@@ -60,7 +72,7 @@ fn services_have_their_calls(rt: HostRuntime) -> Result<(), Fail> {
 
 /// Serves the requests, and returns whether the replies are those of the rows.
 fn are_served<T: TenantStore>(service: &mut Service<T>) -> bool {
-    for row in &ROWS {
+    for row in ROWS {
         let (method, path, body, _, _) = *row;
         let reply = service.request(CallParts {
             method: method.as_bytes(),
@@ -74,20 +86,33 @@ fn are_served<T: TenantStore>(service: &mut Service<T>) -> bool {
     true
 }
 
+/// Opens a service over the tables of a connection, serves the requests, and closes it. Returns
+/// whether the replies are those of the rows, and the connection. `None`: the service isn't opened.
+fn closed_after<S: Alter + Drop>(
+    alloc: Global,
+    conn: Connection<S>,
+) -> Option<(bool, Connection<S>)>
+    requires autocommit { conn.in_transaction ≡ false }
+    requires open { HasCleanDisk (state S.Store conn) → IsTrue (state S.Store conn).is_open }
+    requires settled { HasCleanDisk (state S.Store conn) → (state S.Store conn).now ≡ (state S.Store conn).committed }
+{
+    match open_service::<_, tenant_cache::Bytes<1_000_000>>(alloc, conn, NonZeroUsize::MIN) {
+        Ok(mut service) => {
+            let served = are_served(&mut service);
+            Some((served, close_service(service)))
+        }
+        Err(_) => None,
+    }
+}
+
 /// What a service over tables did is in the tables after it is closed.
 #[test]
 fn services_are_opened_and_closed(rt: HostRuntime) -> Result<(), Fail> {
     let alloc = rt.alloc();
-    let conn = Connection::open_in_memory(alloc)?;
-    let Ok(mut service) = open_service::<_, tenant_cache::Bytes<1_000_000>>(
-        alloc,
-        conn,
-        NonZeroUsize::MIN,
-    ) else {
+    let Some((served, mut conn)) = closed_after(alloc, Connection::open_in_memory(alloc)?) else {
         return Err(Fail::new("the service isn't opened"));
     };
-    assert!(rt; are_served(&mut service));
-    let mut conn = close_service(service);
+    assert!(rt; served);
     let found = conn.query_all("SELECT version FROM maps", &[]);
     assert!(rt; matches!(&found, Ok(rows) if rows.len() == 1));
     Ok(())
@@ -122,7 +147,7 @@ fn connections_have_their_call(rt: HostRuntime) -> Result<(), Fail> {
 }
 
 #[test]
-fn crush_app_has_its_calls(rt: HostRuntime) -> Result<(), Fail> {
+fn scripts_have_their_call(rt: HostRuntime) -> Result<(), Fail> {
     let alloc = rt.alloc();
     let mut service = Service::in_memory(alloc)?;
     assert!(rt; !service.is_latched());
@@ -134,6 +159,12 @@ fn crush_app_has_its_calls(rt: HostRuntime) -> Result<(), Fail> {
         writer.taken.as_slice()
             == b"201 {\"epoch\":0,\"tenant\":\"a\"}\n200 {\"devices\":0,\"epoch\":0,\"pools\":0,\"tenant\":\"a\",\"versions\":0}\n".as_slice()
     );
+    Ok(())
+}
+
+#[test]
+fn checks_of_texts_have_their_call(rt: HostRuntime) -> Result<(), Fail> {
+    let alloc = rt.alloc();
     let mut writer = Writer::new(alloc, MANY);
     let end = check_run(alloc, &mut reader_of(DEVICE_0.as_bytes()), &mut writer)?;
     assert_same(&rt, &end, &CheckEnd::Accepted);

@@ -8,6 +8,7 @@ use crush_map::{
 };
 use crush_text::{TextCode, TextFault, read_map, write_map};
 use map_tests::drafts::{JEWEL, ONE, SOUND, Short, draft};
+use std::alloc::AllocError;
 use std::test::Fail;
 use text_tests::texts::{DEVICE_0, map_text};
 
@@ -51,6 +52,12 @@ fn crush_map_has_its_calls(rt: HostRuntime) -> Result<(), Fail> {
     let rules: &[Rule] = map.rules();
     assert!(rt; devices.len() == 2 && types.len() == 4 && buckets.len() == 1 && rules.len() == 1);
     assert_same(&rt, &map.tunables(), &JEWEL);
+    Ok(())
+}
+
+#[test]
+fn a_draft_with_a_fault_is_given_back(rt: HostRuntime) -> Result<(), Fail> {
+    let alloc = rt.alloc();
     let Err((draft, fault)) = CrushMap::check(alloc, draft(alloc, UNDECLARED)?)? else {
         return Err(Fail::new("an item that isn't declared is taken"));
     };
@@ -61,6 +68,12 @@ fn crush_map_has_its_calls(rt: HostRuntime) -> Result<(), Fail> {
     };
     assert_same(&rt, &fault, &unknown);
     assert_same(&rt, &draft.buckets.as_slice().len(), &1);
+    Ok(())
+}
+
+#[test]
+fn weights_have_their_texts(rt: HostRuntime) -> Result<(), AllocError> {
+    let alloc = rt.alloc();
     assert_same(&rt, &weight_from_text(b"0.1"), &Some(Weight(6_553)));
     assert_same(
         &rt,
@@ -132,6 +145,12 @@ fn crush_text_has_its_calls(rt: HostRuntime) -> Result<(), Fail> {
     let text = write_map(alloc, &map)?;
     assert!(rt; text.as_slice() == CANONICAL.as_bytes());
     assert!(rt; read_map(alloc, text.as_slice())?.is_ok());
+    Ok(())
+}
+
+#[test]
+fn a_text_with_a_fault_has_its_line(rt: HostRuntime) -> Result<(), Fail> {
+    let alloc = rt.alloc();
     let Err(fault) = read_map(alloc, STRAW.as_bytes())? else {
         return Err(Fail::new("straw2 is taken"));
     };

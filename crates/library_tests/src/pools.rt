@@ -11,7 +11,7 @@ use crate::same::assert_same;
 use crush_bucket::{Scratch, Tables};
 use crush_cache::{Content, PlacementCache, SharedExceptions, SharedStates, SharedText};
 use crush_choose::{Slot, Weights};
-use crush_map::{CrushMap, ItemId, Listed, Text};
+use crush_map::{CrushMap, ItemId, Text};
 use crush_pool::{
     DeviceState, DeviceStates, Exceptions, Pair, Placement, Placer, Pool, PoolFault, PoolParts,
     mask_of, place, reweights_of, rule_with_id, stable_mod,
@@ -75,6 +75,13 @@ fn pools_have_their_calls(rt: HostRuntime) -> Result<(), Fail> {
     assert_same(&rt, &pool(alloc, 8, true)?.seed_of(0), &91_478_055);
     let unnamed = Pool::new(parts(alloc, "", 12, false)?);
     assert!(rt; matches!(unnamed, Err(PoolFault::P1)));
+    Ok(())
+}
+
+/// A device is up, unless its state says that it is down.
+#[test]
+fn device_states_have_their_calls(rt: HostRuntime) -> Result<(), AllocError> {
+    let alloc = rt.alloc();
     let down = DeviceState {
         device: 4,
         reweight: 65_536,
@@ -168,10 +175,8 @@ fn placing_has_its_call(rt: HostRuntime) -> Result<(), Fail> {
     let alloc = rt.alloc();
     let map = map_of(alloc, DEVICE_0)?;
     let pool = pool(alloc, 12, false)?;
-    let answer = placed(alloc, &map, &pool, 5)?;
-    assert!(rt; matches!(&answer, Ok(placement) if is_on_0(placement, 6)));
-    let after = placed(alloc, &map, &pool, 12)?;
-    assert!(rt; matches!(&after, Err(PoolFault::P2)));
+    assert!(rt; matches!(&placed(alloc, &map, &pool, 5)?, Ok(placement) if is_on_0(placement, 6)));
+    assert!(rt; matches!(&placed(alloc, &map, &pool, 12)?, Err(PoolFault::P2)));
     Ok(())
 }
 
@@ -184,45 +189,52 @@ fn assert_rule(rt: &impl Abort, map: &CrushMap, pool: &Pool)
     }
 }
 
-/// Writes the usage of a pool without exceptions on a map.
-fn used(
+/// Returns whether the usage of a pool without exceptions on a map is written as `expected`.
+fn is_usage(
     rt: &impl Abort,
     alloc: Global,
     map: &CrushMap,
     pool: &Pool,
-) -> Result<Vec<u8>, AllocError> {
+    expected: &[u8],
+) -> Result<bool, AllocError> {
     assert_rule(rt, map, pool);
     let none = Exceptions::none(alloc)?;
     let rows = usage(alloc, map, pool, &none, &[])?;
-    usage_csv(alloc, rows.as_slice())
+    let text = usage_csv(alloc, rows.as_slice())?;
+    Ok(text.as_slice() == expected)
 }
 
-/// Writes what moves of a pool without exceptions from one map to another.
-fn moved(
+/// Returns whether what moves of a pool without exceptions from one map to another is written as
+/// `expected`.
+fn are_moves(
     rt: &impl Abort,
     alloc: Global,
     from: &CrushMap,
     to: &CrushMap,
     pool: &Pool,
-) -> Result<Vec<u8>, AllocError> {
+    expected: &[u8],
+) -> Result<bool, AllocError> {
     assert_rule(rt, from, pool);
     assert_rule(rt, to, pool);
     let none = Exceptions::none(alloc)?;
     let rows = moves(alloc, from, to, pool, &none, &[])?;
-    moves_csv(alloc, rows.as_slice())
+    let text = moves_csv(alloc, rows.as_slice())?;
+    Ok(text.as_slice() == expected)
 }
 
-/// Finds the groups of a pool without exceptions that a device can touch.
-fn touched(
+/// Returns whether the groups of a pool without exceptions that a device can touch are `expected`.
+fn are_touched(
     rt: &impl Abort,
     alloc: Global,
     map: &CrushMap,
     pool: &Pool,
     device: u32,
-) -> Result<Listed<u32>, AllocError> {
+    expected: &[u32],
+) -> Result<bool, AllocError> {
     assert_rule(rt, map, pool);
     let none = Exceptions::none(alloc)?;
-    impact(alloc, map, pool, &none, &[], device)
+    let groups = impact(alloc, map, pool, &none, &[], device)?;
+    Ok(groups.as_slice() == expected)
 }
 
 /// All groups of a pool are on the one device of the map. On the map of another device each group
@@ -232,16 +244,12 @@ fn reports_have_their_calls(rt: HostRuntime) -> Result<(), Fail> {
     let alloc = rt.alloc();
     let (map, other) = (map_of(alloc, DEVICE_0)?, map_of(alloc, DEVICE_7)?);
     let pool = pool(alloc, 2, true)?;
-    let text = used(&rt, alloc, &map, &pool)?;
-    assert!(rt;
-        text.as_slice() == b"device,groups,entries,primaries,permille\n0,2,2,2,1000\n".as_slice()
-    );
-    let text = moved(&rt, alloc, &map, &other, &pool)?;
-    assert!(rt; text.as_slice() == b"group,gained,old,new\n0,1,0,7\n1,1,0,7\n".as_slice());
-    let groups = touched(&rt, alloc, &map, &pool, 0)?;
-    assert!(rt; groups.as_slice() == [0u32, 1].as_slice());
-    let groups = touched(&rt, alloc, &map, &pool, 7)?;
-    assert!(rt; groups.as_slice().is_empty());
+    let usage = b"device,groups,entries,primaries,permille\n0,2,2,2,1000\n";
+    assert!(rt; is_usage(&rt, alloc, &map, &pool, usage)?);
+    let moves = b"group,gained,old,new\n0,1,0,7\n1,1,0,7\n";
+    assert!(rt; are_moves(&rt, alloc, &map, &other, &pool, moves)?);
+    assert!(rt; are_touched(&rt, alloc, &map, &pool, 0, &[0, 1])?);
+    assert!(rt; are_touched(&rt, alloc, &map, &pool, 7, &[])?);
     Ok(())
 }
 

@@ -1,11 +1,14 @@
 //! Calls of `tenant_store`.
 
-ghost use Rattle.std.specs.Prelude.{◌≡◌, false};
+ghost use Rattle.std.specs.Prelude.{◌≡◌, false, IsTrue};
+ghost use Rattle.sqlite.specs.Held.{state};
+ghost use Rattle.sqlite.specs.State.{HasCleanDisk};
 ghost use Rattle.tenant_state.specs.State.{CanMake, fresh};
 
 use crate::tenants::first_change;
-use sqlite::Connection;
+use sqlite::{Alter, Connection};
 use std::alloc::{AllocError, Global};
+use std::process::Abort;
 use std::test::Fail;
 use tenant_core::{Change, TenantState};
 use tenant_store::{
@@ -34,22 +37,52 @@ fn write<T: TenantStore>(
     Ok(())
 }
 
+/// Asserts that a tenant that is created, changed and removed is absent, and that another one has
+/// the version of its first change.
+fn assert_kept<T: TenantStore>(rt: &impl Abort, store: &mut T, change: &Change)
+    requires open { T.latched store.old ≡ false }
+    requires makes { CanMake change.now fresh }
+{
+    assert!(rt; write(store, "a", change, true).is_ok());
+    assert!(rt; !store.is_latched());
+    assert!(rt; write(store, "b", change, false).is_ok());
+    assert!(rt; !store.is_latched());
+    assert!(rt; matches!(store.load("a"), Ok(None)));
+    assert!(rt; !store.is_latched());
+    assert!(rt; matches!(store.load("b"), Ok(Some(inventory)) if inventory.newest() == 1));
+}
+
+/// Opens the store in the tables of a connection, asserts what it keeps, and closes it. `None`: it
+/// isn't opened.
+fn closed_after<S: Alter + Drop>(
+    rt: &impl Abort,
+    alloc: Global,
+    conn: Connection<S>,
+    change: &Change,
+) -> Option<Connection<S>>
+    requires autocommit { conn.in_transaction ≡ false }
+    requires open { HasCleanDisk (state S.Store conn) → IsTrue (state S.Store conn).is_open }
+    requires settled { HasCleanDisk (state S.Store conn) → (state S.Store conn).now ≡ (state S.Store conn).committed }
+    requires makes { CanMake change.now fresh }
+{
+    match Store::open(alloc, conn) {
+        Ok(mut store) => {
+            assert_kept(rt, &mut store, change);
+            Some(store.close())
+        }
+        Err(_) => None,
+    }
+}
+
 /// A tenant that is removed is absent, and another one has the version that it imported.
 #[test]
 fn tenant_store_has_its_calls(rt: HostRuntime) -> Result<(), Fail> {
     let alloc = rt.alloc();
     let change = first_change(alloc)?;
-    let Ok(mut store) = Store::open(alloc, Connection::open_in_memory(alloc)?) else {
+    let conn = Connection::open_in_memory(alloc)?;
+    let Some(mut conn) = closed_after(&rt, alloc, conn, &change) else {
         return Err(Fail::new("the store isn't opened"));
     };
-    assert!(rt; write(&mut store, "a", &change, true).is_ok());
-    assert!(rt; !store.is_latched());
-    assert!(rt; write(&mut store, "b", &change, false).is_ok());
-    assert!(rt; !store.is_latched());
-    assert!(rt; matches!(store.load("a"), Ok(None)));
-    assert!(rt; !store.is_latched());
-    assert!(rt; matches!(store.load("b"), Ok(Some(inventory)) if inventory.newest() == 1));
-    let mut conn = store.close();
     assert!(rt; conn.query_all("SELECT version FROM maps", &[]).is_ok());
     Ok(())
 }
