@@ -73,9 +73,9 @@ fn serve_tables<S: Alter + Drop>(
     (end, store.close())
 }
 
-/// Opens the store in the tables of a connection, serves the calls as one session over it, and gives
-/// the end of the session and the connection back. `Err`: the opening is refused, and what is below
-/// the connection is given back.
+/// Opens the store in the tables of a connection, serves the calls as one session over it, and
+/// gives the end of the session and the connection back. `Err`: the opening is refused, and what is
+/// below the connection is given back.
 fn served_in<S: Alter + Drop>(
     rt: &impl Abort,
     alloc: Global,
@@ -92,9 +92,9 @@ fn served_in<S: Alter + Drop>(
     }
 }
 
-/// Opens the files, serves the calls as one session, and gives the end of the session and the files
-/// back. The log is copied into the database file if `closes` says so and that succeeds. There is no
-/// session (`None`) where the opening is refused.
+/// Opens the files, serves the calls as one session, and gives the end of the session and the
+/// files back. The log is copied into the database file if `closes` says so and that succeeds.
+/// There is no session (`None`) where the opening is refused.
 pub(crate) fn session<D: Disk + Drop>(
     rt: &impl Abort,
     alloc: Global,
