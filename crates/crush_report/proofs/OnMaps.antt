@@ -18,7 +18,7 @@ use Rattle.crush_pool.specs.declared.pool.PoolParts.{PoolParts}
 use Rattle.crush_pool.specs.declared.states.DeviceState.{DeviceState}
 use Rattle.crush_report.specs.Impact.{touched}
 use Rattle.crush_report.specs.Moves.{move_rows}
-use Rattle.crush_report.specs.OnMaps.{answer_on, up_from, up_on, touched_on}
+use Rattle.crush_report.specs.OnMaps.{answer_on, up_on, touched_on}
 use Rattle.crush_report.specs.Reports.{groups, impact, impact_by, moves, moves_by, up_list, usage, usage_by}
 use Rattle.crush_report.specs.Usage.{usage_rows}
 use Rattle.crush_report.proofs.Short.{answer_few as rule_few, up_short, size_few}
@@ -40,6 +40,10 @@ up_placed m states p pairs group q (Some rule) e =
 -- that of a placement
 pub up_is : (p : PoolOnMap) (group : ℕ) (q : Placement) → placement p.map p.states p.pool p.pairs group ≡ Some q → q.up ≡ up_on p group
 up_is p group q e = up_placed p.map p.states p.pool p.pairs group q (rule_numbered p.map p.pool.rule) e
+
+-- the up list of a group for which the rule gave the answer `raw`
+abbrev pub up_from : PoolOnMap → ℕ → List Slot → List Slot
+up_from p group raw = up_of p.pool.erasure (flags_of p.states) (excepted (tables_of p.map) (weights_of (reweights p.states)) p.pairs group raw)
 
 -- that of what the rule answers
 pub up_of_answer : (p : PoolOnMap) (group : ℕ) (raw : List Slot)
