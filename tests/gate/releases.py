@@ -139,10 +139,10 @@ def rebuilt(folder, builds, *words):
 
 
 def a_rebuild_of_the_same_bytes_passes(folder):
-    """The gate's program is the first build where it names its commit as is asked for."""
+    """The gate's program is the second build where it names its commit as is asked for."""
     stamp = rebuilt(folder / "1", BUILDS, "--stamp")
     plain = rebuilt(folder / "2", BUILDS)
-    found = [(run.returncode, run.stdout.splitlines()[-1], "The first build is the gate's" in run.stdout) for run in (stamp, plain)]
+    found = [(run.returncode, run.stdout.splitlines()[-1], "The second build is the gate's" in run.stdout) for run in (stamp, plain)]
     return None if found == [(0, "2 passed, 0 failed", True), (0, "2 passed, 0 failed", False)] else f"{found}: {stamp.stdout}{plain.stdout}"
 
 
